@@ -1,1 +1,4 @@
 pub mod Outside
+pub mod MemoryState
+pub mod Files
+pub mod Memory

@@ -1,5 +1,5 @@
 -- What the outside does: counts of faults, files that are read from an offset, bytes that are appended.
-use Rattle.std.specs.Prelude.{◌≡◌, ◌<◌, ◌≤◌, ◌+◌, ◌^◌, ◌-◌, ◌⊎◌, ℕ, Bool, true, false, List, ◌++◌, Option, Some, None, length, take, drop}
+use Rattle.std.specs.Prelude.{◌≡◌, ◌<◌, ◌≤◌, ◌+◌, ◌^◌, ◌-◌, ◌⊎◌, ℕ, List, ◌++◌, Option, Some, None, length, take, drop}
 
 -- A count of faults rose, or stood at the end of its type, where it can rise no more.
 abbrev pub Rose : ℕ → ℕ → Type 0

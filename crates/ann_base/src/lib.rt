@@ -5,14 +5,21 @@
 
 mod exceptions;
 mod faults;
+mod host;
 mod identities;
+mod memory;
 mod names;
 mod outside;
 mod places;
 
 pub use exceptions::Raised;
 pub use faults::{Failed, Full, NoMemory};
+pub use host::{HostShelf, HostSink};
 pub use identities::{CallNo, Level, Moment, ObjectNo, RegionNo, Slot, TaskNo};
+pub use memory::{MemShelf, MemSink};
 pub use names::{NAME_BYTES, Name};
 pub use outside::{Shelf, Sink};
 pub use places::Place;
+
+#[cfg(test)]
+mod tests;

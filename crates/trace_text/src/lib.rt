@@ -1,6 +1,10 @@
 //! The lines of a trace: what each says, its text, and the laws that a list of lines keeps.
 #![tactic(auto)]
 
+mod buffer;
 mod events;
+mod write;
 
+pub use buffer::{BUFFER_BYTES, LineBuffer};
 pub use events::{Created, Ended, EntryName, Event, Finished, Leaves, Mode, QueueEnd, Waits, Who};
+pub use write::{LINE_BYTES, write_line};

@@ -1,0 +1,444 @@
+//! How a line is written.
+ghost use Rattle.std.specs.Prelude.{◌≡◌, ◌+◌, ◌≤◌, ◌∷◌, [], ◌++◌, length, codes, decimal};
+ghost use Rattle.std.specs.Fmt.{signed_decimal};
+ghost use Rattle.trace_text.specs.Text.{task_text, object_text, who_text, created_text, queue_end_text, waits_text, mode_text, leaves_text, entry_text, finished_text, ended_words, deadline_words, words_of, spaced, line_text, IsPrintable};
+
+use crate::buffer::LineBuffer;
+use crate::events::{
+    Created, Ended, EntryName, Event, Finished, Leaves, Mode, QueueEnd, Waits, Who,
+};
+use ann_base::{Moment, ObjectNo, TaskNo};
+use itoa::Buffer;
+
+/// The most bytes that a line has, its line feed too.
+pub const LINE_BYTES: usize = 1_100;
+
+/// Appends the line of a printable event at a tick: the tick, the words with single spaces between, a line feed.
+/// A line has at most 1,100 bytes, and so many must be free.
+pub fn write_line(now: u64, event: &Event, buffer: &mut LineBuffer)
+    requires room { length buffer.old + 1100 ≤ 65536 }
+    requires printable { IsPrintable event.now }
+    ensures line { buffer.new ≡ buffer.old ++ line_text now event.now }
+    ensures short { length (line_text now event.now) ≤ 1100 }
+{
+    let mut digits = Buffer::new();
+    buffer.append(digits.format(now).as_bytes());
+    push_event(event, buffer);
+    buffer.append(b"\n");
+}
+
+// The words of the event, each behind a space.
+fn push_event(event: &Event, buffer: &mut LineBuffer)
+    requires { length buffer.old + 1079 ≤ 65536 }
+    ensures words { buffer.new ≡ buffer.old ++ spaced (words_of event.now) }
+    ensures longer { length buffer.new ≤ length buffer.old + 1079 }
+{
+    match event {
+        Event::New { what, name, level } => {
+            push_created(*what, buffer);
+            push_word(b"new", buffer);
+            push_word(name.as_bytes(), buffer);
+            push_short(*level, buffer);
+        }
+        Event::Ready {
+            who,
+            level,
+            end,
+            deadline,
+        } => {
+            push_who(*who, buffer);
+            push_word(b"ready", buffer);
+            push_short(*level, buffer);
+            push_word(queue_end_word(*end), buffer);
+            push_deadline(*deadline, buffer);
+        }
+        Event::Block { who, waits } => {
+            push_who(*who, buffer);
+            push_word(b"block", buffer);
+            push_word(waits_word(*waits), buffer);
+        }
+        Event::Run { who } => {
+            push_who(*who, buffer);
+            push_word(b"run", buffer);
+        }
+        Event::Idle => push_word(b"idle", buffer),
+        Event::Base { task, level } => {
+            push_task(*task, buffer);
+            push_word(b"base", buffer);
+            push_short(*level, buffer);
+        }
+        Event::Deadline { task, deadline } => {
+            push_task(*task, buffer);
+            push_word(b"deadline", buffer);
+            push_moment(*deadline, buffer);
+        }
+        Event::Quantum { task } => {
+            push_task(*task, buffer);
+            push_word(b"quantum", buffer);
+        }
+        Event::Done { task } => {
+            push_task(*task, buffer);
+            push_word(b"done", buffer);
+        }
+        Event::Raise { who, exception } => {
+            push_who(*who, buffer);
+            push_word(b"raise", buffer);
+            push_word(exception.as_bytes(), buffer);
+        }
+        Event::Put { who, text } => {
+            push_who(*who, buffer);
+            push_word(b"put", buffer);
+            push_word(text.as_bytes(), buffer);
+        }
+        Event::Call {
+            task,
+            call,
+            entry,
+            priority,
+        } => {
+            push_task(*task, buffer);
+            push_word(b"call", buffer);
+            push_number(call.0, buffer);
+            push_entry(entry, buffer);
+            push_short(*priority, buffer);
+        }
+        Event::Start { who, call } => {
+            push_who(*who, buffer);
+            push_word(b"start", buffer);
+            push_number(call.0, buffer);
+        }
+        Event::Finish { who, call, how } => {
+            push_who(*who, buffer);
+            push_word(b"finish", buffer);
+            push_number(call.0, buffer);
+            push_word(finished_word(how), buffer);
+        }
+        Event::Cancel { task, call } => {
+            push_task(*task, buffer);
+            push_word(b"cancel", buffer);
+            push_number(call.0, buffer);
+        }
+        Event::Gone { task, call } => {
+            push_task(*task, buffer);
+            push_word(b"gone", buffer);
+            push_number(call.0, buffer);
+        }
+        Event::Enter { who, object, mode } => {
+            push_who(*who, buffer);
+            push_word(b"enter", buffer);
+            push_object(*object, buffer);
+            push_word(mode_word(*mode), buffer);
+        }
+        Event::Exit { who, object } => {
+            push_who(*who, buffer);
+            push_word(b"exit", buffer);
+            push_object(*object, buffer);
+        }
+        Event::Held { who, object, mode } => {
+            push_who(*who, buffer);
+            push_word(b"held", buffer);
+            push_object(*object, buffer);
+            push_word(mode_word(*mode), buffer);
+        }
+        Event::Abort { task, victim } => {
+            push_task(*task, buffer);
+            push_word(b"abort", buffer);
+            push_task(*victim, buffer);
+        }
+        Event::Trigger { task } => {
+            push_task(*task, buffer);
+            push_word(b"trigger", buffer);
+        }
+        Event::Leave { who, region, how } => {
+            push_who(*who, buffer);
+            push_word(b"leave", buffer);
+            push_number(region.0, buffer);
+            push_word(leaves_word(*how), buffer);
+        }
+        Event::Init {
+            who,
+            object,
+            region,
+            name,
+        } => {
+            push_who(*who, buffer);
+            push_word(b"init", buffer);
+            push_number(*object, buffer);
+            push_number(region.0, buffer);
+            push_word(name.as_bytes(), buffer);
+        }
+        Event::Final { who, object } => {
+            push_who(*who, buffer);
+            push_word(b"final", buffer);
+            push_number(*object, buffer);
+        }
+        Event::Left { who, region } => {
+            push_who(*who, buffer);
+            push_word(b"left", buffer);
+            push_number(region.0, buffer);
+        }
+        Event::Replace { who, object } => {
+            push_who(*who, buffer);
+            push_word(b"replace", buffer);
+            push_number(*object, buffer);
+        }
+        Event::Release {
+            release,
+            object,
+            handler,
+        } => {
+            push_word(b"release", buffer);
+            push_number(*release, buffer);
+            push_object(*object, buffer);
+            push_part(handler.as_bytes(), buffer);
+        }
+        Event::Serve { release } => {
+            push_word(b"agent", buffer);
+            push_word(b"serve", buffer);
+            push_number(*release, buffer);
+        }
+        Event::Served { release } => {
+            push_word(b"agent", buffer);
+            push_word(b"served", buffer);
+            push_number(*release, buffer);
+        }
+        Event::Interrupt { number } => {
+            push_word(b"interrupt", buffer);
+            push_short(*number, buffer);
+        }
+        Event::Port { number, value } => {
+            push_word(b"port", buffer);
+            push_short(*number, buffer);
+            push_value(*value, buffer);
+        }
+        Event::Mask { number } => {
+            push_word(b"mask", buffer);
+            push_short(*number, buffer);
+        }
+        Event::Unmask { number } => {
+            push_word(b"unmask", buffer);
+            push_short(*number, buffer);
+        }
+        Event::Masked { number } => {
+            push_word(b"masked", buffer);
+            push_short(*number, buffer);
+        }
+        Event::End { why } => {
+            push_word(b"end", buffer);
+            push_ended(why, buffer);
+        }
+    }
+}
+
+// A word behind a space.
+fn push_word(word: &[u8], buffer: &mut LineBuffer)
+    requires { length buffer.old + length word.now + 1 ≤ 65536 }
+    ensures word { buffer.new ≡ buffer.old ++ 32 ∷ word.now }
+    ensures longer { length buffer.new ≡ length buffer.old + length word.now + 1 }
+{
+    buffer.append(b" ");
+    buffer.append(word);
+}
+
+// A number of a byte.
+fn push_short(number: u8, buffer: &mut LineBuffer)
+    requires { length buffer.old + 4 ≤ 65536 }
+    ensures number { buffer.new ≡ buffer.old ++ 32 ∷ decimal number }
+    ensures longer { length buffer.new ≤ length buffer.old + 4 }
+{
+    let mut digits = Buffer::new();
+    push_word(digits.format(number).as_bytes(), buffer);
+}
+
+fn push_number(number: u32, buffer: &mut LineBuffer)
+    requires { length buffer.old + 11 ≤ 65536 }
+    ensures number { buffer.new ≡ buffer.old ++ 32 ∷ decimal number }
+    ensures longer { length buffer.new ≤ length buffer.old + 11 }
+{
+    let mut digits = Buffer::new();
+    push_word(digits.format(number).as_bytes(), buffer);
+}
+
+fn push_moment(moment: Moment, buffer: &mut LineBuffer)
+    requires { length buffer.old + 21 ≤ 65536 }
+    ensures moment { buffer.new ≡ buffer.old ++ 32 ∷ signed_decimal moment }
+    ensures longer { length buffer.new ≤ length buffer.old + 21 }
+{
+    let mut digits = Buffer::new();
+    push_word(digits.format(moment).as_bytes(), buffer);
+}
+
+fn push_deadline(deadline: Option<Moment>, buffer: &mut LineBuffer)
+    requires { length buffer.old + 21 ≤ 65536 }
+    ensures deadline { buffer.new ≡ buffer.old ++ spaced (deadline_words deadline) }
+    ensures longer { length buffer.new ≤ length buffer.old + 21 }
+{
+    match deadline {
+        None => {}
+        Some(deadline) => push_moment(deadline, buffer),
+    }
+}
+
+// A letter and a number behind a space.
+fn push_numbered(letter: &[u8], number: u32, buffer: &mut LineBuffer)
+    requires letter { length letter.now ≡ 1 }
+    requires room { length buffer.old + 12 ≤ 65536 }
+    ensures numbered { buffer.new ≡ buffer.old ++ 32 ∷ (letter.now ++ decimal number) }
+    ensures longer { length buffer.new ≤ length buffer.old + 12 }
+{
+    let mut digits = Buffer::new();
+    push_word(letter, buffer);
+    buffer.append(digits.format(number).as_bytes());
+}
+
+fn push_task(task: TaskNo, buffer: &mut LineBuffer)
+    requires { length buffer.old + 12 ≤ 65536 }
+    ensures task { buffer.new ≡ buffer.old ++ 32 ∷ task_text task }
+    ensures longer { length buffer.new ≤ length buffer.old + 12 }
+{
+    push_numbered(b"t", task.0, buffer);
+}
+
+fn push_object(object: ObjectNo, buffer: &mut LineBuffer)
+    requires { length buffer.old + 12 ≤ 65536 }
+    ensures object { buffer.new ≡ buffer.old ++ 32 ∷ object_text object }
+    ensures longer { length buffer.new ≤ length buffer.old + 12 }
+{
+    push_numbered(b"p", object.0, buffer);
+}
+
+fn push_who(who: Who, buffer: &mut LineBuffer)
+    requires { length buffer.old + 12 ≤ 65536 }
+    ensures who { buffer.new ≡ buffer.old ++ 32 ∷ who_text who }
+    ensures longer { length buffer.new ≤ length buffer.old + 12 }
+{
+    match who {
+        Who::Task(task) => push_task(task, buffer),
+        Who::Agent => push_word(b"agent", buffer),
+    }
+}
+
+fn push_created(what: Created, buffer: &mut LineBuffer)
+    requires { length buffer.old + 12 ≤ 65536 }
+    ensures created { buffer.new ≡ buffer.old ++ 32 ∷ created_text what }
+    ensures longer { length buffer.new ≤ length buffer.old + 12 }
+{
+    match what {
+        Created::Task(task) => push_task(task, buffer),
+        Created::Object(object) => push_object(object, buffer),
+    }
+}
+
+fn queue_end_word(end: QueueEnd) -> &'static [u8]
+    ensures word { result.now ≡ queue_end_text end }
+    ensures short { length result.now ≤ 4 }
+{
+    match end {
+        QueueEnd::Head => b"head",
+        QueueEnd::Tail => b"tail",
+    }
+}
+
+// The value of a port.
+fn push_value(value: i32, buffer: &mut LineBuffer)
+    requires { length buffer.old + 12 ≤ 65536 }
+    ensures value { buffer.new ≡ buffer.old ++ 32 ∷ signed_decimal value }
+    ensures longer { length buffer.new ≤ length buffer.old + 12 }
+{
+    let mut digits = Buffer::new();
+    push_word(digits.format(value).as_bytes(), buffer);
+}
+
+// A point and a name.
+fn push_part(name: &[u8], buffer: &mut LineBuffer)
+    requires { length buffer.old + length name.now + 1 ≤ 65536 }
+    ensures part { buffer.new ≡ buffer.old ++ 46 ∷ name.now }
+    ensures longer { length buffer.new ≡ length buffer.old + length name.now + 1 }
+{
+    buffer.append(b".");
+    buffer.append(name);
+}
+
+fn push_entry(entry: &EntryName, buffer: &mut LineBuffer)
+    requires { length buffer.old + 1013 ≤ 65536 }
+    ensures entry { buffer.new ≡ buffer.old ++ 32 ∷ entry_text entry.now }
+    ensures longer { length buffer.new ≤ length buffer.old + 1013 }
+{
+    match entry {
+        EntryName::OfTask(task, name) => {
+            push_task(*task, buffer);
+            push_part(name.as_bytes(), buffer);
+        }
+        EntryName::OfObject(object, name) => {
+            push_object(*object, buffer);
+            push_part(name.as_bytes(), buffer);
+        }
+    }
+}
+
+fn push_ended(why: &Ended, buffer: &mut LineBuffer)
+    requires { length buffer.old + 1011 ≤ 65536 }
+    ensures ended { buffer.new ≡ buffer.old ++ spaced (ended_words why.now) }
+    ensures longer { length buffer.new ≤ length buffer.old + 1011 }
+{
+    match why {
+        Ended::Completed => push_word(b"completed", buffer),
+        Ended::Exception(name) => {
+            push_word(b"exception", buffer);
+            push_word(name.as_bytes(), buffer);
+        }
+        Ended::Stuck => push_word(b"stuck", buffer),
+        Ended::Bound => push_word(b"bound", buffer),
+    }
+}
+
+fn finished_word(how: &Finished) -> &[u8]
+    ensures word { result.now ≡ finished_text how.now }
+    ensures short { length result.now ≤ 1000 }
+{
+    match how {
+        Finished::Ok => b"ok",
+        Finished::Raised(name) => name.as_bytes(),
+        Finished::Requeue => b"requeue",
+    }
+}
+
+fn waits_word(waits: Waits) -> &'static [u8]
+    ensures word { result.now ≡ waits_text waits }
+    ensures short { length result.now ≤ 10 }
+{
+    match waits {
+        Waits::Activation => b"activation",
+        Waits::Delay => b"delay",
+        Waits::Entry => b"entry",
+        Waits::Accept => b"accept",
+        Waits::Select => b"select",
+        Waits::Dependents => b"dependents",
+        Waits::Call => b"call",
+        Waits::Release => b"release",
+    }
+}
+
+fn mode_word(mode: Mode) -> &'static [u8]
+    ensures word { result.now ≡ mode_text mode }
+    ensures short { length result.now ≤ 5 }
+{
+    match mode {
+        Mode::Read => b"read",
+        Mode::Write => b"write",
+    }
+}
+
+fn leaves_word(how: Leaves) -> &'static [u8]
+    ensures word { result.now ≡ leaves_text how }
+    ensures short { length result.now ≤ 9 }
+{
+    match how {
+        Leaves::End => b"end",
+        Leaves::Return => b"return",
+        Leaves::Exit => b"exit",
+        Leaves::Exception => b"exception",
+        Leaves::Abort => b"abort",
+        Leaves::Terminate => b"terminate",
+    }
+}

@@ -1,0 +1,152 @@
+-- Active priorities, places, and the choice of who runs (D.1, D.2).
+use Rattle.std.specs.Prelude.{ℕ, ◌+◌, ◌-◌, ℤ, Bool, true, false, cond, not, ◌&&◌, ◌||◌, List, [], ◌∷◌, ◌++◌, Option, Some, None, eqb, ltb, leb, int_lt, filter, map, max, slice_index_or, is_none, is_some}
+use Rattle.ann_base.specs.declared.identities.TaskNo.{TaskNo}
+use Rattle.trace_text.specs.declared.events.Event.TheVariants as line
+use Rattle.trace_text.specs.declared.events.Who.{Who}
+use Rattle.trace_text.specs.declared.events.Who.TheVariants as who
+use Rattle.trace_text.specs.declared.events.QueueEnd.{QueueEnd}
+use Rattle.trace_text.specs.declared.events.QueueEnd.TheVariants.{Head, Tail}
+use Rattle.trace_text.specs.declared.events.Waits.{Waits}
+use Rattle.trace_text.specs.declared.events.Waits.TheVariants as word
+use Rattle.profile_machine.specs.declared.image.Image.{Image}
+use Rattle.profile_machine.specs.World.{World, Task, State, Runnable, Blocked, Waiting, for_activation, for_moment, for_call, for_end_of_call, for_accept, for_select, for_dependents, for_release, Inherited, Object, Action, Placed}
+use Rattle.profile_machine.specs.Words.{same_who, without, greatest_of, first_of_list, option_or_else, some_where}
+use Rattle.profile_machine.specs.Program.{is_edf_level, is_robin_level, edf_low, has_edf}
+use Rattle.profile_machine.specs.Steps.{Part, Step, says, changes, looks, when, nothing, ◌▷◌}
+use Rattle.profile_machine.specs.Tasks.{task_of, edit_task, with_state, is_runnable, is_who, is_agent}
+
+-- ---- active priorities (D.1, D.2.6)
+
+-- the level that stands for a task whose base lies in an EDF range: the kept one, while it has one
+abbrev pub kept_or_base : Option ℕ → Option ℕ → ℕ → ℕ
+kept_or_base (Some low) (Some kept) base = kept
+kept_or_base (Some low) None base = base
+kept_or_base None kept base = base
+
+abbrev pub own_level : Image → Task → ℕ
+own_level p t = kept_or_base (edf_low p t.base) t.kept_level t.base
+
+abbrev pub levels_inherited : Task → List ℕ
+levels_inherited t = map (λ i. i.level) t.inherited
+
+-- the greatest of the own level and the inherited ones
+abbrev pub active : Image → Task → ℕ
+active p t = greatest_of (levels_inherited t) (own_level p t)
+
+abbrev pub active_of : Image → World → Who → ℕ
+active_of p w name = active p (task_of w name)
+
+-- ---- the level of a task on an EDF range that is activated or released (D.2.6; own wording)
+
+-- a level with a deadline: of somebody inside an object of that ceiling, or of a ready task
+pub record Rival : Type 0 where
+  pub level : ℕ
+  pub deadline : ℤ
+
+abbrev pub all_later : ℤ → List Rival → Bool
+all_later deadline [] = true
+all_later deadline (r ∷ rs) = int_lt deadline r.deadline && all_later deadline rs
+
+abbrev pub of_level : ℕ → List Rival → List Rival
+of_level level = filter (λ r. eqb r.level level)
+
+abbrev pub from_to : ℕ → ℕ → List Rival → List Rival
+from_to low level = filter (λ r. leb low r.level && ltb r.level level)
+
+-- whether the ceiling of somebody inside may be the level
+abbrev pub may_stand_at : ℕ → ℕ → ℤ → List Rival → List Rival → ℕ → Bool
+may_stand_at low base deadline inside ready ceiling =
+    ltb ceiling base && all_later deadline (of_level ceiling inside) && all_later deadline (from_to low ceiling ready)
+
+-- the greatest of the levels that may be, and of `least`
+abbrev pub greatest_level : (ℕ → Bool) → List Rival → ℕ → ℕ
+greatest_level test [] least = least
+greatest_level test (r ∷ rs) least = max (cond (test r.level) r.level least) (greatest_level test rs least)
+
+abbrev pub edf_level : ℕ → ℕ → ℕ → ℤ → List Rival → List Rival → ℕ
+edf_level low base inherited deadline inside ready =
+    greatest_level (may_stand_at low base deadline inside ready) inside (max low inherited)
+
+-- everybody inside a protected object, with its ceiling
+abbrev pub inside_object : World → ℕ → List Action → List Rival
+inside_object w ceiling = map (λ a. record { level = ceiling; deadline = (task_of w a.who).deadline })
+
+abbrev pub inside_objects : World → List Object → List Rival
+inside_objects w [] = []
+inside_objects w (o ∷ os) = inside_object w o.ceiling o.actions ++ inside_objects w os
+
+-- the other tasks that are ready, with their levels
+abbrev pub ready_rivals : Image → Who → List Task → List Rival
+ready_rivals p name tasks =
+    map (λ t. record { level = active p t; deadline = t.deadline }) (filter (λ t. is_runnable t && not (is_who name t)) tasks)
+
+abbrev pub level_kept_by : Image → World → Task → Option ℕ → Option ℕ
+level_kept_by p w t None = None
+level_kept_by p w t (Some low) =
+    Some (edf_level low t.base (greatest_of (levels_inherited t) 0) t.deadline (inside_objects w w.objects) (ready_rivals p t.who w.tasks))
+
+-- a task that is activated or released keeps the level that it then has, where its base lies in an EDF range
+abbrev pub keep_level : Image → Who → World → World
+keep_level p name w = edit_task name (λ t. record t { kept_level = level_kept_by p w t (edf_low p t.base) }) w
+
+-- ---- placing (D.2.1, D.2.3, D.2.5, D.2.6)
+
+abbrev pub deadline_shown : Image → Task → Option ℤ
+deadline_shown p t = some_where (is_edf_level p (active p t)) t.deadline
+
+-- the `ready` line, which places
+abbrev pub says_ready : Image → Part → Who → QueueEnd → Step
+says_ready p part name end w =
+    says part (line.Ready name (active p (task_of w name)) end (deadline_shown p (task_of w name))) w
+
+-- a task at the tail of its base level gets the level's full quantum, where that is round robin
+abbrev pub granted : Image → List ℕ → Task → Task
+granted p quanta t = cond (eqb (active p t) t.base && is_robin_level p t.base) (record t { quantum = slice_index_or quanta t.base 0 }) t
+
+abbrev pub grant_quantum : Image → Who → World → World
+grant_quantum p name w = edit_task name (granted p w.quanta) w
+
+abbrev pub to_tail : Image → Part → Who → Step
+to_tail p part name = changes (grant_quantum p name) ▷ says_ready p part name Tail
+
+abbrev pub to_head : Image → Part → Who → Step
+to_head p part name = says_ready p part name Head
+
+-- a task, or the agent, becomes ready: it goes to the tail
+abbrev pub ready : Image → Part → Who → Step
+ready p part name =
+    changes (edit_task name (with_state Runnable)) ▷ changes (keep_level p name) ▷ to_tail p part name
+
+-- ---- blocking
+
+abbrev pub word_of : Waiting → Waits
+word_of for_activation = word.Activation
+word_of for_moment = word.Delay
+word_of (for_call c) = word.Entry
+word_of (for_end_of_call c) = word.Call
+word_of (for_accept s) = word.Accept
+word_of (for_select accepts delay terminate) = word.Select
+word_of (for_dependents r) = word.Dependents
+word_of for_release = word.Release
+
+abbrev pub without_kept_level : Task → Task
+without_kept_level t = record t { kept_level = None }
+
+abbrev pub says_block : Part → Who → Waiting → Step
+says_block part name waiting =
+    changes (edit_task name without_kept_level) ▷ says part (line.Block name (word_of waiting))
+
+-- a task, or the agent, blocks: it leaves the ready queues and keeps no level
+abbrev pub block : Part → Who → Waiting → Step
+block part name waiting =
+    changes (edit_task name (with_state (Blocked waiting))) ▷ says_block part name waiting
+
+-- ---- the choice
+
+-- the head of the highest level that is not empty
+abbrev pub head_of : List Placed → Option Who
+head_of [] = None
+head_of (x ∷ xs) = Some x.who
+
+abbrev pub choose : World → Option Who
+choose w = head_of w.places

@@ -1,0 +1,122 @@
+-- Open constructs: opening them, leaving them, and going on (clauses 5, 6, 7.6.1, 11).
+use Rattle.std.specs.Prelude.{ℕ, ◌+◌, ℤ, pos, Bool, true, false, cond, not, ◌&&◌, ◌||◌, List, [], ◌∷◌, ◌++◌, Option, Some, None, eqb, leb, filter, map, length, find, is_some, option_map, option_and_then, sum_by, codes}
+use Rattle.ann_base.specs.declared.exceptions.Raised.{Raised}
+use Rattle.ann_base.specs.declared.exceptions.Raised.TheVariants as exception
+use Rattle.ann_base.specs.declared.identities.ObjectNo.{ObjectNo}
+use Rattle.ann_base.specs.declared.identities.RegionNo.{RegionNo}
+use Rattle.trace_text.specs.declared.events.Event.TheVariants as line
+use Rattle.trace_text.specs.declared.events.Who.{Who}
+use Rattle.profile_machine.specs.declared.image.Image.{Image}
+use Rattle.profile_machine.specs.declared.numbers.DeclNo.{DeclNo}
+use Rattle.profile_machine.specs.declared.numbers.StatementNo.{StatementNo}
+use Rattle.profile_machine.specs.declared.numbers.ScopeNo.{ScopeNo}
+use Rattle.profile_machine.specs.declared.run_data.Leaving.{Leaving}
+use Rattle.profile_machine.specs.declared.run_data.Leaving.TheVariants as how
+use Rattle.profile_machine.specs.declared.statements.StatementForm.{StatementForm}
+use Rattle.profile_machine.specs.declared.statements.StatementForm.TheVariants as form
+use Rattle.profile_machine.specs.declared.declarations.Handler.{Handler}
+use Rattle.profile_machine.specs.World.{World, Task, Frame, Mark, Scope, Handled, InProtected, InAccept, Abortable, InInitialize, InFinalize, InAssign, ScopeMark, ProtectedMark, AcceptMark, AbortableMark, AssignMark, Purpose, of_block, of_subprogram, of_entry_body, of_task, ScopeId, scope_id, ScopeInUse, Located, Object, Drawn}
+use Rattle.profile_machine.specs.Words.{same_id, same_statement, same_option, without, first_of_list, option_or_else, some_where}
+use Rattle.profile_machine.specs.Program.{declaration_of, form_of, next_of, scope_of, initial_cells}
+use Rattle.profile_machine.specs.Steps.{Part, own, Step, says, changes, looks, when, nothing, for_some, ◌▷◌}
+use Rattle.profile_machine.specs.Tasks.{task_of, edit_task, with_frames}
+
+-- ---- the top of a rest
+
+abbrev pub frames_of : World → Who → List Frame
+frames_of w name = (task_of w name).frames
+
+abbrev pub top_of : World → Who → Option Frame
+top_of w name = first_of_list (frames_of w name)
+
+abbrev pub new_frame : Mark → Option StatementNo → Frame
+new_frame mark onward = record { mark = mark; onward = onward; left_as = None; struck = false }
+
+abbrev pub edit_first : (Frame → Frame) → List Frame → List Frame
+edit_first f [] = []
+edit_first f (x ∷ xs) = f x ∷ xs
+
+abbrev pub edit_top : Who → (Frame → Frame) → World → World
+edit_top name f = edit_task name (λ t. with_frames (edit_first f t.frames) t)
+
+abbrev pub goes_on : Option StatementNo → Frame → Frame
+goes_on onward f = record f { onward = onward }
+
+-- the task goes on with this action, or with the end of what is open
+abbrev pub goes : Who → Option StatementNo → Step
+goes name onward = changes (edit_top name (goes_on onward))
+
+abbrev pub pushed : Frame → List Frame → List Frame
+pushed f frames = f ∷ frames
+
+abbrev pub push : Who → Frame → World → World
+push name f = edit_task name (λ t. with_frames (f ∷ t.frames) t)
+
+-- ---- how a mark is being left
+
+abbrev pub left_so : Leaving → Frame → Frame
+left_so leaving f = record f { onward = None; left_as = Some leaving }
+
+abbrev pub with_mark : Mark → Frame → Frame
+with_mark mark f = record f { mark = mark }
+
+abbrev pub leaving_of : Frame → Leaving
+leaving_of f = option_or_else f.left_as how.End
+
+-- the marks are left from the top: what stands above the top mark is dropped
+abbrev pub leaves : Who → Leaving → Step
+leaves name leaving = changes (edit_top name (left_so leaving))
+
+-- ---- exceptions (11.3, 11.4)
+
+abbrev pub exception_name : Image → Raised → List ℕ
+exception_name p exception.Constraint = codes "constraint_error"
+exception_name p exception.Program = codes "program_error"
+exception_name p exception.Storage = codes "storage_error"
+exception_name p exception.Tasking = codes "tasking_error"
+exception_name p exception.TimerResource = codes "timer_resource_error"
+exception_name p exception.GroupBudget = codes "group_budget_error"
+exception_name p exception.DispatchingPolicy = codes "dispatching_policy_error"
+exception_name p (exception.User d) = (declaration_of p (record { 0 = d })).expanded
+
+-- an exception is raised: `raise`, and the marks are left with it
+abbrev pub raises : Image → Part → Who → Raised → Step
+raises p part name e = says part (line.Raise name (exception_name p e)) ▷ leaves name (how.Exception e)
+
+-- ---- room (own): marks of a task and of all, and cells
+
+abbrev pub marks_in_use : World → ℕ
+marks_in_use w = sum_by (λ t. length t.frames) w.tasks + length w.agent.frames
+
+abbrev pub cells_in_use : World → ℕ
+cells_in_use w = sum_by (λ s. length s.cells) w.scopes
+
+-- 1,000 marks of a task, 65,536 in all, and 65,536 cells
+abbrev pub has_room : World → Who → ℕ → ℕ → Bool
+has_room w name marks cells =
+    leb (length (frames_of w name) + marks) 1000 && leb (marks_in_use w + marks) 65536 && leb (cells_in_use w + cells) 65536
+
+-- ---- sequences with handlers (11.2)
+
+abbrev pub handlers_in : StatementForm → List Handler
+handlers_in (form.Handled handlers first) = handlers
+handlers_in _ = []
+
+-- the sequence with handlers that begins here, if one does: it is opened at no cost
+abbrev pub open_handled : Image → Who → StatementNo → StatementForm → Step
+open_handled p name s (form.Handled handlers first) =
+    looks (λ w. elim (has_room w name 1 0) [
+      | true ↦ goes name (next_of p s) ▷ changes (push name (new_frame (Handled s) (Some first)))
+      | false ↦ raises p own name exception.Storage
+    ])
+open_handled p name s _ = nothing
+
+abbrev pub open_at : Image → Who → Option StatementNo → Step
+open_at p name None = nothing
+open_at p name (Some s) = open_handled p name s (form_of p s)
+
+abbrev pub onward_of : World → Who → Option StatementNo
+onward_of w name = option_and_then (λ f. f.onward) (top_of w name)
+
+abbrev pub open_sequence : Image → Who → Step
+open_sequence p name = looks (λ w. open_at p name (onward_of w name))

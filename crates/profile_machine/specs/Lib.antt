@@ -1,0 +1,12 @@
+pub mod World
+pub mod Words
+pub mod Program
+pub mod Steps
+pub mod Tasks
+pub mod Dispatching
+pub mod Frames
+pub mod Scopes
+pub mod Cost
+pub mod Act
+pub mod Run
+pub mod Rows

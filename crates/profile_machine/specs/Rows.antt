@@ -1,0 +1,2 @@
+-- Worked rows: programs with the traces of their runs.
+pub mod Row01

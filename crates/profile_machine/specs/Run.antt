@@ -1,0 +1,242 @@
+-- The timed run: instants and tocks in turn from the opening world, up to the first instant at which it stops.
+use Rattle.std.specs.Prelude.{ℕ, zero, suc, ◌+◌, ◌-◌, ℤ, pos, Bool, true, false, cond, not, ◌&&◌, ◌||◌, List, [], ◌∷◌, ◌++◌, Option, Some, None, eqb, is_some, is_none, map, replicate, slice_index_or, option_map, int_le}
+use Rattle.ann_base.specs.declared.exceptions.Raised.{Raised}
+use Rattle.ann_base.specs.declared.identities.TaskNo.{TaskNo}
+use Rattle.trace_text.specs.declared.events.Event.{Event}
+use Rattle.trace_text.specs.declared.events.Event.TheVariants as line
+use Rattle.trace_text.specs.declared.events.Created.TheVariants as created
+use Rattle.trace_text.specs.declared.events.Ended.{Ended}
+use Rattle.trace_text.specs.declared.events.Ended.TheVariants as why
+use Rattle.trace_text.specs.declared.events.Who.{Who}
+use Rattle.trace_text.specs.declared.events.Who.TheVariants as who
+use Rattle.profile_machine.specs.declared.image.Image.{Image}
+use Rattle.profile_machine.specs.declared.run_data.Item.{Item}
+use Rattle.profile_machine.specs.World.{World, Task, Frame, State, Made, Runnable, Blocked, for_release, of_task, scope_id, Appointment, Drawn, Release}
+use Rattle.profile_machine.specs.Words.{same_who, same_option, is_empty, first_of_list}
+use Rattle.profile_machine.specs.Program.{interrupt_priority}
+use Rattle.profile_machine.specs.Steps.{Part, own, Step, Move, says, changes, looks, when, nothing, settles, ◌▷◌}
+use Rattle.profile_machine.specs.Tasks.{task_of, edit_task, with_ticks, new_task, is_runnable_state, is_agent}
+use Rattle.profile_machine.specs.Dispatching.{choose, to_tail}
+use Rattle.profile_machine.specs.Frames.{open_sequence, frames_of, exception_name}
+use Rattle.profile_machine.specs.Scopes.{open_scope, plainly}
+use Rattle.profile_machine.specs.Cost.{cost}
+use Rattle.profile_machine.specs.Act.{act}
+
+-- ---- the opening
+
+abbrev pub environment_task : Image → Task
+environment_task p = new_task (who.Task (record { 0 = 0 })) p.main.priority Runnable
+
+-- handlers run on one agent at the priority of interrupts (own)
+abbrev pub agent_at_first : Image → Task
+agent_at_first p = new_task who.Agent (interrupt_priority p) (Blocked for_release)
+
+abbrev pub nothing_drawn : Drawn
+nothing_drawn = record { tasks = 1; objects = 0; calls = 0; regions = 0; controlled = 0; releases = 0; scopes = 0; events = 0 }
+
+-- the world before the environment task is ready: a level's quantum is 1,000 ticks until it is set (own)
+abbrev pub blank_world : Image → List (ℤ × Item) → World
+blank_world p script = record { now = 0; ran = None; script = script; ports = replicate 16 (pos 0); masked = replicate 16 false; kept_interrupts = replicate 16 false; tasks = environment_task p ∷ []; agent = agent_at_first p; places = []; quanta = replicate (interrupt_priority p + 1) 1000; ended = None; scopes = []; objects = []; calls = []; appointments = []; timers = []; timers_set = []; timers_due = []; budgets = []; budget_due = None; registered = []; releases = []; serving = None; drawn = nothing_drawn }
+
+abbrev pub environment : Who
+environment = who.Task (record { 0 = 0 })
+
+-- the environment task is created and ready, and the program's elaboration is its rest (10.2)
+abbrev pub opens : Image → Step
+opens p =
+    changes (open_scope p environment p.environment (plainly None) of_task)
+    ▷ says own (line.New (created.Task (record { 0 = 0 })) p.main.name p.main.priority)
+    ▷ to_tail p own environment
+    ▷ open_sequence p environment
+
+abbrev pub opening : Image → List (ℤ × Item) → World × List Event
+opening p script = settles (opens p) (blank_world p script)
+
+-- ---- the seven steps of an instant, in order (own)
+
+-- an action that has ended has its effect; then what comes of it elsewhere
+-- tasks at open terminate alternatives that may end (9.3)
+abbrev pub take_terminates : Image → Who → Step
+take_terminates p name = nothing
+
+-- tasks whose struck constructs may be left now (9.8)
+abbrev pub unwind_all : Image → Who → Step
+unwind_all p name = nothing
+
+abbrev pub effect : Image → Who → Step
+effect p name =
+    changes (edit_task name (with_ticks None)) ▷ act p name ▷ open_sequence p name ▷ take_terminates p name ▷ unwind_all p name
+
+abbrev pub is_over : Option ℕ → Bool
+is_over None = false
+is_over (Some ticks) = eqb ticks 0
+
+abbrev pub effect_of_runner : Image → Option Who → Move
+effect_of_runner p None = nothing
+effect_of_runner p (Some name) = looks (λ w. elim (is_over (task_of w name).ticks_left) [ true ↦ settles (effect p name) | false ↦ nothing ])
+
+-- 1: the effect of the action that ended
+abbrev pub finish_action : Image → Move
+finish_action p = looks (λ w. effect_of_runner p w.ran)
+
+-- 2: items of the script
+abbrev pub script_items : Image → Move
+script_items p = nothing
+
+-- 3: timing events
+abbrev pub events_due : Image → Move
+events_due p = nothing
+
+-- 4: delays, time-outs and triggers
+abbrev pub moments_due : Image → Move
+moments_due p = nothing
+
+-- 5: timers
+abbrev pub timers_due : Image → Move
+timers_due p = nothing
+
+-- 6: budgets
+abbrev pub budgets_due : Image → Move
+budgets_due p = nothing
+
+-- 7: a spent quantum
+abbrev pub quantum_spent : Image → Move
+quantum_spent p = nothing
+
+abbrev pub instant : Image → Move
+instant p =
+    finish_action p ▷ script_items p ▷ events_due p ▷ moments_due p ▷ timers_due p ▷ budgets_due p ▷ quantum_spent p
+
+-- ---- the stop (own)
+
+-- the environment task has terminated
+abbrev pub stop_by_end : Image → Option (Option Raised) → Option Ended
+stop_by_end p None = None
+stop_by_end p (Some None) = Some why.Completed
+stop_by_end p (Some (Some e)) = Some (why.Exception (exception_name p e))
+
+-- nobody is ready, and no appointment or item of the script is ahead
+abbrev pub stop_by_stuck : World → Option Ended
+stop_by_stuck w = cond (is_empty w.places && is_empty w.appointments && is_empty w.script) (Some why.Stuck) None
+
+-- now is the bound
+abbrev pub stop_by_bound : ℕ → World → Option Ended
+stop_by_bound bound w = cond (eqb w.now bound) (Some why.Bound) None
+
+abbrev pub or_else : Option Ended → Option Ended → Option Ended
+or_else (Some stop) later = Some stop
+or_else None later = later
+
+abbrev pub stop : Image → ℕ → World → Option Ended
+stop p bound w = or_else (stop_by_end p w.ended) (or_else (stop_by_stuck w) (stop_by_bound bound w))
+
+-- ---- a tock: the choice, and one tick
+
+abbrev pub say : Event → Move
+say event w = (w, event ∷ [])
+
+abbrev pub silently : (World → World) → Move
+silently f w = (f w, [])
+
+-- `run` for somebody who did not run the tick before
+abbrev pub says_run : Who → Option Who → Move
+says_run name ran = cond (same_option same_who ran (Some name)) nothing (say (line.Run name))
+
+-- the agent without a rest begins the first release that is pending (own)
+abbrev pub with_serving : Release → List Release → World → World
+with_serving r rest w = record w { releases = rest; serving = Some r }
+
+abbrev pub begin_release : Release → List Release → Move
+begin_release r rest = silently (with_serving r rest) ▷ say (line.Serve r.number)
+
+abbrev pub serve_first : List Release → Move
+serve_first [] = nothing
+serve_first (r ∷ rest) = begin_release r rest
+
+abbrev pub serve_if_free : Option Release → List Frame → List Release → Move
+serve_if_free None [] releases = serve_first releases
+serve_if_free None (f ∷ fs) releases = nothing
+serve_if_free (Some r) frames releases = nothing
+
+abbrev pub serve : Who → Move
+serve (who.Task t) = nothing
+serve who.Agent = looks (λ w. serve_if_free w.serving w.agent.frames w.releases)
+
+-- an action begins when its task is chosen and has no ticks left
+abbrev pub ticks_or : Option ℕ → ℕ → ℕ
+ticks_or None n = n
+ticks_or (Some ticks) n = ticks
+
+abbrev pub begin_action : Image → Who → World → World
+begin_action p name w = edit_task name (with_ticks (Some (ticks_or (task_of w name).ticks_left (cost p w name)))) w
+
+-- one tick is charged (D.14)
+abbrev pub charge : Image → Who → World → World
+charge p name w = w
+
+abbrev pub one_less : Option ℕ → Option ℕ
+one_less None = None
+one_less (Some n) = Some (n - 1)
+
+abbrev pub spend_tick : Who → World → World
+spend_tick name = edit_task name (λ t. with_ticks (one_less t.ticks_left) t)
+
+abbrev pub next_tick : Option Who → World → World
+next_tick ran w = record w { now = suc w.now; ran = ran }
+
+-- one tick of who is chosen
+abbrev pub tick_of : Image → Who → Move
+tick_of p name =
+    looks (λ w. says_run name w.ran) ▷ serve name ▷ silently (begin_action p name) ▷ silently (charge p name)
+    ▷ silently (spend_tick name) ▷ silently (next_tick (Some name))
+
+-- a tick at which nobody runs
+abbrev pub says_idle : Option Who → Move
+says_idle None = nothing
+says_idle (Some name) = say line.Idle
+
+abbrev pub idle_tick : Move
+idle_tick = looks (λ w. says_idle w.ran) ▷ silently (next_tick None)
+
+abbrev pub tock_of : Image → Option Who → Move
+tock_of p None = idle_tick
+tock_of p (Some name) = tick_of p name
+
+abbrev pub tock : Image → Move
+tock p = looks (λ w. tock_of p (choose w))
+
+-- ---- the run
+
+pub record Ran : Type 0 where
+  pub lines : List (ℕ × Event)
+  pub stop : Ended
+
+abbrev pub at_tick : ℕ → List Event → List (ℕ × Event)
+at_tick now [] = []
+at_tick now (x ∷ xs) = (now, x) ∷ at_tick now xs
+
+abbrev pub stopped : ℕ → List Event → Ended → Ran
+stopped now lines reason = record { lines = at_tick now (lines ++ line.End reason ∷ []); stop = reason }
+
+abbrev pub then_runs : ℕ → List Event → Ran → Ran
+then_runs now lines rest = record { lines = at_tick now lines ++ rest.lines; stop = rest.stop }
+
+-- what is left of a run, from an instant on: the fuel is one more than the ticks that are left
+abbrev pub run_from : ℕ → Image → ℕ → World → Ran
+run_from zero p bound w = stopped w.now [] why.Bound
+run_from (suc fuel) p bound w =
+    let i = instant p w in
+    let t = tock p i.0 in
+    elim (stop p bound i.0) [
+      | Some reason ↦ stopped w.now i.1 reason
+      | None ↦ then_runs w.now (i.1 ++ t.1) (run_from fuel p bound t.0)
+    ]
+
+abbrev pub run : Image → List (ℤ × Item) → ℕ → Ran
+run p script bound =
+    let o = opening p script in
+    then_runs 0 o.1 (run_from (suc bound) p bound o.0)
+
+-- the lines of the run of this program, script and bound
+abbrev pub run_of : Image → List (ℤ × Item) → ℕ → List (ℕ × Event)
+run_of p script bound = (run p script bound).lines

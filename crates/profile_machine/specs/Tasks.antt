@@ -1,0 +1,82 @@
+-- The tasks of a world and the agent: looking at one, and changing one.
+use Rattle.std.specs.Prelude.{ℕ, ◌+◌, ℤ, pos, Bool, true, false, cond, not, ◌&&◌, ◌||◌, List, [], ◌∷◌, ◌++◌, Option, Some, None, find, filter, map, length, option_map, is_some, replicate}
+use Rattle.ann_base.specs.declared.identities.TaskNo.{TaskNo}
+use Rattle.trace_text.specs.declared.events.Who.{Who}
+use Rattle.trace_text.specs.declared.events.Who.TheVariants as who
+use Rattle.profile_machine.specs.World.{World, Task, State, Made, Runnable, Blocked, Waiting, for_release, Frame, Placed}
+use Rattle.profile_machine.specs.Words.{same_who, option_or_else, edit_where, is_empty}
+
+-- the last moment of Time (D.8), as -2^62 and 2^62 - 1 are the ends of all times (own)
+abbrev pub time_last : ℤ
+time_last = pos 4611686018427387903
+
+-- a task, or the agent, as it begins
+abbrev pub new_task : Who → ℕ → State → Task
+new_task name base state = record { who = name; declared = None; unit = None; outer = None; state = state; frames = []; ticks_left = None; base = base; inherited = []; kept_level = None; deadline = time_last; relative_deadline = None; quantum = 0; cpu_ticks = 0; master = None; part = 0; activator = None; group_failed = false; completed = false; abnormal = false; deferred_base = None; deferred_deadline = None; budget = None; queues = [] }
+
+-- ---- looking
+
+abbrev pub is_who : Who → Task → Bool
+is_who name t = same_who name t.who
+
+-- what stands for a task that is not there
+abbrev pub nobody : Task
+nobody = new_task who.Agent 0 Made
+
+abbrev pub found_task : Who → List Task → Option Task
+found_task name tasks = find (is_who name) tasks
+
+abbrev pub task_of : World → Who → Task
+task_of w (who.Task t) = option_or_else (found_task (who.Task t) w.tasks) nobody
+task_of w who.Agent = w.agent
+
+-- a task that has not terminated is there
+abbrev pub is_there : World → TaskNo → Bool
+is_there w t = is_some (found_task (who.Task t) w.tasks)
+
+abbrev pub number_of : Who → Option TaskNo
+number_of (who.Task t) = Some t
+number_of who.Agent = None
+
+abbrev pub is_agent : Who → Bool
+is_agent (who.Task t) = false
+is_agent who.Agent = true
+
+abbrev pub is_runnable_state : State → Bool
+is_runnable_state Made = false
+is_runnable_state Runnable = true
+is_runnable_state (Blocked waiting) = false
+
+abbrev pub is_made_state : State → Bool
+is_made_state Made = true
+is_made_state Runnable = false
+is_made_state (Blocked waiting) = false
+
+abbrev pub waiting_in : State → Option Waiting
+waiting_in Made = None
+waiting_in Runnable = None
+waiting_in (Blocked waiting) = Some waiting
+
+abbrev pub is_runnable : Task → Bool
+is_runnable t = is_runnable_state t.state
+
+abbrev pub is_made : Task → Bool
+is_made t = is_made_state t.state
+
+abbrev pub waiting_of : World → Who → Option Waiting
+waiting_of w name = waiting_in (task_of w name).state
+
+-- ---- changing
+
+abbrev pub edit_task : Who → (Task → Task) → World → World
+edit_task (who.Task t) f w = record w { tasks = edit_where (is_who (who.Task t)) f w.tasks }
+edit_task who.Agent f w = record w { agent = f w.agent }
+
+abbrev pub with_state : State → Task → Task
+with_state state t = record t { state = state }
+
+abbrev pub with_frames : List Frame → Task → Task
+with_frames frames t = record t { frames = frames }
+
+abbrev pub with_ticks : Option ℕ → Task → Task
+with_ticks ticks t = record t { ticks_left = ticks }

@@ -1,0 +1,113 @@
+-- Small words on numbers, options and lists that the definitions share.
+use Rattle.std.specs.Prelude.{ℕ, zero, suc, max, cond, ◌+◌, ℤ, pos, ◌+ℤ◌, Bool, true, false, not, ◌&&◌, ◌||◌, List, [], ◌∷◌, ◌++◌, Option, Some, None, eqb, ltb, int_lt, int_le, is_some, filter, find, length, slice_get}
+use Rattle.ann_base.specs.declared.identities.TaskNo.{TaskNo}
+use Rattle.ann_base.specs.declared.identities.CallNo.{CallNo}
+use Rattle.ann_base.specs.declared.identities.ObjectNo.{ObjectNo}
+use Rattle.ann_base.specs.declared.identities.RegionNo.{RegionNo}
+use Rattle.trace_text.specs.declared.events.Who.{Who}
+use Rattle.trace_text.specs.declared.events.Who.TheVariants.{Task, Agent}
+use Rattle.profile_machine.specs.declared.numbers.DeclNo.{DeclNo}
+use Rattle.profile_machine.specs.declared.numbers.StatementNo.{StatementNo}
+use Rattle.profile_machine.specs.declared.numbers.ScopeNo.{ScopeNo}
+use Rattle.profile_machine.specs.declared.numbers.EntryNo.{EntryNo}
+use Rattle.profile_machine.specs.World.{ScopeId, scope_id}
+
+-- ---- the same thing, by number
+
+abbrev pub same_task : TaskNo → TaskNo → Bool
+same_task a b = eqb a.0 b.0
+
+abbrev pub same_call : CallNo → CallNo → Bool
+same_call a b = eqb a.0 b.0
+
+abbrev pub same_object : ObjectNo → ObjectNo → Bool
+same_object a b = eqb a.0 b.0
+
+abbrev pub same_region : RegionNo → RegionNo → Bool
+same_region a b = eqb a.0 b.0
+
+abbrev pub same_statement : StatementNo → StatementNo → Bool
+same_statement a b = eqb a.0 b.0
+
+abbrev pub same_scope : ScopeNo → ScopeNo → Bool
+same_scope a b = eqb a.0 b.0
+
+abbrev pub same_entry : EntryNo → EntryNo → Bool
+same_entry a b = eqb a.0 b.0
+
+abbrev pub same_who : Who → Who → Bool
+same_who (Task a) (Task b) = same_task a b
+same_who (Task a) Agent = false
+same_who Agent (Task b) = false
+same_who Agent Agent = true
+
+abbrev pub same_id : ScopeId → ScopeId → Bool
+same_id (scope_id a) (scope_id b) = eqb a b
+
+-- both are none, or both are there and the same
+abbrev pub same_option : {X : Type 0} → (X → X → Bool) → Option X → Option X → Bool
+same_option same None None = true
+same_option same None (Some b) = false
+same_option same (Some a) None = false
+same_option same (Some a) (Some b) = same a b
+
+-- it is there and is x
+abbrev pub is_the : {X : Type 0} → (X → X → Bool) → Option X → X → Bool
+is_the same None x = false
+is_the same (Some a) x = same a x
+
+abbrev pub has : {X : Type 0} → (X → X → Bool) → List X → X → Bool
+has same [] x = false
+has same (y ∷ ys) x = same y x || has same ys x
+
+-- ---- choices
+
+abbrev pub option_or_else : {X : Type 0} → Option X → X → X
+option_or_else None x = x
+option_or_else (Some y) x = y
+
+abbrev pub some_where : {X : Type 0} → Bool → X → Option X
+some_where true x = Some x
+some_where false x = None
+
+-- the first of the two that is there
+abbrev pub first_some : {X : Type 0} → Option X → Option X → Option X
+first_some (Some x) other = Some x
+first_some None other = other
+
+-- ---- lists
+
+abbrev pub is_empty : {X : Type 0} → List X → Bool
+is_empty [] = true
+is_empty (x ∷ xs) = false
+
+abbrev pub first_of_list : {X : Type 0} → List X → Option X
+first_of_list [] = None
+first_of_list (x ∷ xs) = Some x
+
+-- the items for which the test does not hold
+abbrev pub without : {X : Type 0} → (X → Bool) → List X → List X
+without test = filter (λ x. not (test x))
+
+-- f at the items for which the test holds
+abbrev pub edit_where : {X : Type 0} → (X → Bool) → (X → X) → List X → List X
+edit_where test f [] = []
+edit_where test f (x ∷ xs) = cond (test x) (f x) x ∷ edit_where test f xs
+
+-- f at the item with this number, counted from 0
+abbrev pub edit_at : {X : Type 0} → ℕ → (X → X) → List X → List X
+edit_at n f [] = []
+edit_at zero f (x ∷ xs) = f x ∷ xs
+edit_at (suc n) f (x ∷ xs) = x ∷ edit_at n f xs
+
+abbrev pub greatest_of : List ℕ → ℕ → ℕ
+greatest_of [] least = least
+greatest_of (x ∷ xs) least = max x (greatest_of xs least)
+
+-- ---- moments
+
+abbrev pub same_moment : ℤ → ℤ → Bool
+same_moment a b = int_le a b && int_le b a
+
+abbrev pub moment_at : ℕ → ℤ
+moment_at n = pos n

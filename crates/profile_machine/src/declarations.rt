@@ -1,0 +1,189 @@
+//! Declarations, scopes and units (clauses 3, 6, 7, 9).
+use crate::expressions::ObjectName;
+use crate::numbers::{
+    ControlledNo, DeclNo, EntryNo, ExprNo, ProtectedUnitNo, ScopeNo, StatementNo, SubprogramNo,
+    TaskUnitNo,
+};
+use crate::sequence::Sequence;
+use crate::values::{CellRun, Constraint, Value};
+use ann_base::{Level, Raised};
+
+/// A text of bytes 32 to 126.
+pub type Text = Sequence<u8>;
+
+/// The initial value of an object or component.
+#[derive(Clone, Copy, Debug, PartialEq, Eq)]
+pub enum Initial {
+    /// None is given: it begins as its cells stand in their scope.
+    Default,
+    /// The value of an expression.
+    Scalar(ExprNo),
+    /// The components of a whole array.
+    Array(ObjectName),
+}
+
+/// What a declaration declares.
+#[derive(Clone, Copy, Debug, PartialEq, Eq)]
+pub enum DeclarationKind {
+    /// A scalar, a Task_Id or an array, or a constant of these; a component too.
+    Object(Initial),
+    /// A task object.
+    Task(TaskUnitNo),
+    /// A protected object.
+    Protected(ProtectedUnitNo),
+    /// A controlled object.
+    Controlled(ControlledNo),
+    /// A timing event (D.15).
+    Event,
+    /// A timer of the task that the named constant identifies (D.14.1).
+    Timer(DeclNo),
+    /// A group budget (D.14.2).
+    Budget,
+    /// A parameter or a loop parameter.
+    Parameter,
+    /// What has no cells: a type, a subprogram, an exception, a package and the like.
+    Other,
+}
+
+/// A declaration. Its cells stand in the cells of its scope from `place` on; those of a component from `place`
+/// on behind the first of its object's components.
+#[derive(Drop)]
+pub struct Declaration {
+    /// The simple name in lower case.
+    pub name: Text,
+    /// The expanded name in lower case.
+    pub expanded: Text,
+    pub kind: DeclarationKind,
+    pub scope: ScopeNo,
+    pub place: u32,
+    /// How many cells it has.
+    pub cells: u32,
+    /// The range of its values; of an array's that of its components.
+    pub constraint: Constraint,
+    /// The range of an array's index.
+    pub index: Option<Constraint>,
+}
+
+/// A scope of the text.
+#[derive(Drop)]
+pub struct Scope {
+    /// The scope that stands round it; none for the environment's.
+    pub outer: Option<ScopeNo>,
+    /// How many cells it takes.
+    pub size: u32,
+    /// Those of its cells that do not begin as `Whole(0)`.
+    pub cells: Sequence<CellRun>,
+    /// Whether its declarations hold a task or a controlled object.
+    pub kept: bool,
+    /// The first action in it.
+    pub first: Option<StatementNo>,
+}
+
+/// A formal parameter of a subprogram or an entry. The n-th stands in cell n of its scope, counted from 0.
+#[derive(Clone, Copy, Debug, PartialEq, Eq)]
+pub struct Formal {
+    pub constraint: Constraint,
+    /// What it holds where nothing is copied in.
+    pub initial: Value,
+}
+
+/// A subprogram. The scope of a function has a last cell more, which keeps its result.
+#[derive(Drop)]
+pub struct Subprogram {
+    /// The simple name in lower case.
+    pub name: Text,
+    pub scope: ScopeNo,
+    pub formals: Sequence<Formal>,
+    /// The range of a function's result; a procedure has none.
+    pub result: Option<Constraint>,
+    /// The protected unit of which it is an operation.
+    pub unit: Option<ProtectedUnitNo>,
+}
+
+/// A task unit.
+#[derive(Drop)]
+pub struct TaskUnit {
+    /// The scope of its body.
+    pub scope: ScopeNo,
+    /// The aspect Priority or Interrupt_Priority (D.1).
+    pub priority: Option<Level>,
+    /// The aspect Relative_Deadline (D.2.6).
+    pub relative_deadline: Option<ExprNo>,
+    /// Its entries in the order of the text.
+    pub entries: Sequence<EntryNo>,
+}
+
+/// A procedure that is attached to an interrupt (C.3.1).
+#[derive(Clone, Copy, Debug, PartialEq, Eq)]
+pub struct Attachment {
+    pub interrupt: u8,
+    pub handler: SubprogramNo,
+}
+
+/// A protected unit. The components of its objects stand behind 16 cells of their own.
+#[derive(Drop)]
+pub struct ProtectedUnit {
+    pub ceiling: Level,
+    /// Its entries in the order of the text.
+    pub entries: Sequence<EntryNo>,
+    pub components: Sequence<DeclNo>,
+    pub attached: Sequence<Attachment>,
+}
+
+/// The unit of an entry.
+#[derive(Clone, Copy, Debug, PartialEq, Eq)]
+pub enum EntryUnit {
+    Task(TaskUnitNo),
+    Protected(ProtectedUnitNo),
+}
+
+/// The body of a protected entry (9.5.2).
+#[derive(Clone, Copy, Debug, PartialEq, Eq)]
+pub struct EntryBody {
+    pub barrier: ExprNo,
+    pub scope: ScopeNo,
+}
+
+/// An entry.
+#[derive(Drop)]
+pub struct Entry {
+    /// The simple name in lower case.
+    pub name: Text,
+    pub unit: EntryUnit,
+    /// Its place among the entries of its unit, from 0.
+    pub place: u32,
+    pub formals: Sequence<Formal>,
+    /// The body of a protected entry.
+    pub body: Option<EntryBody>,
+}
+
+/// A controlled type with the operations that it overrides (7.6). The components of its objects stand behind one
+/// cell of their own.
+#[derive(Drop)]
+pub struct ControlledType {
+    pub components: Sequence<DeclNo>,
+    pub initialize: Option<SubprogramNo>,
+    pub finalize: Option<SubprogramNo>,
+    pub adjust: Option<SubprogramNo>,
+}
+
+/// An enumeration type: its literals in upper case, as 'Image gives them (3.5).
+#[derive(Drop)]
+pub struct Enumeration {
+    pub literals: Sequence<Text>,
+}
+
+/// What a handler handles (11.2).
+#[derive(Clone, Copy, Debug, PartialEq, Eq)]
+pub enum ExceptionChoice {
+    Named(Raised),
+    Others,
+}
+
+/// An exception handler.
+#[derive(Drop)]
+pub struct Handler {
+    pub choices: Sequence<ExceptionChoice>,
+    /// Its first statement.
+    pub first: StatementNo,
+}

@@ -1,0 +1,74 @@
+//! The image of a program: what the machine runs.
+use crate::declarations::{
+    ControlledType, Declaration, Entry, Enumeration, ProtectedUnit, Scope, Subprogram, TaskUnit,
+    Text,
+};
+use crate::expressions::Expression;
+use crate::numbers::ScopeNo;
+use crate::sequence::Sequence;
+use crate::statements::Statement;
+use ann_base::Level;
+
+/// A task dispatching policy (D.2.2).
+#[derive(Clone, Copy, Debug, PartialEq, Eq)]
+pub enum Dispatching {
+    FifoWithinPriorities,
+    RoundRobinWithinPriorities,
+    EdfAcrossPriorities,
+}
+
+/// A range of priorities with its policy.
+#[derive(Clone, Copy, Debug, PartialEq, Eq)]
+pub struct DispatchingRange {
+    pub policy: Dispatching,
+    pub first: Level,
+    pub last: Level,
+}
+
+/// An entry queuing policy (D.4).
+#[derive(Clone, Copy, Debug, PartialEq, Eq)]
+pub enum Queuing {
+    Fifo,
+    Priority,
+}
+
+/// What the pragmas of a source ask for at run time (D.2.2, D.4, D.7).
+#[derive(Drop)]
+pub struct Policies {
+    /// The ranges that have a policy; every other priority is of FIFO_Within_Priorities.
+    pub dispatching: Sequence<DispatchingRange>,
+    pub queuing: Queuing,
+    /// Max_Entry_Queue_Length.
+    pub longest_queue: Option<u32>,
+    /// The last Priority: 30, or 97 where the range is wide. Interrupt_Priority is the one above.
+    pub last_priority: Level,
+}
+
+/// The main procedure (10.2).
+#[derive(Drop)]
+pub struct MainProcedure {
+    /// The name in lower case.
+    pub name: Text,
+    /// The base priority of the environment task.
+    pub priority: Level,
+    pub scope: ScopeNo,
+}
+
+/// A program whose names are numbers. The items of its lists name one another by their numbers.
+#[derive(Drop)]
+pub struct Image {
+    pub declarations: Sequence<Declaration>,
+    pub expressions: Sequence<Expression>,
+    pub statements: Sequence<Statement>,
+    pub scopes: Sequence<Scope>,
+    pub subprograms: Sequence<Subprogram>,
+    pub task_units: Sequence<TaskUnit>,
+    pub protected_units: Sequence<ProtectedUnit>,
+    pub entries: Sequence<Entry>,
+    pub controlled_types: Sequence<ControlledType>,
+    pub enumerations: Sequence<Enumeration>,
+    pub policies: Policies,
+    /// The environment's scope, whose first action is the first of the elaboration of the library packages.
+    pub environment: ScopeNo,
+    pub main: MainProcedure,
+}

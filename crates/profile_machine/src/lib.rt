@@ -1,0 +1,32 @@
+//! The profile machine: the plain data of a program that is run, and, in `specs/`, the definition of its timed run.
+#![tactic(auto)]
+
+mod declarations;
+mod expressions;
+mod image;
+mod numbers;
+mod rows;
+mod run_data;
+mod sequence;
+mod statements;
+mod values;
+
+pub use declarations::{
+    Attachment, ControlledType, Declaration, DeclarationKind, Entry, EntryBody, EntryUnit,
+    Enumeration, ExceptionChoice, Formal, Handler, Initial, ProtectedUnit, Scope, Subprogram,
+    TaskUnit, Text,
+};
+pub use expressions::{BinaryOperator, Expression, ObjectName, UnaryOperator, VariableName};
+pub use image::{Dispatching, DispatchingRange, Image, MainProcedure, Policies, Queuing};
+pub use numbers::{
+    ControlledNo, DeclNo, EntryNo, EnumerationNo, ExprNo, ProtectedUnitNo, ScopeNo, StatementNo,
+    SubprogramNo, TaskUnitNo,
+};
+pub use rows::row_01;
+pub use run_data::{Item, Leaving};
+pub use sequence::Sequence;
+pub use statements::{
+    Actual, Callee, CaseAlternative, Choice, Destination, EntryOwner, HandlerName, Piece,
+    SelectAlternative, SelectKind, Setting, Statement, StatementForm,
+};
+pub use values::{CellRun, Constraint, Value};

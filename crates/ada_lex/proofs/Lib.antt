@@ -1,0 +1,4 @@
+pub mod Loops
+pub mod Pieces
+pub mod ReservedTable
+pub mod DelimiterTable

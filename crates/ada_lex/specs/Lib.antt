@@ -1,0 +1,5 @@
+pub mod Shapes
+pub mod Reading
+pub mod Meaning
+pub mod ReservedLetters
+pub mod DelimiterLetters

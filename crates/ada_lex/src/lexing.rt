@@ -1,0 +1,52 @@
+//! A source is cut into its tokens.
+ghost use Rattle.std.specs.Prelude.{◌≡◌, ◌≤◌, ◌++◌, length, option_to_list, OnOk, IfErr};
+ghost use Rattle.ada_lex.specs.Reading.{Gives, tokens_from, tokens_of, start};
+
+use crate::scan::{Spot, piece_at};
+use crate::tokens::{LexFault, Token};
+use ann_base::Place;
+use std::alloc::Global;
+
+/// The most bytes that a source has.
+pub const MAX_SOURCE: usize = 262_144;
+
+fn push_found(tokens: &mut Vec<Token>, token: Option<Token>) -> Result<(), LexFault>
+    ensures ok { OnOk result (tokens.new.items ≡ tokens.old.items ++ option_to_list token) }
+    ensures memory { IfErr result (λ e. e ≡ LexFault.Memory) }
+{
+    if let Some(token) = token {
+        tokens.push(token)?;
+    }
+    Ok(())
+}
+
+fn tokens_of(alloc: Global, source: &[u8]) -> Result<Vec<Token>, LexFault>
+    requires { length source.now ≤ 262144 }
+    ensures { Gives (λ v. v.items) result (tokens_from source.now 0 start) }
+{
+    let mut tokens = Vec::new(alloc);
+    let mut spot = Spot {
+        offset: 0,
+        place: Place { line: 1, column: 1 },
+    };
+    let mut rest = source;
+    while !rest.is_empty() {
+        let (token, n) = piece_at(spot, rest)?;
+        push_found(&mut tokens, token)?;
+        let (piece, after) = rest.split_at(n);
+        spot = spot.behind(piece);
+        rest = after;
+    }
+    Ok(tokens)
+}
+
+#[tactic(auto, unfolding(crate::specs::Reading::tokens_of))]
+/// The tokens of a source in order, or its first fault (clause 2).
+pub fn lex(alloc: Global, source: &[u8]) -> Result<Vec<Token>, LexFault>
+    ensures exact { Gives (λ v. v.items) result (tokens_of source.now) }
+{
+    if source.len() > MAX_SOURCE {
+        return Err(LexFault::TooLong);
+    }
+    tokens_of(alloc, source)
+}

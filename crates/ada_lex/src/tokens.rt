@@ -1,0 +1,67 @@
+//! Tokens and the faults of a source that has none.
+ghost use Rattle.std.specs.Prelude.{◌≡◌};
+ghost use Rattle.ada_lex.specs.declared.tokens.LexFault.TheVariants.{Memory};
+
+use ann_base::Place;
+use std::alloc::{AllocError, AllocFailed};
+use thiserror::Error;
+
+/// What a token is.
+#[derive(Clone, Copy, Debug, PartialEq, Eq)]
+pub enum Kind {
+    /// An identifier or a reserved word (2.3, 2.9).
+    Word,
+    /// A numeric literal without a base and an exponent (2.4.1).
+    Number,
+    /// A string literal, with its quotation marks (2.6).
+    Text,
+    /// A delimiter (2.2).
+    Mark,
+}
+
+/// A token: its kind, the bytes `first .. end` of the source that spell it, and the place of its first byte.
+#[derive(Clone, Copy, Debug, PartialEq, Eq)]
+pub struct Token {
+    pub kind: Kind,
+    /// The offset of its first byte.
+    pub first: u32,
+    /// The offset behind its last byte.
+    pub end: u32,
+    pub place: Place,
+}
+
+/// Why a source has no tokens: its first fault.
+#[derive(Debug, Drop, Error)]
+pub enum LexFault {
+    /// A byte that no token, separator or comment has there.
+    #[error("a byte that may not stand here")]
+    BadByte(Place),
+    /// A number that is no decimal literal of this profile, at its first byte.
+    #[error("not a number of this profile")]
+    BadNumber(Place),
+    /// A text that does not end on its line, at its first mark.
+    #[error("a text that does not end on its line")]
+    OpenString(Place),
+    /// More than 262,144 bytes.
+    #[error("the source is too long")]
+    TooLong,
+    /// Memory was wanting.
+    #[error("no memory")]
+    Memory,
+}
+
+impl From<AllocError> for LexFault {
+    ghost from_gives = { λ _ e. e ≡ Memory };
+
+    fn from(_: AllocError) -> Self {
+        LexFault::Memory
+    }
+}
+
+impl<T: Drop> From<AllocFailed<T>> for LexFault {
+    ghost from_gives = { λ _ e. e ≡ Memory };
+
+    fn from(_: AllocFailed<T>) -> Self {
+        LexFault::Memory
+    }
+}

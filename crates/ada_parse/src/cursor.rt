@@ -99,12 +99,12 @@ impl<'a> Cursor<'a> {
     }
 
     /// Reads a text, and answers what stands between its quotation marks, a doubled mark once.
-    pub fn text(&mut self, alloc: Global) -> Result<Bytes, ParseFault> {
+    pub fn text(&mut self, alloc: Global) -> Result<(Place, Bytes), ParseFault> {
         match self.peek() {
             Some((token, bytes)) if token.kind == Kind::Text => {
                 let text = Bytes::from_vec(text_value(alloc, bytes)?);
                 self.step();
-                Ok(text)
+                Ok((token.place, text))
             }
             _ => Err(self.unexpected()),
         }

@@ -96,8 +96,12 @@ fn statement(alloc: Global, cursor: &mut Cursor<'_>) -> Result<Statement, ParseF
     }
     let place = cursor.word(b"put_line")?;
     cursor.mark(b"(")?;
-    let text = cursor.text(alloc)?;
+    let (text_place, text) = cursor.text(alloc)?;
     cursor.mark(b")")?;
     cursor.mark(b";")?;
-    Ok(Statement::PutLine { place, text })
+    Ok(Statement::PutLine {
+        place,
+        text_place,
+        text,
+    })
 }

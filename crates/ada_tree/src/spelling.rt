@@ -47,7 +47,11 @@ fn spell_statement(
 ) -> Result<(), NoMemory> {
     match statement {
         Statement::Null { place: _ } => push(alloc, spelt, Kind::Word, b"null")?,
-        Statement::PutLine { place: _, text } => {
+        Statement::PutLine {
+            place: _,
+            text_place: _,
+            text,
+        } => {
             push(alloc, spelt, Kind::Word, b"put_line")?;
             push(alloc, spelt, Kind::Mark, b"(")?;
             push(alloc, spelt, Kind::Text, text.as_slice())?;

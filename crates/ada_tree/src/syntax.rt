@@ -18,6 +18,8 @@ pub enum Statement {
     PutLine {
         /// The place of `Put_Line`.
         place: Place,
+        /// The place of the text.
+        text_place: Place,
         /// What stands between the quotation marks, a doubled mark once.
         text: Bytes,
     },

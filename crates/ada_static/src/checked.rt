@@ -1,5 +1,5 @@
 //! Images that are legal.
-ghost use Rattle.std.specs.Prelude.{◌≡◌, ◌≤◌, ℕ, length, IfOk, OnOk};
+ghost use Rattle.std.specs.Prelude.{◌≡◌, ◌≤◌, ◌<◌, ℕ, length, IfOk, OnOk};
 ghost use Rattle.ada_names.specs.Simple.{IsSimple};
 ghost use Rattle.ada_names.specs.Numbered.{statement_no};
 ghost use Rattle.ada_static.specs.Texts.{IsLegal, PutsPrintable};
@@ -92,23 +92,31 @@ fn check_texts(image: &Image) -> Result<(), Refusal>
     requires { length image.now.places ≡ length image.now.program.statements }
     ensures { OnOk result ((n : ℕ) → PutsPrintable (form_of image.now.program (statement_no n))) }
 {
-    let statements = image.program.statements.as_slice();
-    let places = image.places.as_slice();
-    for n in 0..statements.len() {
-        let form = &statements[n].form;
-        let at = places[n];
-        if image.put_line_is_main && matches!(form, StatementForm::PutLine(_)) {
-            return Err(Refusal::Rule {
-                place: at.actual,
-                rule: ACTUALS_FIT,
-            });
-        }
-        if !puts_printable(form) {
-            return Err(Refusal::Rule {
-                place: at.first,
-                rule: PUTS_A_LINE,
-            });
-        }
+    for n in 0..image.program.statements.as_slice().len() {
+        check_text(image, n)?;
     }
     Ok(())
+}
+
+/// What this statement puts can be put.
+fn check_text(image: &Image, n: usize) -> Result<(), Refusal>
+    requires places { length image.now.places ≡ length image.now.program.statements }
+    requires inside { n < length image.now.program.statements }
+    ensures { OnOk result (PutsPrintable (form_of image.now.program (statement_no n))) }
+{
+    let form = &image.program.statements.as_slice()[n].form;
+    let at = image.places.as_slice()[n];
+    if image.put_line_is_main && matches!(form, StatementForm::PutLine(_)) {
+        Err(Refusal::Rule {
+            place: at.actual,
+            rule: ACTUALS_FIT,
+        })
+    } else if puts_printable(form) {
+        Ok(())
+    } else {
+        Err(Refusal::Rule {
+            place: at.first,
+            rule: PUTS_A_LINE,
+        })
+    }
 }

@@ -21,12 +21,8 @@ onward-linked k (s ∷ ss) (suc n) = onward-linked (k + 1) ss n
 
 pub IsSimple-program_of : (unit : Tree) → IsSimple (program_of unit)
 IsSimple-program_of unit = record {
-  environment = refl;
-  main = refl;
-  priority = refl;
-  policies = (refl, refl);
-  call = refl;
-  behind_call = refl;
+  body = linked 1 unit.statements;
+  shape = refl;
   forms = λ n. forms-linked 1 unit.statements n;
   onward = λ n. onward-linked 1 unit.statements n;
 }

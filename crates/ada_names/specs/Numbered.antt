@@ -50,11 +50,12 @@ environment_scope = record { outer = None; size = 0; cells = []; kept = false; f
 abbrev pub main_scope : Scope
 main_scope = record { outer = Some (record { 0 = 0 }); size = 0; cells = []; kept = false; first = Some (statement_no 1) }
 
-abbrev pub program_of : Tree → Program
-program_of unit = record {
+-- the program of one main procedure without declarations, with these statements
+abbrev pub simple_program : List ℕ → List Action → Program
+simple_program name body = record {
   declarations = [];
   expressions = [];
-  statements = call_of_main ∷ linked 1 unit.statements;
+  statements = call_of_main ∷ body;
   scopes = environment_scope ∷ main_scope ∷ [];
   subprograms = [];
   task_units = [];
@@ -64,5 +65,8 @@ program_of unit = record {
   enumerations = [];
   policies = record { dispatching = []; queuing = Fifo; longest_queue = None; last_priority = 30 };
   environment = record { 0 = 0 };
-  main = record { name = unit.name; priority = 15; scope = record { 0 = 1 } };
+  main = record { name = name; priority = 15; scope = record { 0 = 1 } };
 }
+
+abbrev pub program_of : Tree → Program
+program_of unit = simple_program unit.name (linked 1 unit.statements)

@@ -1,13 +1,14 @@
 -- The programs of one main procedure of null statements and calls of Put_Line with one text.
-use Rattle.std.specs.Prelude.{◌≡◌, ◌<◌, ℕ, suc, false, List, [], ◌∷◌, Option, Some, None}
+use Rattle.std.specs.Prelude.{◌≡◌, ◌<◌, ℕ, List, [], ◌∷◌, Option, Some, None, get_or}
 use Rattle.profile_machine.specs.declared.image.Image.{Image as Program}
 use Rattle.profile_machine.specs.declared.numbers.StatementNo.{StatementNo}
+use Rattle.profile_machine.specs.declared.statements.Statement.{Statement as Action}
 use Rattle.profile_machine.specs.declared.statements.StatementForm.{StatementForm}
 use Rattle.profile_machine.specs.declared.statements.StatementForm.TheVariants as form
 use Rattle.profile_machine.specs.declared.statements.Piece.{Piece}
 use Rattle.profile_machine.specs.declared.statements.Piece.TheVariants as piece
-use Rattle.profile_machine.specs.Program.{scope_of, form_of, next_of}
-use Rattle.ada_names.specs.Numbered.{environment_scope, main_scope, statement_no}
+use Rattle.profile_machine.specs.Program.{no_statement}
+use Rattle.ada_names.specs.Numbered.{simple_program}
 
 -- one text is put
 abbrev pub IsText : Piece → Type 0
@@ -32,12 +33,9 @@ abbrev pub StaysInBody : Option StatementNo → Type 0
 StaysInBody None = Unit {0}
 StaysInBody (Some s) = 0 < s.0
 
+-- The program has this shape, and its statements lead to one another.
 pub record IsSimple (p : Program) : Type 0 where
-  pub environment : scope_of p p.environment ≡ environment_scope
-  pub main : scope_of p p.main.scope ≡ main_scope
-  pub priority : p.main.priority ≡ 15
-  pub policies : (p.policies.dispatching ≡ []) × (p.policies.last_priority ≡ 30)
-  pub call : form_of p (statement_no 0) ≡ form.CallMain
-  pub behind_call : next_of p (statement_no 0) ≡ None
-  pub forms : (n : ℕ) → IsBodyForm (form_of p (statement_no (suc n)))
-  pub onward : (n : ℕ) → StaysInBody (next_of p (statement_no (suc n)))
+  pub body : List Action
+  pub shape : p ≡ simple_program p.main.name body
+  pub forms : (n : ℕ) → IsBodyForm (get_or body n no_statement).form
+  pub onward : (n : ℕ) → StaysInBody (get_or body n no_statement).next

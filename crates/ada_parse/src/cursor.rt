@@ -65,9 +65,7 @@ impl<'a> Cursor<'a> {
     /// Reads this word, in any case.
     pub fn word(&mut self, word: &[u8]) -> Result<Place, ParseFault> {
         match self.peek() {
-            Some((token, bytes))
-                if token.kind == Kind::Word && same_word(bytes, word) =>
-            {
+            Some((token, bytes)) if token.kind == Kind::Word && same_word(bytes, word) => {
                 self.step();
                 Ok(token.place)
             }

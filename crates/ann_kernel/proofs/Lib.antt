@@ -1,0 +1,3 @@
+pub mod MachineSteps
+pub mod FutureLemmas
+pub mod KernelLemmas

@@ -1,0 +1,16 @@
+//! The run of a checked program, line by line.
+//!
+//! A kernel keeps where its task stands, and shows a world of the profile machine. Each call of `next` writes an
+//! owed line, or goes on by an instant or a tock of that world.
+#![tactic(auto)]
+
+mod events;
+mod kernel;
+mod looking;
+mod opening;
+mod owed;
+mod progress;
+mod steps;
+
+pub use kernel::{Kernel, Next, Stop};
+pub use opening::boot;

@@ -1,10 +1,10 @@
 -- The program of a tree is a simple one.
-use Rattle.std.proofs.Common.{◌≡◌, ◌+◌, ◌<◌, ℕ, zero, suc, List, [], ◌∷◌, Some, None, get_or, refl, arith}
+use Rattle.std.proofs.Common.{◌≡◌, ◌+◌, ◌<◌, ℕ, zero, suc, List, [], ◌∷◌, Some, None, get_or, length, map, ap, refl, arith}
 use Rattle.ada_tree.specs.declared.syntax.Statement.{Statement}
 use Rattle.ada_tree.specs.declared.syntax.Statement.TheVariants as tree
 use Rattle.ada_tree.specs.declared.syntax.Unit.{Unit as Tree}
 use Rattle.profile_machine.specs.Program.{no_statement}
-use Rattle.ada_names.specs.Numbered.{linked, program_of}
+use Rattle.ada_names.specs.Numbered.{linked, place_for, places_of, program_of}
 use Rattle.ada_names.specs.Simple.{IsBodyForm, StaysInBody, IsSimple}
 
 forms-linked : (k : ℕ) (ss : List Statement) (n : ℕ) → IsBodyForm (get_or (linked k ss) n no_statement).form
@@ -26,3 +26,11 @@ IsSimple-program_of unit = record {
   forms = λ n. forms-linked 1 unit.statements n;
   onward = λ n. onward-linked 1 unit.statements n;
 }
+
+length-linked : (n : ℕ) (ss : List Statement) → length (map place_for ss) ≡ length (linked n ss)
+length-linked n [] = refl
+length-linked n (s ∷ ss) = ap suc (length-linked (n + 1) ss)
+
+-- each action has its place
+pub length-places_of : (unit : Tree) → length (places_of unit) ≡ length (program_of unit).statements
+length-places_of unit = ap suc (length-linked 1 unit.statements)

@@ -1,5 +1,5 @@
 //! Names become numbers.
-ghost use Rattle.std.specs.Prelude.{◌≡◌, ◌+◌, ◌<◌, ◌^◌, ◌∷◌, [], ◌++◌, None, Some, false, IfOk, IfErr, IsTrue};
+ghost use Rattle.std.specs.Prelude.{◌≡◌, ◌+◌, ◌<◌, ◌^◌, ◌∷◌, [], ◌++◌, None, Some, false, length, IfOk, IfErr, IsTrue};
 ghost use Rattle.std.specs.Str.{bytes_eq};
 ghost use Rattle.ada_names.specs.Numbered.{form_for, linked, next_after, call_of_main, environment_scope, main_scope, place_for, places_of, program_of};
 ghost use Rattle.ada_names.specs.NameFaults.{put_line, first_call, unknown_at, sees_put_line, name_fault_of, Refuses};
@@ -25,6 +25,7 @@ const LAST_PRIORITY: u8 = 30;
 pub fn number(alloc: Global, tree: &Unit) -> Result<Image, NameFault>
     ensures program { IfOk result (λ image. image.program ≡ program_of tree.now) }
     ensures places { IfOk result (λ image. image.places ≡ places_of tree.now) }
+    ensures complete { IfOk result (λ image. length image.places ≡ length image.program.statements) }
     ensures hidden { IfOk result (λ image. image.put_line_is_main ≡ bytes_eq tree.now.name put_line) }
     ensures refused { Refuses result (name_fault_of tree.now) }
     ensures simple { IfOk result (λ image. IsSimple image.program) }

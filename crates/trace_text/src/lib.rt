@@ -3,8 +3,13 @@
 
 mod buffer;
 mod events;
+mod fields;
+mod read;
+mod words;
 mod write;
 
 pub use buffer::{BUFFER_BYTES, LineBuffer};
 pub use events::{Created, Ended, EntryName, Event, Finished, Leaves, Mode, QueueEnd, Waits, Who};
+pub use read::BadLine;
+pub use words::Word;
 pub use write::{LINE_BYTES, write_line};

@@ -4,6 +4,7 @@ ghost use Rattle.std.specs.Fmt.{signed_decimal};
 ghost use Rattle.trace_text.specs.Text.{task_text, object_text, who_text, created_text, queue_end_text, waits_text, mode_text, leaves_text, entry_text, finished_text, ended_words, deadline_words, words_of, spaced, line_text, IsPrintable};
 
 use crate::buffer::LineBuffer;
+use crate::words::{leaves_bytes, mode_bytes, queue_end_bytes, waits_bytes};
 use crate::events::{
     Created, Ended, EntryName, Event, Finished, Leaves, Mode, QueueEnd, Waits, Who,
 };
@@ -49,13 +50,13 @@ fn push_event(event: &Event, buffer: &mut LineBuffer)
             push_who(*who, buffer);
             push_word(b"ready", buffer);
             push_short(*level, buffer);
-            push_word(queue_end_word(*end), buffer);
+            push_word(queue_end_bytes(*end), buffer);
             push_deadline(*deadline, buffer);
         }
         Event::Block { who, waits } => {
             push_who(*who, buffer);
             push_word(b"block", buffer);
-            push_word(waits_word(*waits), buffer);
+            push_word(waits_bytes(*waits), buffer);
         }
         Event::Run { who } => {
             push_who(*who, buffer);
@@ -127,7 +128,7 @@ fn push_event(event: &Event, buffer: &mut LineBuffer)
             push_who(*who, buffer);
             push_word(b"enter", buffer);
             push_object(*object, buffer);
-            push_word(mode_word(*mode), buffer);
+            push_word(mode_bytes(*mode), buffer);
         }
         Event::Exit { who, object } => {
             push_who(*who, buffer);
@@ -138,7 +139,7 @@ fn push_event(event: &Event, buffer: &mut LineBuffer)
             push_who(*who, buffer);
             push_word(b"held", buffer);
             push_object(*object, buffer);
-            push_word(mode_word(*mode), buffer);
+            push_word(mode_bytes(*mode), buffer);
         }
         Event::Abort { task, victim } => {
             push_task(*task, buffer);
@@ -153,7 +154,7 @@ fn push_event(event: &Event, buffer: &mut LineBuffer)
             push_who(*who, buffer);
             push_word(b"leave", buffer);
             push_number(region.0, buffer);
-            push_word(leaves_word(*how), buffer);
+            push_word(leaves_bytes(*how), buffer);
         }
         Event::Init {
             who,
@@ -329,16 +330,6 @@ fn push_created(what: Created, buffer: &mut LineBuffer)
     }
 }
 
-fn queue_end_word(end: QueueEnd) -> &'static [u8]
-    ensures word { result.now ≡ queue_end_text end }
-    ensures short { length result.now ≤ 4 }
-{
-    match end {
-        QueueEnd::Head => b"head",
-        QueueEnd::Tail => b"tail",
-    }
-}
-
 // The value of a port.
 fn push_value(value: i32, buffer: &mut LineBuffer)
     requires { length buffer.old + 12 ≤ 65536 }
@@ -403,42 +394,3 @@ fn finished_word(how: &Finished) -> &[u8]
     }
 }
 
-fn waits_word(waits: Waits) -> &'static [u8]
-    ensures word { result.now ≡ waits_text waits }
-    ensures short { length result.now ≤ 10 }
-{
-    match waits {
-        Waits::Activation => b"activation",
-        Waits::Delay => b"delay",
-        Waits::Entry => b"entry",
-        Waits::Accept => b"accept",
-        Waits::Select => b"select",
-        Waits::Dependents => b"dependents",
-        Waits::Call => b"call",
-        Waits::Release => b"release",
-    }
-}
-
-fn mode_word(mode: Mode) -> &'static [u8]
-    ensures word { result.now ≡ mode_text mode }
-    ensures short { length result.now ≤ 5 }
-{
-    match mode {
-        Mode::Read => b"read",
-        Mode::Write => b"write",
-    }
-}
-
-fn leaves_word(how: Leaves) -> &'static [u8]
-    ensures word { result.now ≡ leaves_text how }
-    ensures short { length result.now ≤ 9 }
-{
-    match how {
-        Leaves::End => b"end",
-        Leaves::Return => b"return",
-        Leaves::Exit => b"exit",
-        Leaves::Exception => b"exception",
-        Leaves::Abort => b"abort",
-        Leaves::Terminate => b"terminate",
-    }
-}

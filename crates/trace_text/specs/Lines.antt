@@ -14,8 +14,15 @@ use Rattle.trace_text.specs.declared.words.Word.{Word}
 use Rattle.trace_text.specs.declared.words.Word.TheVariants as word
 use Rattle.trace_text.specs.declared.read.Lead.{Lead}
 use Rattle.trace_text.specs.declared.read.Lead.TheVariants as lead
-use Rattle.trace_text.specs.Words.{word_in, waits_in, mode_in, leaves_in, queue_end_in}
+use Rattle.trace_text.specs.Text.{task_text, object_text}
+use Rattle.trace_text.specs.Words.{word_text, word_in, waits_in, mode_in, leaves_in, queue_end_in}
 use Rattle.trace_text.specs.Reading.{◌>>=◌, or_else, behind, front_of, rest_of, field, last_field, ended, number_in, short_in, long_in, moment_in, value_in, task_in, object_in, name_in, text_in, exception_in, finished_in, entry_in, handler_in, deadline_in}
+
+abbrev pub lead_text : Lead → List ℕ
+lead_text (lead.Task task) = task_text task
+lead_text (lead.Object object) = object_text object
+lead_text lead.Agent = codes "agent"
+lead_text (lead.Bare word) = word_text word
 
 abbrev pub agent_in : List ℕ → Option Lead
 agent_in bytes = if bytes_eq bytes (codes "agent") then Some lead.Agent else None

@@ -1,1 +1,3 @@
+pub mod FieldsAgain
+pub mod LinesAgain
 pub mod Numbers

@@ -1,9 +1,11 @@
 //! How a line is read.
 ghost use Rattle.std.specs.Prelude.{◌≡◌, ℕ, ◌<◌, ◌^◌, [], ◌∷◌, ◌++◌, IfSome, IfOk, Ok, codes, decimal};
-ghost use Rattle.trace_text.specs.Text.{IsPrintable, words_of, spaced, line_text, task_text, object_text, who_text, created_text};
+ghost use Rattle.trace_text.specs.Text.{IsPrintable, IsPrintableLine, words_of, spaced, line_text, task_text, object_text, who_text, created_text};
 ghost use Rattle.trace_text.specs.Words.{word_text};
 ghost use Rattle.trace_text.specs.Reading.{ReadsAs, field};
 ghost use Rattle.trace_text.specs.Lines.{lead_text, lead_in, created_in, ready_in, call_in, finish_in, enter_in, held_in, leave_in, init_in, release_in, port_in, end_in, who_in, task_line_in, agent_line_in, object_line_in, bare_in, led_in, event_in, moment_and_event_in, line_in};
+
+ghost use Rattle.trace_text.specs.declared.events.Event.{Event};
 
 use ann_base::{CallNo, ObjectNo, RegionNo, TaskNo};
 
@@ -411,4 +413,18 @@ fn line_of(line: &[u8]) -> Option<(u64, Event)>
         [bytes @ .., b'\n'] => moment_and_event(bytes),
         _ => None,
     }
+}
+
+/// The tick and the printable event whose line this is, with its line feed.
+///
+/// # Errors
+///
+/// `BadLine` exactly where no tick and printable event have this line.
+pub fn read_line(line: &[u8]) -> Result<(u64, Event), BadLine>
+    ensures line { IfOk result (λ read. line.now ≡ line_text read.0 read.1) }
+    ensures printable { IfOk result (λ read. IsPrintable read.1) }
+    // What has this line is read, so nothing has a line that is bad.
+    ensures only { (tick : ℕ) (event : Event) → IsPrintableLine tick event → line.now ≡ line_text tick event → result ≡ Ok (tick, event) }
+{
+    line_of(line).ok_or(BadLine)
 }

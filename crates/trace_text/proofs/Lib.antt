@@ -1,3 +1,4 @@
 pub mod FieldsAgain
+pub mod LawsFollowed
 pub mod LinesAgain
 pub mod Numbers

@@ -4,12 +4,14 @@
 mod buffer;
 mod events;
 mod fields;
+mod laws;
 mod read;
 mod words;
 mod write;
 
 pub use buffer::{BUFFER_BYTES, LineBuffer};
 pub use events::{Created, Ended, EntryName, Event, Finished, Leaves, Mode, QueueEnd, Waits, Who};
-pub use read::BadLine;
+pub use laws::tests_tell;
+pub use read::{BadLine, read_line};
 pub use words::Word;
 pub use write::{LINE_BYTES, write_line};

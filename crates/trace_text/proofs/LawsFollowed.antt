@@ -1,10 +1,12 @@
 -- A test that follows the lines says what a law says at each tick or at each line.
-use Rattle.std.proofs.Common.{◌≡◌, ℕ, ◌<◌, ◌≤◌, Bool, true, false, cond, ◌&&◌, ◌||◌, leb, List, [], ◌∷◌, ◌++◌, Option, Some, None, IsTrue, refl, ap, sym, subst, ◌∙◌, arith, inl, inr, rules}
-use Rattle.std.specs.Bool.{Decides}
-use Rattle.std.proofs.lemmas.Bool.{cases_lt, le-leb, leb-true, lt-leb}
+use Rattle.std.proofs.Common.{◌≡◌, ℕ, ◌<◌, ◌≤◌, Bool, true, false, cond, ◌&&◌, ◌||◌, leb, List, [], ◌∷◌, ◌++◌, Option, Some, None, IsTrue, refl, eq-eqb, ap, sym, subst, ◌∙◌, arith, inl, inr, rules}
+use Rattle.std.proofs.lemmas.Bool.{cases_lt, le-leb, leb-true, eqb-true}
 use Rattle.std.proofs.lemmas.Bool.Decides.{nat_tests}
 use Rattle.trace_text.specs.declared.events.Event.{Event}
-use Rattle.trace_text.specs.Queue.{Line, seen_from, up_to, last_from, RisesFrom, AtEachTick, AtEachLine, follows_ticks, follows_lines}
+use Rattle.trace_text.specs.declared.events.Who.{Who}
+use Rattle.trace_text.specs.declared.events.Who.TheVariants as subject
+use Rattle.trace_text.specs.Queue.{Line, seen_from, up_to, last_from, RisesFrom, AtEachTick, AtEachLine, follows_ticks, follows_lines, see, nothing_seen, head_of, who_of, who_eq, somebody_eq}
+use Rattle.trace_text.specs.Laws.{DispatchOk, HandlersOk, Formed, AreTicksBounded, follows_dispatch, follows_handlers, follows_form, follows_order, see_releases, no_releases, is_in_order, is_agent_right, see_shape, no_shape, is_formed_next}
 
 pub last_from-ge : (tick : ℕ) (lines : List Line) → RisesFrom tick lines → tick ≤ last_from tick lines
 last_from-ge tick [] rises = omega arith
@@ -62,3 +64,71 @@ pub lines_followed : {S : Type 0} (see : S → Event → S) (lawful : S → Even
 lines_followed see lawful s [] h = refl
 lines_followed see lawful s (line ∷ lines) h =
     rw (h [] line lines refl, lines_followed see lawful (see s line.1) lines (λ front other back e. h (line ∷ front) other back (ap (λ ls. line ∷ ls) e))) refl
+
+who_is : (a b : Who) → who_eq a b ≡ true → a ≡ b
+who_is (subject.Task a) (subject.Task b) e = ap (λ (n : ℕ). subject.Task (record { 0 = n })) (eqb-true a.0 b.0 e)
+who_is (subject.Task a) subject.Agent e = cc
+who_is subject.Agent (subject.Task b) e = cc
+who_is subject.Agent subject.Agent e = refl
+
+who_same : (a : Who) → who_eq a a ≡ true
+who_same (subject.Task a) = eq-eqb a.0 a.0 refl
+who_same subject.Agent = refl
+
+pub somebody_is : (a b : Option Who) → somebody_eq a b ≡ true → a ≡ b
+somebody_is None None e = refl
+somebody_is None (Some b) e = cc
+somebody_is (Some a) None e = cc
+somebody_is (Some a) (Some b) e = ap (λ (w : Who). Some w) (who_is a b e)
+
+somebody_same : (a : Option Who) → somebody_eq a a ≡ true
+somebody_same None = refl
+somebody_same (Some a) = who_same a
+
+pub is_somebody : (a b : Option Who) → a ≡ b → somebody_eq a b ≡ true
+is_somebody a b e = subst (λ o. somebody_eq a o ≡ true) e (somebody_same a)
+
+-- the laws at each tick, from the first tick on
+pub tells_ticks : {S : Type 0} (see : S → Event → S) (right : S → Bool) (Right : S → Type 0) (s : S) → ((s : S) → right s ≡ true → Right s) → ((s : S) → Right s → right s ≡ true)
+    → (lines : List Line) → RisesFrom 0 lines → (follows_ticks see right 0 s lines ≡ true → AtEachTick see s Right lines) × (AtEachTick see s Right lines → follows_ticks see right 0 s lines ≡ true)
+tells_ticks see right Right s tells tests lines rises =
+    (λ e tick low. ticks_hold see right Right tells 0 s lines e tick (omega arith) low, λ h. ticks_followed see right Right tests 0 s lines rises (λ tick low high. h tick high))
+
+pub tells_lines : {S : Type 0} (see : S → Event → S) (lawful : S → Event → Bool) (s : S) (lines : List Line)
+    → (follows_lines see lawful s lines ≡ true → AtEachLine see s (λ s event. IsTrue (lawful s event)) lines) × (AtEachLine see s (λ s event. IsTrue (lawful s event)) lines → follows_lines see lawful s lines ≡ true)
+tells_lines see lawful s lines = (lines_hold see lawful s lines, lines_followed see lawful s lines)
+
+pub ticks_rise : (tick : ℕ) (lines : List Line) → follows_order tick lines ≡ true → RisesFrom tick lines
+ticks_rise tick [] e = tt
+ticks_rise tick (line ∷ lines) e =
+    let parts = both (leb tick line.0 && leb line.0 1000000000) (follows_order line.0 lines) e in
+    (leb-true tick line.0 (both (leb tick line.0) (leb line.0 1000000000) parts.0).0, ticks_rise line.0 lines parts.1)
+
+pub ticks_bounded : (tick : ℕ) (lines : List Line) → follows_order tick lines ≡ true → AreTicksBounded lines
+ticks_bounded tick [] e = tt
+ticks_bounded tick (line ∷ lines) e =
+    let parts = both (leb tick line.0 && leb line.0 1000000000) (follows_order line.0 lines) e in
+    ((both (leb tick line.0) (leb line.0 1000000000) parts.0).1, ticks_bounded line.0 lines parts.1)
+
+pub order_followed : (tick : ℕ) (lines : List Line) → RisesFrom tick lines → AreTicksBounded lines → follows_order tick lines ≡ true
+order_followed tick [] r b = refl
+order_followed tick (line ∷ lines) r b = rw (le-leb tick line.0 r.0, b.0) (order_followed line.0 lines r.1 b.1)
+
+pub tells_form : (lines : List Line) → (follows_form lines ≡ true → Formed lines) × (Formed lines → follows_form lines ≡ true)
+tells_form lines =
+    let tells = tells_lines see_shape is_formed_next no_shape lines in
+    (λ e. let parts = both (follows_order 0 lines) (follows_lines see_shape is_formed_next no_shape lines) e in
+        record { rises = ticks_rise 0 lines parts.0; bounded = ticks_bounded 0 lines parts.0; lines_formed = tells.0 parts.1 },
+    λ h. rw (order_followed 0 lines h.rises h.bounded) (tells.1 h.lines_formed))
+
+pub tells_dispatch : (lines : List Line) → RisesFrom 0 lines → (follows_dispatch lines ≡ true → DispatchOk lines) × (DispatchOk lines → follows_dispatch lines ≡ true)
+tells_dispatch = tells_ticks see (λ sight. somebody_eq sight.runner (who_of (head_of sight.queue))) (λ sight. sight.runner ≡ who_of (head_of sight.queue)) nothing_seen
+    (λ sight. somebody_is sight.runner (who_of (head_of sight.queue))) (λ sight. is_somebody sight.runner (who_of (head_of sight.queue)))
+
+pub tells_handlers : (lines : List Line) → RisesFrom 0 lines → (follows_handlers lines ≡ true → HandlersOk lines) × (HandlersOk lines → follows_handlers lines ≡ true)
+tells_handlers lines rises =
+    let order = tells_lines see_releases is_in_order no_releases lines in
+    let agent = tells_ticks see_releases is_agent_right (λ state. IsTrue (is_agent_right state)) no_releases (λ state e. e) (λ state e. e) lines rises in
+    (λ e. let parts = both (follows_lines see_releases is_in_order no_releases lines) (follows_ticks see_releases is_agent_right 0 no_releases lines) e in
+        record { in_order = order.0 parts.0; agent = agent.0 parts.1 },
+    λ h. rw (order.1 h.in_order) (agent.1 h.agent))

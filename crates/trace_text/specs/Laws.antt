@@ -218,7 +218,7 @@ abbrev pub is_rightly_left : List Event → Event → Bool
 is_rightly_left past (Leave who region how) = not (is_leaving region.0 past)
 is_rightly_left past (Left who region) =
     is_leaving region.0 past && not (is_left_before region.0 past)
-    && length (finals_among (inits_of region.0 past) past) == length (inits_of region.0 past)
+    && is_front_of (inits_of region.0 past) (finals_among (inits_of region.0 past) past)
 is_rightly_left past (Init who object region name) = not (is_leaving region.0 past) && not (is_final_before object past)
 is_rightly_left past (Final who object) = not (length (regions_of object past) == 0) && list_all (is_next_final object past) (regions_of object past)
 is_rightly_left past (Replace who object) = not (length (regions_of object past) == 0) && not (is_final_before object past)

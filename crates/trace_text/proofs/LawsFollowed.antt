@@ -6,7 +6,7 @@ use Rattle.trace_text.specs.declared.events.Event.{Event}
 use Rattle.trace_text.specs.declared.events.Who.{Who}
 use Rattle.trace_text.specs.declared.events.Who.TheVariants as subject
 use Rattle.trace_text.specs.Queue.{Line, seen_from, up_to, last_from, RisesFrom, AtEachTick, AtEachLine, follows_ticks, follows_lines, see, nothing_seen, head_of, who_of, who_eq, somebody_eq}
-use Rattle.trace_text.specs.Laws.{DispatchOk, HandlersOk, Formed, AreTicksBounded, follows_dispatch, follows_handlers, follows_form, follows_order, see_releases, no_releases, is_in_order, is_agent_right, see_shape, no_shape, is_formed_next}
+use Rattle.trace_text.specs.Laws.{DispatchOk, HandlersOk, Formed, AreTicksBounded, follows_dispatch, follows_handlers, follows_form, follows_order, see_releases, no_releases, is_in_order, is_agent_right, see_shape, no_shape, is_formed_next, KeepsLaws, follows_laws, follows_ceilings, follows_exclusion, follows_leaving, see_levels, no_levels, is_below_ceiling, actions_after, is_exclusive, remember, is_rightly_left}
 
 pub last_from-ge : (tick : ℕ) (lines : List Line) → RisesFrom tick lines → tick ≤ last_from tick lines
 last_from-ge tick [] rises = omega arith
@@ -132,3 +132,17 @@ tells_handlers lines rises =
     (λ e. let parts = both (follows_lines see_releases is_in_order no_releases lines) (follows_ticks see_releases is_agent_right 0 no_releases lines) e in
         record { in_order = order.0 parts.0; agent = agent.0 parts.1 },
     λ h. rw (order.1 h.in_order) (agent.1 h.agent))
+
+pub tells_laws : (lines : List Line) → RisesFrom 0 lines → follows_laws lines ≡ true → KeepsLaws lines
+tells_laws lines rises e =
+    let a = both (follows_dispatch lines && follows_ceilings lines && follows_exclusion lines && follows_handlers lines) (follows_leaving lines) e in
+    let b = both (follows_dispatch lines && follows_ceilings lines && follows_exclusion lines) (follows_handlers lines) a.0 in
+    let c = both (follows_dispatch lines && follows_ceilings lines) (follows_exclusion lines) b.0 in
+    let d = both (follows_dispatch lines) (follows_ceilings lines) c.0 in
+    record {
+      dispatch = (tells_dispatch lines rises).0 d.0;
+      ceilings = (tells_lines see_levels is_below_ceiling no_levels lines).0 d.1;
+      exclusion = (tells_lines actions_after is_exclusive [] lines).0 c.1;
+      handlers = (tells_handlers lines rises).0 b.1;
+      leaving = (tells_lines remember is_rightly_left [] lines).0 a.1;
+    }

@@ -328,3 +328,6 @@ pub record KeepsLaws (lines : List Line) : Type 0 where
   pub exclusion : ExclusiveOk lines
   pub handlers : HandlersOk lines
   pub leaving : LeftOk lines
+
+abbrev pub follows_laws : List Line → Bool
+follows_laws lines = follows_dispatch lines && follows_ceilings lines && follows_exclusion lines && follows_handlers lines && follows_leaving lines

@@ -1,7 +1,7 @@
 //! The laws on lists of lines, as calls that do nothing: their contracts are theorems on the definitions.
 ghost use Rattle.std.specs.Prelude.{◌≡◌, ◌↔◌, IsTrue, List};
 ghost use Rattle.trace_text.specs.Queue.{Line, RisesFrom};
-ghost use Rattle.trace_text.specs.Laws.{DispatchOk, CeilingOk, ExclusiveOk, HandlersOk, LeftOk, Formed, follows_dispatch, follows_ceilings, follows_exclusion, follows_handlers, follows_leaving, follows_form};
+ghost use Rattle.trace_text.specs.Laws.{DispatchOk, CeilingOk, ExclusiveOk, HandlersOk, LeftOk, Formed, follows_dispatch, follows_ceilings, follows_exclusion, follows_handlers, follows_leaving, follows_form, follows_laws, KeepsLaws};
 
 /// Each law on lines, and what a trace is, holds exactly where the test beside it computes to true.
 pub fn tests_tell()
@@ -10,6 +10,7 @@ pub fn tests_tell()
     ensures exclusion { (lines : List Line) → (IsTrue (follows_exclusion lines) ↔ ExclusiveOk lines) }
     ensures handlers { (lines : List Line) → RisesFrom 0 lines → (IsTrue (follows_handlers lines) ↔ HandlersOk lines) }
     ensures leaving { (lines : List Line) → (IsTrue (follows_leaving lines) ↔ LeftOk lines) }
+    ensures laws { (lines : List Line) → RisesFrom 0 lines → IsTrue (follows_laws lines) → KeepsLaws lines }
     ensures formed { (lines : List Line) → (IsTrue (follows_form lines) ↔ Formed lines) }
 {
 }

@@ -2,3 +2,4 @@ pub mod FieldsAgain
 pub mod LawsFollowed
 pub mod LinesAgain
 pub mod Numbers
+pub mod TextsDiffer

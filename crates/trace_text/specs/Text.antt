@@ -291,3 +291,7 @@ pub record IsPrintableLine (tick : ℕ) (event : Event) : Type 0 where
   pub tick_fits : tick < 2 ^ 64
   pub within : IsWithin event
   pub printable : IsPrintable event
+
+abbrev pub ArePrintable : List (ℕ × Event) → Type 0
+ArePrintable [] = Unit {0}
+ArePrintable (line ∷ lines) = IsPrintableLine line.0 line.1 × ArePrintable lines

@@ -11,7 +11,7 @@ mod write;
 
 pub use buffer::{BUFFER_BYTES, LineBuffer};
 pub use events::{Created, Ended, EntryName, Event, Finished, Leaves, Mode, QueueEnd, Waits, Who};
-pub use laws::tests_tell;
+pub use laws::{tests_tell, texts_differ};
 pub use read::{BadLine, read_line};
 pub use words::Word;
 pub use write::{LINE_BYTES, write_line};

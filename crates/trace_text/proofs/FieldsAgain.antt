@@ -38,13 +38,13 @@ place_of-append mark [] [] h b = refl
 place_of-append mark [] (byte ∷ rest) h b = rw b refl
 place_of-append mark (byte ∷ word) rest h b =
     elim (eqb byte mark) as (λ t. cond t false (has_no mark word) ≡ true → cond t 0 (suc (place_of mark (word ++ rest))) ≡ suc (length word))
-      [ true ↦ λ e. cc | false ↦ λ e. ap (λ n. suc n) (place_of-append mark word rest e b) ] h
+    [ true ↦ λ e. cc | false ↦ λ e. ap (λ n. suc n) (place_of-append mark word rest e b) ] h
 
 pub has_no-append : (mark : ℕ) (a b : List ℕ) → has_no mark a ≡ true → has_no mark b ≡ true → has_no mark (a ++ b) ≡ true
 has_no-append mark [] b h k = k
 has_no-append mark (byte ∷ a) b h k =
     elim (eqb byte mark) as (λ t. cond t false (has_no mark a) ≡ true → cond t false (has_no mark (a ++ b)) ≡ true)
-      [ true ↦ λ e. e | false ↦ λ e. has_no-append mark a b e k ] h
+    [ true ↦ λ e. e | false ↦ λ e. has_no-append mark a b e k ] h
 
 pub front_again : (mark : ℕ) (word rest : List ℕ) → has_no mark word ≡ true → begins mark rest ≡ true → front_of mark (word ++ rest) ≡ word
 front_again mark word rest h b = rw (place_of-append mark word rest h b) (take-append_seam word rest)

@@ -29,8 +29,8 @@ ticks_hold see right Right tells tick s [] e n low high = absurd (omega arith)
 ticks_hold see right Right tells tick s (line ∷ lines) e n low high =
     let parts = both (leb line.0 tick || right s) (follows_ticks see right line.0 (see s line.1) lines) e in
     elim (cases_lt n line.0) [
-      inl below ↦ rw (leb_no line.0 n below) (tells s (either (leb line.0 tick) (right s) parts.0 (leb_no line.0 tick (omega arith))))
-    | inr at ↦ rw (le-leb line.0 n at) (ticks_hold see right Right tells line.0 (see s line.1) lines parts.1 n at high)
+      | inl below ↦ rw (leb_no line.0 n below) (tells s (either (leb line.0 tick) (right s) parts.0 (leb_no line.0 tick (omega arith))))
+      | inr at ↦ rw (le-leb line.0 n at) (ticks_hold see right Right tells line.0 (see s line.1) lines parts.1 n at high)
     ]
 
 pub ticks_followed : {S : Type 0} (see : S → Event → S) (right : S → Bool) (Right : S → Type 0) → ((s : S) → Right s → right s ≡ true)
@@ -38,12 +38,12 @@ pub ticks_followed : {S : Type 0} (see : S → Event → S) (right : S → Bool)
 ticks_followed see right Right tests tick s [] rises h = refl
 ticks_followed {S} see right Right tests tick s (line ∷ lines) rises h =
     let later : follows_ticks see right line.0 (see s line.1) lines ≡ true = ticks_followed see right Right tests line.0 (see s line.1) lines rises.1
-      (λ n low high. subst (λ (t : Bool). Right (seen_from see s (cond t (line ∷ up_to n lines) []))) (le-leb line.0 n low) (h n (omega (arith, rises.0)) high)) in
+    (λ n low high. subst (λ (t : Bool). Right (seen_from see s (cond t (line ∷ up_to n lines) []))) (le-leb line.0 n low) (h n (omega (arith, rises.0)) high)) in
     elim (cases_lt tick line.0) [
-      inl below ↦
-        let now_right : Right s = subst (λ (t : Bool). Right (seen_from see s (cond t (line ∷ up_to tick lines) []))) (leb_no line.0 tick below) (h tick (omega arith) (omega (arith, last_from-ge line.0 lines rises.1))) in
-        rw (leb_no line.0 tick below, tests s now_right) later
-    | inr at ↦ rw (le-leb line.0 tick at) later
+      | inl below ↦
+          let now_right : Right s = subst (λ (t : Bool). Right (seen_from see s (cond t (line ∷ up_to tick lines) []))) (leb_no line.0 tick below) (h tick (omega arith) (omega (arith, last_from-ge line.0 lines rises.1))) in
+          rw (leb_no line.0 tick below, tests s now_right) later
+      | inr at ↦ rw (le-leb line.0 tick at) later
     ]
 
 pub lines_hold : {S : Type 0} (see : S → Event → S) (lawful : S → Event → Bool) (s : S) (lines : List Line) → follows_lines see lawful s lines ≡ true
@@ -57,7 +57,7 @@ lines_hold see lawful s (one ∷ lines) e (first ∷ front) line back same =
     let heads : one ≡ first = cc in
     let rest : lines ≡ front ++ line ∷ back = cc in
     subst (λ l. lawful (seen_from see (see s l.1) front) line.1 ≡ true) heads
-      (lines_hold see lawful (see s one.1) lines (both (lawful s one.1) (follows_lines see lawful (see s one.1) lines) e).1 front line back rest)
+    (lines_hold see lawful (see s one.1) lines (both (lawful s one.1) (follows_lines see lawful (see s one.1) lines) e).1 front line back rest)
 
 pub lines_followed : {S : Type 0} (see : S → Event → S) (lawful : S → Event → Bool) (s : S) (lines : List Line)
     → ((front : List Line) (line : Line) (back : List Line) → lines ≡ front ++ line ∷ back → lawful (seen_from see s front) line.1 ≡ true) → follows_lines see lawful s lines ≡ true
@@ -116,10 +116,11 @@ order_followed tick (line ∷ lines) r b = rw (le-leb tick line.0 r.0, b.0) (ord
 
 pub tells_form : (lines : List Line) → (follows_form lines ≡ true → Formed lines) × (Formed lines → follows_form lines ≡ true)
 tells_form lines =
-    let tells = tells_lines see_shape is_formed_next no_shape lines in
-    (λ e. let parts = both (follows_order 0 lines) (follows_lines see_shape is_formed_next no_shape lines) e in
-        record { rises = ticks_rise 0 lines parts.0; bounded = ticks_bounded 0 lines parts.0; lines_formed = tells.0 parts.1 },
-    λ h. rw (order_followed 0 lines h.rises h.bounded) (tells.1 h.lines_formed))
+    let tells = tells_lines see_shape is_formed_next no_shape lines in (
+      λ e. let parts = both (follows_order 0 lines) (follows_lines see_shape is_formed_next no_shape lines) e in
+          record { rises = ticks_rise 0 lines parts.0; bounded = ticks_bounded 0 lines parts.0; lines_formed = tells.0 parts.1 },
+      λ h. rw (order_followed 0 lines h.rises h.bounded) (tells.1 h.lines_formed),
+    )
 
 pub tells_dispatch : (lines : List Line) → RisesFrom 0 lines → (follows_dispatch lines ≡ true → DispatchOk lines) × (DispatchOk lines → follows_dispatch lines ≡ true)
 tells_dispatch = tells_ticks see (λ sight. somebody_eq sight.runner (who_of (head_of sight.queue))) (λ sight. sight.runner ≡ who_of (head_of sight.queue)) nothing_seen
@@ -128,10 +129,11 @@ tells_dispatch = tells_ticks see (λ sight. somebody_eq sight.runner (who_of (he
 pub tells_handlers : (lines : List Line) → RisesFrom 0 lines → (follows_handlers lines ≡ true → HandlersOk lines) × (HandlersOk lines → follows_handlers lines ≡ true)
 tells_handlers lines rises =
     let order = tells_lines see_releases is_in_order no_releases lines in
-    let agent = tells_ticks see_releases is_agent_right (λ state. IsTrue (is_agent_right state)) no_releases (λ state e. e) (λ state e. e) lines rises in
-    (λ e. let parts = both (follows_lines see_releases is_in_order no_releases lines) (follows_ticks see_releases is_agent_right 0 no_releases lines) e in
-        record { in_order = order.0 parts.0; agent = agent.0 parts.1 },
-    λ h. rw (order.1 h.in_order) (agent.1 h.agent))
+    let agent = tells_ticks see_releases is_agent_right (λ state. IsTrue (is_agent_right state)) no_releases (λ state e. e) (λ state e. e) lines rises in (
+      λ e. let parts = both (follows_lines see_releases is_in_order no_releases lines) (follows_ticks see_releases is_agent_right 0 no_releases lines) e in
+          record { in_order = order.0 parts.0; agent = agent.0 parts.1 },
+      λ h. rw (order.1 h.in_order) (agent.1 h.agent),
+    )
 
 pub tells_laws : (lines : List Line) → RisesFrom 0 lines → follows_laws lines ≡ true → KeepsLaws lines
 tells_laws lines rises e =

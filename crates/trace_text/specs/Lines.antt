@@ -66,9 +66,9 @@ abbrev pub end_in : List ℕ → Option Event
 end_in bytes = field Some bytes >>= λ why.
     if bytes_eq why.0 (codes "exception") then (last_field exception_in why.1 >>= λ name. Some (End (ended_variants.Exception name)))
     else (ended why.1 >>= λ _.
-        if bytes_eq why.0 (codes "completed") then Some (End ended_variants.Completed)
-        else (if bytes_eq why.0 (codes "stuck") then Some (End ended_variants.Stuck)
-        else (if bytes_eq why.0 (codes "bound") then Some (End ended_variants.Bound) else None)))
+    if bytes_eq why.0 (codes "completed") then Some (End ended_variants.Completed)
+    else (if bytes_eq why.0 (codes "stuck") then Some (End ended_variants.Stuck)
+    else (if bytes_eq why.0 (codes "bound") then Some (End ended_variants.Bound) else None)))
 
 -- what a task or the agent does
 abbrev pub who_in : Who → Word → List ℕ → Option Event

@@ -7,10 +7,9 @@ ghost use Rattle.trace_text.specs.Text.{IsName, IsExceptionName, IsPutText, IsEn
 ghost use Rattle.trace_text.specs.Words.{queue_end_in, word_in, word_text};
 ghost use Rattle.trace_text.specs.Reading.{ReadsAs, place_of, front_of, rest_of, behind, word_at, field, last_field, ended, is_digit, is_number, number_in, negative_of, signed_in, short_in, long_in, moment_in, value_in, task_in, object_in, name_in, text_in, exception_in, finished_in, part_in, entry_in, handler_in, deadline_in};
 
-use ann_base::{Moment, NAME_BYTES, Name, ObjectNo, TaskNo};
-
 use crate::events::{EntryName, Finished, QueueEnd};
 use crate::words::{Word, queue_end_of, word_of};
+use ann_base::{Moment, NAME_BYTES, Name, ObjectNo, TaskNo};
 
 // The first place of a byte, or the length where there is none.
 fn place_of(bytes: &[u8], mark: u8) -> usize
@@ -24,7 +23,6 @@ fn place_of(bytes: &[u8], mark: u8) -> usize
     }
     bytes.len()
 }
-
 
 /// The bytes before the first such byte, and those from it on.
 pub fn split_at_mark(bytes: &[u8], mark: u8) -> (&[u8], &[u8])

@@ -14,12 +14,10 @@ pub fn tests_tell()
     ensures leaving { (lines : List Line) → (IsTrue (follows_leaving lines) ↔ LeftOk lines) }
     ensures laws { (lines : List Line) → RisesFrom 0 lines → IsTrue (follows_laws lines) → KeepsLaws lines }
     ensures formed { (lines : List Line) → (IsTrue (follows_form lines) ↔ Formed lines) }
-{
-}
+{}
 
 /// Different printable lines have different texts, and different lists of them have different texts.
 pub fn texts_differ()
     ensures lines { (t u : ℕ) (e f : Event) → IsPrintableLine t e → IsPrintableLine u f → line_text t e ≡ line_text u f → (t ≡ u) × (e ≡ f) }
     ensures texts { (a b : List Line) → ArePrintable a → ArePrintable b → text_of a ≡ text_of b → a ≡ b }
-{
-}
+{}

@@ -6,6 +6,8 @@ mod events;
 mod fields;
 mod laws;
 mod read;
+#[cfg(test)]
+mod tests;
 mod words;
 mod write;
 
@@ -13,5 +15,5 @@ pub use buffer::{BUFFER_BYTES, LineBuffer};
 pub use events::{Created, Ended, EntryName, Event, Finished, Leaves, Mode, QueueEnd, Waits, Who};
 pub use laws::{tests_tell, texts_differ};
 pub use read::{BadLine, read_line};
-pub use words::Word;
+pub use words::{Word, event_word, word_bytes};
 pub use write::{LINE_BYTES, write_line};

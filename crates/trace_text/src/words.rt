@@ -1,9 +1,10 @@
 //! The words of lines: the event words in the order in which summaries count them, and the words of their arguments.
 ghost use Rattle.std.specs.Prelude.{◌≡◌, ◌≤◌, IfSome, length};
 ghost use Rattle.trace_text.specs.Text.{queue_end_text, waits_text, mode_text, leaves_text};
+ghost use Rattle.trace_text.specs.Summary.{word_of};
 ghost use Rattle.trace_text.specs.Words.{word_text, word_in, waits_in, mode_in, leaves_in, queue_end_in};
 
-use crate::events::{Leaves, Mode, QueueEnd, Waits};
+use crate::events::{Event, Leaves, Mode, QueueEnd, Waits};
 
 /// The word of a line that says what happened.
 #[derive(Clone, Copy, Debug, PartialEq, Eq)]
@@ -280,5 +281,48 @@ pub fn leaves_bytes(how: Leaves) -> &'static [u8]
         Leaves::Exception => b"exception",
         Leaves::Abort => b"abort",
         Leaves::Terminate => b"terminate",
+    }
+}
+
+/// The word of an event's line.
+pub fn event_word(event: &Event) -> Word
+    ensures { result ≡ word_of event.now }
+{
+    match event {
+        Event::New { .. } => Word::New,
+        Event::Ready { .. } => Word::Ready,
+        Event::Block { .. } => Word::Block,
+        Event::Run { .. } => Word::Run,
+        Event::Idle => Word::Idle,
+        Event::Base { .. } => Word::Base,
+        Event::Deadline { .. } => Word::Deadline,
+        Event::Quantum { .. } => Word::Quantum,
+        Event::Done { .. } => Word::Done,
+        Event::Raise { .. } => Word::Raise,
+        Event::Put { .. } => Word::Put,
+        Event::Call { .. } => Word::Call,
+        Event::Start { .. } => Word::Start,
+        Event::Finish { .. } => Word::Finish,
+        Event::Cancel { .. } => Word::Cancel,
+        Event::Gone { .. } => Word::Gone,
+        Event::Enter { .. } => Word::Enter,
+        Event::Exit { .. } => Word::Exit,
+        Event::Held { .. } => Word::Held,
+        Event::Abort { .. } => Word::Abort,
+        Event::Trigger { .. } => Word::Trigger,
+        Event::Leave { .. } => Word::Leave,
+        Event::Init { .. } => Word::Init,
+        Event::Final { .. } => Word::Final,
+        Event::Left { .. } => Word::Left,
+        Event::Replace { .. } => Word::Replace,
+        Event::Release { .. } => Word::Release,
+        Event::Serve { .. } => Word::Serve,
+        Event::Served { .. } => Word::Served,
+        Event::Interrupt { .. } => Word::Interrupt,
+        Event::Port { .. } => Word::Port,
+        Event::Mask { .. } => Word::Mask,
+        Event::Unmask { .. } => Word::Unmask,
+        Event::Masked { .. } => Word::Masked,
+        Event::End { .. } => Word::End,
     }
 }

@@ -1,13 +1,14 @@
 //! How a line is written.
-ghost use Rattle.std.specs.Prelude.{◌≡◌, ◌+◌, ◌≤◌, ◌∷◌, [], ◌++◌, length, codes, decimal};
+ghost use Rattle.std.specs.Prelude.{◌≡◌, ◌+◌, ◌≤◌, ◌∷◌, [], ◌++◌, length, codes, decimal, ◌<◌, ◌^◌, FitsSigned};
+ghost use Rattle.std.specs.Int.{w32, w64};
 ghost use Rattle.std.specs.Fmt.{signed_decimal};
-ghost use Rattle.trace_text.specs.Text.{task_text, object_text, who_text, created_text, queue_end_text, waits_text, mode_text, leaves_text, entry_text, finished_text, ended_words, deadline_words, words_of, spaced, line_text, IsPrintable};
+ghost use Rattle.trace_text.specs.Text.{task_text, object_text, who_text, created_text, queue_end_text, waits_text, mode_text, leaves_text, entry_text, finished_text, ended_words, deadline_words, words_of, spaced, line_text, IsPrintable, IsWithin, IsWhoWithin, IsCreatedWithin, IsEntryWithin, IsFinishedWithin, IsEndedWithin, IsDeadlineWithin};
 
 use crate::buffer::LineBuffer;
-use crate::words::{leaves_bytes, mode_bytes, queue_end_bytes, waits_bytes};
 use crate::events::{
     Created, Ended, EntryName, Event, Finished, Leaves, Mode, QueueEnd, Waits, Who,
 };
+use crate::words::{leaves_bytes, mode_bytes, queue_end_bytes, waits_bytes};
 use ann_base::{Moment, ObjectNo, TaskNo};
 use itoa::Buffer;
 
@@ -21,6 +22,7 @@ pub fn write_line(now: u64, event: &Event, buffer: &mut LineBuffer)
     requires printable { IsPrintable event.now }
     ensures line { buffer.new ≡ buffer.old ++ line_text now event.now }
     ensures short { length (line_text now event.now) ≤ 1100 }
+    ensures within { IsWithin event.now }
 {
     let mut digits = Buffer::new();
     buffer.append(digits.format(now).as_bytes());
@@ -33,6 +35,7 @@ fn push_event(event: &Event, buffer: &mut LineBuffer)
     requires { length buffer.old + 1079 ≤ 65536 }
     ensures words { buffer.new ≡ buffer.old ++ spaced (words_of event.now) }
     ensures longer { length buffer.new ≤ length buffer.old + 1079 }
+    ensures within { IsWithin event.now }
 {
     match event {
         Event::New { what, name, level } => {
@@ -246,6 +249,7 @@ fn push_short(number: u8, buffer: &mut LineBuffer)
     requires { length buffer.old + 4 ≤ 65536 }
     ensures number { buffer.new ≡ buffer.old ++ 32 ∷ decimal number }
     ensures longer { length buffer.new ≤ length buffer.old + 4 }
+    ensures within { number < 2 ^ 8 }
 {
     let mut digits = Buffer::new();
     push_word(digits.format(number).as_bytes(), buffer);
@@ -255,6 +259,7 @@ fn push_number(number: u32, buffer: &mut LineBuffer)
     requires { length buffer.old + 11 ≤ 65536 }
     ensures number { buffer.new ≡ buffer.old ++ 32 ∷ decimal number }
     ensures longer { length buffer.new ≤ length buffer.old + 11 }
+    ensures within { number < 2 ^ 32 }
 {
     let mut digits = Buffer::new();
     push_word(digits.format(number).as_bytes(), buffer);
@@ -264,6 +269,7 @@ fn push_moment(moment: Moment, buffer: &mut LineBuffer)
     requires { length buffer.old + 21 ≤ 65536 }
     ensures moment { buffer.new ≡ buffer.old ++ 32 ∷ signed_decimal moment }
     ensures longer { length buffer.new ≤ length buffer.old + 21 }
+    ensures within { FitsSigned w64 moment }
 {
     let mut digits = Buffer::new();
     push_word(digits.format(moment).as_bytes(), buffer);
@@ -273,6 +279,7 @@ fn push_deadline(deadline: Option<Moment>, buffer: &mut LineBuffer)
     requires { length buffer.old + 21 ≤ 65536 }
     ensures deadline { buffer.new ≡ buffer.old ++ spaced (deadline_words deadline) }
     ensures longer { length buffer.new ≤ length buffer.old + 21 }
+    ensures within { IsDeadlineWithin deadline }
 {
     match deadline {
         None => {}
@@ -286,6 +293,7 @@ fn push_numbered(letter: &[u8], number: u32, buffer: &mut LineBuffer)
     requires room { length buffer.old + 12 ≤ 65536 }
     ensures numbered { buffer.new ≡ buffer.old ++ 32 ∷ (letter.now ++ decimal number) }
     ensures longer { length buffer.new ≤ length buffer.old + 12 }
+    ensures within { number < 2 ^ 32 }
 {
     let mut digits = Buffer::new();
     push_word(letter, buffer);
@@ -296,6 +304,7 @@ fn push_task(task: TaskNo, buffer: &mut LineBuffer)
     requires { length buffer.old + 12 ≤ 65536 }
     ensures task { buffer.new ≡ buffer.old ++ 32 ∷ task_text task }
     ensures longer { length buffer.new ≤ length buffer.old + 12 }
+    ensures within { task.0 < 2 ^ 32 }
 {
     push_numbered(b"t", task.0, buffer);
 }
@@ -304,6 +313,7 @@ fn push_object(object: ObjectNo, buffer: &mut LineBuffer)
     requires { length buffer.old + 12 ≤ 65536 }
     ensures object { buffer.new ≡ buffer.old ++ 32 ∷ object_text object }
     ensures longer { length buffer.new ≤ length buffer.old + 12 }
+    ensures within { object.0 < 2 ^ 32 }
 {
     push_numbered(b"p", object.0, buffer);
 }
@@ -312,6 +322,7 @@ fn push_who(who: Who, buffer: &mut LineBuffer)
     requires { length buffer.old + 12 ≤ 65536 }
     ensures who { buffer.new ≡ buffer.old ++ 32 ∷ who_text who }
     ensures longer { length buffer.new ≤ length buffer.old + 12 }
+    ensures within { IsWhoWithin who }
 {
     match who {
         Who::Task(task) => push_task(task, buffer),
@@ -323,6 +334,7 @@ fn push_created(what: Created, buffer: &mut LineBuffer)
     requires { length buffer.old + 12 ≤ 65536 }
     ensures created { buffer.new ≡ buffer.old ++ 32 ∷ created_text what }
     ensures longer { length buffer.new ≤ length buffer.old + 12 }
+    ensures within { IsCreatedWithin what }
 {
     match what {
         Created::Task(task) => push_task(task, buffer),
@@ -335,6 +347,7 @@ fn push_value(value: i32, buffer: &mut LineBuffer)
     requires { length buffer.old + 12 ≤ 65536 }
     ensures value { buffer.new ≡ buffer.old ++ 32 ∷ signed_decimal value }
     ensures longer { length buffer.new ≤ length buffer.old + 12 }
+    ensures within { FitsSigned w32 value }
 {
     let mut digits = Buffer::new();
     push_word(digits.format(value).as_bytes(), buffer);
@@ -354,6 +367,7 @@ fn push_entry(entry: &EntryName, buffer: &mut LineBuffer)
     requires { length buffer.old + 1013 ≤ 65536 }
     ensures entry { buffer.new ≡ buffer.old ++ 32 ∷ entry_text entry.now }
     ensures longer { length buffer.new ≤ length buffer.old + 1013 }
+    ensures within { IsEntryWithin entry.now }
 {
     match entry {
         EntryName::OfTask(task, name) => {
@@ -371,6 +385,7 @@ fn push_ended(why: &Ended, buffer: &mut LineBuffer)
     requires { length buffer.old + 1011 ≤ 65536 }
     ensures ended { buffer.new ≡ buffer.old ++ spaced (ended_words why.now) }
     ensures longer { length buffer.new ≤ length buffer.old + 1011 }
+    ensures within { IsEndedWithin why.now }
 {
     match why {
         Ended::Completed => push_word(b"completed", buffer),
@@ -386,6 +401,7 @@ fn push_ended(why: &Ended, buffer: &mut LineBuffer)
 fn finished_word(how: &Finished) -> &[u8]
     ensures word { result.now ≡ finished_text how.now }
     ensures short { length result.now ≤ 1000 }
+    ensures within { IsFinishedWithin how.now }
 {
     match how {
         Finished::Ok => b"ok",
@@ -393,4 +409,3 @@ fn finished_word(how: &Finished) -> &[u8]
         Finished::Requeue => b"requeue",
     }
 }
-

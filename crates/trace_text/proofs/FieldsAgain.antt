@@ -1,13 +1,10 @@
 -- What is written of a field is read as this field.
-use Rattle.std.proofs.Common.{◌≡◌, ℕ, ◌+◌, ◌<◌, ◌≤◌, ◌^◌, Bool, true, false, cond, not, ◌&&◌, ◌||◌, eqb, ltb, leb, List, [], ◌∷◌, ◌++◌, length, get_or, take, drop, Option, Some, None, decimal, codes, refl, ap, sym, subst, ◌∙◌, arith, rules, IsTrue, FitsSigned, w32, w64, pos, negsuc, suc, zero, ℤ}
+use Rattle.std.proofs.Common.{◌≡◌, ℕ, ◌+◌, ◌<◌, ◌≤◌, ◌^◌, Bool, true, false, cond, not, ◌||◌, eqb, leb, List, [], ◌∷◌, ◌++◌, length, get_or, Option, Some, None, decimal, codes, refl, ap, sym, subst, arith, FitsSigned, w32, w64, pos, negsuc, suc, zero, ℤ}
 use Rattle.std.specs.List.{list_all}
 use Rattle.std.specs.Fmt.{signed_decimal}
-use Rattle.std.specs.Str.Parse.{digits_value}
-use Rattle.std.proofs.lemmas.Grind.{common_steps}
 use Rattle.std.proofs.lemmas.List.{append-nil}
 use Rattle.std.proofs.Math.Seq.{take-append_seam, drop-append_seam}
 use Rattle.std.proofs.lemmas.Fmt.{digits_decimal, digits_value-decimal, decimal_nonempty, first_decimal, decimal_digit}
-use Rattle.std.proofs.lemmas.Bool.{cases_lt}
 use Rattle.std.specs.Str.{bytes_eq}
 use Rattle.std.proofs.lemmas.Slice.Eq.{bytes_eq-Decides}
 use Rattle.std.proofs.lemmas.Bool.{ne_eqb, le-leb, false_from_ne_true}
@@ -19,8 +16,8 @@ use Rattle.trace_text.specs.declared.events.EntryName.{EntryName}
 use Rattle.trace_text.specs.declared.events.EntryName.TheVariants.{OfTask, OfObject}
 use Rattle.trace_text.specs.declared.events.Finished.{Finished}
 use Rattle.trace_text.specs.declared.events.Finished.TheVariants as finished
-use Rattle.trace_text.specs.Text.{IsName, IsExceptionName, IsPutText, IsEntryPrintable, IsEntryWithin, IsFinishedPrintable, IsFinishedWithin, IsDeadlineWithin, is_name_from, is_name_byte, task_text, object_text, entry_text, finished_text, deadline_words, spaced}
-use Rattle.trace_text.specs.Reading.{◌>>=◌, or_else, place_of, front_of, rest_of, behind, word_at, field, last_field, is_digit, is_number, number_in, signed_in, short_in, long_in, moment_in, value_in, task_in, object_in, name_in, text_in, exception_in, finished_in, part_in, entry_in, handler_in, deadline_in}
+use Rattle.trace_text.specs.Text.{IsName, IsExceptionName, IsPutText, IsEntryPrintable, IsEntryWithin, IsFinishedPrintable, IsFinishedWithin, IsDeadlineWithin, is_name_from, task_text, object_text, entry_text, finished_text, deadline_words, spaced}
+use Rattle.trace_text.specs.Reading.{◌>>=◌, or_else, place_of, front_of, rest_of, field, last_field, is_digit, is_number, number_in, signed_in, short_in, long_in, moment_in, value_in, task_in, object_in, name_in, text_in, exception_in, finished_in, part_in, entry_in, handler_in, deadline_in}
 use Rattle.trace_text.proofs.Numbers.{numerals}
 
 -- no such byte

@@ -1,5 +1,5 @@
 -- Digits without a leading zero are what is written of their number.
-use Rattle.std.proofs.Common.{ap, IfSome, ◌≡◌, ◌<◌, ◌^◌, ℕ, ◌+◌, ◌≤◌, Bool, true, false, ◌&&◌, ◌||◌, List, [], ◌∷◌, length, get_or, decimal, arith, rules, refl, Result, Option, Some, None, eqb, sym, ◌∙◌, Ok, Err, inl, inr}
+use Rattle.std.proofs.Common.{ap, IfSome, ◌≡◌, ◌<◌, ◌^◌, ℕ, ◌≤◌, true, List, length, get_or, decimal, arith, rules, Result, sym, ◌∙◌, Ok, Err, inl, inr}
 use Rattle.std.specs.List.{list_all}
 use Rattle.std.specs.Result.{result_ok}
 use Rattle.std.specs.Option.{MatchOption}
@@ -10,7 +10,7 @@ use Rattle.std.proofs.lemmas.Str.Parse.{IsNumeralModel, numerals_by_value, parse
 use Rattle.std.proofs.lemmas.Fmt.{decimal-digits_value, IsAscii-from_digits}
 use Rattle.std.proofs.lemmas.Str.{IsUtf8-from_ascii}
 use Rattle.std.proofs.lemmas.Grind.{common_steps}
-use Rattle.trace_text.specs.Reading.{is_digit, is_number, number_in}
+use Rattle.trace_text.specs.Reading.{is_digit, is_number}
 
 pub numerals : IsNumeralModel (λ ds. list_all is_digit ds ≡ true) (digits_value 10)
 numerals = numerals_by_value _ (search rules)

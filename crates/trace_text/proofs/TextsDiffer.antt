@@ -1,5 +1,5 @@
 -- Different printable lines have different texts, and so have different lists of them.
-use Rattle.std.proofs.Common.{◌≡◌, ℕ, ◌+◌, ◌-◌, ◌<◌, ◌≤◌, ◌^◌, Bool, true, false, cond, eqb, List, [], ◌∷◌, ◌++◌, length, get_or, take, Option, Some, None, Result, Ok, decimal, codes, refl, ap, sym, ◌∙◌, arith, rules}
+use Rattle.std.proofs.Common.{◌≡◌, ℕ, ◌<◌, ◌^◌, Bool, true, false, List, [], ◌∷◌, ◌++◌, length, Option, Some, None, decimal, codes, refl, ap, sym, ◌∙◌, arith}
 use Rattle.std.specs.Fmt.{signed_decimal}
 use Rattle.std.proofs.Common.{append_assoc, length-append}
 use Rattle.ann_base.specs.declared.identities.TaskNo.{TaskNo}
@@ -20,13 +20,8 @@ use Rattle.trace_text.specs.declared.events.Ended.{Ended}
 use Rattle.trace_text.specs.declared.events.Ended.TheVariants as ended_variants
 use Rattle.trace_text.specs.declared.events.Event.{Event}
 use Rattle.trace_text.specs.declared.events.Event.TheVariants.{New, Ready, Block, Run, Idle, Base, Deadline, Quantum, Done, Raise, Put, Call, Start, Finish, Cancel, Gone, Enter, Exit, Held, Abort, Trigger, Leave, Init, Final, Left, Replace, Release, Serve, Served, Interrupt, Port, Mask, Unmask, Masked, End}
-use Rattle.trace_text.specs.declared.words.Word.{Word}
-use Rattle.trace_text.specs.declared.words.Word.TheVariants as word
-use Rattle.trace_text.specs.declared.read.Lead.{Lead}
-use Rattle.trace_text.specs.declared.read.Lead.TheVariants as lead
-use Rattle.trace_text.specs.Text.{IsPrintable, IsWithin, IsWhoWithin, IsCreatedWithin, IsEndedWithin, IsEndedPrintable, IsPrintableLine, words_of, spaced, line_text, task_text, object_text, who_text, created_text, queue_end_text, waits_text, mode_text, leaves_text, entry_text, finished_text, deadline_words, ended_words}
-use Rattle.trace_text.specs.Words.{word_text, word_in, waits_in, mode_in, leaves_in, queue_end_in}
-use Rattle.std.proofs.Common.{unwrap_or, pos, negsuc, suc, zero, ℤ, drop, FitsSigned, w32, w64, IsTrue}
+use Rattle.trace_text.specs.Text.{IsPrintable, IsWithin, IsWhoWithin, IsCreatedWithin, IsEndedPrintable, IsPrintableLine, words_of, spaced, line_text, task_text, object_text, who_text, created_text, queue_end_text, waits_text, mode_text, leaves_text, entry_text, finished_text, deadline_words, ended_words}
+use Rattle.std.proofs.Common.{unwrap_or, pos, negsuc, suc, ℤ, FitsSigned, w32, w64}
 use Rattle.std.specs.Int.Signed.{mag}
 use Rattle.std.specs.List.{list_all}
 use Rattle.std.proofs.lemmas.Bool.Decides.{nat_tests}
@@ -35,7 +30,7 @@ use Rattle.trace_text.specs.declared.events.EntryName.{EntryName}
 use Rattle.trace_text.specs.declared.events.EntryName.TheVariants.{OfTask, OfObject}
 use Rattle.trace_text.specs.declared.events.Finished.{Finished}
 use Rattle.trace_text.specs.declared.events.Finished.TheVariants as finished
-use Rattle.trace_text.specs.Text.{IsName, IsPutText, IsEntryWithin, IsEntryPrintable, IsFinishedWithin, IsFinishedPrintable, IsDeadlineWithin, ArePrintable, text_of, is_name_from, is_text_byte}
+use Rattle.trace_text.specs.Text.{IsEntryWithin, IsEntryPrintable, IsFinishedPrintable, IsDeadlineWithin, ArePrintable, text_of, is_name_from, is_text_byte}
 use Rattle.trace_text.specs.Lines.{line_in}
 use Rattle.trace_text.specs.Reading.{front_of, rest_of}
 use Rattle.trace_text.proofs.FieldsAgain.{has_no, has_no-append, front_again, rest_again, decimal_none, task_none, object_none}

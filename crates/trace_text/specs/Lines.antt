@@ -1,5 +1,5 @@
 -- How the words of a line behind its tick are read as an event, and a line as a tick and an event.
-use Rattle.std.specs.Prelude.{ℕ, ◌-◌, Bool, true, false, not, ◌&&◌, ◌==◌, if◌then◌else◌, List, [], ◌∷◌, Option, Some, None, length, take, slice_index, codes}
+use Rattle.std.specs.Prelude.{ℕ, ◌-◌, not, ◌&&◌, ◌==◌, if◌then◌else◌, List, Option, Some, None, length, take, slice_index, codes}
 use Rattle.std.specs.Str.{bytes_eq}
 use Rattle.ann_base.specs.declared.identities.TaskNo.{TaskNo}
 use Rattle.ann_base.specs.declared.identities.ObjectNo.{ObjectNo}
@@ -16,7 +16,7 @@ use Rattle.trace_text.specs.declared.read.Lead.{Lead}
 use Rattle.trace_text.specs.declared.read.Lead.TheVariants as lead
 use Rattle.trace_text.specs.Text.{task_text, object_text}
 use Rattle.trace_text.specs.Words.{word_text, word_in, waits_in, mode_in, leaves_in, queue_end_in}
-use Rattle.trace_text.specs.Reading.{◌>>=◌, or_else, behind, front_of, rest_of, field, last_field, ended, number_in, short_in, long_in, moment_in, value_in, task_in, object_in, name_in, text_in, exception_in, finished_in, entry_in, handler_in, deadline_in}
+use Rattle.trace_text.specs.Reading.{◌>>=◌, or_else, front_of, rest_of, field, last_field, ended, number_in, short_in, long_in, moment_in, value_in, task_in, object_in, name_in, text_in, exception_in, finished_in, entry_in, handler_in, deadline_in}
 
 abbrev pub lead_text : Lead → List ℕ
 lead_text (lead.Task task) = task_text task

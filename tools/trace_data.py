@@ -1,6 +1,6 @@
 #!/usr/bin/env python3
 """Writes trace files as definitions: trace_data.py MODULE NAME=FILE .. prints an antt module with one list of lines
-for each file. A line that is no line of a trace is an error."""
+for each file. A line that is no line of a trace is an error. `rt tidy` then drops the imports that a module does not use."""
 import re
 import sys
 

@@ -1,10 +1,5 @@
 -- More worked traces. Written by tools/trace_data.py.
-use Rattle.std.specs.Prelude.{ℕ, ℤ, pos, negsuc, List, [], ◌∷◌, Option, Some, None, codes}
-use Rattle.ann_base.specs.declared.identities.TaskNo.{TaskNo}
-use Rattle.ann_base.specs.declared.identities.ObjectNo.{ObjectNo}
-use Rattle.ann_base.specs.declared.identities.CallNo.{CallNo}
-use Rattle.ann_base.specs.declared.identities.RegionNo.{RegionNo}
-use Rattle.trace_text.specs.declared.events.Who.{Who}
+use Rattle.std.specs.Prelude.{List, [], ◌∷◌, None, codes}
 use Rattle.trace_text.specs.declared.events.Who.TheVariants as subject
 use Rattle.trace_text.specs.declared.events.Created.TheVariants as created
 use Rattle.trace_text.specs.declared.events.QueueEnd.TheVariants.{Head, Tail}

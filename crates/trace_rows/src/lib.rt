@@ -1,6 +1,7 @@
 //! The laws on lines, computed on traces: the worked traces keep each, and each broken trace breaks the one that it is made
 //! to break. The calls do nothing: their contracts are theorems on these traces.
 #![tactic(auto)]
+
 ghost use Rattle.trace_text.specs.Laws.{DispatchOk, CeilingOk, LeftOk, Formed, KeepsLaws};
 ghost use Rattle.trace_rows.specs.Kept.{IsLawful};
 ghost use Rattle.trace_rows.specs.First.{trace_01, trace_03, trace_04, trace_05a, trace_05b, trace_05c, trace_06, trace_08a, trace_08b, trace_09a, trace_09b, trace_10, trace_11, trace_12, trace_13, trace_14a, trace_14b, trace_15a, trace_15b, trace_15c, trace_15d};

@@ -1,7 +1,8 @@
 -- The text of a line of a trace: its tick, its words with single spaces between, a line feed.
-use Rattle.std.specs.Prelude.{◌≢◌, ◌≤◌, ℕ, ℤ, Bool, true, false, ◌&&◌, ◌||◌, ◌==◌, if◌then◌else◌, nat_le, IsTrue, List, [], ◌∷◌, ◌++◌, Option, Some, None, length, codes, decimal}
+use Rattle.std.specs.Prelude.{◌≢◌, ◌≤◌, ◌<◌, ◌^◌, ℕ, ℤ, FitsSigned, Bool, true, false, ◌&&◌, ◌||◌, ◌==◌, if◌then◌else◌, nat_le, IsTrue, List, [], ◌∷◌, ◌++◌, Option, Some, None, length, codes, decimal}
 use Rattle.std.specs.List.{list_all}
 use Rattle.std.specs.Fmt.{signed_decimal}
+use Rattle.std.specs.Int.{w32, w64}
 use Rattle.ann_base.specs.declared.identities.TaskNo.{TaskNo}
 use Rattle.ann_base.specs.declared.identities.ObjectNo.{ObjectNo}
 use Rattle.trace_text.specs.declared.events.Who.{Who}
@@ -219,3 +220,78 @@ IsPrintable (Mask number) = Unit {0}
 IsPrintable (Unmask number) = Unit {0}
 IsPrintable (Masked number) = Unit {0}
 IsPrintable (End why) = IsEndedPrintable why
+
+-- The values of the types: numbers in their ranges, names of at most 1,000 bytes.
+abbrev pub IsWhoWithin : Who → Type 0
+IsWhoWithin (subject.Task task) = task.0 < 2 ^ 32
+IsWhoWithin subject.Agent = Unit {0}
+
+abbrev pub IsCreatedWithin : Created → Type 0
+IsCreatedWithin (created.Task task) = task.0 < 2 ^ 32
+IsCreatedWithin (created.Object object) = object.0 < 2 ^ 32
+
+abbrev pub IsEntryWithin : EntryName → Type 0
+IsEntryWithin (OfTask task name) = (task.0 < 2 ^ 32) × (length name ≤ 1000)
+IsEntryWithin (OfObject object name) = (object.0 < 2 ^ 32) × (length name ≤ 1000)
+
+abbrev pub IsFinishedWithin : Finished → Type 0
+IsFinishedWithin finished.Ok = Unit {0}
+IsFinishedWithin (finished.Raised name) = length name ≤ 1000
+IsFinishedWithin finished.Requeue = Unit {0}
+
+abbrev pub IsEndedWithin : Ended → Type 0
+IsEndedWithin ended.Completed = Unit {0}
+IsEndedWithin (ended.Exception name) = length name ≤ 1000
+IsEndedWithin ended.Stuck = Unit {0}
+IsEndedWithin ended.Bound = Unit {0}
+
+abbrev pub IsDeadlineWithin : Option ℤ → Type 0
+IsDeadlineWithin None = Unit {0}
+IsDeadlineWithin (Some deadline) = FitsSigned w64 deadline
+
+abbrev pub IsWithin : Event → Type 0
+IsWithin (New what name level) = IsCreatedWithin what × (length name ≤ 1000) × (level < 2 ^ 8)
+IsWithin (Ready who level end deadline) = IsWhoWithin who × (level < 2 ^ 8) × IsDeadlineWithin deadline
+IsWithin (Block who why) = IsWhoWithin who
+IsWithin (Run who) = IsWhoWithin who
+IsWithin Idle = Unit {0}
+IsWithin (Base task level) = (task.0 < 2 ^ 32) × (level < 2 ^ 8)
+IsWithin (Deadline task deadline) = (task.0 < 2 ^ 32) × FitsSigned w64 deadline
+IsWithin (Quantum task) = task.0 < 2 ^ 32
+IsWithin (Done task) = task.0 < 2 ^ 32
+IsWithin (Raise who name) = IsWhoWithin who × (length name ≤ 1000)
+IsWithin (Put who text) = IsWhoWithin who × (length text ≤ 1000)
+IsWithin (Call task call entry priority) = (task.0 < 2 ^ 32) × (call.0 < 2 ^ 32) × IsEntryWithin entry × (priority < 2 ^ 8)
+IsWithin (Start who call) = IsWhoWithin who × (call.0 < 2 ^ 32)
+IsWithin (Finish who call how) = IsWhoWithin who × (call.0 < 2 ^ 32) × IsFinishedWithin how
+IsWithin (Cancel task call) = (task.0 < 2 ^ 32) × (call.0 < 2 ^ 32)
+IsWithin (Gone task call) = (task.0 < 2 ^ 32) × (call.0 < 2 ^ 32)
+IsWithin (Enter who object mode) = IsWhoWithin who × (object.0 < 2 ^ 32)
+IsWithin (Exit who object) = IsWhoWithin who × (object.0 < 2 ^ 32)
+IsWithin (Held who object mode) = IsWhoWithin who × (object.0 < 2 ^ 32)
+IsWithin (Abort task victim) = (task.0 < 2 ^ 32) × (victim.0 < 2 ^ 32)
+IsWithin (Trigger task) = task.0 < 2 ^ 32
+IsWithin (Leave who region how) = IsWhoWithin who × (region.0 < 2 ^ 32)
+IsWithin (Init who object region name) = IsWhoWithin who × (object < 2 ^ 32) × (region.0 < 2 ^ 32) × (length name ≤ 1000)
+IsWithin (Final who object) = IsWhoWithin who × (object < 2 ^ 32)
+IsWithin (Left who region) = IsWhoWithin who × (region.0 < 2 ^ 32)
+IsWithin (Replace who object) = IsWhoWithin who × (object < 2 ^ 32)
+IsWithin (Release release object handler) = (release < 2 ^ 32) × (object.0 < 2 ^ 32) × (length handler ≤ 1000)
+IsWithin (Serve release) = release < 2 ^ 32
+IsWithin (Served release) = release < 2 ^ 32
+IsWithin (Interrupt number) = number < 2 ^ 8
+IsWithin (Port number value) = (number < 2 ^ 8) × FitsSigned w32 value
+IsWithin (Mask number) = number < 2 ^ 8
+IsWithin (Unmask number) = number < 2 ^ 8
+IsWithin (Masked number) = number < 2 ^ 8
+IsWithin (End why) = IsEndedWithin why
+
+-- a printable event at a tick, as values of their types
+pub record IsPrintableLine (tick : ℕ) (event : Event) : Type 0 where
+  pub tick_fits : tick < 2 ^ 64
+  pub within : IsWithin event
+  pub printable : IsPrintable event
+
+abbrev pub ArePrintable : List (ℕ × Event) → Type 0
+ArePrintable [] = Unit {0}
+ArePrintable (line ∷ lines) = IsPrintableLine line.0 line.1 × ArePrintable lines

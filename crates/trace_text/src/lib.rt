@@ -3,8 +3,17 @@
 
 mod buffer;
 mod events;
+mod fields;
+mod laws;
+mod read;
+#[cfg(test)]
+mod tests;
+mod words;
 mod write;
 
 pub use buffer::{BUFFER_BYTES, LineBuffer};
 pub use events::{Created, Ended, EntryName, Event, Finished, Leaves, Mode, QueueEnd, Waits, Who};
+pub use laws::{tests_tell, texts_differ};
+pub use read::{BadLine, read_line};
+pub use words::{Word, event_word, word_bytes};
 pub use write::{LINE_BYTES, write_line};

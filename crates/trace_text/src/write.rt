@@ -1,12 +1,14 @@
 //! How a line is written.
-ghost use Rattle.std.specs.Prelude.{◌≡◌, ◌+◌, ◌≤◌, ◌∷◌, [], ◌++◌, length, codes, decimal};
+ghost use Rattle.std.specs.Prelude.{◌≡◌, ◌+◌, ◌≤◌, ◌∷◌, [], ◌++◌, length, codes, decimal, ◌<◌, ◌^◌, FitsSigned};
+ghost use Rattle.std.specs.Int.{w32, w64};
 ghost use Rattle.std.specs.Fmt.{signed_decimal};
-ghost use Rattle.trace_text.specs.Text.{task_text, object_text, who_text, created_text, queue_end_text, waits_text, mode_text, leaves_text, entry_text, finished_text, ended_words, deadline_words, words_of, spaced, line_text, IsPrintable};
+ghost use Rattle.trace_text.specs.Text.{task_text, object_text, who_text, created_text, queue_end_text, waits_text, mode_text, leaves_text, entry_text, finished_text, ended_words, deadline_words, words_of, spaced, line_text, IsPrintable, IsWithin, IsWhoWithin, IsCreatedWithin, IsEntryWithin, IsFinishedWithin, IsEndedWithin, IsDeadlineWithin};
 
 use crate::buffer::LineBuffer;
 use crate::events::{
     Created, Ended, EntryName, Event, Finished, Leaves, Mode, QueueEnd, Waits, Who,
 };
+use crate::words::{leaves_bytes, mode_bytes, queue_end_bytes, waits_bytes};
 use ann_base::{Moment, ObjectNo, TaskNo};
 use itoa::Buffer;
 
@@ -20,6 +22,7 @@ pub fn write_line(now: u64, event: &Event, buffer: &mut LineBuffer)
     requires printable { IsPrintable event.now }
     ensures line { buffer.new ≡ buffer.old ++ line_text now event.now }
     ensures short { length (line_text now event.now) ≤ 1100 }
+    ensures within { IsWithin event.now }
 {
     let mut digits = Buffer::new();
     buffer.append(digits.format(now).as_bytes());
@@ -32,6 +35,7 @@ fn push_event(event: &Event, buffer: &mut LineBuffer)
     requires { length buffer.old + 1079 ≤ 65536 }
     ensures words { buffer.new ≡ buffer.old ++ spaced (words_of event.now) }
     ensures longer { length buffer.new ≤ length buffer.old + 1079 }
+    ensures within { IsWithin event.now }
 {
     match event {
         Event::New { what, name, level } => {
@@ -49,13 +53,13 @@ fn push_event(event: &Event, buffer: &mut LineBuffer)
             push_who(*who, buffer);
             push_word(b"ready", buffer);
             push_short(*level, buffer);
-            push_word(queue_end_word(*end), buffer);
+            push_word(queue_end_bytes(*end), buffer);
             push_deadline(*deadline, buffer);
         }
         Event::Block { who, waits } => {
             push_who(*who, buffer);
             push_word(b"block", buffer);
-            push_word(waits_word(*waits), buffer);
+            push_word(waits_bytes(*waits), buffer);
         }
         Event::Run { who } => {
             push_who(*who, buffer);
@@ -127,7 +131,7 @@ fn push_event(event: &Event, buffer: &mut LineBuffer)
             push_who(*who, buffer);
             push_word(b"enter", buffer);
             push_object(*object, buffer);
-            push_word(mode_word(*mode), buffer);
+            push_word(mode_bytes(*mode), buffer);
         }
         Event::Exit { who, object } => {
             push_who(*who, buffer);
@@ -138,7 +142,7 @@ fn push_event(event: &Event, buffer: &mut LineBuffer)
             push_who(*who, buffer);
             push_word(b"held", buffer);
             push_object(*object, buffer);
-            push_word(mode_word(*mode), buffer);
+            push_word(mode_bytes(*mode), buffer);
         }
         Event::Abort { task, victim } => {
             push_task(*task, buffer);
@@ -153,7 +157,7 @@ fn push_event(event: &Event, buffer: &mut LineBuffer)
             push_who(*who, buffer);
             push_word(b"leave", buffer);
             push_number(region.0, buffer);
-            push_word(leaves_word(*how), buffer);
+            push_word(leaves_bytes(*how), buffer);
         }
         Event::Init {
             who,
@@ -245,6 +249,7 @@ fn push_short(number: u8, buffer: &mut LineBuffer)
     requires { length buffer.old + 4 ≤ 65536 }
     ensures number { buffer.new ≡ buffer.old ++ 32 ∷ decimal number }
     ensures longer { length buffer.new ≤ length buffer.old + 4 }
+    ensures within { number < 2 ^ 8 }
 {
     let mut digits = Buffer::new();
     push_word(digits.format(number).as_bytes(), buffer);
@@ -254,6 +259,7 @@ fn push_number(number: u32, buffer: &mut LineBuffer)
     requires { length buffer.old + 11 ≤ 65536 }
     ensures number { buffer.new ≡ buffer.old ++ 32 ∷ decimal number }
     ensures longer { length buffer.new ≤ length buffer.old + 11 }
+    ensures within { number < 2 ^ 32 }
 {
     let mut digits = Buffer::new();
     push_word(digits.format(number).as_bytes(), buffer);
@@ -263,6 +269,7 @@ fn push_moment(moment: Moment, buffer: &mut LineBuffer)
     requires { length buffer.old + 21 ≤ 65536 }
     ensures moment { buffer.new ≡ buffer.old ++ 32 ∷ signed_decimal moment }
     ensures longer { length buffer.new ≤ length buffer.old + 21 }
+    ensures within { FitsSigned w64 moment }
 {
     let mut digits = Buffer::new();
     push_word(digits.format(moment).as_bytes(), buffer);
@@ -272,6 +279,7 @@ fn push_deadline(deadline: Option<Moment>, buffer: &mut LineBuffer)
     requires { length buffer.old + 21 ≤ 65536 }
     ensures deadline { buffer.new ≡ buffer.old ++ spaced (deadline_words deadline) }
     ensures longer { length buffer.new ≤ length buffer.old + 21 }
+    ensures within { IsDeadlineWithin deadline }
 {
     match deadline {
         None => {}
@@ -285,6 +293,7 @@ fn push_numbered(letter: &[u8], number: u32, buffer: &mut LineBuffer)
     requires room { length buffer.old + 12 ≤ 65536 }
     ensures numbered { buffer.new ≡ buffer.old ++ 32 ∷ (letter.now ++ decimal number) }
     ensures longer { length buffer.new ≤ length buffer.old + 12 }
+    ensures within { number < 2 ^ 32 }
 {
     let mut digits = Buffer::new();
     push_word(letter, buffer);
@@ -295,6 +304,7 @@ fn push_task(task: TaskNo, buffer: &mut LineBuffer)
     requires { length buffer.old + 12 ≤ 65536 }
     ensures task { buffer.new ≡ buffer.old ++ 32 ∷ task_text task }
     ensures longer { length buffer.new ≤ length buffer.old + 12 }
+    ensures within { task.0 < 2 ^ 32 }
 {
     push_numbered(b"t", task.0, buffer);
 }
@@ -303,6 +313,7 @@ fn push_object(object: ObjectNo, buffer: &mut LineBuffer)
     requires { length buffer.old + 12 ≤ 65536 }
     ensures object { buffer.new ≡ buffer.old ++ 32 ∷ object_text object }
     ensures longer { length buffer.new ≤ length buffer.old + 12 }
+    ensures within { object.0 < 2 ^ 32 }
 {
     push_numbered(b"p", object.0, buffer);
 }
@@ -311,6 +322,7 @@ fn push_who(who: Who, buffer: &mut LineBuffer)
     requires { length buffer.old + 12 ≤ 65536 }
     ensures who { buffer.new ≡ buffer.old ++ 32 ∷ who_text who }
     ensures longer { length buffer.new ≤ length buffer.old + 12 }
+    ensures within { IsWhoWithin who }
 {
     match who {
         Who::Task(task) => push_task(task, buffer),
@@ -322,20 +334,11 @@ fn push_created(what: Created, buffer: &mut LineBuffer)
     requires { length buffer.old + 12 ≤ 65536 }
     ensures created { buffer.new ≡ buffer.old ++ 32 ∷ created_text what }
     ensures longer { length buffer.new ≤ length buffer.old + 12 }
+    ensures within { IsCreatedWithin what }
 {
     match what {
         Created::Task(task) => push_task(task, buffer),
         Created::Object(object) => push_object(object, buffer),
-    }
-}
-
-fn queue_end_word(end: QueueEnd) -> &'static [u8]
-    ensures word { result.now ≡ queue_end_text end }
-    ensures short { length result.now ≤ 4 }
-{
-    match end {
-        QueueEnd::Head => b"head",
-        QueueEnd::Tail => b"tail",
     }
 }
 
@@ -344,6 +347,7 @@ fn push_value(value: i32, buffer: &mut LineBuffer)
     requires { length buffer.old + 12 ≤ 65536 }
     ensures value { buffer.new ≡ buffer.old ++ 32 ∷ signed_decimal value }
     ensures longer { length buffer.new ≤ length buffer.old + 12 }
+    ensures within { FitsSigned w32 value }
 {
     let mut digits = Buffer::new();
     push_word(digits.format(value).as_bytes(), buffer);
@@ -363,6 +367,7 @@ fn push_entry(entry: &EntryName, buffer: &mut LineBuffer)
     requires { length buffer.old + 1013 ≤ 65536 }
     ensures entry { buffer.new ≡ buffer.old ++ 32 ∷ entry_text entry.now }
     ensures longer { length buffer.new ≤ length buffer.old + 1013 }
+    ensures within { IsEntryWithin entry.now }
 {
     match entry {
         EntryName::OfTask(task, name) => {
@@ -380,6 +385,7 @@ fn push_ended(why: &Ended, buffer: &mut LineBuffer)
     requires { length buffer.old + 1011 ≤ 65536 }
     ensures ended { buffer.new ≡ buffer.old ++ spaced (ended_words why.now) }
     ensures longer { length buffer.new ≤ length buffer.old + 1011 }
+    ensures within { IsEndedWithin why.now }
 {
     match why {
         Ended::Completed => push_word(b"completed", buffer),
@@ -395,50 +401,11 @@ fn push_ended(why: &Ended, buffer: &mut LineBuffer)
 fn finished_word(how: &Finished) -> &[u8]
     ensures word { result.now ≡ finished_text how.now }
     ensures short { length result.now ≤ 1000 }
+    ensures within { IsFinishedWithin how.now }
 {
     match how {
         Finished::Ok => b"ok",
         Finished::Raised(name) => name.as_bytes(),
         Finished::Requeue => b"requeue",
-    }
-}
-
-fn waits_word(waits: Waits) -> &'static [u8]
-    ensures word { result.now ≡ waits_text waits }
-    ensures short { length result.now ≤ 10 }
-{
-    match waits {
-        Waits::Activation => b"activation",
-        Waits::Delay => b"delay",
-        Waits::Entry => b"entry",
-        Waits::Accept => b"accept",
-        Waits::Select => b"select",
-        Waits::Dependents => b"dependents",
-        Waits::Call => b"call",
-        Waits::Release => b"release",
-    }
-}
-
-fn mode_word(mode: Mode) -> &'static [u8]
-    ensures word { result.now ≡ mode_text mode }
-    ensures short { length result.now ≤ 5 }
-{
-    match mode {
-        Mode::Read => b"read",
-        Mode::Write => b"write",
-    }
-}
-
-fn leaves_word(how: Leaves) -> &'static [u8]
-    ensures word { result.now ≡ leaves_text how }
-    ensures short { length result.now ≤ 9 }
-{
-    match how {
-        Leaves::End => b"end",
-        Leaves::Return => b"return",
-        Leaves::Exit => b"exit",
-        Leaves::Exception => b"exception",
-        Leaves::Abort => b"abort",
-        Leaves::Terminate => b"terminate",
     }
 }

@@ -1,0 +1,5 @@
+pub mod FieldsAgain
+pub mod LawsFollowed
+pub mod LinesAgain
+pub mod Numbers
+pub mod TextsDiffer

@@ -25,6 +25,10 @@ homes tasks slot = homes_among (reverse tasks) slot
 abbrev pub depends_on : List Task → RegionNo → Slot → Bool
 depends_on tasks region slot = list_any (is_at region) (homes tasks slot)
 
+-- whether anybody depends on a region
+abbrev pub has_dependents : List Task → RegionNo → Bool
+has_dependents tasks region = list_any (λ t. depends_on tasks region t.slot) tasks
+
 -- whether it depends on a region of the task in another slot, directly or through its masters
 abbrev pub is_owner : Slot → Home → Bool
 is_owner owner home = home.creator.0 == owner.0

@@ -31,6 +31,11 @@ is_left_at region t = option_map_or (λ home. is_at region home && home.left) t.
 abbrev pub is_left : List Task → RegionNo → Bool
 is_left tasks region = list_any (is_left_at region) tasks
 
+-- the master of a new task: a region that is being left stays so
+abbrev pub home_of : List Task → Slot → RegionNo → ℕ → Home
+home_of tasks creator master part =
+  record { creator = creator; region = master; part = part; left = is_left tasks master }
+
 -- the environment task, which has no master (10.2)
 abbrev pub environment_task : Task
 environment_task =

@@ -2,7 +2,7 @@
 ghost use Rattle.std.specs.Prelude.{◌≡◌, List, not, slice_get, length, ◌≤◌};
 ghost use Rattle.std.specs.List.{list_any};
 ghost use Rattle.task_masters.specs.Tasks.{is_at, is_in};
-ghost use Rattle.task_masters.specs.Dependence.{homes, depends_on, is_below, dependents, all_wait, is_finished, waits, may_terminate, is_owner};
+ghost use Rattle.task_masters.specs.Dependence.{homes, depends_on, has_dependents, is_below, dependents, all_wait, is_finished, waits, may_terminate, is_owner};
 
 use crate::task::{Home, Task};
 use ann_base::{RegionNo, Slot};
@@ -23,6 +23,13 @@ pub(crate) fn depends_on(tasks: &[Task], region: RegionNo, slot: Slot) -> bool
             }
         }
     }
+}
+
+/// Whether anybody depends on the region.
+pub(crate) fn has_dependents(tasks: &[Task], region: RegionNo) -> bool
+    ensures { result ≡ has_dependents tasks.now region }
+{
+    tasks.iter().any(|t| depends_on(tasks, region, t.slot))
 }
 
 /// Whether the task in this slot depends on a region of the task in the other.
@@ -100,6 +107,6 @@ pub(crate) fn dependent(tasks: &[Task], owner: Slot, place: u32) -> Option<Slot>
     tasks
         .iter()
         .filter(|t| is_below(tasks, owner, t.slot))
-        .nth(place as usize)
         .map(|t| t.slot)
+        .nth(place as usize)
 }

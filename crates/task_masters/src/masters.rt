@@ -1,10 +1,10 @@
 //! The table of live tasks.
-ghost use Rattle.std.specs.Prelude.{◌≡◌, ◌+◌, ◌<◌, ◌≤◌, ◌↔◌, true, false, not, [], ◌∷◌, ◌++◌, map, filter, length, IsTrue, IsErr, IfOk, OnOk, OnErr, slice_get, vec_capacity};
-ghost use Rattle.std.specs.List.{list_any};
+ghost use Rattle.std.specs.Prelude.{◌≡◌, ◌+◌, ◌<◌, ◌≤◌, ◌↔◌, true, false, not, [], ◌∷◌, ◌++◌, map, filter, length, IsTrue, IsErr, IfOk, OnOk, OnErr, slice_get, vec_capacity, ℕ, nat_lt, if◌then◌else◌};
+ghost use Rattle.std.specs.List.{list_any, find};
 ghost use Rattle.task_masters.specs.declared.masters.TheConstants.{LIVE_TASKS};
 ghost use Rattle.task_masters.specs.Tasks.{is_in, is_live, is_left, is_other_of, home_of, environment_task, made_task, begins, begun, first_number, activation_of, told, after_activation, completed, waiting, with_left};
 ghost use Rattle.task_masters.specs.Dependence.{has_dependents, dependents, may_terminate, homes};
-ghost use Rattle.task_masters.specs.Sound.{IsByNumber};
+ghost use Rattle.task_masters.specs.Sound.{IsByNumber, times_free, IsFreeInRange};
 ghost use Rattle.ann_base.specs.declared.identities.Slot.{Slot};
 
 use crate::changes;
@@ -50,6 +50,7 @@ impl Masters {
         let mut tasks = Vec::with_capacity(alloc, LIVE_TASKS)?;
         let mut free = Vec::with_capacity(alloc, LIVE_TASKS)?;
         tasks.push_reserved(environment_task());
+        free_all(&mut free);
         Ok(Masters {
             tasks,
             free,
@@ -212,6 +213,20 @@ fn environment_task() -> Task
     }
 }
 
+/// Frees each slot but that of the environment task, so that the least is given first.
+fn free_all(free: &mut Vec<Slot>)
+    requires empty { free.old.items ≡ [] }
+    requires room { LIVE_TASKS ≤ vec_capacity free.old }
+    ensures slots { (n : ℕ) → n < 256 → times_free n free.new.items ≡ (if nat_lt 0 n then 1 else 0) }
+    ensures in_range { IsFreeInRange free.new.items }
+    ensures count { length free.new.items ≡ 255 }
+    ensures capacity { vec_capacity free.new ≡ vec_capacity free.old }
+{
+    for k in 0..255 {
+        free.push_reserved(Slot(255 - k));
+    }
+}
+
 /// Whether a live task is in this slot.
 fn is_live(tasks: &[Task], slot: Slot) -> bool
     ensures { result ≡ is_live tasks.now slot }
@@ -241,8 +256,15 @@ fn home_of(tasks: &[Task], creator: Slot, master: RegionNo, part: u32) -> Home
         creator,
         region: master,
         part,
-        left: tasks.iter().any(|t| t.is_left_at(master)),
+        left: is_left(tasks, master),
     }
+}
+
+/// Whether the region is being left.
+fn is_left(tasks: &[Task], region: RegionNo) -> bool
+    ensures { result ≡ is_left tasks.now region }
+{
+    tasks.iter().any(|t| t.is_left_at(region))
 }
 
 /// The number of the first task of a group.
@@ -269,10 +291,17 @@ fn group_size(tasks: &[Task], creator: Slot, master: RegionNo, part: u32) -> u32
 fn activation_of(tasks: &[Task], slot: Slot) -> Option<Activation>
     ensures { result ≡ activation_of tasks.now slot }
 {
-    match tasks.iter().find(|t| t.is_in(slot)) {
+    match task_in(tasks, slot) {
         None => None,
         Some(task) => task.activation,
     }
+}
+
+/// The live task in this slot.
+fn task_in(tasks: &[Task], slot: Slot) -> Option<Task>
+    ensures { result ≡ find (is_in slot) tasks.now }
+{
+    tasks.iter().find(|t| t.is_in(slot)).copied()
 }
 
 /// Whether another than the task in this slot is being activated in the group.

@@ -1,18 +1,19 @@
 -- What masters a task has after a task was made or taken out, and on whom nobody depends.
-use Rattle.std.proofs.Common.{◌≡◌, ℕ, ◌+◌, ◌<◌, ◌≤◌, Bool, true, false, not, cond, ◌&&◌, ◌||◌, ◌==◌, List, [], ◌∷◌, ◌++◌, map, reverse, length, Option, Some, None, refl, sym, ap, ◌∙◌, arith, rules, inl, inr}
+use Rattle.std.proofs.Common.{◌≡◌, ℕ, Bool, true, false, cond, ◌||◌, List, [], ◌∷◌, ◌++◌, map, reverse, Option, Some, None, refl, sym, ap, ◌∙◌, inl, inr}
 use Rattle.std.specs.Prelude.{⊤}
-use Rattle.std.specs.List.{list_any, filter}
+use Rattle.std.specs.List.{list_any, filter, All, AllByRecursion}
 use Rattle.std.specs.Option.{option_map, option_map_or}
 use Rattle.std.proofs.Math.Bool.{or-false}
-use Rattle.std.proofs.lemmas.Bool.{cases_Bool, or_parts, eqb-true, eq-eqb, ne_eqb, eqb-false, cases_eq, false≢true}
+use Rattle.std.proofs.lemmas.Bool.{or_right, cases_Bool, or_parts, eqb-true, eq-eqb, ne_eqb, eqb-false, false≢true}
 use Rattle.std.proofs.lemmas.List.{reverse-reverse}
+use Rattle.std.proofs.lemmas.List.Elements.{All-from_recursion}
 use Rattle.ann_base.specs.declared.identities.Slot.{Slot}
 use Rattle.ann_base.specs.declared.identities.RegionNo.{RegionNo}
 use Rattle.task_masters.specs.declared.task.Task.{Task}
 use Rattle.task_masters.specs.declared.task.Home.{Home}
 use Rattle.task_masters.specs.Tasks.{is_in, is_live, is_at, with_left, home_left}
-use Rattle.task_masters.specs.Dependence.{homes, homes_among, home_and_rest, is_owner, is_below, dependents, depends_on, has_dependents}
-use Rattle.task_masters.specs.Sound.{IsGrown}
+use Rattle.task_masters.specs.Dependence.{homes, homes_among, home_and_rest, is_owner, dependents, has_dependents, IsLinked}
+use Rattle.task_masters.specs.Sound.{IsGrown, HasOlder}
 use Rattle.task_masters.proofs.Places.{reverse_push, reverse_cons}
 use Rattle.task_masters.proofs.Soundness.{NoneDirect, NoneMadeBy, others, reverse-others}
 
@@ -43,13 +44,13 @@ homes_among-others slot [] none other ne = refl
 homes_among-others slot (t ∷ older) none other ne =
     let rest = homes_among-others slot older none.1 other ne in
     elim (cases_Bool (is_in slot t)) [
-      inl y ↦
-        let another : is_in other t ≡ false = ne_eqb _ _ (λ e. ne (sym e ∙ eqb-true _ _ y)) in
-        rw (y, another) rest
-    | inr n ↦ rw n (elim (is_in other t) as (λ b. cond b (home_and_rest t.home (homes_among (others slot older))) (homes_among (others slot older) other) ≡ cond b (home_and_rest t.home (homes_among older)) (homes_among older other)) [
-          true ↦ home_and_rest-same slot t.home (homes_among (others slot older)) (homes_among older) none.0 (homes_among-others slot older none.1)
+      | inl y ↦
+          let another : is_in other t ≡ false = ne_eqb _ _ (λ e. ne (sym e ∙ eqb-true _ _ y)) in
+          rw (y, another) rest
+      | inr n ↦ rw n (elim (is_in other t) as (λ b. cond b (home_and_rest t.home (homes_among (others slot older))) (homes_among (others slot older) other) ≡ cond b (home_and_rest t.home (homes_among older)) (homes_among older other)) [
+        | true ↦ home_and_rest-same slot t.home (homes_among (others slot older)) (homes_among older) none.0 (homes_among-others slot older none.1)
         | false ↦ rest
-        ])
+      ])
     ]
 
 not_among_others : (slot other : Slot) (ts : List Task) → other.0 ≡ slot.0 → is_live (others slot ts) other ≡ false
@@ -57,17 +58,17 @@ not_among_others slot other [] e = refl
 not_among_others slot other (t ∷ ts) e =
     let rest = not_among_others slot other ts e in
     elim (cases_Bool (is_in slot t)) [
-      inl y ↦ rw y rest
-    | inr n ↦
-        let another : is_in other t ≡ false = ne_eqb _ _ (λ k. eqb-false _ _ n (k ∙ e)) in
-        rw (n, another) rest
+      | inl y ↦ rw y rest
+      | inr n ↦
+          let another : is_in other t ≡ false = ne_eqb _ _ (λ k. eqb-false _ _ n (k ∙ e)) in
+          rw (n, another) rest
     ]
 
 pub homes-others : (slot : Slot) (ts : List Task) → NoneMadeBy slot (reverse ts) → (other : Slot) → is_live (others slot ts) other ≡ true
     → homes (others slot ts) other ≡ homes ts other
 homes-others slot ts none other live =
     rw (reverse-others slot ts) (homes_among-others slot (reverse ts) none other
-      (λ e. false≢true (sym (not_among_others slot other ts e) ∙ live)))
+    (λ e. false≢true (sym (not_among_others slot other ts e) ∙ live)))
 
 -- ---- where nobody depends, directly or not, nobody does directly
 abbrev AllNo : (Home → Bool) → List Task → List Task → Type 0
@@ -113,10 +114,10 @@ AllNo-from_filter : (p : Home → Bool) (rs ts : List Task) → map (λ t. t.slo
 AllNo-from_filter p rs [] h = tt
 AllNo-from_filter p rs (t ∷ ts) h =
     elim (cases_Bool (list_any p (homes_among rs t.slot))) [
-      inl y ↦ absurd (
-        let found : map (λ u. u.slot) (t ∷ filter (λ u. list_any p (homes_among rs u.slot)) ts) ≡ [] = rw y at h in
-        cc)
-    | inr n ↦ (n, AllNo-from_filter p rs ts (rw n at h))
+      | inl y ↦ absurd (
+          let found : map (λ u. u.slot) (t ∷ filter (λ u. list_any p (homes_among rs u.slot)) ts) ≡ [] = rw y at h in
+          cc)
+      | inr n ↦ (n, AllNo-from_filter p rs ts (rw n at h))
     ]
 
 AllNo-from_any : (p : Home → Bool) (rs ts : List Task) → list_any (λ t. list_any p (homes_among rs t.slot)) ts ≡ false → AllNo p rs ts
@@ -154,3 +155,58 @@ leaving_other region ts grown h =
     let back = none_direct (is_at region) (reverse ts) grown (AllNo-reverse (is_at region) (reverse ts) ts (AllNo-from_any (is_at region) (reverse ts) ts h)) in
     let there : NoneDirect (is_at region) (reverse (reverse ts)) = NoneDirect-reverse (is_at region) (reverse ts) back in
     map_with_left-other region ts (rw reverse-reverse at there)
+
+-- ---- the masters of each live task are its master and those of its owner
+IsLinkedAmong : List Task → Task → Type 0
+IsLinkedAmong rs u = homes_among rs u.slot ≡ home_and_rest u.home (homes_among rs)
+
+HasOlder-more : (o : Option Home) (t : Task) (older : List Task) → HasOlder o older → HasOlder o (t ∷ older)
+HasOlder-more None t older h = h
+HasOlder-more (Some home) t older h = or_right _ _ h
+
+all_have_more : (t : Task) (older us : List Task) → AllByRecursion (λ u. HasOlder u.home older) us → AllByRecursion (λ u. HasOlder u.home (t ∷ older)) us
+all_have_more t older [] h = h
+all_have_more t older (u ∷ us) h = (HasOlder-more u.home t older h.0, all_have_more t older us h.1)
+
+owners_live : (rs : List Task) → IsGrown rs → AllByRecursion (λ u. HasOlder u.home rs) rs
+owners_live [] h = tt
+owners_live (t ∷ older) h = (HasOlder-more t.home t older h.1, all_have_more t older older (owners_live older h.2))
+
+rest_more : (o : Option Home) (t : Task) (older : List Task) → is_live older t.slot ≡ false → HasOlder o older
+    → home_and_rest o (homes_among older) ≡ home_and_rest o (homes_among (t ∷ older))
+rest_more None t older free h = refl
+rest_more (Some home) t older free h =
+    let another : is_in home.creator t ≡ false = ne_eqb _ _ (apart older t.slot home.creator free h) in
+    rw another refl
+
+relink : (t : Task) (older us : List Task) → is_live older t.slot ≡ false → is_live us t.slot ≡ false
+    → AllByRecursion (IsLinkedAmong older) us → AllByRecursion (λ u. HasOlder u.home older) us → AllByRecursion (IsLinkedAmong (t ∷ older)) us
+unfolding IsLinkedAmong
+relink t older [] free apart_us h k = tt
+relink t older (u ∷ us) free apart_us h k =
+    let parts : (is_in t.slot u ≡ false) × (is_live us t.slot ≡ false) = or_parts _ _ apart_us in
+    let another : is_in u.slot t ≡ false = ne_eqb _ _ (λ e. eqb-false _ _ parts.0 (sym e)) in
+    let here : homes_among (t ∷ older) u.slot ≡ homes_among older u.slot = rw another refl in
+    (here ∙ h.0 ∙ rest_more u.home t older free k.0, relink t older us free parts.1 h.1 k.1)
+
+linked_among : (rs : List Task) → IsGrown rs → AllByRecursion (IsLinkedAmong rs) rs
+unfolding IsLinkedAmong
+linked_among [] h = tt
+linked_among (t ∷ older) h =
+    let itself : is_in t.slot t ≡ true = eq-eqb _ _ refl in
+    let here : homes_among (t ∷ older) t.slot ≡ home_and_rest t.home (homes_among older) = rw itself refl in
+    (here ∙ rest_more t.home t older h.0 h.1, relink t older older h.0 h.0 (linked_among older h.2) (owners_live older h.2))
+
+recursion_push : (P : Task → Type 0) (ts : List Task) (t : Task) → AllByRecursion P ts → P t → AllByRecursion P (ts ++ t ∷ [])
+recursion_push P [] t h k = (k, tt)
+recursion_push P (u ∷ ts) t h k = (h.0, recursion_push P ts t h.1 k)
+
+recursion_reverse : (P : Task → Type 0) (ts : List Task) → AllByRecursion P ts → AllByRecursion P (reverse ts)
+recursion_reverse P [] h = tt
+recursion_reverse P (t ∷ ts) h = rw (reverse_cons t ts) (recursion_push P (reverse ts) t (recursion_reverse P ts h.1) h.0)
+
+pub linked : (ts : List Task) → IsGrown (reverse ts) → All (IsLinked ts) ts
+unfolding IsLinkedAmong
+linked ts grown =
+    let back : AllByRecursion (IsLinked ts) (reverse (reverse ts)) = recursion_reverse (IsLinked ts) (reverse ts) (linked_among (reverse ts) grown) in
+    All-from_recursion (IsLinked ts) ts (rw reverse-reverse at back)

@@ -1,18 +1,15 @@
 -- What a change of tasks that keeps slots, numbers and creators leaves.
-use Rattle.std.proofs.Common.{◌≡◌, ℕ, ◌+◌, ◌<◌, ◌≤◌, Bool, true, false, not, cond, ◌&&◌, ◌||◌, List, [], ◌∷◌, ◌++◌, map, reverse, length, take, drop, Option, Some, None, refl, sym, ap, ◌∙◌, arith, rules, inl, inr}
-use Rattle.std.specs.List.{list_any}
-use Rattle.std.specs.Option.{option_map, option_map_or}
-use Rattle.std.proofs.Math.Bool.{or-false}
-use Rattle.std.proofs.lemmas.Bool.{cases_Bool, cond_both}
+use Rattle.std.proofs.Common.{◌≡◌, ℕ, ◌+◌, Bool, List, [], ◌∷◌, ◌++◌, map, reverse, length, take, drop, Option, Some, None, refl, sym, ap, ◌∙◌}
+use Rattle.std.specs.Option.{option_map}
+use Rattle.std.proofs.lemmas.Bool.{cond_both}
 use Rattle.std.proofs.lemmas.List.{reverse-append, map-append, length-map, take_at}
 use Rattle.ann_base.specs.declared.identities.Slot.{Slot}
 use Rattle.ann_base.specs.declared.identities.TaskNo.{TaskNo}
 use Rattle.ann_base.specs.declared.identities.RegionNo.{RegionNo}
 use Rattle.task_masters.specs.declared.task.Task.{Task}
 use Rattle.task_masters.specs.declared.task.Home.{Home}
-use Rattle.task_masters.specs.declared.task.Activation.{Activation}
-use Rattle.task_masters.specs.Tasks.{is_in, is_live, is_of_group, completed, waiting, begins, begun, ended, with_left, home_left, with_failed}
-use Rattle.task_masters.specs.Sound.{IsByNumber, times_live, times_free, EachSlotOnce, IsInRange, IsFreeInRange, HasOlder, IsGrown, IsSound}
+use Rattle.task_masters.specs.Tasks.{is_in, is_live, is_of_group, completed, waiting, begins, begun, ended, with_left, home_left}
+use Rattle.task_masters.specs.Sound.{IsByNumber, times_live, IsInRange, HasOlder, IsGrown, IsSound}
 
 -- ---- a list from its end
 pub reverse_push : {X : Type 0} (xs : List X) (x : X) → reverse (xs ++ x ∷ []) ≡ x ∷ reverse xs
@@ -51,7 +48,7 @@ pub SamePlace-ended : (slot : Slot) (group : TaskNo) (failed : Bool) (t : Task) 
 SamePlace-ended slot group failed t = cond_both (is_in slot t) _ _ (SamePlace t)
     (λ _. record { slot = refl; number = refl; creator = refl })
     (λ _. cond_both (is_of_group group t) _ t (SamePlace t)
-      (λ _. record { slot = refl; number = refl; creator = refl }) (λ _. record { slot = refl; number = refl; creator = refl }))
+    (λ _. record { slot = refl; number = refl; creator = refl }) (λ _. record { slot = refl; number = refl; creator = refl }))
 
 same_creator : (region : RegionNo) (o : Option Home) → option_map (λ h. h.creator) (option_map (home_left region) o) ≡ option_map (λ h. h.creator) o
 same_creator region None = refl
@@ -91,10 +88,11 @@ HasOlder-same (Some o) (Some p) older newer same live h =
 
 IsGrown-map : (f : Task → Task) → ((t : Task) → SamePlace t (f t)) → (ts : List Task) → IsGrown ts → IsGrown (map f ts)
 IsGrown-map f keeps [] h = h
-IsGrown-map f keeps (t ∷ ts) h =
-    (is_live-map f keeps ts (f t).slot ∙ ap (is_live ts) (keeps t).slot ∙ h.0,
-     HasOlder-same t.home (f t).home ts (map f ts) (keeps t).creator (is_live-map f keeps ts) h.1,
-     IsGrown-map f keeps ts h.2)
+IsGrown-map f keeps (t ∷ ts) h = (
+  is_live-map f keeps ts (f t).slot ∙ ap (is_live ts) (keeps t).slot ∙ h.0,
+  HasOlder-same t.home (f t).home ts (map f ts) (keeps t).creator (is_live-map f keeps ts) h.1,
+  IsGrown-map f keeps ts h.2,
+)
 
 pub IsSound-map : (f : Task → Task) → ((t : Task) → SamePlace t (f t)) → (ts : List Task) (free : List Slot) (next : ℕ)
     → IsSound ts free next → IsSound (map f ts) free next

@@ -1,6 +1,6 @@
 -- A table stays sound where a task is made and where one is taken out.
-use Rattle.std.proofs.Common.{◌≡◌, ℕ, ◌+◌, ◌<◌, ◌≤◌, Bool, true, false, not, cond, ◌&&◌, ◌||◌, ◌==◌, ◌-◌, ltb, List, [], ◌∷◌, ◌++◌, map, reverse, length, Option, Some, None, refl, sym, ap, ◌∙◌, arith, rules, inl, inr}
-use Rattle.std.specs.List.{list_any, filter}
+use Rattle.std.proofs.Common.{◌≡◌, ℕ, ◌+◌, ◌<◌, ◌≤◌, Bool, true, false, not, cond, ◌||◌, ◌==◌, ◌-◌, ltb, List, [], ◌∷◌, ◌++◌, reverse, length, Option, Some, None, refl, sym, ap, ◌∙◌, arith, inl, inr}
+use Rattle.std.specs.List.{filter}
 use Rattle.std.specs.Option.{option_map_or}
 use Rattle.std.proofs.Math.Bool.{or-false}
 use Rattle.std.proofs.lemmas.Bool.{cases_Bool, or_parts, or_from, eqb-true, eq-eqb, ne_eqb, cases_eq, false≢true}
@@ -13,7 +13,7 @@ use Rattle.task_masters.specs.declared.task.Task.{Task}
 use Rattle.task_masters.specs.declared.task.Home.{Home}
 use Rattle.task_masters.specs.Tasks.{is_in, is_live, environment_task}
 use Rattle.task_masters.specs.Dependence.{is_owner}
-use Rattle.task_masters.specs.Sound.{IsByNumber, times_live, times_free, EachSlotOnce, IsInRange, IsFreeInRange, HasOlder, IsGrown, IsSound}
+use Rattle.task_masters.specs.Sound.{IsByNumber, times_live, times_free, IsInRange, IsFreeInRange, HasOlder, IsGrown, IsSound}
 use Rattle.task_masters.proofs.Places.{reverse_push, reverse_cons}
 
 -- ---- who is live
@@ -28,8 +28,8 @@ is_live_push [] t slot = or-false (is_in slot t)
 is_live_push (u ∷ ts) t slot =
     let rest = is_live_push ts t slot in
     elim (is_in slot u) as (λ b. (b || is_live (ts ++ t ∷ []) slot) ≡ ((b || is_live ts slot) || is_in slot t)) [
-      true ↦ refl
-    | false ↦ rest
+      | true ↦ refl
+      | false ↦ rest
     ]
 
 pub is_live-reverse : (ts : List Task) (slot : Slot) → is_live (reverse ts) slot ≡ is_live ts slot
@@ -60,27 +60,27 @@ not_live : (ts : List Task) (slot : Slot) → times_live slot.0 ts ≡ 0 → is_
 not_live [] slot h = refl
 not_live (t ∷ ts) slot h =
     elim (cases_Bool (is_in slot t)) [
-      inl y ↦ absurd (let one = one_at (t.slot.0 == slot.0) y in omega arith)
-    | inr n ↦ let rest : times_live slot.0 ts ≡ 0 = omega arith in or_from _ _ n (not_live ts slot rest)
+      | inl y ↦ absurd (let one = one_at (t.slot.0 == slot.0) y in omega arith)
+      | inr n ↦ let rest : times_live slot.0 ts ≡ 0 = omega arith in or_from _ _ n (not_live ts slot rest)
     ]
 
 live_counts : (ts : List Task) (slot : Slot) → is_live ts slot ≡ true → 0 < times_live slot.0 ts
 live_counts [] slot h = cc
 live_counts (t ∷ ts) slot h =
     elim (cases_Bool (is_in slot t)) [
-      inl y ↦ let one = one_at (t.slot.0 == slot.0) y in omega arith
-    | inr n ↦
-        let rest : is_live ts slot ≡ true = rw n at h in
-        let more = live_counts ts slot rest in
-        omega arith
+      | inl y ↦ let one = one_at (t.slot.0 == slot.0) y in omega arith
+      | inr n ↦
+          let rest : is_live ts slot ≡ true = rw n at h in
+          let more = live_counts ts slot rest in
+          omega arith
     ]
 
 pub in_range-live : (ts : List Task) (slot : Slot) → IsInRange ts → is_live ts slot ≡ true → slot.0 < 256
 in_range-live [] slot r h = cc
 in_range-live (t ∷ ts) slot r h =
     elim (cases_Bool (is_in slot t)) [
-      inl y ↦ let same : t.slot.0 ≡ slot.0 = eqb-true _ _ y in let small = r.0 in omega arith
-    | inr n ↦ let rest : is_live ts slot ≡ true = rw n at h in in_range-live ts slot r.1 rest
+      | inl y ↦ let same : t.slot.0 ≡ slot.0 = eqb-true _ _ y in let small = r.0 in omega arith
+      | inr n ↦ let rest : is_live ts slot ≡ true = rw n at h in in_range-live ts slot r.1 rest
     ]
 
 -- ---- a task that is made
@@ -120,17 +120,17 @@ IsSound-made ts free t next h number older =
     record {
       by_number = IsByNumber-push 0 ts t next number h.by_number;
       slots = λ n small.
-        let live = times_live-push n ts t in
-        let times = times_free-push n free t.slot in
-        let once = h.slots n small in
-        omega arith;
+          let live = times_live-push n ts t in
+          let times = times_free-push n free t.slot in
+          let once = h.slots n small in
+          omega arith;
       in_range = IsInRange-push ts t h.in_range fresh.small;
       free_in_range = (IsFreeInRange-parts free t.slot h.free_in_range).0;
       total =
-        let all = h.total in
-        let one = length-append free (t.slot ∷ []) in
-        let more = length-append ts (t ∷ []) in
-        omega arith;
+          let all = h.total in
+          let one = length-append free (t.slot ∷ []) in
+          let more = length-append ts (t ∷ []) in
+          omega arith;
       grown = rw (reverse_push ts t) (is_live-reverse ts t.slot ∙ fresh.unused, older, h.grown);
     }
 
@@ -157,8 +157,8 @@ IsByNumber-others slot low (t ∷ ts) next h =
     let rest = IsByNumber-others slot (t.number.0 + 1) ts next h.1 in
     let first = h.0 in
     elim (is_in slot t) as (λ b. IsByNumber low (cond (not b) (t ∷ others slot ts) (others slot ts)) next) [
-      true ↦ IsByNumber-lower low (t.number.0 + 1) (others slot ts) next (omega arith) rest
-    | false ↦ (first, rest)
+      | true ↦ IsByNumber-lower low (t.number.0 + 1) (others slot ts) next (omega arith) rest
+      | false ↦ (first, rest)
     ]
 
 IsInRange-others : (slot : Slot) (ts : List Task) → IsInRange ts → IsInRange (others slot ts)
@@ -166,8 +166,8 @@ IsInRange-others slot [] h = h
 IsInRange-others slot (t ∷ ts) h =
     let rest = IsInRange-others slot ts h.1 in
     elim (is_in slot t) as (λ b. IsInRange (cond (not b) (t ∷ others slot ts) (others slot ts))) [
-      true ↦ rest
-    | false ↦ (h.0, rest)
+      | true ↦ rest
+      | false ↦ (h.0, rest)
     ]
 
 times_live-others_same : (slot : Slot) (ts : List Task) → times_live slot.0 (others slot ts) ≡ 0
@@ -175,8 +175,8 @@ times_live-others_same slot [] = refl
 times_live-others_same slot (t ∷ ts) =
     let rest = times_live-others_same slot ts in
     elim (cases_Bool (is_in slot t)) [
-      inl y ↦ rw y rest
-    | inr n ↦ rw n (let none = none_at (t.slot.0 == slot.0) n in omega arith)
+      | inl y ↦ rw y rest
+      | inr n ↦ rw n (let none = none_at (t.slot.0 == slot.0) n in omega arith)
     ]
 
 times_live-others : (slot : Slot) (n : ℕ) (ts : List Task) → (slot.0 ≡ n → ⊥) → times_live n (others slot ts) ≡ times_live n ts
@@ -184,11 +184,11 @@ times_live-others slot n [] ne = refl
 times_live-others slot n (t ∷ ts) ne =
     let rest = times_live-others slot n ts ne in
     elim (cases_Bool (is_in slot t)) [
-      inl y ↦
-        let same : t.slot.0 ≡ slot.0 = eqb-true _ _ y in
-        let none = none_at (t.slot.0 == n) (ne_eqb _ _ (λ e. ne (sym same ∙ e))) in
-        rw y (omega arith)
-    | inr f ↦ rw f (omega arith)
+      | inl y ↦
+          let same : t.slot.0 ≡ slot.0 = eqb-true _ _ y in
+          let none = none_at (t.slot.0 == n) (ne_eqb _ _ (λ e. ne (sym same ∙ e))) in
+          rw y (omega arith)
+      | inr f ↦ rw f (omega arith)
     ]
 
 length-others : (slot : Slot) (ts : List Task) → length (others slot ts) + times_live slot.0 ts ≡ length ts
@@ -196,8 +196,8 @@ length-others slot [] = refl
 length-others slot (t ∷ ts) =
     let rest = length-others slot ts in
     elim (cases_Bool (is_in slot t)) [
-      inl y ↦ let one = one_at (t.slot.0 == slot.0) y in rw y (omega arith)
-    | inr f ↦ let none = none_at (t.slot.0 == slot.0) f in rw f (omega arith)
+      | inl y ↦ let one = one_at (t.slot.0 == slot.0) y in rw y (omega arith)
+      | inr f ↦ let none = none_at (t.slot.0 == slot.0) f in rw f (omega arith)
     ]
 
 pub reverse-others : (slot : Slot) (ts : List Task) → reverse (others slot ts) ≡ others slot (reverse ts)
@@ -206,8 +206,8 @@ reverse-others slot (t ∷ ts) =
     let rest = reverse-others slot ts in
     let parts = ap (others slot) (reverse_cons t ts) ∙ filter-append (λ u. not (is_in slot u)) (reverse ts) (t ∷ []) in
     elim (cases_Bool (is_in slot t)) [
-      inl y ↦ rw y (rest ∙ sym (parts ∙ rw y (append-nil (others slot (reverse ts)))))
-    | inr f ↦ rw f (reverse_cons t (others slot ts) ∙ ap (λ xs. xs ++ t ∷ []) rest ∙ sym (parts ∙ rw f refl))
+      | inl y ↦ rw y (rest ∙ sym (parts ∙ rw y (append-nil (others slot (reverse ts)))))
+      | inr f ↦ rw f (reverse_cons t (others slot ts) ∙ ap (λ xs. xs ++ t ∷ []) rest ∙ sym (parts ∙ rw f refl))
     ]
 
 is_live-others_false : (slot other : Slot) (ts : List Task) → is_live ts other ≡ false → is_live (others slot ts) other ≡ false
@@ -216,25 +216,25 @@ is_live-others_false slot other (t ∷ ts) h =
     let parts : (is_in other t ≡ false) × (is_live ts other ≡ false) = or_parts _ _ h in
     let rest = is_live-others_false slot other ts parts.1 in
     elim (is_in slot t) as (λ b. is_live (cond (not b) (t ∷ others slot ts) (others slot ts)) other ≡ false) [
-      true ↦ rest
-    | false ↦ or_from _ _ parts.0 rest
+      | true ↦ rest
+      | false ↦ or_from _ _ parts.0 rest
     ]
 
 is_live-others_true : (slot other : Slot) (ts : List Task) → (other.0 ≡ slot.0 → ⊥) → is_live ts other ≡ true → is_live (others slot ts) other ≡ true
 is_live-others_true slot other [] ne h = cc
 is_live-others_true slot other (t ∷ ts) ne h =
     elim (cases_Bool (is_in other t)) [
-      inl y ↦
-        let same : t.slot.0 ≡ other.0 = eqb-true _ _ y in
-        let kept : is_in slot t ≡ false = ne_eqb _ _ (λ e. ne (sym same ∙ e)) in
-        rw (kept, y) refl
-    | inr f ↦
-        let deeper : is_live ts other ≡ true = rw f at h in
-        let rest = is_live-others_true slot other ts ne deeper in
-        elim (is_in slot t) as (λ b. is_live (cond (not b) (t ∷ others slot ts) (others slot ts)) other ≡ true) [
-          true ↦ rest
-        | false ↦ rw f rest
-        ]
+      | inl y ↦
+          let same : t.slot.0 ≡ other.0 = eqb-true _ _ y in
+          let kept : is_in slot t ≡ false = ne_eqb _ _ (λ e. ne (sym same ∙ e)) in
+          rw (kept, y) refl
+      | inr f ↦
+          let deeper : is_live ts other ≡ true = rw f at h in
+          let rest = is_live-others_true slot other ts ne deeper in
+          elim (is_in slot t) as (λ b. is_live (cond (not b) (t ∷ others slot ts) (others slot ts)) other ≡ true) [
+            | true ↦ rest
+            | false ↦ rw f rest
+          ]
     ]
 
 HasOlder-others : (slot : Slot) (o : Option Home) (ts : List Task) → option_map_or (is_owner slot) o false ≡ false → HasOlder o ts → HasOlder o (others slot ts)
@@ -247,8 +247,8 @@ IsGrown-others slot [] none h = h
 IsGrown-others slot (t ∷ ts) none h =
     let rest = IsGrown-others slot ts none.1 h.2 in
     elim (is_in slot t) as (λ b. IsGrown (cond (not b) (t ∷ others slot ts) (others slot ts))) [
-      true ↦ rest
-    | false ↦ (is_live-others_false slot t.slot ts h.0, HasOlder-others slot t.home ts none.0 h.1, rest)
+      | true ↦ rest
+      | false ↦ (is_live-others_false slot t.slot ts h.0, HasOlder-others slot t.home ts none.0 h.1, rest)
     ]
 
 pub IsSound-others : (slot : Slot) (ts : List Task) (free : List Slot) (next : ℕ) → is_live ts slot ≡ true → NoneMadeBy slot (reverse ts)
@@ -260,27 +260,27 @@ IsSound-others slot ts free next live none h =
     record {
       by_number = IsByNumber-others slot 0 ts next h.by_number;
       slots = λ n fits.
-        let once = h.slots n fits in
-        let freed = times_free-push n free slot in
-        elim (cases_eq slot.0 n) [
-          inl e ↦ rw (← e) (
-            let gone = times_live-others_same slot ts in
-            let was = h.slots slot.0 small in
-            let back = times_free-push slot.0 free slot in
-            omega arith)
-        | inr ne ↦
-            let kept = times_live-others slot n ts ne in
-            let none_here = none_at (slot.0 == n) (ne_eqb _ _ ne) in
-            omega arith
-        ];
+          let once = h.slots n fits in
+          let freed = times_free-push n free slot in
+          elim (cases_eq slot.0 n) [
+            | inl e ↦ rw (← e) (
+                let gone = times_live-others_same slot ts in
+                let was = h.slots slot.0 small in
+                let back = times_free-push slot.0 free slot in
+                omega arith)
+            | inr ne ↦
+                let kept = times_live-others slot n ts ne in
+                let none_here = none_at (slot.0 == n) (ne_eqb _ _ ne) in
+                omega arith
+          ];
       in_range = IsInRange-others slot ts h.in_range;
       free_in_range = IsFreeInRange-push free slot h.free_in_range small;
       total =
-        let all = h.total in
-        let left = length-others slot ts in
-        let was = h.slots slot.0 small in
-        let one = length-append free (slot ∷ []) in
-        omega arith;
+          let all = h.total in
+          let left = length-others slot ts in
+          let was = h.slots slot.0 small in
+          let one = length-append free (slot ∷ []) in
+          omega arith;
       grown = rw (reverse-others slot ts) (IsGrown-others slot (reverse ts) none h.grown);
     }
 

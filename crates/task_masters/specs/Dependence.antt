@@ -1,5 +1,5 @@
 -- On which regions and tasks a task depends (9.3), and when it may terminate.
-use Rattle.std.specs.Prelude.{◌≡◌, ℕ, Bool, true, false, not, cond, ◌&&◌, ◌||◌, ◌==◌, List, [], ◌∷◌, map, reverse, filter, Option, Some, None}
+use Rattle.std.specs.Prelude.{◌≡◌, Bool, not, cond, ◌&&◌, ◌||◌, ◌==◌, List, [], ◌∷◌, map, reverse, filter, Option, Some, None}
 use Rattle.std.specs.List.{list_any, list_all}
 use Rattle.ann_base.specs.declared.identities.Slot.{Slot}
 use Rattle.ann_base.specs.declared.identities.RegionNo.{RegionNo}
@@ -56,3 +56,7 @@ waits tasks slot = list_any (λ t. is_in slot t && t.waits) tasks
 -- likewise
 abbrev pub may_terminate : List Task → Slot → Bool
 may_terminate tasks slot = waits tasks slot && list_any (is_finished tasks) (homes tasks slot)
+
+-- the masters of a task are its master, if it has one, and then those of the task that owns it
+abbrev pub IsLinked : List Task → Task → Type 0
+IsLinked tasks t = homes tasks t.slot ≡ home_and_rest t.home (homes tasks)

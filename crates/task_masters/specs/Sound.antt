@@ -1,9 +1,9 @@
 -- What every table keeps.
-use Rattle.std.specs.Prelude.{◌≡◌, ℕ, ◌+◌, ◌<◌, ◌≤◌, ⊤, Bool, true, false, ◌==◌, List, [], ◌∷◌, length, reverse, cond, Option, Some, None}
+use Rattle.std.specs.Prelude.{◌≡◌, ℕ, ◌+◌, ◌<◌, ◌≤◌, ⊤, true, false, ◌==◌, List, [], ◌∷◌, length, reverse, cond, Option, Some, None}
 use Rattle.ann_base.specs.declared.identities.Slot.{Slot}
 use Rattle.task_masters.specs.declared.task.Task.{Task}
 use Rattle.task_masters.specs.declared.task.Home.{Home}
-use Rattle.task_masters.specs.Tasks.{is_in, is_live}
+use Rattle.task_masters.specs.Tasks.{is_live}
 
 -- numbers rise from the first on, and are below the next
 abbrev pub IsByNumber : ℕ → List Task → ℕ → Type 0

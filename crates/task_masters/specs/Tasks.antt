@@ -1,5 +1,5 @@
 -- Live tasks, and what each call makes of one of them.
-use Rattle.std.specs.Prelude.{◌≡◌, ℕ, ◌+◌, ◌<◌, ◌≤◌, ⊤, Bool, true, false, not, cond, ◌&&◌, ◌||◌, ◌==◌, List, [], ◌∷◌, map, Option, Some, None, count_by}
+use Rattle.std.specs.Prelude.{ℕ, Bool, true, false, not, cond, ◌&&◌, ◌||◌, ◌==◌, List, map, Option, Some, None}
 use Rattle.std.specs.List.{list_any, find}
 use Rattle.std.specs.Option.{option_map, option_map_or, option_and_then}
 use Rattle.std.specs.Prelude.{unwrap_or}
@@ -34,17 +34,17 @@ is_left tasks region = list_any (is_left_at region) tasks
 -- the master of a new task: a region that is being left stays so
 abbrev pub home_of : List Task → Slot → RegionNo → ℕ → Home
 home_of tasks creator master part =
-  record { creator = creator; region = master; part = part; left = is_left tasks master }
+    record { creator = creator; region = master; part = part; left = is_left tasks master }
 
 -- the environment task, which has no master (10.2)
 abbrev pub environment_task : Task
 environment_task =
-  record { slot = record { 0 = 0 }; number = record { 0 = 0 }; home = None; stage = Begun; activation = None; waits = false }
+    record { slot = record { 0 = 0 }; number = record { 0 = 0 }; home = None; stage = Begun; activation = None; waits = false }
 
 -- a task that is made
 abbrev pub made_task : Slot → TaskNo → Home → Task
 made_task slot number home =
-  record { slot = slot; number = number; home = Some home; stage = Made; activation = None; waits = false }
+    record { slot = slot; number = number; home = Some home; stage = Made; activation = None; waits = false }
 
 -- whether a task is made and not yet activated
 abbrev pub is_made : Stage → Bool
@@ -63,12 +63,12 @@ begins creator master part t = is_made t.stage && option_map_or (is_home creator
 -- a group is named by its first task
 abbrev pub first_number : Slot → RegionNo → ℕ → List Task → TaskNo
 first_number creator master part tasks =
-  unwrap_or (option_map (λ t. t.number) (find (begins creator master part) tasks)) (record { 0 = 0 })
+    unwrap_or (option_map (λ t. t.number) (find (begins creator master part) tasks)) (record { 0 = 0 })
 
 -- the task, begun if it begins with the group
 abbrev pub begun : Slot → RegionNo → ℕ → TaskNo → Task → Task
 begun creator master part group t =
-  cond (begins creator master part t)
+    cond (begins creator master part t)
     (record t { stage = Begun; activation = Some (record { activator = creator; group = group; failed = false }) })
     t
 
@@ -88,7 +88,7 @@ is_other_of slot group t = not (is_in slot t) && is_of_group group t
 abbrev pub told : List Task → Slot → Bool → Option Activation → Option (Slot × Bool)
 told tasks slot failed None = None
 told tasks slot failed (Some a) =
-  cond (list_any (is_other_of slot a.group) tasks) None (Some (a.activator, a.failed || failed))
+    cond (list_any (is_other_of slot a.group) tasks) None (Some (a.activator, a.failed || failed))
 
 -- the activation, in which so far some failed or none
 abbrev pub with_failed : Bool → Activation → Activation
@@ -97,7 +97,7 @@ with_failed failed a = record a { failed = failed }
 -- the task, after the activation of that in a slot has ended in this group
 abbrev pub ended : Slot → TaskNo → Bool → Task → Task
 ended slot group failed t =
-  cond (is_in slot t)
+    cond (is_in slot t)
     (record t { activation = None })
     (cond (is_of_group group t) (record t { activation = option_map (with_failed failed) t.activation }) t)
 

@@ -1,15 +1,14 @@
 //! The table of live tasks.
-ghost use Rattle.std.specs.Prelude.{◌≡◌, ◌+◌, ◌<◌, ◌≤◌, ◌↔◌, true, false, not, [], ◌∷◌, ◌++◌, map, filter, length, IsTrue, IsErr, IfOk, OnOk, OnErr, slice_get, vec_capacity, ℕ, nat_lt, if◌then◌else◌};
+ghost use Rattle.std.specs.Prelude.{◌≡◌, ◌+◌, ◌<◌, ◌≤◌, ◌↔◌, true, false, not, [], ◌∷◌, ◌++◌, map, filter, length, IsTrue, IsErr, IfOk, OnOk, OnErr, slice_get, vec_capacity, ℕ, nat_lt, All, if◌then◌else◌};
 ghost use Rattle.std.specs.List.{list_any, find};
 ghost use Rattle.task_masters.specs.declared.masters.TheConstants.{LIVE_TASKS};
 ghost use Rattle.task_masters.specs.Tasks.{is_in, is_live, is_left, is_other_of, home_of, environment_task, made_task, begins, begun, first_number, activation_of, told, after_activation, completed, waiting, with_left};
-ghost use Rattle.task_masters.specs.Dependence.{has_dependents, dependents, may_terminate, homes};
+ghost use Rattle.task_masters.specs.Dependence.{has_dependents, dependents, may_terminate, homes, IsLinked};
 ghost use Rattle.task_masters.specs.Sound.{IsByNumber, times_free, IsFreeInRange};
 ghost use Rattle.ann_base.specs.declared.identities.Slot.{Slot};
 
-use crate::changes;
-use crate::dependence;
 use crate::task::{Activation, Home, Stage, Task};
+use crate::{changes, dependence};
 use ann_base::{Full, NoMemory, RegionNo, Slot, TaskNo};
 use std::alloc::Global;
 use std::marker::Model;
@@ -35,10 +34,8 @@ impl Model for Masters {
 
     ghost view = { λ m. record { tasks = m.tasks.items; next = m.next } };
 
-    ghost invariant = {
-        λ m. (LIVE_TASKS ≤ vec_capacity m.tasks) × (LIVE_TASKS ≤ vec_capacity m.free)
-            × IsSound m.tasks.items m.free.items m.next
-    };
+    ghost invariant = { λ m. (LIVE_TASKS ≤ vec_capacity m.tasks) × (LIVE_TASKS ≤ vec_capacity m.free)
+        × IsSound m.tasks.items m.free.items m.next };
 }
 
 impl Masters {
@@ -74,7 +71,12 @@ impl Masters {
 
     /// Makes a task for a live creator, a region of that one as its master, and a declarative part. Task numbers
     /// are never used again; a slot is, after the task in it has terminated.
-    pub fn create(&mut self, creator: Slot, master: RegionNo, part: u32) -> Result<(Slot, TaskNo), Full>
+    pub fn create(
+        &mut self,
+        creator: Slot,
+        master: RegionNo,
+        part: u32,
+    ) -> Result<(Slot, TaskNo), Full>
         requires live { is_live self.old.tasks creator ≡ true }
         requires numbers { self.old.next < 4294967295 }
         ensures full { IsErr result ↔ (length self.old.tasks ≡ LIVE_TASKS) }
@@ -194,6 +196,7 @@ impl Masters {
         requires { is_live self.now.tasks t ≡ true }
         ensures at_place { result ≡ slice_get (dependents self.now.tasks t) place }
         ensures by_number { IsByNumber 0 self.now.tasks self.now.next }
+        ensures masters { All (IsLinked self.now.tasks) self.now.tasks }
     {
         dependence::dependent(&self.tasks, t, place)
     }
@@ -283,7 +286,10 @@ fn group_size(tasks: &[Task], creator: Slot, master: RegionNo, part: u32) -> u32
     requires { length tasks.now ≤ LIVE_TASKS }
     ensures { result ≡ length (filter (begins creator master part) tasks.now) }
 {
-    let size = tasks.iter().filter(|t| t.begins(creator, master, part)).count();
+    let size = tasks
+        .iter()
+        .filter(|t| t.begins(creator, master, part))
+        .count();
     size as u32
 }
 

@@ -156,7 +156,10 @@ impl Task {
         }
         match self.activation {
             Some(activation) if activation.group == group => Task {
-                activation: Some(Activation { failed, ..activation }),
+                activation: Some(Activation {
+                    failed,
+                    ..activation
+                }),
                 ..self
             },
             _ => self,

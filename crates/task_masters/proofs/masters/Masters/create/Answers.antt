@@ -1,5 +1,4 @@
-use Rattle.std.proofs.Common.{◌≡◌, [], ◌∷◌, ◌++◌, true, reverse, refl, ap, sym, ◌∙◌, rules, arith}
-use Rattle.ann_base.specs.declared.identities.Slot.{Slot}
+use Rattle.std.proofs.Common.{◌≡◌, [], ◌∷◌, ◌++◌, true, reverse, refl, ap, ◌∙◌, arith}
 use Rattle.task_masters.specs.declared.task.Task.{Task}
 use Rattle.task_masters.specs.Tasks.{is_live, made_task}
 use Rattle.task_masters.specs.Sound.{IsSound}
@@ -26,9 +25,11 @@ invariant_of-self-2 c =
     let live : is_live c.self.inside.tasks.items c.args.creator ≡ true = rw (← c.self.view_is) at c.requires.live in
     let creator : c.home_of-home.result.creator ≡ c.args.creator = ap (λ home. home.creator) c.home_of-home.ensures in
     let older : is_live (reverse c.self.inside.tasks.items) c.home_of-home.result.creator ≡ true =
-        rw creator (is_live-reverse c.self.inside.tasks.items c.args.creator ∙ live) in
-    (omega arith, omega arith,
-      rw (pushed c) (IsSound-made c.self.inside.tasks.items c.pop.new.self.items (made c) c.self.inside.next (sound c) refl older))
+    rw creator (is_live-reverse c.self.inside.tasks.items c.args.creator ∙ live) in (
+      omega arith,
+      omega arith,
+      rw (pushed c) (IsSound-made c.self.inside.tasks.items c.pop.new.self.items (made c) c.self.inside.next (sound c) refl older),
+    )
 
 pub returns-clause-slot : goal.returns-clause-slot
 returns-clause-slot c = ((fresh c).small, rw (← c.self.view_is) (fresh c).unused)

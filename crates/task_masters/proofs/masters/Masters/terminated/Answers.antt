@@ -13,10 +13,12 @@ none c =
 
 pub invariant_of-self : goal.invariant_of-self
 invariant_of-self c =
-    let live : is_live c.self.inside.tasks.items c.args.t ≡ true = rw (← c.self.view_is) at c.requires.live in
-    (omega arith, omega arith,
+    let live : is_live c.self.inside.tasks.items c.args.t ≡ true = rw (← c.self.view_is) at c.requires.live in (
+      omega arith,
+      omega arith,
       rw (c.remove.ensures.items, c.push_reserved.ensures.items)
-        (IsSound-others c.args.t c.self.inside.tasks.items c.self.inside.free.items c.self.inside.next live (none c) c.self.invariant.2))
+          (IsSound-others c.args.t c.self.inside.tasks.items c.self.inside.free.items c.self.inside.next live (none c) c.self.invariant.2),
+    )
 
 pub returns-clause-others : goal.returns-clause-others
 returns-clause-others c slot live =

@@ -1,10 +1,10 @@
 //! The table of live tasks.
-ghost use Rattle.std.specs.Prelude.{◌≡◌, ◌+◌, ◌<◌, ◌≤◌, ◌↔◌, true, false, not, [], ◌∷◌, ◌++◌, map, filter, length, IsTrue, IsErr, IfOk, OnOk, OnErr, slice_get, vec_capacity, ℕ, nat_lt, All, if◌then◌else◌};
+ghost use Rattle.std.specs.Prelude.{◌≡◌, ◌+◌, ◌<◌, ◌≤◌, ◌↔◌, true, false, not, [], ◌∷◌, ◌++◌, map, filter, reverse, length, IsTrue, IsErr, IfOk, OnOk, OnErr, slice_get, vec_capacity, ℕ, nat_lt, All, if◌then◌else◌};
 ghost use Rattle.std.specs.List.{list_any, find};
 ghost use Rattle.task_masters.specs.declared.masters.TheConstants.{LIVE_TASKS};
 ghost use Rattle.task_masters.specs.Tasks.{is_in, is_live, is_left, is_other_of, home_of, environment_task, made_task, begins, begun, first_number, activation_of, told, after_activation, completed, waiting, with_left};
 ghost use Rattle.task_masters.specs.Dependence.{has_dependents, dependents, may_terminate, homes, IsLinked};
-ghost use Rattle.task_masters.specs.Sound.{IsByNumber, times_free, IsFreeInRange};
+ghost use Rattle.task_masters.specs.Sound.{IsByNumber, IsInRange, IsGrown, times_free, IsFreeInRange};
 ghost use Rattle.ann_base.specs.declared.identities.Slot.{Slot};
 
 use crate::task::{Activation, Home, Stage, Task};
@@ -57,7 +57,11 @@ impl Masters {
 
     /// Whether a live task is in this slot.
     pub fn is_live(&self, slot: Slot) -> bool
-        ensures { result ≡ is_live self.now.tasks slot }
+        ensures value { result ≡ is_live self.now.tasks slot }
+
+        // Slots are 0 to 255, no two tasks have one, and who made a task is live and older.
+        ensures in_range { IsInRange self.now.tasks }
+        ensures grown { IsGrown (reverse self.now.tasks) }
     {
         is_live(&self.tasks, slot)
     }
@@ -83,12 +87,15 @@ impl Masters {
         ensures as_before { OnErr result (self.new ≡ self.old) }
         ensures number { IfOk result (λ made. made.1.0 ≡ self.old.next) }
         ensures slot { IfOk result (λ made. (made.0.0 < LIVE_TASKS) × (is_live self.old.tasks made.0 ≡ false)) }
-        ensures tasks { IfOk result (λ made. self.new.tasks ≡ self.old.tasks ++ made_task made.0 made.1 (home_of self.old.tasks creator master part) ∷ []) }
+        ensures tasks { IfOk result (λ made. self.new.tasks
+            ≡ self.old.tasks ++ made_task made.0 made.1 (home_of self.old.tasks creator master part) ∷ []) }
         ensures next { OnOk result (self.new.next ≡ self.old.next + 1) }
 
         // The new task depends on its master and on what its creator depends on; the others depend as before.
-        ensures masters { IfOk result (λ made. homes self.new.tasks made.0 ≡ home_of self.old.tasks creator master part ∷ homes self.old.tasks creator) }
-        ensures others { OnOk result ((slot : Slot) → is_live self.old.tasks slot ≡ true → homes self.new.tasks slot ≡ homes self.old.tasks slot) }
+        ensures masters { IfOk result (λ made. homes self.new.tasks made.0
+            ≡ home_of self.old.tasks creator master part ∷ homes self.old.tasks creator) }
+        ensures others { OnOk result ((slot : Slot) → is_live self.old.tasks slot ≡ true
+            → homes self.new.tasks slot ≡ homes self.old.tasks slot) }
     {
         let Some(slot) = self.free.pop() else {
             return Err(Full);
@@ -105,7 +112,8 @@ impl Masters {
     pub fn activate_group(&mut self, creator: Slot, master: RegionNo, part: u32) -> u32
         requires { is_live self.old.tasks creator ≡ true }
         ensures count { result ≡ length (filter (begins creator master part) self.old.tasks) }
-        ensures tasks { self.new.tasks ≡ map (begun creator master part (first_number creator master part self.old.tasks)) self.old.tasks }
+        ensures tasks { self.new.tasks
+            ≡ map (begun creator master part (first_number creator master part self.old.tasks)) self.old.tasks }
         ensures next { self.new.next ≡ self.old.next }
     {
         let group = first_number(&self.tasks, creator, master, part);
@@ -150,7 +158,8 @@ impl Masters {
         requires alone { dependents self.old.tasks t ≡ [] }
         ensures tasks { self.new.tasks ≡ filter (λ task. not (is_in t task)) self.old.tasks }
         ensures next { self.new.next ≡ self.old.next }
-        ensures others { (slot : Slot) → is_live self.new.tasks slot ≡ true → homes self.new.tasks slot ≡ homes self.old.tasks slot }
+        ensures others { (slot : Slot) → is_live self.new.tasks slot ≡ true
+            → homes self.new.tasks slot ≡ homes self.old.tasks slot }
     {
         remove(&mut self.tasks, t);
         self.free.push_reserved(t);

@@ -1,0 +1,4 @@
+pub mod Tasks
+pub mod Dependence
+pub mod Live
+pub mod Sound

@@ -1,0 +1,2 @@
+pub mod Appointments
+pub mod Ahead

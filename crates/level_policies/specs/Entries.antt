@@ -1,5 +1,5 @@
 -- A level as a list of entries: who stands there, in order, each with a key. A key has a rank, a whole number.
-use Rattle.std.specs.Prelude.{◌≡◌, ◌<◌, ◌+◌, ℕ, ℤ, Bool, true, false, ◌==◌, ◌||◌, not, if◌then◌else◌, List, [], ◌∷◌, Option, Some, None, int_lt, filter}
+use Rattle.std.specs.Prelude.{◌≡◌, ◌<◌, ◌≤ℤ◌, ◌+◌, ℕ, ℤ, Bool, true, false, ◌==◌, ◌||◌, not, if◌then◌else◌, List, [], ◌∷◌, Option, Some, None, int_lt, filter}
 use Rattle.ann_base.specs.declared.identities.Slot.{Slot}
 
 abbrev pub Entry : Type 0 → Type 0
@@ -57,21 +57,29 @@ IsDistinct (e ∷ es) = (holds e.0 es ≡ false) × IsDistinct es
 -- no rank is below this one
 abbrev pub NoneBelow : {K : Type 0} → (K → ℤ) → ℤ → List (Entry K) → Type 0
 NoneBelow rank low [] = Unit {0}
-NoneBelow rank low (e ∷ es) = (int_lt (rank e.1) low ≡ false) × NoneBelow rank low es
+NoneBelow rank low (e ∷ es) = (low ≤ℤ rank e.1) × NoneBelow rank low es
 
--- ranks do not fall
+-- ranks do not fall from the first to the last
 abbrev pub IsRanked : {K : Type 0} → (K → ℤ) → List (Entry K) → Type 0
 IsRanked rank [] = Unit {0}
 IsRanked rank (e ∷ es) = NoneBelow rank (rank e.1) es × IsRanked rank es
+
+-- what every level is: nobody stands there twice, and ranks do not fall
+pub record IsOrdered {K : Type 0} (rank : K → ℤ) (es : List (Entry K)) : Type 0 where
+  pub distinct : IsDistinct es
+  pub ranked : IsRanked rank es
 
 -- every slot is one of the 257
 abbrev pub AreSlots : {K : Type 0} → List (Entry K) → Type 0
 AreSlots [] = Unit {0}
 AreSlots (e ∷ es) = IsSlot e.0 × AreSlots es
 
--- How an instance orders keys and what running costs: the rank of a key, the key after a tick, and whether the
--- quantum of a key is spent.
-pub record Discipline (K : Type 0) : Type 0 where
-  pub rank : K → ℤ
-  pub after_tick : K → K
-  pub is_spent : K → Bool
+-- the place of the first whose rank is greater, or the length
+abbrev pub place_after : {K : Type 0} → (K → ℤ) → ℤ → List (Entry K) → ℕ
+place_after rank r [] = 0
+place_after rank r (e ∷ es) = if int_lt r (rank e.1) then 0 else place_after rank r es + 1
+
+-- the place of the first whose rank is not smaller, or the length
+abbrev pub place_before : {K : Type 0} → (K → ℤ) → ℤ → List (Entry K) → ℕ
+place_before rank r [] = 0
+place_before rank r (e ∷ es) = if int_lt (rank e.1) r then place_before rank r es + 1 else 0

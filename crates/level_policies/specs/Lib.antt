@@ -1,1 +1,4 @@
+pub mod Disciplines
+pub mod EdfLevels
 pub mod Entries
+pub mod Kinds

@@ -46,7 +46,8 @@ impl<K: Copy> Line<K> {
 
     /// Who stands first.
     pub fn head(&self) -> Option<Slot>
-        ensures { result ≡ head_of self.now }
+        ensures first { result ≡ head_of self.now }
+        ensures distinct { IsDistinct self.now }
     {
         match self.entries.first() {
             Some(entry) => Some(entry.0),
@@ -57,7 +58,8 @@ impl<K: Copy> Line<K> {
     /// The key of `t`.
     pub fn key(&self, t: Slot) -> K
         requires { holds t self.now ≡ true }
-        ensures { key_of t self.now ≡ Some result }
+        ensures key { key_of t self.now ≡ Some result }
+        ensures distinct { IsDistinct self.now }
     {
         self.entries[place_of(&self.entries, t)].1
     }

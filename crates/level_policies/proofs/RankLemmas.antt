@@ -132,3 +132,22 @@ is_spent_at-never dis t (e ∷ es) none = pick (λ b. b ≡ false) (eqb e.0.0 t.
 -- a tick charged to t by giving it a key
 pub charged-is : {K : Type 0} (dis : Discipline K) (t : Slot) (es : List (Entry K)) (key changed : K) → IsDistinct es → key_of t es ≡ Some key → changed ≡ dis.after_tick key → rekeyed (λ _. changed) t es ≡ rekeyed dis.after_tick t es
 charged-is dis t es key changed d h e = ap (λ k. rekeyed (λ _. k) t es) e ∙ sym (rekeyed-key dis.after_tick t es key d h)
+
+-- what is kept by each change of a level
+pub holds-placed_tail : {K : Type 0} (rank : K → ℤ) (u t : Slot) (key : K) (es : List (Entry K)) → holds u (placed_tail rank t key es) ≡ (eqb t.0 u.0 || holds u es)
+holds-placed_tail rank u t key es = rw (placed_tail-is rank t key es) (holds-insert u t key (place_after rank (rank key) es) es)
+
+pub holds-placed_head : {K : Type 0} (rank : K → ℤ) (u t : Slot) (key : K) (es : List (Entry K)) → holds u (placed_head rank t key es) ≡ (eqb t.0 u.0 || holds u es)
+holds-placed_head rank u t key es = rw (placed_head-is rank t key es) (holds-insert u t key (place_before rank (rank key) es) es)
+
+pub IsOrdered-placed_tail : {K : Type 0} (rank : K → ℤ) (t : Slot) (key : K) (es : List (Entry K)) → IsOrdered rank es → holds t es ≡ false → IsOrdered rank (placed_tail rank t key es)
+IsOrdered-placed_tail rank t key es o h = record { distinct = rw (placed_tail-is rank t key es) (IsDistinct-insert t key (place_after rank (rank key) es) es o.distinct h); ranked = IsRanked-placed_tail rank t key es o.ranked }
+
+pub IsOrdered-placed_head : {K : Type 0} (rank : K → ℤ) (t : Slot) (key : K) (es : List (Entry K)) → IsOrdered rank es → holds t es ≡ false → IsOrdered rank (placed_head rank t key es)
+IsOrdered-placed_head rank t key es o h = record { distinct = rw (placed_head-is rank t key es) (IsDistinct-insert t key (place_before rank (rank key) es) es o.distinct h); ranked = IsRanked-placed_head rank t key es o.ranked }
+
+pub IsOrdered-removed : {K : Type 0} (rank : K → ℤ) (t : Slot) (es : List (Entry K)) → IsOrdered rank es → IsOrdered rank (removed t es)
+IsOrdered-removed rank t es o = record { distinct = IsDistinct-removed t es o.distinct; ranked = IsRanked-removed rank t es o.ranked }
+
+pub IsOrdered-rekeyed : {K : Type 0} (rank : K → ℤ) (f : K → K) (same : (k : K) → rank (f k) ≡ rank k) (t : Slot) (es : List (Entry K)) → IsOrdered rank es → IsOrdered rank (rekeyed f t es)
+IsOrdered-rekeyed rank f same t es o = record { distinct = IsDistinct-rekeyed t f es o.distinct; ranked = IsRanked-rekeyed rank f same t es o.ranked }

@@ -1,13 +1,9 @@
-// A library with one function.
+//! The priorities of tasks: base, deferred, kept and inherited, and the active one (ISO/IEC 8652:2012, D.1).
 #![tactic(auto)]
 
-ghost use Rattle.std.specs.Prelude.{◌≡◌};
-ghost use Rattle.task_levels.specs.Echo.{echo_of};
+mod causes;
+mod levels;
+mod rows;
 
-// The `ensures` clause is the contract: what `echo` returns is `echo_of` of its argument, a definition
-// in `specs/Echo.antt`, which a caller's clause can cite too.
-pub fn echo(x: usize) -> usize
-    ensures { result ≡ echo_of x }
-{
-    x
-}
+pub use causes::Cause;
+pub use levels::{INHERITED, Levels};

@@ -1,5 +1,5 @@
 -- What the tables show after each change.
-use Rattle.std.proofs.Common.{◌≡◌, ◌≢◌, ℕ, zero, suc, ◌+◌, ◌-◌, ◌<◌, ◌≤◌, Bool, true, false, cond, eqb, ◌||◌, List, [], ◌∷◌, ◌++◌, length, get_or, drop, set, Option, Some, None, refl, sym, ap, ◌∙◌, subst, arith, get_or-set_same, get_or-set_other, length-set}
+use Rattle.std.proofs.Common.{◌≡◌, ◌≢◌, ℕ, zero, suc, ◌+◌, ◌-◌, ◌<◌, ◌≤◌, Bool, true, false, cond, eqb, ◌||◌, ◌&&◌, List, [], ◌∷◌, ◌++◌, length, get_or, drop, set, Option, Some, None, refl, sym, ap, ◌∙◌, subst, arith, get_or-set_same, get_or-set_other, length-set}
 use Rattle.std.specs.Prelude.{IsSome, not}
 use Rattle.std.specs.List.{filter}
 use Rattle.std.proofs.Math.ListN.{replicate}
@@ -7,7 +7,7 @@ use Rattle.ann_base.specs.declared.identities.Slot.{Slot}
 use Rattle.task_levels.specs.declared.causes.Cause.{Cause}
 use Rattle.task_levels.specs.declared.rows.Own.{Own}
 use Rattle.task_levels.specs.declared.rows.Inherited.{Inherited}
-use Rattle.task_levels.specs.TaskLevels.{Inheritance, Priorities, same_cause, without, greatest_of, inherited_or_none, inherited_count, change, starting_at, AreAbsent, is_task}
+use Rattle.task_levels.specs.TaskLevels.{Inheritance, Priorities, same_cause, without, greatest_of, inherited_or_none, inherited_count, change, inheriting, losing, starting_at, AreAbsent, is_task}
 use Rattle.task_levels.specs.Shown.{of_slot, shown_task, shown_from, AreThere}
 
 -- reading and writing a slot
@@ -180,3 +180,27 @@ AreAbsent-none slot (suc n) = (refl, AreAbsent-none (slot + 1) n)
 pub copy-none : (P : Option Own → Type 0) → ((x : Own) → P (Some x) → ⊥) → (y : Option Own) → P y → y ≡ None
 copy-none P other None copy = refl
 copy-none P other (Some x) copy = absurd (other x copy)
+
+some-own : (o : Option Own) → IsSome o → (own : Own) × (o ≡ Some own)
+some-own None h = cc
+some-own (Some own) h = (own, refl)
+
+is-shown : (ys : List Inherited) (i : ℕ) (task : Option Priorities) (o : Option Own) → task ≡ shown_task i ys o → IsSome o → is_task task ≡ true
+is-shown ys i task None e h = cc
+is-shown ys i task (Some own) e h = ap is_task e
+
+-- whoever is there stays there whatever is inherited
+pub there-same : (xs ys : List Inherited) (owns : List (Option Own)) (i : ℕ) → is_task (get_or (shown_from 0 xs owns) i None) ≡ true → is_task (get_or (shown_from 0 ys owns) i None) ≡ true
+there-same xs ys owns i h = let z : 0 + i ≡ i = omega arith in is-shown ys i (get_or (shown_from 0 ys owns) i None) (get_or owns i None) (shown_from-at 0 ys owns i ∙ ap (λ s. shown_task s ys (get_or owns i None)) z) (there-own xs owns i h)
+
+-- who has a row, told
+pub own-there : (inherited : List Inherited) (owns : List (Option Own)) (i : ℕ) → is_task (get_or (shown_from 0 inherited owns) i None) ≡ true → (own : Own) × (get_or owns i None ≡ Some own)
+own-there inherited owns i h = some-own (get_or owns i None) (there-own inherited owns i h)
+
+-- a task inherits one more
+pub more-shown : (inherited : List Inherited) (owns : List (Option Own)) (x : Inherited) → is_task (get_or (shown_from 0 inherited owns) x.slot.0 None) ≡ true → shown_from 0 (inherited ++ x ∷ []) owns ≡ set (shown_from 0 inherited owns) x.slot.0 (change (inheriting x.cause x.level) (get_or (shown_from 0 inherited owns) x.slot.0 None))
+more-shown inherited owns x there = let row = own-there inherited owns x.slot.0 there in let same = of_slot-push_same x.slot.0 inherited x refl in inherited-changed inherited (inherited ++ x ∷ []) owns x.slot.0 row.0 (inheriting x.cause x.level) row.1 (ap (λ xs. Some (record { base = row.0.base; deferred = row.0.deferred; kept = row.0.kept; inherited = xs })) (sym same)) (λ j ne. of_slot-push_other j inherited x (λ e. ne (sym e)))
+
+-- a task loses a cause
+pub less-shown : (inherited : List Inherited) (owns : List (Option Own)) (i : ℕ) (cause : Cause) → is_task (get_or (shown_from 0 inherited owns) i None) ≡ true → shown_from 0 (filter (λ (x : Inherited). not (eqb x.slot.0 i && same_cause x.cause cause)) inherited) owns ≡ set (shown_from 0 inherited owns) i (change (losing cause) (get_or (shown_from 0 inherited owns) i None))
+less-shown inherited owns i cause there = let test : Inherited → Bool = λ (x : Inherited). not (eqb x.slot.0 i && same_cause x.cause cause) in let row = own-there inherited owns i there in let same = of_slot-filter_cause i cause test inherited (λ x at. let hit : eqb x.slot.0 i ≡ true = grind arith in rw hit refl) in inherited-changed inherited (filter test inherited) owns i row.0 (losing cause) row.1 (ap (λ xs. Some (record { base = row.0.base; deferred = row.0.deferred; kept = row.0.kept; inherited = xs })) (sym same)) (λ j ne. of_slot-filter_other j test inherited (λ x at. let miss : eqb x.slot.0 i ≡ false = grind (arith, ne) in rw miss refl))

@@ -104,30 +104,30 @@ module _ {K : Type 0} where
   -- t is put on a level, by whatever adds it there and nothing else
   pub Agrees-put : (lists : List (List (Entry K))) (places : List (Option ℕ)) (level : ℕ) (t : Slot) (es : List (Entry K)) → level < length lists → t.0 < length places → is_ready t lists ≡ false → ((u : Slot) → holds u es ≡ (eqb t.0 u.0 || holds u (entries_at level lists))) → Agrees lists places → Agrees (set lists level es) (set places t.0 (Some level))
   Agrees-put lists places level t es inside slot absent added agrees u is_slot l = by_test (eqb t.0 u.0)
-    (λ same. let at : u.0 ≡ t.0 = grind arith in let q : get_or (set places t.0 (Some level)) u.0 None ≡ Some level = ap (λ n. get_or (set places t.0 (Some level)) n None) at ∙ get_or-set_same places t.0 (Some level) None slot in rw q (by_test (eqb l level)
+      (λ same. let at : u.0 ≡ t.0 = grind arith in let q : get_or (set places t.0 (Some level)) u.0 None ≡ Some level = ap (λ n. get_or (set places t.0 (Some level)) n None) at ∙ get_or-set_same places t.0 (Some level) None slot in rw q (by_test (eqb l level)
       (λ here. let e : l ≡ level = grind arith in rw here (let x : entries_at l (set lists level es) ≡ es = ap (λ n. entries_at n (set lists level es)) e ∙ get_or-set_same lists level es [] inside in rw x (rw (added u) (rw same refl))))
       (λ there. let ne : l ≢ level = grind arith in rw there (let x : entries_at l (set lists level es) ≡ entries_at l lists = get_or-set_other lists level l es [] ne in rw x (ap (λ v. holds v (entries_at l lists)) (sym (slot-same t u same)) ∙ not_ready t lists absent l)))))
-    (λ other. let ne : u.0 ≢ t.0 = grind arith in let q : get_or (set places t.0 (Some level)) u.0 None ≡ get_or places u.0 None = get_or-set_other places t.0 u.0 (Some level) None ne in rw q (by_test (eqb l level)
+      (λ other. let ne : u.0 ≢ t.0 = grind arith in let q : get_or (set places t.0 (Some level)) u.0 None ≡ get_or places u.0 None = get_or-set_other places t.0 u.0 (Some level) None ne in rw q (by_test (eqb l level)
       (λ here. let e : l ≡ level = grind arith in let x : entries_at l (set lists level es) ≡ es = ap (λ n. entries_at n (set lists level es)) e ∙ get_or-set_same lists level es [] inside in rw x (rw (added u) (rw other (ap (λ n. holds u (entries_at n lists)) (sym e) ∙ agrees u is_slot l))))
       (λ there. let far : l ≢ level = grind arith in let x : entries_at l (set lists level es) ≡ entries_at l lists = get_or-set_other lists level l es [] far in rw x (agrees u is_slot l))))
 
   -- t is taken out of the only level that holds it
   pub Agrees-out : (lists : List (List (Entry K))) (places : List (Option ℕ)) (t : Slot) → t.0 < length places → Agrees lists places → Agrees (out_of_all t lists) (set places t.0 None)
   Agrees-out lists places t slot agrees u is_slot l = rw (out-at t lists l, holds-removed u t (entries_at l lists)) (by_test (eqb t.0 u.0)
-    (λ same. let at : u.0 ≡ t.0 = grind arith in let q : get_or (set places t.0 None) u.0 None ≡ None = ap (λ n. get_or (set places t.0 None) n None) at ∙ get_or-set_same places t.0 None None slot in rw (same, q) refl)
-    (λ other. let ne : u.0 ≢ t.0 = grind arith in rw (other, get_or-set_other places t.0 u.0 None None ne) (agrees u is_slot l)))
+      (λ same. let at : u.0 ≡ t.0 = grind arith in let q : get_or (set places t.0 None) u.0 None ≡ None = ap (λ n. get_or (set places t.0 None) n None) at ∙ get_or-set_same places t.0 None None slot in rw (same, q) refl)
+      (λ other. let ne : u.0 ≢ t.0 = grind arith in rw (other, get_or-set_other places t.0 u.0 None None ne) (agrees u is_slot l)))
 
   -- nobody is moved
   pub Agrees-charged : (f : K → K) (lists : List (List (Entry K))) (places : List (Option ℕ)) (level : ℕ) (t : Slot) → level < length lists → Agrees lists places → Agrees (set lists level (rekeyed f t (entries_at level lists))) places
   Agrees-charged f lists places level t inside agrees u is_slot l = by_test (eqb l level)
-    (λ here. let e : l ≡ level = grind arith in let x : entries_at l (set lists level (rekeyed f t (entries_at level lists))) ≡ rekeyed f t (entries_at level lists) = ap (λ n. entries_at n (set lists level (rekeyed f t (entries_at level lists)))) e ∙ get_or-set_same lists level (rekeyed f t (entries_at level lists)) [] inside in rw x (holds-rekeyed u t f (entries_at level lists) ∙ ap (λ n. holds u (entries_at n lists)) (sym e) ∙ agrees u is_slot l))
-    (λ there. let far : l ≢ level = grind arith in rw (get_or-set_other lists level l (rekeyed f t (entries_at level lists)) [] far) (agrees u is_slot l))
+      (λ here. let e : l ≡ level = grind arith in let x : entries_at l (set lists level (rekeyed f t (entries_at level lists))) ≡ rekeyed f t (entries_at level lists) = ap (λ n. entries_at n (set lists level (rekeyed f t (entries_at level lists)))) e ∙ get_or-set_same lists level (rekeyed f t (entries_at level lists)) [] inside in rw x (holds-rekeyed u t f (entries_at level lists) ∙ ap (λ n. holds u (entries_at n lists)) (sym e) ∙ agrees u is_slot l))
+      (λ there. let far : l ≢ level = grind arith in rw (get_or-set_other lists level l (rekeyed f t (entries_at level lists)) [] far) (agrees u is_slot l))
 
   -- one list is changed into another that is ordered
   pub AreOrdered-set : (disciplines : List (Discipline K)) (lists : List (List (Entry K))) (level : ℕ) (es : List (Entry K)) → level < length lists → IsOrdered (discipline_at level disciplines).rank es → AreOrdered disciplines lists → AreOrdered disciplines (set lists level es)
   AreOrdered-set disciplines lists level es inside new ordered l = by_test (eqb l level)
-    (λ here. let e : l ≡ level = grind arith in let x : entries_at l (set lists level es) ≡ es = ap (λ n. entries_at n (set lists level es)) e ∙ get_or-set_same lists level es [] inside in rw x (subst (λ n. IsOrdered (discipline_at n disciplines).rank es) (sym e) new))
-    (λ there. let far : l ≢ level = grind arith in rw (get_or-set_other lists level l es [] far) (ordered l))
+      (λ here. let e : l ≡ level = grind arith in let x : entries_at l (set lists level es) ≡ es = ap (λ n. entries_at n (set lists level es)) e ∙ get_or-set_same lists level es [] inside in rw x (subst (λ n. IsOrdered (discipline_at n disciplines).rank es) (sym e) new))
+      (λ there. let far : l ≢ level = grind arith in rw (get_or-set_other lists level l es [] far) (ordered l))
 
   pub AreOrdered-out : (disciplines : List (Discipline K)) (lists : List (List (Entry K))) (t : Slot) → AreOrdered disciplines lists → AreOrdered disciplines (out_of_all t lists)
   AreOrdered-out disciplines lists t ordered l = rw (out-at t lists l) (IsOrdered-removed (discipline_at l disciplines).rank t (entries_at l lists) (ordered l))
@@ -138,35 +138,35 @@ module _ {K : Type 0} where
 
   pub IsTable-tail : (disciplines : List (Discipline K)) (lists : List (List (Entry K))) (places : List (Option ℕ)) (level : ℕ) (t : Slot) (key : K) → IsTable disciplines lists places → IsSlot t → level < 99 → is_ready t lists ≡ false → IsTable disciplines (tail_at disciplines level t key lists) (set places t.0 (Some level))
   IsTable-tail disciplines lists places level t key table is_slot below absent = let rank = (discipline_at level disciplines).rank in let es = entries_at level lists in let inside : level < length lists = rw table.levels below in let slot : t.0 < length places = rw table.slots is_slot in record {
-      levels = length-set lists level (placed_tail rank t key es) ∙ table.levels;
-      slots = length-set places t.0 (Some level) ∙ table.slots;
-      agrees = Agrees-put lists places level t (placed_tail rank t key es) inside slot absent (λ u. holds-placed_tail rank u t key es) table.agrees;
-      ordered = AreOrdered-set disciplines lists level (placed_tail rank t key es) inside (IsOrdered-placed_tail rank t key es (table.ordered level) (not_ready t lists absent level)) table.ordered;
-    }
+    levels = length-set lists level (placed_tail rank t key es) ∙ table.levels;
+    slots = length-set places t.0 (Some level) ∙ table.slots;
+    agrees = Agrees-put lists places level t (placed_tail rank t key es) inside slot absent (λ u. holds-placed_tail rank u t key es) table.agrees;
+    ordered = AreOrdered-set disciplines lists level (placed_tail rank t key es) inside (IsOrdered-placed_tail rank t key es (table.ordered level) (not_ready t lists absent level)) table.ordered;
+  }
 
   pub IsTable-head : (disciplines : List (Discipline K)) (lists : List (List (Entry K))) (places : List (Option ℕ)) (level : ℕ) (t : Slot) (key : K) → IsTable disciplines lists places → IsSlot t → level < 99 → is_ready t lists ≡ false → IsTable disciplines (head_at disciplines level t key lists) (set places t.0 (Some level))
   IsTable-head disciplines lists places level t key table is_slot below absent = let rank = (discipline_at level disciplines).rank in let es = entries_at level lists in let inside : level < length lists = rw table.levels below in let slot : t.0 < length places = rw table.slots is_slot in record {
-      levels = length-set lists level (placed_head rank t key es) ∙ table.levels;
-      slots = length-set places t.0 (Some level) ∙ table.slots;
-      agrees = Agrees-put lists places level t (placed_head rank t key es) inside slot absent (λ u. holds-placed_head rank u t key es) table.agrees;
-      ordered = AreOrdered-set disciplines lists level (placed_head rank t key es) inside (IsOrdered-placed_head rank t key es (table.ordered level) (not_ready t lists absent level)) table.ordered;
-    }
+    levels = length-set lists level (placed_head rank t key es) ∙ table.levels;
+    slots = length-set places t.0 (Some level) ∙ table.slots;
+    agrees = Agrees-put lists places level t (placed_head rank t key es) inside slot absent (λ u. holds-placed_head rank u t key es) table.agrees;
+    ordered = AreOrdered-set disciplines lists level (placed_head rank t key es) inside (IsOrdered-placed_head rank t key es (table.ordered level) (not_ready t lists absent level)) table.ordered;
+  }
 
   pub IsTable-out : (disciplines : List (Discipline K)) (lists : List (List (Entry K))) (places : List (Option ℕ)) (t : Slot) → IsTable disciplines lists places → IsSlot t → IsTable disciplines (out_of_all t lists) (set places t.0 None)
   IsTable-out disciplines lists places t table is_slot = record {
-      levels = length-out t lists ∙ table.levels;
-      slots = length-set places t.0 None ∙ table.slots;
-      agrees = Agrees-out lists places t (rw table.slots is_slot) table.agrees;
-      ordered = AreOrdered-out disciplines lists t table.ordered;
-    }
+    levels = length-out t lists ∙ table.levels;
+    slots = length-set places t.0 None ∙ table.slots;
+    agrees = Agrees-out lists places t (rw table.slots is_slot) table.agrees;
+    ordered = AreOrdered-out disciplines lists t table.ordered;
+  }
 
   pub IsTable-charged : (disciplines : List (Discipline K)) (lists : List (List (Entry K))) (places : List (Option ℕ)) (level : ℕ) (t : Slot) → IsTable disciplines lists places → level < 99 → ((key : K) → (discipline_at level disciplines).rank ((discipline_at level disciplines).after_tick key) ≡ (discipline_at level disciplines).rank key) → IsTable disciplines (charged_at disciplines level t lists) places
   IsTable-charged disciplines lists places level t table below same = let d = discipline_at level disciplines in let es = entries_at level lists in let inside : level < length lists = rw table.levels below in record {
-      levels = length-set lists level (rekeyed d.after_tick t es) ∙ table.levels;
-      slots = table.slots;
-      agrees = Agrees-charged d.after_tick lists places level t inside table.agrees;
-      ordered = AreOrdered-set disciplines lists level (rekeyed d.after_tick t es) inside (IsOrdered-rekeyed d.rank d.after_tick same t es (table.ordered level)) table.ordered;
-    }
+    levels = length-set lists level (rekeyed d.after_tick t es) ∙ table.levels;
+    slots = table.slots;
+    agrees = Agrees-charged d.after_tick lists places level t inside table.agrees;
+    ordered = AreOrdered-set disciplines lists level (rekeyed d.after_tick t es) inside (IsOrdered-rekeyed d.rank d.after_tick same t es (table.ordered level)) table.ordered;
+  }
 
   placed-by : (lists : List (List (Entry K))) (t : Slot) → is_ready t lists ≡ true → (place : Option ℕ) → ((level : ℕ) → holds t (entries_at level lists) ≡ is_place level place) → IsSome place
   placed-by lists t ready None agrees = let out = is_ready-nowhere t lists agrees in cc
@@ -223,11 +223,11 @@ alone-held lists places t level is_slot agrees h = alone lists places t level is
 -- the table of levels on which nobody stands
 pub IsTable-empty : {K : Type 0} (disciplines : List (Discipline K)) (lists : List (List (Entry K))) (places : List (Option ℕ)) → length lists ≡ 99 → length places ≡ 257 → AreEmpty lists → ((i : ℕ) → get_or places i None ≡ None) → IsTable disciplines lists places
 IsTable-empty disciplines lists places all long empty none = record {
-    levels = all;
-    slots = long;
-    agrees = λ t is_slot level. rw (none t.0) (ap (holds t) (entries_at-empty lists level empty));
-    ordered = λ level. subst (λ es. IsOrdered (discipline_at level disciplines).rank es) (sym (entries_at-empty lists level empty)) (record { distinct = tt; ranked = tt });
-  }
+  levels = all;
+  slots = long;
+  agrees = λ t is_slot level. rw (none t.0) (ap (holds t) (entries_at-empty lists level empty));
+  ordered = λ level. subst (λ es. IsOrdered (discipline_at level disciplines).rank es) (sym (entries_at-empty lists level empty)) (record { distinct = tt; ranked = tt });
+}
 
 pub get_or-replicate : (n i : ℕ) → get_or (replicate {A = Option ℕ} n None) i None ≡ None
 get_or-replicate zero i = refl

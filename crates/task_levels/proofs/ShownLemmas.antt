@@ -96,17 +96,17 @@ of_slot-push_other i (y ∷ ys) x ne = by_test (eqb y.slot.0 i) (λ hit. rw hit 
 pub of_slot-filter_other : (i : ℕ) (test : Inherited → Bool) (inherited : List Inherited) → ((x : Inherited) → x.slot.0 ≡ i → test x ≡ true) → of_slot i (filter test inherited) ≡ of_slot i inherited
 of_slot-filter_other i test [] keeps = refl
 of_slot-filter_other i test (x ∷ xs) keeps = by_test (eqb x.slot.0 i)
-  (λ hit. let at : x.slot.0 ≡ i = grind arith in rw (keeps x at) (rw hit (ap (λ r. (x.cause, x.level) ∷ r) (of_slot-filter_other i test xs keeps))))
-  (λ miss. by_test (test x) (λ kept. rw (kept, miss) (of_slot-filter_other i test xs keeps)) (λ dropped. rw (dropped, miss) (of_slot-filter_other i test xs keeps)))
+    (λ hit. let at : x.slot.0 ≡ i = grind arith in rw (keeps x at) (rw hit (ap (λ r. (x.cause, x.level) ∷ r) (of_slot-filter_other i test xs keeps))))
+    (λ miss. by_test (test x) (λ kept. rw (kept, miss) (of_slot-filter_other i test xs keeps)) (λ dropped. rw (dropped, miss) (of_slot-filter_other i test xs keeps)))
 
 -- and that keeps of a slot what has another cause
 pub of_slot-filter_cause : (i : ℕ) (cause : Cause) (test : Inherited → Bool) (inherited : List Inherited) → ((x : Inherited) → x.slot.0 ≡ i → test x ≡ not (same_cause x.cause cause)) → of_slot i (filter test inherited) ≡ without cause (of_slot i inherited)
 of_slot-filter_cause i cause test [] says = refl
 of_slot-filter_cause i cause test (x ∷ xs) says = by_test (eqb x.slot.0 i)
-  (λ hit. let at : x.slot.0 ≡ i = grind arith in by_test (same_cause x.cause cause)
+    (λ hit. let at : x.slot.0 ≡ i = grind arith in by_test (same_cause x.cause cause)
     (λ same. let dropped : test x ≡ false = says x at ∙ ap not same in rw (dropped, hit) (rw same (of_slot-filter_cause i cause test xs says)))
     (λ other. let kept : test x ≡ true = says x at ∙ ap not other in rw (kept) (rw hit (rw other (ap (λ r. (x.cause, x.level) ∷ r) (of_slot-filter_cause i cause test xs says))))))
-  (λ miss. by_test (test x) (λ kept. rw (kept, miss) (of_slot-filter_cause i cause test xs says)) (λ dropped. rw (dropped, miss) (of_slot-filter_cause i cause test xs says)))
+    (λ miss. by_test (test x) (λ kept. rw (kept, miss) (of_slot-filter_cause i cause test xs says)) (λ dropped. rw (dropped, miss) (of_slot-filter_cause i cause test xs says)))
 
 -- how many are inherited together
 count-more : (slot : ℕ) (x : Inherited) (xs : List Inherited) (owns : List (Option Own)) (i : ℕ) → x.slot.0 ≡ slot + i → IsSome (get_or owns i None) → inherited_count (shown_from slot (x ∷ xs) owns) ≡ inherited_count (shown_from slot xs owns) + 1

@@ -110,9 +110,9 @@ impl<L: LevelPolicy> Ready<L> {
     {
         self.block(t);
         if running {
-            self.put_head(t, level, key);
+            self.put_head(t, level, key)
         } else {
-            self.release(t, level, key);
+            self.release(t, level, key)
         }
     }
 

@@ -238,3 +238,35 @@ get_or-replicate (suc n) (suc i) = get_or-replicate n i
 pub copy-none : (P : Option ℕ → Type 0) → ((x : ℕ) → P (Some x) → ⊥) → (y : Option ℕ) → P y → y ≡ None
 copy-none P other None copy = refl
 copy-none P other (Some x) copy = absurd (other x copy)
+
+-- who is ready behind a change of one list
+pub is_ready-set : {K : Type 0} (u t : Slot) (lists : List (List (Entry K))) (level : ℕ) (es : List (Entry K)) → level < length lists → holds u es ≡ (eqb t.0 u.0 || holds u (entries_at level lists)) → is_ready u (set lists level es) ≡ (eqb t.0 u.0 || is_ready u lists)
+is_ready-set u t [] level es h same = absurd (omega arith)
+is_ready-set u t (x ∷ higher) zero es h same = grind (arith, same)
+is_ready-set u t (x ∷ higher) (suc level) es h same = grind (arith, is_ready-set u t higher level es (omega arith) same)
+
+pub is_ready-tail_at : {K : Type 0} (disciplines : List (Discipline K)) (u t : Slot) (level : ℕ) (key : K) (lists : List (List (Entry K))) → level < length lists → is_ready u (tail_at disciplines level t key lists) ≡ (eqb t.0 u.0 || is_ready u lists)
+is_ready-tail_at disciplines u t level key lists h = is_ready-set u t lists level (placed_tail (discipline_at level disciplines).rank t key (entries_at level lists)) h (holds-placed_tail (discipline_at level disciplines).rank u t key (entries_at level lists))
+
+pub is_ready-head_at : {K : Type 0} (disciplines : List (Discipline K)) (u t : Slot) (level : ℕ) (key : K) (lists : List (List (Entry K))) → level < length lists → is_ready u (head_at disciplines level t key lists) ≡ (eqb t.0 u.0 || is_ready u lists)
+is_ready-head_at disciplines u t level key lists h = is_ready-set u t lists level (placed_head (discipline_at level disciplines).rank t key (entries_at level lists)) h (holds-placed_head (discipline_at level disciplines).rank u t key (entries_at level lists))
+
+pub is_ready-out_other : {K : Type 0} (u t : Slot) (lists : List (List (Entry K))) → is_ready u (out_of_all t lists) ≡ cond (eqb t.0 u.0) false (is_ready u lists)
+is_ready-out_other u t [] = grind arith
+is_ready-out_other u t (es ∷ higher) = grind (arith, holds-removed u t es, is_ready-out_other u t higher)
+
+-- somebody who is taken out and put back is ready as before, and so are the others
+pub is_ready-moved : {K : Type 0} (u t : Slot) (lists : List (List (Entry K))) → is_ready t lists ≡ true → (eqb t.0 u.0 || cond (eqb t.0 u.0) false (is_ready u lists)) ≡ is_ready u lists
+is_ready-moved u t lists ready = by_test (eqb t.0 u.0) (λ same. rw same (sym (ap (λ v. is_ready v lists) (sym (slot-same t u same)) ∙ ready))) (λ other. rw other refl)
+
+is_ready-kept : {K : Type 0} (u : Slot) (lists : List (List (Entry K))) (level : ℕ) (es : List (Entry K)) → level < length lists → holds u es ≡ holds u (entries_at level lists) → is_ready u (set lists level es) ≡ is_ready u lists
+is_ready-kept u [] level es h same = absurd (omega arith)
+is_ready-kept u (x ∷ higher) zero es h same = grind (arith, same)
+is_ready-kept u (x ∷ higher) (suc level) es h same = grind (arith, is_ready-kept u higher level es (omega arith) same)
+
+pub is_ready-charged : {K : Type 0} (disciplines : List (Discipline K)) (u t : Slot) (level : ℕ) (lists : List (List (Entry K))) → level < length lists → is_ready u (charged_at disciplines level t lists) ≡ is_ready u lists
+is_ready-charged disciplines u t level lists h = is_ready-kept u lists level (rekeyed (discipline_at level disciplines).after_tick t (entries_at level lists)) h (holds-rekeyed u t (discipline_at level disciplines).after_tick (entries_at level lists))
+
+pub is_ready-empty : {K : Type 0} (u : Slot) (lists : List (List (Entry K))) → AreEmpty lists → is_ready u lists ≡ false
+is_ready-empty u [] e = refl
+is_ready-empty u (es ∷ higher) e = rw e.0 (is_ready-empty u higher e.1)

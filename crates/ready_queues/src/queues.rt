@@ -1,5 +1,5 @@
 //! The ready queues over any policy of a level.
-ghost use Rattle.std.specs.Prelude.{◌≡◌, ◌<◌, true, false, Some, map, length, IfOk, IfSome, IsSomeAnd, ◌&&◌, not, if◌then◌else◌};
+ghost use Rattle.std.specs.Prelude.{◌≡◌, ◌<◌, true, false, Some, map, length, ◌==◌, ◌||◌, IfOk, IfSome, IsSomeAnd, ◌&&◌, not, if◌then◌else◌};
 ghost use Rattle.level_policies.specs.Entries.{IsSlot, holds, key_of};
 ghost use Rattle.ready_queues.specs.Order.{line_from, line_out, line_tail, line_head, line_first, rank_on, IsBeforeAll, StandsByOrder};
 ghost use Rattle.ready_queues.specs.Queues.{is_ready, level_of, entries_at, tail_at, head_at, out_of_all, charged_at, is_spent_on, chosen, AreEmpty};
@@ -53,6 +53,7 @@ impl<L: LevelPolicy> Ready<L> {
         requires level_number { level < 99 }
         requires absent { is_ready t (map L.entries self.old) ≡ false }
         ensures placed { map L.entries self.new ≡ tail_at (map L.discipline self.old) level t key (map L.entries self.old) }
+        ensures who { (u : Slot) → is_ready u (map L.entries self.new) ≡ ((t.0 == u.0) || is_ready u (map L.entries self.old)) }
         ensures line { line_from 0 (map L.entries self.new) ≡ line_tail (rank_on (map L.discipline self.old)) level t key (line_from 0 (map L.entries self.old)) }
         ensures same_disciplines { map L.discipline self.new ≡ map L.discipline self.old }
     {
@@ -66,6 +67,7 @@ impl<L: LevelPolicy> Ready<L> {
         requires level_number { level < 99 }
         requires absent { is_ready t (map L.entries self.old) ≡ false }
         ensures placed { map L.entries self.new ≡ head_at (map L.discipline self.old) level t key (map L.entries self.old) }
+        ensures who { (u : Slot) → is_ready u (map L.entries self.new) ≡ ((t.0 == u.0) || is_ready u (map L.entries self.old)) }
         ensures line { line_from 0 (map L.entries self.new) ≡ line_head (rank_on (map L.discipline self.old)) level t key (line_from 0 (map L.entries self.old)) }
         ensures same_disciplines { map L.discipline self.new ≡ map L.discipline self.old }
     {
@@ -90,12 +92,31 @@ impl<L: LevelPolicy> Ready<L> {
         requires slot { IsSlot t }
         requires ready { is_ready t (map L.entries self.old) ≡ true }
         ensures left { map L.entries self.new ≡ out_of_all t (map L.entries self.old) }
+        ensures who { (u : Slot) → is_ready u (map L.entries self.new) ≡ (if t.0 == u.0 then false else is_ready u (map L.entries self.old)) }
         ensures line { line_from 0 (map L.entries self.new) ≡ line_out t (line_from 0 (map L.entries self.old)) }
         ensures same_disciplines { map L.discipline self.new ≡ map L.discipline self.old }
     {
         let level = self.level_of(t);
         levels::remove(&mut self.levels, level, t);
         self.places[usize::from(t.0)] = None;
+    }
+
+    // `t`, which is ready, is put at the head or at the tail of this level.
+    fn move_to(&mut self, t: Slot, level: Level, key: L::Key, to_head: bool)
+        requires slot { IsSlot t }
+        requires level_number { level < 99 }
+        requires ready { is_ready t (map L.entries self.old) ≡ true }
+        ensures placed { map L.entries self.new ≡ (if to_head then head_at (map L.discipline self.old) level t key (out_of_all t (map L.entries self.old)) else tail_at (map L.discipline self.old) level t key (out_of_all t (map L.entries self.old))) }
+        ensures line { line_from 0 (map L.entries self.new) ≡ (if to_head then line_head (rank_on (map L.discipline self.old)) level t key (line_out t (line_from 0 (map L.entries self.old))) else line_tail (rank_on (map L.discipline self.old)) level t key (line_out t (line_from 0 (map L.entries self.old)))) }
+        ensures who { (u : Slot) → is_ready u (map L.entries self.new) ≡ is_ready u (map L.entries self.old) }
+        ensures same_disciplines { map L.discipline self.new ≡ map L.discipline self.old }
+    {
+        self.block(t);
+        if to_head {
+            self.put_head(t, level, key);
+        } else {
+            self.release(t, level, key);
+        }
     }
 
     /// The active priority of `t` rises to this level by an inheritance: to the head where `t` is running, else to
@@ -106,14 +127,10 @@ impl<L: LevelPolicy> Ready<L> {
         requires ready { is_ready t (map L.entries self.old) ≡ true }
         ensures placed { map L.entries self.new ≡ (if running then head_at (map L.discipline self.old) level t key (out_of_all t (map L.entries self.old)) else tail_at (map L.discipline self.old) level t key (out_of_all t (map L.entries self.old))) }
         ensures line { line_from 0 (map L.entries self.new) ≡ (if running then line_head (rank_on (map L.discipline self.old)) level t key (line_out t (line_from 0 (map L.entries self.old))) else line_tail (rank_on (map L.discipline self.old)) level t key (line_out t (line_from 0 (map L.entries self.old)))) }
+        ensures who { (u : Slot) → is_ready u (map L.entries self.new) ≡ is_ready u (map L.entries self.old) }
         ensures same_disciplines { map L.discipline self.new ≡ map L.discipline self.old }
     {
-        self.block(t);
-        if running {
-            self.put_head(t, level, key)
-        } else {
-            self.release(t, level, key)
-        }
+        self.move_to(t, level, key, running);
     }
 
     /// The active priority of `t` falls to this level by the loss of an inherited one: to the head (D.2.3).
@@ -123,10 +140,10 @@ impl<L: LevelPolicy> Ready<L> {
         requires ready { is_ready t (map L.entries self.old) ≡ true }
         ensures placed { map L.entries self.new ≡ head_at (map L.discipline self.old) level t key (out_of_all t (map L.entries self.old)) }
         ensures line { line_from 0 (map L.entries self.new) ≡ line_head (rank_on (map L.discipline self.old)) level t key (line_out t (line_from 0 (map L.entries self.old))) }
+        ensures who { (u : Slot) → is_ready u (map L.entries self.new) ≡ is_ready u (map L.entries self.old) }
         ensures same_disciplines { map L.discipline self.new ≡ map L.discipline self.old }
     {
-        self.block(t);
-        self.put_head(t, level, key);
+        self.move_to(t, level, key, true);
     }
 
     /// The base priority of `t` was set, and this is its level: to the tail (D.2.3, D.5.1).
@@ -136,10 +153,10 @@ impl<L: LevelPolicy> Ready<L> {
         requires ready { is_ready t (map L.entries self.old) ≡ true }
         ensures placed { map L.entries self.new ≡ tail_at (map L.discipline self.old) level t key (out_of_all t (map L.entries self.old)) }
         ensures line { line_from 0 (map L.entries self.new) ≡ line_tail (rank_on (map L.discipline self.old)) level t key (line_out t (line_from 0 (map L.entries self.old))) }
+        ensures who { (u : Slot) → is_ready u (map L.entries self.new) ≡ is_ready u (map L.entries self.old) }
         ensures same_disciplines { map L.discipline self.new ≡ map L.discipline self.old }
     {
-        self.block(t);
-        self.release(t, level, key);
+        self.move_to(t, level, key, false);
     }
 
     /// `t` goes to the tail of its own level, with this key.
@@ -148,11 +165,11 @@ impl<L: LevelPolicy> Ready<L> {
         requires ready { is_ready t (map L.entries self.old) ≡ true }
         ensures placed { IsSomeAnd (level_of t (map L.entries self.old)) (λ level. map L.entries self.new ≡ tail_at (map L.discipline self.old) level t key (out_of_all t (map L.entries self.old))) }
         ensures line { IsSomeAnd (level_of t (map L.entries self.old)) (λ level. line_from 0 (map L.entries self.new) ≡ line_tail (rank_on (map L.discipline self.old)) level t key (line_out t (line_from 0 (map L.entries self.old)))) }
+        ensures who { (u : Slot) → is_ready u (map L.entries self.new) ≡ is_ready u (map L.entries self.old) }
         ensures same_disciplines { map L.discipline self.new ≡ map L.discipline self.old }
     {
         let level = self.level_of(t);
-        self.block(t);
-        self.release(t, level, key);
+        self.move_to(t, level, key, false);
     }
 
     /// One tick of running is charged to `t`, as its level does it. Whether a round-robin quantum is then spent and
@@ -162,6 +179,7 @@ impl<L: LevelPolicy> Ready<L> {
         requires ready { is_ready t (map L.entries self.old) ≡ true }
         ensures charged { IsSomeAnd (level_of t (map L.entries self.old)) (λ level. map L.entries self.new ≡ charged_at (map L.discipline self.old) level t (map L.entries self.old)) }
         ensures moves { IsSomeAnd (level_of t (map L.entries self.old)) (λ level. result ≡ (is_spent_on (map L.discipline self.old) level t (map L.entries self.new) && not fixed)) }
+        ensures who { (u : Slot) → is_ready u (map L.entries self.new) ≡ is_ready u (map L.entries self.old) }
         ensures same_disciplines { map L.discipline self.new ≡ map L.discipline self.old }
     {
         let level = self.level_of(t);

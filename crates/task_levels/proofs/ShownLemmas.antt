@@ -1,5 +1,5 @@
 -- What the tables show after each change.
-use Rattle.std.proofs.Common.{◌≡◌, ◌≢◌, ℕ, zero, suc, ◌+◌, ◌-◌, ◌<◌, ◌≤◌, Bool, true, false, cond, eqb, ◌||◌, ◌&&◌, List, [], ◌∷◌, ◌++◌, length, get_or, drop, set, Option, Some, None, refl, sym, ap, ◌∙◌, subst, arith, get_or-set_same, get_or-set_other, length-set}
+use Rattle.std.proofs.Common.{◌≡◌, ◌≢◌, ℕ, zero, suc, ◌+◌, ◌-◌, ◌<◌, ◌≤◌, Bool, true, false, cond, eqb, ◌||◌, ◌&&◌, List, [], ◌∷◌, ◌++◌, length, get_or, drop, set, Option, Some, None, refl, sym, ap, ◌∙◌, subst, arith, get_or-set_same, get_or-set_other, length-set, length-append}
 use Rattle.std.specs.Prelude.{IsSome, not}
 use Rattle.std.specs.List.{filter}
 use Rattle.std.proofs.Math.ListN.{replicate}
@@ -7,7 +7,7 @@ use Rattle.ann_base.specs.declared.identities.Slot.{Slot}
 use Rattle.task_levels.specs.declared.causes.Cause.{Cause}
 use Rattle.task_levels.specs.declared.rows.Own.{Own}
 use Rattle.task_levels.specs.declared.rows.Inherited.{Inherited}
-use Rattle.task_levels.specs.TaskLevels.{Inheritance, Priorities, same_cause, without, greatest_of, inherited_or_none, inherited_count, change, inheriting, losing, starting_at, AreAbsent, is_task}
+use Rattle.task_levels.specs.TaskLevels.{Inheritance, Priorities, same_cause, greatest_of, inherited_or_none, inherited_count, change, inheriting, losing, starting_at, without, is_task}
 use Rattle.task_levels.specs.Shown.{of_slot, shown_task, shown_from, AreThere}
 
 -- reading and writing a slot
@@ -116,7 +116,7 @@ count-more slot x xs (Some own ∷ os) zero at there = let hit : eqb x.slot.0 sl
 count-more slot x xs (None ∷ os) (suc i) at there = let on = count-more (slot + 1) x xs os i (omega arith) there in omega arith
 count-more slot x xs (Some own ∷ os) (suc i) at there = let on = count-more (slot + 1) x xs os i (omega arith) there in let miss : eqb x.slot.0 slot ≡ false = grind arith in rw miss (omega arith)
 
-count-none : (slot : ℕ) (owns : List (Option Own)) → inherited_count (shown_from slot [] owns) ≡ 0
+pub count-none : (slot : ℕ) (owns : List (Option Own)) → inherited_count (shown_from slot [] owns) ≡ 0
 count-none slot [] = refl
 count-none slot (None ∷ os) = omega (arith, count-none (slot + 1) os)
 count-none slot (Some own ∷ os) = omega (arith, count-none (slot + 1) os)
@@ -171,10 +171,14 @@ pub AreThere-ended : (owns : List (Option Own)) (i : ℕ) (test : Inherited → 
 AreThere-ended owns i test [] says a = tt
 AreThere-ended owns i test (x ∷ xs) says a = AreThere-dropped owns i x (filter test xs) (test x) (λ kept. let t = says x in let miss : eqb x.slot.0 i ≡ false = grind arith in grind arith) a.0 (AreThere-ended owns i test xs says a.1)
 
+get_or-none : (n i : ℕ) → get_or (replicate {A = Option Own} n None) i None ≡ None
+get_or-none zero i = refl
+get_or-none (suc n) zero = refl
+get_or-none (suc n) (suc i) = get_or-none n i
+
 -- nobody is shown of empty tables
-pub AreAbsent-none : (slot n : ℕ) → AreAbsent (shown_from slot [] (replicate {A = Option Own} n None))
-AreAbsent-none slot zero = tt
-AreAbsent-none slot (suc n) = (refl, AreAbsent-none (slot + 1) n)
+pub none-shown : (n i : ℕ) → get_or (shown_from 0 [] (replicate {A = Option Own} n None)) i None ≡ None
+none-shown n i = shown_from-at 0 [] (replicate {A = Option Own} n None) i ∙ ap (shown_task (0 + i) []) (get_or-none n i)
 
 -- only None is a copy of None
 pub copy-none : (P : Option Own → Type 0) → ((x : Own) → P (Some x) → ⊥) → (y : Option Own) → P y → y ≡ None
@@ -204,3 +208,46 @@ more-shown inherited owns x there = let row = own-there inherited owns x.slot.0 
 -- a task loses a cause
 pub less-shown : (inherited : List Inherited) (owns : List (Option Own)) (i : ℕ) (cause : Cause) → is_task (get_or (shown_from 0 inherited owns) i None) ≡ true → shown_from 0 (filter (λ (x : Inherited). not (eqb x.slot.0 i && same_cause x.cause cause)) inherited) owns ≡ set (shown_from 0 inherited owns) i (change (losing cause) (get_or (shown_from 0 inherited owns) i None))
 less-shown inherited owns i cause there = let test : Inherited → Bool = λ (x : Inherited). not (eqb x.slot.0 i && same_cause x.cause cause) in let row = own-there inherited owns i there in let same = of_slot-filter_cause i cause test inherited (λ x at. let hit : eqb x.slot.0 i ≡ true = grind arith in rw hit refl) in inherited-changed inherited (filter test inherited) owns i row.0 (losing cause) row.1 (ap (λ xs. Some (record { base = row.0.base; deferred = row.0.deferred; kept = row.0.kept; inherited = xs })) (sym same)) (λ j ne. of_slot-filter_other j test inherited (λ x at. let miss : eqb x.slot.0 i ≡ false = grind (arith, ne) in rw miss refl))
+
+-- whoever is there is in one of the slots
+pub there-inside : (tasks : List (Option Priorities)) (i : ℕ) → is_task (get_or tasks i None) ≡ true → i < length tasks
+there-inside [] i h = cc
+there-inside (o ∷ os) zero h = omega arith
+there-inside (o ∷ os) (suc i) h = omega (arith, there-inside os i h)
+
+-- how the count changes with one slot
+pub count-set : (tasks : List (Option Priorities)) (i : ℕ) (o : Option Priorities) → i < length tasks → inherited_count (set tasks i o) + length (inherited_or_none (get_or tasks i None)) ≡ inherited_count tasks + length (inherited_or_none o)
+count-set [] i o h = absurd (omega arith)
+count-set (x ∷ xs) zero o h = omega arith
+count-set (x ∷ xs) (suc i) o h = omega (arith, count-set xs i o (omega arith))
+
+pub same-inherited : (f : Priorities → Priorities) → ((task : Priorities) → (f task).inherited ≡ task.inherited) → (o : Option Priorities) → inherited_or_none (change f o) ≡ inherited_or_none o
+same-inherited f same None = refl
+same-inherited f same (Some task) = same task
+
+pub count-kept : (f : Priorities → Priorities) → ((task : Priorities) → (f task).inherited ≡ task.inherited) → (tasks : List (Option Priorities)) (i : ℕ) → is_task (get_or tasks i None) ≡ true → inherited_count (set tasks i (change f (get_or tasks i None))) ≡ inherited_count tasks
+count-kept f same tasks i h = let moved = count-set tasks i (change f (get_or tasks i None)) (there-inside tasks i h) in let e = ap length (same-inherited f same (get_or tasks i None)) in omega arith
+
+length-more : (cause : Cause) (level : ℕ) (o : Option Priorities) → is_task o ≡ true → length (inherited_or_none (change (inheriting cause level) o)) ≡ length (inherited_or_none o) + 1
+length-more cause level None h = cc
+length-more cause level (Some task) h = omega (arith, length-append {A = Inheritance})
+
+pub count-more_by : (cause : Cause) (level : ℕ) (tasks : List (Option Priorities)) (i : ℕ) → is_task (get_or tasks i None) ≡ true → inherited_count (set tasks i (change (inheriting cause level) (get_or tasks i None))) ≡ inherited_count tasks + 1
+count-more_by cause level tasks i h = let moved = count-set tasks i (change (inheriting cause level) (get_or tasks i None)) (there-inside tasks i h) in let e = length-more cause level (get_or tasks i None) h in omega arith
+
+length-without : (cause : Cause) (xs : List Inheritance) → length (without cause xs) ≤ length xs
+length-without cause [] = omega arith
+length-without cause (x ∷ xs) = grind (arith, length-without cause xs)
+
+length-less : (cause : Cause) (o : Option Priorities) → length (inherited_or_none (change (losing cause) o)) ≤ length (inherited_or_none o)
+length-less cause None = omega arith
+length-less cause (Some task) = length-without cause task.inherited
+
+pub count-less : (cause : Cause) (tasks : List (Option Priorities)) (i : ℕ) → is_task (get_or tasks i None) ≡ true → inherited_count (set tasks i (change (losing cause) (get_or tasks i None))) ≤ inherited_count tasks
+count-less cause tasks i h = let moved = count-set tasks i (change (losing cause) (get_or tasks i None)) (there-inside tasks i h) in let e = length-less cause (get_or tasks i None) in omega arith
+
+pub count-ended : (tasks : List (Option Priorities)) (i : ℕ) → is_task (get_or tasks i None) ≡ true → inherited_count (set tasks i None) ≤ inherited_count tasks
+count-ended tasks i h = let moved = count-set tasks i None (there-inside tasks i h) in omega arith
+
+pub count-begun : (tasks : List (Option Priorities)) (i base : ℕ) → i < length tasks → get_or tasks i None ≡ None → inherited_count (set tasks i (Some (starting_at base))) ≡ inherited_count tasks
+count-begun tasks i base h none = let moved = count-set tasks i (Some (starting_at base)) h in let e = ap (λ o. length (inherited_or_none o)) none in omega arith

@@ -116,8 +116,3 @@ settled task = record task { base = unwrap_or task.deferred task.base; deferred 
 
 abbrev pub keeping : Option ℕ → Priorities → Priorities
 keeping kept task = record task { kept = kept }
-
--- nobody is in any slot
-abbrev pub AreAbsent : List (Option Priorities) → Type 0
-AreAbsent [] = Unit {0}
-AreAbsent (o ∷ os) = (o ≡ None) × AreAbsent os

@@ -1,6 +1,6 @@
 //! The priorities of all tasks.
-ghost use Rattle.std.specs.Prelude.{◌≡◌, ◌<◌, true, false, None, Some, nat_lt, IfOk, IsSomeAnd, slice_set, length};
-ghost use Rattle.task_levels.specs.TaskLevels.{IsSlot, starting_at, has_cause, task_at, is_there, active_at, inherited_at, inherited_count, changed_at, inheriting, losing, based_at, deferring, settled, keeping, greatest_inherited_of, AreAbsent};
+ghost use Rattle.std.specs.Prelude.{◌≡◌, ◌<◌, ◌≤◌, ◌+◌, true, false, None, Some, nat_lt, IfOk, IsSomeAnd, slice_set, length};
+ghost use Rattle.task_levels.specs.TaskLevels.{IsSlot, starting_at, has_cause, task_at, is_there, active_at, inherited_at, inherited_count, changed_at, inheriting, losing, based_at, deferring, settled, keeping, greatest_inherited_of};
 
 use crate::causes::Cause;
 use crate::rows::{self, Inherited, Own};
@@ -38,7 +38,8 @@ impl Levels {
     /// No task is there. No later call takes memory.
     pub fn with_room(alloc: Global) -> Result<Levels, NoMemory>
         ensures slots { IfOk result (λ levels. length levels ≡ 257) }
-        ensures absent { IfOk result AreAbsent }
+        ensures absent { IfOk result (λ levels. (t : Slot) → task_at t levels ≡ None) }
+        ensures count { IfOk result (λ levels. inherited_count levels ≡ 0) }
     {
         Ok(Levels {
             owns: vec![in alloc; None; SLOTS]?,
@@ -50,7 +51,8 @@ impl Levels {
     pub fn begin(&mut self, t: Slot, base: Level)
         requires slot { IsSlot t }
         requires absent { task_at t self.old ≡ None }
-        ensures { self.new ≡ slice_set self.old t.0 (Some (starting_at base)) }
+        ensures begins { self.new ≡ slice_set self.old t.0 (Some (starting_at base)) }
+        ensures count { inherited_count self.new ≡ inherited_count self.old }
     {
         self.owns[usize::from(t.0)] = Some(Own {
             base,
@@ -63,7 +65,8 @@ impl Levels {
     pub fn end(&mut self, t: Slot)
         requires slot { IsSlot t }
         requires there { is_there t self.old ≡ true }
-        ensures { self.new ≡ slice_set self.old t.0 None }
+        ensures ends { self.new ≡ slice_set self.old t.0 None }
+        ensures count { inherited_count self.new ≤ inherited_count self.old }
     {
         self.owns[usize::from(t.0)] = None;
         rows::drop_slot(&mut self.inherited, t);
@@ -76,6 +79,7 @@ impl Levels {
         requires lacks { has_cause cause (inherited_at t self.old) ≡ false }
         requires room { inherited_count self.old < 66050 }
         ensures inherits { self.new ≡ changed_at t (inheriting cause level) self.old }
+        ensures count { inherited_count self.new ≡ inherited_count self.old + 1 }
         ensures rose { result ≡ nat_lt (active_at t self.old) (active_at t self.new) }
     {
         let before = self.active(t);
@@ -95,6 +99,7 @@ impl Levels {
         requires there { is_there t self.old ≡ true }
         requires has { has_cause cause (inherited_at t self.old) ≡ true }
         ensures loses { self.new ≡ changed_at t (losing cause) self.old }
+        ensures count { inherited_count self.new ≤ inherited_count self.old }
         ensures fell { result ≡ nat_lt (active_at t self.new) (active_at t self.old) }
     {
         let before = self.active(t);
@@ -106,7 +111,8 @@ impl Levels {
     pub fn set_base(&mut self, t: Slot, base: Level)
         requires slot { IsSlot t }
         requires there { is_there t self.old ≡ true }
-        ensures { self.new ≡ changed_at t (based_at base) self.old }
+        ensures changed { self.new ≡ changed_at t (based_at base) self.old }
+        ensures count { inherited_count self.new ≡ inherited_count self.old }
     {
         let own = rows::own_of(&self.owns, t);
         self.owns[usize::from(t.0)] = Some(Own { base, ..own });
@@ -116,7 +122,8 @@ impl Levels {
     pub fn defer_base(&mut self, t: Slot, base: Level)
         requires slot { IsSlot t }
         requires there { is_there t self.old ≡ true }
-        ensures { self.new ≡ changed_at t (deferring base) self.old }
+        ensures changed { self.new ≡ changed_at t (deferring base) self.old }
+        ensures count { inherited_count self.new ≡ inherited_count self.old }
     {
         let own = rows::own_of(&self.owns, t);
         self.owns[usize::from(t.0)] = Some(Own {
@@ -131,6 +138,7 @@ impl Levels {
         requires there { is_there t self.old ≡ true }
         ensures deferred { IsSomeAnd (task_at t self.old) (λ task. result ≡ task.deferred) }
         ensures settled { self.new ≡ changed_at t settled self.old }
+        ensures count { inherited_count self.new ≡ inherited_count self.old }
     {
         let own = rows::own_of(&self.owns, t);
         self.owns[usize::from(t.0)] = Some(Own {
@@ -145,7 +153,8 @@ impl Levels {
     pub fn keep(&mut self, t: Slot, kept: Option<Level>)
         requires slot { IsSlot t }
         requires there { is_there t self.old ≡ true }
-        ensures { self.new ≡ changed_at t (keeping kept) self.old }
+        ensures changed { self.new ≡ changed_at t (keeping kept) self.old }
+        ensures count { inherited_count self.new ≡ inherited_count self.old }
     {
         let own = rows::own_of(&self.owns, t);
         self.owns[usize::from(t.0)] = Some(Own { kept, ..own });

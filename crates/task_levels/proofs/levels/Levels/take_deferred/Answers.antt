@@ -2,7 +2,7 @@ use Rattle.std.proofs.Common.{◌≡◌, ◌<◌, Option, Some, None, get_or, se
 use Rattle.task_levels.specs.TaskLevels.{settled}
 use Rattle.task_levels.specs.Shown.{shown_from, of_slot}
 use Rattle.task_levels.specs.declared.rows.Own.{Own}
-use Rattle.task_levels.proofs.ShownLemmas.{there-own, shown-own, row-changed, AreThere-set}
+use Rattle.task_levels.proofs.ShownLemmas.{count-kept, there-own, shown-own, row-changed, AreThere-set}
 use Rattle.task_levels.proofs.levels.Levels.take_deferred.Goals as goal
 
 pub own_of-own-requires-clause-there : goal.own_of-own-requires-clause-there
@@ -16,3 +16,6 @@ returns-clause-settled c = let owns = c.self.inside.owns.items in let inherited 
 
 pub returns-clause-deferred : goal.returns-clause-deferred
 returns-clause-deferred c = let at : get_or c.self.inside.owns.items c.args.t.0 None ≡ Some c.own_of-own.result = rw c.deref.ensures.value at c.own_of-own.ensures in rw (← c.self.view_is) (rw (shown-own c.self.inside.inherited.items c.self.inside.owns.items c.args.t.0 c.own_of-own.result at) refl)
+
+pub returns-clause-count : goal.returns-clause-count
+returns-clause-count c = rw (returns-clause-settled c) (count-kept settled (λ task. refl) c.args.self.now c.args.t.0 c.requires.there)

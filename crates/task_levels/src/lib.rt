@@ -7,3 +7,6 @@ mod rows;
 
 pub use causes::Cause;
 pub use levels::{INHERITED, Levels};
+
+#[cfg(test)]
+mod tests;

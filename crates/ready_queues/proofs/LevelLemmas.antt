@@ -270,3 +270,7 @@ is_ready-charged disciplines u t level lists h = is_ready-kept u lists level (re
 pub is_ready-empty : {K : Type 0} (u : Slot) (lists : List (List (Entry K))) → AreEmpty lists → is_ready u lists ≡ false
 is_ready-empty u [] e = refl
 is_ready-empty u (es ∷ higher) e = rw e.0 (is_ready-empty u higher e.1)
+
+pub AreEmpty-push : {X K : Type 0} (entries : X → List (Entry K)) (levels : List X) (level : X) → AreEmpty (map entries levels) → entries level ≡ [] → AreEmpty (map entries (levels ++ level ∷ []))
+AreEmpty-push entries [] level e h = (h, tt)
+AreEmpty-push entries (x ∷ xs) level e h = (e.0, AreEmpty-push entries xs level e.1 h)

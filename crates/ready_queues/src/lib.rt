@@ -5,3 +5,6 @@ mod levels;
 mod queues;
 
 pub use queues::{LEVELS, Ready};
+
+#[cfg(test)]
+mod tests;

@@ -1,13 +1,12 @@
 -- What the tables show after each change.
-use Rattle.std.proofs.Common.{◌≡◌, ◌≢◌, ℕ, zero, suc, ◌+◌, ◌-◌, ◌<◌, ◌≤◌, Bool, true, false, cond, eqb, ◌||◌, ◌&&◌, List, [], ◌∷◌, ◌++◌, length, get_or, drop, set, Option, Some, None, refl, sym, ap, ◌∙◌, subst, arith, get_or-set_same, get_or-set_other, length-set, length-append}
+use Rattle.std.proofs.Common.{◌≡◌, ◌≢◌, ℕ, zero, suc, ◌+◌, ◌<◌, ◌≤◌, Bool, true, false, cond, eqb, ◌&&◌, List, [], ◌∷◌, ◌++◌, length, get_or, set, Option, Some, None, refl, sym, ap, ◌∙◌, arith, get_or-set_same, get_or-set_other, length-append}
 use Rattle.std.specs.Prelude.{IsSome, not}
 use Rattle.std.specs.List.{filter}
 use Rattle.std.proofs.Math.ListN.{replicate}
-use Rattle.ann_base.specs.declared.identities.Slot.{Slot}
 use Rattle.task_levels.specs.declared.causes.Cause.{Cause}
 use Rattle.task_levels.specs.declared.rows.Own.{Own}
 use Rattle.task_levels.specs.declared.rows.Inherited.{Inherited}
-use Rattle.task_levels.specs.TaskLevels.{Inheritance, Priorities, same_cause, greatest_of, inherited_or_none, inherited_count, change, inheriting, losing, starting_at, without, is_task}
+use Rattle.task_levels.specs.TaskLevels.{Inheritance, Priorities, same_cause, inherited_or_none, inherited_count, change, inheriting, losing, starting_at, without, is_task}
 use Rattle.task_levels.specs.Shown.{of_slot, shown_task, shown_from, AreThere}
 
 -- reading and writing a slot

@@ -1,5 +1,5 @@
 -- What the two tables of the crate show: each slot has its own priorities, and one list has what all tasks inherit.
-use Rattle.std.specs.Prelude.{◌≡◌, ◌≤◌, ◌+◌, ℕ, ◌==◌, if◌then◌else◌, not, List, [], ◌∷◌, length, Option, Some, None, IsSome, slice_index_or}
+use Rattle.std.specs.Prelude.{◌+◌, ℕ, ◌==◌, if◌then◌else◌, List, [], ◌∷◌, Option, Some, None, IsSome, slice_index_or}
 use Rattle.task_levels.specs.declared.rows.Own.{Own}
 use Rattle.task_levels.specs.declared.rows.Inherited.{Inherited}
 use Rattle.task_levels.specs.TaskLevels.{Inheritance, Priorities}

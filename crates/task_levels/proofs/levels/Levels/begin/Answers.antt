@@ -1,4 +1,4 @@
-use Rattle.std.proofs.Common.{◌≡◌, ◌<◌, Some, None, set, length, length-set, refl, ap, ◌∙◌}
+use Rattle.std.proofs.Common.{◌<◌, Some, None, set, length, length-set, refl, ap, ◌∙◌}
 use Rattle.task_levels.specs.Shown.{shown_from}
 use Rattle.task_levels.specs.declared.rows.Own.{Own}
 use Rattle.task_levels.proofs.ShownLemmas.{length-shown_from, count-begun, begun, AreThere-set}

@@ -1,6 +1,5 @@
-use Rattle.std.proofs.Common.{◌≡◌, eqb, set, length-set, None, ap, ◌∙◌, refl}
+use Rattle.std.proofs.Common.{eqb, set, length-set, None, ap, ◌∙◌, refl}
 use Rattle.std.specs.Prelude.{not}
-use Rattle.std.specs.List.{filter}
 use Rattle.task_levels.specs.declared.rows.Inherited.{Inherited}
 use Rattle.task_levels.specs.Shown.{shown_from}
 use Rattle.task_levels.proofs.ShownLemmas.{count-ended, ended, AreThere-ended}

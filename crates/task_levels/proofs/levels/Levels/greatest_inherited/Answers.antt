@@ -1,4 +1,4 @@
-use Rattle.std.proofs.Common.{◌≡◌, ap, sym, ◌∙◌}
+use Rattle.std.proofs.Common.{ap, ◌∙◌}
 use Rattle.task_levels.specs.TaskLevels.{greatest_inherited_of}
 use Rattle.task_levels.specs.Shown.{of_slot}
 use Rattle.task_levels.proofs.ShownLemmas.{inherited-shown}

@@ -1,4 +1,4 @@
-use Rattle.std.proofs.Common.{◌≡◌, ◌<◌, length, ap, ◌∙◌, arith}
+use Rattle.std.proofs.Common.{ap, ◌∙◌, arith}
 use Rattle.task_levels.specs.declared.rows.Inherited.{Inherited}
 use Rattle.task_levels.specs.Shown.{shown_from}
 use Rattle.task_levels.proofs.ShownLemmas.{count-more_by, AreThere-push, there-own, there-same, more-shown, count-shown}

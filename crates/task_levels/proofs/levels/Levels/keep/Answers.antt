@@ -1,8 +1,8 @@
-use Rattle.std.proofs.Common.{◌≡◌, ◌<◌, Option, Some, None, get_or, set, length, length-set, refl, sym, ap, ◌∙◌, arith}
+use Rattle.std.proofs.Common.{◌≡◌, ◌<◌, Some, None, get_or, set, length, length-set, refl, ap, ◌∙◌}
 use Rattle.task_levels.specs.TaskLevels.{keeping}
 use Rattle.task_levels.specs.Shown.{shown_from}
 use Rattle.task_levels.specs.declared.rows.Own.{Own}
-use Rattle.task_levels.proofs.ShownLemmas.{count-kept, there-own, shown-own, row-changed, AreThere-set}
+use Rattle.task_levels.proofs.ShownLemmas.{count-kept, there-own, row-changed, AreThere-set}
 use Rattle.task_levels.proofs.levels.Levels.keep.Goals as goal
 
 pub own_of-own-requires-clause-there : goal.own_of-own-requires-clause-there

@@ -1,4 +1,4 @@
-use Rattle.std.proofs.Common.{◌≡◌, ap, ◌∙◌}
+use Rattle.std.proofs.Common.{ap, ◌∙◌}
 use Rattle.task_levels.specs.Shown.{shown_from}
 use Rattle.task_levels.proofs.ShownLemmas.{count-less, AreThere-filter, there-same, less-shown}
 use Rattle.task_levels.proofs.levels.Levels.lose.Goals as goal

@@ -1,4 +1,4 @@
-use Rattle.std.proofs.Common.{◌≡◌, ◌<◌, Option, Some, None, get_or, set, length, length-set, refl, sym, ap, ◌∙◌, arith}
+use Rattle.std.proofs.Common.{◌≡◌, ◌<◌, Some, None, get_or, set, length, length-set, refl, sym, ap, ◌∙◌}
 use Rattle.task_levels.specs.TaskLevels.{settled}
 use Rattle.task_levels.specs.Shown.{shown_from, of_slot}
 use Rattle.task_levels.specs.declared.rows.Own.{Own}

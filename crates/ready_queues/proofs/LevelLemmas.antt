@@ -1,5 +1,5 @@
 -- Changes of one list among all, and what the table of levels keeps.
-use Rattle.std.proofs.Common.{◌≡◌, ◌≢◌, ℕ, ℤ, zero, suc, ◌+◌, ◌-◌, ◌<◌, ◌≤◌, Bool, true, false, cond, eqb, ◌||◌, List, [], ◌∷◌, length, get_or, take, drop, set, ◌++◌, map, Option, Some, None, refl, sym, ap, ◌∙◌, subst, arith, rules, add-one, get_or-set_same, get_or-set_other, length-set}
+use Rattle.std.proofs.Common.{◌≡◌, ◌≢◌, ℕ, zero, suc, ◌-◌, ◌<◌, ◌≤◌, Bool, true, false, cond, eqb, ◌||◌, List, [], ◌∷◌, length, get_or, take, drop, set, ◌++◌, map, Option, Some, None, refl, sym, ap, ◌∙◌, subst, arith, add-one, get_or-set_same, get_or-set_other, length-set}
 use Rattle.std.specs.Prelude.{IsSome}
 use Rattle.std.proofs.Math.ListN.{replicate}
 use Rattle.std.proofs.lemmas.List.{map-set, get_or-map, length-map}
@@ -10,7 +10,7 @@ use Rattle.level_policies.specs.Entries.{Entry, IsSlot, IsOrdered, holds, head_o
 use Rattle.level_policies.specs.Disciplines.{Discipline, is_spent_at}
 use Rattle.level_policies.proofs.EntryLemmas.{removed-absent, holds-removed, holds-rekeyed}
 use Rattle.level_policies.proofs.RankLemmas.{holds-placed_tail, holds-placed_head, IsOrdered-placed_tail, IsOrdered-placed_head, IsOrdered-removed, IsOrdered-rekeyed}
-use Rattle.ready_queues.specs.Queues.{is_ready, level_of, one_up, entries_at, no_discipline, discipline_at, tail_at, head_at, out_of_all, charged_at, is_spent_on, or_else, chosen, is_place, Agrees, AreOrdered, AreEmpty, IsTable}
+use Rattle.ready_queues.specs.Queues.{is_ready, level_of, entries_at, no_discipline, discipline_at, tail_at, head_at, out_of_all, charged_at, is_spent_on, or_else, chosen, is_place, Agrees, AreOrdered, AreEmpty, IsTable}
 
 -- one level is changed by f of its discipline and its entries
 pub level-changed : {X K : Type 0} (entries : X → List (Entry K)) (discipline : X → Discipline K) (levels : List X) (level i : ℕ) (d new : X) (f : Discipline K → List (Entry K) → List (Entry K)) → level < length levels → i ≡ level → entries new ≡ f (discipline (get_or levels i d)) (entries (get_or levels i d)) → map entries (set levels i new) ≡ set (map entries levels) level (f (discipline_at level (map discipline levels)) (entries_at level (map entries levels)))

@@ -1,6 +1,6 @@
 -- The order in which the ready stand, and that the chosen one is before all others.
-use Rattle.std.proofs.Common.{◌≡◌, ◌≢◌, ℕ, ℤ, zero, suc, ◌+◌, ◌<◌, ◌≤◌, Bool, true, false, cond, eqb, ltb, List, [], ◌∷◌, length, get_or, Option, Some, None, refl, sym, ap, ◌∙◌, subst, arith, inl, inr}
-use Rattle.std.specs.Prelude.{int_lt, ◌<ℤ◌, ◌≤ℤ◌, ◌⊎◌, ◌↔◌, IfSome}
+use Rattle.std.proofs.Common.{◌≡◌, ℕ, ℤ, zero, suc, ◌<◌, Bool, true, false, eqb, ltb, List, [], ◌∷◌, Option, Some, None, refl, sym, ap, ◌∙◌, subst, arith, inl, inr}
+use Rattle.std.specs.Prelude.{int_lt, ◌<ℤ◌, ◌≤ℤ◌, ◌⊎◌, IfSome}
 use Rattle.std.proofs.lemmas.Int.{ints}
 use Rattle.ann_base.specs.declared.identities.Slot.{Slot}
 use Rattle.level_policies.specs.Entries.{Entry, head_of, NoneBelow, IsRanked}

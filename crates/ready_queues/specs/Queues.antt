@@ -1,5 +1,5 @@
 -- The ready queues as lists: for each level, the lowest first, the entries that stand there (ISO/IEC 8652:2012, D.2.1).
-use Rattle.std.specs.Prelude.{◌≡◌, ◌<◌, ◌+◌, ℕ, ℤ, pos, Bool, true, false, ◌==◌, ◌||◌, if◌then◌else◌, List, [], ◌∷◌, Option, Some, None, map, length, slice_index_or, slice_set}
+use Rattle.std.specs.Prelude.{◌≡◌, ◌+◌, ℕ, pos, Bool, false, ◌==◌, ◌||◌, if◌then◌else◌, List, [], ◌∷◌, Option, Some, None, length, slice_index_or, slice_set}
 use Rattle.ann_base.specs.declared.identities.Slot.{Slot}
 use Rattle.level_policies.specs.Entries.{Entry, IsSlot, IsOrdered, holds, head_of, placed_tail, placed_head, removed, rekeyed}
 use Rattle.level_policies.specs.Disciplines.{Discipline, is_spent_at}

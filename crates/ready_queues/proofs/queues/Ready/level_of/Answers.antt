@@ -1,5 +1,4 @@
-use Rattle.std.proofs.Common.{◌≡◌, None, Some, get_or, map, sym, ap, ◌∙◌}
-use Rattle.std.specs.Prelude.{IsSome}
+use Rattle.std.proofs.Common.{◌≡◌, None, Some, get_or, map, sym, ◌∙◌}
 use Rattle.std.proofs.lemmas.List.{length-map}
 use Rattle.ready_queues.proofs.LevelLemmas.{place-read, placed, held, alone, level_of-is, holds-inside}
 use Rattle.ready_queues.proofs.queues.Ready.level_of.Goals as goal

@@ -1,5 +1,4 @@
-use Rattle.std.proofs.Common.{◌≡◌, map, length, sym, ap, ◌∙◌, arith}
-use Rattle.ready_queues.specs.Queues.{head_at}
+use Rattle.std.proofs.Common.{map, length, sym, ap, ◌∙◌, arith}
 use Rattle.ready_queues.proofs.LevelLemmas.{is_ready-head_at, lent-whole, not_ready, IsTable-head}
 use Rattle.ready_queues.proofs.LineLemmas.{line_from-head}
 use Rattle.ready_queues.proofs.queues.Ready.put_head.Goals as goal

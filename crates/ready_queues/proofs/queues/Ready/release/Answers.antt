@@ -1,5 +1,4 @@
-use Rattle.std.proofs.Common.{◌≡◌, map, length, sym, ap, ◌∙◌, arith}
-use Rattle.ready_queues.specs.Queues.{tail_at}
+use Rattle.std.proofs.Common.{map, length, sym, ap, ◌∙◌, arith}
 use Rattle.ready_queues.proofs.LevelLemmas.{is_ready-tail_at, lent-whole, not_ready, IsTable-tail}
 use Rattle.ready_queues.proofs.LineLemmas.{line_from-tail}
 use Rattle.ready_queues.proofs.queues.Ready.release.Goals as goal

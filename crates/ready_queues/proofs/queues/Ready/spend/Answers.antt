@@ -1,5 +1,4 @@
-use Rattle.std.proofs.Common.{◌≡◌, ◌<◌, map, length, sym, ap, ◌∙◌, arith}
-use Rattle.ready_queues.specs.Queues.{charged_at}
+use Rattle.std.proofs.Common.{◌<◌, map, length, sym, ap, ◌∙◌, arith}
 use Rattle.ready_queues.proofs.LevelLemmas.{is_ready-charged, lent-whole, spend-keeps, IsTable-charged}
 use Rattle.ready_queues.proofs.queues.Ready.spend.Goals as goal
 

@@ -1,0 +1,3 @@
+pub mod EdfLevelLemmas
+pub mod EntryLemmas
+pub mod RankLemmas

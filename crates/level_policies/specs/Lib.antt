@@ -1,0 +1,4 @@
+pub mod Disciplines
+pub mod EdfLevels
+pub mod Entries
+pub mod Kinds

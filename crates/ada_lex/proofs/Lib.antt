@@ -2,3 +2,9 @@ pub mod Loops
 pub mod Pieces
 pub mod ReservedTable
 pub mod DelimiterTable
+pub mod Runs
+pub mod Longest
+pub mod Found
+pub mod Only
+pub mod Complete
+pub mod Unique

@@ -25,7 +25,7 @@ unfolding run_length
 run_goes run [] some goes = absurd (omega arith)
 run_goes run (b ∷ rest) some goes = rw goes refl
 
-run_in_list : (run : Run) (bytes : List ℕ) → run_length run bytes ≤ length bytes
+pub run_in_list : (run : Run) (bytes : List ℕ) → run_length run bytes ≤ length bytes
 unfolding run_length
 run_in_list run [] = omega arith
 run_in_list run (b ∷ rest) = elim (goes_on run (b ∷ rest)) as (λ v. cond v (suc (run_length run rest)) 0 ≤ suc (length rest)) [ true ↦ omega (arith, run_in_list run rest) | false ↦ omega arith ]
@@ -165,7 +165,7 @@ front_of_front a b (Ok x) = ap (λ (l : List Token). Ok l) (sym (append_assoc a 
 front_of_front a b (Err f) = refl
 
 -- a piece joins what has been read
-piece_is : (bytes : List ℕ) (spot : Spot) (found : List Token) (n : ℕ) → 0 < length bytes → 0 < n → piece_at spot bytes ≡ Ok (found, n) → tokens_from bytes 0 spot ≡ with_front found (tokens_from (drop n bytes) 0 (behind_all (take n bytes) spot))
+pub piece_is : (bytes : List ℕ) (spot : Spot) (found : List Token) (n : ℕ) → 0 < length bytes → 0 < n → piece_at spot bytes ≡ Ok (found, n) → tokens_from bytes 0 spot ≡ with_front found (tokens_from (drop n bytes) 0 (behind_all (take n bytes) spot))
 unfolding tokens_from behind_all
 piece_is [] spot found n some lt e = absurd (omega arith)
 piece_is (b ∷ rest) spot found zero some lt e = absurd (omega arith)

@@ -61,7 +61,7 @@ text_some : (place : Place) (b : ℕ) (rest : List ℕ) (n : ℕ) → text_at pl
 unfolding text_at
 text_some place b rest n e = closed_some (text_length (drop 1 (b ∷ rest))) place (b ∷ rest) n e
 
-mark_some : (m : ℕ) (place : Place) (n : ℕ) → mark_unless m place ≡ Ok n → (m ≡ n) × (0 < n)
+pub mark_some : (m : ℕ) (place : Place) (n : ℕ) → mark_unless m place ≡ Ok n → (m ≡ n) × (0 < n)
 mark_some zero place n e = absurd cc
 mark_some (suc m) place n e = let is = ok_is (suc m) n e in (is, omega (arith, is))
 

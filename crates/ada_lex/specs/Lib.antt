@@ -3,3 +3,4 @@ pub mod Reading
 pub mod Meaning
 pub mod ReservedLetters
 pub mod DelimiterLetters
+pub mod Lexed

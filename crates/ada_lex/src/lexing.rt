@@ -1,5 +1,7 @@
 //! A source is cut into its tokens.
-ghost use Rattle.std.specs.Prelude.{◌≡◌, ◌≤◌, ◌++◌, length, option_to_list, OnOk, IfErr};
+ghost use Rattle.std.specs.Prelude.{◌≡◌, ◌≤◌, ◌++◌, length, option_to_list, OnOk, IfErr, IfOk, Ok, List};
+ghost use Rattle.ada_lex.specs.declared.tokens.Token.{Token};
+ghost use Rattle.ada_lex.specs.Lexed.{Lexed};
 ghost use Rattle.ada_lex.specs.Reading.{Gives, tokens_from, tokens_of, start};
 
 use crate::scan::{Spot, piece_at};
@@ -43,6 +45,11 @@ fn tokens_of(alloc: Global, source: &[u8]) -> Result<Vec<Token>, LexFault>
 #[tactic(auto, unfolding(crate::specs::Reading::tokens_of))]
 /// The tokens of a source in order, or its first fault (clause 2).
 pub fn lex(alloc: Global, source: &[u8]) -> Result<Vec<Token>, LexFault>
+    // What it answers are the tokens of the source, each at its place.
+    ensures found { IfOk result (λ v. Lexed source.now v.items) }
+    // No other tokens are those of the source, and where there are some it answers them, unless memory runs out.
+    ensures only { (tokens : List Token) → Lexed source.now tokens → Gives (λ v. v.items) result (Ok tokens) }
+    // A fault is the first one from left to right; the length is asked before all.
     ensures exact { Gives (λ v. v.items) result (tokens_of source.now) }
 {
     if source.len() > MAX_SOURCE {

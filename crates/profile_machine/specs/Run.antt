@@ -20,7 +20,8 @@ use Rattle.profile_machine.specs.Dispatching.{choose, to_tail}
 use Rattle.profile_machine.specs.Frames.{open_sequence, frames_of, exception_name}
 use Rattle.profile_machine.specs.Scopes.{open_scope, plainly}
 use Rattle.profile_machine.specs.Cost.{cost}
-use Rattle.profile_machine.specs.Act.{act}
+use Rattle.profile_machine.specs.Handlers.{charge}
+use Rattle.profile_machine.specs.Instant.{instant}
 
 -- ---- the opening
 
@@ -51,61 +52,6 @@ opens p =
 
 abbrev pub opening : Image → List (ℤ × Item) → World × List Event
 opening p script = settles (opens p) (blank_world p script)
-
--- ---- the seven steps of an instant, in order (own)
-
--- an action that has ended has its effect; then what comes of it elsewhere
--- tasks at open terminate alternatives that may end (9.3)
-abbrev pub take_terminates : Image → Who → Step
-take_terminates p name = nothing
-
--- tasks whose struck constructs may be left now (9.8)
-abbrev pub unwind_all : Image → Who → Step
-unwind_all p name = nothing
-
-abbrev pub effect : Image → Who → Step
-effect p name =
-    changes (edit_task name (with_ticks None)) ▷ act p name ▷ open_sequence p name ▷ take_terminates p name ▷ unwind_all p name
-
-abbrev pub is_over : Option ℕ → Bool
-is_over None = false
-is_over (Some ticks) = eqb ticks 0
-
-abbrev pub effect_of_runner : Image → Option Who → Move
-effect_of_runner p None = nothing
-effect_of_runner p (Some name) = looks (λ w. elim (is_over (task_of w name).ticks_left) [ true ↦ settles (effect p name) | false ↦ nothing ])
-
--- 1: the effect of the action that ended
-abbrev pub finish_action : Image → Move
-finish_action p = looks (λ w. effect_of_runner p w.ran)
-
--- 2: items of the script
-abbrev pub script_items : Image → Move
-script_items p = nothing
-
--- 3: timing events
-abbrev pub events_due : Image → Move
-events_due p = nothing
-
--- 4: delays, time-outs and triggers
-abbrev pub moments_due : Image → Move
-moments_due p = nothing
-
--- 5: timers
-abbrev pub timers_due : Image → Move
-timers_due p = nothing
-
--- 6: budgets
-abbrev pub budgets_due : Image → Move
-budgets_due p = nothing
-
--- 7: a spent quantum
-abbrev pub quantum_spent : Image → Move
-quantum_spent p = nothing
-
-abbrev pub instant : Image → Move
-instant p =
-    finish_action p ▷ script_items p ▷ events_due p ▷ moments_due p ▷ timers_due p ▷ budgets_due p ▷ quantum_spent p
 
 -- ---- the stop (own)
 
@@ -169,10 +115,6 @@ ticks_or (Some ticks) n = ticks
 
 abbrev pub begin_action : Image → Who → World → World
 begin_action p name w = edit_task name (with_ticks (Some (ticks_or (task_of w name).ticks_left (cost p w name)))) w
-
--- one tick is charged (D.14)
-abbrev pub charge : Image → Who → World → World
-charge p name w = w
 
 abbrev pub one_less : Option ℕ → Option ℕ
 one_less None = None

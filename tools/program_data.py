@@ -75,7 +75,8 @@ class Program:
         for d in self.image.decls:
             if d.predefined or d.place is None:
                 continue
-            if d.kind in ("object", "param", "loopvar", "component", "exception"):
+            if d.kind in ("component", "exception") or \
+                    d.kind in ("object", "param", "loopvar") and d.scope is not None:
                 self.decl_numbers[d] = len(self.decls)
                 self.decls.append(d)
             if d.kind == "subprogram" and d is not self.image.main and d.body is not None:
@@ -192,7 +193,7 @@ class Program:
     UNARY = {"+": "unary.Plus", "-": "unary.Minus", "abs": "unary.Abs", "not": "unary.Not"}
     BINARY = {"and": "And", "or": "Or", "xor": "Xor", "and then": "AndThen", "or else": "OrElse", "=": "Equal",
               "/=": "NotEqual", "<": "Less", "<=": "LessOrEqual", ">": "Greater", ">=": "GreaterOrEqual",
-              "+": "binary.Plus", "-": "binary.Minus", "*": "Times", "/": "Divide", "mod": "Mod", "rem": "Rem"}
+              "+": "Plus", "-": "Minus", "*": "Times", "/": "Divide", "mod": "Mod", "rem": "Rem"}
 
     def expression(self, e):
         t = self.t
@@ -210,7 +211,7 @@ class Program:
         if isinstance(e, t.Binary):
             left = self.expression(e.left)
             right = self.expression(e.right)
-            return self.put_expression(f"Binary {self.BINARY[e.op]} {left} {right}")
+            return self.put_expression(f"Binary binary.{self.BINARY[e.op]} {left} {right}")
         return self.put_expression(self.name_expression(e))
 
     def thing(self, e):
@@ -640,16 +641,16 @@ class Program:
 
     def initial(self, d):
         if d.init is None or self.user_call(d.init) is not None:
-            return "Default"
+            return "initial.Default"
         if d.type.type.kind == "array":
-            return f"(Array {self.object_name(self.bare(d.init).use)})"
-        return f"(Scalar {self.expression(d.init)})"
+            return f"(initial.Array {self.object_name(self.bare(d.init).use)})"
+        return f"(initial.Scalar {self.expression(d.init)})"
 
     def declaration_kind(self, d):
         if d.kind in ("param", "loopvar"):
-            return "Parameter"
+            return "kind.Parameter"
         if d.kind == "exception":
-            return "Other"
+            return "kind.Other"
         t = d.type.type
         if t.kind == "task":
             return f"(kind.Task (task_unit {self.task_unit_numbers[t.unit]}))"
@@ -678,10 +679,26 @@ class Program:
         index = f"(Some {self.index(t)})" if t.kind == "array" else "None"
         return f"declaration {names} {scope} {d.at} {d.cells} {self.constraint(d.type)} {index}"
 
+    def component_runs(self, d, components, own):
+        """The cells of an object's components that do not begin as Whole(0)."""
+        runs = []
+        for c in components:
+            first = self.first(c.type)
+            if first != "(Whole (pos 0))":
+                runs.append(f"cell_run {d.at + own + c.at} {c.cells} {first}")
+        return runs
+
     def scope_text(self, s):
         runs = []
         for d in s.decls:
-            if d.kind == "loopvar" or d.type.type.kind in self.values.THING_KINDS:
+            if d.kind == "loopvar":
+                continue
+            t = d.type.type
+            if t.kind == "protected" and d.kind == "object":
+                runs += self.component_runs(d, t.unit.components, 16)
+            elif t.kind == "controlled" and d.kind == "object":
+                runs += self.component_runs(d, t.components, 1)
+            if t.kind in self.values.THING_KINDS:
                 continue
             first = self.first(d.type)
             if first != "(Whole (pos 0))":
@@ -757,13 +774,15 @@ class Program:
     def data(self):
         """The fields of the image, as (name, text)."""
         scopes = [self.scope_text(s) for s in self.image.scopes]
+        units = [self.task_unit(u) for u in self.task_units]
+        entries = [self.entry_text(e) for e in self.entries]
         declarations = [self.declaration(d) for d in self.decls]
         fields = [("declarations", declarations), ("expressions", self.lists.expressions),
                   ("statements", self.lists.statements), ("scopes", scopes),
                   ("subprograms", [self.subprogram_text(d) for d in self.subprograms]),
-                  ("task_units", [self.task_unit(u) for u in self.task_units]),
+                  ("task_units", units),
                   ("protected_units", [self.protected_unit(u) for u in self.protected_units]),
-                  ("entries", [self.entry_text(e) for e in self.entries]),
+                  ("entries", entries),
                   ("controlled_types", [self.controlled_type(t) for t in self.controlled]),
                   ("enumerations", [f"enumeration_text {items([text(x.name.upper()) for x in t.literals])}"
                                     for t in self.enumerations])]
@@ -860,7 +879,46 @@ def trace_item(raw):
 
 # ---------------------------------------------------------------- output
 
-HEAD = "use Rattle.profile_machine.specs.Rows.Notation.*\n"
+HEAD = """\
+use Rattle.std.specs.Prelude.{◌≡◌, ℕ, ℤ, pos, negsuc, List, [], ◌∷◌, Some, None, true, false, codes, refl}
+use Rattle.ann_base.specs.declared.exceptions.Raised.TheVariants as exception
+use Rattle.trace_text.specs.declared.events.Event.{Event}
+use Rattle.trace_text.specs.declared.events.Event.TheVariants as line
+use Rattle.trace_text.specs.declared.events.Created.TheVariants as created
+use Rattle.trace_text.specs.declared.events.Ended.TheVariants as end
+use Rattle.trace_text.specs.declared.events.Finished.TheVariants as finished
+use Rattle.trace_text.specs.declared.events.Leaves.TheVariants as leaves
+use Rattle.trace_text.specs.declared.events.Mode.TheVariants.{Read, Write}
+use Rattle.trace_text.specs.declared.events.QueueEnd.TheVariants.{Head, Tail}
+use Rattle.trace_text.specs.declared.events.Waits.TheVariants as waits
+use Rattle.profile_machine.specs.declared.run_data.Item.{Item}
+use Rattle.profile_machine.specs.declared.run_data.Item.TheVariants as item
+use Rattle.profile_machine.specs.declared.image.Image.{Image}
+use Rattle.profile_machine.specs.declared.image.Dispatching.TheVariants.{FifoWithinPriorities, RoundRobinWithinPriorities, EdfAcrossPriorities}
+use Rattle.profile_machine.specs.declared.image.Queuing.TheVariants as queuing
+use Rattle.profile_machine.specs.declared.values.Value.TheVariants.{Whole, Truth, Literal, Ticks, Task, Thing}
+use Rattle.profile_machine.specs.declared.values.Constraint.TheVariants.{Free, Whole, Truth, Literal, Ticks}
+use Rattle.profile_machine.specs.declared.expressions.Expression.TheVariants.{Known, Variable, Thing, Unary, Binary, Count, Clock, Span, SameTicks, CurrentTask, ExecutionTime, Priority, Deadline, TimeOfEvent, TimeRemaining, BudgetHasExpired, BudgetRemaining, PortValue}
+use Rattle.profile_machine.specs.declared.expressions.ObjectName.TheVariants.{Declared, OwnComponent, Component}
+use Rattle.profile_machine.specs.declared.expressions.UnaryOperator.TheVariants as unary
+use Rattle.profile_machine.specs.declared.expressions.BinaryOperator.TheVariants as binary
+use Rattle.profile_machine.specs.declared.declarations.DeclarationKind.TheVariants as kind
+use Rattle.profile_machine.specs.declared.declarations.Initial.TheVariants as initial
+use Rattle.profile_machine.specs.declared.declarations.EntryUnit.TheVariants as unit
+use Rattle.profile_machine.specs.declared.declarations.ExceptionChoice.TheVariants as exception_choice
+use Rattle.profile_machine.specs.declared.statements.StatementForm.TheVariants as form
+use Rattle.profile_machine.specs.declared.statements.Choice.TheVariants as choice
+use Rattle.profile_machine.specs.declared.statements.Actual.TheVariants as actual
+use Rattle.profile_machine.specs.declared.statements.Callee.TheVariants as callee
+use Rattle.profile_machine.specs.declared.statements.Destination.TheVariants as destination
+use Rattle.profile_machine.specs.declared.statements.EntryOwner.TheVariants as owner
+use Rattle.profile_machine.specs.declared.statements.SelectKind.TheVariants as select
+use Rattle.profile_machine.specs.declared.statements.Piece.TheVariants as piece
+use Rattle.profile_machine.specs.declared.statements.Setting.TheVariants as setting
+use Rattle.profile_machine.specs.Rows.Notation.{decl, expr, stmt, scope, subprogram, task_unit, protected_unit, entry, controlled_type, enumeration, task, call, p, region, t, agent, of_task, of_object, declaration, variable, statement, alternative, select_alternative, handler, handler_name, cell_run, scope_text, formal, subprogram_text, task_unit_text, attachment, protected_unit_text, entry_body, entry_text, controlled_text, enumeration_text, dispatching_range, policies, main_procedure}
+use Rattle.profile_machine.specs.Run.{run_of}
+use Rattle.std.specs.Fmt.{digits}
+"""
 
 
 def lines_of(parts, indent="    "):
@@ -888,7 +946,7 @@ def law(name, program, script, bound, trace, title):
     out.append(f"unfoldable pub {name}_trace : List (ℕ × Event)")
     out.append(f"{name}_trace ={lines_of([trace_item(x) for x in trace])}\n")
     out.append(f"pub {name}_runs : {name}_lines ≡ {name}_trace")
-    out.append(f"unfolding {name}_lines {name}_trace")
+    out.append(f"unfolding {name}_lines {name}_trace digits")
     out.append(f"{name}_runs = refl")
     return "\n".join(out) + "\n"
 
@@ -924,7 +982,7 @@ def main():
             script = modules["script"].script_of(f.read())
     with open(a.trace) as f:
         trace = f.read().split("\n")[:-1]
-    result = law(a.name, program, script, a.ticks, trace, a.title)
+    result = HEAD + "\n" + law(a.name, program, script, a.ticks, trace, a.title)
     with open(a.out, "w") as f:
         f.write(result)
 

@@ -70,6 +70,9 @@ def prepare(work):
 
 def check(compare, names):
     """The names of the laws that do not hold, with what the check says."""
+    for old in os.listdir(os.path.join(compare, "specs")):
+        if old[:-5] not in names:
+            os.remove(os.path.join(compare, "specs", old))
     with open(os.path.join(compare, "specs", "Lib.antt"), "w") as f:
         f.write("".join(f"pub mod {n}\n" for n in names))
     done = subprocess.run(["rt", "check", "--allow-holes"], cwd=compare, capture_output=True, text=True)
@@ -82,9 +85,10 @@ def check(compare, names):
     return bad, log
 
 
-def generated(modules, gen, seed, size, built, most):
-    source, script, words = gen.generate(seed, size, built)
-    return source, script, most
+def generated(gen, seed, size, built):
+    """Source and script of a seed."""
+    source, script, _ = gen.generate(seed, size, built)
+    return source.encode("latin-1"), (script or "").encode("latin-1")
 
 
 def main():
@@ -95,12 +99,13 @@ def main():
     words.add_argument("--built", type=int, default=17)
     words.add_argument("--most", type=int, default=400)
     words.add_argument("--batch", type=int, default=40)
-    words.add_argument("--programs", help="a folder with SEED.adb and SEED.scr as gen writes them")
     words.add_argument("--rows")
-    words.add_argument("--keep-going", action="store_true")
     words.add_argument("names", nargs="+")
     a = words.parse_args()
     modules = program_data.modules_of(a.front_end)
+    if not a.rows:
+        import gen
+        modules["gen"] = gen
     compare = prepare(a.work)
     cases = []
     if a.rows:
@@ -128,14 +133,7 @@ def main():
         names = []
         for name, source, script, bound, trace in cases[start:start + a.batch]:
             if isinstance(source, int):
-                stem = os.path.join(a.programs, f"{source}")
-                with open(stem + ".adb", "rb") as f:
-                    text = f.read()
-                script = b""
-                if os.path.exists(stem + ".scr"):
-                    with open(stem + ".scr", "rb") as f:
-                        script = f.read()
-                source = text
+                source, script = generated(modules["gen"], source, a.size, a.built)
             program, items, found = case(modules, source, script, bound)
             if trace is None:
                 trace = found

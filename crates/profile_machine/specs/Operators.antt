@@ -1,6 +1,5 @@
 -- Values, ranges and operators (3.5, 4.5).
 use Rattle.std.specs.Prelude.{ℕ, zero, suc, ◌+◌, ℤ, pos, negsuc, ◌+ℤ◌, ◌-ℤ◌, ◌*ℤ◌, neg_ℤ, nat_abs, int_lt, int_le, int_div, int_rem, Bool, true, false, cond, not, ◌&&◌, ◌||◌, List, [], ◌∷◌, ◌++◌, Option, Some, None, Result, Ok, Err, eqb, ltb, leb, decimal, codes, slice_index_or}
-use Rattle.std.specs.Bool.{xor, beq}
 use Rattle.ann_base.specs.declared.identities.TaskNo.{TaskNo}
 use Rattle.ann_base.specs.declared.exceptions.Raised.{Raised}
 use Rattle.ann_base.specs.declared.exceptions.Raised.TheVariants as exception
@@ -12,7 +11,7 @@ use Rattle.profile_machine.specs.declared.expressions.UnaryOperator.{UnaryOperat
 use Rattle.profile_machine.specs.declared.expressions.UnaryOperator.TheVariants as unary
 use Rattle.profile_machine.specs.declared.expressions.BinaryOperator.{BinaryOperator}
 use Rattle.profile_machine.specs.declared.expressions.BinaryOperator.TheVariants as binary
-use Rattle.profile_machine.specs.Words.{same_option, same_task, same_moment, some_where}
+use Rattle.profile_machine.specs.Words.{same_option, same_task, same_moment, same_bool, some_where}
 use Rattle.profile_machine.specs.Tasks.{time_last}
 
 -- ---- a value or an exception
@@ -107,7 +106,7 @@ unary_value unary.Not v = inverted v
 
 abbrev pub same_value : Value → Value → Valued Bool
 same_value (Whole a) (Whole b) = Ok (same_moment a b)
-same_value (Truth a) (Truth b) = Ok (beq a b)
+same_value (Truth a) (Truth b) = Ok (same_bool a b)
 same_value (Literal a) (Literal b) = Ok (eqb a b)
 same_value (Ticks a) (Ticks b) = Ok (same_moment a b)
 same_value (Task a) (Task b) = Ok (same_option same_task a b)
@@ -139,7 +138,8 @@ abbrev pub either : Bool → Bool → Bool
 either a b = a || b
 
 abbrev pub one_of : Bool → Bool → Bool
-one_of a b = xor a b
+one_of true b = not b
+one_of false b = b
 
 -- ---- arithmetic (4.5.3, 4.5.5; D.8)
 
@@ -172,7 +172,7 @@ divided _ _ = misfit
 abbrev pub modulo : ℤ → ℤ → ℤ
 modulo a b =
     let r = int_rem a b in
-    cond (is_zero r || beq (int_lt r (pos 0)) (int_lt b (pos 0))) r (r +ℤ b)
+    cond (is_zero r || same_bool (int_lt r (pos 0)) (int_lt b (pos 0))) r (r +ℤ b)
 
 abbrev pub modulus : Value → Value → Valued Value
 modulus (Whole a) (Whole b) = cond (is_zero b) (Err exception.Constraint) (whole (modulo a b))

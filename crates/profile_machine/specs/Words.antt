@@ -44,6 +44,10 @@ same_who Agent Agent = true
 abbrev pub same_id : ScopeId → ScopeId → Bool
 same_id (scope_id a) (scope_id b) = eqb a b
 
+abbrev pub same_bool : Bool → Bool → Bool
+same_bool true b = b
+same_bool false b = not b
+
 -- both are none, or both are there and the same
 abbrev pub same_option : {X : Type 0} → (X → X → Bool) → Option X → Option X → Bool
 same_option same None None = true

@@ -2,7 +2,11 @@
 """Makes the data of a program for the profile machine from its source.
 
     tools/program_data.py --front-end FOLDER --name NAME --source FILE [--script FILE] [--ticks N]
-                          [--trace FILE] [--title TEXT] [--out FILE]
+                          --trace FILE [--title TEXT] --out FILE
+    tools/program_data.py --front-end FOLDER --rows FOLDER --crate FOLDER
+
+The second form makes the modules of all worked rows of a crate, `specs/Rows/` with its list and `src/rows.rt`. A
+row is a folder with the files `source`, `script` (if it has one), `ticks` (the bound, if it matters) and `trace`.
 
 FOLDER holds a front end in Python with the modules `front` (accept), `tree`, `names`, `legal`, `values` and
 `script`. The output is a file of definitions in antt: the program, its script, the bound, the trace that FILE
@@ -11,6 +15,7 @@ holds, and the law that the machine's run is this trace. The same input gives th
 Nothing is proved of this script. What it writes is checked in, and stands beside the source from which it came.
 """
 import argparse
+import os
 import sys
 
 
@@ -962,18 +967,76 @@ def modules_of(folder):
     return {"front": front, "kernel": kernel, "legal": legal, "script": script, "tree": tree, "values": values}
 
 
+def read(folder, name, missing=None):
+    path = os.path.join(folder, name)
+    if not os.path.exists(path):
+        return missing
+    with open(path, "rb") as f:
+        return f.read()
+
+
+def row_law(modules, folder, row):
+    """The text of a row's module."""
+    trace = read(folder, "trace").decode("latin-1").split("\n")[:-1]
+    ticks = read(folder, "ticks")
+    last = int(trace[-1].split(" ")[0])
+    bound = int(ticks) if ticks is not None else last + 1
+    program = Program(modules, read(folder, "source"))
+    script = read(folder, "script")
+    items_ = modules["script"].script_of(script) if script is not None else []
+    title = f"Row {row}: its run stops before tick {bound}, so every greater bound gives the same trace." if ticks is None \
+        else f"Row {row}: its run up to tick {bound}."
+    return HEAD + "\n" + law(name_of(row), program, items_, bound, trace, title), bound
+
+
+def name_of(row):
+    return "row_" + row.replace(".", "_")
+
+
+def module_of(row):
+    return "Row" + row.replace(".", "_").capitalize()
+
+
+def make_rows(modules, rows, crate):
+    names = sorted(n for n in os.listdir(rows) if os.path.isdir(os.path.join(rows, n)))
+    listed = "-- Worked rows: programs with the traces of their runs, which the machine's runs are.\npub mod Notation\n"
+    code = ["//! Worked rows: the run of a program under its script and bound is the trace that was worked out by hand.",
+            "ghost use Rattle.std.specs.Prelude.{◌≡◌};"]
+    functions = []
+    for row in names:
+        folder = os.path.join(rows, row)
+        text_, bound = row_law(modules, folder, row)
+        with open(os.path.join(crate, "specs", "Rows", module_of(row) + ".antt"), "w") as f:
+            f.write(text_)
+        listed += f"pub mod {module_of(row)}\n"
+        name = name_of(row)
+        code.append(f"ghost use Rattle.profile_machine.specs.Rows.{module_of(row)}.{{{name}_lines, {name}_trace}};")
+        functions.append(f"/// Row {row}, up to tick {bound}.\n"
+                         f"#[tactic(auto, using(crate::specs::Rows::{module_of(row)}::{name}_runs))]\n"
+                         f"pub fn {name}()\n    ensures {{ {name}_lines ≡ {name}_trace }}\n{{\n}}\n")
+    with open(os.path.join(crate, "specs", "Rows.antt"), "w") as f:
+        f.write(listed)
+    with open(os.path.join(crate, "src", "rows.rt"), "w") as f:
+        f.write("\n".join(code) + "\n\n" + "\n".join(functions))
+
+
 def main():
     words = argparse.ArgumentParser()
     words.add_argument("--front-end", required=True)
-    words.add_argument("--name", required=True)
-    words.add_argument("--source", required=True)
+    words.add_argument("--rows")
+    words.add_argument("--crate")
+    words.add_argument("--name")
+    words.add_argument("--source")
     words.add_argument("--script")
     words.add_argument("--ticks", type=int, default=1000000)
-    words.add_argument("--trace", required=True)
+    words.add_argument("--trace")
     words.add_argument("--title")
-    words.add_argument("--out", required=True)
+    words.add_argument("--out")
     a = words.parse_args()
     modules = modules_of(a.front_end)
+    if a.rows:
+        make_rows(modules, a.rows, a.crate)
+        return
     with open(a.source, "rb") as f:
         program = Program(modules, f.read())
     script = []

@@ -45,7 +45,7 @@ use Rattle.profile_machine.specs.Handlers.{call_handler, set_event, cancel_event
 abbrev pub call_main : Image → Who → StatementNo → Step
 call_main p name s =
     with_room p name (marks_of p p.main.scope) (scope_of p p.main.scope).size
-      (goes name (next_of p s) ▷ looks (λ w. changes (open_scope p name p.main.scope (plainly (innermost w name)) (of_subprogram [] to_nowhere))))
+    (goes name (next_of p s) ▷ looks (λ w. changes (open_scope p name p.main.scope (plainly (innermost w name)) (of_subprogram [] to_nowhere))))
 
 -- ---- calls of subprograms and protected operations (6.4, 9.5.1)
 
@@ -112,7 +112,7 @@ waiting_mark m = record m { waits = true }
 abbrev pub wait_for_trigger : Image → Who → Call → Leaving → Step
 wait_for_trigger p name c leaving =
     changes (edit_top name (λ f. with_mark (edit_abortable waiting_mark f.mark) (record f { left_as = Some leaving })))
-      ▷ block the_block name (for_end_of_call c.number)
+    ▷ block the_block name (for_end_of_call c.number)
 
 -- a call that is no longer there needs no wait
 abbrev pub drop_trigger : Who → ℕ → World → World
@@ -123,9 +123,10 @@ abbrev pub below : List Frame → ℕ
 below frames = length frames - 1
 
 abbrev pub end_abortable_by : Image → Who → AbortableMark → Leaving → Step
-end_abortable_by p name m leaving = elim m.call
-  [ None ↦ looks (λ w. changes (drop_trigger name (below (frames_of w name)))) ▷ end_top p name
-  | Some c ↦ with_call c (λ d. attempt_with p own d (end_top p name) (wait_for_trigger p name d leaving)) ]
+end_abortable_by p name m leaving = elim m.call [
+  | None ↦ looks (λ w. changes (drop_trigger name (below (frames_of w name)))) ▷ end_top p name
+  | Some c ↦ with_call c (λ d. attempt_with p own d (end_top p name) (wait_for_trigger p name d leaving))
+]
 
 abbrev pub end_in_abortable : Image → Who → AbortableMark → Leaving → Step
 end_in_abortable p name m leaving = cond m.triggered (end_top p name) (end_abortable_by p name m leaving)

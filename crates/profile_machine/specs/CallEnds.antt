@@ -138,7 +138,7 @@ triggered_mark m = record m { triggered = true }
 abbrev pub trigger_at : Image → Part → TaskNo → ℕ → Step
 trigger_at p part t depth =
     changes (edit_abortable_at (who.Task t) depth triggered_mark) ▷ says part (line.Trigger t)
-      ▷ changes (edit_frame (who.Task t) depth struck_frame)
+    ▷ changes (edit_frame (who.Task t) depth struck_frame)
 
 -- the outcome of an abortable part's trigger; a delay ends well
 abbrev pub outcome_in : Option Call → Outcome
@@ -186,9 +186,10 @@ behind_abortable p part name m outcome = when m.triggered (run_triggered p part 
 abbrev pub end_abortable : Image → Part → Who → AbortableMark → Frame → List Frame → Step
 end_abortable p part name m f below =
     looks (λ w. changes (pop name) ▷ changes (forget_trigger m.call)
-      ▷ elim (ended_by_itself f below)
-          [ true ↦ behind_abortable p part name m (trigger_outcome w m.call)
-          | false ↦ pass_on p name (leaving_of f) ])
+    ▷ elim (ended_by_itself f below) [
+      | true ↦ behind_abortable p part name m (trigger_outcome w m.call)
+      | false ↦ pass_on p name (leaving_of f)
+    ])
 
 abbrev pub end_abortable_in : Image → Part → Who → Frame → List Frame → Mark → Step
 end_abortable_in p part name f below (Abortable m) = end_abortable p part name m f below
@@ -211,8 +212,8 @@ is_cancelled (was_raised e) = false
 abbrev pub end_wait : Image → Part → Call → ℕ → Outcome → Step
 end_wait p part c depth outcome =
     ready p part (who.Task c.caller)
-      ▷ changes (edit_abortable_at (who.Task c.caller) depth (waited_mark (not (is_cancelled outcome))))
-      ▷ looks (λ w. end_top_abortable p part (who.Task c.caller) (frames_of w (who.Task c.caller)))
+    ▷ changes (edit_abortable_at (who.Task c.caller) depth (waited_mark (not (is_cancelled outcome))))
+    ▷ looks (λ w. end_top_abortable p part (who.Task c.caller) (frames_of w (who.Task c.caller)))
 
 -- ---- a call ends
 
@@ -228,15 +229,16 @@ waits_for_end c _ = false
 -- its abortable part is open: it is triggered, or its wait ends
 abbrev pub end_for_abortable : Image → Part → Call → ℕ → Outcome → Step
 end_for_abortable p part c depth outcome =
-    looks (λ w. elim (waits_for_end c.number (waiting_of w (who.Task c.caller)))
-      [ true ↦ end_wait p part c depth outcome
-      | false ↦ trigger_at p part c.caller depth ])
+    looks (λ w. elim (waits_for_end c.number (waiting_of w (who.Task c.caller))) [
+      | true ↦ end_wait p part c depth outcome
+      | false ↦ trigger_at p part c.caller depth
+    ])
 
 -- the caller is blocked for it and becomes ready; one that holds the object goes on at the release
 abbrev pub end_for_caller : Image → Part → Call → Outcome → Step
 end_for_caller p part c outcome =
     looks (λ w. when (waits_for_call c.number (waiting_of w (who.Task c.caller)))
-      (ready p part (who.Task c.caller) ▷ resume p part c outcome))
+    (ready p part (who.Task c.caller) ▷ resume p part c outcome))
 
 abbrev pub end_for : Image → Part → Call → Outcome → Option ℕ → Step
 end_for p part c outcome (Some depth) = end_for_abortable p part c depth outcome
@@ -253,8 +255,8 @@ end_with p part c outcome =
 abbrev pub end_call : Image → Part → Call → Outcome → Step
 end_call p part c outcome =
     looks (λ w.
-      let r = with_results p c outcome w in
-      changes (λ _. r.0) ▷ end_with p part c r.1)
+    let r = with_results p c outcome w in
+    changes (λ _. r.0) ▷ end_with p part c r.1)
 
 -- the call has ended, and its caller is unwound where it is struck
 abbrev pub deliver : Image → Part → CallNo → Outcome → Step

@@ -140,9 +140,10 @@ is_cancellable c = not c.begun && not c.firm && is_none c.outcome
 -- cancellation is attempted: `cancel` where the call is cancellable, which is then out of its queue
 abbrev pub attempt_on : Image → Part → Call → Step
 attempt_on p part c =
-    elim (is_cancellable c)
-      [ true ↦ changes (unqueued p c) ▷ says part (line.Cancel c.caller c.number)
-      | false ↦ changes (edit_call c.number (λ d. record d { attempted = true })) ]
+    elim (is_cancellable c) [
+      | true ↦ changes (unqueued p c) ▷ says part (line.Cancel c.caller c.number)
+      | false ↦ changes (edit_call c.number (λ d. record d { attempted = true }))
+    ]
 
 -- an attempt, and what is done where it cancels the call and where it does not
 abbrev pub attempt_with : Image → Part → Call → Step → Step → Step

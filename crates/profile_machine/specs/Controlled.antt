@@ -74,9 +74,9 @@ registered_as n r l w = record w { registered = record { object = n; region = r;
 abbrev pub register : Image → Who → Located → Step
 register p name l =
     looks (λ w.
-      let n = suc w.drawn.controlled in
-      changes (registered_as n (top_region w name) l) ▷ changes (write_cell l.within (first_place p l) (Thing n))
-        ▷ says own (line.Init name n (top_region w name) (declaration_of p l.declared).name))
+    let n = suc w.drawn.controlled in
+    changes (registered_as n (top_region w name) l) ▷ changes (write_cell l.within (first_place p l) (Thing n))
+    ▷ says own (line.Init name n (top_region w name) (declaration_of p l.declared).name))
 
 -- ---- Initialize (7.6): without an override the object is registered at once
 
@@ -84,7 +84,7 @@ abbrev pub initialize_by : Image → Who → StatementNo → Located → Option 
 initialize_by p name s l None = goes name (next_of p s) ▷ register p name l
 initialize_by p name s l (Some f) =
     with_room p name (1 + marks_of_operation p f) (size_of_operation p f)
-      (goes name (next_of p s) ▷ changes (push name (new_frame (InInitialize l) None)) ▷ open_operation p name f l)
+    (goes name (next_of p s) ▷ changes (push name (new_frame (InInitialize l) None)) ▷ open_operation p name f l)
 
 abbrev pub initialize : Image → Who → StatementNo → DeclNo → Step
 initialize p name s d =
@@ -134,9 +134,10 @@ has_room_to_finalize p w name f = has_room w name (1 + marks_of_operation p f) (
 abbrev pub finalize_by : Image → Who → Registered → Option SubprogramNo → Step
 finalize_by p name r None = nothing
 finalize_by p name r (Some f) =
-    looks (λ w. elim (has_room_to_finalize p w name f)
-      [ true ↦ open_finalize p name r.object r.located f
-      | false ↦ changes (edit_top_scope name finalize_has_raised) ])
+    looks (λ w. elim (has_room_to_finalize p w name f) [
+      | true ↦ open_finalize p name r.object r.located f
+      | false ↦ changes (edit_top_scope name finalize_has_raised)
+    ])
 
 abbrev pub no_longer_registered : ℕ → World → World
 no_longer_registered n w = record w { registered = without (is_number n) w.registered }
@@ -194,7 +195,7 @@ new_assign_mark target source = InAssign (record { target = target; source = sou
 abbrev pub begin_assignment : Image → Who → StatementNo → ℕ → ℕ → Step
 begin_assignment p name s target source =
     with_room p name 1 0
-      (goes name (next_of p s) ▷ says own (line.Replace name target) ▷ changes (push name (new_frame (new_assign_mark target source) None)))
+    (goes name (next_of p s) ▷ says own (line.Replace name target) ▷ changes (push name (new_frame (new_assign_mark target source) None)))
 
 -- a target or a source that is not registered raises Program_Error (own)
 abbrev pub assign_registered : Image → Who → StatementNo → Option Registered → Option Registered → Step
@@ -206,7 +207,7 @@ assign_registered p name s None source = raises p own name exception.Program
 abbrev pub assign_located : Image → Who → StatementNo → Located → Located → Step
 assign_located p name s target source =
     cond (same_located target source) (goes name (next_of p s))
-      (looks (λ w. assign_registered p name s (registered_at p w target) (registered_at p w source)))
+    (looks (λ w. assign_registered p name s (registered_at p w target) (registered_at p w source)))
 
 abbrev pub assign_controlled : Image → Who → StatementNo → DeclNo → DeclNo → Step
 assign_controlled p name s target source =

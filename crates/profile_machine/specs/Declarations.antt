@@ -92,8 +92,8 @@ says_object p l u w =
 abbrev pub declare_protected : Image → Who → StatementNo → DeclNo → ProtectedUnitNo → Step
 declare_protected p name s d u =
     sees p name (λ q. given p own name (located_here q d) (λ l.
-      given p own name (components_initialized q protected_cells l (protected_unit_of p u).components q.world) (λ next.
-        changes (λ _. next) ▷ goes name (next_of p s) ▷ changes (with_object p l u) ▷ says_object p l u)))
+    given p own name (components_initialized q protected_cells l (protected_unit_of p u).components q.world) (λ next.
+    changes (λ _. next) ▷ goes name (next_of p s) ▷ changes (with_object p l u) ▷ says_object p l u)))
 
 -- a controlled object is made; it is registered behind its Initialize
 abbrev pub controlled_declared : Seen → DeclNo → ControlledNo → Valued World

@@ -127,7 +127,7 @@ add_call c w = record w { calls = numbered (suc w.drawn.calls) c ∷ w.calls; dr
 abbrev pub make_call : Image → Call → (Call → Step) → Step
 make_call p c step =
     goes (who.Task c.caller) (next_of p c.statement)
-      ▷ looks (λ w. changes (add_call c) ▷ says_call p the_call (numbered (suc w.drawn.calls) c) ▷ step (numbered (suc w.drawn.calls) c))
+    ▷ looks (λ w. changes (add_call c) ▷ says_call p the_call (numbered (suc w.drawn.calls) c) ▷ step (numbered (suc w.drawn.calls) c))
 
 -- it ends at once with an exception
 abbrev pub end_at_once : Image → Part → Call → Raised → Step
@@ -142,8 +142,8 @@ call_gone p c = gone p own c ▷ end_at_once p own c exception.Tasking
 abbrev pub call_meets : Image → TaskNo → StatementNo → Call → Step
 call_meets p t s c =
     meet p (of_other (who.Task t)) (who.Task t) s c
-      (block the_block (who.Task c.caller) (for_call c.number))
-      (end_at_once p the_block c exception.Storage)
+    (block the_block (who.Task c.caller) (for_call c.number))
+    (end_at_once p the_block c exception.Storage)
 
 abbrev pub call_queues : Image → Call → Step
 call_queues p c = enqueue p c.number ▷ not_accepted p own c c.kind
@@ -175,14 +175,14 @@ call_task p t c = looks (λ w. call_callable p t c (is_callable w t))
 abbrev pub call_runs : Image → ObjectNo → Call → Step
 call_runs p o c =
     begin_action_on p (who.Task c.caller) o Write (Some c.number) None
-      ▷ serve_call p own (who.Task c.caller) o c nothing nothing
+    ▷ serve_call p own (who.Task c.caller) o c nothing nothing
 
 -- without room the body starts and finishes at once, and nothing is placed
 abbrev pub call_without_room : Image → ObjectNo → Call → Step
 call_without_room p o c =
     says own (line.Enter (who.Task c.caller) o Write) ▷ says own (line.Start (who.Task c.caller) c.number)
-      ▷ says own (line.Finish (who.Task c.caller) c.number (finished.Raised (exception_name p exception.Storage)))
-      ▷ says own (line.Exit (who.Task c.caller) o) ▷ end_at_once p own c exception.Storage
+    ▷ says own (line.Finish (who.Task c.caller) c.number (finished.Raised (exception_name p exception.Storage)))
+    ▷ says own (line.Exit (who.Task c.caller) o) ▷ end_at_once p own c exception.Storage
 
 abbrev pub has_room_for_action : Image → World → Call → Bool
 has_room_for_action p w c =
@@ -196,7 +196,7 @@ call_runs_if_room p o c =
 abbrev pub call_passes : Image → ObjectNo → Call → Step
 call_passes p o c =
     says own (line.Enter (who.Task c.caller) o Write) ▷ enqueue p c.number ▷ says own (line.Exit (who.Task c.caller) o)
-      ▷ not_accepted p own c c.kind
+    ▷ not_accepted p own c c.kind
 
 abbrev pub call_refused : Image → ObjectNo → Call → Step
 call_refused p o c =
@@ -213,7 +213,7 @@ call_by_barrier p o c false = looks (λ w. call_closed p o c (is_full p w c.owne
 abbrev pub call_object : Image → ObjectNo → Call → Step
 call_object p o c =
     where_let_inside p (who.Task c.caller) o Write
-      (looks (λ w. call_by_barrier p o c (is_barrier_open p w (who.Task c.caller) o c.entry)))
+    (looks (λ w. call_by_barrier p o c (is_barrier_open p w (who.Task c.caller) o c.entry)))
 
 abbrev pub call_owner : Image → Call → Owner → Step
 call_owner p c (a_task t) = call_task p t c
@@ -224,9 +224,9 @@ call_owner p c (an_object o) = call_object p o c
 abbrev pub call_named : Image → TaskNo → CallKind → StatementNo → Named → Step
 call_named p t kind s n =
     sees p (who.Task t) (λ q. given p own (who.Task t) (owner_of_entry q n.entry n.owner) (λ o.
-      given p own (who.Task t) (entry_parameters q (entry_of p n.entry).formals n.actuals) (λ parameters.
-        given p own (who.Task t) (timed_moment q (form_of p s)) (λ m.
-          call_owner p (new_call t kind s n o (active_of p q.world (who.Task t)) parameters m) o))))
+    given p own (who.Task t) (entry_parameters q (entry_of p n.entry).formals n.actuals) (λ parameters.
+    given p own (who.Task t) (timed_moment q (form_of p s)) (λ m.
+    call_owner p (new_call t kind s n o (active_of p q.world (who.Task t)) parameters m) o))))
 
 -- inside a protected action Program_Error is raised, and for a trigger wherever abort is deferred (own)
 abbrev pub is_forbidden : World → Who → CallKind → Bool
@@ -248,12 +248,12 @@ abbrev pub trigger_delay : Image → Who → StatementNo → StatementNo → ℤ
 trigger_delay p name s trigger m false = goes name (next_of p trigger)
 trigger_delay p name s trigger m true =
     with_room p name 1 0
-      (goes name (next_of p s) ▷ looks (λ w. changes (open_abortable p name s None) ▷ changes (appoint_trigger name (length (frames_of w name)) m)))
+    (goes name (next_of p s) ▷ looks (λ w. changes (open_abortable p name s None) ▷ changes (appoint_trigger name (length (frames_of w name)) m)))
 
 abbrev pub async_delay : Image → Who → StatementNo → StatementNo → Step
 async_delay p name s trigger =
     sees p name (λ q. raise_if p name (is_forbidden q.world name triggering) exception.Program
-      (given p own name (delay_moment q trigger) (λ m. trigger_delay p name s trigger m (int_lt (pos q.world.now) m))))
+    (given p own name (delay_moment q trigger) (λ m. trigger_delay p name s trigger m (int_lt (pos q.world.now) m))))
 
 abbrev pub async_by_trigger : Image → Who → StatementNo → StatementNo → StatementForm → Step
 async_by_trigger p name s trigger (form.EntryCall entry owner actuals) = entry_call p name triggering s
@@ -274,4 +274,4 @@ mark_sending (Some c) o e with_abort = edit_call c (with_sending o e with_abort)
 abbrev pub requeue : Image → Who → EntryNo → EntryOwner → Bool → Step
 requeue p name e o with_abort =
     sees p name (λ q. given p own name (owner_of_entry q e o) (λ target.
-      changes (mark_sending (call_that_returns (frames_of q.world name)) target e with_abort) ▷ leaves name how.Return))
+    changes (mark_sending (call_that_returns (frames_of q.world name)) target e with_abort) ▷ leaves name how.Return))

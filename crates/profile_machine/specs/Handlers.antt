@@ -78,13 +78,13 @@ scope_size_of p f = (scope_of p (subprogram_of p f).scope).size
 abbrev pub begin_handler : Image → Release → Step
 begin_handler p r =
     begin_action_on p who.Agent r.handler.object Write None (Some r.number)
-      ▷ looks (λ w. changes (open_scope p who.Agent (subprogram_of p r.handler.procedure).scope (body_of_object p w (subprogram_of p r.handler.procedure).scope r.handler.object None (argument_values r.argument)) (of_subprogram [] to_nowhere)))
+    ▷ looks (λ w. changes (open_scope p who.Agent (subprogram_of p r.handler.procedure).scope (body_of_object p w (subprogram_of p r.handler.procedure).scope r.handler.object None (argument_values r.argument)) (of_subprogram [] to_nowhere)))
 
 -- without room it is served at once
 abbrev pub begin_handler_if_room : Image → Release → Step
 begin_handler_if_room p r =
     looks (λ w. elim (has_room w who.Agent (1 + marks_of p (subprogram_of p r.handler.procedure).scope) (scope_size_of p r.handler.procedure))
-      [ true ↦ begin_handler p r | false ↦ end_release p r.number ])
+    [ true ↦ begin_handler p r | false ↦ end_release p r.number ])
 
 abbrev pub enter_handler : Image → Release → Entering → Step
 enter_handler p r same_object_again = end_release p r.number
@@ -136,7 +136,7 @@ is_given (Some x) = true
 abbrev pub setting_of : Image → Who → Seen → ℤ → Setting → Option HandlerName → (Option HandlerOf → ℤ → Step) → Step
 setting_of p name q base set named step =
     given p own name (handler_named q named) (λ h. with_room_for_release p name (is_given h)
-      (given p own name (set_value q base set) (λ v. raise_if p name (not (is_interrupt_handler p q.world h)) exception.Program (step h v))))
+    (given p own name (set_value q base set) (λ v. raise_if p name (not (is_interrupt_handler p q.world h)) exception.Program (step h v))))
 
 -- a variable gets whether something was set
 abbrev pub answer : Image → Who → Variable → Bool → Step
@@ -159,12 +159,12 @@ event_set_to p e (Some h) m = looks (λ w. appoint_event p e h m (int_lt (pos w.
 abbrev pub set_event : Image → Who → StatementNo → DeclNo → Setting → Option HandlerName → Step
 set_event p name s d set named =
     sees p name (λ q. given p own name (number_of_thing q d) (λ e. setting_of p name q (pos q.world.now) set named
-      (λ h m. goes name (next_of p s) ▷ changes (cancel_event_setting e) ▷ event_set_to p e h m)))
+    (λ h m. goes name (next_of p s) ▷ changes (cancel_event_setting e) ▷ event_set_to p e h m)))
 
 abbrev pub cancel_event : Image → Who → StatementNo → DeclNo → VariableName → Step
 cancel_event p name s d target =
     sees p name (λ q. given p own name (number_of_thing q d) (λ e. given p own name (variable q target) (λ v.
-      goes name (next_of p s) ▷ changes (cancel_event_setting e) ▷ answer p name v (is_appointed (is_event e) q.world))))
+    goes name (next_of p s) ▷ changes (cancel_event_setting e) ▷ answer p name v (is_appointed (is_event e) q.world))))
 
 -- ---- timers (D.14.1)
 
@@ -196,8 +196,8 @@ clock_of_timer q k = live_task q.world (Some (timer_of q.world k).task) >>= λ t
 abbrev pub set_timer : Image → Who → StatementNo → DeclNo → Setting → Option HandlerName → Step
 set_timer p name s d set named =
     sees p name (λ q. given p own name (number_of_thing q d) (λ k. given p own name (clock_of_timer q k) (λ clock.
-      setting_of p name q (pos clock) set named
-        (λ h v. goes name (next_of p s) ▷ changes (clear_timer k) ▷ timer_set_to p k clock h v))))
+    setting_of p name q (pos clock) set named
+    (λ h v. goes name (next_of p s) ▷ changes (clear_timer k) ▷ timer_set_to p k clock h v))))
 
 abbrev pub is_set_timer : World → ℕ → Bool
 is_set_timer w k = is_given (timer_of w k).setting
@@ -205,8 +205,8 @@ is_set_timer w k = is_given (timer_of w k).setting
 abbrev pub cancel_timer : Image → Who → StatementNo → DeclNo → VariableName → Step
 cancel_timer p name s d target =
     sees p name (λ q. given p own name (number_of_thing q d) (λ k. given p own name (clock_of_timer q k) (λ clock.
-      given p own name (variable q target) (λ v.
-        goes name (next_of p s) ▷ changes (clear_timer k) ▷ answer p name v (is_set_timer q.world k)))))
+    given p own name (variable q target) (λ v.
+    goes name (next_of p s) ▷ changes (clear_timer k) ▷ answer p name v (is_set_timer q.world k)))))
 
 -- ---- group budgets (D.14.2)
 
@@ -231,12 +231,12 @@ named_live q e = value q e >>= λ v. live_task q.world (task_in v)
 abbrev pub add_member : Image → Who → StatementNo → DeclNo → ExprNo → Step
 add_member p name s d e =
     sees p name (λ q. given p own name (number_of_thing q d) (λ b. given p own name (named_live q e) (λ t.
-      change_member p name s t (is_none t.budget) (Some b))))
+    change_member p name s t (is_none t.budget) (Some b))))
 
 abbrev pub remove_member : Image → Who → StatementNo → DeclNo → ExprNo → Step
 remove_member p name s d e =
     sees p name (λ q. given p own name (number_of_thing q d) (λ b. given p own name (named_live q e) (λ t.
-      change_member p name s t (is_the_budget b t.budget) None)))
+    change_member p name s t (is_the_budget b t.budget) None)))
 
 abbrev pub loaded : ℤ → Budget → Budget
 loaded amount b = record b { remaining = amount }
@@ -249,8 +249,8 @@ raised_by amount b = record b { remaining = held_moment (b.remaining +ℤ amount
 abbrev pub fill_budget : Image → Who → StatementNo → DeclNo → ExprNo → (ℤ → Budget → Budget) → Step
 fill_budget p name s d e f =
     sees p name (λ q. given p own name (number_of_thing q d) (λ b. with_room_for_release p name true
-      (given p own name (moment q e) (λ amount. raise_if p name (int_le amount (pos 0)) exception.GroupBudget
-        (goes name (next_of p s) ▷ changes (edit_budget b (f amount)))))))
+    (given p own name (moment q e) (λ amount. raise_if p name (int_le amount (pos 0)) exception.GroupBudget
+    (goes name (next_of p s) ▷ changes (edit_budget b (f amount)))))))
 
 abbrev pub replenish : Image → Who → StatementNo → DeclNo → ExprNo → Step
 replenish p name s d e = fill_budget p name s d e loaded
@@ -264,14 +264,14 @@ handled_by h b = record b { handler = h }
 abbrev pub set_budget : Image → Who → StatementNo → DeclNo → Option HandlerName → Step
 set_budget p name s d named =
     sees p name (λ q. given p own name (number_of_thing q d) (λ b. given p own name (handler_named q named) (λ h.
-      with_room_for_release p name (is_given h)
-        (raise_if p name (not (is_interrupt_handler p q.world h)) exception.Program
-          (goes name (next_of p s) ▷ changes (edit_budget b (handled_by h)))))))
+    with_room_for_release p name (is_given h)
+    (raise_if p name (not (is_interrupt_handler p q.world h)) exception.Program
+    (goes name (next_of p s) ▷ changes (edit_budget b (handled_by h)))))))
 
 abbrev pub cancel_budget : Image → Who → StatementNo → DeclNo → VariableName → Step
 cancel_budget p name s d target =
     sees p name (λ q. given p own name (number_of_thing q d) (λ b. given p own name (variable q target) (λ v.
-      goes name (next_of p s) ▷ changes (edit_budget b (handled_by None)) ▷ answer p name v (is_given (budget_of q.world b).handler))))
+    goes name (next_of p s) ▷ changes (edit_budget b (handled_by None)) ▷ answer p name v (is_given (budget_of q.world b).handler))))
 
 -- ---- one tick is charged (D.14, D.2.5)
 

@@ -147,7 +147,7 @@ abbrev pub end_activation_by : Image → Who → Who → Bool → Option Who →
 end_activation_by p actor name failed None = nothing
 end_activation_by p actor name failed (Some activator) =
     changes (edit_task name not_activating) ▷ changes (lose name by_activation)
-      ▷ changes (edit_task activator (with_failure failed)) ▷ end_group p actor activator
+    ▷ changes (edit_task activator (with_failure failed)) ▷ end_group p actor activator
 
 abbrev pub end_activation : Image → Who → Who → Bool → Step
 end_activation p actor name failed = looks (λ w. end_activation_by p actor name failed (task_of w name).activator)
@@ -222,5 +222,5 @@ may_terminate w t = is_at_terminate t && list_any (λ r. is_being_left w r && al
 abbrev pub leave_by_terminate : Image → Who → Task → Step
 leave_by_terminate p actor t =
     changes (drop_delay t.who)
-      ▷ cond (same_who actor t.who) (changes (edit_task t.who (with_state Runnable))) (ready p (of_other t.who) t.who)
-      ▷ leaves t.who how.Terminate
+    ▷ cond (same_who actor t.who) (changes (edit_task t.who (with_state Runnable))) (ready p (of_other t.who) t.who)
+    ▷ leaves t.who how.Terminate

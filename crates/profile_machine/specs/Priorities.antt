@@ -71,7 +71,7 @@ says_base part who.Agent level = nothing
 abbrev pub set_base : Image → Part → Part → Who → ℕ → Step
 set_base p part placing name level =
     changes (edit_task name (λ t. record t { base = level })) ▷ says_base part name level
-      ▷ looks (λ w. replace_in p placing name (task_of w name).state)
+    ▷ looks (λ w. replace_in p placing name (task_of w name).state)
 
 -- ---- deadlines
 
@@ -88,7 +88,7 @@ is_runnable_at_edf p w name (Blocked waiting) = false
 abbrev pub set_deadline : Image → Part → Part → Who → ℤ → Step
 set_deadline p part placing name d =
     changes (edit_task name (λ t. record t { deadline = d })) ▷ says_deadline part name d
-      ▷ looks (λ w. when (is_runnable_at_edf p w name (task_of w name).state) (to_tail p placing name))
+    ▷ looks (λ w. when (is_runnable_at_edf p w name (task_of w name).state) (to_tail p placing name))
 
 -- ---- what was deferred is set at the end of the outermost protected action: the base priority, then the deadline
 
@@ -126,7 +126,7 @@ abbrev pub set_base_of : Image → Who → StatementNo → ℕ → Option world.
 set_base_of p actor s level None = goes actor (next_of p s)
 set_base_of p actor s level (Some t) =
     raise_if p actor (is_edf_base p t.base || is_edf_base p level) exception.Program
-      (goes actor (next_of p s) ▷ set_or_defer_base p actor t.who level)
+    (goes actor (next_of p s) ▷ set_or_defer_base p actor t.who level)
 
 abbrev pub priority_in_range : Image → ℕ → ℤ → Valued ℕ
 priority_in_range p last n = unless (int_le (pos 0) n && int_le n (pos last)) exception.Constraint (nat_abs n)
@@ -139,8 +139,8 @@ must_be_task (Some t) = Ok t
 abbrev pub set_priority : Image → Who → StatementNo → ExprNo → Option ExprNo → Step
 set_priority p name s e task =
     sees p name (λ q. given p own name (optional_task q task >>= must_be_task) (λ t.
-      given p own name (value q e >>= λ v. priority_in_range p (interrupt_priority p) (whole_in v)) (λ level.
-        set_base_of p name s level (found_task (who.Task t) q.world.tasks))))
+    given p own name (value q e >>= λ v. priority_in_range p (interrupt_priority p) (whole_in v)) (λ level.
+    set_base_of p name s level (found_task (who.Task t) q.world.tasks))))
 
 -- ---- Set_Quantum (D.2.5)
 
@@ -153,9 +153,9 @@ quantum_of p level n = unless (is_robin_level p level && quantum_in_range n) exc
 abbrev pub set_quantum : Image → Who → StatementNo → ExprNo → ExprNo → Step
 set_quantum p name s level quantum =
     sees p name (λ q. given p own name (value q level) (λ v. given p own name (moment q quantum) (λ n.
-      given p own name (priority_in_range p p.policies.last_priority (whole_in v)) (λ l.
-        given p own name (quantum_of p l n) (λ ticks.
-          goes name (next_of p s) ▷ changes (λ w. record w { quanta = edit_at l (λ _. ticks) w.quanta }))))))
+    given p own name (priority_in_range p p.policies.last_priority (whole_in v)) (λ l.
+    given p own name (quantum_of p l n) (λ ticks.
+    goes name (next_of p s) ▷ changes (λ w. record w { quanta = edit_at l (λ _. ticks) w.quanta }))))))
 
 -- ---- Set_Deadline, Delay_Until_And_Set_Deadline (D.2.6)
 
@@ -170,15 +170,15 @@ set_or_defer_deadline p actor name d =
 abbrev pub set_deadline_of : Image → Who → StatementNo → ExprNo → Option ExprNo → Step
 set_deadline_of p name s e task =
     sees p name (λ q. given p own name (optional_task q task >>= λ t. live_task q.world t) (λ t.
-      given p own name (moment q e) (λ d. goes name (next_of p s) ▷ set_or_defer_deadline p name t.who d)))
+    given p own name (moment q e) (λ d. goes name (next_of p s) ▷ set_or_defer_deadline p name t.who d)))
 
 abbrev pub delay_with_deadline : Image → Who → StatementNo → ℤ → ℤ → Step
 delay_with_deadline p name s until offset =
     goes name (next_of p s) ▷ changes (edit_task name (λ t. record t { deadline = held_moment (until +ℤ offset) }))
-      ▷ says_deadline own name (held_moment (until +ℤ offset)) ▷ delay_to p name until
+    ▷ says_deadline own name (held_moment (until +ℤ offset)) ▷ delay_to p name until
 
 -- it is a delay, so inside a protected action it raises Program_Error (own)
 abbrev pub delay_and_set_deadline : Image → Who → StatementNo → ExprNo → ExprNo → Step
 delay_and_set_deadline p name s until offset =
     sees p name (λ q. raise_if p name (in_protected q.world name) exception.Program
-      (given p own name (moment q until) (λ m. given p own name (moment q offset) (λ o. delay_with_deadline p name s m o))))
+    (given p own name (moment q until) (λ m. given p own name (moment q offset) (λ o. delay_with_deadline p name s m o))))

@@ -72,8 +72,8 @@ is_above_ceiling p w name ceiling =
 abbrev pub entering_object : Image → World → Who → Object → Mode → Entering
 entering_object p w name o mode =
     cond (has_open name o.actions) same_object_again
-      (cond (is_above_ceiling p w name o.ceiling) above_ceiling
-        (cond (excludes mode (without (is_action_of name) o.actions)) held_by_another let_inside))
+    (cond (is_above_ceiling p w name o.ceiling) above_ceiling
+    (cond (excludes mode (without (is_action_of name) o.actions)) held_by_another let_inside))
 
 -- an object that is not there lets nobody in
 abbrev pub entering_option : Image → World → Who → Option Object → Mode → Entering
@@ -111,8 +111,8 @@ ceiling_of (Some o) = o.ceiling
 abbrev pub begin_action_on : Image → Who → ObjectNo → Mode → Option CallNo → Option ℕ → Step
 begin_action_on p name o mode call release =
     says own (line.Enter name o mode) ▷ changes (open_action name o mode)
-      ▷ looks (λ w. inherit_running p name (by_ceiling o) (ceiling_of (object_of w o)))
-      ▷ changes (push name (new_frame (new_protected_mark o mode call release) None))
+    ▷ looks (λ w. inherit_running p name (by_ceiling o) (ceiling_of (object_of w o)))
+    ▷ changes (push name (new_frame (new_protected_mark o mode call release) None))
 
 -- a body of an object's unit: what stands round it is found from the object
 abbrev pub outer_of_body : Image → World → ScopeNo → Option Object → Option ScopeId
@@ -130,7 +130,7 @@ mode_of s = elim s.result [ None ↦ Write | Some range ↦ Read ]
 abbrev pub begin_operation : Image → Who → StatementNo → SubprogramNo → ObjectNo → Handed → ResultTo → Step
 begin_operation p name s f o h to =
     goes name (next_of p s) ▷ begin_action_on p name o (mode_of (subprogram_of p f)) None None
-      ▷ looks (λ w. changes (open_scope p name (subprogram_of p f).scope (body_of_object p w (subprogram_of p f).scope o h.subject h.values) (of_subprogram h.back to)))
+    ▷ looks (λ w. changes (open_scope p name (subprogram_of p f).scope (body_of_object p w (subprogram_of p f).scope o h.subject h.values) (of_subprogram h.back to)))
 
 abbrev pub has_object_open : World → Who → ObjectNo → Bool
 has_object_open w name o = elim (object_of w o) [ None ↦ false | Some x ↦ has_open name x.actions ]
@@ -139,8 +139,8 @@ has_object_open w name o = elim (object_of w o) [ None ↦ false | Some x ↦ ha
 abbrev pub call_operation_of : Image → Who → StatementNo → SubprogramNo → List Actual → Destination → ObjectNo → Step
 call_operation_of p name s f actuals to o =
     looks (λ w. raise_if p name (has_object_open w name o) exception.Program
-      (with_room p name (1 + marks_of p (subprogram_of p f).scope) (scope_of p (subprogram_of p f).scope).size
-        (handing p name f actuals to (λ h r. where_let_inside p name o (mode_of (subprogram_of p f)) (begin_operation p name s f o h r)))))
+    (with_room p name (1 + marks_of p (subprogram_of p f).scope) (scope_of p (subprogram_of p f).scope).size
+    (handing p name f actuals to (λ h r. where_let_inside p name o (mode_of (subprogram_of p f)) (begin_operation p name s f o h r)))))
 
 abbrev pub call_operation : Image → Who → StatementNo → DeclNo → SubprogramNo → List Actual → Destination → Step
 call_operation p name s d f actuals to =
@@ -158,7 +158,7 @@ unit_of_operation s = option_or_else s.unit (record { 0 = 0 })
 abbrev pub call_own_operation : Image → Who → StatementNo → SubprogramNo → List Actual → Destination → Step
 call_own_operation p name s f actuals to =
     with_room p name (marks_of p (subprogram_of p f).scope) (scope_of p (subprogram_of p f).scope).size
-      (handing p name f actuals to (λ h r. sees p name (λ q. begin_own_operation p name s f (own_object q (unit_of_operation (subprogram_of p f))) h r)))
+    (handing p name f actuals to (λ h r. sees p name (λ q. begin_own_operation p name s f (own_object q (unit_of_operation (subprogram_of p f))) h r)))
 
 -- ---- barriers (9.5.2): evaluating one costs nothing and never raises (own)
 
@@ -217,7 +217,7 @@ begin_call p part name c =
 abbrev pub body_opens : Image → Who → ObjectNo → Call → Step
 body_opens p name o c =
     changes (edit_top_protected name (λ m. record m { serves = Some c.number }))
-      ▷ looks (λ w. changes (open_scope p name (body_scope_of p c.entry) (body_of_object p w (body_scope_of p c.entry) o None c.values) (of_entry_body c.number)))
+    ▷ looks (λ w. changes (open_scope p name (body_scope_of p c.entry) (body_of_object p w (body_scope_of p c.entry) o None c.values) (of_entry_body c.number)))
 
 abbrev pub has_room_for_body : Image → World → Who → EntryNo → Bool
 has_room_for_body p w name e = has_room w name (marks_of p (body_scope_of p e)) (scope_of p (body_scope_of p e)).size
@@ -226,6 +226,7 @@ has_room_for_body p w name e = has_room w name (marks_of p (body_scope_of p e)) 
 abbrev pub serve_call : Image → Part → Who → ObjectNo → Call → Step → Step → Step
 serve_call p part name o c then_ otherwise =
     looks (λ w. begin_call p part name c
-      ▷ elim (has_room_for_body p w name c.entry)
-          [ true ↦ body_opens p name o c ▷ then_
-          | false ↦ says part (line.Finish name c.number (finished.Raised (exception_name p exception.Storage))) ▷ otherwise ])
+    ▷ elim (has_room_for_body p w name c.entry) [
+      | true ↦ body_opens p name o c ▷ then_
+      | false ↦ says part (line.Finish name c.number (finished.Raised (exception_name p exception.Storage))) ▷ otherwise
+    ])

@@ -80,24 +80,25 @@ has_room_for_accept p w name s =
 abbrev pub begin_rendezvous : Image → Part → Who → StatementNo → Call → Step → Step → Step
 begin_rendezvous p part name s c then_ otherwise =
     looks (λ w. begin_call p part name c ▷ goes name (next_of p s)
-      ▷ elim (has_room_for_accept p w name s)
-          [ true ↦ changes (open_accept p name s c) ▷ open_sequence p name ▷ then_
-          | false ↦ says part (line.Finish name c.number (finished.Raised (exception_name p exception.Storage))) ▷ otherwise ])
+    ▷ elim (has_room_for_accept p w name s) [
+      | true ↦ changes (open_accept p name s c) ▷ open_sequence p name ▷ then_
+      | false ↦ says part (line.Finish name c.number (finished.Raised (exception_name p exception.Storage))) ▷ otherwise
+    ])
 
 -- the acceptor acts: it goes to the head where its active priority rises
 abbrev pub accept_call : Image → Who → StatementNo → CallNo → Step
 accept_call p name s c =
     with_call c (λ d. begin_rendezvous p own name s d
-      (inherit_running p name (by_rendezvous c) d.priority)
-      (deliver p own c (to_raise exception.Storage) ▷ raises p own name exception.Storage))
+    (inherit_running p name (by_rendezvous c) d.priority)
+    (deliver p own c (to_raise exception.Storage) ▷ raises p own name exception.Storage))
 
 -- the acceptor waited: it becomes ready, behind the `start`; without room the call has ended at once, and `otherwise` is done
 abbrev pub meet : Image → Part → Who → StatementNo → Call → Step → Step → Step
 meet p part name s c then_ otherwise =
     changes (drop_delay name)
-      ▷ begin_rendezvous p part name s c
-          (changes (inherit name (by_rendezvous c.number) c.priority) ▷ ready p part name ▷ then_)
-          (ready p part name ▷ raises p part name exception.Storage ▷ otherwise)
+    ▷ begin_rendezvous p part name s c
+    (changes (inherit name (by_rendezvous c.number) c.priority) ▷ ready p part name ▷ then_)
+    (ready p part name ▷ raises p part name exception.Storage ▷ otherwise)
 
 -- ---- the accept statement (9.5.2): it begins with the next call, or waits
 
@@ -112,7 +113,7 @@ accept_or_wait p name s None = goes name (next_of p s) ▷ block the_block name 
 abbrev pub accept : Image → Who → StatementNo → EntryNo → Step
 accept p name s e =
     looks (λ w. raise_if p name (in_protected w name) exception.Program
-      (accept_or_wait p name s (next_call p w (own_queue w name (place_of_entry p e) ∷ []))))
+    (accept_or_wait p name s (next_call p w (own_queue w name (place_of_entry p e) ∷ []))))
 
 -- ---- the selective accept (9.7.1)
 
@@ -223,12 +224,12 @@ is_closed (kind ∷ kinds) otherwise = false
 abbrev pub select_open : Image → Who → StatementNo → Option StatementNo → List SelectKind → List Moment → Step
 select_open p name s otherwise kinds moments =
     raise_if p name (is_closed kinds otherwise) exception.Program
-      (looks (λ w. select_by_call p name s kinds (least_delay moments) otherwise (next_call p w (queues_of_accepts p w name (open_accepts kinds)))))
+    (looks (λ w. select_by_call p name s kinds (least_delay moments) otherwise (next_call p w (queues_of_accepts p w name (open_accepts kinds)))))
 
 abbrev pub selective_accept : Image → Who → StatementNo → List SelectAlternative → Option StatementNo → Step
 selective_accept p name s alternatives otherwise =
     sees p name (λ q. raise_if p name (in_protected q.world name) exception.Program
-      (given p own name (open_alternatives q alternatives) (λ kinds. given p own name (open_delays q kinds) (select_open p name s otherwise kinds))))
+    (given p own name (open_alternatives q alternatives) (λ kinds. given p own name (open_delays q kinds) (select_open p name s otherwise kinds))))
 
 -- ---- the end of an accept (9.5.2, 9.5.4)
 
@@ -291,6 +292,6 @@ finished_call p cells leaving c = keeps_sending leaving (with_values cells (form
 abbrev pub end_in_accept : Image → Who → AcceptMark → Leaving → Step
 end_in_accept p name m leaving =
     looks (λ w. changes (pop name) ▷ changes (end_scope m.within)
-      ▷ changes (edit_call m.call (finished_call p (cells_of (scope_in_use w m.within)) leaving))
-      ▷ with_call m.call (λ c. finish_rendezvous p name c leaving))
-      ▷ lose_running p name (by_rendezvous m.call) ▷ behind_accept p name leaving
+    ▷ changes (edit_call m.call (finished_call p (cells_of (scope_in_use w m.within)) leaving))
+    ▷ with_call m.call (λ c. finish_rendezvous p name c leaving))
+    ▷ lose_running p name (by_rendezvous m.call) ▷ behind_accept p name leaving

@@ -92,13 +92,13 @@ is_triggering triggering = true
 abbrev pub may_begin_abortable : World → Call → Bool
 may_begin_abortable w c =
     is_triggering c.kind && is_none (abortable_depth w c) && not c.firm && not c.attempted && is_none c.outcome
-      && waits_for_call c.number (waiting_of w (who.Task c.caller)) && has_room w (who.Task c.caller) 1 0
+    && waits_for_call c.number (waiting_of w (who.Task c.caller)) && has_room w (who.Task c.caller) 1 0
 
 -- its abortable part begins, and the caller becomes ready; without room the caller waits on
 abbrev pub begin_abortable : Image → CallNo → Step
 begin_abortable p c =
     with_call c (λ d. looks (λ w. when (may_begin_abortable w d)
-      (changes (open_abortable p (who.Task d.caller) d.statement (Some d.number)) ▷ ready p the_finish (who.Task d.caller))))
+    (changes (open_abortable p (who.Task d.caller) d.statement (Some d.number)) ▷ ready p the_finish (who.Task d.caller))))
 
 -- queued on: a timed call has its time-out again for its first moment
 abbrev pub timeout_again : Call → World → World

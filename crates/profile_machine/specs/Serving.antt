@@ -41,7 +41,7 @@ serves_nothing w = record w { serving = None }
 abbrev pub end_release : Image → ℕ → Step
 end_release p n =
     says own (line.Served n) ▷ changes serves_nothing
-      ▷ looks (λ w. when (is_empty w.releases) (block the_block who.Agent for_release))
+    ▷ looks (λ w. when (is_empty w.releases) (block the_block who.Agent for_release))
 
 -- ---- the release of an object
 
@@ -74,7 +74,7 @@ behind_action p name m None (Some c) = with_call c (λ d. resume_own p name d d.
 abbrev pub release_object : Image → Who → ProtectedMark → Step
 release_object p name m =
     says own (line.Exit name m.object) ▷ changes (pop name) ▷ changes (close_action name m.object)
-      ▷ lose_running p name (by_ceiling m.object) ▷ set_deferred p name ▷ behind_action p name m m.release m.own_call
+    ▷ lose_running p name (by_ceiling m.object) ▷ set_deferred p name ▷ behind_action p name m m.release m.own_call
 
 -- ---- the next call is served, or the object is released (9.5.3)
 
@@ -104,16 +104,16 @@ abbrev pub serve_chosen : Image → Who → ProtectedMark → Bool → Step → 
 serve_chosen p name m is_sent again None = release_object p name m
 serve_chosen p name m is_sent again (Some c) =
     with_call c (λ d. serve_call p (part_of_start is_sent) name m.object d (begins_part p is_sent c)
-      (deliver p (part_of_start is_sent) c (to_raise exception.Storage) ▷ again))
+    (deliver p (part_of_start is_sent) c (to_raise exception.Storage) ▷ again))
 
 -- the choice is made with the call that was sent on in its queue; each turn without room ends a call
 abbrev pub serve_next : ℕ → Image → Who → ProtectedMark → Option CallNo → Step
 serve_next zero p name m sent = release_object p name m
 serve_next (suc fuel) p name m sent =
     looks (λ w.
-      let chosen = served_next p w name (object_of w m.object) in
-      settle_sent p sent (chosen_is_sent sent chosen)
-        ▷ serve_chosen p name m (chosen_is_sent sent chosen) (serve_next fuel p name m None) chosen)
+    let chosen = served_next p w name (object_of w m.object) in
+    settle_sent p sent (chosen_is_sent sent chosen)
+    ▷ serve_chosen p name m (chosen_is_sent sent chosen) (serve_next fuel p name m None) chosen)
 
 abbrev pub serve_calls : Image → Who → ProtectedMark → Option CallNo → Step
 serve_calls p name m sent = looks (λ w. serve_next (suc (length w.calls)) p name m sent)
@@ -134,7 +134,7 @@ not_left f = record f { left_as = None }
 abbrev pub end_operation : Image → Who → ProtectedMark → Leaving → Step
 end_operation p name m leaving =
     changes (edit_top_protected name (with_body_left leaving)) ▷ changes (edit_top name not_left)
-      ▷ go_on_by_mode p name (with_body_left leaving m) m.mode
+    ▷ go_on_by_mode p name (with_body_left leaving m) m.mode
 
 -- an exception of an entry body is raised in the caller; in the holder's own call it has been raised already
 abbrev pub is_own_call : Who → Option CallNo → Call → Bool
@@ -147,7 +147,7 @@ outcome_by false e = to_raise e
 abbrev pub finish_raised : Image → Who → ProtectedMark → Call → Raised → Step
 finish_raised p name m c e =
     says the_finish (line.Finish name c.number (finished.Raised (exception_name p e)))
-      ▷ deliver p the_finish c.number (outcome_by (is_own_call name m.own_call c) e) ▷ serve_calls p name m None
+    ▷ deliver p the_finish c.number (outcome_by (is_own_call name m.own_call c) e) ▷ serve_calls p name m None
 
 abbrev pub finish_well : Image → Who → ProtectedMark → Call → Option Sending → Step
 finish_well p name m c None =
@@ -169,7 +169,7 @@ no_longer_serves m = record m { serves = None }
 abbrev pub end_entry_body : Image → Who → ProtectedMark → Leaving → CallNo → Step
 end_entry_body p name m leaving c =
     changes (edit_top_protected name no_longer_serves) ▷ changes (edit_top name not_left)
-      ▷ with_call c (finish_call p name (no_longer_serves m) leaving)
+    ▷ with_call c (finish_call p name (no_longer_serves m) leaving)
 
 abbrev pub end_in_protected_by : Image → Who → ProtectedMark → Leaving → Option CallNo → Step
 end_in_protected_by p name m leaving None = end_operation p name m leaving

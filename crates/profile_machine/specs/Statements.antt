@@ -146,7 +146,7 @@ is_past true x last = is_less x last
 abbrev pub first_turn : Image → Who → StatementNo → DeclNo → Bool → StatementNo → Step
 first_turn p name s d reverse body =
     sees p name (λ q. given p own name (loop_cell q d 0 >>= λ x. loop_cell q d 1 >>= λ y. is_past reverse (read q.world x) (read q.world y))
-      (λ past. goes name (branch (not past) body (next_of p s))))
+    (λ past. goes name (branch (not past) body (next_of p s))))
 
 -- the next value in the direction of the loop
 abbrev pub stepped : Bool → Value → Value
@@ -167,7 +167,7 @@ advance name x reverse v body past false = changes (put x (stepped reverse v)) �
 abbrev pub later_turn : Image → Who → StatementNo → DeclNo → Bool → StatementNo → Step
 later_turn p name s d reverse body =
     sees p name (λ q. given p own name (loop_cell q d 0) (λ x. given p own name (loop_cell q d 1 >>= λ y. same_value (read q.world x) (read q.world y))
-      (advance name x reverse (read q.world x) body (next_of p s))))
+    (advance name x reverse (read q.world x) body (next_of p s))))
 
 -- ---- exit (5.7)
 
@@ -184,7 +184,7 @@ exit_statement p name s loop (Some e) = sees p name (λ q. given p own name (con
 abbrev pub block_statement : Image → Who → StatementNo → ScopeNo → Step
 block_statement p name s scope =
     with_room p name (marks_of p scope) (scope_of p scope).size
-      (goes name (next_of p s) ▷ looks (λ w. changes (open_scope p name scope (plainly (innermost w name)) (of_block s))))
+    (goes name (next_of p s) ▷ looks (λ w. changes (open_scope p name scope (plainly (innermost w name)) (of_block s))))
 
 -- ---- raise (11.3)
 

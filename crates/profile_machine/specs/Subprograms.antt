@@ -91,7 +91,7 @@ handing p name f actuals to step =
 abbrev pub call_subprogram : Image → Who → StatementNo → SubprogramNo → List Actual → Destination → Step
 call_subprogram p name s f actuals to =
     with_room p name (marks_of p (subprogram_of p f).scope) (scope_of p (subprogram_of p f).scope).size
-      (handing p name f actuals to (λ h r. sees p name (λ q. begin_body p name s f (beginning_of q f h) h r)))
+    (handing p name f actuals to (λ h r. sees p name (λ q. begin_body p name s f (beginning_of q f h) h r)))
 
 -- ---- return (6.5)
 

@@ -65,7 +65,7 @@ abbrev pub created_task : Seen → DeclNo → TaskUnitNo → ℕ → Option ℤ 
 created_task q d u part span n =
     let unit = task_unit_of q.program u in
     record (new_task (who.Task (record { 0 = n })) (option_or_else unit.priority (task_of q.world q.who).base) Made)
-      { declared = Some d; unit = Some u; outer = outer_of_task q unit; relative_deadline = span; master = Some (top_region q.world q.who); part = part; queues = no_calls unit.entries }
+    { declared = Some d; unit = Some u; outer = outer_of_task q unit; relative_deadline = span; master = Some (top_region q.world q.who); part = part; queues = no_calls unit.entries }
 
 abbrev pub task_drawn : Drawn → Drawn
 task_drawn d = record d { tasks = suc d.tasks }
@@ -79,16 +79,16 @@ says_created p d t w = says own (line.New (created.Task (record { 0 = w.drawn.ta
 abbrev pub create_task : Image → Who → StatementNo → DeclNo → Option ScopeId → world.Task → Step
 create_task p name s d id t =
     goes name (next_of p s) ▷ changes (add_task t)
-      ▷ for_some id (λ within. looks (λ w. changes (set_thing p (record { within = within; declared = d }) (value_of.Task (Some (record { 0 = w.drawn.tasks - 1 }))))))
-      ▷ says_created p d t
+    ▷ for_some id (λ within. looks (λ w. changes (set_thing p (record { within = within; declared = d }) (value_of.Task (Some (record { 0 = w.drawn.tasks - 1 }))))))
+    ▷ says_created p d t
 
 -- Program_Error inside a protected action and wherever abort is deferred; Storage_Error while 256 tasks are live (own)
 abbrev pub create : Image → Who → StatementNo → DeclNo → ℕ → Step
 create p name s d part =
     sees p name (λ q. raise_if p name (in_protected q.world name || is_deferred q.world name) exception.Program
-      (raise_if p name (leb 256 (length q.world.tasks)) exception.Storage
-        (given p own name (optional_span q (task_unit_of p (unit_of_declaration p d)).relative_deadline) (λ span.
-          create_task p name s d (home q.world (declaration_of p d).scope q.within) (created_task q d (unit_of_declaration p d) part span q.world.drawn.tasks)))))
+    (raise_if p name (leb 256 (length q.world.tasks)) exception.Storage
+    (given p own name (optional_span q (task_unit_of p (unit_of_declaration p d)).relative_deadline) (λ span.
+    create_task p name s d (home q.world (declaration_of p d).scope q.within) (created_task q d (unit_of_declaration p d) part span q.world.drawn.tasks)))))
 
 -- the region of the scope on top; a sequence with handlers may stand above it
 abbrev pub region_of_frames : List Frame → Option RegionNo
@@ -121,7 +121,7 @@ activated_task activator now t = record t { activator = Some activator; deadline
 abbrev pub begin_task : Image → Who → ℕ → world.Task → Step
 begin_task p activator level t =
     looks (λ w. changes (open_scope p t.who (unit_of_task p t).scope (plainly t.outer) of_task)
-      ▷ changes (edit_task t.who (activated_task activator w.now)) ▷ changes (inherit t.who by_activation level) ▷ ready p (of_other t.who) t.who)
+    ▷ changes (edit_task t.who (activated_task activator w.now)) ▷ changes (inherit t.who by_activation level) ▷ ready p (of_other t.who) t.who)
 
 -- a task without room prints `raise` and `done`, and counts as failed
 abbrev pub says_done : Part → Who → Step
@@ -134,12 +134,12 @@ group_fails t = record t { group_failed = true }
 abbrev pub fail_to_begin : Image → Who → world.Task → Step
 fail_to_begin p activator t =
     says (of_other t.who) (line.Raise t.who (exception_name p exception.Storage)) ▷ says_done (of_other t.who) t.who
-      ▷ changes (edit_task activator group_fails) ▷ terminate p activator t.who
+    ▷ changes (edit_task activator group_fails) ▷ terminate p activator t.who
 
 abbrev pub activate_one : Image → Who → ℕ → world.Task → Step
 activate_one p activator level t =
     looks (λ w. elim (has_room w t.who 1 (scope_of p (unit_of_task p t).scope).size)
-      [ true ↦ begin_task p activator level t | false ↦ fail_to_begin p activator t ])
+    [ true ↦ begin_task p activator level t | false ↦ fail_to_begin p activator t ])
 
 -- the activator blocks where some task begins; else Tasking_Error is raised in it at once, if one failed
 abbrev pub await_group : Image → Who → Bool → Bool → Step
@@ -153,8 +153,8 @@ no_failure t = record t { group_failed = false }
 abbrev pub activate : Image → Who → StatementNo → ℕ → Step
 activate p name s part =
     looks (λ w. goes name (next_of p s) ▷ changes (edit_task name no_failure)
-      ▷ for_each (filter (is_to_activate (top_region_of_scope w name) part) w.tasks) (activate_one p name (active_of p w name)))
-      ▷ looks (λ w. await_group p name (has_activating w name) (task_of w name).group_failed)
+    ▷ for_each (filter (is_to_activate (top_region_of_scope w name) part) w.tasks) (activate_one p name (active_of p w name)))
+    ▷ looks (λ w. await_group p name (has_activating w name) (task_of w name).group_failed)
 
 -- the end of a task's own activation: it goes to the head where its active priority falls
 abbrev pub end_own_activation : Image → Who → StatementNo → Step
@@ -201,9 +201,9 @@ wait_for_dependents name r = looks (λ w. when (has_dependents w r) (block the_b
 abbrev pub leave_region : Image → Who → ScopeMark → Leaving → RegionNo → Step
 leave_region p name m leaving r =
     changes (edit_top_scope name being_left_mark) ▷ changes (edit_top name (left_so_frame leaving))
-      ▷ says own (line.Leave name r (leaves_as leaving))
-      ▷ looks (λ w. for_each (filter (is_made_in r) w.tasks) (end_made p name))
-      ▷ complete_if_task p name m.purpose ▷ wait_for_dependents name r
+    ▷ says own (line.Leave name r (leaves_as leaving))
+    ▷ looks (λ w. for_each (filter (is_made_in r) w.tasks) (end_made p name))
+    ▷ complete_if_task p name m.purpose ▷ wait_for_dependents name r
 
 -- ---- a scope has ended
 
@@ -229,7 +229,7 @@ fails_by w name leaving = is_some (exception_in leaving) && not (task_of w name)
 abbrev pub end_task : Image → Who → Leaving → Step
 end_task p name leaving =
     says_done own name ▷ looks (λ w. end_activation p name name (fails_by w name leaving)) ▷ terminate p name name
-      ▷ when (is_environment name) (changes (end_environment leaving))
+    ▷ when (is_environment name) (changes (end_environment leaving))
 
 -- a body that was left by its end or by a return has ended normally
 abbrev pub is_normal : Leaving → Bool
@@ -271,7 +271,7 @@ says_left p name m leaving =
 abbrev pub end_of_scope : Image → Who → ScopeMark → Leaving → Step
 end_of_scope p name m leaving =
     looks (λ w. changes (pop name) ▷ changes (end_scope m.within) ▷ says_left p name m leaving
-      ▷ behind_scope p name m.purpose (cells_of (scope_in_use w m.within)) (left_by m leaving))
+    ▷ behind_scope p name m.purpose (cells_of (scope_in_use w m.within)) (left_by m leaving))
 
 -- a kept scope's leaving begins, finalizes one object, or has ended
 abbrev pub go_on_leaving : Image → Who → ScopeMark → Leaving → RegionNo → Bool → Step
@@ -322,7 +322,7 @@ abort_all p actor tasks =
 abbrev pub abort_statement : Image → Who → StatementNo → List DeclNo → Step
 abort_statement p name s tasks =
     sees p name (λ q. raise_if p name (in_protected q.world name) exception.Program
-      (given p own name (named_tasks q tasks) (λ named. goes name (next_of p s) ▷ looks (λ w. abort_all p name (filter (is_to_abort w named) w.tasks)))))
+    (given p own name (named_tasks q tasks) (λ named. goes name (next_of p s) ▷ looks (λ w. abort_all p name (filter (is_to_abort w named) w.tasks)))))
 
 -- ---- what an effect brings about elsewhere
 

@@ -65,9 +65,10 @@ works_on_unit w u s = is_of_unit u (option_and_then (object_of w) s.object)
 -- the object of the unit in whose body a name stands: the barrier's, or that of the nearest such body round it
 abbrev pub own_object : Seen → ProtectedUnitNo → Option ObjectNo
 own_object q u =
-    elim (is_of_unit u (option_and_then (object_of q.world) q.object))
-      [ true ↦ q.object
-      | false ↦ option_and_then (λ s. s.object) (first_outwards q.world (works_on_unit q.world u) q.within) ]
+    elim (is_of_unit u (option_and_then (object_of q.world) q.object)) [
+      | true ↦ q.object
+      | false ↦ option_and_then (λ s. s.object) (first_outwards q.world (works_on_unit q.world u) q.within)
+    ]
 
 -- ---- names (4.1)
 

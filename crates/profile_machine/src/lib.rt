@@ -5,7 +5,6 @@ mod declarations;
 mod expressions;
 mod image;
 mod numbers;
-mod rows;
 mod run_data;
 mod sequence;
 mod statements;
@@ -22,7 +21,9 @@ pub use numbers::{
     ControlledNo, DeclNo, EntryNo, EnumerationNo, ExprNo, ProtectedUnitNo, ScopeNo, StatementNo,
     SubprogramNo, TaskUnitNo,
 };
-pub use rows::row_01;
+
+pub mod rows;
+
 pub use run_data::{Item, Leaving};
 pub use sequence::Sequence;
 pub use statements::{

@@ -975,6 +975,23 @@ def read(folder, name, missing=None):
         return f.read()
 
 
+# the bound up to which the worlds of a row's run are tested too
+TESTED = 100
+
+
+def worlds_law(name, bound):
+    """The law that every world of the run is well formed."""
+    return f"""
+-- whether every world of its run is well formed
+unfoldable pub {name}_worlds : Bool
+{name}_worlds = run_is_well_formed {name}_program {name}_script {bound}
+
+pub {name}_keeps : {name}_worlds ≡ true
+unfolding {name}_worlds
+{name}_keeps = refl
+"""
+
+
 def row_law(modules, folder, row):
     """The text of a row's module."""
     trace = read(folder, "trace").decode("latin-1").split("\n")[:-1]
@@ -986,7 +1003,12 @@ def row_law(modules, folder, row):
     items_ = modules["script"].script_of(script) if script is not None else []
     title = f"Row {row}: its run stops before tick {bound}, so every greater bound gives the same trace." if ticks is None \
         else f"Row {row}: its run up to tick {bound}."
-    return HEAD + "\n" + law(name_of(row), program, items_, bound, trace, title), bound
+    head = HEAD
+    text_ = law(name_of(row), program, items_, bound, trace, title)
+    if bound <= TESTED:
+        head += "use Rattle.std.specs.Prelude.{Bool}\nuse Rattle.profile_machine.specs.WellFormed.{run_is_well_formed}\n"
+        text_ += worlds_law(name_of(row), bound)
+    return head + "\n" + text_, bound
 
 
 def name_of(row):
@@ -1001,7 +1023,7 @@ def make_rows(modules, rows, crate):
     names = sorted(n for n in os.listdir(rows) if os.path.isdir(os.path.join(rows, n)))
     listed = "-- Worked rows: programs with the traces of their runs, which the machine's runs are.\npub mod Notation\n"
     code = ["//! Worked rows: the run of a program under its script and bound is the trace that was worked out by hand.",
-            "ghost use Rattle.std.specs.Prelude.{◌≡◌};"]
+            "ghost use Rattle.std.specs.Prelude.{◌≡◌, IsTrue};"]
     functions = []
     for row in names:
         folder = os.path.join(rows, row)
@@ -1010,10 +1032,15 @@ def make_rows(modules, rows, crate):
             f.write(text_)
         listed += f"pub mod {module_of(row)}\n"
         name = name_of(row)
-        code.append(f"ghost use Rattle.profile_machine.specs.Rows.{module_of(row)}.{{{name}_lines, {name}_trace}};")
-        functions.append(f"/// Row {row}, up to tick {bound}.\n"
-                         f"#[tactic(auto, using(crate::specs::Rows::{module_of(row)}::{name}_runs))]\n"
-                         f"pub fn {name}()\n    ensures {{ {name}_lines ≡ {name}_trace }}\n{{\n}}\n")
+        tested = bound <= TESTED
+        words_ = f"{name}_lines, {name}_trace" + (f", {name}_worlds" if tested else "")
+        code.append(f"ghost use Rattle.profile_machine.specs.Rows.{module_of(row)}.{{{words_}}};")
+        module = f"crate::specs::Rows::{module_of(row)}"
+        using = f"{module}::{name}_runs" + (f", {module}::{name}_keeps" if tested else "")
+        clauses = f"    ensures runs {{ {name}_lines ≡ {name}_trace }}\n    ensures keeps {{ IsTrue {name}_worlds }}\n" if tested \
+            else f"    ensures {{ {name}_lines ≡ {name}_trace }}\n"
+        functions.append(f"/// Row {row}, up to tick {bound}.\n#[tactic(auto, using({using}))]\n"
+                         f"pub fn {name}()\n{clauses}{{\n}}\n")
     with open(os.path.join(crate, "specs", "Rows.antt"), "w") as f:
         f.write(listed)
     with open(os.path.join(crate, "src", "rows.rt"), "w") as f:

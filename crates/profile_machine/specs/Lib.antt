@@ -30,4 +30,5 @@ pub mod Handlers
 pub mod Act
 pub mod Instant
 pub mod Run
+pub mod WellFormed
 pub mod Rows

@@ -36,6 +36,8 @@ use Rattle.profile_machine.specs.declared.statements.Setting.TheVariants as sett
 use Rattle.profile_machine.specs.Rows.Notation.{decl, expr, stmt, scope, subprogram, task_unit, protected_unit, entry, controlled_type, enumeration, task, call, p, region, t, agent, of_task, of_object, declaration, variable, statement, alternative, select_alternative, handler, handler_name, cell_run, scope_text, formal, subprogram_text, task_unit_text, attachment, protected_unit_text, entry_body, entry_text, controlled_text, enumeration_text, dispatching_range, policies, main_procedure}
 use Rattle.profile_machine.specs.Run.{run_of}
 use Rattle.std.specs.Fmt.{digits}
+use Rattle.std.specs.Prelude.{Bool}
+use Rattle.profile_machine.specs.WellFormed.{run_is_well_formed}
 
 -- Row 01: its run stops before tick 10, so every greater bound gives the same trace.
 abbrev pub row_01_program : Image
@@ -83,3 +85,11 @@ row_01_trace =
 pub row_01_runs : row_01_lines ≡ row_01_trace
 unfolding row_01_lines row_01_trace digits
 row_01_runs = refl
+
+-- whether every world of its run is well formed
+unfoldable pub row_01_worlds : Bool
+row_01_worlds = run_is_well_formed row_01_program row_01_script 10
+
+pub row_01_keeps : row_01_worlds ≡ true
+unfolding row_01_worlds
+row_01_keeps = refl

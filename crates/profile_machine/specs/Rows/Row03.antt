@@ -36,6 +36,8 @@ use Rattle.profile_machine.specs.declared.statements.Setting.TheVariants as sett
 use Rattle.profile_machine.specs.Rows.Notation.{decl, expr, stmt, scope, subprogram, task_unit, protected_unit, entry, controlled_type, enumeration, task, call, p, region, t, agent, of_task, of_object, declaration, variable, statement, alternative, select_alternative, handler, handler_name, cell_run, scope_text, formal, subprogram_text, task_unit_text, attachment, protected_unit_text, entry_body, entry_text, controlled_text, enumeration_text, dispatching_range, policies, main_procedure}
 use Rattle.profile_machine.specs.Run.{run_of}
 use Rattle.std.specs.Fmt.{digits}
+use Rattle.std.specs.Prelude.{Bool}
+use Rattle.profile_machine.specs.WellFormed.{run_is_well_formed}
 
 -- Row 03: its run stops before tick 36, so every greater bound gives the same trace.
 abbrev pub row_03_program : Image
@@ -130,3 +132,11 @@ row_03_trace =
 pub row_03_runs : row_03_lines ≡ row_03_trace
 unfolding row_03_lines row_03_trace digits
 row_03_runs = refl
+
+-- whether every world of its run is well formed
+unfoldable pub row_03_worlds : Bool
+row_03_worlds = run_is_well_formed row_03_program row_03_script 36
+
+pub row_03_keeps : row_03_worlds ≡ true
+unfolding row_03_worlds
+row_03_keeps = refl

@@ -36,6 +36,8 @@ use Rattle.profile_machine.specs.declared.statements.Setting.TheVariants as sett
 use Rattle.profile_machine.specs.Rows.Notation.{decl, expr, stmt, scope, subprogram, task_unit, protected_unit, entry, controlled_type, enumeration, task, call, p, region, t, agent, of_task, of_object, declaration, variable, statement, alternative, select_alternative, handler, handler_name, cell_run, scope_text, formal, subprogram_text, task_unit_text, attachment, protected_unit_text, entry_body, entry_text, controlled_text, enumeration_text, dispatching_range, policies, main_procedure}
 use Rattle.profile_machine.specs.Run.{run_of}
 use Rattle.std.specs.Fmt.{digits}
+use Rattle.std.specs.Prelude.{Bool}
+use Rattle.profile_machine.specs.WellFormed.{run_is_well_formed}
 
 -- Row 06: its run stops before tick 45, so every greater bound gives the same trace.
 abbrev pub row_06_program : Image
@@ -166,3 +168,11 @@ row_06_trace =
 pub row_06_runs : row_06_lines ≡ row_06_trace
 unfolding row_06_lines row_06_trace digits
 row_06_runs = refl
+
+-- whether every world of its run is well formed
+unfoldable pub row_06_worlds : Bool
+row_06_worlds = run_is_well_formed row_06_program row_06_script 45
+
+pub row_06_keeps : row_06_worlds ≡ true
+unfolding row_06_worlds
+row_06_keeps = refl

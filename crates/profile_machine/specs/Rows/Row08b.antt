@@ -36,6 +36,8 @@ use Rattle.profile_machine.specs.declared.statements.Setting.TheVariants as sett
 use Rattle.profile_machine.specs.Rows.Notation.{decl, expr, stmt, scope, subprogram, task_unit, protected_unit, entry, controlled_type, enumeration, task, call, p, region, t, agent, of_task, of_object, declaration, variable, statement, alternative, select_alternative, handler, handler_name, cell_run, scope_text, formal, subprogram_text, task_unit_text, attachment, protected_unit_text, entry_body, entry_text, controlled_text, enumeration_text, dispatching_range, policies, main_procedure}
 use Rattle.profile_machine.specs.Run.{run_of}
 use Rattle.std.specs.Fmt.{digits}
+use Rattle.std.specs.Prelude.{Bool}
+use Rattle.profile_machine.specs.WellFormed.{run_is_well_formed}
 
 -- Row 08b: its run stops before tick 18, so every greater bound gives the same trace.
 abbrev pub row_08b_program : Image
@@ -117,3 +119,11 @@ row_08b_trace =
 pub row_08b_runs : row_08b_lines ≡ row_08b_trace
 unfolding row_08b_lines row_08b_trace digits
 row_08b_runs = refl
+
+-- whether every world of its run is well formed
+unfoldable pub row_08b_worlds : Bool
+row_08b_worlds = run_is_well_formed row_08b_program row_08b_script 18
+
+pub row_08b_keeps : row_08b_worlds ≡ true
+unfolding row_08b_worlds
+row_08b_keeps = refl

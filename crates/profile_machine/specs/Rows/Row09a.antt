@@ -36,6 +36,8 @@ use Rattle.profile_machine.specs.declared.statements.Setting.TheVariants as sett
 use Rattle.profile_machine.specs.Rows.Notation.{decl, expr, stmt, scope, subprogram, task_unit, protected_unit, entry, controlled_type, enumeration, task, call, p, region, t, agent, of_task, of_object, declaration, variable, statement, alternative, select_alternative, handler, handler_name, cell_run, scope_text, formal, subprogram_text, task_unit_text, attachment, protected_unit_text, entry_body, entry_text, controlled_text, enumeration_text, dispatching_range, policies, main_procedure}
 use Rattle.profile_machine.specs.Run.{run_of}
 use Rattle.std.specs.Fmt.{digits}
+use Rattle.std.specs.Prelude.{Bool}
+use Rattle.profile_machine.specs.WellFormed.{run_is_well_formed}
 
 -- Row 09a: its run stops before tick 22, so every greater bound gives the same trace.
 abbrev pub row_09a_program : Image
@@ -118,3 +120,11 @@ row_09a_trace =
 pub row_09a_runs : row_09a_lines ≡ row_09a_trace
 unfolding row_09a_lines row_09a_trace digits
 row_09a_runs = refl
+
+-- whether every world of its run is well formed
+unfoldable pub row_09a_worlds : Bool
+row_09a_worlds = run_is_well_formed row_09a_program row_09a_script 22
+
+pub row_09a_keeps : row_09a_worlds ≡ true
+unfolding row_09a_worlds
+row_09a_keeps = refl

@@ -36,6 +36,8 @@ use Rattle.profile_machine.specs.declared.statements.Setting.TheVariants as sett
 use Rattle.profile_machine.specs.Rows.Notation.{decl, expr, stmt, scope, subprogram, task_unit, protected_unit, entry, controlled_type, enumeration, task, call, p, region, t, agent, of_task, of_object, declaration, variable, statement, alternative, select_alternative, handler, handler_name, cell_run, scope_text, formal, subprogram_text, task_unit_text, attachment, protected_unit_text, entry_body, entry_text, controlled_text, enumeration_text, dispatching_range, policies, main_procedure}
 use Rattle.profile_machine.specs.Run.{run_of}
 use Rattle.std.specs.Fmt.{digits}
+use Rattle.std.specs.Prelude.{Bool}
+use Rattle.profile_machine.specs.WellFormed.{run_is_well_formed}
 
 -- Row 10: its run stops before tick 17, so every greater bound gives the same trace.
 abbrev pub row_10_program : Image
@@ -109,3 +111,11 @@ row_10_trace =
 pub row_10_runs : row_10_lines ≡ row_10_trace
 unfolding row_10_lines row_10_trace digits
 row_10_runs = refl
+
+-- whether every world of its run is well formed
+unfoldable pub row_10_worlds : Bool
+row_10_worlds = run_is_well_formed row_10_program row_10_script 17
+
+pub row_10_keeps : row_10_worlds ≡ true
+unfolding row_10_worlds
+row_10_keeps = refl

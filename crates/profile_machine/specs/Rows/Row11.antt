@@ -36,6 +36,8 @@ use Rattle.profile_machine.specs.declared.statements.Setting.TheVariants as sett
 use Rattle.profile_machine.specs.Rows.Notation.{decl, expr, stmt, scope, subprogram, task_unit, protected_unit, entry, controlled_type, enumeration, task, call, p, region, t, agent, of_task, of_object, declaration, variable, statement, alternative, select_alternative, handler, handler_name, cell_run, scope_text, formal, subprogram_text, task_unit_text, attachment, protected_unit_text, entry_body, entry_text, controlled_text, enumeration_text, dispatching_range, policies, main_procedure}
 use Rattle.profile_machine.specs.Run.{run_of}
 use Rattle.std.specs.Fmt.{digits}
+use Rattle.std.specs.Prelude.{Bool}
+use Rattle.profile_machine.specs.WellFormed.{run_is_well_formed}
 
 -- Row 11: its run stops before tick 35, so every greater bound gives the same trace.
 abbrev pub row_11_program : Image
@@ -115,3 +117,11 @@ row_11_trace =
 pub row_11_runs : row_11_lines ≡ row_11_trace
 unfolding row_11_lines row_11_trace digits
 row_11_runs = refl
+
+-- whether every world of its run is well formed
+unfoldable pub row_11_worlds : Bool
+row_11_worlds = run_is_well_formed row_11_program row_11_script 35
+
+pub row_11_keeps : row_11_worlds ≡ true
+unfolding row_11_worlds
+row_11_keeps = refl

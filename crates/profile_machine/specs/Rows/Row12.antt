@@ -36,6 +36,8 @@ use Rattle.profile_machine.specs.declared.statements.Setting.TheVariants as sett
 use Rattle.profile_machine.specs.Rows.Notation.{decl, expr, stmt, scope, subprogram, task_unit, protected_unit, entry, controlled_type, enumeration, task, call, p, region, t, agent, of_task, of_object, declaration, variable, statement, alternative, select_alternative, handler, handler_name, cell_run, scope_text, formal, subprogram_text, task_unit_text, attachment, protected_unit_text, entry_body, entry_text, controlled_text, enumeration_text, dispatching_range, policies, main_procedure}
 use Rattle.profile_machine.specs.Run.{run_of}
 use Rattle.std.specs.Fmt.{digits}
+use Rattle.std.specs.Prelude.{Bool}
+use Rattle.profile_machine.specs.WellFormed.{run_is_well_formed}
 
 -- Row 12: its run stops before tick 38, so every greater bound gives the same trace.
 abbrev pub row_12_program : Image
@@ -133,3 +135,11 @@ row_12_trace =
 pub row_12_runs : row_12_lines ≡ row_12_trace
 unfolding row_12_lines row_12_trace digits
 row_12_runs = refl
+
+-- whether every world of its run is well formed
+unfoldable pub row_12_worlds : Bool
+row_12_worlds = run_is_well_formed row_12_program row_12_script 38
+
+pub row_12_keeps : row_12_worlds ≡ true
+unfolding row_12_worlds
+row_12_keeps = refl

@@ -36,6 +36,8 @@ use Rattle.profile_machine.specs.declared.statements.Setting.TheVariants as sett
 use Rattle.profile_machine.specs.Rows.Notation.{decl, expr, stmt, scope, subprogram, task_unit, protected_unit, entry, controlled_type, enumeration, task, call, p, region, t, agent, of_task, of_object, declaration, variable, statement, alternative, select_alternative, handler, handler_name, cell_run, scope_text, formal, subprogram_text, task_unit_text, attachment, protected_unit_text, entry_body, entry_text, controlled_text, enumeration_text, dispatching_range, policies, main_procedure}
 use Rattle.profile_machine.specs.Run.{run_of}
 use Rattle.std.specs.Fmt.{digits}
+use Rattle.std.specs.Prelude.{Bool}
+use Rattle.profile_machine.specs.WellFormed.{run_is_well_formed}
 
 -- Row 13: its run stops before tick 24, so every greater bound gives the same trace.
 abbrev pub row_13_program : Image
@@ -128,3 +130,11 @@ row_13_trace =
 pub row_13_runs : row_13_lines ≡ row_13_trace
 unfolding row_13_lines row_13_trace digits
 row_13_runs = refl
+
+-- whether every world of its run is well formed
+unfoldable pub row_13_worlds : Bool
+row_13_worlds = run_is_well_formed row_13_program row_13_script 24
+
+pub row_13_keeps : row_13_worlds ≡ true
+unfolding row_13_worlds
+row_13_keeps = refl

@@ -36,6 +36,8 @@ use Rattle.profile_machine.specs.declared.statements.Setting.TheVariants as sett
 use Rattle.profile_machine.specs.Rows.Notation.{decl, expr, stmt, scope, subprogram, task_unit, protected_unit, entry, controlled_type, enumeration, task, call, p, region, t, agent, of_task, of_object, declaration, variable, statement, alternative, select_alternative, handler, handler_name, cell_run, scope_text, formal, subprogram_text, task_unit_text, attachment, protected_unit_text, entry_body, entry_text, controlled_text, enumeration_text, dispatching_range, policies, main_procedure}
 use Rattle.profile_machine.specs.Run.{run_of}
 use Rattle.std.specs.Fmt.{digits}
+use Rattle.std.specs.Prelude.{Bool}
+use Rattle.profile_machine.specs.WellFormed.{run_is_well_formed}
 
 -- Row 15c: its run up to tick 9.
 abbrev pub row_15c_program : Image
@@ -83,3 +85,11 @@ row_15c_trace =
 pub row_15c_runs : row_15c_lines ≡ row_15c_trace
 unfolding row_15c_lines row_15c_trace digits
 row_15c_runs = refl
+
+-- whether every world of its run is well formed
+unfoldable pub row_15c_worlds : Bool
+row_15c_worlds = run_is_well_formed row_15c_program row_15c_script 9
+
+pub row_15c_keeps : row_15c_worlds ≡ true
+unfolding row_15c_worlds
+row_15c_keeps = refl

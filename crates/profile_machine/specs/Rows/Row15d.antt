@@ -36,6 +36,8 @@ use Rattle.profile_machine.specs.declared.statements.Setting.TheVariants as sett
 use Rattle.profile_machine.specs.Rows.Notation.{decl, expr, stmt, scope, subprogram, task_unit, protected_unit, entry, controlled_type, enumeration, task, call, p, region, t, agent, of_task, of_object, declaration, variable, statement, alternative, select_alternative, handler, handler_name, cell_run, scope_text, formal, subprogram_text, task_unit_text, attachment, protected_unit_text, entry_body, entry_text, controlled_text, enumeration_text, dispatching_range, policies, main_procedure}
 use Rattle.profile_machine.specs.Run.{run_of}
 use Rattle.std.specs.Fmt.{digits}
+use Rattle.std.specs.Prelude.{Bool}
+use Rattle.profile_machine.specs.WellFormed.{run_is_well_formed}
 
 -- Row 15d: its run up to tick 50.
 abbrev pub row_15d_program : Image
@@ -87,3 +89,11 @@ row_15d_trace =
 pub row_15d_runs : row_15d_lines ≡ row_15d_trace
 unfolding row_15d_lines row_15d_trace digits
 row_15d_runs = refl
+
+-- whether every world of its run is well formed
+unfoldable pub row_15d_worlds : Bool
+row_15d_worlds = run_is_well_formed row_15d_program row_15d_script 50
+
+pub row_15d_keeps : row_15d_worlds ≡ true
+unfolding row_15d_worlds
+row_15d_keeps = refl

@@ -36,6 +36,8 @@ use Rattle.profile_machine.specs.declared.statements.Setting.TheVariants as sett
 use Rattle.profile_machine.specs.Rows.Notation.{decl, expr, stmt, scope, subprogram, task_unit, protected_unit, entry, controlled_type, enumeration, task, call, p, region, t, agent, of_task, of_object, declaration, variable, statement, alternative, select_alternative, handler, handler_name, cell_run, scope_text, formal, subprogram_text, task_unit_text, attachment, protected_unit_text, entry_body, entry_text, controlled_text, enumeration_text, dispatching_range, policies, main_procedure}
 use Rattle.profile_machine.specs.Run.{run_of}
 use Rattle.std.specs.Fmt.{digits}
+use Rattle.std.specs.Prelude.{Bool}
+use Rattle.profile_machine.specs.WellFormed.{run_is_well_formed}
 
 -- Row 16: its run stops before tick 32, so every greater bound gives the same trace.
 abbrev pub row_16_program : Image
@@ -127,3 +129,11 @@ row_16_trace =
 pub row_16_runs : row_16_lines ≡ row_16_trace
 unfolding row_16_lines row_16_trace digits
 row_16_runs = refl
+
+-- whether every world of its run is well formed
+unfoldable pub row_16_worlds : Bool
+row_16_worlds = run_is_well_formed row_16_program row_16_script 32
+
+pub row_16_keeps : row_16_worlds ≡ true
+unfolding row_16_worlds
+row_16_keeps = refl

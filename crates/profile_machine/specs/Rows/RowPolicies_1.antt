@@ -36,6 +36,8 @@ use Rattle.profile_machine.specs.declared.statements.Setting.TheVariants as sett
 use Rattle.profile_machine.specs.Rows.Notation.{decl, expr, stmt, scope, subprogram, task_unit, protected_unit, entry, controlled_type, enumeration, task, call, p, region, t, agent, of_task, of_object, declaration, variable, statement, alternative, select_alternative, handler, handler_name, cell_run, scope_text, formal, subprogram_text, task_unit_text, attachment, protected_unit_text, entry_body, entry_text, controlled_text, enumeration_text, dispatching_range, policies, main_procedure}
 use Rattle.profile_machine.specs.Run.{run_of}
 use Rattle.std.specs.Fmt.{digits}
+use Rattle.std.specs.Prelude.{Bool}
+use Rattle.profile_machine.specs.WellFormed.{run_is_well_formed}
 
 -- Row policies.1: its run stops before tick 29, so every greater bound gives the same trace.
 abbrev pub row_policies_1_program : Image
@@ -127,3 +129,11 @@ row_policies_1_trace =
 pub row_policies_1_runs : row_policies_1_lines ≡ row_policies_1_trace
 unfolding row_policies_1_lines row_policies_1_trace digits
 row_policies_1_runs = refl
+
+-- whether every world of its run is well formed
+unfoldable pub row_policies_1_worlds : Bool
+row_policies_1_worlds = run_is_well_formed row_policies_1_program row_policies_1_script 29
+
+pub row_policies_1_keeps : row_policies_1_worlds ≡ true
+unfolding row_policies_1_worlds
+row_policies_1_keeps = refl

@@ -36,6 +36,8 @@ use Rattle.profile_machine.specs.declared.statements.Setting.TheVariants as sett
 use Rattle.profile_machine.specs.Rows.Notation.{decl, expr, stmt, scope, subprogram, task_unit, protected_unit, entry, controlled_type, enumeration, task, call, p, region, t, agent, of_task, of_object, declaration, variable, statement, alternative, select_alternative, handler, handler_name, cell_run, scope_text, formal, subprogram_text, task_unit_text, attachment, protected_unit_text, entry_body, entry_text, controlled_text, enumeration_text, dispatching_range, policies, main_procedure}
 use Rattle.profile_machine.specs.Run.{run_of}
 use Rattle.std.specs.Fmt.{digits}
+use Rattle.std.specs.Prelude.{Bool}
+use Rattle.profile_machine.specs.WellFormed.{run_is_well_formed}
 
 -- Row wide.2: its run stops before tick 10, so every greater bound gives the same trace.
 abbrev pub row_wide_2_program : Image
@@ -83,3 +85,11 @@ row_wide_2_trace =
 pub row_wide_2_runs : row_wide_2_lines ≡ row_wide_2_trace
 unfolding row_wide_2_lines row_wide_2_trace digits
 row_wide_2_runs = refl
+
+-- whether every world of its run is well formed
+unfoldable pub row_wide_2_worlds : Bool
+row_wide_2_worlds = run_is_well_formed row_wide_2_program row_wide_2_script 10
+
+pub row_wide_2_keeps : row_wide_2_worlds ≡ true
+unfolding row_wide_2_worlds
+row_wide_2_keeps = refl

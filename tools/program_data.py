@@ -980,7 +980,7 @@ TESTED = 100
 
 
 def worlds_law(name, bound):
-    """The law that every world of the run is well formed."""
+    """The laws that every world of the run is well formed, and that each handler is released at its tick."""
     return f"""
 -- whether every world of its run is well formed
 unfoldable pub {name}_worlds : Bool
@@ -989,6 +989,14 @@ unfoldable pub {name}_worlds : Bool
 pub {name}_keeps : {name}_worlds ≡ true
 unfolding {name}_worlds
 {name}_keeps = refl
+
+-- whether each handler is released at its tick
+unfoldable pub {name}_handlers : Bool
+{name}_handlers = releases_ok {name}_program {name}_script {bound}
+
+pub {name}_releases : {name}_handlers ≡ true
+unfolding {name}_handlers
+{name}_releases = refl
 """
 
 
@@ -1006,7 +1014,7 @@ def row_law(modules, folder, row):
     head = HEAD
     text_ = law(name_of(row), program, items_, bound, trace, title)
     if bound <= TESTED:
-        head += "use Rattle.std.specs.Prelude.{Bool}\nuse Rattle.profile_machine.specs.WellFormed.{run_is_well_formed}\n"
+        head += "use Rattle.std.specs.Prelude.{Bool}\nuse Rattle.profile_machine.specs.WellFormed.{run_is_well_formed}\nuse Rattle.profile_machine.specs.Releases.{releases_ok}\n"
         text_ += worlds_law(name_of(row), bound)
     return head + "\n" + text_, bound
 
@@ -1033,11 +1041,11 @@ def make_rows(modules, rows, crate):
         listed += f"pub mod {module_of(row)}\n"
         name = name_of(row)
         tested = bound <= TESTED
-        words_ = f"{name}_lines, {name}_trace" + (f", {name}_worlds" if tested else "")
+        words_ = f"{name}_lines, {name}_trace" + (f", {name}_worlds, {name}_handlers" if tested else "")
         code.append(f"ghost use Rattle.profile_machine.specs.Rows.{module_of(row)}.{{{words_}}};")
         module = f"crate::specs::Rows::{module_of(row)}"
-        using = f"{module}::{name}_runs" + (f", {module}::{name}_keeps" if tested else "")
-        clauses = f"    ensures runs {{ {name}_lines ≡ {name}_trace }}\n    ensures keeps {{ IsTrue {name}_worlds }}\n" if tested \
+        using = f"{module}::{name}_runs" + (f", {module}::{name}_keeps, {module}::{name}_releases" if tested else "")
+        clauses = f"    ensures runs {{ {name}_lines ≡ {name}_trace }}\n    ensures keeps {{ IsTrue {name}_worlds }}\n    ensures releases {{ IsTrue {name}_handlers }}\n" if tested \
             else f"    ensures {{ {name}_lines ≡ {name}_trace }}\n"
         functions.append(f"/// Row {row}, up to tick {bound}.\n#[tactic(auto, using({using}))]\n"
                          f"pub fn {name}()\n{clauses}{{\n}}\n")

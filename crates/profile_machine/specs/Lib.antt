@@ -31,4 +31,5 @@ pub mod Act
 pub mod Instant
 pub mod Run
 pub mod WellFormed
+pub mod Releases
 pub mod Rows

@@ -26,6 +26,7 @@ pub mod Row19
 pub mod Row20a
 pub mod Row20b
 pub mod Row20c
+pub mod Row23
 pub mod RowAdjust_1
 pub mod RowAdjust_2
 pub mod RowBudgets_1

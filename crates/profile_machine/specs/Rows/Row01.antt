@@ -38,6 +38,7 @@ use Rattle.profile_machine.specs.Run.{run_of}
 use Rattle.std.specs.Fmt.{digits}
 use Rattle.std.specs.Prelude.{Bool}
 use Rattle.profile_machine.specs.WellFormed.{run_is_well_formed}
+use Rattle.profile_machine.specs.Releases.{releases_ok}
 
 -- Row 01: its run stops before tick 10, so every greater bound gives the same trace.
 abbrev pub row_01_program : Image
@@ -93,3 +94,11 @@ row_01_worlds = run_is_well_formed row_01_program row_01_script 10
 pub row_01_keeps : row_01_worlds ≡ true
 unfolding row_01_worlds
 row_01_keeps = refl
+
+-- whether each handler is released at its tick
+unfoldable pub row_01_handlers : Bool
+row_01_handlers = releases_ok row_01_program row_01_script 10
+
+pub row_01_releases : row_01_handlers ≡ true
+unfolding row_01_handlers
+row_01_releases = refl

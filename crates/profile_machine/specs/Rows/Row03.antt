@@ -38,6 +38,7 @@ use Rattle.profile_machine.specs.Run.{run_of}
 use Rattle.std.specs.Fmt.{digits}
 use Rattle.std.specs.Prelude.{Bool}
 use Rattle.profile_machine.specs.WellFormed.{run_is_well_formed}
+use Rattle.profile_machine.specs.Releases.{releases_ok}
 
 -- Row 03: its run stops before tick 36, so every greater bound gives the same trace.
 abbrev pub row_03_program : Image
@@ -140,3 +141,11 @@ row_03_worlds = run_is_well_formed row_03_program row_03_script 36
 pub row_03_keeps : row_03_worlds ≡ true
 unfolding row_03_worlds
 row_03_keeps = refl
+
+-- whether each handler is released at its tick
+unfoldable pub row_03_handlers : Bool
+row_03_handlers = releases_ok row_03_program row_03_script 36
+
+pub row_03_releases : row_03_handlers ≡ true
+unfolding row_03_handlers
+row_03_releases = refl

@@ -38,6 +38,7 @@ use Rattle.profile_machine.specs.Run.{run_of}
 use Rattle.std.specs.Fmt.{digits}
 use Rattle.std.specs.Prelude.{Bool}
 use Rattle.profile_machine.specs.WellFormed.{run_is_well_formed}
+use Rattle.profile_machine.specs.Releases.{releases_ok}
 
 -- Row 04: its run stops before tick 15, so every greater bound gives the same trace.
 abbrev pub row_04_program : Image
@@ -116,3 +117,11 @@ row_04_worlds = run_is_well_formed row_04_program row_04_script 15
 pub row_04_keeps : row_04_worlds ≡ true
 unfolding row_04_worlds
 row_04_keeps = refl
+
+-- whether each handler is released at its tick
+unfoldable pub row_04_handlers : Bool
+row_04_handlers = releases_ok row_04_program row_04_script 15
+
+pub row_04_releases : row_04_handlers ≡ true
+unfolding row_04_handlers
+row_04_releases = refl

@@ -38,6 +38,7 @@ use Rattle.profile_machine.specs.Run.{run_of}
 use Rattle.std.specs.Fmt.{digits}
 use Rattle.std.specs.Prelude.{Bool}
 use Rattle.profile_machine.specs.WellFormed.{run_is_well_formed}
+use Rattle.profile_machine.specs.Releases.{releases_ok}
 
 -- Row 05a: its run stops before tick 8, so every greater bound gives the same trace.
 abbrev pub row_05a_program : Image
@@ -102,3 +103,11 @@ row_05a_worlds = run_is_well_formed row_05a_program row_05a_script 8
 pub row_05a_keeps : row_05a_worlds ≡ true
 unfolding row_05a_worlds
 row_05a_keeps = refl
+
+-- whether each handler is released at its tick
+unfoldable pub row_05a_handlers : Bool
+row_05a_handlers = releases_ok row_05a_program row_05a_script 8
+
+pub row_05a_releases : row_05a_handlers ≡ true
+unfolding row_05a_handlers
+row_05a_releases = refl

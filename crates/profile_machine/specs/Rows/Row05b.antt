@@ -38,6 +38,7 @@ use Rattle.profile_machine.specs.Run.{run_of}
 use Rattle.std.specs.Fmt.{digits}
 use Rattle.std.specs.Prelude.{Bool}
 use Rattle.profile_machine.specs.WellFormed.{run_is_well_formed}
+use Rattle.profile_machine.specs.Releases.{releases_ok}
 
 -- Row 05b: its run stops before tick 11, so every greater bound gives the same trace.
 abbrev pub row_05b_program : Image
@@ -105,3 +106,11 @@ row_05b_worlds = run_is_well_formed row_05b_program row_05b_script 11
 pub row_05b_keeps : row_05b_worlds ≡ true
 unfolding row_05b_worlds
 row_05b_keeps = refl
+
+-- whether each handler is released at its tick
+unfoldable pub row_05b_handlers : Bool
+row_05b_handlers = releases_ok row_05b_program row_05b_script 11
+
+pub row_05b_releases : row_05b_handlers ≡ true
+unfolding row_05b_handlers
+row_05b_releases = refl

@@ -38,6 +38,7 @@ use Rattle.profile_machine.specs.Run.{run_of}
 use Rattle.std.specs.Fmt.{digits}
 use Rattle.std.specs.Prelude.{Bool}
 use Rattle.profile_machine.specs.WellFormed.{run_is_well_formed}
+use Rattle.profile_machine.specs.Releases.{releases_ok}
 
 -- Row 05c: its run stops before tick 11, so every greater bound gives the same trace.
 abbrev pub row_05c_program : Image
@@ -103,3 +104,11 @@ row_05c_worlds = run_is_well_formed row_05c_program row_05c_script 11
 pub row_05c_keeps : row_05c_worlds ≡ true
 unfolding row_05c_worlds
 row_05c_keeps = refl
+
+-- whether each handler is released at its tick
+unfoldable pub row_05c_handlers : Bool
+row_05c_handlers = releases_ok row_05c_program row_05c_script 11
+
+pub row_05c_releases : row_05c_handlers ≡ true
+unfolding row_05c_handlers
+row_05c_releases = refl

@@ -38,6 +38,7 @@ use Rattle.profile_machine.specs.Run.{run_of}
 use Rattle.std.specs.Fmt.{digits}
 use Rattle.std.specs.Prelude.{Bool}
 use Rattle.profile_machine.specs.WellFormed.{run_is_well_formed}
+use Rattle.profile_machine.specs.Releases.{releases_ok}
 
 -- Row 06: its run stops before tick 45, so every greater bound gives the same trace.
 abbrev pub row_06_program : Image
@@ -176,3 +177,11 @@ row_06_worlds = run_is_well_formed row_06_program row_06_script 45
 pub row_06_keeps : row_06_worlds ≡ true
 unfolding row_06_worlds
 row_06_keeps = refl
+
+-- whether each handler is released at its tick
+unfoldable pub row_06_handlers : Bool
+row_06_handlers = releases_ok row_06_program row_06_script 45
+
+pub row_06_releases : row_06_handlers ≡ true
+unfolding row_06_handlers
+row_06_releases = refl

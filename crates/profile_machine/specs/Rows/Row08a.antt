@@ -38,6 +38,7 @@ use Rattle.profile_machine.specs.Run.{run_of}
 use Rattle.std.specs.Fmt.{digits}
 use Rattle.std.specs.Prelude.{Bool}
 use Rattle.profile_machine.specs.WellFormed.{run_is_well_formed}
+use Rattle.profile_machine.specs.Releases.{releases_ok}
 
 -- Row 08a: its run stops before tick 22, so every greater bound gives the same trace.
 abbrev pub row_08a_program : Image
@@ -134,3 +135,11 @@ row_08a_worlds = run_is_well_formed row_08a_program row_08a_script 22
 pub row_08a_keeps : row_08a_worlds ≡ true
 unfolding row_08a_worlds
 row_08a_keeps = refl
+
+-- whether each handler is released at its tick
+unfoldable pub row_08a_handlers : Bool
+row_08a_handlers = releases_ok row_08a_program row_08a_script 22
+
+pub row_08a_releases : row_08a_handlers ≡ true
+unfolding row_08a_handlers
+row_08a_releases = refl

@@ -38,6 +38,7 @@ use Rattle.profile_machine.specs.Run.{run_of}
 use Rattle.std.specs.Fmt.{digits}
 use Rattle.std.specs.Prelude.{Bool}
 use Rattle.profile_machine.specs.WellFormed.{run_is_well_formed}
+use Rattle.profile_machine.specs.Releases.{releases_ok}
 
 -- Row 08b: its run stops before tick 18, so every greater bound gives the same trace.
 abbrev pub row_08b_program : Image
@@ -127,3 +128,11 @@ row_08b_worlds = run_is_well_formed row_08b_program row_08b_script 18
 pub row_08b_keeps : row_08b_worlds ≡ true
 unfolding row_08b_worlds
 row_08b_keeps = refl
+
+-- whether each handler is released at its tick
+unfoldable pub row_08b_handlers : Bool
+row_08b_handlers = releases_ok row_08b_program row_08b_script 18
+
+pub row_08b_releases : row_08b_handlers ≡ true
+unfolding row_08b_handlers
+row_08b_releases = refl

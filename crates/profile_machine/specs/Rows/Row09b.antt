@@ -38,6 +38,7 @@ use Rattle.profile_machine.specs.Run.{run_of}
 use Rattle.std.specs.Fmt.{digits}
 use Rattle.std.specs.Prelude.{Bool}
 use Rattle.profile_machine.specs.WellFormed.{run_is_well_formed}
+use Rattle.profile_machine.specs.Releases.{releases_ok}
 
 -- Row 09b: its run stops before tick 22, so every greater bound gives the same trace.
 abbrev pub row_09b_program : Image
@@ -128,3 +129,11 @@ row_09b_worlds = run_is_well_formed row_09b_program row_09b_script 22
 pub row_09b_keeps : row_09b_worlds ≡ true
 unfolding row_09b_worlds
 row_09b_keeps = refl
+
+-- whether each handler is released at its tick
+unfoldable pub row_09b_handlers : Bool
+row_09b_handlers = releases_ok row_09b_program row_09b_script 22
+
+pub row_09b_releases : row_09b_handlers ≡ true
+unfolding row_09b_handlers
+row_09b_releases = refl

@@ -38,6 +38,7 @@ use Rattle.profile_machine.specs.Run.{run_of}
 use Rattle.std.specs.Fmt.{digits}
 use Rattle.std.specs.Prelude.{Bool}
 use Rattle.profile_machine.specs.WellFormed.{run_is_well_formed}
+use Rattle.profile_machine.specs.Releases.{releases_ok}
 
 -- Row 10: its run stops before tick 17, so every greater bound gives the same trace.
 abbrev pub row_10_program : Image
@@ -119,3 +120,11 @@ row_10_worlds = run_is_well_formed row_10_program row_10_script 17
 pub row_10_keeps : row_10_worlds ≡ true
 unfolding row_10_worlds
 row_10_keeps = refl
+
+-- whether each handler is released at its tick
+unfoldable pub row_10_handlers : Bool
+row_10_handlers = releases_ok row_10_program row_10_script 17
+
+pub row_10_releases : row_10_handlers ≡ true
+unfolding row_10_handlers
+row_10_releases = refl

@@ -38,6 +38,7 @@ use Rattle.profile_machine.specs.Run.{run_of}
 use Rattle.std.specs.Fmt.{digits}
 use Rattle.std.specs.Prelude.{Bool}
 use Rattle.profile_machine.specs.WellFormed.{run_is_well_formed}
+use Rattle.profile_machine.specs.Releases.{releases_ok}
 
 -- Row 11: its run stops before tick 35, so every greater bound gives the same trace.
 abbrev pub row_11_program : Image
@@ -125,3 +126,11 @@ row_11_worlds = run_is_well_formed row_11_program row_11_script 35
 pub row_11_keeps : row_11_worlds ≡ true
 unfolding row_11_worlds
 row_11_keeps = refl
+
+-- whether each handler is released at its tick
+unfoldable pub row_11_handlers : Bool
+row_11_handlers = releases_ok row_11_program row_11_script 35
+
+pub row_11_releases : row_11_handlers ≡ true
+unfolding row_11_handlers
+row_11_releases = refl

@@ -38,6 +38,7 @@ use Rattle.profile_machine.specs.Run.{run_of}
 use Rattle.std.specs.Fmt.{digits}
 use Rattle.std.specs.Prelude.{Bool}
 use Rattle.profile_machine.specs.WellFormed.{run_is_well_formed}
+use Rattle.profile_machine.specs.Releases.{releases_ok}
 
 -- Row 12: its run stops before tick 38, so every greater bound gives the same trace.
 abbrev pub row_12_program : Image
@@ -143,3 +144,11 @@ row_12_worlds = run_is_well_formed row_12_program row_12_script 38
 pub row_12_keeps : row_12_worlds ≡ true
 unfolding row_12_worlds
 row_12_keeps = refl
+
+-- whether each handler is released at its tick
+unfoldable pub row_12_handlers : Bool
+row_12_handlers = releases_ok row_12_program row_12_script 38
+
+pub row_12_releases : row_12_handlers ≡ true
+unfolding row_12_handlers
+row_12_releases = refl

@@ -38,6 +38,7 @@ use Rattle.profile_machine.specs.Run.{run_of}
 use Rattle.std.specs.Fmt.{digits}
 use Rattle.std.specs.Prelude.{Bool}
 use Rattle.profile_machine.specs.WellFormed.{run_is_well_formed}
+use Rattle.profile_machine.specs.Releases.{releases_ok}
 
 -- Row 13: its run stops before tick 24, so every greater bound gives the same trace.
 abbrev pub row_13_program : Image
@@ -138,3 +139,11 @@ row_13_worlds = run_is_well_formed row_13_program row_13_script 24
 pub row_13_keeps : row_13_worlds ≡ true
 unfolding row_13_worlds
 row_13_keeps = refl
+
+-- whether each handler is released at its tick
+unfoldable pub row_13_handlers : Bool
+row_13_handlers = releases_ok row_13_program row_13_script 24
+
+pub row_13_releases : row_13_handlers ≡ true
+unfolding row_13_handlers
+row_13_releases = refl

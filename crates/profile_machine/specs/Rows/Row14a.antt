@@ -38,6 +38,7 @@ use Rattle.profile_machine.specs.Run.{run_of}
 use Rattle.std.specs.Fmt.{digits}
 use Rattle.std.specs.Prelude.{Bool}
 use Rattle.profile_machine.specs.WellFormed.{run_is_well_formed}
+use Rattle.profile_machine.specs.Releases.{releases_ok}
 
 -- Row 14a: its run stops before tick 12, so every greater bound gives the same trace.
 abbrev pub row_14a_program : Image
@@ -111,3 +112,11 @@ row_14a_worlds = run_is_well_formed row_14a_program row_14a_script 12
 pub row_14a_keeps : row_14a_worlds ≡ true
 unfolding row_14a_worlds
 row_14a_keeps = refl
+
+-- whether each handler is released at its tick
+unfoldable pub row_14a_handlers : Bool
+row_14a_handlers = releases_ok row_14a_program row_14a_script 12
+
+pub row_14a_releases : row_14a_handlers ≡ true
+unfolding row_14a_handlers
+row_14a_releases = refl

@@ -38,6 +38,7 @@ use Rattle.profile_machine.specs.Run.{run_of}
 use Rattle.std.specs.Fmt.{digits}
 use Rattle.std.specs.Prelude.{Bool}
 use Rattle.profile_machine.specs.WellFormed.{run_is_well_formed}
+use Rattle.profile_machine.specs.Releases.{releases_ok}
 
 -- Row 15a: its run up to tick 1.
 abbrev pub row_15a_program : Image
@@ -91,3 +92,11 @@ row_15a_worlds = run_is_well_formed row_15a_program row_15a_script 1
 pub row_15a_keeps : row_15a_worlds ≡ true
 unfolding row_15a_worlds
 row_15a_keeps = refl
+
+-- whether each handler is released at its tick
+unfoldable pub row_15a_handlers : Bool
+row_15a_handlers = releases_ok row_15a_program row_15a_script 1
+
+pub row_15a_releases : row_15a_handlers ≡ true
+unfolding row_15a_handlers
+row_15a_releases = refl

@@ -38,6 +38,7 @@ use Rattle.profile_machine.specs.Run.{run_of}
 use Rattle.std.specs.Fmt.{digits}
 use Rattle.std.specs.Prelude.{Bool}
 use Rattle.profile_machine.specs.WellFormed.{run_is_well_formed}
+use Rattle.profile_machine.specs.Releases.{releases_ok}
 
 -- Row 15b: its run up to tick 8.
 abbrev pub row_15b_program : Image
@@ -92,3 +93,11 @@ row_15b_worlds = run_is_well_formed row_15b_program row_15b_script 8
 pub row_15b_keeps : row_15b_worlds ≡ true
 unfolding row_15b_worlds
 row_15b_keeps = refl
+
+-- whether each handler is released at its tick
+unfoldable pub row_15b_handlers : Bool
+row_15b_handlers = releases_ok row_15b_program row_15b_script 8
+
+pub row_15b_releases : row_15b_handlers ≡ true
+unfolding row_15b_handlers
+row_15b_releases = refl

@@ -38,6 +38,7 @@ use Rattle.profile_machine.specs.Run.{run_of}
 use Rattle.std.specs.Fmt.{digits}
 use Rattle.std.specs.Prelude.{Bool}
 use Rattle.profile_machine.specs.WellFormed.{run_is_well_formed}
+use Rattle.profile_machine.specs.Releases.{releases_ok}
 
 -- Row 15c: its run up to tick 9.
 abbrev pub row_15c_program : Image
@@ -93,3 +94,11 @@ row_15c_worlds = run_is_well_formed row_15c_program row_15c_script 9
 pub row_15c_keeps : row_15c_worlds ≡ true
 unfolding row_15c_worlds
 row_15c_keeps = refl
+
+-- whether each handler is released at its tick
+unfoldable pub row_15c_handlers : Bool
+row_15c_handlers = releases_ok row_15c_program row_15c_script 9
+
+pub row_15c_releases : row_15c_handlers ≡ true
+unfolding row_15c_handlers
+row_15c_releases = refl

@@ -38,6 +38,7 @@ use Rattle.profile_machine.specs.Run.{run_of}
 use Rattle.std.specs.Fmt.{digits}
 use Rattle.std.specs.Prelude.{Bool}
 use Rattle.profile_machine.specs.WellFormed.{run_is_well_formed}
+use Rattle.profile_machine.specs.Releases.{releases_ok}
 
 -- Row 15d: its run up to tick 50.
 abbrev pub row_15d_program : Image
@@ -97,3 +98,11 @@ row_15d_worlds = run_is_well_formed row_15d_program row_15d_script 50
 pub row_15d_keeps : row_15d_worlds ≡ true
 unfolding row_15d_worlds
 row_15d_keeps = refl
+
+-- whether each handler is released at its tick
+unfoldable pub row_15d_handlers : Bool
+row_15d_handlers = releases_ok row_15d_program row_15d_script 50
+
+pub row_15d_releases : row_15d_handlers ≡ true
+unfolding row_15d_handlers
+row_15d_releases = refl

@@ -38,6 +38,7 @@ use Rattle.profile_machine.specs.Run.{run_of}
 use Rattle.std.specs.Fmt.{digits}
 use Rattle.std.specs.Prelude.{Bool}
 use Rattle.profile_machine.specs.WellFormed.{run_is_well_formed}
+use Rattle.profile_machine.specs.Releases.{releases_ok}
 
 -- Row 16: its run stops before tick 32, so every greater bound gives the same trace.
 abbrev pub row_16_program : Image
@@ -137,3 +138,11 @@ row_16_worlds = run_is_well_formed row_16_program row_16_script 32
 pub row_16_keeps : row_16_worlds ≡ true
 unfolding row_16_worlds
 row_16_keeps = refl
+
+-- whether each handler is released at its tick
+unfoldable pub row_16_handlers : Bool
+row_16_handlers = releases_ok row_16_program row_16_script 32
+
+pub row_16_releases : row_16_handlers ≡ true
+unfolding row_16_handlers
+row_16_releases = refl

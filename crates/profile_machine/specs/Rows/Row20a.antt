@@ -38,6 +38,7 @@ use Rattle.profile_machine.specs.Run.{run_of}
 use Rattle.std.specs.Fmt.{digits}
 use Rattle.std.specs.Prelude.{Bool}
 use Rattle.profile_machine.specs.WellFormed.{run_is_well_formed}
+use Rattle.profile_machine.specs.Releases.{releases_ok}
 
 -- Row 20a: its run stops before tick 8, so every greater bound gives the same trace.
 abbrev pub row_20a_program : Image
@@ -100,3 +101,11 @@ row_20a_worlds = run_is_well_formed row_20a_program row_20a_script 8
 pub row_20a_keeps : row_20a_worlds ≡ true
 unfolding row_20a_worlds
 row_20a_keeps = refl
+
+-- whether each handler is released at its tick
+unfoldable pub row_20a_handlers : Bool
+row_20a_handlers = releases_ok row_20a_program row_20a_script 8
+
+pub row_20a_releases : row_20a_handlers ≡ true
+unfolding row_20a_handlers
+row_20a_releases = refl

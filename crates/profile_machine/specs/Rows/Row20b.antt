@@ -38,6 +38,7 @@ use Rattle.profile_machine.specs.Run.{run_of}
 use Rattle.std.specs.Fmt.{digits}
 use Rattle.std.specs.Prelude.{Bool}
 use Rattle.profile_machine.specs.WellFormed.{run_is_well_formed}
+use Rattle.profile_machine.specs.Releases.{releases_ok}
 
 -- Row 20b: its run stops before tick 10, so every greater bound gives the same trace.
 abbrev pub row_20b_program : Image
@@ -94,3 +95,11 @@ row_20b_worlds = run_is_well_formed row_20b_program row_20b_script 10
 pub row_20b_keeps : row_20b_worlds ≡ true
 unfolding row_20b_worlds
 row_20b_keeps = refl
+
+-- whether each handler is released at its tick
+unfoldable pub row_20b_handlers : Bool
+row_20b_handlers = releases_ok row_20b_program row_20b_script 10
+
+pub row_20b_releases : row_20b_handlers ≡ true
+unfolding row_20b_handlers
+row_20b_releases = refl

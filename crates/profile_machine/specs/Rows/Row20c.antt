@@ -38,6 +38,7 @@ use Rattle.profile_machine.specs.Run.{run_of}
 use Rattle.std.specs.Fmt.{digits}
 use Rattle.std.specs.Prelude.{Bool}
 use Rattle.profile_machine.specs.WellFormed.{run_is_well_formed}
+use Rattle.profile_machine.specs.Releases.{releases_ok}
 
 -- Row 20c: its run stops before tick 9, so every greater bound gives the same trace.
 abbrev pub row_20c_program : Image
@@ -94,3 +95,11 @@ row_20c_worlds = run_is_well_formed row_20c_program row_20c_script 9
 pub row_20c_keeps : row_20c_worlds ≡ true
 unfolding row_20c_worlds
 row_20c_keeps = refl
+
+-- whether each handler is released at its tick
+unfoldable pub row_20c_handlers : Bool
+row_20c_handlers = releases_ok row_20c_program row_20c_script 9
+
+pub row_20c_releases : row_20c_handlers ≡ true
+unfolding row_20c_handlers
+row_20c_releases = refl

@@ -38,6 +38,7 @@ use Rattle.profile_machine.specs.Run.{run_of}
 use Rattle.std.specs.Fmt.{digits}
 use Rattle.std.specs.Prelude.{Bool}
 use Rattle.profile_machine.specs.WellFormed.{run_is_well_formed}
+use Rattle.profile_machine.specs.Releases.{releases_ok}
 
 -- Row adjust.1: its run stops before tick 41, so every greater bound gives the same trace.
 abbrev pub row_adjust_1_program : Image
@@ -127,3 +128,11 @@ row_adjust_1_worlds = run_is_well_formed row_adjust_1_program row_adjust_1_scrip
 pub row_adjust_1_keeps : row_adjust_1_worlds ≡ true
 unfolding row_adjust_1_worlds
 row_adjust_1_keeps = refl
+
+-- whether each handler is released at its tick
+unfoldable pub row_adjust_1_handlers : Bool
+row_adjust_1_handlers = releases_ok row_adjust_1_program row_adjust_1_script 41
+
+pub row_adjust_1_releases : row_adjust_1_handlers ≡ true
+unfolding row_adjust_1_handlers
+row_adjust_1_releases = refl

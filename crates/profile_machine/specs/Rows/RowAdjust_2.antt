@@ -38,6 +38,7 @@ use Rattle.profile_machine.specs.Run.{run_of}
 use Rattle.std.specs.Fmt.{digits}
 use Rattle.std.specs.Prelude.{Bool}
 use Rattle.profile_machine.specs.WellFormed.{run_is_well_formed}
+use Rattle.profile_machine.specs.Releases.{releases_ok}
 
 -- Row adjust.2: its run stops before tick 38, so every greater bound gives the same trace.
 abbrev pub row_adjust_2_program : Image
@@ -126,3 +127,11 @@ row_adjust_2_worlds = run_is_well_formed row_adjust_2_program row_adjust_2_scrip
 pub row_adjust_2_keeps : row_adjust_2_worlds ≡ true
 unfolding row_adjust_2_worlds
 row_adjust_2_keeps = refl
+
+-- whether each handler is released at its tick
+unfoldable pub row_adjust_2_handlers : Bool
+row_adjust_2_handlers = releases_ok row_adjust_2_program row_adjust_2_script 38
+
+pub row_adjust_2_releases : row_adjust_2_handlers ≡ true
+unfolding row_adjust_2_handlers
+row_adjust_2_releases = refl

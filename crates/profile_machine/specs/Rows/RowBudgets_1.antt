@@ -38,6 +38,7 @@ use Rattle.profile_machine.specs.Run.{run_of}
 use Rattle.std.specs.Fmt.{digits}
 use Rattle.std.specs.Prelude.{Bool}
 use Rattle.profile_machine.specs.WellFormed.{run_is_well_formed}
+use Rattle.profile_machine.specs.Releases.{releases_ok}
 
 -- Row budgets.1: its run stops before tick 14, so every greater bound gives the same trace.
 abbrev pub row_budgets_1_program : Image
@@ -116,3 +117,11 @@ row_budgets_1_worlds = run_is_well_formed row_budgets_1_program row_budgets_1_sc
 pub row_budgets_1_keeps : row_budgets_1_worlds ≡ true
 unfolding row_budgets_1_worlds
 row_budgets_1_keeps = refl
+
+-- whether each handler is released at its tick
+unfoldable pub row_budgets_1_handlers : Bool
+row_budgets_1_handlers = releases_ok row_budgets_1_program row_budgets_1_script 14
+
+pub row_budgets_1_releases : row_budgets_1_handlers ≡ true
+unfolding row_budgets_1_handlers
+row_budgets_1_releases = refl

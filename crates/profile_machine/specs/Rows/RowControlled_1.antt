@@ -38,6 +38,7 @@ use Rattle.profile_machine.specs.Run.{run_of}
 use Rattle.std.specs.Fmt.{digits}
 use Rattle.std.specs.Prelude.{Bool}
 use Rattle.profile_machine.specs.WellFormed.{run_is_well_formed}
+use Rattle.profile_machine.specs.Releases.{releases_ok}
 
 -- Row controlled.1: its run stops before tick 23, so every greater bound gives the same trace.
 abbrev pub row_controlled_1_program : Image
@@ -114,3 +115,11 @@ row_controlled_1_worlds = run_is_well_formed row_controlled_1_program row_contro
 pub row_controlled_1_keeps : row_controlled_1_worlds ≡ true
 unfolding row_controlled_1_worlds
 row_controlled_1_keeps = refl
+
+-- whether each handler is released at its tick
+unfoldable pub row_controlled_1_handlers : Bool
+row_controlled_1_handlers = releases_ok row_controlled_1_program row_controlled_1_script 23
+
+pub row_controlled_1_releases : row_controlled_1_handlers ≡ true
+unfolding row_controlled_1_handlers
+row_controlled_1_releases = refl

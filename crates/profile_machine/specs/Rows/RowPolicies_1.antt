@@ -38,6 +38,7 @@ use Rattle.profile_machine.specs.Run.{run_of}
 use Rattle.std.specs.Fmt.{digits}
 use Rattle.std.specs.Prelude.{Bool}
 use Rattle.profile_machine.specs.WellFormed.{run_is_well_formed}
+use Rattle.profile_machine.specs.Releases.{releases_ok}
 
 -- Row policies.1: its run stops before tick 29, so every greater bound gives the same trace.
 abbrev pub row_policies_1_program : Image
@@ -137,3 +138,11 @@ row_policies_1_worlds = run_is_well_formed row_policies_1_program row_policies_1
 pub row_policies_1_keeps : row_policies_1_worlds ≡ true
 unfolding row_policies_1_worlds
 row_policies_1_keeps = refl
+
+-- whether each handler is released at its tick
+unfoldable pub row_policies_1_handlers : Bool
+row_policies_1_handlers = releases_ok row_policies_1_program row_policies_1_script 29
+
+pub row_policies_1_releases : row_policies_1_handlers ≡ true
+unfolding row_policies_1_handlers
+row_policies_1_releases = refl

@@ -38,6 +38,7 @@ use Rattle.profile_machine.specs.Run.{run_of}
 use Rattle.std.specs.Fmt.{digits}
 use Rattle.std.specs.Prelude.{Bool}
 use Rattle.profile_machine.specs.WellFormed.{run_is_well_formed}
+use Rattle.profile_machine.specs.Releases.{releases_ok}
 
 -- Row requeue.1: its run stops before tick 27, so every greater bound gives the same trace.
 abbrev pub row_requeue_1_program : Image
@@ -131,3 +132,11 @@ row_requeue_1_worlds = run_is_well_formed row_requeue_1_program row_requeue_1_sc
 pub row_requeue_1_keeps : row_requeue_1_worlds ≡ true
 unfolding row_requeue_1_worlds
 row_requeue_1_keeps = refl
+
+-- whether each handler is released at its tick
+unfoldable pub row_requeue_1_handlers : Bool
+row_requeue_1_handlers = releases_ok row_requeue_1_program row_requeue_1_script 27
+
+pub row_requeue_1_releases : row_requeue_1_handlers ≡ true
+unfolding row_requeue_1_handlers
+row_requeue_1_releases = refl

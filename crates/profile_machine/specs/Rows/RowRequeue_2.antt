@@ -38,6 +38,7 @@ use Rattle.profile_machine.specs.Run.{run_of}
 use Rattle.std.specs.Fmt.{digits}
 use Rattle.std.specs.Prelude.{Bool}
 use Rattle.profile_machine.specs.WellFormed.{run_is_well_formed}
+use Rattle.profile_machine.specs.Releases.{releases_ok}
 
 -- Row requeue.2: its run stops before tick 22, so every greater bound gives the same trace.
 abbrev pub row_requeue_2_program : Image
@@ -127,3 +128,11 @@ row_requeue_2_worlds = run_is_well_formed row_requeue_2_program row_requeue_2_sc
 pub row_requeue_2_keeps : row_requeue_2_worlds ≡ true
 unfolding row_requeue_2_worlds
 row_requeue_2_keeps = refl
+
+-- whether each handler is released at its tick
+unfoldable pub row_requeue_2_handlers : Bool
+row_requeue_2_handlers = releases_ok row_requeue_2_program row_requeue_2_script 22
+
+pub row_requeue_2_releases : row_requeue_2_handlers ≡ true
+unfolding row_requeue_2_handlers
+row_requeue_2_releases = refl

@@ -38,6 +38,7 @@ use Rattle.profile_machine.specs.Run.{run_of}
 use Rattle.std.specs.Fmt.{digits}
 use Rattle.std.specs.Prelude.{Bool}
 use Rattle.profile_machine.specs.WellFormed.{run_is_well_formed}
+use Rattle.profile_machine.specs.Releases.{releases_ok}
 
 -- Row requeue.3: its run stops before tick 10, so every greater bound gives the same trace.
 abbrev pub row_requeue_3_program : Image
@@ -121,3 +122,11 @@ row_requeue_3_worlds = run_is_well_formed row_requeue_3_program row_requeue_3_sc
 pub row_requeue_3_keeps : row_requeue_3_worlds ≡ true
 unfolding row_requeue_3_worlds
 row_requeue_3_keeps = refl
+
+-- whether each handler is released at its tick
+unfoldable pub row_requeue_3_handlers : Bool
+row_requeue_3_handlers = releases_ok row_requeue_3_program row_requeue_3_script 10
+
+pub row_requeue_3_releases : row_requeue_3_handlers ≡ true
+unfolding row_requeue_3_handlers
+row_requeue_3_releases = refl

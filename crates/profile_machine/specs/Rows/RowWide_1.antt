@@ -38,6 +38,7 @@ use Rattle.profile_machine.specs.Run.{run_of}
 use Rattle.std.specs.Fmt.{digits}
 use Rattle.std.specs.Prelude.{Bool}
 use Rattle.profile_machine.specs.WellFormed.{run_is_well_formed}
+use Rattle.profile_machine.specs.Releases.{releases_ok}
 
 -- Row wide.1: its run up to tick 70.
 abbrev pub row_wide_1_program : Image
@@ -106,3 +107,11 @@ row_wide_1_worlds = run_is_well_formed row_wide_1_program row_wide_1_script 70
 pub row_wide_1_keeps : row_wide_1_worlds ≡ true
 unfolding row_wide_1_worlds
 row_wide_1_keeps = refl
+
+-- whether each handler is released at its tick
+unfoldable pub row_wide_1_handlers : Bool
+row_wide_1_handlers = releases_ok row_wide_1_program row_wide_1_script 70
+
+pub row_wide_1_releases : row_wide_1_handlers ≡ true
+unfolding row_wide_1_handlers
+row_wide_1_releases = refl

@@ -38,6 +38,7 @@ use Rattle.profile_machine.specs.Run.{run_of}
 use Rattle.std.specs.Fmt.{digits}
 use Rattle.std.specs.Prelude.{Bool}
 use Rattle.profile_machine.specs.WellFormed.{run_is_well_formed}
+use Rattle.profile_machine.specs.Releases.{releases_ok}
 
 -- Row wide.2: its run stops before tick 10, so every greater bound gives the same trace.
 abbrev pub row_wide_2_program : Image
@@ -93,3 +94,11 @@ row_wide_2_worlds = run_is_well_formed row_wide_2_program row_wide_2_script 10
 pub row_wide_2_keeps : row_wide_2_worlds ≡ true
 unfolding row_wide_2_worlds
 row_wide_2_keeps = refl
+
+-- whether each handler is released at its tick
+unfoldable pub row_wide_2_handlers : Bool
+row_wide_2_handlers = releases_ok row_wide_2_program row_wide_2_script 10
+
+pub row_wide_2_releases : row_wide_2_handlers ≡ true
+unfolding row_wide_2_handlers
+row_wide_2_releases = refl

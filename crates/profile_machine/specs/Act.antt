@@ -18,11 +18,11 @@ use Rattle.profile_machine.specs.declared.statements.Callee.TheVariants as calle
 use Rattle.profile_machine.specs.declared.statements.Destination.{Destination}
 use Rattle.profile_machine.specs.declared.statements.StatementForm.{StatementForm}
 use Rattle.profile_machine.specs.declared.statements.StatementForm.TheVariants as form
-use Rattle.profile_machine.specs.World.{World, Frame, Mark, Scope, Handled, InProtected, InAccept, Abortable, InInitialize, InFinalize, InAssign, ScopeMark, AcceptMark, AbortableMark, of_subprogram, to_nowhere, plain, conditional, timed, Release, for_end_of_call, Call, Outcome, finished_ok}
+use Rattle.profile_machine.specs.World.{World, Frame, Mark, Scope, Handled, InProtected, InAccept, Abortable, InInitialize, InFinalize, InAssign, AbortableMark, of_subprogram, to_nowhere, plain, conditional, timed, Release, for_end_of_call, Call}
 use Rattle.profile_machine.specs.Program.{form_of, next_of, scope_of, marks_of}
-use Rattle.profile_machine.specs.Steps.{Step, own, the_block, changes, looks, when, nothing, for_some, ◌▷◌}
+use Rattle.profile_machine.specs.Steps.{Step, own, the_block, changes, looks, nothing, ◌▷◌}
 use Rattle.profile_machine.specs.Dispatching.{block}
-use Rattle.profile_machine.specs.Frames.{frames_of, top_of, edit_top, goes, leaves, raises, leaving_of, with_room, with_mark, pop, pass_on, handlers_in}
+use Rattle.profile_machine.specs.Frames.{frames_of, top_of, edit_top, goes, raises, leaving_of, with_room, with_mark, pop, pass_on, handlers_in}
 use Rattle.profile_machine.specs.Scopes.{open_scope, plainly, innermost}
 use Rattle.profile_machine.specs.Values.{moment}
 use Rattle.profile_machine.specs.Appointments.{drop_appointment, is_trigger_of}

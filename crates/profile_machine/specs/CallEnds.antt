@@ -1,8 +1,7 @@
 -- How calls end: finished, cancelled, or gone (9.5.2 to 9.7, 9.8).
-use Rattle.std.specs.Prelude.{ℕ, zero, suc, ◌+◌, ◌-◌, Bool, true, false, cond, not, ◌&&◌, ◌||◌, List, [], ◌∷◌, ◌++◌, Option, Some, None, Result, Ok, Err, eqb, ltb, length, option_map, option_and_then, is_some, is_none, take, drop}
+use Rattle.std.specs.Prelude.{ℕ, Bool, true, false, cond, not, ◌&&◌, ◌||◌, List, [], ◌∷◌, Option, Some, None, Ok, Err, eqb, length, option_and_then}
 use Rattle.ann_base.specs.declared.identities.TaskNo.{TaskNo}
 use Rattle.ann_base.specs.declared.identities.CallNo.{CallNo}
-use Rattle.ann_base.specs.declared.exceptions.Raised.{Raised}
 use Rattle.ann_base.specs.declared.exceptions.Raised.TheVariants as exception
 use Rattle.trace_text.specs.declared.events.Event.TheVariants as line
 use Rattle.trace_text.specs.declared.events.Who.{Who}
@@ -14,13 +13,13 @@ use Rattle.profile_machine.specs.declared.run_data.Leaving.TheVariants as how
 use Rattle.profile_machine.specs.declared.statements.StatementForm.{StatementForm}
 use Rattle.profile_machine.specs.declared.statements.StatementForm.TheVariants as form
 use Rattle.profile_machine.specs.declared.values.Value.{Value}
-use Rattle.profile_machine.specs.World.{World, Task, Frame, Mark, Scope, Handled, InProtected, InAccept, Abortable, InInitialize, InFinalize, InAssign, AbortableMark, Call, CallKind, plain, conditional, timed, triggering, Outcome, finished_ok, cancelled, to_raise, was_raised, Variable, Waiting, for_activation, for_moment, for_call, for_end_of_call, for_accept, for_select, for_dependents, for_release}
-use Rattle.profile_machine.specs.Words.{same_call, is_the, first_of_list, option_or_else}
+use Rattle.profile_machine.specs.World.{World, Frame, Mark, Scope, Handled, InProtected, InAccept, Abortable, InInitialize, InFinalize, InAssign, AbortableMark, Call, Outcome, finished_ok, cancelled, to_raise, was_raised, Variable, Waiting, for_call, for_end_of_call}
+use Rattle.profile_machine.specs.Words.{same_call, is_the, option_or_else}
 use Rattle.profile_machine.specs.Program.{declaration_of, form_of, next_of}
-use Rattle.profile_machine.specs.Steps.{Step, Part, own, says, changes, looks, when, nothing, for_some, ◌▷◌}
-use Rattle.profile_machine.specs.Tasks.{task_of, edit_task, waiting_of, with_frames}
+use Rattle.profile_machine.specs.Steps.{Step, Part, says, changes, looks, when, nothing, ◌▷◌}
+use Rattle.profile_machine.specs.Tasks.{edit_task, waiting_of, with_frames}
 use Rattle.profile_machine.specs.Dispatching.{ready}
-use Rattle.profile_machine.specs.Frames.{frames_of, top_of, edit_top, goes, leaves, raises, pop, pass_on, leaving_of, with_mark}
+use Rattle.profile_machine.specs.Frames.{frames_of, goes, leaves, raises, pop, pass_on, leaving_of, with_mark}
 use Rattle.profile_machine.specs.Scopes.{write_cell}
 use Rattle.profile_machine.specs.Operators.{Valued, ◌>>=◌, checked}
 use Rattle.profile_machine.specs.Calls.{call_of, edit_call, forget_call, with_call, unqueued}

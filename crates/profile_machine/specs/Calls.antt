@@ -1,22 +1,19 @@
 -- Entry calls and the queues in which they stand (9.5.3, D.4).
-use Rattle.std.specs.Prelude.{ℕ, zero, suc, ◌+◌, ℤ, Bool, true, false, cond, not, ◌&&◌, ◌||◌, List, [], ◌∷◌, ◌++◌, Option, Some, None, eqb, ltb, leb, filter, find, map, length, option_map, option_and_then, is_none, replicate}
-use Rattle.ann_base.specs.declared.identities.TaskNo.{TaskNo}
+use Rattle.std.specs.Prelude.{ℕ, suc, Bool, true, false, cond, not, ◌&&◌, List, [], ◌∷◌, ◌++◌, Option, Some, None, ltb, leb, find, length, is_none}
 use Rattle.ann_base.specs.declared.identities.CallNo.{CallNo}
 use Rattle.ann_base.specs.declared.identities.ObjectNo.{ObjectNo}
 use Rattle.trace_text.specs.declared.events.Event.TheVariants as line
 use Rattle.trace_text.specs.declared.events.EntryName.{EntryName}
 use Rattle.trace_text.specs.declared.events.EntryName.TheVariants as called
-use Rattle.trace_text.specs.declared.events.Who.{Who}
 use Rattle.trace_text.specs.declared.events.Who.TheVariants as who
 use Rattle.profile_machine.specs.declared.image.Image.{Image}
 use Rattle.profile_machine.specs.declared.image.Queuing.{Queuing}
 use Rattle.profile_machine.specs.declared.image.Queuing.TheVariants as queuing
 use Rattle.profile_machine.specs.declared.numbers.EntryNo.{EntryNo}
-use Rattle.profile_machine.specs.declared.numbers.StatementNo.{StatementNo}
-use Rattle.profile_machine.specs.World.{World, Task, Object, Call, CallKind, Owner, a_task, an_object, Outcome, Drawn}
-use Rattle.profile_machine.specs.Words.{same_call, same_object, without, edit_where, edit_at, option_or_else, first_of_list}
+use Rattle.profile_machine.specs.World.{World, Object, Call, Owner, a_task, an_object, Drawn}
+use Rattle.profile_machine.specs.Words.{same_call, without, edit_where, edit_at}
 use Rattle.profile_machine.specs.Program.{entry_of}
-use Rattle.profile_machine.specs.Steps.{Step, Part, says, changes, looks, nothing, for_some, ◌▷◌}
+use Rattle.profile_machine.specs.Steps.{Step, Part, says, changes, looks, for_some, ◌▷◌}
 use Rattle.profile_machine.specs.Tasks.{task_of, edit_task}
 use Rattle.profile_machine.specs.Values.{object_of, is_object, queue_at, queues_of}
 use Rattle.profile_machine.specs.Appointments.{drop_appointment, is_timeout_of}

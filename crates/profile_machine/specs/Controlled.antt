@@ -1,13 +1,11 @@
 -- Controlled objects: Initialize, Finalize, assignment (7.6, 7.6.1).
-use Rattle.std.specs.Prelude.{ℕ, zero, suc, ◌+◌, ◌-◌, Bool, true, false, cond, not, ◌&&◌, ◌||◌, List, [], ◌∷◌, ◌++◌, Option, Some, None, Result, Ok, Err, eqb, find, length, is_some, is_none, option_map, option_and_then}
+use Rattle.std.specs.Prelude.{ℕ, suc, ◌+◌, ◌-◌, Bool, true, false, cond, ◌&&◌, [], ◌∷◌, Option, Some, None, eqb, find, option_and_then}
 use Rattle.ann_base.specs.declared.identities.RegionNo.{RegionNo}
-use Rattle.ann_base.specs.declared.exceptions.Raised.{Raised}
 use Rattle.ann_base.specs.declared.exceptions.Raised.TheVariants as exception
 use Rattle.trace_text.specs.declared.events.Event.TheVariants as line
 use Rattle.trace_text.specs.declared.events.Who.{Who}
 use Rattle.profile_machine.specs.declared.image.Image.{Image}
 use Rattle.profile_machine.specs.declared.numbers.DeclNo.{DeclNo}
-use Rattle.profile_machine.specs.declared.numbers.ControlledNo.{ControlledNo}
 use Rattle.profile_machine.specs.declared.numbers.StatementNo.{StatementNo}
 use Rattle.profile_machine.specs.declared.numbers.SubprogramNo.{SubprogramNo}
 use Rattle.profile_machine.specs.declared.declarations.ControlledType.{ControlledType}
@@ -15,19 +13,17 @@ use Rattle.profile_machine.specs.declared.declarations.DeclarationKind.{Declarat
 use Rattle.profile_machine.specs.declared.declarations.DeclarationKind.TheVariants as kind
 use Rattle.profile_machine.specs.declared.run_data.Leaving.{Leaving}
 use Rattle.profile_machine.specs.declared.run_data.Leaving.TheVariants as how
-use Rattle.profile_machine.specs.declared.values.Value.{Value}
-use Rattle.profile_machine.specs.declared.values.Value.TheVariants.{Thing, Whole}
-use Rattle.profile_machine.specs.World.{World, Located, Variable, Registered, Drawn, Frame, Mark, Scope, Handled, InProtected, InAccept, Abortable, InInitialize, InFinalize, InAssign, ScopeMark, AssignMark, AssignStep, finalize_target, copy_components, adjust_target, assigned, Purpose, of_subprogram, to_nowhere}
-use Rattle.profile_machine.specs.Words.{same_id, same_region, without, first_of_list, option_or_else, is_the}
+use Rattle.profile_machine.specs.declared.values.Value.TheVariants.{Thing}
+use Rattle.profile_machine.specs.World.{World, Located, Variable, Registered, Drawn, Frame, Mark, Scope, Handled, InProtected, InAccept, Abortable, InInitialize, InFinalize, InAssign, ScopeMark, AssignMark, AssignStep, finalize_target, copy_components, adjust_target, assigned, of_subprogram, to_nowhere}
+use Rattle.profile_machine.specs.Words.{same_id, without}
 use Rattle.profile_machine.specs.Program.{declaration_of, next_of, scope_of, marks_of, subprogram_of, controlled_of, no_controlled}
-use Rattle.profile_machine.specs.Steps.{Step, Part, own, says, changes, looks, when, nothing, for_some, ◌▷◌}
-use Rattle.profile_machine.specs.Frames.{frames_of, top_of, edit_top, push, pop, new_frame, goes, leaves, raises, given, raise_if, with_room, has_room, with_mark, pass_on, leaving_of}
+use Rattle.profile_machine.specs.Steps.{Step, own, says, changes, looks, nothing, ◌▷◌}
+use Rattle.profile_machine.specs.Frames.{top_of, edit_top, push, pop, new_frame, goes, leaves, raises, given, with_room, has_room, with_mark, pass_on}
 use Rattle.profile_machine.specs.Scopes.{home, read_cell, write_cell, open_scope, edit_cells, Beginning, innermost}
-use Rattle.profile_machine.specs.Operators.{Valued, ◌>>=◌}
-use Rattle.profile_machine.specs.Values.{Seen, located, controlled_cells}
+use Rattle.profile_machine.specs.Values.{located, controlled_cells}
 use Rattle.profile_machine.specs.Cost.{of_region}
 use Rattle.profile_machine.specs.Masters.{region_of_mark}
-use Rattle.profile_machine.specs.Statements.{sees, copy_cells, cells_from, put_cells}
+use Rattle.profile_machine.specs.Statements.{sees, cells_from, put_cells}
 
 -- ---- the operations of an object's type
 

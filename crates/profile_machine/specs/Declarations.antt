@@ -1,8 +1,6 @@
 -- The declaration of an object (3.3.1, 7.6, 9.4, D.14, D.15).
-use Rattle.std.specs.Prelude.{ℕ, zero, suc, ◌+◌, ◌-◌, pos, Bool, true, false, cond, not, List, [], ◌∷◌, ◌++◌, Option, Some, None, Result, Ok, Err, leb, length, map, replicate, is_none}
+use Rattle.std.specs.Prelude.{ℕ, suc, not, List, [], ◌∷◌, ◌++◌, Option, Some, None, Ok, Err, leb, length}
 use Rattle.ann_base.specs.declared.identities.TaskNo.{TaskNo}
-use Rattle.ann_base.specs.declared.identities.ObjectNo.{ObjectNo}
-use Rattle.ann_base.specs.declared.exceptions.Raised.{Raised}
 use Rattle.ann_base.specs.declared.exceptions.Raised.TheVariants as exception
 use Rattle.trace_text.specs.declared.events.Event.TheVariants as line
 use Rattle.trace_text.specs.declared.events.Created.TheVariants as created
@@ -12,20 +10,18 @@ use Rattle.profile_machine.specs.declared.numbers.DeclNo.{DeclNo}
 use Rattle.profile_machine.specs.declared.numbers.ControlledNo.{ControlledNo}
 use Rattle.profile_machine.specs.declared.numbers.ProtectedUnitNo.{ProtectedUnitNo}
 use Rattle.profile_machine.specs.declared.numbers.StatementNo.{StatementNo}
-use Rattle.profile_machine.specs.declared.declarations.ProtectedUnit.{ProtectedUnit}
 use Rattle.profile_machine.specs.declared.declarations.DeclarationKind.{DeclarationKind}
 use Rattle.profile_machine.specs.declared.declarations.DeclarationKind.TheVariants as kind
 use Rattle.profile_machine.specs.declared.declarations.Initial.{Initial}
 use Rattle.profile_machine.specs.declared.declarations.Initial.TheVariants as initial
 use Rattle.profile_machine.specs.declared.expressions.ObjectName.TheVariants.{Declared}
 use Rattle.profile_machine.specs.declared.values.Value.{Value}
-use Rattle.profile_machine.specs.declared.values.Value.TheVariants.{Thing, Task, Whole}
-use Rattle.profile_machine.specs.World.{World, Located, Variable, Object, Timer, Budget, Drawn}
-use Rattle.profile_machine.specs.Words.{option_or_else}
+use Rattle.profile_machine.specs.declared.values.Value.TheVariants.{Thing}
+use Rattle.profile_machine.specs.World.{World, Located, Variable, Object, Drawn}
 use Rattle.profile_machine.specs.Program.{declaration_of, next_of, protected_unit_of, controlled_of}
-use Rattle.profile_machine.specs.Steps.{Step, Part, own, says, changes, looks, when, nothing, ◌▷◌}
-use Rattle.profile_machine.specs.Frames.{goes, raises, given, raise_if}
-use Rattle.profile_machine.specs.Scopes.{write_cell, read_cell}
+use Rattle.profile_machine.specs.Steps.{Step, own, says, changes, ◌▷◌}
+use Rattle.profile_machine.specs.Frames.{goes, given}
+use Rattle.profile_machine.specs.Scopes.{write_cell}
 use Rattle.profile_machine.specs.Operators.{Valued, ◌>>=◌, unless}
 use Rattle.profile_machine.specs.Values.{Seen, value, object_cell, home_of, component_at, protected_cells, controlled_cells, no_budget, first_cell, task_in}
 use Rattle.profile_machine.specs.Statements.{sees, copy_cells}

@@ -1,5 +1,5 @@
 -- Entry calls, plain, conditional, timed and triggering (9.5.3, 9.7.2 to 9.7.4).
-use Rattle.std.specs.Prelude.{ℕ, zero, suc, ◌+◌, ℤ, pos, int_lt, int_le, Bool, true, false, cond, not, ◌&&◌, ◌||◌, List, [], ◌∷◌, ◌++◌, Option, Some, None, Result, Ok, Err, length, find, is_none, is_some, option_map, option_and_then}
+use Rattle.std.specs.Prelude.{ℕ, suc, ◌+◌, ℤ, pos, int_lt, Bool, true, false, ◌&&◌, ◌||◌, List, [], ◌∷◌, Option, Some, None, Ok, Err, length, option_and_then}
 use Rattle.ann_base.specs.declared.identities.CallNo.{CallNo}
 use Rattle.ann_base.specs.declared.identities.ObjectNo.{ObjectNo}
 use Rattle.ann_base.specs.declared.identities.TaskNo.{TaskNo}
@@ -7,11 +7,10 @@ use Rattle.ann_base.specs.declared.exceptions.Raised.{Raised}
 use Rattle.ann_base.specs.declared.exceptions.Raised.TheVariants as exception
 use Rattle.trace_text.specs.declared.events.Event.TheVariants as line
 use Rattle.trace_text.specs.declared.events.Finished.TheVariants as finished
-use Rattle.trace_text.specs.declared.events.Mode.TheVariants.{Read, Write}
+use Rattle.trace_text.specs.declared.events.Mode.TheVariants.{Write}
 use Rattle.trace_text.specs.declared.events.Who.{Who}
 use Rattle.trace_text.specs.declared.events.Who.TheVariants as who
 use Rattle.profile_machine.specs.declared.image.Image.{Image}
-use Rattle.profile_machine.specs.declared.numbers.DeclNo.{DeclNo}
 use Rattle.profile_machine.specs.declared.numbers.EntryNo.{EntryNo}
 use Rattle.profile_machine.specs.declared.numbers.StatementNo.{StatementNo}
 use Rattle.profile_machine.specs.declared.declarations.Formal.{Formal}
@@ -24,23 +23,21 @@ use Rattle.profile_machine.specs.declared.statements.EntryOwner.TheVariants as o
 use Rattle.profile_machine.specs.declared.statements.StatementForm.{StatementForm}
 use Rattle.profile_machine.specs.declared.statements.StatementForm.TheVariants as form
 use Rattle.profile_machine.specs.declared.values.Value.{Value}
-use Rattle.profile_machine.specs.declared.values.Value.TheVariants.{Whole}
-use Rattle.profile_machine.specs.World.{World, ScopeInUse, Variable, Call, CallKind, plain, conditional, timed, triggering, Owner, a_task, an_object, Outcome, to_raise, Sending, for_call, a_trigger}
-use Rattle.profile_machine.specs.Words.{option_or_else}
+use Rattle.profile_machine.specs.World.{World, ScopeInUse, Variable, Call, CallKind, plain, conditional, timed, triggering, Owner, a_task, an_object, for_call, a_trigger}
 use Rattle.profile_machine.specs.Program.{form_of, next_of, scope_of, marks_of, entry_of, task_unit_of}
-use Rattle.profile_machine.specs.Steps.{Step, Part, the_call, own, of_other, the_block, says, changes, looks, when, nothing, for_some, ◌▷◌}
-use Rattle.profile_machine.specs.Tasks.{task_of, waiting_of, number_of}
+use Rattle.profile_machine.specs.Steps.{Step, Part, the_call, own, of_other, the_block, says, changes, looks, nothing, ◌▷◌}
+use Rattle.profile_machine.specs.Tasks.{waiting_of, number_of}
 use Rattle.profile_machine.specs.Dispatching.{active_of, block}
 use Rattle.profile_machine.specs.Frames.{frames_of, goes, leaves, raises, given, raise_if, with_room, has_room, in_protected, is_deferred, exception_name}
 use Rattle.profile_machine.specs.Scopes.{home, scope_in_use}
 use Rattle.profile_machine.specs.Operators.{Valued, ◌>>=◌, checked}
-use Rattle.profile_machine.specs.Values.{Seen, value, variable, read, thing, thing_number, task_in, or_misfit, object_number, moment, own_object}
+use Rattle.profile_machine.specs.Values.{Seen, value, variable, read, thing, thing_number, task_in, or_misfit, moment, own_object}
 use Rattle.profile_machine.specs.Appointments.{appoint}
-use Rattle.profile_machine.specs.Calls.{call_drawn, forget_call, with_call, says_call, enqueue, is_full, edit_call}
+use Rattle.profile_machine.specs.Calls.{call_drawn, forget_call, says_call, enqueue, is_full, edit_call}
 use Rattle.profile_machine.specs.CallEnds.{call_in, gone}
 use Rattle.profile_machine.specs.Protected.{where_let_inside, begin_action_on, is_barrier_open, serve_call, body_scope_of}
 use Rattle.profile_machine.specs.Sending.{not_accepted, open_abortable, is_triggering}
-use Rattle.profile_machine.specs.Statements.{sees, relative_moment}
+use Rattle.profile_machine.specs.Statements.{sees}
 use Rattle.profile_machine.specs.Rendezvous.{accept_for, is_callable, meet, delay_moment}
 use Rattle.profile_machine.specs.Subprograms.{call_that_returns}
 use Rattle.profile_machine.specs.declared.run_data.Leaving.TheVariants as how

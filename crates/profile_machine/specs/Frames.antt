@@ -1,24 +1,20 @@
 -- Open constructs: opening them, leaving them, and going on (clauses 5, 6, 7.6.1, 11).
-use Rattle.std.specs.Prelude.{ℕ, ◌+◌, ℤ, pos, Bool, true, false, cond, not, ◌&&◌, ◌||◌, List, [], ◌∷◌, ◌++◌, Option, Some, None, eqb, leb, filter, map, length, find, is_some, option_map, option_and_then, sum_by, codes, Result, Ok, Err}
+use Rattle.std.specs.Prelude.{ℕ, ◌+◌, Bool, true, false, cond, ◌&&◌, List, [], ◌∷◌, Option, Some, None, leb, length, option_and_then, sum_by, codes, Result, Ok, Err}
 use Rattle.ann_base.specs.declared.exceptions.Raised.{Raised}
 use Rattle.ann_base.specs.declared.exceptions.Raised.TheVariants as exception
-use Rattle.ann_base.specs.declared.identities.ObjectNo.{ObjectNo}
-use Rattle.ann_base.specs.declared.identities.RegionNo.{RegionNo}
 use Rattle.trace_text.specs.declared.events.Event.TheVariants as line
 use Rattle.trace_text.specs.declared.events.Who.{Who}
 use Rattle.profile_machine.specs.declared.image.Image.{Image}
-use Rattle.profile_machine.specs.declared.numbers.DeclNo.{DeclNo}
 use Rattle.profile_machine.specs.declared.numbers.StatementNo.{StatementNo}
-use Rattle.profile_machine.specs.declared.numbers.ScopeNo.{ScopeNo}
 use Rattle.profile_machine.specs.declared.run_data.Leaving.{Leaving}
 use Rattle.profile_machine.specs.declared.run_data.Leaving.TheVariants as how
 use Rattle.profile_machine.specs.declared.statements.StatementForm.{StatementForm}
 use Rattle.profile_machine.specs.declared.statements.StatementForm.TheVariants as form
 use Rattle.profile_machine.specs.declared.declarations.Handler.{Handler}
-use Rattle.profile_machine.specs.World.{World, Task, Frame, Mark, Scope, Handled, InProtected, InAccept, Abortable, InInitialize, InFinalize, InAssign, ScopeMark, ProtectedMark, AcceptMark, AbortableMark, AssignMark, Purpose, of_block, of_subprogram, of_entry_body, of_task, ScopeId, scope_id, ScopeInUse, Located, Object, Drawn}
-use Rattle.profile_machine.specs.Words.{same_id, same_statement, same_option, without, first_of_list, option_or_else, some_where}
-use Rattle.profile_machine.specs.Program.{declaration_of, form_of, next_of, scope_of, initial_cells}
-use Rattle.profile_machine.specs.Steps.{Part, own, Step, says, changes, looks, when, nothing, for_some, ◌▷◌}
+use Rattle.profile_machine.specs.World.{World, Frame, Mark, Scope, Handled, InProtected, InAccept, Abortable, InInitialize, InFinalize, InAssign, Purpose, of_block, of_subprogram, of_entry_body, of_task}
+use Rattle.profile_machine.specs.Words.{same_statement, same_option, first_of_list, option_or_else}
+use Rattle.profile_machine.specs.Program.{declaration_of, form_of, next_of}
+use Rattle.profile_machine.specs.Steps.{Part, own, Step, says, changes, looks, nothing, ◌▷◌}
 use Rattle.profile_machine.specs.Tasks.{task_of, edit_task, with_frames}
 
 -- ---- the top of a rest

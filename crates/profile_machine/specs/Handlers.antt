@@ -1,12 +1,9 @@
 -- Handlers: releases and the agent that runs them, timing events, timers and group budgets (C.3, D.14, D.15).
-use Rattle.std.specs.Prelude.{ℕ, zero, suc, ◌+◌, ◌-◌, ℤ, pos, negsuc, ◌+ℤ◌, int_le, int_lt, Bool, true, false, cond, not, ◌&&◌, ◌||◌, List, [], ◌∷◌, ◌++◌, Option, Some, None, Result, Ok, Err, eqb, leb, ltb, length, filter, find, map, is_some, is_none, option_map, option_and_then, slice_index_or}
-use Rattle.std.specs.List.{list_any}
+use Rattle.std.specs.Prelude.{ℕ, suc, ◌+◌, ◌-◌, ℤ, pos, negsuc, ◌+ℤ◌, int_le, int_lt, Bool, true, false, cond, not, ◌&&◌, List, [], ◌∷◌, ◌++◌, Option, Some, None, Ok, eqb, leb, length, filter, is_none, option_map}
 use Rattle.ann_base.specs.declared.identities.TaskNo.{TaskNo}
-use Rattle.ann_base.specs.declared.identities.ObjectNo.{ObjectNo}
-use Rattle.ann_base.specs.declared.exceptions.Raised.{Raised}
 use Rattle.ann_base.specs.declared.exceptions.Raised.TheVariants as exception
 use Rattle.trace_text.specs.declared.events.Event.TheVariants as line
-use Rattle.trace_text.specs.declared.events.Mode.TheVariants.{Read, Write}
+use Rattle.trace_text.specs.declared.events.Mode.TheVariants.{Write}
 use Rattle.trace_text.specs.declared.events.Who.{Who}
 use Rattle.trace_text.specs.declared.events.Who.TheVariants as who
 use Rattle.profile_machine.specs.declared.image.Image.{Image}
@@ -23,15 +20,15 @@ use Rattle.profile_machine.specs.declared.values.Value.{Value}
 use Rattle.profile_machine.specs.declared.values.Value.TheVariants.{Truth, Thing}
 use Rattle.profile_machine.specs.World.{World, HandlerOf, Release, Drawn, Object, Timer, TimerSetting, Budget, Variable, State, Made, Runnable, Blocked, Waiting, Appointment, Due, an_event, a_delay, a_timeout, a_trigger, of_subprogram, to_nowhere}
 use Rattle.profile_machine.specs.World as world
-use Rattle.profile_machine.specs.Words.{same_object, same_task, edit_at, without, is_empty, option_or_else}
+use Rattle.profile_machine.specs.Words.{same_task, edit_at, without}
 use Rattle.profile_machine.specs.Program.{is_robin_level, next_of, scope_of, marks_of, subprogram_of, protected_unit_of, interrupt_priority}
-use Rattle.profile_machine.specs.Steps.{Step, Part, own, says, changes, looks, when, nothing, for_some, ◌▷◌}
-use Rattle.profile_machine.specs.Tasks.{task_of, edit_task, found_task, time_last}
+use Rattle.profile_machine.specs.Steps.{Step, Part, own, says, changes, looks, nothing, for_some, ◌▷◌}
+use Rattle.profile_machine.specs.Tasks.{task_of, edit_task}
 use Rattle.profile_machine.specs.Dispatching.{ready}
-use Rattle.profile_machine.specs.Frames.{goes, raises, given, raise_if, has_room}
+use Rattle.profile_machine.specs.Frames.{goes, given, raise_if, has_room}
 use Rattle.profile_machine.specs.Scopes.{open_scope}
-use Rattle.profile_machine.specs.Operators.{Valued, ◌>>=◌, unless, held_moment}
-use Rattle.profile_machine.specs.Values.{Seen, value, variable, moment, number_of_thing, object_number, object_of, optional_task, live_task, timer_of, budget_of, is_event, task_in}
+use Rattle.profile_machine.specs.Operators.{Valued, ◌>>=◌, held_moment}
+use Rattle.profile_machine.specs.Values.{Seen, value, variable, moment, number_of_thing, object_number, object_of, live_task, timer_of, budget_of, is_event, task_in}
 use Rattle.profile_machine.specs.Appointments.{appoint, drop_appointment, is_appointed}
 use Rattle.profile_machine.specs.CallEnds.{store}
 use Rattle.profile_machine.specs.Protected.{Entering, same_object_again, above_ceiling, held_by_another, let_inside, entering, find_held, begin_action_on, body_of_object, ceiling_of}

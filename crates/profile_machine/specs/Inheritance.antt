@@ -1,12 +1,10 @@
 -- Inherited priorities (D.1, D.3): each under its cause.
-use Rattle.std.specs.Prelude.{ℕ, Bool, true, false, not, List, [], ◌∷◌, filter, ltb}
-use Rattle.ann_base.specs.declared.identities.CallNo.{CallNo}
-use Rattle.ann_base.specs.declared.identities.ObjectNo.{ObjectNo}
+use Rattle.std.specs.Prelude.{ℕ, Bool, true, false, ◌∷◌, ltb}
 use Rattle.trace_text.specs.declared.events.Who.{Who}
 use Rattle.profile_machine.specs.declared.image.Image.{Image}
-use Rattle.profile_machine.specs.World.{World, Task, Cause, by_activation, by_rendezvous, by_ceiling, Inherited}
+use Rattle.profile_machine.specs.World.{World, Cause, by_activation, by_rendezvous, by_ceiling}
 use Rattle.profile_machine.specs.Words.{same_call, same_object, without}
-use Rattle.profile_machine.specs.Steps.{Step, Part, the_placing, changes, looks, when, nothing, ◌▷◌}
+use Rattle.profile_machine.specs.Steps.{Step, the_placing, changes, looks, when, ◌▷◌}
 use Rattle.profile_machine.specs.Tasks.{edit_task}
 use Rattle.profile_machine.specs.Dispatching.{active_of, to_head}
 

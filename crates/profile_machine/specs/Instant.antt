@@ -1,24 +1,22 @@
 -- The seven steps of an instant, in their order (this profile's choice).
-use Rattle.std.specs.Prelude.{ℕ, zero, suc, ◌+◌, ℤ, pos, int_le, Bool, true, false, cond, not, ◌&&◌, ◌||◌, List, [], ◌∷◌, Option, Some, None, eqb, length, slice_index_or}
-use Rattle.ann_base.specs.declared.identities.TaskNo.{TaskNo}
+use Rattle.std.specs.Prelude.{ℕ, zero, suc, ℤ, pos, int_le, Bool, true, false, not, ◌&&◌, List, [], ◌∷◌, Option, Some, None, eqb, length, slice_index_or}
 use Rattle.ann_base.specs.declared.identities.CallNo.{CallNo}
 use Rattle.trace_text.specs.declared.events.Event.TheVariants as line
 use Rattle.trace_text.specs.declared.events.Who.{Who}
 use Rattle.trace_text.specs.declared.events.Who.TheVariants as who
 use Rattle.profile_machine.specs.declared.image.Image.{Image}
-use Rattle.profile_machine.specs.declared.numbers.StatementNo.{StatementNo}
 use Rattle.profile_machine.specs.declared.run_data.Item.{Item}
 use Rattle.profile_machine.specs.declared.run_data.Item.TheVariants as item
-use Rattle.profile_machine.specs.World.{World, Task, Waiting, for_activation, for_moment, for_call, for_end_of_call, for_accept, for_select, for_dependents, for_release, Due, an_event, a_delay, a_timeout, a_trigger, Appointment, TimerSetting, HandlerOf, cancelled}
-use Rattle.profile_machine.specs.Words.{same_task, same_call, edit_at, is_empty}
+use Rattle.profile_machine.specs.World.{World, Task, Waiting, for_select, Due, an_event, a_delay, a_timeout, a_trigger, Appointment, TimerSetting, cancelled}
+use Rattle.profile_machine.specs.Words.{edit_at, is_empty}
 use Rattle.profile_machine.specs.Program.{next_of, is_robin_level}
-use Rattle.profile_machine.specs.Steps.{Part, own, Step, Move, says, changes, looks, when, nothing, for_some, for_each, settles, ◌▷◌}
+use Rattle.profile_machine.specs.Steps.{own, Step, Move, says, changes, looks, when, nothing, for_some, for_each, settles, ◌▷◌}
 use Rattle.profile_machine.specs.Tasks.{task_of, edit_task, with_ticks, is_runnable, waiting_of}
 use Rattle.profile_machine.specs.Dispatching.{active, ready, to_tail}
 use Rattle.profile_machine.specs.Frames.{open_sequence, goes, any_protected}
 use Rattle.profile_machine.specs.Values.{timer_of, budget_of, is_event}
 use Rattle.profile_machine.specs.Appointments.{first_due, drop_appointment, is_delay_of, is_timeout_of, is_trigger_of}
-use Rattle.profile_machine.specs.Calls.{call_of, with_call, unqueued}
+use Rattle.profile_machine.specs.Calls.{with_call, unqueued}
 use Rattle.profile_machine.specs.CallEnds.{trigger_at, deliver}
 use Rattle.profile_machine.specs.Unwinding.{unwind}
 use Rattle.profile_machine.specs.Tasking.{take_terminates, unwind_all}

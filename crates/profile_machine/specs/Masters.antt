@@ -1,23 +1,20 @@
 -- Masters, dependents, completion and termination (9.3, 7.6.1).
-use Rattle.std.specs.Prelude.{ℕ, zero, suc, ◌+◌, Bool, true, false, cond, not, ◌&&◌, ◌||◌, List, [], ◌∷◌, ◌++◌, Option, Some, None, eqb, ltb, length, filter, find, map, is_some, is_none, option_map, option_and_then}
+use Rattle.std.specs.Prelude.{ℕ, zero, suc, Bool, true, false, cond, not, ◌&&◌, ◌||◌, List, [], ◌∷◌, Option, Some, None, eqb, ltb, length, filter, find, map}
 use Rattle.std.specs.List.{list_any, list_all, flat_map}
-use Rattle.ann_base.specs.declared.identities.TaskNo.{TaskNo}
 use Rattle.ann_base.specs.declared.identities.CallNo.{CallNo}
 use Rattle.ann_base.specs.declared.identities.RegionNo.{RegionNo}
-use Rattle.ann_base.specs.declared.exceptions.Raised.{Raised}
 use Rattle.ann_base.specs.declared.exceptions.Raised.TheVariants as exception
-use Rattle.trace_text.specs.declared.events.Event.TheVariants as line
 use Rattle.trace_text.specs.declared.events.Who.{Who}
 use Rattle.trace_text.specs.declared.events.Who.TheVariants as who
 use Rattle.profile_machine.specs.declared.image.Image.{Image}
 use Rattle.profile_machine.specs.declared.run_data.Leaving.{Leaving}
 use Rattle.profile_machine.specs.declared.run_data.Leaving.TheVariants as how
-use Rattle.profile_machine.specs.World.{World, Task, Frame, Mark, Scope, Handled, InProtected, InAccept, Abortable, InInitialize, InFinalize, InAssign, ScopeMark, Call, State, Made, Runnable, Blocked, Waiting, for_activation, for_moment, for_call, for_end_of_call, for_accept, for_select, for_dependents, for_release, to_raise, by_activation}
-use Rattle.profile_machine.specs.Words.{same_task, same_who, same_region, is_the, has, without, same_option}
-use Rattle.profile_machine.specs.Steps.{Step, Part, own, of_other, the_placing, says, changes, looks, when, nothing, for_some, for_each, ◌▷◌, is_numbered_before}
-use Rattle.profile_machine.specs.Tasks.{task_of, edit_task, with_state, is_who, is_made, waiting_in, waiting_of, is_agent}
+use Rattle.profile_machine.specs.World.{World, Task, Frame, Mark, Scope, Handled, InProtected, InAccept, Abortable, InInitialize, InFinalize, InAssign, Call, Runnable, Waiting, for_activation, for_select, for_dependents, to_raise, by_activation}
+use Rattle.profile_machine.specs.Words.{same_who, same_region, is_the, has, without}
+use Rattle.profile_machine.specs.Steps.{Step, Part, own, of_other, changes, looks, when, nothing, for_some, for_each, ◌▷◌}
+use Rattle.profile_machine.specs.Tasks.{task_of, edit_task, with_state, is_who, waiting_in, waiting_of}
 use Rattle.profile_machine.specs.Dispatching.{ready}
-use Rattle.profile_machine.specs.Frames.{frames_of, raises, leaves}
+use Rattle.profile_machine.specs.Frames.{raises, leaves}
 use Rattle.profile_machine.specs.Inheritance.{lose}
 use Rattle.profile_machine.specs.Appointments.{drop_delay}
 use Rattle.profile_machine.specs.Calls.{call_of}

@@ -1,17 +1,16 @@
 -- Values, ranges and operators (3.5, 4.5).
-use Rattle.std.specs.Prelude.{ℕ, zero, suc, ◌+◌, ℤ, pos, negsuc, ◌+ℤ◌, ◌-ℤ◌, ◌*ℤ◌, neg_ℤ, nat_abs, int_lt, int_le, int_div, int_rem, Bool, true, false, cond, not, ◌&&◌, ◌||◌, List, [], ◌∷◌, ◌++◌, Option, Some, None, Result, Ok, Err, eqb, ltb, leb, decimal, codes, slice_index_or}
-use Rattle.ann_base.specs.declared.identities.TaskNo.{TaskNo}
+use Rattle.std.specs.Prelude.{ℕ, suc, ℤ, pos, negsuc, ◌+ℤ◌, ◌-ℤ◌, ◌*ℤ◌, neg_ℤ, nat_abs, int_lt, int_le, int_div, int_rem, Bool, true, false, cond, not, ◌&&◌, ◌||◌, List, [], ◌∷◌, Result, Ok, Err, eqb, ltb, leb, decimal, codes, slice_index_or}
 use Rattle.ann_base.specs.declared.exceptions.Raised.{Raised}
 use Rattle.ann_base.specs.declared.exceptions.Raised.TheVariants as exception
 use Rattle.profile_machine.specs.declared.values.Value.{Value}
-use Rattle.profile_machine.specs.declared.values.Value.TheVariants.{Whole, Truth, Literal, Ticks, Task, Thing}
+use Rattle.profile_machine.specs.declared.values.Value.TheVariants.{Whole, Truth, Literal, Ticks, Task}
 use Rattle.profile_machine.specs.declared.values.Constraint.{Constraint}
 use Rattle.profile_machine.specs.declared.values.Constraint.TheVariants as range
 use Rattle.profile_machine.specs.declared.expressions.UnaryOperator.{UnaryOperator}
 use Rattle.profile_machine.specs.declared.expressions.UnaryOperator.TheVariants as unary
 use Rattle.profile_machine.specs.declared.expressions.BinaryOperator.{BinaryOperator}
 use Rattle.profile_machine.specs.declared.expressions.BinaryOperator.TheVariants as binary
-use Rattle.profile_machine.specs.Words.{same_option, same_task, same_moment, same_bool, some_where}
+use Rattle.profile_machine.specs.Words.{same_option, same_task, same_moment, same_bool}
 use Rattle.profile_machine.specs.Tasks.{time_last}
 
 -- ---- a value or an exception

@@ -1,7 +1,6 @@
 -- Protected actions, entry bodies and ceilings (9.5.1, 9.5.2, 9.5.3, D.3).
-use Rattle.std.specs.Prelude.{ℕ, zero, suc, ◌+◌, ◌-◌, ℤ, pos, Bool, true, false, cond, not, ◌&&◌, ◌||◌, List, [], ◌∷◌, ◌++◌, Option, Some, None, Result, Ok, Err, eqb, ltb, length, filter, map, option_map, option_and_then, take, drop, is_some}
+use Rattle.std.specs.Prelude.{ℕ, ◌+◌, Bool, true, false, cond, not, ◌&&◌, ◌||◌, List, ◌∷◌, Option, Some, None, Ok, Err, ltb, filter, map, option_and_then}
 use Rattle.std.specs.List.{list_all}
-use Rattle.ann_base.specs.declared.exceptions.Raised.{Raised}
 use Rattle.ann_base.specs.declared.exceptions.Raised.TheVariants as exception
 use Rattle.ann_base.specs.declared.identities.ObjectNo.{ObjectNo}
 use Rattle.ann_base.specs.declared.identities.CallNo.{CallNo}
@@ -10,7 +9,6 @@ use Rattle.trace_text.specs.declared.events.Finished.TheVariants as finished
 use Rattle.trace_text.specs.declared.events.Mode.{Mode}
 use Rattle.trace_text.specs.declared.events.Mode.TheVariants.{Read, Write}
 use Rattle.trace_text.specs.declared.events.Who.{Who}
-use Rattle.trace_text.specs.declared.events.Who.TheVariants as who
 use Rattle.profile_machine.specs.declared.image.Image.{Image}
 use Rattle.profile_machine.specs.declared.numbers.DeclNo.{DeclNo}
 use Rattle.profile_machine.specs.declared.numbers.EntryNo.{EntryNo}
@@ -18,27 +16,24 @@ use Rattle.profile_machine.specs.declared.numbers.ScopeNo.{ScopeNo}
 use Rattle.profile_machine.specs.declared.numbers.StatementNo.{StatementNo}
 use Rattle.profile_machine.specs.declared.numbers.SubprogramNo.{SubprogramNo}
 use Rattle.profile_machine.specs.declared.numbers.ProtectedUnitNo.{ProtectedUnitNo}
-use Rattle.profile_machine.specs.declared.run_data.Leaving.{Leaving}
 use Rattle.profile_machine.specs.declared.run_data.Leaving.TheVariants as how
 use Rattle.profile_machine.specs.declared.declarations.EntryBody.{EntryBody}
 use Rattle.profile_machine.specs.declared.declarations.Subprogram.{Subprogram}
 use Rattle.profile_machine.specs.declared.statements.Actual.{Actual}
 use Rattle.profile_machine.specs.declared.statements.Destination.{Destination}
 use Rattle.profile_machine.specs.declared.values.Value.{Value}
-use Rattle.profile_machine.specs.World.{World, Task, Object, Action, Located, ResultTo, to_nowhere, Purpose, of_subprogram, of_entry_body, ScopeId, Frame, Mark, Scope, Handled, InProtected, InAccept, Abortable, InInitialize, InFinalize, InAssign, ProtectedMark, Call, Owner, a_task, an_object, CallKind, plain, conditional, timed, triggering, Outcome, finished_ok, cancelled, to_raise, was_raised, by_ceiling, Waiting, for_call, a_timeout, Sending}
-use Rattle.profile_machine.specs.World as world
-use Rattle.profile_machine.specs.Words.{same_who, same_call, same_object, same_task, without, option_or_else, is_the, is_empty}
-use Rattle.profile_machine.specs.Program.{declaration_of, next_of, scope_of, marks_of, subprogram_of, protected_unit_of, entry_of, has_edf}
-use Rattle.profile_machine.specs.Steps.{Step, Part, own, the_finish, the_placing, the_block, says, changes, looks, when, nothing, for_some, ◌▷◌}
-use Rattle.profile_machine.specs.Tasks.{task_of, edit_task, number_of}
-use Rattle.profile_machine.specs.Dispatching.{active_of, to_tail, block}
-use Rattle.profile_machine.specs.Frames.{frames_of, top_of, edit_top, push, pop, new_frame, goes, leaves, raises, given, raise_if, with_room, has_room, with_mark, leaving_of, pass_on, in_protected, exception_name}
-use Rattle.profile_machine.specs.Scopes.{home, cells_of, scope_in_use, open_scope, Beginning, innermost}
-use Rattle.profile_machine.specs.Operators.{Valued, ◌>>=◌}
-use Rattle.profile_machine.specs.Values.{Seen, seen_by, condition, object_of, object_number, own_object, queue_at}
-use Rattle.profile_machine.specs.Inheritance.{inherit_running, lose_running}
-use Rattle.profile_machine.specs.Calls.{call_of, edit_call, with_call, edit_object, unqueued, enqueue, next_call, queue_of, place_of_entry, says_call, attempt, is_cancellable, forget_call}
-use Rattle.profile_machine.specs.CallEnds.{deliver, resume}
+use Rattle.profile_machine.specs.World.{World, Object, Action, Located, ResultTo, of_subprogram, of_entry_body, ScopeId, Mark, Scope, Handled, InProtected, InAccept, Abortable, InInitialize, InFinalize, InAssign, ProtectedMark, Call, by_ceiling}
+use Rattle.profile_machine.specs.Words.{same_who, without, option_or_else, is_empty}
+use Rattle.profile_machine.specs.Program.{next_of, scope_of, marks_of, subprogram_of, protected_unit_of, entry_of, has_edf}
+use Rattle.profile_machine.specs.Steps.{Step, Part, own, the_placing, says, changes, looks, ◌▷◌}
+use Rattle.profile_machine.specs.Tasks.{task_of}
+use Rattle.profile_machine.specs.Dispatching.{active_of, to_tail}
+use Rattle.profile_machine.specs.Frames.{edit_top, push, new_frame, goes, raises, given, raise_if, with_room, has_room, with_mark, exception_name}
+use Rattle.profile_machine.specs.Scopes.{home, open_scope, Beginning}
+use Rattle.profile_machine.specs.Operators.{Valued}
+use Rattle.profile_machine.specs.Values.{Seen, condition, object_of, object_number, own_object, queue_at}
+use Rattle.profile_machine.specs.Inheritance.{inherit_running}
+use Rattle.profile_machine.specs.Calls.{edit_call, edit_object, unqueued, next_call, place_of_entry}
 use Rattle.profile_machine.specs.Statements.{sees}
 use Rattle.profile_machine.specs.Subprograms.{Handed, handing, begin_body}
 

@@ -1,6 +1,6 @@
 -- Each handler is released at its tick (C.3, D.14, D.15): a law on the worlds of a run, since a setting prints no line.
 -- It looks at each instant behind its first step, when the effect of an action can set and cancel no more.
-use Rattle.std.specs.Prelude.{ℕ, zero, suc, ◌+◌, ℤ, pos, int_le, int_lt, Bool, true, false, cond, not, ◌&&◌, ◌||◌, List, [], ◌∷◌, ◌++◌, Option, Some, None, eqb, leb, length, filter, map, option_map, slice_index_or}
+use Rattle.std.specs.Prelude.{ℕ, zero, suc, ℤ, pos, int_le, Bool, true, false, cond, not, ◌&&◌, ◌||◌, List, [], ◌∷◌, ◌++◌, Option, Some, None, eqb, leb, length, slice_index_or}
 use Rattle.std.specs.List.{list_any, list_all}
 use Rattle.ann_base.specs.declared.identities.ObjectNo.{ObjectNo}
 use Rattle.trace_text.specs.declared.events.Event.{Event}
@@ -12,11 +12,11 @@ use Rattle.profile_machine.specs.declared.run_data.Item.{Item}
 use Rattle.profile_machine.specs.declared.run_data.Item.TheVariants as item
 use Rattle.profile_machine.specs.declared.statements.StatementForm.{StatementForm}
 use Rattle.profile_machine.specs.declared.statements.StatementForm.TheVariants as form
-use Rattle.profile_machine.specs.World.{World, HandlerOf, Appointment, Due, an_event, a_delay, a_timeout, a_trigger, TimerSetting, Frame}
-use Rattle.profile_machine.specs.Words.{same_moment, edit_at, is_empty}
+use Rattle.profile_machine.specs.World.{World, HandlerOf, Appointment, Due, an_event, a_delay, a_timeout, a_trigger, TimerSetting}
+use Rattle.profile_machine.specs.Words.{same_moment, edit_at}
 use Rattle.profile_machine.specs.Program.{subprogram_of, form_of}
 use Rattle.profile_machine.specs.Steps.{Move, ◌▷◌}
-use Rattle.profile_machine.specs.Frames.{top_of, onward_of}
+use Rattle.profile_machine.specs.Frames.{onward_of}
 use Rattle.profile_machine.specs.Values.{timer_of, budget_of}
 use Rattle.profile_machine.specs.Handlers.{handler_attached}
 use Rattle.profile_machine.specs.Instant.{finish_action, script_items, events_due, moments_due, timers_due, budgets_due, quantum_spent}

@@ -1,9 +1,7 @@
 -- Accepting calls (9.5.2, 9.7.1).
-use Rattle.std.specs.Prelude.{ℕ, zero, suc, ◌+◌, ℤ, pos, int_lt, int_le, Bool, true, false, cond, not, ◌&&◌, ◌||◌, List, [], ◌∷◌, ◌++◌, Option, Some, None, Result, Ok, Err, length, find, map, is_none, is_some, option_map, take, drop}
-use Rattle.std.specs.List.{list_any}
+use Rattle.std.specs.Prelude.{ℕ, ℤ, pos, int_lt, int_le, Bool, true, false, cond, not, ◌&&◌, List, [], ◌∷◌, Option, Some, None, Ok, find, map}
 use Rattle.ann_base.specs.declared.identities.CallNo.{CallNo}
 use Rattle.ann_base.specs.declared.identities.TaskNo.{TaskNo}
-use Rattle.ann_base.specs.declared.exceptions.Raised.{Raised}
 use Rattle.ann_base.specs.declared.exceptions.Raised.TheVariants as exception
 use Rattle.trace_text.specs.declared.events.Event.TheVariants as line
 use Rattle.trace_text.specs.declared.events.Finished.TheVariants as finished
@@ -24,20 +22,20 @@ use Rattle.profile_machine.specs.declared.statements.SelectKind.TheVariants as s
 use Rattle.profile_machine.specs.declared.values.Value.{Value}
 use Rattle.profile_machine.specs.World.{World, Frame, Mark, InAccept, AcceptMark, Call, Owner, a_task, an_object, Outcome, finished_ok, cancelled, to_raise, was_raised, Sending, State, Made, Runnable, Blocked, Waiting, for_activation, for_moment, for_call, for_end_of_call, for_accept, for_select, for_dependents, for_release, by_rendezvous, ScopeId, a_delay}
 use Rattle.profile_machine.specs.World as world
-use Rattle.profile_machine.specs.Words.{same_who, same_entry, is_the}
-use Rattle.profile_machine.specs.Program.{form_of, next_of, scope_of, marks_of, entry_of}
-use Rattle.profile_machine.specs.Steps.{Step, Part, own, the_finish, the_placing, the_block, says, changes, looks, when, nothing, for_some, ◌▷◌}
-use Rattle.profile_machine.specs.Tasks.{task_of, edit_task, with_state, found_task, waiting_of}
-use Rattle.profile_machine.specs.Dispatching.{ready, block, to_head}
-use Rattle.profile_machine.specs.Frames.{frames_of, push, pop, new_frame, goes, leaves, raises, given, raise_if, has_room, pass_on, leaving_of, in_protected, exception_name, open_sequence}
-use Rattle.profile_machine.specs.Scopes.{begin_scope, end_scope, cells_of, scope_in_use, next_id, plainly, innermost, Beginning}
+use Rattle.profile_machine.specs.Words.{same_entry}
+use Rattle.profile_machine.specs.Program.{form_of, next_of, scope_of, marks_of}
+use Rattle.profile_machine.specs.Steps.{Step, Part, own, the_finish, the_block, says, changes, looks, nothing, for_some, ◌▷◌}
+use Rattle.profile_machine.specs.Tasks.{edit_task, with_state, found_task, waiting_of}
+use Rattle.profile_machine.specs.Dispatching.{ready, block}
+use Rattle.profile_machine.specs.Frames.{push, pop, new_frame, goes, raises, given, raise_if, has_room, pass_on, in_protected, exception_name, open_sequence}
+use Rattle.profile_machine.specs.Scopes.{begin_scope, end_scope, cells_of, scope_in_use, next_id, plainly, innermost}
 use Rattle.profile_machine.specs.Operators.{Valued, ◌>>=◌}
-use Rattle.profile_machine.specs.Values.{Seen, seen_by, condition, moment}
-use Rattle.profile_machine.specs.Inheritance.{inherit, lose_running, rises, inherit_running}
+use Rattle.profile_machine.specs.Values.{Seen, condition, moment}
+use Rattle.profile_machine.specs.Inheritance.{inherit, lose_running, inherit_running}
 use Rattle.profile_machine.specs.Appointments.{appoint, drop_delay}
-use Rattle.profile_machine.specs.Calls.{call_of, edit_call, with_call, queue_of, place_of_entry, next_call, enqueue, unqueued}
-use Rattle.profile_machine.specs.CallEnds.{deliver, end_call, gone}
-use Rattle.profile_machine.specs.Protected.{begun_call, begin_call}
+use Rattle.profile_machine.specs.Calls.{edit_call, with_call, queue_of, place_of_entry, next_call, enqueue}
+use Rattle.profile_machine.specs.CallEnds.{deliver, gone}
+use Rattle.profile_machine.specs.Protected.{begin_call}
 use Rattle.profile_machine.specs.Sending.{send_on, sent_not_begun, begin_abortable}
 use Rattle.profile_machine.specs.Serving.{with_values, formals_count, keeps_sending}
 use Rattle.profile_machine.specs.Statements.{sees, relative_moment}

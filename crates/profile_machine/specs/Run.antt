@@ -1,7 +1,6 @@
 -- The timed run: instants and tocks in turn from the opening world, up to the first instant at which it stops.
-use Rattle.std.specs.Prelude.{ℕ, zero, suc, ◌+◌, ◌-◌, ℤ, pos, Bool, true, false, cond, not, ◌&&◌, ◌||◌, List, [], ◌∷◌, ◌++◌, Option, Some, None, eqb, is_some, is_none, map, replicate, slice_index_or, option_map, int_le}
+use Rattle.std.specs.Prelude.{ℕ, zero, suc, ◌+◌, ◌-◌, ℤ, pos, false, cond, ◌&&◌, List, [], ◌∷◌, ◌++◌, Option, Some, None, eqb, replicate}
 use Rattle.ann_base.specs.declared.exceptions.Raised.{Raised}
-use Rattle.ann_base.specs.declared.identities.TaskNo.{TaskNo}
 use Rattle.trace_text.specs.declared.events.Event.{Event}
 use Rattle.trace_text.specs.declared.events.Event.TheVariants as line
 use Rattle.trace_text.specs.declared.events.Created.TheVariants as created
@@ -11,13 +10,13 @@ use Rattle.trace_text.specs.declared.events.Who.{Who}
 use Rattle.trace_text.specs.declared.events.Who.TheVariants as who
 use Rattle.profile_machine.specs.declared.image.Image.{Image}
 use Rattle.profile_machine.specs.declared.run_data.Item.{Item}
-use Rattle.profile_machine.specs.World.{World, Task, Frame, State, Made, Runnable, Blocked, for_release, of_task, scope_id, Appointment, Drawn, Release}
-use Rattle.profile_machine.specs.Words.{same_who, same_option, is_empty, first_of_list}
+use Rattle.profile_machine.specs.World.{World, Task, Frame, Runnable, Blocked, for_release, of_task, Drawn, Release}
+use Rattle.profile_machine.specs.Words.{same_who, same_option, is_empty}
 use Rattle.profile_machine.specs.Program.{interrupt_priority}
-use Rattle.profile_machine.specs.Steps.{Part, own, Step, Move, says, changes, looks, when, nothing, settles, ◌▷◌}
-use Rattle.profile_machine.specs.Tasks.{task_of, edit_task, with_ticks, new_task, is_runnable_state, is_agent}
+use Rattle.profile_machine.specs.Steps.{own, Step, Move, says, changes, looks, nothing, settles, ◌▷◌}
+use Rattle.profile_machine.specs.Tasks.{task_of, edit_task, with_ticks, new_task}
 use Rattle.profile_machine.specs.Dispatching.{choose, to_tail}
-use Rattle.profile_machine.specs.Frames.{open_sequence, frames_of, exception_name}
+use Rattle.profile_machine.specs.Frames.{open_sequence, exception_name}
 use Rattle.profile_machine.specs.Scopes.{open_scope, plainly}
 use Rattle.profile_machine.specs.Cost.{cost}
 use Rattle.profile_machine.specs.Handlers.{charge}

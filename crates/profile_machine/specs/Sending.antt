@@ -1,7 +1,6 @@
 -- Calls that are sent on, abortable parts that begin, and calls that are not accepted at once (9.5.4, 9.7).
-use Rattle.std.specs.Prelude.{ℕ, ◌+◌, ℤ, pos, int_le, Bool, true, false, cond, not, ◌&&◌, ◌||◌, List, [], ◌∷◌, ◌++◌, Option, Some, None, length, is_none, is_some}
+use Rattle.std.specs.Prelude.{ℕ, ℤ, pos, int_le, Bool, true, false, cond, not, ◌&&◌, ◌||◌, Option, Some, None, is_none}
 use Rattle.ann_base.specs.declared.identities.CallNo.{CallNo}
-use Rattle.ann_base.specs.declared.identities.TaskNo.{TaskNo}
 use Rattle.trace_text.specs.declared.events.Event.TheVariants as line
 use Rattle.trace_text.specs.declared.events.Who.{Who}
 use Rattle.trace_text.specs.declared.events.Who.TheVariants as who
@@ -9,15 +8,15 @@ use Rattle.profile_machine.specs.declared.image.Image.{Image}
 use Rattle.profile_machine.specs.declared.numbers.StatementNo.{StatementNo}
 use Rattle.profile_machine.specs.declared.statements.StatementForm.{StatementForm}
 use Rattle.profile_machine.specs.declared.statements.StatementForm.TheVariants as form
-use Rattle.profile_machine.specs.World.{World, Frame, Mark, Abortable, Call, CallKind, plain, conditional, timed, triggering, Outcome, cancelled, Sending, a_timeout, for_call}
+use Rattle.profile_machine.specs.World.{World, Mark, Abortable, Call, CallKind, plain, conditional, timed, triggering, cancelled, Sending, a_timeout, for_call}
 use Rattle.profile_machine.specs.Program.{form_of}
-use Rattle.profile_machine.specs.Steps.{Step, Part, the_finish, the_block, says, changes, looks, when, nothing, for_some, ◌▷◌}
-use Rattle.profile_machine.specs.Tasks.{task_of, waiting_of}
+use Rattle.profile_machine.specs.Steps.{Step, Part, the_finish, the_block, says, changes, looks, when, nothing, ◌▷◌}
+use Rattle.profile_machine.specs.Tasks.{waiting_of}
 use Rattle.profile_machine.specs.Dispatching.{ready, block}
-use Rattle.profile_machine.specs.Frames.{frames_of, push, new_frame, has_room}
+use Rattle.profile_machine.specs.Frames.{push, new_frame, has_room}
 use Rattle.profile_machine.specs.Appointments.{appoint}
-use Rattle.profile_machine.specs.Calls.{call_of, edit_call, with_call, unqueued, says_call, attempt_with, forget_call}
-use Rattle.profile_machine.specs.CallEnds.{end_call, deliver, resume, waits_for_call, abortable_depth}
+use Rattle.profile_machine.specs.Calls.{edit_call, with_call, unqueued, says_call, attempt_with}
+use Rattle.profile_machine.specs.CallEnds.{deliver, resume, waits_for_call, abortable_depth}
 
 -- ---- abortable parts (9.7.4)
 

@@ -1,8 +1,7 @@
 -- A protected action goes on: calls that are queued are served, and then the object is released (9.5.1, 9.5.3, 9.5.4).
-use Rattle.std.specs.Prelude.{ℕ, zero, suc, ◌+◌, Bool, true, false, cond, not, ◌&&◌, ◌||◌, List, [], ◌∷◌, ◌++◌, Option, Some, None, length, is_none, is_some, take, drop}
+use Rattle.std.specs.Prelude.{ℕ, zero, suc, Bool, true, false, not, ◌&&◌, List, ◌++◌, Option, Some, None, length, take, drop}
 use Rattle.ann_base.specs.declared.identities.CallNo.{CallNo}
 use Rattle.ann_base.specs.declared.identities.ObjectNo.{ObjectNo}
-use Rattle.ann_base.specs.declared.identities.TaskNo.{TaskNo}
 use Rattle.ann_base.specs.declared.exceptions.Raised.{Raised}
 use Rattle.ann_base.specs.declared.exceptions.Raised.TheVariants as exception
 use Rattle.trace_text.specs.declared.events.Event.TheVariants as line
@@ -15,17 +14,16 @@ use Rattle.profile_machine.specs.declared.image.Image.{Image}
 use Rattle.profile_machine.specs.declared.run_data.Leaving.{Leaving}
 use Rattle.profile_machine.specs.declared.run_data.Leaving.TheVariants as how
 use Rattle.profile_machine.specs.declared.values.Value.{Value}
-use Rattle.profile_machine.specs.World.{World, Object, Frame, ProtectedMark, Call, Outcome, finished_ok, cancelled, to_raise, was_raised, Sending, for_call, for_release, by_ceiling, Release}
+use Rattle.profile_machine.specs.World.{World, Frame, ProtectedMark, Call, Outcome, finished_ok, to_raise, was_raised, Sending, for_release, by_ceiling}
 use Rattle.profile_machine.specs.Words.{same_call, same_who, is_the, without, is_empty}
 use Rattle.profile_machine.specs.Program.{entry_of}
-use Rattle.profile_machine.specs.Steps.{Step, Part, own, the_finish, the_block, says, changes, looks, when, nothing, for_some, ◌▷◌}
-use Rattle.profile_machine.specs.Tasks.{task_of}
+use Rattle.profile_machine.specs.Steps.{Step, Part, own, the_finish, the_block, says, changes, looks, when, nothing, ◌▷◌}
 use Rattle.profile_machine.specs.Dispatching.{block}
-use Rattle.profile_machine.specs.Frames.{frames_of, edit_top, pop, leaves, pass_on, leaving_of, exception_name, has_room}
+use Rattle.profile_machine.specs.Frames.{frames_of, edit_top, pop, leaves, pass_on, exception_name, has_room}
 use Rattle.profile_machine.specs.Inheritance.{lose_running}
-use Rattle.profile_machine.specs.Calls.{call_of, edit_call, with_call, edit_object, enqueue, attempt_with, forget_call}
+use Rattle.profile_machine.specs.Calls.{edit_call, with_call, edit_object, enqueue, attempt_with, forget_call}
 use Rattle.profile_machine.specs.Unwinding.{may_unwind}
-use Rattle.profile_machine.specs.CallEnds.{deliver, resume, with_outcome}
+use Rattle.profile_machine.specs.CallEnds.{deliver, resume}
 use Rattle.profile_machine.specs.Protected.{edit_top_protected, serve_call, served_next, is_action_of}
 use Rattle.profile_machine.specs.Values.{object_of}
 use Rattle.profile_machine.specs.Priorities.{set_deferred}

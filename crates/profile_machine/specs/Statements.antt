@@ -1,5 +1,5 @@
 -- Simple and compound statements (clauses 5, 6.5, 9.6, 11.3, A.10.7).
-use Rattle.std.specs.Prelude.{ℕ, zero, suc, ◌+◌, ◌-◌, ℤ, pos, negsuc, ◌+ℤ◌, int_lt, int_le, Bool, true, false, cond, not, ◌&&◌, ◌||◌, List, [], ◌∷◌, ◌++◌, Option, Some, None, Result, Ok, Err, eqb, ltb, leb, length, take, drop, option_map, option_and_then, find, is_some}
+use Rattle.std.specs.Prelude.{ℕ, ◌+◌, ◌-◌, ℤ, pos, negsuc, ◌+ℤ◌, int_lt, Bool, true, false, cond, not, ◌&&◌, List, [], ◌∷◌, ◌++◌, Option, Some, None, Ok, Err, length, take, drop}
 use Rattle.ann_base.specs.declared.exceptions.Raised.{Raised}
 use Rattle.ann_base.specs.declared.exceptions.Raised.TheVariants as exception
 use Rattle.trace_text.specs.declared.events.Event.TheVariants as line
@@ -10,13 +10,7 @@ use Rattle.profile_machine.specs.declared.numbers.DeclNo.{DeclNo}
 use Rattle.profile_machine.specs.declared.numbers.ExprNo.{ExprNo}
 use Rattle.profile_machine.specs.declared.numbers.ScopeNo.{ScopeNo}
 use Rattle.profile_machine.specs.declared.numbers.StatementNo.{StatementNo}
-use Rattle.profile_machine.specs.declared.numbers.SubprogramNo.{SubprogramNo}
-use Rattle.profile_machine.specs.declared.run_data.Leaving.TheVariants as how
-use Rattle.profile_machine.specs.declared.declarations.Initial.{Initial}
-use Rattle.profile_machine.specs.declared.declarations.Initial.TheVariants as initial
-use Rattle.profile_machine.specs.declared.declarations.Subprogram.{Subprogram}
 use Rattle.profile_machine.specs.declared.expressions.ObjectName.{ObjectName}
-use Rattle.profile_machine.specs.declared.expressions.ObjectName.TheVariants.{Declared, OwnComponent, Component}
 use Rattle.profile_machine.specs.declared.expressions.VariableName.{VariableName}
 use Rattle.profile_machine.specs.declared.statements.Choice.{Choice}
 use Rattle.profile_machine.specs.declared.statements.Choice.TheVariants as choice
@@ -25,16 +19,14 @@ use Rattle.profile_machine.specs.declared.statements.Piece.{Piece}
 use Rattle.profile_machine.specs.declared.statements.Piece.TheVariants as piece
 use Rattle.profile_machine.specs.declared.values.Value.{Value}
 use Rattle.profile_machine.specs.declared.values.Value.TheVariants.{Whole, Truth, Literal, Ticks, Task, Thing}
-use Rattle.profile_machine.specs.declared.values.Constraint.{Constraint}
-use Rattle.profile_machine.specs.declared.values.Constraint.TheVariants as range
-use Rattle.profile_machine.specs.World.{World, Variable, Frame, Mark, Scope, Handled, InProtected, InAccept, Abortable, InInitialize, InFinalize, InAssign, ScopeMark, AcceptMark, ScopeId, a_delay, for_moment, of_block}
-use Rattle.profile_machine.specs.Words.{same_id, is_the, option_or_else}
-use Rattle.profile_machine.specs.Program.{declaration_of, form_of, next_of, scope_of, marks_of, subprogram_of, literals_of}
-use Rattle.profile_machine.specs.Steps.{Step, Part, own, the_placing, the_block, says, changes, looks, when, nothing, for_some, ◌▷◌}
+use Rattle.profile_machine.specs.World.{World, Variable, Frame, Mark, Scope, Handled, InProtected, InAccept, Abortable, InInitialize, InFinalize, InAssign, ScopeId, a_delay, for_moment, of_block}
+use Rattle.profile_machine.specs.Words.{same_id}
+use Rattle.profile_machine.specs.Program.{declaration_of, next_of, scope_of, marks_of, literals_of}
+use Rattle.profile_machine.specs.Steps.{Step, Part, own, the_placing, the_block, says, changes, looks, nothing, ◌▷◌}
 use Rattle.profile_machine.specs.Dispatching.{block, to_tail}
-use Rattle.profile_machine.specs.Frames.{frames_of, goes, leaves, raises, given, raise_if, with_room, exit_loop, in_protected}
-use Rattle.profile_machine.specs.Scopes.{home, read_cell, write_cell, edit_cells, cells_of, scope_in_use, open_scope, plainly, innermost}
-use Rattle.profile_machine.specs.Operators.{Valued, ◌>>=◌, checked, same_value, is_less, held_moment, text_of_whole, text_of_truth, text_of_literal}
+use Rattle.profile_machine.specs.Frames.{frames_of, goes, raises, given, raise_if, with_room, exit_loop, in_protected}
+use Rattle.profile_machine.specs.Scopes.{home, write_cell, edit_cells, cells_of, scope_in_use, open_scope, plainly, innermost}
+use Rattle.profile_machine.specs.Operators.{Valued, ◌>>=◌, same_value, is_less, held_moment, text_of_whole, text_of_truth, text_of_literal}
 use Rattle.profile_machine.specs.Values.{Seen, seen_by, value, variable, condition, moment, object_cell, home_of, or_misfit, read}
 use Rattle.profile_machine.specs.Appointments.{appoint}
 use Rattle.profile_machine.specs.CallEnds.{store}

@@ -1,19 +1,15 @@
 -- Calls of subprograms: parameters, results, returns (clause 6).
-use Rattle.std.specs.Prelude.{ℕ, zero, suc, ◌+◌, ◌-◌, pos, Bool, true, false, cond, not, List, [], ◌∷◌, ◌++◌, Option, Some, None, Result, Ok, Err, length, option_map, option_and_then, slice_index_or}
-use Rattle.ann_base.specs.declared.exceptions.Raised.{Raised}
+use Rattle.std.specs.Prelude.{ℕ, suc, ◌-◌, pos, Bool, true, false, List, [], ◌∷◌, Option, Some, None, Ok, length, option_and_then, slice_index_or}
 use Rattle.ann_base.specs.declared.exceptions.Raised.TheVariants as exception
-use Rattle.ann_base.specs.declared.identities.ObjectNo.{ObjectNo}
 use Rattle.ann_base.specs.declared.identities.CallNo.{CallNo}
 use Rattle.trace_text.specs.declared.events.Who.{Who}
 use Rattle.profile_machine.specs.declared.image.Image.{Image}
-use Rattle.profile_machine.specs.declared.numbers.DeclNo.{DeclNo}
 use Rattle.profile_machine.specs.declared.numbers.ExprNo.{ExprNo}
 use Rattle.profile_machine.specs.declared.numbers.StatementNo.{StatementNo}
 use Rattle.profile_machine.specs.declared.numbers.SubprogramNo.{SubprogramNo}
 use Rattle.profile_machine.specs.declared.run_data.Leaving.{Leaving}
 use Rattle.profile_machine.specs.declared.run_data.Leaving.TheVariants as how
 use Rattle.profile_machine.specs.declared.declarations.Formal.{Formal}
-use Rattle.profile_machine.specs.declared.declarations.Subprogram.{Subprogram}
 use Rattle.profile_machine.specs.declared.expressions.ObjectName.TheVariants.{Declared}
 use Rattle.profile_machine.specs.declared.statements.Actual.{Actual}
 use Rattle.profile_machine.specs.declared.statements.Actual.TheVariants as actual
@@ -21,15 +17,13 @@ use Rattle.profile_machine.specs.declared.statements.Destination.{Destination}
 use Rattle.profile_machine.specs.declared.statements.Destination.TheVariants as destination
 use Rattle.profile_machine.specs.declared.values.Value.{Value}
 use Rattle.profile_machine.specs.declared.values.Value.TheVariants.{Whole}
-use Rattle.profile_machine.specs.declared.values.Constraint.{Constraint}
-use Rattle.profile_machine.specs.World.{World, Variable, Located, ResultTo, to_nowhere, to_variable, to_return, CopyBack, Purpose, of_subprogram, ScopeId, Frame, Mark, Scope, Handled, InProtected, InAccept, Abortable, InInitialize, InFinalize, InAssign, of_block, of_entry_body, of_task, Call}
-use Rattle.profile_machine.specs.Words.{option_or_else}
-use Rattle.profile_machine.specs.Program.{declaration_of, next_of, scope_of, marks_of, subprogram_of}
-use Rattle.profile_machine.specs.Steps.{Step, Part, own, says, changes, looks, when, nothing, for_some, ◌▷◌}
-use Rattle.profile_machine.specs.Frames.{frames_of, goes, leaves, raises, given, raise_if, with_room}
-use Rattle.profile_machine.specs.Scopes.{home, read_cell, write_cell, cells_of, scope_in_use, open_scope, plainly, Beginning, innermost}
+use Rattle.profile_machine.specs.World.{World, Variable, Located, ResultTo, to_nowhere, to_variable, to_return, CopyBack, Purpose, of_subprogram, Frame, Mark, Scope, Handled, InProtected, InAccept, Abortable, InInitialize, InFinalize, InAssign, of_block, of_entry_body, of_task, Call}
+use Rattle.profile_machine.specs.Program.{next_of, scope_of, marks_of, subprogram_of}
+use Rattle.profile_machine.specs.Steps.{Step, own, changes, looks, nothing, ◌▷◌}
+use Rattle.profile_machine.specs.Frames.{frames_of, goes, leaves, given, raise_if, with_room}
+use Rattle.profile_machine.specs.Scopes.{home, write_cell, open_scope, Beginning}
 use Rattle.profile_machine.specs.Operators.{Valued, ◌>>=◌, checked}
-use Rattle.profile_machine.specs.Values.{Seen, seen_by, value, variable, object_cell, or_misfit, read, thing, located}
+use Rattle.profile_machine.specs.Values.{Seen, value, variable, object_cell, or_misfit, read, thing, located}
 use Rattle.profile_machine.specs.CallEnds.{store}
 use Rattle.profile_machine.specs.Calls.{edit_call}
 use Rattle.profile_machine.specs.Statements.{sees, becomes}

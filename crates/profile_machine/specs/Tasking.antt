@@ -1,5 +1,5 @@
 -- The creation, activation, completion and abort of tasks (9.1 to 9.3, 9.8, 7.6.1).
-use Rattle.std.specs.Prelude.{ℕ, zero, suc, ◌+◌, ◌-◌, ℤ, pos, ◌+ℤ◌, Bool, true, false, cond, not, ◌&&◌, ◌||◌, List, [], ◌∷◌, ◌++◌, Option, Some, None, Result, Ok, Err, eqb, leb, length, filter, map, is_some, is_none, option_map, option_and_then}
+use Rattle.std.specs.Prelude.{ℕ, suc, ◌-◌, ℤ, pos, ◌+ℤ◌, Bool, true, false, cond, not, ◌&&◌, ◌||◌, List, [], ◌∷◌, ◌++◌, Option, Some, None, Ok, eqb, leb, length, filter, is_some, option_and_then}
 use Rattle.std.specs.List.{list_any}
 use Rattle.ann_base.specs.declared.identities.TaskNo.{TaskNo}
 use Rattle.ann_base.specs.declared.identities.RegionNo.{RegionNo}
@@ -14,7 +14,6 @@ use Rattle.trace_text.specs.declared.events.Who.TheVariants as who
 use Rattle.profile_machine.specs.declared.image.Image.{Image}
 use Rattle.profile_machine.specs.declared.numbers.DeclNo.{DeclNo}
 use Rattle.profile_machine.specs.declared.numbers.ExprNo.{ExprNo}
-use Rattle.profile_machine.specs.declared.numbers.ScopeNo.{ScopeNo}
 use Rattle.profile_machine.specs.declared.numbers.StatementNo.{StatementNo}
 use Rattle.profile_machine.specs.declared.numbers.TaskUnitNo.{TaskUnitNo}
 use Rattle.profile_machine.specs.declared.declarations.TaskUnit.{TaskUnit}
@@ -26,15 +25,15 @@ use Rattle.profile_machine.specs.declared.values.Value.{Value}
 use Rattle.profile_machine.specs.declared.values.Value.TheVariants as value_of
 use Rattle.profile_machine.specs.World.{World, State, Made, Runnable, Blocked, Frame, Mark, Scope, ScopeMark, ScopeId, Purpose, of_block, of_subprogram, of_entry_body, of_task, to_nowhere, Located, Drawn, Inherited, by_activation, for_activation, for_dependents, Waiting}
 use Rattle.profile_machine.specs.World as world
-use Rattle.profile_machine.specs.Words.{same_who, same_region, is_the, without, option_or_else}
-use Rattle.profile_machine.specs.Program.{declaration_of, next_of, scope_of, marks_of, task_unit_of}
+use Rattle.profile_machine.specs.Words.{same_who, same_region, is_the, option_or_else}
+use Rattle.profile_machine.specs.Program.{declaration_of, next_of, scope_of, task_unit_of}
 use Rattle.profile_machine.specs.Steps.{Step, Part, own, of_other, the_placing, the_block, says, changes, looks, when, nothing, for_some, for_each, ◌▷◌}
-use Rattle.profile_machine.specs.Tasks.{task_of, edit_task, new_task, with_state, is_made, waiting_of}
+use Rattle.profile_machine.specs.Tasks.{task_of, edit_task, new_task, is_made, waiting_of}
 use Rattle.profile_machine.specs.Dispatching.{active_of, ready, block, to_head, says_block}
-use Rattle.profile_machine.specs.Frames.{frames_of, top_of, edit_top, push, pop, new_frame, goes, leaves, raises, given, raise_if, with_room, has_room, with_mark, pass_on, leaving_of, in_protected, is_deferred, exception_name}
-use Rattle.profile_machine.specs.Scopes.{home, write_cell, open_scope, plainly, innermost, end_scope, cells_of, scope_in_use, Beginning}
+use Rattle.profile_machine.specs.Frames.{frames_of, edit_top, pop, goes, raises, given, raise_if, has_room, pass_on, in_protected, is_deferred, exception_name}
+use Rattle.profile_machine.specs.Scopes.{home, open_scope, plainly, end_scope, cells_of, scope_in_use}
 use Rattle.profile_machine.specs.Operators.{Valued, ◌>>=◌, held_moment}
-use Rattle.profile_machine.specs.Values.{Seen, moment, thing, task_in, home_of}
+use Rattle.profile_machine.specs.Values.{Seen, moment, thing, task_in}
 use Rattle.profile_machine.specs.Inheritance.{inherit, falls}
 use Rattle.profile_machine.specs.Unwinding.{strike_outermost, unwind, any_struck}
 use Rattle.profile_machine.specs.Masters.{part_of, region_of_mark, depends_on_task, has_dependents, complete, terminate, end_activation, may_terminate, leave_by_terminate, waits_at_terminate, has_activating}

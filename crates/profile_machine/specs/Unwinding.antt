@@ -1,16 +1,12 @@
 -- Abort and completed triggers strike open constructs, which are left at the first instant outside an operation that
 -- defers abort (9.8, D.6).
-use Rattle.std.specs.Prelude.{ℕ, zero, suc, ◌+◌, ◌-◌, Bool, true, false, cond, not, ◌&&◌, ◌||◌, List, [], ◌∷◌, ◌++◌, Option, Some, None, length}
-use Rattle.ann_base.specs.declared.identities.TaskNo.{TaskNo}
-use Rattle.ann_base.specs.declared.identities.CallNo.{CallNo}
+use Rattle.std.specs.Prelude.{Bool, true, false, cond, not, ◌&&◌, List, [], ◌∷◌, Option, Some, None}
 use Rattle.trace_text.specs.declared.events.Who.{Who}
-use Rattle.trace_text.specs.declared.events.Who.TheVariants as who
 use Rattle.profile_machine.specs.declared.image.Image.{Image}
 use Rattle.profile_machine.specs.declared.run_data.Leaving.{Leaving}
 use Rattle.profile_machine.specs.declared.run_data.Leaving.TheVariants as how
-use Rattle.profile_machine.specs.World.{World, Task, Frame, Mark, Scope, Handled, InProtected, InAccept, Abortable, InInitialize, InFinalize, InAssign, ScopeMark, AbortableMark, State, Made, Runnable, Blocked, Waiting, for_activation, for_moment, for_call, for_end_of_call, for_accept, for_select, for_dependents, for_release}
-use Rattle.profile_machine.specs.Program.{form_of}
-use Rattle.profile_machine.specs.Steps.{Step, Part, own, of_other, says, changes, looks, when, nothing, for_some, for_each, ◌▷◌}
+use Rattle.profile_machine.specs.World.{World, Frame, Mark, Scope, Handled, InProtected, InAccept, Abortable, InInitialize, InFinalize, InAssign, State, Made, Runnable, Blocked, Waiting, for_activation, for_moment, for_call, for_end_of_call, for_accept, for_select, for_dependents, for_release}
+use Rattle.profile_machine.specs.Steps.{Step, Part, changes, looks, when, nothing, ◌▷◌}
 use Rattle.profile_machine.specs.Tasks.{task_of, edit_task, with_ticks, with_frames}
 use Rattle.profile_machine.specs.Dispatching.{ready}
 use Rattle.profile_machine.specs.Frames.{frames_of, leaves, defers}

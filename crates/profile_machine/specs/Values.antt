@@ -1,18 +1,15 @@
 -- The value of an expression, or its exception (clause 4).
-use Rattle.std.specs.Prelude.{ℕ, zero, suc, ◌+◌, ◌-◌, ℤ, pos, ◌+ℤ◌, ◌-ℤ◌, ◌*ℤ◌, int_le, nat_abs, Bool, true, false, cond, not, ◌&&◌, ◌||◌, List, [], ◌∷◌, ◌++◌, Option, Some, None, Result, Ok, Err, eqb, ltb, leb, find, filter, length, map, option_map, option_and_then, slice_index_or}
+use Rattle.std.specs.Prelude.{ℕ, zero, suc, ◌+◌, ℤ, pos, ◌-ℤ◌, ◌*ℤ◌, int_le, nat_abs, Bool, true, false, cond, ◌&&◌, List, [], Option, Some, None, Ok, Err, eqb, find, length, option_and_then, slice_index_or}
 use Rattle.ann_base.specs.declared.identities.TaskNo.{TaskNo}
 use Rattle.ann_base.specs.declared.identities.ObjectNo.{ObjectNo}
 use Rattle.ann_base.specs.declared.identities.CallNo.{CallNo}
-use Rattle.ann_base.specs.declared.exceptions.Raised.{Raised}
 use Rattle.ann_base.specs.declared.exceptions.Raised.TheVariants as exception
 use Rattle.trace_text.specs.declared.events.Who.{Who}
 use Rattle.trace_text.specs.declared.events.Who.TheVariants as who
 use Rattle.profile_machine.specs.declared.numbers.DeclNo.{DeclNo}
 use Rattle.profile_machine.specs.declared.numbers.ExprNo.{ExprNo}
-use Rattle.profile_machine.specs.declared.numbers.EntryNo.{EntryNo}
 use Rattle.profile_machine.specs.declared.numbers.ProtectedUnitNo.{ProtectedUnitNo}
 use Rattle.profile_machine.specs.declared.image.Image.{Image}
-use Rattle.profile_machine.specs.declared.declarations.Declaration.{Declaration}
 use Rattle.profile_machine.specs.declared.declarations.DeclarationKind.{DeclarationKind}
 use Rattle.profile_machine.specs.declared.declarations.DeclarationKind.TheVariants as kind
 use Rattle.profile_machine.specs.declared.declarations.Entry.{Entry}
@@ -28,11 +25,11 @@ use Rattle.profile_machine.specs.declared.values.Value.{Value}
 use Rattle.profile_machine.specs.declared.values.Value.TheVariants.{Whole, Truth, Literal, Ticks, Task, Thing}
 use Rattle.profile_machine.specs.World.{World, ScopeId, ScopeInUse, Located, Variable, Object, Appointment, Due, an_event, a_delay, a_timeout, a_trigger, Timer, TimerSetting, Budget}
 use Rattle.profile_machine.specs.World as world
-use Rattle.profile_machine.specs.Words.{same_object, option_or_else, is_the}
+use Rattle.profile_machine.specs.Words.{same_object}
 use Rattle.profile_machine.specs.Program.{declaration_of, expression_of, entry_of}
-use Rattle.profile_machine.specs.Tasks.{task_of, found_task, number_of, is_there}
+use Rattle.profile_machine.specs.Tasks.{task_of, found_task, number_of}
 use Rattle.profile_machine.specs.Scopes.{home, read_cell, scope_in_use, first_outwards, innermost}
-use Rattle.profile_machine.specs.Operators.{Valued, ◌>>=◌, unless, misfit, ticks, whole, component_place, unary_value, binary_value, decides}
+use Rattle.profile_machine.specs.Operators.{Valued, ◌>>=◌, unless, misfit, ticks, component_place, unary_value, binary_value, decides}
 
 -- what an expression sees: the program, the world, who evaluates it, the scope in use round it, and for a barrier
 -- the object of which it is one

@@ -1,22 +1,18 @@
 -- What every world that a run reaches keeps, as tests that compute. A run is looked at before and behind each instant.
-use Rattle.std.specs.Prelude.{ℕ, zero, suc, ◌+◌, ◌-◌, ℤ, pos, int_le, int_lt, Bool, true, false, cond, not, ◌&&◌, ◌||◌, List, [], ◌∷◌, ◌++◌, Option, Some, None, eqb, ltb, leb, length, filter, map, is_some, is_none, option_map}
-use Rattle.std.specs.List.{list_any, list_all, flat_map}
-use Rattle.ann_base.specs.declared.identities.TaskNo.{TaskNo}
+use Rattle.std.specs.Prelude.{ℕ, zero, suc, ◌+◌, ℤ, pos, int_le, Bool, true, false, cond, not, ◌&&◌, List, [], ◌∷◌, ◌++◌, Option, Some, None, eqb, ltb, leb, length, filter, is_some, is_none}
+use Rattle.std.specs.List.{list_any, list_all}
 use Rattle.ann_base.specs.declared.identities.CallNo.{CallNo}
 use Rattle.ann_base.specs.declared.identities.ObjectNo.{ObjectNo}
-use Rattle.trace_text.specs.declared.events.Ended.{Ended}
 use Rattle.trace_text.specs.declared.events.Who.{Who}
 use Rattle.trace_text.specs.declared.events.Who.TheVariants as who
 use Rattle.profile_machine.specs.declared.image.Image.{Image}
 use Rattle.profile_machine.specs.declared.run_data.Item.{Item}
-use Rattle.profile_machine.specs.World.{World, Task, Placed, Frame, Mark, Scope, Handled, InProtected, InAccept, Abortable, InInitialize, InFinalize, InAssign, ScopeId, scope_id, ScopeInUse, Object, Action, Call, Owner, a_task, an_object, Appointment, Registered, Release, State, Made, Runnable, Blocked, Inherited, Cause, by_activation, by_rendezvous, by_ceiling}
-use Rattle.profile_machine.specs.Words.{same_who, same_call, same_object, same_id, same_moment, same_option, is_the, is_empty}
-use Rattle.profile_machine.specs.Program.{has_edf, edf_low}
+use Rattle.profile_machine.specs.World.{World, Task, Placed, Frame, Mark, Scope, Handled, InProtected, InAccept, Abortable, InInitialize, InFinalize, InAssign, ScopeId, scope_id, Object, Action, Call, Owner, a_task, an_object}
+use Rattle.profile_machine.specs.Words.{same_who, same_object, same_moment, same_option, is_empty}
 use Rattle.profile_machine.specs.Steps.{is_above}
-use Rattle.profile_machine.specs.Tasks.{task_of, is_runnable, is_made, waiting_in}
+use Rattle.profile_machine.specs.Tasks.{task_of, is_runnable}
 use Rattle.profile_machine.specs.Dispatching.{active, deadline_shown}
 use Rattle.profile_machine.specs.Scopes.{id_in, scope_in_use}
-use Rattle.profile_machine.specs.Values.{object_of}
 use Rattle.profile_machine.specs.Calls.{call_of}
 use Rattle.profile_machine.specs.Protected.{has_open}
 use Rattle.profile_machine.specs.Instant.{instant}

@@ -25,7 +25,7 @@ use Rattle.profile_machine.specs.declared.statements.StatementForm.TheVariants a
 use Rattle.profile_machine.specs.declared.values.Value.{Value}
 use Rattle.profile_machine.specs.World.{World, ScopeInUse, Variable, Call, CallKind, plain, conditional, timed, triggering, Owner, a_task, an_object, for_call, a_trigger}
 use Rattle.profile_machine.specs.Program.{form_of, next_of, scope_of, marks_of, entry_of, task_unit_of}
-use Rattle.profile_machine.specs.Steps.{Step, Part, the_call, own, of_other, the_block, says, changes, looks, nothing, ◌▷◌}
+use Rattle.profile_machine.specs.Steps.{Step, Part, the_call, the_finish, own, of_other, the_block, says, changes, looks, nothing, ◌▷◌}
 use Rattle.profile_machine.specs.Tasks.{waiting_of, number_of}
 use Rattle.profile_machine.specs.Dispatching.{active_of, block}
 use Rattle.profile_machine.specs.Frames.{frames_of, goes, leaves, raises, given, raise_if, with_room, has_room, in_protected, is_deferred, exception_name}
@@ -140,7 +140,7 @@ abbrev pub call_meets : Image → TaskNo → StatementNo → Call → Step
 call_meets p t s c =
     meet p (of_other (who.Task t)) (who.Task t) s c
     (block the_block (who.Task c.caller) (for_call c.number))
-    (end_at_once p the_block c exception.Storage)
+    (end_at_once p the_finish c exception.Storage)
 
 abbrev pub call_queues : Image → Call → Step
 call_queues p c = enqueue p c.number ▷ not_accepted p own c c.kind

@@ -90,13 +90,23 @@ accept_call p name s c =
     (inherit_running p name (by_rendezvous c) d.priority)
     (deliver p own c (to_raise exception.Storage) ▷ raises p own name exception.Storage))
 
--- the acceptor waited: it becomes ready, behind the `start`; without room the call has ended at once, and `otherwise` is done
+-- the acceptor waited: it becomes ready, behind the `start`
+abbrev pub meet_with_room : Image → Part → Who → StatementNo → Call → Step → Step
+meet_with_room p part name s c then_ =
+    begin_rendezvous p part name s c
+      (changes (inherit name (by_rendezvous c.number) c.priority) ▷ ready p part name ▷ then_) nothing
+
+-- without room the call has ended at once: its lines and its caller's come first, then those of the acceptor
+abbrev pub meet_without_room : Image → Part → Who → StatementNo → Call → Step → Step
+meet_without_room p part name s c otherwise =
+    begin_call p the_finish name c ▷ goes name (next_of p s)
+      ▷ says the_finish (line.Finish name c.number (finished.Raised (exception_name p exception.Storage)))
+      ▷ otherwise ▷ ready p part name ▷ raises p part name exception.Storage
+
 abbrev pub meet : Image → Part → Who → StatementNo → Call → Step → Step → Step
 meet p part name s c then_ otherwise =
     changes (drop_delay name)
-    ▷ begin_rendezvous p part name s c
-    (changes (inherit name (by_rendezvous c.number) c.priority) ▷ ready p part name ▷ then_)
-    (ready p part name ▷ raises p part name exception.Storage ▷ otherwise)
+      ▷ looks (λ w. elim (has_room_for_accept p w name s) [ true ↦ meet_with_room p part name s c then_ | false ↦ meet_without_room p part name s c otherwise ])
 
 -- ---- the accept statement (9.5.2): it begins with the next call, or waits
 
@@ -168,10 +178,6 @@ earlier m (Some n) = cond (int_lt n.at m.at) n m
 abbrev pub least_delay : List Moment → Option Moment
 least_delay [] = None
 least_delay (m ∷ ms) = Some (earlier m (least_delay ms))
-
-abbrev pub accept_entry : StatementForm → Option EntryNo
-accept_entry (form.Accept entry scope) = Some entry
-accept_entry _ = None
 
 abbrev pub queue_of_accept : Image → World → Who → StatementForm → List CallNo
 queue_of_accept p w name (form.Accept entry scope) = own_queue w name (place_of_entry p entry)

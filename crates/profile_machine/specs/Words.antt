@@ -73,11 +73,6 @@ abbrev pub some_where : {X : Type 0} → Bool → X → Option X
 some_where true x = Some x
 some_where false x = None
 
--- the first of the two that is there
-abbrev pub first_some : {X : Type 0} → Option X → Option X → Option X
-first_some (Some x) other = Some x
-first_some None other = other
-
 -- ---- lists
 
 abbrev pub is_empty : {X : Type 0} → List X → Bool
@@ -111,6 +106,3 @@ greatest_of (x ∷ xs) least = max x (greatest_of xs least)
 
 abbrev pub same_moment : ℤ → ℤ → Bool
 same_moment a b = int_le a b && int_le b a
-
-abbrev pub moment_at : ℕ → ℤ
-moment_at n = pos n

@@ -94,19 +94,19 @@ accept_call p name s c =
 abbrev pub meet_with_room : Image → Part → Who → StatementNo → Call → Step → Step
 meet_with_room p part name s c then_ =
     begin_rendezvous p part name s c
-      (changes (inherit name (by_rendezvous c.number) c.priority) ▷ ready p part name ▷ then_) nothing
+    (changes (inherit name (by_rendezvous c.number) c.priority) ▷ ready p part name ▷ then_) nothing
 
 -- without room the call has ended at once: its lines and its caller's come first, then those of the acceptor
 abbrev pub meet_without_room : Image → Part → Who → StatementNo → Call → Step → Step
 meet_without_room p part name s c otherwise =
     begin_call p the_finish name c ▷ goes name (next_of p s)
-      ▷ says the_finish (line.Finish name c.number (finished.Raised (exception_name p exception.Storage)))
-      ▷ otherwise ▷ ready p part name ▷ raises p part name exception.Storage
+    ▷ says the_finish (line.Finish name c.number (finished.Raised (exception_name p exception.Storage)))
+    ▷ otherwise ▷ ready p part name ▷ raises p part name exception.Storage
 
 abbrev pub meet : Image → Part → Who → StatementNo → Call → Step → Step → Step
 meet p part name s c then_ otherwise =
     changes (drop_delay name)
-      ▷ looks (λ w. elim (has_room_for_accept p w name s) [ true ↦ meet_with_room p part name s c then_ | false ↦ meet_without_room p part name s c otherwise ])
+    ▷ looks (λ w. elim (has_room_for_accept p w name s) [ true ↦ meet_with_room p part name s c then_ | false ↦ meet_without_room p part name s c otherwise ])
 
 -- ---- the accept statement (9.5.2): it begins with the next call, or waits
 

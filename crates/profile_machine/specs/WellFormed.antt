@@ -152,6 +152,10 @@ is_well_formed p w =
     places_are_right p w && tasks_are_numbered w && registered_are_numbered w && releases_are_numbered w && scopes_are_right w
     && actions_are_right p w && queues_are_right w && appointments_are_right w
 
+-- now never passes the bound
+abbrev pub is_right : Image → ℕ → World → Bool
+is_right p bound w = leb w.now bound && is_well_formed p w
+
 -- every world of a run: before each instant, and behind it
 abbrev pub all_well_formed : ℕ → Image → ℕ → World → Bool
 all_well_formed zero p bound w = true
@@ -160,7 +164,7 @@ all_well_formed (suc fuel) p bound w =
     let t = tock p i.0 in
     elim (stop p bound i.0) [
       | Some reason ↦ is_well_formed p w && is_well_formed p i.0
-      | None ↦ is_well_formed p w && is_well_formed p i.0 && all_well_formed fuel p bound t.0
+      | None ↦ is_right p bound w && is_right p bound i.0 && all_well_formed fuel p bound t.0
     ]
 
 abbrev pub run_is_well_formed : Image → List (ℤ × Item) → ℕ → Bool

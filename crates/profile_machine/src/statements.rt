@@ -149,7 +149,8 @@ pub enum StatementForm {
     EndActivation,
     /// The environment task's call of the main procedure (10.2).
     CallMain,
-    /// A sequence with handlers begins (11.2). It is no action: it is opened behind the one before.
+    /// A sequence with handlers begins (11.2). It is no action: it is opened behind the one before. Its next stands
+    /// behind the whole sequence, and the statements of its handlers lead there; its own statements end it.
     Handled {
         handlers: Sequence<Handler>,
         first: StatementNo,
@@ -193,7 +194,8 @@ pub enum StatementForm {
         body: StatementNo,
         within: Option<StatementNo>,
     },
-    /// A for loop at its bounds. The cell behind that of the parameter keeps the last value.
+    /// A for loop at its bounds. The cell behind that of the parameter keeps the last value. Its `turn` is a
+    /// `FirstTurn`, and its body leads to a `LaterTurn`; the next of all three stands behind the loop.
     For {
         parameter: DeclNo,
         reverse: bool,

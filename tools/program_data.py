@@ -976,7 +976,7 @@ def read(folder, name, missing=None):
 
 
 # the bound up to which the worlds of a row's run are tested too
-TESTED = 100
+TESTED = 250
 
 
 def worlds_law(name, bound):

@@ -27,14 +27,21 @@ ghost use Rattle.profile_machine.specs.Rows.Row20a.{row_20a_lines, row_20a_trace
 ghost use Rattle.profile_machine.specs.Rows.Row20b.{row_20b_lines, row_20b_trace, row_20b_worlds, row_20b_handlers};
 ghost use Rattle.profile_machine.specs.Rows.Row20c.{row_20c_lines, row_20c_trace, row_20c_worlds, row_20c_handlers};
 ghost use Rattle.profile_machine.specs.Rows.Row23.{row_23_lines, row_23_trace};
+ghost use Rattle.profile_machine.specs.Rows.Row23_interrupt.{row_23_interrupt_lines, row_23_interrupt_trace};
 ghost use Rattle.profile_machine.specs.Rows.RowAdjust_1.{row_adjust_1_lines, row_adjust_1_trace, row_adjust_1_worlds, row_adjust_1_handlers};
 ghost use Rattle.profile_machine.specs.Rows.RowAdjust_2.{row_adjust_2_lines, row_adjust_2_trace, row_adjust_2_worlds, row_adjust_2_handlers};
 ghost use Rattle.profile_machine.specs.Rows.RowBudgets_1.{row_budgets_1_lines, row_budgets_1_trace, row_budgets_1_worlds, row_budgets_1_handlers};
 ghost use Rattle.profile_machine.specs.Rows.RowControlled_1.{row_controlled_1_lines, row_controlled_1_trace, row_controlled_1_worlds, row_controlled_1_handlers};
 ghost use Rattle.profile_machine.specs.Rows.RowPolicies_1.{row_policies_1_lines, row_policies_1_trace, row_policies_1_worlds, row_policies_1_handlers};
+ghost use Rattle.profile_machine.specs.Rows.RowPolicies_deadlines.{row_policies_deadlines_lines, row_policies_deadlines_trace, row_policies_deadlines_worlds, row_policies_deadlines_handlers};
+ghost use Rattle.profile_machine.specs.Rows.RowPolicies_priorities.{row_policies_priorities_lines, row_policies_priorities_trace, row_policies_priorities_worlds, row_policies_priorities_handlers};
 ghost use Rattle.profile_machine.specs.Rows.RowRequeue_1.{row_requeue_1_lines, row_requeue_1_trace, row_requeue_1_worlds, row_requeue_1_handlers};
 ghost use Rattle.profile_machine.specs.Rows.RowRequeue_2.{row_requeue_2_lines, row_requeue_2_trace, row_requeue_2_worlds, row_requeue_2_handlers};
 ghost use Rattle.profile_machine.specs.Rows.RowRequeue_3.{row_requeue_3_lines, row_requeue_3_trace, row_requeue_3_worlds, row_requeue_3_handlers};
+ghost use Rattle.profile_machine.specs.Rows.RowRequeue_dropped.{row_requeue_dropped_lines, row_requeue_dropped_trace, row_requeue_dropped_worlds, row_requeue_dropped_handlers};
+ghost use Rattle.profile_machine.specs.Rows.RowRequeue_triggers.{row_requeue_triggers_lines, row_requeue_triggers_trace, row_requeue_triggers_worlds, row_requeue_triggers_handlers};
+ghost use Rattle.profile_machine.specs.Rows.RowScopes_exits.{row_scopes_exits_lines, row_scopes_exits_trace, row_scopes_exits_worlds, row_scopes_exits_handlers};
+ghost use Rattle.profile_machine.specs.Rows.RowValues_functions.{row_values_functions_lines, row_values_functions_trace, row_values_functions_worlds, row_values_functions_handlers};
 ghost use Rattle.profile_machine.specs.Rows.RowWide_1.{row_wide_1_lines, row_wide_1_trace, row_wide_1_worlds, row_wide_1_handlers};
 ghost use Rattle.profile_machine.specs.Rows.RowWide_2.{row_wide_2_lines, row_wide_2_trace, row_wide_2_worlds, row_wide_2_handlers};
 
@@ -248,6 +255,12 @@ pub fn row_23()
     ensures { row_23_lines ≡ row_23_trace }
 {}
 
+/// Row 23.interrupt, up to tick 600.
+#[tactic(auto, using(crate::specs::Rows::Row23_interrupt::row_23_interrupt_runs))]
+pub fn row_23_interrupt()
+    ensures { row_23_interrupt_lines ≡ row_23_interrupt_trace }
+{}
+
 /// Row adjust.1, up to tick 41.
 #[tactic(auto, using(crate::specs::Rows::RowAdjust_1::row_adjust_1_runs, crate::specs::Rows::RowAdjust_1::row_adjust_1_keeps, crate::specs::Rows::RowAdjust_1::row_adjust_1_releases))]
 pub fn row_adjust_1()
@@ -288,6 +301,22 @@ pub fn row_policies_1()
     ensures releases { IsTrue row_policies_1_handlers }
 {}
 
+/// Row policies.deadlines, up to tick 233.
+#[tactic(auto, using(crate::specs::Rows::RowPolicies_deadlines::row_policies_deadlines_runs, crate::specs::Rows::RowPolicies_deadlines::row_policies_deadlines_keeps, crate::specs::Rows::RowPolicies_deadlines::row_policies_deadlines_releases))]
+pub fn row_policies_deadlines()
+    ensures runs { row_policies_deadlines_lines ≡ row_policies_deadlines_trace }
+    ensures keeps { IsTrue row_policies_deadlines_worlds }
+    ensures releases { IsTrue row_policies_deadlines_handlers }
+{}
+
+/// Row policies.priorities, up to tick 158.
+#[tactic(auto, using(crate::specs::Rows::RowPolicies_priorities::row_policies_priorities_runs, crate::specs::Rows::RowPolicies_priorities::row_policies_priorities_keeps, crate::specs::Rows::RowPolicies_priorities::row_policies_priorities_releases))]
+pub fn row_policies_priorities()
+    ensures runs { row_policies_priorities_lines ≡ row_policies_priorities_trace }
+    ensures keeps { IsTrue row_policies_priorities_worlds }
+    ensures releases { IsTrue row_policies_priorities_handlers }
+{}
+
 /// Row requeue.1, up to tick 27.
 #[tactic(auto, using(crate::specs::Rows::RowRequeue_1::row_requeue_1_runs, crate::specs::Rows::RowRequeue_1::row_requeue_1_keeps, crate::specs::Rows::RowRequeue_1::row_requeue_1_releases))]
 pub fn row_requeue_1()
@@ -310,6 +339,38 @@ pub fn row_requeue_3()
     ensures runs { row_requeue_3_lines ≡ row_requeue_3_trace }
     ensures keeps { IsTrue row_requeue_3_worlds }
     ensures releases { IsTrue row_requeue_3_handlers }
+{}
+
+/// Row requeue.dropped, up to tick 50.
+#[tactic(auto, using(crate::specs::Rows::RowRequeue_dropped::row_requeue_dropped_runs, crate::specs::Rows::RowRequeue_dropped::row_requeue_dropped_keeps, crate::specs::Rows::RowRequeue_dropped::row_requeue_dropped_releases))]
+pub fn row_requeue_dropped()
+    ensures runs { row_requeue_dropped_lines ≡ row_requeue_dropped_trace }
+    ensures keeps { IsTrue row_requeue_dropped_worlds }
+    ensures releases { IsTrue row_requeue_dropped_handlers }
+{}
+
+/// Row requeue.triggers, up to tick 172.
+#[tactic(auto, using(crate::specs::Rows::RowRequeue_triggers::row_requeue_triggers_runs, crate::specs::Rows::RowRequeue_triggers::row_requeue_triggers_keeps, crate::specs::Rows::RowRequeue_triggers::row_requeue_triggers_releases))]
+pub fn row_requeue_triggers()
+    ensures runs { row_requeue_triggers_lines ≡ row_requeue_triggers_trace }
+    ensures keeps { IsTrue row_requeue_triggers_worlds }
+    ensures releases { IsTrue row_requeue_triggers_handlers }
+{}
+
+/// Row scopes.exits, up to tick 94.
+#[tactic(auto, using(crate::specs::Rows::RowScopes_exits::row_scopes_exits_runs, crate::specs::Rows::RowScopes_exits::row_scopes_exits_keeps, crate::specs::Rows::RowScopes_exits::row_scopes_exits_releases))]
+pub fn row_scopes_exits()
+    ensures runs { row_scopes_exits_lines ≡ row_scopes_exits_trace }
+    ensures keeps { IsTrue row_scopes_exits_worlds }
+    ensures releases { IsTrue row_scopes_exits_handlers }
+{}
+
+/// Row values.functions, up to tick 243.
+#[tactic(auto, using(crate::specs::Rows::RowValues_functions::row_values_functions_runs, crate::specs::Rows::RowValues_functions::row_values_functions_keeps, crate::specs::Rows::RowValues_functions::row_values_functions_releases))]
+pub fn row_values_functions()
+    ensures runs { row_values_functions_lines ≡ row_values_functions_trace }
+    ensures keeps { IsTrue row_values_functions_worlds }
+    ensures releases { IsTrue row_values_functions_handlers }
 {}
 
 /// Row wide.1, up to tick 70.

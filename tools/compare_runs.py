@@ -63,7 +63,7 @@ def prepare(work):
     with open(os.path.join(compare, "src", "lib.rt"), "w") as f:
         f.write("#![tactic(auto)]\n\npub fn nothing() {}\n")
     with open(os.path.join(work, "crates.txt"), "w") as f:
-        f.write("ann_base: thiserror\ntrace_text: ann_base\nprofile_machine: ann_base trace_text\n"
+        f.write("ann_base: thiserror\ntrace_text: ann_base\nprofile_machine: ann_base smallvec trace_text\n"
                 "compare: ann_base trace_text profile_machine\n")
     return compare
 

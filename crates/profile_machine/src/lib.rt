@@ -7,6 +7,7 @@ mod image;
 mod numbers;
 mod run_data;
 mod sequence;
+mod short;
 mod statements;
 mod values;
 
@@ -26,6 +27,7 @@ pub mod rows;
 
 pub use run_data::{Item, Leaving};
 pub use sequence::Sequence;
+pub use short::{Actuals, SelectAlternatives};
 pub use statements::{
     Actual, Callee, CaseAlternative, Choice, Destination, EntryOwner, HandlerName, Piece,
     SelectAlternative, SelectKind, Setting, Statement, StatementForm,

@@ -1,8 +1,11 @@
 //! Statements and the other actions that a text gives (clauses 5, 6, 9, 11).
+ghost use Rattle.std.specs.Prelude.{◌≡◌, None};
+
 use crate::declarations::{Handler, Text};
 use crate::expressions::{ObjectName, VariableName};
 use crate::numbers::{DeclNo, EntryNo, EnumerationNo, ExprNo, ScopeNo, StatementNo, SubprogramNo};
 use crate::sequence::Sequence;
+use crate::short::{Actuals, SelectAlternatives};
 use crate::values::Value;
 use ann_base::{Level, Raised};
 
@@ -47,6 +50,17 @@ pub enum Actual {
     Out(VariableName),
     /// A controlled, event, timer or budget object, which stands for itself.
     Thing(DeclNo),
+}
+
+/// What stands in the free room of a list of actual parameters.
+impl Default for Actual {
+    ghost use Rattle.profile_machine.specs.declared.statements.Actual.TheVariants as actual;
+
+    ghost is_default = { λ x. x ≡ actual.In (record { 0 = 0 }) };
+
+    fn default() -> Self {
+        Actual::In(ExprNo(0))
+    }
 }
 
 /// What a call calls.
@@ -99,6 +113,20 @@ pub enum SelectKind {
 pub struct SelectAlternative {
     pub guard: Option<ExprNo>,
     pub kind: SelectKind,
+}
+
+/// What stands in the free room of a list of alternatives.
+impl Default for SelectAlternative {
+    ghost use Rattle.profile_machine.specs.declared.statements.SelectKind.TheVariants as select;
+
+    ghost is_default = { λ x. x ≡ record { guard = None; kind = select.Terminate } };
+
+    fn default() -> Self {
+        SelectAlternative {
+            guard: None,
+            kind: SelectKind::Terminate,
+        }
+    }
 }
 
 /// A piece of the text that Put_Line puts (A.10.7).
@@ -241,7 +269,7 @@ pub enum StatementForm {
     /// A call of a subprogram or a protected operation (6.4, 9.5.1).
     Call {
         callee: Callee,
-        actuals: Sequence<Actual>,
+        actuals: Actuals,
         destination: Destination,
     },
     /// Ada.Text_IO.Put_Line (A.10.7).
@@ -250,7 +278,7 @@ pub enum StatementForm {
     EntryCall {
         entry: EntryNo,
         owner: EntryOwner,
-        actuals: Sequence<Actual>,
+        actuals: Actuals,
     },
     /// A conditional entry call (9.7.3). The call is named by its statement.
     ConditionalCall {
@@ -275,7 +303,7 @@ pub enum StatementForm {
     },
     /// A selective accept (9.7.1).
     SelectiveAccept {
-        alternatives: Sequence<SelectAlternative>,
+        alternatives: SelectAlternatives,
         otherwise: Option<StatementNo>,
     },
     /// An abort of the named tasks (9.8).

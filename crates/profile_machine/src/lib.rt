@@ -9,6 +9,8 @@ mod run_data;
 mod sequence;
 mod short;
 mod statements;
+#[cfg(test)]
+mod tests;
 mod values;
 
 pub use declarations::{

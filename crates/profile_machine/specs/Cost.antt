@@ -1,5 +1,5 @@
 -- The cost of an action in ticks (this profile's choice).
-use Rattle.std.specs.Prelude.{ℕ, ◌+◌, Bool, true, false, cond, List, [], ◌∷◌, length, Option, Some, None, option_map}
+use Rattle.std.specs.Prelude.{ℕ, ◌+◌, Bool, true, false, cond, List, [], ◌∷◌, length, Option, Some, None}
 use Rattle.trace_text.specs.declared.events.Who.{Who}
 use Rattle.ann_base.specs.declared.identities.RegionNo.{RegionNo}
 use Rattle.profile_machine.specs.declared.image.Image.{Image}
@@ -7,8 +7,8 @@ use Rattle.profile_machine.specs.declared.numbers.StatementNo.{StatementNo}
 use Rattle.profile_machine.specs.declared.statements.Statement.{Statement}
 use Rattle.profile_machine.specs.declared.statements.StatementForm.{StatementForm}
 use Rattle.profile_machine.specs.declared.statements.StatementForm.TheVariants as form
-use Rattle.profile_machine.specs.World.{World, Frame, Mark, Scope, Handled, InProtected, InAccept, Abortable, InInitialize, InFinalize, InAssign, ScopeMark, AssignStep, finalize_target, copy_components, adjust_target, assigned, Registered}
-use Rattle.profile_machine.specs.Words.{same_region, is_the}
+use Rattle.profile_machine.specs.World.{World, Frame, Mark, Scope, Handled, InProtected, InAccept, Abortable, InInitialize, InFinalize, InAssign, AssignStep, finalize_target, copy_components, adjust_target, assigned, Registered}
+use Rattle.profile_machine.specs.Words.{same_region}
 use Rattle.profile_machine.specs.Program.{statement_of}
 use Rattle.profile_machine.specs.Frames.{top_of}
 

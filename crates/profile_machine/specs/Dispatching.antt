@@ -1,19 +1,17 @@
 -- Active priorities, places, and the choice of who runs (D.1, D.2).
-use Rattle.std.specs.Prelude.{ℕ, ◌+◌, ◌-◌, ℤ, Bool, true, false, cond, not, ◌&&◌, ◌||◌, List, [], ◌∷◌, ◌++◌, Option, Some, None, eqb, ltb, leb, int_lt, filter, map, max, slice_index_or, is_none, is_some}
-use Rattle.ann_base.specs.declared.identities.TaskNo.{TaskNo}
+use Rattle.std.specs.Prelude.{ℕ, ℤ, Bool, true, cond, not, ◌&&◌, List, [], ◌∷◌, ◌++◌, Option, Some, None, eqb, ltb, leb, int_lt, filter, map, max, slice_index_or}
 use Rattle.trace_text.specs.declared.events.Event.TheVariants as line
 use Rattle.trace_text.specs.declared.events.Who.{Who}
-use Rattle.trace_text.specs.declared.events.Who.TheVariants as who
 use Rattle.trace_text.specs.declared.events.QueueEnd.{QueueEnd}
 use Rattle.trace_text.specs.declared.events.QueueEnd.TheVariants.{Head, Tail}
 use Rattle.trace_text.specs.declared.events.Waits.{Waits}
 use Rattle.trace_text.specs.declared.events.Waits.TheVariants as word
 use Rattle.profile_machine.specs.declared.image.Image.{Image}
-use Rattle.profile_machine.specs.World.{World, Task, State, Runnable, Blocked, Waiting, for_activation, for_moment, for_call, for_end_of_call, for_accept, for_select, for_dependents, for_release, Inherited, Object, Action, Placed}
-use Rattle.profile_machine.specs.Words.{same_who, without, greatest_of, first_of_list, option_or_else, some_where}
-use Rattle.profile_machine.specs.Program.{is_edf_level, is_robin_level, edf_low, has_edf}
-use Rattle.profile_machine.specs.Steps.{Part, Step, says, changes, looks, when, nothing, ◌▷◌}
-use Rattle.profile_machine.specs.Tasks.{task_of, edit_task, with_state, is_runnable, is_who, is_agent}
+use Rattle.profile_machine.specs.World.{World, Task, Runnable, Blocked, Waiting, for_activation, for_moment, for_call, for_end_of_call, for_accept, for_select, for_dependents, for_release, Object, Action, Placed}
+use Rattle.profile_machine.specs.Words.{greatest_of, some_where}
+use Rattle.profile_machine.specs.Program.{is_edf_level, is_robin_level, edf_low}
+use Rattle.profile_machine.specs.Steps.{Part, Step, says, changes, ◌▷◌}
+use Rattle.profile_machine.specs.Tasks.{task_of, edit_task, with_state, is_runnable, is_who}
 
 -- ---- active priorities (D.1, D.2.6)
 

@@ -1,24 +1,20 @@
 -- Open constructs: opening them, leaving them, and going on (clauses 5, 6, 7.6.1, 11).
-use Rattle.std.specs.Prelude.{ℕ, ◌+◌, ℤ, pos, Bool, true, false, cond, not, ◌&&◌, ◌||◌, List, [], ◌∷◌, ◌++◌, Option, Some, None, eqb, leb, filter, map, length, find, is_some, option_map, option_and_then, sum_by, codes}
+use Rattle.std.specs.Prelude.{ℕ, ◌+◌, Bool, true, false, cond, ◌&&◌, List, [], ◌∷◌, Option, Some, None, leb, length, option_and_then, sum_by, codes, Result, Ok, Err}
 use Rattle.ann_base.specs.declared.exceptions.Raised.{Raised}
 use Rattle.ann_base.specs.declared.exceptions.Raised.TheVariants as exception
-use Rattle.ann_base.specs.declared.identities.ObjectNo.{ObjectNo}
-use Rattle.ann_base.specs.declared.identities.RegionNo.{RegionNo}
 use Rattle.trace_text.specs.declared.events.Event.TheVariants as line
 use Rattle.trace_text.specs.declared.events.Who.{Who}
 use Rattle.profile_machine.specs.declared.image.Image.{Image}
-use Rattle.profile_machine.specs.declared.numbers.DeclNo.{DeclNo}
 use Rattle.profile_machine.specs.declared.numbers.StatementNo.{StatementNo}
-use Rattle.profile_machine.specs.declared.numbers.ScopeNo.{ScopeNo}
 use Rattle.profile_machine.specs.declared.run_data.Leaving.{Leaving}
 use Rattle.profile_machine.specs.declared.run_data.Leaving.TheVariants as how
 use Rattle.profile_machine.specs.declared.statements.StatementForm.{StatementForm}
 use Rattle.profile_machine.specs.declared.statements.StatementForm.TheVariants as form
 use Rattle.profile_machine.specs.declared.declarations.Handler.{Handler}
-use Rattle.profile_machine.specs.World.{World, Task, Frame, Mark, Scope, Handled, InProtected, InAccept, Abortable, InInitialize, InFinalize, InAssign, ScopeMark, ProtectedMark, AcceptMark, AbortableMark, AssignMark, Purpose, of_block, of_subprogram, of_entry_body, of_task, ScopeId, scope_id, ScopeInUse, Located, Object, Drawn}
-use Rattle.profile_machine.specs.Words.{same_id, same_statement, same_option, without, first_of_list, option_or_else, some_where}
-use Rattle.profile_machine.specs.Program.{declaration_of, form_of, next_of, scope_of, initial_cells}
-use Rattle.profile_machine.specs.Steps.{Part, own, Step, says, changes, looks, when, nothing, for_some, ◌▷◌}
+use Rattle.profile_machine.specs.World.{World, Frame, Mark, Scope, Handled, InProtected, InAccept, Abortable, InInitialize, InFinalize, InAssign, Purpose, of_block, of_subprogram, of_entry_body, of_task}
+use Rattle.profile_machine.specs.Words.{same_statement, same_option, first_of_list, option_or_else}
+use Rattle.profile_machine.specs.Program.{declaration_of, form_of, next_of}
+use Rattle.profile_machine.specs.Steps.{Part, own, Step, says, changes, looks, nothing, ◌▷◌}
 use Rattle.profile_machine.specs.Tasks.{task_of, edit_task, with_frames}
 
 -- ---- the top of a rest
@@ -46,11 +42,16 @@ goes_on onward f = record f { onward = onward }
 abbrev pub goes : Who → Option StatementNo → Step
 goes name onward = changes (edit_top name (goes_on onward))
 
-abbrev pub pushed : Frame → List Frame → List Frame
-pushed f frames = f ∷ frames
-
 abbrev pub push : Who → Frame → World → World
 push name f = edit_task name (λ t. with_frames (f ∷ t.frames) t)
+
+-- the top mark has ended
+abbrev pub without_first : List Frame → List Frame
+without_first [] = []
+without_first (f ∷ fs) = fs
+
+abbrev pub pop : Who → World → World
+pop name = edit_task name (λ t. with_frames (without_first t.frames) t)
 
 -- ---- how a mark is being left
 
@@ -120,3 +121,101 @@ onward_of w name = option_and_then (λ f. f.onward) (top_of w name)
 
 abbrev pub open_sequence : Image → Who → Step
 open_sequence p name = looks (λ w. open_at p name (onward_of w name))
+
+-- ---- going on behind a mark that has ended
+
+-- the statement whose construct a mark is; the mark of a body has none
+abbrev pub statement_of_purpose : Purpose → Option StatementNo
+statement_of_purpose (of_block s) = Some s
+statement_of_purpose (of_subprogram results to) = None
+statement_of_purpose (of_entry_body c) = None
+statement_of_purpose of_task = None
+
+abbrev pub statement_of_mark : Mark → Option StatementNo
+statement_of_mark (Scope m) = statement_of_purpose m.purpose
+statement_of_mark (Handled s) = Some s
+statement_of_mark (InProtected m) = None
+statement_of_mark (InAccept m) = Some m.accept
+statement_of_mark (Abortable m) = Some m.select
+statement_of_mark (InInitialize l) = None
+statement_of_mark (InFinalize o) = None
+statement_of_mark (InAssign m) = None
+
+-- the innermost construct that is open round a loop
+abbrev pub within_of : StatementForm → Option StatementNo
+within_of (form.Loop body within) = within
+within_of (form.While condition body within) = within
+within_of (form.For parameter reverse low high turn within) = within
+within_of _ = None
+
+abbrev pub stands_in : Image → StatementNo → Option Frame → Bool
+stands_in p loop None = true
+stands_in p loop (Some f) = same_option same_statement (within_of (form_of p loop)) (statement_of_mark f.mark)
+
+-- an exit goes on behind its loop, once the marks inside the loop are left (5.7)
+abbrev pub exit_loop : Image → Who → StatementNo → Step
+exit_loop p name loop =
+    looks (λ w. elim (stands_in p loop (top_of w name)) [ true ↦ goes name (next_of p loop) | false ↦ leaves name (how.Exit loop) ])
+
+-- a mark has ended, and the task goes on as the mark was left
+abbrev pub pass_on : Image → Who → Leaving → Step
+pass_on p name how.End = nothing
+pass_on p name how.Return = leaves name how.Return
+pass_on p name (how.Exit loop) = exit_loop p name loop
+pass_on p name (how.Exception e) = leaves name (how.Exception e)
+pass_on p name how.Abort = leaves name how.Abort
+pass_on p name how.Terminate = leaves name how.Terminate
+
+-- ---- marks that defer abort (9.8, D.6)
+
+abbrev pub defers : Mark → Bool
+defers (Scope m) = m.being_left
+defers (Handled s) = false
+defers (InProtected m) = true
+defers (InAccept m) = false
+defers (Abortable m) = false
+defers (InInitialize l) = true
+defers (InFinalize o) = true
+defers (InAssign m) = true
+
+abbrev pub any_defers : List Frame → Bool
+any_defers [] = false
+any_defers (f ∷ fs) = cond (defers f.mark) true (any_defers fs)
+
+abbrev pub is_protected : Mark → Bool
+is_protected (Scope m) = false
+is_protected (Handled s) = false
+is_protected (InProtected m) = true
+is_protected (InAccept m) = false
+is_protected (Abortable m) = false
+is_protected (InInitialize l) = false
+is_protected (InFinalize o) = false
+is_protected (InAssign m) = false
+
+abbrev pub any_protected : List Frame → Bool
+any_protected [] = false
+any_protected (f ∷ fs) = cond (is_protected f.mark) true (any_protected fs)
+
+-- inside a protected action (9.5.1)
+abbrev pub in_protected : World → Who → Bool
+in_protected w name = any_protected (frames_of w name)
+
+abbrev pub is_deferred : World → Who → Bool
+is_deferred w name = any_defers (frames_of w name)
+
+-- ---- steps that may raise
+
+-- with the value, if it is none but an exception, which is raised
+abbrev pub given : {X : Type 0} → Image → Part → Who → Result X Raised → (X → Step) → Step
+given p part name (Ok x) f = f x
+given p part name (Err e) f = raises p part name e
+
+-- the exception is raised where the test holds, else the step is done
+abbrev pub raise_if : Image → Who → Bool → Raised → Step → Step
+raise_if p name true e step = raises p own name e
+raise_if p name false e step = step
+
+-- without room for marks and cells Storage_Error is raised
+abbrev pub with_room : Image → Who → ℕ → ℕ → Step → Step
+with_room p name marks cells step =
+    looks (λ w. elim (has_room w name marks cells) [ true ↦ step | false ↦ raises p own name exception.Storage ])

@@ -1,5 +1,5 @@
 -- The items of an image by their numbers. A number that names no item leads to one that does nothing.
-use Rattle.std.specs.Prelude.{ℕ, ◌+◌, ◌≤◌, ltb, leb, Bool, true, false, cond, ◌&&◌, List, [], ◌∷◌, Option, Some, None, slice_index_or, option_map, option_and_then, negsuc, pos, replicate, ◌++◌, take, drop, is_some}
+use Rattle.std.specs.Prelude.{ℕ, ◌+◌, leb, Bool, true, false, cond, ◌&&◌, List, [], ◌∷◌, Option, Some, None, slice_index_or, pos, replicate, ◌++◌, take, drop}
 use Rattle.profile_machine.specs.declared.numbers.DeclNo.{DeclNo}
 use Rattle.profile_machine.specs.declared.numbers.ExprNo.{ExprNo}
 use Rattle.profile_machine.specs.declared.numbers.StatementNo.{StatementNo}
@@ -23,7 +23,6 @@ use Rattle.profile_machine.specs.declared.declarations.ProtectedUnit.{ProtectedU
 use Rattle.profile_machine.specs.declared.declarations.Entry.{Entry}
 use Rattle.profile_machine.specs.declared.declarations.EntryUnit.TheVariants as unit
 use Rattle.profile_machine.specs.declared.declarations.ControlledType.{ControlledType}
-use Rattle.profile_machine.specs.declared.declarations.Enumeration.{Enumeration}
 use Rattle.profile_machine.specs.declared.expressions.Expression.{Expression}
 use Rattle.profile_machine.specs.declared.expressions.Expression.TheVariants.{Known}
 use Rattle.profile_machine.specs.declared.statements.Statement.{Statement}
@@ -33,7 +32,6 @@ use Rattle.profile_machine.specs.declared.values.Value.{Value}
 use Rattle.profile_machine.specs.declared.values.Value.TheVariants.{Whole}
 use Rattle.profile_machine.specs.declared.values.CellRun.{CellRun}
 use Rattle.profile_machine.specs.declared.values.Constraint.TheVariants.{Free}
-use Rattle.profile_machine.specs.Words.{is_empty}
 
 -- ---- look-ups
 

@@ -1,7 +1,6 @@
 -- The timed run: instants and tocks in turn from the opening world, up to the first instant at which it stops.
-use Rattle.std.specs.Prelude.{ℕ, zero, suc, ◌+◌, ◌-◌, ℤ, pos, Bool, true, false, cond, not, ◌&&◌, ◌||◌, List, [], ◌∷◌, ◌++◌, Option, Some, None, eqb, is_some, is_none, map, replicate, slice_index_or, option_map, int_le}
+use Rattle.std.specs.Prelude.{ℕ, zero, suc, ◌+◌, ◌-◌, ℤ, pos, false, cond, ◌&&◌, List, [], ◌∷◌, ◌++◌, Option, Some, None, eqb, replicate}
 use Rattle.ann_base.specs.declared.exceptions.Raised.{Raised}
-use Rattle.ann_base.specs.declared.identities.TaskNo.{TaskNo}
 use Rattle.trace_text.specs.declared.events.Event.{Event}
 use Rattle.trace_text.specs.declared.events.Event.TheVariants as line
 use Rattle.trace_text.specs.declared.events.Created.TheVariants as created
@@ -11,16 +10,17 @@ use Rattle.trace_text.specs.declared.events.Who.{Who}
 use Rattle.trace_text.specs.declared.events.Who.TheVariants as who
 use Rattle.profile_machine.specs.declared.image.Image.{Image}
 use Rattle.profile_machine.specs.declared.run_data.Item.{Item}
-use Rattle.profile_machine.specs.World.{World, Task, Frame, State, Made, Runnable, Blocked, for_release, of_task, scope_id, Appointment, Drawn, Release}
-use Rattle.profile_machine.specs.Words.{same_who, same_option, is_empty, first_of_list}
+use Rattle.profile_machine.specs.World.{World, Task, Frame, Runnable, Blocked, for_release, of_task, Drawn, Release}
+use Rattle.profile_machine.specs.Words.{same_who, same_option, is_empty}
 use Rattle.profile_machine.specs.Program.{interrupt_priority}
-use Rattle.profile_machine.specs.Steps.{Part, own, Step, Move, says, changes, looks, when, nothing, settles, ◌▷◌}
-use Rattle.profile_machine.specs.Tasks.{task_of, edit_task, with_ticks, new_task, is_runnable_state, is_agent}
+use Rattle.profile_machine.specs.Steps.{own, Step, Move, says, changes, looks, nothing, settles, ◌▷◌}
+use Rattle.profile_machine.specs.Tasks.{task_of, edit_task, with_ticks, new_task}
 use Rattle.profile_machine.specs.Dispatching.{choose, to_tail}
-use Rattle.profile_machine.specs.Frames.{open_sequence, frames_of, exception_name}
+use Rattle.profile_machine.specs.Frames.{open_sequence, exception_name}
 use Rattle.profile_machine.specs.Scopes.{open_scope, plainly}
 use Rattle.profile_machine.specs.Cost.{cost}
-use Rattle.profile_machine.specs.Act.{act}
+use Rattle.profile_machine.specs.Handlers.{charge}
+use Rattle.profile_machine.specs.Instant.{instant}
 
 -- ---- the opening
 
@@ -51,61 +51,6 @@ opens p =
 
 abbrev pub opening : Image → List (ℤ × Item) → World × List Event
 opening p script = settles (opens p) (blank_world p script)
-
--- ---- the seven steps of an instant, in order (own)
-
--- an action that has ended has its effect; then what comes of it elsewhere
--- tasks at open terminate alternatives that may end (9.3)
-abbrev pub take_terminates : Image → Who → Step
-take_terminates p name = nothing
-
--- tasks whose struck constructs may be left now (9.8)
-abbrev pub unwind_all : Image → Who → Step
-unwind_all p name = nothing
-
-abbrev pub effect : Image → Who → Step
-effect p name =
-    changes (edit_task name (with_ticks None)) ▷ act p name ▷ open_sequence p name ▷ take_terminates p name ▷ unwind_all p name
-
-abbrev pub is_over : Option ℕ → Bool
-is_over None = false
-is_over (Some ticks) = eqb ticks 0
-
-abbrev pub effect_of_runner : Image → Option Who → Move
-effect_of_runner p None = nothing
-effect_of_runner p (Some name) = looks (λ w. elim (is_over (task_of w name).ticks_left) [ true ↦ settles (effect p name) | false ↦ nothing ])
-
--- 1: the effect of the action that ended
-abbrev pub finish_action : Image → Move
-finish_action p = looks (λ w. effect_of_runner p w.ran)
-
--- 2: items of the script
-abbrev pub script_items : Image → Move
-script_items p = nothing
-
--- 3: timing events
-abbrev pub events_due : Image → Move
-events_due p = nothing
-
--- 4: delays, time-outs and triggers
-abbrev pub moments_due : Image → Move
-moments_due p = nothing
-
--- 5: timers
-abbrev pub timers_due : Image → Move
-timers_due p = nothing
-
--- 6: budgets
-abbrev pub budgets_due : Image → Move
-budgets_due p = nothing
-
--- 7: a spent quantum
-abbrev pub quantum_spent : Image → Move
-quantum_spent p = nothing
-
-abbrev pub instant : Image → Move
-instant p =
-    finish_action p ▷ script_items p ▷ events_due p ▷ moments_due p ▷ timers_due p ▷ budgets_due p ▷ quantum_spent p
 
 -- ---- the stop (own)
 
@@ -169,10 +114,6 @@ ticks_or (Some ticks) n = ticks
 
 abbrev pub begin_action : Image → Who → World → World
 begin_action p name w = edit_task name (with_ticks (Some (ticks_or (task_of w name).ticks_left (cost p w name)))) w
-
--- one tick is charged (D.14)
-abbrev pub charge : Image → Who → World → World
-charge p name w = w
 
 abbrev pub one_less : Option ℕ → Option ℕ
 one_less None = None

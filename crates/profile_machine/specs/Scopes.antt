@@ -1,19 +1,15 @@
 -- Scopes in use: where a name's cells are, how a scope begins and ends (3.1, 7.6.1, 8.2).
-use Rattle.std.specs.Prelude.{ℕ, suc, zero, ◌+◌, ℤ, pos, Bool, true, false, cond, not, ◌&&◌, ◌||◌, List, [], ◌∷◌, ◌++◌, Option, Some, None, eqb, leb, filter, map, length, find, drop, is_some, option_map, option_and_then, slice_index_or, slice_set}
+use Rattle.std.specs.Prelude.{ℕ, suc, zero, pos, Bool, true, false, List, [], ◌∷◌, ◌++◌, Option, Some, None, length, find, drop, option_map, slice_index_or, slice_set}
 use Rattle.ann_base.specs.declared.identities.ObjectNo.{ObjectNo}
 use Rattle.ann_base.specs.declared.identities.RegionNo.{RegionNo}
 use Rattle.trace_text.specs.declared.events.Who.{Who}
 use Rattle.profile_machine.specs.declared.image.Image.{Image}
-use Rattle.profile_machine.specs.declared.declarations.Scope.{Scope as ScopeText}
-use Rattle.profile_machine.specs.declared.numbers.StatementNo.{StatementNo}
 use Rattle.profile_machine.specs.declared.numbers.ScopeNo.{ScopeNo}
 use Rattle.profile_machine.specs.declared.values.Value.{Value}
 use Rattle.profile_machine.specs.declared.values.Value.TheVariants.{Whole}
-use Rattle.profile_machine.specs.World.{World, Task, Frame, Mark, Scope, Handled, InProtected, InAccept, Abortable, InInitialize, InFinalize, InAssign, ScopeMark, Purpose, ScopeId, scope_id, ScopeInUse, Located, Object, Drawn, Variable}
-use Rattle.profile_machine.specs.Words.{same_id, same_scope, without, edit_where, first_of_list, option_or_else, some_where}
+use Rattle.profile_machine.specs.World.{World, Frame, Mark, Scope, Handled, InProtected, InAccept, Abortable, InInitialize, InFinalize, InAssign, Purpose, ScopeId, scope_id, ScopeInUse, Located, Drawn}
+use Rattle.profile_machine.specs.Words.{same_id, same_scope, without, edit_where, some_where}
 use Rattle.profile_machine.specs.Program.{scope_of, initial_cells}
-use Rattle.profile_machine.specs.Steps.{Step, changes}
-use Rattle.profile_machine.specs.Tasks.{task_of}
 use Rattle.profile_machine.specs.Frames.{push, new_frame, frames_of}
 
 -- ---- looking

@@ -1,10 +1,10 @@
 -- The tasks of a world and the agent: looking at one, and changing one.
-use Rattle.std.specs.Prelude.{ℕ, ◌+◌, ℤ, pos, Bool, true, false, cond, not, ◌&&◌, ◌||◌, List, [], ◌∷◌, ◌++◌, Option, Some, None, find, filter, map, length, option_map, is_some, replicate}
+use Rattle.std.specs.Prelude.{ℕ, ℤ, pos, Bool, true, false, List, [], Option, Some, None, find, is_some}
 use Rattle.ann_base.specs.declared.identities.TaskNo.{TaskNo}
 use Rattle.trace_text.specs.declared.events.Who.{Who}
 use Rattle.trace_text.specs.declared.events.Who.TheVariants as who
-use Rattle.profile_machine.specs.World.{World, Task, State, Made, Runnable, Blocked, Waiting, for_release, Frame, Placed}
-use Rattle.profile_machine.specs.Words.{same_who, option_or_else, edit_where, is_empty}
+use Rattle.profile_machine.specs.World.{World, Task, State, Made, Runnable, Blocked, Waiting, Frame}
+use Rattle.profile_machine.specs.Words.{same_who, option_or_else, edit_where}
 
 -- the last moment of Time (D.8), as -2^62 and 2^62 - 1 are the ends of all times (own)
 abbrev pub time_last : ℤ

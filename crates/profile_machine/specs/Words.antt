@@ -1,12 +1,11 @@
 -- Small words on numbers, options and lists that the definitions share.
-use Rattle.std.specs.Prelude.{ℕ, zero, suc, max, cond, ◌+◌, ℤ, pos, ◌+ℤ◌, Bool, true, false, not, ◌&&◌, ◌||◌, List, [], ◌∷◌, ◌++◌, Option, Some, None, eqb, ltb, int_lt, int_le, is_some, filter, find, length, slice_get}
+use Rattle.std.specs.Prelude.{ℕ, zero, suc, max, cond, ℤ, pos, Bool, true, false, not, ◌&&◌, ◌||◌, List, [], ◌∷◌, Option, Some, None, eqb, int_le, filter}
 use Rattle.ann_base.specs.declared.identities.TaskNo.{TaskNo}
 use Rattle.ann_base.specs.declared.identities.CallNo.{CallNo}
 use Rattle.ann_base.specs.declared.identities.ObjectNo.{ObjectNo}
 use Rattle.ann_base.specs.declared.identities.RegionNo.{RegionNo}
 use Rattle.trace_text.specs.declared.events.Who.{Who}
 use Rattle.trace_text.specs.declared.events.Who.TheVariants.{Task, Agent}
-use Rattle.profile_machine.specs.declared.numbers.DeclNo.{DeclNo}
 use Rattle.profile_machine.specs.declared.numbers.StatementNo.{StatementNo}
 use Rattle.profile_machine.specs.declared.numbers.ScopeNo.{ScopeNo}
 use Rattle.profile_machine.specs.declared.numbers.EntryNo.{EntryNo}
@@ -44,6 +43,10 @@ same_who Agent Agent = true
 abbrev pub same_id : ScopeId → ScopeId → Bool
 same_id (scope_id a) (scope_id b) = eqb a b
 
+abbrev pub same_bool : Bool → Bool → Bool
+same_bool true b = b
+same_bool false b = not b
+
 -- both are none, or both are there and the same
 abbrev pub same_option : {X : Type 0} → (X → X → Bool) → Option X → Option X → Bool
 same_option same None None = true
@@ -69,11 +72,6 @@ option_or_else (Some y) x = y
 abbrev pub some_where : {X : Type 0} → Bool → X → Option X
 some_where true x = Some x
 some_where false x = None
-
--- the first of the two that is there
-abbrev pub first_some : {X : Type 0} → Option X → Option X → Option X
-first_some (Some x) other = Some x
-first_some None other = other
 
 -- ---- lists
 
@@ -108,6 +106,3 @@ greatest_of (x ∷ xs) least = max x (greatest_of xs least)
 
 abbrev pub same_moment : ℤ → ℤ → Bool
 same_moment a b = int_le a b && int_le b a
-
-abbrev pub moment_at : ℕ → ℤ
-moment_at n = pos n

@@ -71,11 +71,16 @@ pub struct Scope {
     pub outer: Option<ScopeNo>,
     /// How many cells it takes.
     pub size: u32,
-    /// Those of its cells that do not begin as `Whole(0)`.
+    /// Those of its cells that do not begin as `Whole(0)`, by the values that objects have without an initial value;
+    /// the components of protected and controlled objects are among them. The first cell of a task, protected or
+    /// controlled object, an event, a timer or a budget begins as `Whole(0)`.
     pub cells: Sequence<CellRun>,
     /// Whether its declarations hold a task or a controlled object.
     pub kept: bool,
-    /// The first action in it.
+    /// The first action in it. Its actions are, in this order: those of its declarations; in a task's body the end of
+    /// the activation; `Handled`, where its sequence of statements has handlers; the activation of the tasks that its
+    /// declarations made; its statements. In the environment's scope those of the library packages follow one
+    /// another, and the call of the main procedure comes last.
     pub first: Option<StatementNo>,
 }
 

@@ -5,10 +5,12 @@ mod declarations;
 mod expressions;
 mod image;
 mod numbers;
-mod rows;
 mod run_data;
 mod sequence;
+mod short;
 mod statements;
+#[cfg(test)]
+mod tests;
 mod values;
 
 pub use declarations::{
@@ -22,9 +24,12 @@ pub use numbers::{
     ControlledNo, DeclNo, EntryNo, EnumerationNo, ExprNo, ProtectedUnitNo, ScopeNo, StatementNo,
     SubprogramNo, TaskUnitNo,
 };
-pub use rows::row_01;
+
+pub mod rows;
+
 pub use run_data::{Item, Leaving};
 pub use sequence::Sequence;
+pub use short::{Actuals, SelectAlternatives};
 pub use statements::{
     Actual, Callee, CaseAlternative, Choice, Destination, EntryOwner, HandlerName, Piece,
     SelectAlternative, SelectKind, Setting, Statement, StatementForm,

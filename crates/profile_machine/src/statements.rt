@@ -1,8 +1,11 @@
 //! Statements and the other actions that a text gives (clauses 5, 6, 9, 11).
+ghost use Rattle.std.specs.Prelude.{◌≡◌, None};
+
 use crate::declarations::{Handler, Text};
 use crate::expressions::{ObjectName, VariableName};
 use crate::numbers::{DeclNo, EntryNo, EnumerationNo, ExprNo, ScopeNo, StatementNo, SubprogramNo};
 use crate::sequence::Sequence;
+use crate::short::{Actuals, SelectAlternatives};
 use crate::values::Value;
 use ann_base::{Level, Raised};
 
@@ -47,6 +50,17 @@ pub enum Actual {
     Out(VariableName),
     /// A controlled, event, timer or budget object, which stands for itself.
     Thing(DeclNo),
+}
+
+/// What stands in the free room of a list of actual parameters.
+impl Default for Actual {
+    ghost use Rattle.profile_machine.specs.declared.statements.Actual.TheVariants as actual;
+
+    ghost is_default = { λ x. x ≡ actual.In (record { 0 = 0 }) };
+
+    fn default() -> Self {
+        Actual::In(ExprNo(0))
+    }
 }
 
 /// What a call calls.
@@ -101,6 +115,20 @@ pub struct SelectAlternative {
     pub kind: SelectKind,
 }
 
+/// What stands in the free room of a list of alternatives.
+impl Default for SelectAlternative {
+    ghost use Rattle.profile_machine.specs.declared.statements.SelectKind.TheVariants as select;
+
+    ghost is_default = { λ x. x ≡ record { guard = None; kind = select.Terminate } };
+
+    fn default() -> Self {
+        SelectAlternative {
+            guard: None,
+            kind: SelectKind::Terminate,
+        }
+    }
+}
+
 /// A piece of the text that Put_Line puts (A.10.7).
 #[derive(Drop)]
 pub enum Piece {
@@ -149,7 +177,8 @@ pub enum StatementForm {
     EndActivation,
     /// The environment task's call of the main procedure (10.2).
     CallMain,
-    /// A sequence with handlers begins (11.2). It is no action: it is opened behind the one before.
+    /// A sequence with handlers begins (11.2). It is no action: it is opened behind the one before. Its next stands
+    /// behind the whole sequence, and the statements of its handlers lead there; its own statements end it.
     Handled {
         handlers: Sequence<Handler>,
         first: StatementNo,
@@ -193,7 +222,8 @@ pub enum StatementForm {
         body: StatementNo,
         within: Option<StatementNo>,
     },
-    /// A for loop at its bounds. The cell behind that of the parameter keeps the last value.
+    /// A for loop at its bounds. The cell behind that of the parameter keeps the last value. Its `turn` is a
+    /// `FirstTurn`, and its body leads to a `LaterTurn`; the next of all three stands behind the loop.
     For {
         parameter: DeclNo,
         reverse: bool,
@@ -239,7 +269,7 @@ pub enum StatementForm {
     /// A call of a subprogram or a protected operation (6.4, 9.5.1).
     Call {
         callee: Callee,
-        actuals: Sequence<Actual>,
+        actuals: Actuals,
         destination: Destination,
     },
     /// Ada.Text_IO.Put_Line (A.10.7).
@@ -248,7 +278,7 @@ pub enum StatementForm {
     EntryCall {
         entry: EntryNo,
         owner: EntryOwner,
-        actuals: Sequence<Actual>,
+        actuals: Actuals,
     },
     /// A conditional entry call (9.7.3). The call is named by its statement.
     ConditionalCall {
@@ -273,7 +303,7 @@ pub enum StatementForm {
     },
     /// A selective accept (9.7.1).
     SelectiveAccept {
-        alternatives: Sequence<SelectAlternative>,
+        alternatives: SelectAlternatives,
         otherwise: Option<StatementNo>,
     },
     /// An abort of the named tasks (9.8).

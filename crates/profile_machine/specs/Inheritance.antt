@@ -1,0 +1,43 @@
+-- Inherited priorities (D.1, D.3): each under its cause.
+use Rattle.std.specs.Prelude.{ℕ, Bool, true, false, ◌∷◌, ltb}
+use Rattle.trace_text.specs.declared.events.Who.{Who}
+use Rattle.profile_machine.specs.declared.image.Image.{Image}
+use Rattle.profile_machine.specs.World.{World, Cause, by_activation, by_rendezvous, by_ceiling}
+use Rattle.profile_machine.specs.Words.{same_call, same_object, without}
+use Rattle.profile_machine.specs.Steps.{Step, the_placing, changes, looks, when, ◌▷◌}
+use Rattle.profile_machine.specs.Tasks.{edit_task}
+use Rattle.profile_machine.specs.Dispatching.{active_of, to_head}
+
+abbrev pub same_cause : Cause → Cause → Bool
+same_cause by_activation by_activation = true
+same_cause by_activation (by_rendezvous d) = false
+same_cause by_activation (by_ceiling q) = false
+same_cause (by_rendezvous c) by_activation = false
+same_cause (by_rendezvous c) (by_rendezvous d) = same_call c d
+same_cause (by_rendezvous c) (by_ceiling q) = false
+same_cause (by_ceiling o) by_activation = false
+same_cause (by_ceiling o) (by_rendezvous d) = false
+same_cause (by_ceiling o) (by_ceiling q) = same_object o q
+
+abbrev pub inherit : Who → Cause → ℕ → World → World
+inherit name cause level = edit_task name (λ t. record t { inherited = record { cause = cause; level = level } ∷ t.inherited })
+
+abbrev pub lose : Who → Cause → World → World
+lose name cause = edit_task name (λ t. record t { inherited = without (λ i. same_cause cause i.cause) t.inherited })
+
+-- whether the change of a world makes the active priority of somebody rise, or fall
+abbrev pub rises : Image → Who → World → World → Bool
+rises p name before after = ltb (active_of p before name) (active_of p after name)
+
+abbrev pub falls : Image → Who → World → World → Bool
+falls p name before after = ltb (active_of p after name) (active_of p before name)
+
+-- the running task inherits: it goes to the head where its active priority rises (D.2.3)
+abbrev pub inherit_running : Image → Who → Cause → ℕ → Step
+inherit_running p name cause level =
+    looks (λ w. changes (inherit name cause level) ▷ when (rises p name w (inherit name cause level w)) (to_head p the_placing name))
+
+-- it loses an inherited priority: it goes to the head where its active priority falls
+abbrev pub lose_running : Image → Who → Cause → Step
+lose_running p name cause =
+    looks (λ w. changes (lose name cause) ▷ when (falls p name w (lose name cause w)) (to_head p the_placing name))

@@ -1,0 +1,111 @@
+-- Calls that are sent on, abortable parts that begin, and calls that are not accepted at once (9.5.4, 9.7).
+use Rattle.std.specs.Prelude.{ℕ, ℤ, pos, int_le, Bool, true, false, cond, not, ◌&&◌, ◌||◌, Option, Some, None, is_none}
+use Rattle.ann_base.specs.declared.identities.CallNo.{CallNo}
+use Rattle.trace_text.specs.declared.events.Event.TheVariants as line
+use Rattle.trace_text.specs.declared.events.Who.{Who}
+use Rattle.trace_text.specs.declared.events.Who.TheVariants as who
+use Rattle.profile_machine.specs.declared.image.Image.{Image}
+use Rattle.profile_machine.specs.declared.numbers.StatementNo.{StatementNo}
+use Rattle.profile_machine.specs.declared.statements.StatementForm.{StatementForm}
+use Rattle.profile_machine.specs.declared.statements.StatementForm.TheVariants as form
+use Rattle.profile_machine.specs.World.{World, Mark, Abortable, Call, CallKind, plain, conditional, timed, triggering, cancelled, Sending, a_timeout, for_call}
+use Rattle.profile_machine.specs.Program.{form_of}
+use Rattle.profile_machine.specs.Steps.{Step, Part, the_finish, the_block, says, changes, looks, when, nothing, ◌▷◌}
+use Rattle.profile_machine.specs.Tasks.{waiting_of}
+use Rattle.profile_machine.specs.Dispatching.{ready, block}
+use Rattle.profile_machine.specs.Frames.{push, new_frame, has_room}
+use Rattle.profile_machine.specs.Appointments.{appoint}
+use Rattle.profile_machine.specs.Calls.{edit_call, with_call, unqueued, says_call, attempt_with}
+use Rattle.profile_machine.specs.CallEnds.{deliver, resume, waits_for_call, abortable_depth}
+
+-- ---- abortable parts (9.7.4)
+
+abbrev pub abortable_in : StatementForm → Option StatementNo
+abortable_in (form.AsynchronousSelect trigger abortable) = Some abortable
+abortable_in _ = None
+
+abbrev pub new_abortable_mark : StatementNo → Option CallNo → Mark
+new_abortable_mark select call = Abortable (record { select = select; call = call; triggered = false; waits = false })
+
+abbrev pub open_abortable : Image → Who → StatementNo → Option CallNo → World → World
+open_abortable p name select call = push name (new_frame (new_abortable_mark select call) (abortable_in (form_of p select)))
+
+-- ---- a call that is queued and was not accepted at once (9.7.2, 9.7.3, 9.7.4)
+
+abbrev pub is_not_future : ℕ → Option ℤ → Bool
+is_not_future now None = false
+is_not_future now (Some moment) = int_le moment (pos now)
+
+-- a conditional call, and a timed one whose moment has come, is cancelled
+abbrev pub cancel_at_once : Image → Part → Call → Step
+cancel_at_once p part c = attempt_with p part c (resume p part c cancelled) nothing
+
+abbrev pub appoint_timeout : CallNo → Option ℤ → World → World
+appoint_timeout c None = λ w. w
+appoint_timeout c (Some moment) = appoint (a_timeout c) moment
+
+abbrev pub wait_for_call : Image → Call → Step
+wait_for_call p c = block the_block (who.Task c.caller) (for_call c.number)
+
+abbrev pub wait_or_cancel : Image → Part → Call → Bool → Step
+wait_or_cancel p part c true = cancel_at_once p part c
+wait_or_cancel p part c false = changes (appoint_timeout c.number c.moment) ▷ wait_for_call p c
+
+abbrev pub not_accepted : Image → Part → Call → CallKind → Step
+not_accepted p part c plain = wait_for_call p c
+not_accepted p part c conditional = cancel_at_once p part c
+not_accepted p part c timed = looks (λ w. wait_or_cancel p part c (is_not_future w.now c.moment))
+not_accepted p part c triggering = changes (open_abortable p (who.Task c.caller) c.statement (Some c.number))
+
+-- ---- a call is sent on (9.5.4)
+
+abbrev pub sent_call : Sending → Call → Call
+sent_call s c = record c { owner = s.owner; entry = s.entry; firm = not s.with_abort; sent_with_abort = c.sent_with_abort || s.with_abort; sending = None }
+
+-- its new entry, and its `call` line
+abbrev pub send_on : Image → CallNo → Sending → Step
+send_on p c s = changes (edit_call c (sent_call s)) ▷ with_call c (says_call p the_finish)
+
+-- sent on with abort and not begun at once: a conditional call, one whose cancellation was attempted, and a timed one
+-- whose moment has come
+abbrev pub is_conditional : CallKind → Bool
+is_conditional plain = false
+is_conditional conditional = true
+is_conditional timed = false
+is_conditional triggering = false
+
+abbrev pub is_to_be_cancelled : ℕ → Call → Bool
+is_to_be_cancelled now c = not c.firm && (is_conditional c.kind || c.attempted || is_not_future now c.moment)
+
+abbrev pub cancel_sent : Image → Call → Step
+cancel_sent p c =
+    changes (unqueued p c) ▷ says the_finish (line.Cancel c.caller c.number) ▷ deliver p the_finish c.number cancelled
+
+-- a triggering call whose abortable part has not begun, and whose cancellation was not attempted
+abbrev pub is_triggering : CallKind → Bool
+is_triggering plain = false
+is_triggering conditional = false
+is_triggering timed = false
+is_triggering triggering = true
+
+abbrev pub may_begin_abortable : World → Call → Bool
+may_begin_abortable w c =
+    is_triggering c.kind && is_none (abortable_depth w c) && not c.firm && not c.attempted && is_none c.outcome
+    && waits_for_call c.number (waiting_of w (who.Task c.caller)) && has_room w (who.Task c.caller) 1 0
+
+-- its abortable part begins, and the caller becomes ready; without room the caller waits on
+abbrev pub begin_abortable : Image → CallNo → Step
+begin_abortable p c =
+    with_call c (λ d. looks (λ w. when (may_begin_abortable w d)
+    (changes (open_abortable p (who.Task d.caller) d.statement (Some d.number)) ▷ ready p the_finish (who.Task d.caller))))
+
+-- queued on: a timed call has its time-out again for its first moment
+abbrev pub timeout_again : Call → World → World
+timeout_again c = cond c.firm (λ w. w) (appoint_timeout c.number c.moment)
+
+abbrev pub sent_not_begun_by : Image → Call → Bool → Step
+sent_not_begun_by p c true = cancel_sent p c
+sent_not_begun_by p c false = changes (timeout_again c) ▷ begin_abortable p c.number
+
+abbrev pub sent_not_begun : Image → CallNo → Step
+sent_not_begun p c = with_call c (λ d. looks (λ w. sent_not_begun_by p d (is_to_be_cancelled w.now d)))

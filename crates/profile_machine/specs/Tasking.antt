@@ -1,0 +1,340 @@
+-- The creation, activation, completion and abort of tasks (9.1 to 9.3, 9.8, 7.6.1).
+use Rattle.std.specs.Prelude.{ℕ, suc, ◌-◌, ℤ, pos, ◌+ℤ◌, Bool, true, false, cond, not, ◌&&◌, ◌||◌, List, [], ◌∷◌, ◌++◌, Option, Some, None, Ok, eqb, leb, length, filter, is_some, option_and_then}
+use Rattle.std.specs.List.{list_any}
+use Rattle.ann_base.specs.declared.identities.TaskNo.{TaskNo}
+use Rattle.ann_base.specs.declared.identities.RegionNo.{RegionNo}
+use Rattle.ann_base.specs.declared.exceptions.Raised.{Raised}
+use Rattle.ann_base.specs.declared.exceptions.Raised.TheVariants as exception
+use Rattle.trace_text.specs.declared.events.Event.TheVariants as line
+use Rattle.trace_text.specs.declared.events.Created.TheVariants as created
+use Rattle.trace_text.specs.declared.events.Leaves.{Leaves}
+use Rattle.trace_text.specs.declared.events.Leaves.TheVariants as leaves_word
+use Rattle.trace_text.specs.declared.events.Who.{Who}
+use Rattle.trace_text.specs.declared.events.Who.TheVariants as who
+use Rattle.profile_machine.specs.declared.image.Image.{Image}
+use Rattle.profile_machine.specs.declared.numbers.DeclNo.{DeclNo}
+use Rattle.profile_machine.specs.declared.numbers.ExprNo.{ExprNo}
+use Rattle.profile_machine.specs.declared.numbers.StatementNo.{StatementNo}
+use Rattle.profile_machine.specs.declared.numbers.TaskUnitNo.{TaskUnitNo}
+use Rattle.profile_machine.specs.declared.declarations.TaskUnit.{TaskUnit}
+use Rattle.profile_machine.specs.declared.declarations.DeclarationKind.{DeclarationKind}
+use Rattle.profile_machine.specs.declared.declarations.DeclarationKind.TheVariants as kind
+use Rattle.profile_machine.specs.declared.run_data.Leaving.{Leaving}
+use Rattle.profile_machine.specs.declared.run_data.Leaving.TheVariants as how
+use Rattle.profile_machine.specs.declared.values.Value.{Value}
+use Rattle.profile_machine.specs.declared.values.Value.TheVariants as value_of
+use Rattle.profile_machine.specs.World.{World, State, Made, Runnable, Blocked, Frame, Mark, Scope, ScopeMark, ScopeId, Purpose, of_block, of_subprogram, of_entry_body, of_task, to_nowhere, Located, Drawn, Inherited, by_activation, for_activation, for_dependents, Waiting}
+use Rattle.profile_machine.specs.World as world
+use Rattle.profile_machine.specs.Words.{same_who, same_region, is_the, option_or_else}
+use Rattle.profile_machine.specs.Program.{declaration_of, next_of, scope_of, task_unit_of}
+use Rattle.profile_machine.specs.Steps.{Step, Part, own, of_other, the_placing, the_block, says, changes, looks, when, nothing, for_some, for_each, ◌▷◌}
+use Rattle.profile_machine.specs.Tasks.{task_of, edit_task, new_task, is_made, waiting_of}
+use Rattle.profile_machine.specs.Dispatching.{active_of, ready, block, to_head, says_block}
+use Rattle.profile_machine.specs.Frames.{frames_of, edit_top, pop, goes, raises, given, raise_if, has_room, pass_on, in_protected, is_deferred, exception_name}
+use Rattle.profile_machine.specs.Scopes.{home, open_scope, plainly, end_scope, cells_of, scope_in_use}
+use Rattle.profile_machine.specs.Operators.{Valued, ◌>>=◌, held_moment}
+use Rattle.profile_machine.specs.Values.{Seen, moment, thing, task_in}
+use Rattle.profile_machine.specs.Inheritance.{inherit, falls}
+use Rattle.profile_machine.specs.Unwinding.{strike_outermost, unwind, any_struck}
+use Rattle.profile_machine.specs.Masters.{part_of, region_of_mark, depends_on_task, has_dependents, complete, terminate, end_activation, may_terminate, leave_by_terminate, waits_at_terminate, has_activating}
+use Rattle.profile_machine.specs.Controlled.{top_region, region_or_none, next_to_finalize, finalize, edit_top_scope}
+use Rattle.profile_machine.specs.Declarations.{set_thing, no_calls}
+use Rattle.profile_machine.specs.Subprograms.{end_subprogram}
+use Rattle.profile_machine.specs.Serving.{end_body_of_entry}
+use Rattle.profile_machine.specs.Statements.{sees}
+
+-- ---- the creation of a task (9.1): `new` with its base priority
+
+abbrev pub unit_of_kind : DeclarationKind → TaskUnitNo
+unit_of_kind (kind.Task u) = u
+unit_of_kind _ = record { 0 = 0 }
+
+abbrev pub unit_of_declaration : Image → DeclNo → TaskUnitNo
+unit_of_declaration p d = unit_of_kind (declaration_of p d).kind
+
+-- Relative_Deadline is evaluated by the creator
+abbrev pub optional_span : Seen → Option ExprNo → Valued (Option ℤ)
+optional_span q None = Ok None
+optional_span q (Some e) = moment q e >>= λ span. Ok (Some span)
+
+abbrev pub outer_of_task : Seen → TaskUnit → Option ScopeId
+outer_of_task q u = option_and_then (λ outer. home q.world outer q.within) (scope_of q.program u.scope).outer
+
+abbrev pub created_task : Seen → DeclNo → TaskUnitNo → ℕ → Option ℤ → ℕ → world.Task
+created_task q d u part span n =
+    let unit = task_unit_of q.program u in
+    record (new_task (who.Task (record { 0 = n })) (option_or_else unit.priority (task_of q.world q.who).base) Made)
+    { declared = Some d; unit = Some u; outer = outer_of_task q unit; relative_deadline = span; master = Some (top_region q.world q.who); part = part; queues = no_calls unit.entries }
+
+abbrev pub task_drawn : Drawn → Drawn
+task_drawn d = record d { tasks = suc d.tasks }
+
+abbrev pub add_task : world.Task → World → World
+add_task t w = record w { tasks = w.tasks ++ t ∷ []; drawn = task_drawn w.drawn }
+
+abbrev pub says_created : Image → DeclNo → world.Task → Step
+says_created p d t w = says own (line.New (created.Task (record { 0 = w.drawn.tasks - 1 })) (declaration_of p d).expanded t.base) w
+
+abbrev pub create_task : Image → Who → StatementNo → DeclNo → Option ScopeId → world.Task → Step
+create_task p name s d id t =
+    goes name (next_of p s) ▷ changes (add_task t)
+    ▷ for_some id (λ within. looks (λ w. changes (set_thing p (record { within = within; declared = d }) (value_of.Task (Some (record { 0 = w.drawn.tasks - 1 }))))))
+    ▷ says_created p d t
+
+-- Program_Error inside a protected action and wherever abort is deferred; Storage_Error while 256 tasks are live (own)
+abbrev pub create : Image → Who → StatementNo → DeclNo → ℕ → Step
+create p name s d part =
+    sees p name (λ q. raise_if p name (in_protected q.world name || is_deferred q.world name) exception.Program
+    (raise_if p name (leb 256 (length q.world.tasks)) exception.Storage
+    (given p own name (optional_span q (task_unit_of p (unit_of_declaration p d)).relative_deadline) (λ span.
+    create_task p name s d (home q.world (declaration_of p d).scope q.within) (created_task q d (unit_of_declaration p d) part span q.world.drawn.tasks)))))
+
+-- the region of the scope on top; a sequence with handlers may stand above it
+abbrev pub region_of_frames : List Frame → Option RegionNo
+region_of_frames [] = None
+region_of_frames (f ∷ fs) = elim (region_of_mark f.mark) [ None ↦ region_of_frames fs | Some r ↦ Some r ]
+
+abbrev pub top_region_of_scope : World → Who → RegionNo
+top_region_of_scope w name = region_or_none (region_of_frames (frames_of w name))
+
+-- who acts goes to the head where its active priority has fallen since this world
+abbrev pub fall_from : Image → Who → World → Step
+fall_from p name before = looks (λ w. when (falls p name before w) (to_head p the_placing name))
+
+-- ---- activation (9.2): the tasks that the declarative part made become ready in order
+
+abbrev pub is_to_activate : RegionNo → ℕ → world.Task → Bool
+is_to_activate r part t = is_made t && is_the same_region t.master r && eqb t.part part
+
+abbrev pub unit_of_task : Image → world.Task → TaskUnit
+unit_of_task p t = task_unit_of p (option_or_else t.unit (record { 0 = 0 }))
+
+-- without a Relative_Deadline the deadline stays what it was
+abbrev pub deadline_at : ℕ → Option ℤ → ℤ → ℤ
+deadline_at now None old_deadline = old_deadline
+deadline_at now (Some span) old_deadline = held_moment (pos now +ℤ span)
+
+abbrev pub activated_task : Who → ℕ → world.Task → world.Task
+activated_task activator now t = record t { activator = Some activator; deadline = deadline_at now t.relative_deadline t.deadline }
+
+abbrev pub begin_task : Image → Who → ℕ → world.Task → Step
+begin_task p activator level t =
+    looks (λ w. changes (open_scope p t.who (unit_of_task p t).scope (plainly t.outer) of_task)
+    ▷ changes (edit_task t.who (activated_task activator w.now)) ▷ changes (inherit t.who by_activation level) ▷ ready p (of_other t.who) t.who)
+
+-- a task without room prints `raise` and `done`, and counts as failed
+abbrev pub says_done : Part → Who → Step
+says_done part (who.Task t) = says part (line.Done t)
+says_done part who.Agent = nothing
+
+abbrev pub group_fails : world.Task → world.Task
+group_fails t = record t { group_failed = true }
+
+abbrev pub fail_to_begin : Image → Who → world.Task → Step
+fail_to_begin p activator t =
+    says (of_other t.who) (line.Raise t.who (exception_name p exception.Storage)) ▷ says_done (of_other t.who) t.who
+    ▷ changes (edit_task activator group_fails) ▷ terminate p activator t.who
+
+abbrev pub activate_one : Image → Who → ℕ → world.Task → Step
+activate_one p activator level t =
+    looks (λ w. elim (has_room w t.who 1 (scope_of p (unit_of_task p t).scope).size)
+    [ true ↦ begin_task p activator level t | false ↦ fail_to_begin p activator t ])
+
+-- the activator blocks where some task begins; else Tasking_Error is raised in it at once, if one failed
+abbrev pub await_group : Image → Who → Bool → Bool → Step
+await_group p name true failed = block the_block name for_activation
+await_group p name false true = raises p the_block name exception.Tasking
+await_group p name false false = nothing
+
+abbrev pub no_failure : world.Task → world.Task
+no_failure t = record t { group_failed = false }
+
+abbrev pub activate : Image → Who → StatementNo → ℕ → Step
+activate p name s part =
+    looks (λ w. goes name (next_of p s) ▷ changes (edit_task name no_failure)
+    ▷ for_each (filter (is_to_activate (top_region_of_scope w name) part) w.tasks) (activate_one p name (active_of p w name)))
+    ▷ looks (λ w. await_group p name (has_activating w name) (task_of w name).group_failed)
+
+-- the end of a task's own activation: it goes to the head where its active priority falls
+abbrev pub end_own_activation : Image → Who → StatementNo → Step
+end_own_activation p name s =
+    looks (λ w. goes name (next_of p s) ▷ end_activation p name name false ▷ fall_from p name w)
+
+-- ---- a kept scope is left (7.6.1, 9.3): `leave`, the wait for dependents, Finalize of each object, `left`
+
+abbrev pub leaves_as : Leaving → Leaves
+leaves_as how.End = leaves_word.End
+leaves_as how.Return = leaves_word.Return
+leaves_as (how.Exit loop) = leaves_word.Exit
+leaves_as (how.Exception e) = leaves_word.Exception
+leaves_as how.Abort = leaves_word.Abort
+leaves_as how.Terminate = leaves_word.Terminate
+
+abbrev pub is_made_in : RegionNo → world.Task → Bool
+is_made_in r t = is_made t && is_the same_region t.master r
+
+-- tasks that were made there and not activated terminate
+abbrev pub end_made : Image → Who → world.Task → Step
+end_made p actor t = says_done (of_other t.who) t.who ▷ terminate p actor t.who
+
+abbrev pub being_left_mark : ScopeMark → ScopeMark
+being_left_mark m = record m { being_left = true }
+
+abbrev pub left_so_frame : Leaving → Frame → Frame
+left_so_frame leaving f = record f { left_as = Some leaving }
+
+abbrev pub is_task_scope : Purpose → Bool
+is_task_scope (of_block s) = false
+is_task_scope (of_subprogram back to) = false
+is_task_scope (of_entry_body c) = false
+is_task_scope of_task = true
+
+-- a task whose outermost scope is kept is completed here
+abbrev pub complete_if_task : Image → Who → Purpose → Step
+complete_if_task p name purpose =
+    looks (λ w. when (is_task_scope purpose) (complete p name name ▷ fall_from p name w))
+
+abbrev pub wait_for_dependents : Who → RegionNo → Step
+wait_for_dependents name r = looks (λ w. when (has_dependents w r) (block the_block name (for_dependents r)))
+
+abbrev pub leave_region : Image → Who → ScopeMark → Leaving → RegionNo → Step
+leave_region p name m leaving r =
+    changes (edit_top_scope name being_left_mark) ▷ changes (edit_top name (left_so_frame leaving))
+    ▷ says own (line.Leave name r (leaves_as leaving))
+    ▷ looks (λ w. for_each (filter (is_made_in r) w.tasks) (end_made p name))
+    ▷ complete_if_task p name m.purpose ▷ wait_for_dependents name r
+
+-- ---- a scope has ended
+
+-- a task's outermost scope ends the task; that of the environment task ends the run
+abbrev pub exception_in : Leaving → Option Raised
+exception_in (how.Exception e) = Some e
+exception_in how.End = None
+exception_in how.Return = None
+exception_in (how.Exit loop) = None
+exception_in how.Abort = None
+exception_in how.Terminate = None
+
+abbrev pub is_environment : Who → Bool
+is_environment (who.Task t) = eqb t.0 0
+is_environment who.Agent = false
+
+abbrev pub end_environment : Leaving → World → World
+end_environment leaving w = record w { ended = Some (exception_in leaving) }
+
+abbrev pub fails_by : World → Who → Leaving → Bool
+fails_by w name leaving = is_some (exception_in leaving) && not (task_of w name).abnormal
+
+abbrev pub end_task : Image → Who → Leaving → Step
+end_task p name leaving =
+    says_done own name ▷ looks (λ w. end_activation p name name (fails_by w name leaving)) ▷ terminate p name name
+    ▷ when (is_environment name) (changes (end_environment leaving))
+
+-- a body that was left by its end or by a return has ended normally
+abbrev pub is_normal : Leaving → Bool
+is_normal how.End = true
+is_normal how.Return = true
+is_normal (how.Exit loop) = false
+is_normal (how.Exception e) = false
+is_normal how.Abort = false
+is_normal how.Terminate = false
+
+abbrev pub end_body : Image → Who → Leaving → Step → Step
+end_body p name leaving normally = elim (is_normal leaving) [ true ↦ normally | false ↦ pass_on p name leaving ]
+
+abbrev pub behind_scope : Image → Who → Purpose → List Value → Leaving → Step
+behind_scope p name (of_block s) cells leaving = pass_on p name leaving
+behind_scope p name (of_subprogram back to) cells leaving = end_body p name leaving (end_subprogram p name cells back to leaving)
+behind_scope p name (of_entry_body c) cells leaving = end_body p name leaving (end_body_of_entry p c cells leaving)
+behind_scope p name of_task cells leaving = end_task p name leaving
+
+-- Program_Error where a Finalize raised, unless the scope was left by abort or a terminate alternative (7.6.1)
+abbrev pub is_dropped : Leaving → Bool
+is_dropped how.Abort = true
+is_dropped how.Terminate = true
+is_dropped how.End = false
+is_dropped how.Return = false
+is_dropped (how.Exit loop) = false
+is_dropped (how.Exception e) = false
+
+abbrev pub raises_behind : ScopeMark → Leaving → Bool
+raises_behind m leaving = m.finalize_raised && not (is_dropped leaving)
+
+abbrev pub left_by : ScopeMark → Leaving → Leaving
+left_by m leaving = cond (raises_behind m leaving) (how.Exception exception.Program) leaving
+
+abbrev pub says_left : Image → Who → ScopeMark → Leaving → Step
+says_left p name m leaving =
+    for_some m.region (λ r. says own (line.Left name r)) ▷ when (raises_behind m leaving) (says own (line.Raise name (exception_name p exception.Program)))
+
+abbrev pub end_of_scope : Image → Who → ScopeMark → Leaving → Step
+end_of_scope p name m leaving =
+    looks (λ w. changes (pop name) ▷ changes (end_scope m.within) ▷ says_left p name m leaving
+    ▷ behind_scope p name m.purpose (cells_of (scope_in_use w m.within)) (left_by m leaving))
+
+-- a kept scope's leaving begins, finalizes one object, or has ended
+abbrev pub go_on_leaving : Image → Who → ScopeMark → Leaving → RegionNo → Bool → Step
+go_on_leaving p name m leaving r false = leave_region p name m leaving r
+go_on_leaving p name m leaving r true =
+    looks (λ w. elim (next_to_finalize w r) [ None ↦ end_of_scope p name m leaving | Some x ↦ finalize p name x ])
+
+abbrev pub end_scope_mark_of : Image → Who → ScopeMark → Leaving → Option RegionNo → Step
+end_scope_mark_of p name m leaving None = end_of_scope p name m leaving
+end_scope_mark_of p name m leaving (Some r) = go_on_leaving p name m leaving r m.being_left
+
+abbrev pub end_scope_mark : Image → Who → ScopeMark → Leaving → Step
+end_scope_mark p name m leaving = end_scope_mark_of p name m leaving m.region
+
+-- ---- abort (9.8): the named tasks and all that depend on them become abnormal
+
+abbrev pub task_list : Option TaskNo → List TaskNo → List TaskNo
+task_list None rest = rest
+task_list (Some t) rest = t ∷ rest
+
+abbrev pub named_tasks : Seen → List DeclNo → Valued (List TaskNo)
+named_tasks q [] = Ok []
+named_tasks q (d ∷ ds) = thing q d >>= λ v. named_tasks q ds >>= λ rest. Ok (task_list (task_in v) rest)
+
+abbrev pub is_to_abort : World → List TaskNo → world.Task → Bool
+is_to_abort w named t = not t.abnormal && list_any (λ n. same_who (who.Task n) t.who || depends_on_task w (who.Task n) t) named
+
+abbrev pub abnormal_task : world.Task → world.Task
+abnormal_task t = record t { abnormal = true }
+
+abbrev pub says_abort : Who → Who → Step
+says_abort (who.Task actor) (who.Task t) = says own (line.Abort actor t)
+says_abort (who.Task actor) who.Agent = nothing
+says_abort who.Agent t = nothing
+
+-- a task that is made and not activated terminates at once; another's outermost scope is struck
+abbrev pub abort_one : Image → Who → world.Task → Step
+abort_one p actor t =
+    says_abort actor t.who ▷ cond (is_made t) (end_made p actor t) (changes (strike_outermost t.who))
+
+abbrev pub unwind_one : Image → Who → world.Task → Step
+unwind_one p actor t = unwind p (part_of actor t.who) t.who
+
+abbrev pub abort_all : Image → Who → List world.Task → Step
+abort_all p actor tasks =
+    for_each tasks (λ t. changes (edit_task t.who abnormal_task)) ▷ for_each tasks (abort_one p actor) ▷ for_each tasks (unwind_one p actor)
+
+abbrev pub abort_statement : Image → Who → StatementNo → List DeclNo → Step
+abort_statement p name s tasks =
+    sees p name (λ q. raise_if p name (in_protected q.world name) exception.Program
+    (given p own name (named_tasks q tasks) (λ named. goes name (next_of p s) ▷ looks (λ w. abort_all p name (filter (is_to_abort w named) w.tasks)))))
+
+-- ---- what an effect brings about elsewhere
+
+-- a task that has come to its select with an open terminate alternative blocks there
+abbrev pub block_at_terminate : Who → Option Waiting → Step
+block_at_terminate name None = nothing
+block_at_terminate name (Some waiting) = when (waits_at_terminate (Some waiting)) (says_block the_block name waiting)
+
+-- tasks at open terminate alternatives that may end become ready, in order of number
+abbrev pub take_terminates : Image → Who → Step
+take_terminates p actor =
+    looks (λ w. for_each (filter (may_terminate w) w.tasks) (leave_by_terminate p actor)) ▷ looks (λ w. block_at_terminate actor (waiting_of w actor))
+
+-- tasks whose struck constructs may be left now
+abbrev pub unwind_all : Image → Who → Step
+unwind_all p actor = looks (λ w. for_each (filter (λ t. any_struck t.frames) w.tasks) (unwind_one p actor))

@@ -8,6 +8,9 @@ mod running;
 mod streams;
 mod whole;
 
+#[cfg(test)]
+mod tests;
+
 use ann_base::{HostShelf, HostSink};
 use std::env;
 use std::io;

@@ -5,7 +5,8 @@ use Rattle.trace_text.specs.declared.events.Event.TheVariants as line
 use Rattle.trace_text.specs.declared.events.Ended.{Ended}
 use Rattle.profile_machine.specs.declared.image.Image.{Image}
 use Rattle.profile_machine.specs.World.{World}
-use Rattle.profile_machine.specs.Run.{instant, tock, stop, opening, run_from, at_tick, stopped, then_runs, Ran}
+use Rattle.profile_machine.specs.Instant.{instant}
+use Rattle.profile_machine.specs.Run.{tock, stop, opening, run_from, at_tick, stopped, then_runs, Ran}
 use Rattle.ann_kernel.specs.Future.{Shown, advanced, advanced_by, future_of, first_line, lines_from, lines_unless, after_instant, after_tock, goes_by, unless_stopped, end_lines, stop_of, stop_from, stop_unless, opened, lines_of_run, stop_of_run, left_of, flag}
 
 at_tick-append : (now : ℕ) (xs ys : List Event) → at_tick now (xs ++ ys) ≡ at_tick now xs ++ at_tick now ys

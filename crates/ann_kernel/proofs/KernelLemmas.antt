@@ -1,8 +1,9 @@
 -- From one step of a kernel to what its caller may rely on.
-use Rattle.std.proofs.Common.{◌≡◌, ◌<◌, ◌≤◌, ℕ, Bool, true, false, List, [], ◌∷◌, ◌++◌, Option, Some, None, Result, Ok, Err, OnOk, IfOk, IsTrue, nat_lt, rules, arith, refl, sym, ap, ◌∙◌, append_assoc, append-nil}
+use Rattle.std.proofs.Common.{◌≡◌, ◌<◌, ◌≤◌, ℕ, Bool, true, false, List, [], ◌∷◌, ◌++◌, Option, Some, None, Result, Ok, Err, OnOk, IfOk, IsTrue, nat_lt, rules, map, option_to_list, option_map, subst, arith, refl, sym, ap, ◌∙◌, append_assoc, append-nil}
 use Rattle.std.proofs.lemmas.Bool.{ltb-true}
 use Rattle.profile_machine.specs.declared.image.Image.{Image}
 use Rattle.ada_names.specs.Simple.{IsSimple}
+use Rattle.ada_names.specs.declared.image.Image.{Image as Numbered}
 use Rattle.ann_kernel.specs.declared.progress.Reached.{Reached}
 use Rattle.trace_text.specs.declared.events.Event.{Event}
 use Rattle.trace_text.specs.declared.events.Ended.{Ended}
@@ -13,10 +14,18 @@ use Rattle.ann_kernel.specs.declared.kernel.Kernel.{Kernel}
 use Rattle.ann_kernel.specs.declared.kernel.Next.{Next}
 use Rattle.ann_kernel.specs.declared.kernel.Next.TheVariants as did
 use Rattle.ann_kernel.specs.Kernel.{shown, future, stop_to_come, left_to_do}
-use Rattle.ann_kernel.specs.Future.{Shown, future_of, stop_of, left_of, advanced, written_of, first_line, opened, lines_of_run, stop_of_run}
+use Rattle.ann_kernel.specs.Future.{Shown, after_instant, end_lines, future_of, stop_of, left_of, advanced, written_of, first_line, opened, lines_of_run, stop_of_run}
 use Rattle.ann_kernel.specs.Next.{IfGoing, IfEnded}
 use Rattle.ann_kernel.specs.Reached.{stop_shown, is_in_time}
-use Rattle.ann_kernel.proofs.MachineSteps.{instant-now, tock-now, opening-shown}
+use Rattle.ann_kernel.specs.declared.progress.Reached.TheVariants as reached
+use Rattle.ann_kernel.specs.declared.progress.Progress.{Progress}
+use Rattle.ann_kernel.specs.declared.owed.Line.{Line}
+use Rattle.ann_kernel.specs.Lines.{event_of, lines_of, stamped, stop_line}
+use Rattle.ann_kernel.specs.Worlds.{world_at, stop_at}
+use Rattle.profile_machine.specs.World.{World}
+use Rattle.profile_machine.specs.Instant.{instant}
+use Rattle.profile_machine.specs.Run.{stop, at_tick}
+use Rattle.ann_kernel.proofs.MachineSteps.{instant-now, tock-now, opening-shown, stop-at}
 use Rattle.ann_kernel.proofs.FutureLemmas.{Moves, advanced-future, advanced-stop, advanced-left, stopped-future, stopped-stop, opened-future, opened-stop}
 
 -- one line's text, and the rest's
@@ -88,3 +97,63 @@ pub open-stop : (p : Image) (bound : ℕ) → IsLegal p → (r : Result Kernel N
 unfolding stop_to_come
 open-stop p bound legal (Ok k) e = ap stop_of e ∙ opened-stop p bound (ap (λ o. o.0.now) (opening-shown p legal.simple))
 open-stop p bound legal (Err fault) e = tt
+
+-- ---- an instant of the kernel
+
+owed-lines : (p : Image) (now : ℕ) (line : Option Line) (found : Option Reached) → lines_of p (stamped now (option_to_list line) ++ stamped now (option_to_list (option_map stop_line found))) ≡ at_tick now (map (event_of p) (option_to_list line) ++ end_lines (stop_shown found))
+owed-lines p now None None = refl
+owed-lines p now None (Some reached.Completed) = refl
+owed-lines p now None (Some reached.Bound) = refl
+owed-lines p now (Some x) None = refl
+owed-lines p now (Some x) (Some reached.Completed) = refl
+owed-lines p now (Some x) (Some reached.Bound) = refl
+
+-- what is shown behind an instant that led to this world with these lines, where this stop is found
+shown_by : Image → ℕ → ℕ → World → List Event → Option Ended → Shown
+shown_by p bound now w lines found = record {
+  program = p;
+  bound = bound;
+  world = w;
+  at_instant = false;
+  stop = found;
+  owed = at_tick now (lines ++ end_lines found);
+}
+
+shown_from : Image → ℕ → ℕ → World × List Event → Shown
+shown_from p bound now i = shown_by p bound now i.0 i.1 (stop p bound i.0)
+
+shown-led : (p : Image) (bound now : ℕ) (ran : Bool) (left : Option ℕ) (after : Progress) (lines : List Event) (found : Option Ended) → found ≡ stop_at bound now after → shown_from p bound now (world_at p now ran left after, lines) ≡ shown_by p bound now (world_at p now ran left after) lines found
+unfolding shown_from
+shown-led p bound now ran left after lines found h = ap (shown_by p bound now (world_at p now ran left after) lines) (stop-at p bound now ran left after ∙ sym h)
+
+shown-owed : (p : Image) (bound now : ℕ) (w : World) (line : Option Line) (found : Option Reached) (owed : List (ℕ × Line)) → owed ≡ stamped now (option_to_list line) ++ stamped now (option_to_list (option_map stop_line found)) → shown_by p bound now w (map (event_of p) (option_to_list line)) (stop_shown found) ≡ record { program = p; bound = bound; world = w; at_instant = false; stop = stop_shown found; owed = lines_of p owed }
+unfolding shown_by
+shown-owed p bound now w line found owed o = ap (λ x. record { program = p; bound = bound; world = w; at_instant = false; stop = stop_shown found; owed = x }) (sym (ap (lines_of p) o ∙ owed-lines p now line found))
+
+pub instant-shown : (p : Image) (bound now : ℕ) (ran : Bool) (ticks left : Option ℕ) (progress after : Progress) (at_instant : Bool) (before : Option Ended) (told : List (ℕ × Event)) (i : World × List Event) (line : Option Line) (found : Option Reached) (owed : List (ℕ × Line)) →
+    i ≡ (world_at p now ran left after, map (event_of p) (option_to_list line)) →
+    stop_shown found ≡ stop_at bound now after →
+    owed ≡ stamped now (option_to_list line) ++ stamped now (option_to_list (option_map stop_line found)) →
+    record { program = p; bound = bound; world = world_at p now ran left after; at_instant = false; stop = stop_shown found; owed = lines_of p owed }
+    ≡ after_instant (record { program = p; bound = bound; world = world_at p now ran ticks progress; at_instant = at_instant; stop = before; owed = told }) i
+unfolding shown_by shown_from
+instant-shown p bound now ran ticks left progress after at_instant before told i line found owed e h o =
+    sym (ap (shown_from p bound now) e
+    ∙ shown-led p bound now ran left after (map (event_of p) (option_to_list line)) (stop_shown found) h
+    ∙ shown-owed p bound now (world_at p now ran left after) line found owed o)
+
+-- lines that were owed one after another where none was owed before
+pub owed-both : (a b c d e : List (ℕ × Line)) → a ≡ [] → c ≡ a ++ b → e ≡ c ++ d → e ≡ b ++ d
+owed-both a b c d e h f g = g ∙ ap (λ xs. xs ++ d) (f ∙ ap (λ xs. xs ++ b) h)
+
+-- an instant of the program of an image
+Leads : Image → ℕ → Bool → Option ℕ → Option ℕ → Progress → Progress → Option Line → Type 0
+Leads p now ran ticks left progress after line = instant p (world_at p now ran ticks progress) ≡ (world_at p now ran left after, map (event_of p) (option_to_list line))
+
+led-open : (p : Image) (now : ℕ) (ran : Bool) (ticks left : Option ℕ) (progress after : Progress) (line : Option Line) → instant p (world_at p now ran ticks progress) ≡ (world_at p now ran left after, map (event_of p) (option_to_list line)) → Leads p now ran ticks left progress after line
+unfolding Leads
+led-open p now ran ticks left progress after line e = e
+
+pub led : (i j : Numbered) (now : ℕ) (ran : Bool) (ticks left : Option ℕ) (progress after : Progress) (line : Option Line) → i ≡ j → instant i.program (world_at i.program now ran ticks progress) ≡ (world_at i.program now ran left after, map (event_of i.program) (option_to_list line)) → instant j.program (world_at j.program now ran ticks progress) ≡ (world_at j.program now ran left after, map (event_of j.program) (option_to_list line))
+unfolding Leads
+led i j now ran ticks left progress after line e h = subst (λ k. Leads k.program now ran ticks left progress after line) e (led-open i.program now ran ticks left progress after line h)

@@ -7,7 +7,8 @@ use Rattle.profile_machine.specs.declared.numbers.StatementNo.{StatementNo}
 use Rattle.profile_machine.specs.declared.statements.Statement.{Statement as Action}
 use Rattle.profile_machine.specs.declared.statements.StatementForm.TheVariants as form
 use Rattle.profile_machine.specs.World.{World}
-use Rattle.profile_machine.specs.Run.{instant, tock, stop, opening, effect, environment, script_items, events_due, moments_due, timers_due, budgets_due, quantum_spent}
+use Rattle.profile_machine.specs.Instant.{instant, effect, script_items, events_due, moments_due, timers_due, budgets_due, quantum_spent}
+use Rattle.profile_machine.specs.Run.{tock, stop, opening, environment}
 use Rattle.profile_machine.specs.Steps.{settles, nothing, ◌▷◌}
 use Rattle.profile_machine.specs.Act.{call_main}
 use Rattle.profile_machine.specs.Cost.{cost_of_form, cost_of_statement}
@@ -131,16 +132,24 @@ others p a =
     let b = (script_items p ▷ events_due p ▷ moments_due p ▷ timers_due p ▷ budgets_due p ▷ quantum_spent p) a.0 in
     (b.0, a.1 ++ b.1)
 
-pub instant-waits : (p : Image) (now : ℕ) (ticks : Option ℕ) (progress : Progress) → is_done ticks ≡ false → instant p (world_at p now true ticks progress) ≡ (world_at p now true ticks progress, [])
-unfolding chosen others
-instant-waits p now None Calling h = refl
-instant-waits p now None (Inside onward) h = refl
-instant-waits p now None Behind h = refl
-instant-waits p now None Over h = refl
-instant-waits p now (Some n) Calling h = ap (λ b. others p (chosen p (world_at p now true (Some n) Calling) b)) h
-instant-waits p now (Some n) (Inside onward) h = ap (λ b. others p (chosen p (world_at p now true (Some n) (Inside onward)) b)) h
-instant-waits p now (Some n) Behind h = ap (λ b. others p (chosen p (world_at p now true (Some n) Behind) b)) h
-instant-waits p now (Some n) Over h = refl
+-- nothing comes about
+Waits : Image → ℕ → Option ℕ → Progress → Type 0
+Waits p now ticks progress = instant p (world_at p now true ticks progress) ≡ (world_at p now true ticks progress, [])
+
+shape-waits : (name : List ℕ) (body : List Action) (now : ℕ) (ticks : Option ℕ) (progress : Progress) → is_done ticks ≡ false → Waits (simple_program name body) now ticks progress
+unfolding Waits chosen others
+shape-waits name body now None Calling h = refl
+shape-waits name body now None (Inside onward) h = refl
+shape-waits name body now None Behind h = refl
+shape-waits name body now None Over h = refl
+shape-waits name body now (Some n) Calling h = ap (λ b. others (simple_program name body) (chosen (simple_program name body) (world_at (simple_program name body) now true (Some n) Calling) b)) h
+shape-waits name body now (Some n) (Inside onward) h = ap (λ b. others (simple_program name body) (chosen (simple_program name body) (world_at (simple_program name body) now true (Some n) (Inside onward)) b)) h
+shape-waits name body now (Some n) Behind h = ap (λ b. others (simple_program name body) (chosen (simple_program name body) (world_at (simple_program name body) now true (Some n) Behind) b)) h
+shape-waits name body now (Some n) Over h = refl
+
+pub instant-waits : (p : Image) (now : ℕ) (ticks : Option ℕ) (progress : Progress) → IsSimple p → is_done ticks ≡ false → instant p (world_at p now true ticks progress) ≡ (world_at p now true ticks progress, [])
+unfolding Waits
+instant-waits p now ticks progress s h = subst (λ q. Waits q now ticks progress) (sym s.shape) (shape-waits p.main.name s.body now ticks progress h)
 
 -- ---- an instant of whoever ran or not
 
@@ -148,14 +157,31 @@ done-is : (ticks : Option ℕ) → is_done ticks ≡ true → ticks ≡ Some 0
 done-is None h = absurd (false≢true h)
 done-is (Some n) h = ap Some (eqb-true n 0 h)
 
+-- an instant leads from one standing of the task to another
+Instants : Image → ℕ → Bool → Option ℕ → Progress → Option ℕ → Progress → List Event → Type 0
+Instants p now ran ticks progress left after lines = instant p (world_at p now ran ticks progress) ≡ (world_at p now ran left after, lines)
+
+acts : (p : Image) (now : ℕ) (progress : Progress) → IsSimple p → is_inside progress ≡ true → Instants p now true (Some 0) progress None (progress_after p progress) (map (event_of p) (lines_after p progress))
+unfolding Instants
+acts p now progress s h = instant-acts p now progress s h
+
+acts-so : (p : Image) (now : ℕ) (ran : Bool) (ticks : Option ℕ) (progress after : Progress) (lines : List Line) → IsSimple p → ran ≡ true → ticks ≡ Some 0 → is_inside progress ≡ true → after ≡ progress_after p progress → lines ≡ lines_after p progress → Instants p now ran ticks progress None after (map (event_of p) lines)
+acts-so p now ran ticks progress after lines s r t h a l =
+    subst (λ x. Instants p now x ticks progress None after (map (event_of p) lines)) (sym r)
+    (subst (λ x. Instants p now true x progress None after (map (event_of p) lines)) (sym t)
+    (subst (λ x. Instants p now true (Some 0) progress None x (map (event_of p) lines)) (sym a)
+    (subst (λ x. Instants p now true (Some 0) progress None (progress_after p progress) (map (event_of p) x)) (sym l)
+    (acts p now progress s h))))
+
 pub finish-acts : (p : Image) (now : ℕ) (ran : Bool) (ticks : Option ℕ) (progress after : Progress) (line : Option Line) → IsSimple p → ran ≡ true → is_done ticks ≡ true → is_inside progress ≡ true → after ≡ progress_after p progress → option_to_list line ≡ lines_after p progress →
     instant p (world_at p now ran ticks progress) ≡ (world_at p now ran None after, map (event_of p) (option_to_list line))
-finish-acts p now ran ticks progress after line s r d h a l = let t = done-is ticks d in rw (r, t, a, l) (instant-acts p now progress s h)
+unfolding Instants
+finish-acts p now ran ticks progress after line s r d h a l = acts-so p now ran ticks progress after (option_to_list line) s r (done-is ticks d) h a l
 
-pub finish-waits : (p : Image) (now : ℕ) (ran : Bool) (ticks : Option ℕ) (progress : Progress) → ran && is_done ticks ≡ false →
+pub finish-waits : (p : Image) (now : ℕ) (ran : Bool) (ticks : Option ℕ) (progress : Progress) → IsSimple p → ran && is_done ticks ≡ false →
     instant p (world_at p now ran ticks progress) ≡ (world_at p now ran ticks progress, [])
-finish-waits p now true ticks progress h = instant-waits p now ticks progress h
-finish-waits p now false ticks progress h = refl
+finish-waits p now true ticks progress s h = instant-waits p now ticks progress s h
+finish-waits p now false ticks progress s h = refl
 
 -- ---- tocks
 
@@ -176,41 +202,38 @@ cost-inside p s (is_put text e) = ap (λ f. cost_of_form f (statement_of p s).si
 Ticks : Image → ℕ → Bool → Option ℕ → Progress → Type 0
 Ticks p now ran ticks progress = tock p (world_at p now ran ticks progress) ≡ (world_at p (suc now) true (Some (ticks_after ticks (cost_at p progress))) progress, map (event_of p) (run_lines ran))
 
-inside-ticks : (p : Image) (now : ℕ) (ran : Bool) (ticks : Option ℕ) (s : StatementNo) → cost_of_statement (statement_of p s) ≡ cost_at p (Inside (Some s)) → Ticks p now ran ticks (Inside (Some s))
+inside-ticks : (name : List ℕ) (body : List Action) (now : ℕ) (ran : Bool) (ticks : Option ℕ) (s : StatementNo) → let p = simple_program name body in cost_of_statement (statement_of p s) ≡ cost_at p (Inside (Some s)) → Ticks p now ran ticks (Inside (Some s))
 unfolding Ticks
-inside-ticks p now true None s e = ap (λ n. (world_at p (suc now) true (Some (n - 1)) (Inside (Some s)), [])) e
-inside-ticks p now false None s e = ap (λ n. (world_at p (suc now) true (Some (n - 1)) (Inside (Some s)), event_of p owed.Run ∷ [])) e
-inside-ticks p now true (Some n) s e = refl
-inside-ticks p now false (Some n) s e = refl
+inside-ticks name body now true None s e = ap (λ n. (world_at (simple_program name body) (suc now) true (Some (n - 1)) (Inside (Some s)), [])) e
+inside-ticks name body now false None s e = ap (λ n. (world_at (simple_program name body) (suc now) true (Some (n - 1)) (Inside (Some s)), event_of (simple_program name body) owed.Run ∷ [])) e
+inside-ticks name body now true (Some n) s e = refl
+inside-ticks name body now false (Some n) s e = refl
 
 -- who stands inside stands at a statement of the body
-calling-ticks : (name : List ℕ) (body : List Action) (now : ℕ) (ran : Bool) (ticks : Option ℕ) → Ticks (simple_program name body) now ran ticks Calling
+body-number : (body : List Action) → ((n : ℕ) → IsBodyForm (form_at body n)) → (n : ℕ) → ltb 0 n ≡ true → BodyCase (form_at (call_of_main ∷ body) n)
+body-number body forms zero h = absurd (false≢true h)
+body-number body forms (suc k) h = body_case (form_at body k) (forms k)
+
+shape-ticks : (name : List ℕ) (body : List Action) (now : ℕ) (ran : Bool) (ticks : Option ℕ) (progress : Progress) → ((n : ℕ) → IsBodyForm (form_at body n)) → is_inside progress ≡ true → is_over_progress progress ≡ false → Ticks (simple_program name body) now ran ticks progress
 unfolding Ticks
-calling-ticks name body now true None = refl
-calling-ticks name body now false None = refl
-calling-ticks name body now true (Some n) = refl
-calling-ticks name body now false (Some n) = refl
-
-body-number : (p : Image) (s : IsSimple p) (n : ℕ) → ltb 0 n ≡ true → BodyCase (form_at (call_of_main ∷ s.body) n)
-body-number p s zero h = absurd (false≢true h)
-body-number p s (suc k) h = body_case (form_at s.body k) (s.forms k)
-
-body-at : (p : Image) (s : IsSimple p) (n : StatementNo) → ltb 0 n.0 ≡ true → BodyCase (form_of p n)
-body-at p s n h = subst (λ q. BodyCase (form_of q n)) (sym s.shape) (body-number p s n.0 h)
+shape-ticks name body now true None Calling forms h o = refl
+shape-ticks name body now false None Calling forms h o = refl
+shape-ticks name body now true (Some n) Calling forms h o = refl
+shape-ticks name body now false (Some n) Calling forms h o = refl
+shape-ticks name body now true None (Inside None) forms h o = refl
+shape-ticks name body now false None (Inside None) forms h o = refl
+shape-ticks name body now true (Some n) (Inside None) forms h o = refl
+shape-ticks name body now false (Some n) (Inside None) forms h o = refl
+shape-ticks name body now ran ticks (Inside (Some s)) forms h o = inside-ticks name body now ran ticks s (cost-inside (simple_program name body) s (body-number body forms s.0 h))
+shape-ticks name body now true None Behind forms h o = refl
+shape-ticks name body now false None Behind forms h o = refl
+shape-ticks name body now true (Some n) Behind forms h o = refl
+shape-ticks name body now false (Some n) Behind forms h o = refl
+shape-ticks name body now ran ticks Over forms h o = absurd (false≢true (sym o))
 
 pub tock-runs : (p : Image) (now : ℕ) (ran : Bool) (ticks : Option ℕ) (progress : Progress) → IsSimple p → is_inside progress ≡ true → is_over_progress progress ≡ false → tock p (world_at p now ran ticks progress) ≡ (world_at p (suc now) true (Some (ticks_after ticks (cost_at p progress))) progress, map (event_of p) (run_lines ran))
 unfolding Ticks
-tock-runs p now ran ticks Calling s h o = subst (λ q. Ticks q now ran ticks Calling) (sym s.shape) (calling-ticks p.main.name s.body now ran ticks)
-tock-runs p now true None (Inside None) s h o = refl
-tock-runs p now false None (Inside None) s h o = refl
-tock-runs p now true (Some n) (Inside None) s h o = refl
-tock-runs p now false (Some n) (Inside None) s h o = refl
-tock-runs p now ran ticks (Inside (Some n)) s h o = inside-ticks p now ran ticks n (cost-inside p n (body-at p s n h))
-tock-runs p now true None Behind s h o = refl
-tock-runs p now false None Behind s h o = refl
-tock-runs p now true (Some n) Behind s h o = refl
-tock-runs p now false (Some n) Behind s h o = refl
-tock-runs p now ran ticks Over s h o = absurd (false≢true (sym o))
+tock-runs p now ran ticks progress s h o = subst (λ q. Ticks q now ran ticks progress) (sym s.shape) (shape-ticks p.main.name s.body now ran ticks progress s.forms h o)
 
 -- ---- the stop
 
@@ -224,7 +247,7 @@ stop-at p bound now ran ticks Over = refl
 
 instant-now-done : (p : Image) (now : ℕ) (ticks : Option ℕ) (progress : Progress) → IsSimple p → is_inside progress ≡ true → (done : Bool) → is_done ticks ≡ done → (instant p (world_at p now true ticks progress)).0.now ≡ now
 instant-now-done p now ticks progress s h true e = let t = done-is ticks e in rw t (ap (λ i. i.0.now) (instant-acts p now progress s h))
-instant-now-done p now ticks progress s h false e = ap (λ i. i.0.now) (instant-waits p now ticks progress e)
+instant-now-done p now ticks progress s h false e = ap (λ i. i.0.now) (instant-waits p now ticks progress s e)
 
 -- now stands at an instant
 pub instant-now : (p : Image) (now : ℕ) (ran : Bool) (ticks : Option ℕ) (progress : Progress) → IsSimple p → is_inside progress ≡ true → (instant p (world_at p now ran ticks progress)).0.now ≡ now

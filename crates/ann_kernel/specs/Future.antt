@@ -6,7 +6,8 @@ use Rattle.trace_text.specs.declared.events.Ended.{Ended}
 use Rattle.trace_text.specs.Text.{line_text}
 use Rattle.profile_machine.specs.declared.image.Image.{Image}
 use Rattle.profile_machine.specs.World.{World}
-use Rattle.profile_machine.specs.Run.{instant, tock, stop, run_from, at_tick, opening, run}
+use Rattle.profile_machine.specs.Instant.{instant}
+use Rattle.profile_machine.specs.Run.{tock, stop, run_from, at_tick, opening, run}
 
 -- a world of the machine, whether an instant or a tock comes next, the stop that is reached, and the owed lines
 pub record Shown : Type 0 where

@@ -1,5 +1,5 @@
 -- What an owed line says.
-use Rattle.std.specs.Prelude.{ℕ, List, [], ◌∷◌, None, map}
+use Rattle.std.specs.Prelude.{ℕ, List, [], ◌∷◌, ◌++◌, None, map}
 use Rattle.trace_text.specs.declared.events.Event.{Event}
 use Rattle.trace_text.specs.declared.events.Event.TheVariants as line
 use Rattle.trace_text.specs.declared.events.Created.TheVariants as created
@@ -12,15 +12,27 @@ use Rattle.profile_machine.specs.declared.statements.StatementForm.{StatementFor
 use Rattle.profile_machine.specs.declared.statements.StatementForm.TheVariants as form
 use Rattle.profile_machine.specs.Program.{form_of}
 use Rattle.profile_machine.specs.Run.{environment}
-use Rattle.profile_machine.specs.Act.{text_of_pieces}
+use Rattle.profile_machine.specs.declared.statements.Piece.{Piece}
+use Rattle.profile_machine.specs.declared.statements.Piece.TheVariants as piece
 use Rattle.ann_kernel.specs.declared.progress.Reached.{Reached}
 use Rattle.ann_kernel.specs.declared.progress.Reached.TheVariants as reached
 use Rattle.ann_kernel.specs.declared.owed.Line.{Line}
 use Rattle.ann_kernel.specs.declared.owed.Line.TheVariants.{New, Ready, Run, Idle, Put, Done, Completed, Bound}
 
+-- what pieces put that are texts
+abbrev pub text_in : Piece → List ℕ
+text_in (piece.Text text) = text
+text_in (piece.Whole value) = []
+text_in (piece.Truth value) = []
+text_in (piece.Literal value enumeration) = []
+
+abbrev pub text_of_all : List Piece → List ℕ
+text_of_all [] = []
+text_of_all (x ∷ xs) = text_in x ++ text_of_all xs
+
 -- what a statement puts
 abbrev pub text_of_form : StatementForm → List ℕ
-text_of_form (form.PutLine pieces) = text_of_pieces pieces
+text_of_form (form.PutLine pieces) = text_of_all pieces
 text_of_form _ = []
 
 abbrev pub event_of : Image → Line → Event

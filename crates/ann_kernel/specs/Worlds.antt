@@ -8,7 +8,7 @@ use Rattle.profile_machine.specs.declared.numbers.StatementNo.{StatementNo}
 use Rattle.profile_machine.specs.declared.numbers.ScopeNo.{ScopeNo}
 use Rattle.profile_machine.specs.World.{World, Task, Runnable, Frame, Mark, Purpose, of_task, of_subprogram, to_nowhere, ScopeId, scope_id, ScopeInUse, Placed, Drawn}
 use Rattle.profile_machine.specs.Program.{scope_of, form_of, next_of, statement_of, interrupt_priority}
-use Rattle.profile_machine.specs.Tasks.{new_task, with_ticks, with_frames}
+use Rattle.profile_machine.specs.Tasks.{new_task}
 use Rattle.profile_machine.specs.Frames.{new_frame}
 use Rattle.profile_machine.specs.Scopes.{new_scope_mark}
 use Rattle.profile_machine.specs.Run.{environment, environment_task, agent_at_first}
@@ -41,11 +41,15 @@ scopes_at p (Inside onward) = scope_used 1 p.main.scope (Some (scope_id 0)) ∷ 
 scopes_at p Behind = scope_used 0 p.environment None ∷ []
 scopes_at p Over = []
 
-abbrev pub tasks_at : Image → Option ℕ → Progress → List Task
-tasks_at p ticks Over = []
-tasks_at p ticks Calling = with_ticks ticks (with_frames (frames_at p Calling) (environment_task p)) ∷ []
-tasks_at p ticks (Inside onward) = with_ticks ticks (with_frames (frames_at p (Inside onward)) (environment_task p)) ∷ []
-tasks_at p ticks Behind = with_ticks ticks (with_frames (frames_at p Behind) (environment_task p)) ∷ []
+-- the environment task, which has run at each tick before now
+abbrev pub task_at : Image → ℕ → Option ℕ → Progress → Task
+task_at p now ticks progress = record (environment_task p) { frames = frames_at p progress; ticks_left = ticks; cpu_ticks = now }
+
+abbrev pub tasks_at : Image → ℕ → Option ℕ → Progress → List Task
+tasks_at p now ticks Calling = task_at p now ticks Calling ∷ []
+tasks_at p now ticks (Inside onward) = task_at p now ticks (Inside onward) ∷ []
+tasks_at p now ticks Behind = task_at p now ticks Behind ∷ []
+tasks_at p now ticks Over = []
 
 abbrev pub placed_at : Image → List Placed
 placed_at p = record { who = environment; level = p.main.priority; deadline = None } ∷ []
@@ -80,7 +84,7 @@ world_at p now ran ticks progress = record {
   ports = replicate 16 (pos 0);
   masked = replicate 16 false;
   kept_interrupts = replicate 16 false;
-  tasks = tasks_at p ticks progress;
+  tasks = tasks_at p now ticks progress;
   agent = agent_at_first p;
   places = places_at p progress;
   quanta = replicate (interrupt_priority p + 1) 1000;

@@ -4,7 +4,7 @@ ghost use Rattle.ann_kernel.specs.Worlds.{is_inside};
 ghost use Rattle.ann_kernel.specs.Reached.{is_in_time};
 
 use crate::events::event;
-use crate::owed::{Line, end_line, owe};
+use crate::owed::{Line, last_line, owe};
 use crate::progress::{Progress, Reached};
 use crate::steps::{finish, pass, stop_found};
 use ada_static::Checked;
@@ -52,7 +52,8 @@ impl Kernel {
     ghost use Rattle.ann_kernel.specs.Kernel.{shown, future, stop_to_come, left_to_do};
     ghost use Rattle.ann_kernel.specs.Next.{IfGoing, IfEnded};
     ghost use Rattle.ann_kernel.specs.Future.{advanced, opened, goes_by, after_instant, after_tock, unless_stopped, written_of};
-    ghost use Rattle.profile_machine.specs.Run.{instant, tock};
+    ghost use Rattle.profile_machine.specs.Instant.{instant};
+    ghost use Rattle.profile_machine.specs.Run.{tock};
 
     /// The opening world of the run of a checked program without a script, up to the bound, from 1 to
     /// 1,000,000,000 ticks. The two lines of the environment task are owed.
@@ -157,7 +158,7 @@ impl Kernel {
         );
         let stop = stop_found(finished.progress, self.now, self.bound);
         owe(&mut self.owed, self.now, finished.line)?;
-        owe(&mut self.owed, self.now, stop.map(end_line))?;
+        owe(&mut self.owed, self.now, last_line(stop))?;
         self.progress = finished.progress;
         self.ticks_left = finished.ticks_left;
         self.stop = stop;

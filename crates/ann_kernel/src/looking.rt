@@ -1,11 +1,10 @@
 //! Looking at the statements of a program.
 ghost use Rattle.std.specs.Prelude.{◌≡◌, ◌≤◌, ℕ, length};
 ghost use Rattle.profile_machine.specs.Program.{statement_of, form_of, next_of};
-ghost use Rattle.profile_machine.specs.Act.{text_of_pieces};
 ghost use Rattle.trace_text.specs.Text.{IsPutText};
 ghost use Rattle.ada_static.specs.Texts.{ArePrintable, PutsPrintable};
 ghost use Rattle.ann_kernel.specs.Worlds.{is_put_form};
-ghost use Rattle.ann_kernel.specs.Lines.{text_of_form};
+ghost use Rattle.ann_kernel.specs.Lines.{text_of_all, text_of_form};
 
 use profile_machine::{Image as Program, Piece, StatementForm, StatementNo};
 
@@ -81,7 +80,7 @@ fn text_of(form: &StatementForm) -> &[u8]
 
 fn text_of_all(pieces: &[Piece]) -> &[u8]
     requires { ArePrintable pieces.now }
-    ensures text { result.now ≡ text_of_pieces pieces.now }
+    ensures text { result.now ≡ text_of_all pieces.now }
     ensures printable { IsPutText result.now }
 {
     match pieces {

@@ -1,5 +1,6 @@
 //! Lines that are owed, as short records whose names and texts stand in the program.
 ghost use Rattle.std.specs.Prelude.{◌≡◌, ◌++◌, map, option_to_list, OnOk};
+ghost use Rattle.std.specs.Option.{option_map};
 ghost use Rattle.ann_kernel.specs.Lines.{stamped, stop_line};
 
 use crate::progress::Reached;
@@ -38,12 +39,13 @@ pub fn owe(owed: &mut VecDeque<(u64, Line)>, now: u64, line: Option<Line>) -> Re
     Ok(())
 }
 
-/// The last line of a run.
-pub fn end_line(reached: Reached) -> Line
-    ensures { result ≡ stop_line reached }
+/// The last line of a run that stops.
+pub fn last_line(stop: Option<Reached>) -> Option<Line>
+    ensures { result ≡ option_map stop_line stop }
 {
-    match reached {
-        Reached::Completed => Line::Completed,
-        Reached::Bound => Line::Bound,
+    match stop {
+        None => None,
+        Some(Reached::Completed) => Some(Line::Completed),
+        Some(Reached::Bound) => Some(Line::Bound),
     }
 }

@@ -1,7 +1,8 @@
 //! Instants and tocks of the environment task, alone.
 ghost use Rattle.std.specs.Prelude.{◌≡◌, ℕ, suc, true, false, map, option_to_list, IsTrue};
 ghost use Rattle.ada_names.specs.Simple.{IsSimple};
-ghost use Rattle.profile_machine.specs.Run.{instant, tock};
+ghost use Rattle.profile_machine.specs.Instant.{instant};
+ghost use Rattle.profile_machine.specs.Run.{tock};
 ghost use Rattle.ann_kernel.specs.Worlds.{world_at, is_inside, stop_at, progress_after, lines_after, is_over_progress, is_done, cost_at};
 ghost use Rattle.ann_kernel.specs.Lines.{event_of};
 ghost use Rattle.ann_kernel.specs.Reached.{stop_shown};

@@ -1,5 +1,5 @@
 -- The program of a tree is a simple one.
-use Rattle.std.proofs.Common.{◌≡◌, ◌+◌, ◌<◌, ℕ, zero, suc, List, [], ◌∷◌, Some, None, get_or, length, map, ap, refl, arith}
+use Rattle.std.proofs.Common.{◌≡◌, ◌+◌, ℕ, zero, suc, List, [], ◌∷◌, get_or, length, map, ap, refl, arith}
 use Rattle.ada_tree.specs.declared.syntax.Statement.{Statement}
 use Rattle.ada_tree.specs.declared.syntax.Statement.TheVariants as tree
 use Rattle.ada_tree.specs.declared.syntax.Unit.{Unit as Tree}

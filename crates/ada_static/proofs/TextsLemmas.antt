@@ -1,5 +1,5 @@
 -- What holds of each statement holds of each number, since no statement stands behind the last.
-use Rattle.std.proofs.Common.{◌<◌, ◌+◌, ℕ, zero, suc, List, [], ◌∷◌, length, get_or, arith, lit<}
+use Rattle.std.proofs.Common.{◌<◌, ℕ, zero, suc, List, [], ◌∷◌, length, get_or, arith}
 use Rattle.profile_machine.specs.declared.statements.Statement.{Statement}
 use Rattle.profile_machine.specs.Program.{no_statement}
 use Rattle.ada_static.specs.Texts.{PutsPrintable}

@@ -1,13 +1,12 @@
 -- What the lines of a checked program may say.
-use Rattle.std.specs.Prelude.{◌≡◌, ◌<◌, ◌≤◌, ℕ, List, [], ◌∷◌, length, slice_index_or}
+use Rattle.std.specs.Prelude.{◌≤◌, ℕ, List, [], ◌∷◌, length}
 use Rattle.trace_text.specs.Text.{IsName, IsPutText}
 use Rattle.profile_machine.specs.declared.image.Image.{Image as Program}
-use Rattle.profile_machine.specs.declared.numbers.StatementNo.{StatementNo}
 use Rattle.profile_machine.specs.declared.statements.StatementForm.{StatementForm}
 use Rattle.profile_machine.specs.declared.statements.StatementForm.TheVariants as form
 use Rattle.profile_machine.specs.declared.statements.Piece.{Piece}
 use Rattle.profile_machine.specs.declared.statements.Piece.TheVariants as piece
-use Rattle.profile_machine.specs.Program.{form_of, no_statement}
+use Rattle.profile_machine.specs.Program.{form_of}
 use Rattle.ada_names.specs.Numbered.{statement_no}
 use Rattle.ada_names.specs.Simple.{IsSimple}
 

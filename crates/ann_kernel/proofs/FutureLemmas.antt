@@ -1,13 +1,13 @@
 -- What is still to come stays the same when a kernel goes on, but for the line that is told.
-use Rattle.std.proofs.Common.{◌≡◌, ◌+◌, ◌*◌, ◌-◌, ◌<◌, ◌≤◌, ℕ, zero, suc, Bool, true, false, List, [], ◌∷◌, ◌++◌, Option, Some, None, length, arith, refl, sym, ap, ◌∙◌, append_assoc, append-nil, subst}
+use Rattle.std.proofs.Common.{◌≡◌, ◌*◌, ◌-◌, ◌<◌, ◌≤◌, ℕ, suc, Bool, true, false, List, [], ◌∷◌, ◌++◌, Option, Some, None, length, arith, refl, sym, ap, ◌∙◌, append_assoc, append-nil}
 use Rattle.trace_text.specs.declared.events.Event.{Event}
 use Rattle.trace_text.specs.declared.events.Event.TheVariants as line
 use Rattle.trace_text.specs.declared.events.Ended.{Ended}
 use Rattle.profile_machine.specs.declared.image.Image.{Image}
 use Rattle.profile_machine.specs.World.{World}
 use Rattle.profile_machine.specs.Instant.{instant}
-use Rattle.profile_machine.specs.Run.{tock, stop, opening, run_from, at_tick, stopped, then_runs, Ran}
-use Rattle.ann_kernel.specs.Future.{Shown, advanced, advanced_by, future_of, first_line, lines_from, lines_unless, after_instant, after_tock, goes_by, unless_stopped, end_lines, stop_of, stop_from, stop_unless, opened, lines_of_run, stop_of_run, left_of, flag}
+use Rattle.profile_machine.specs.Run.{tock, stop, opening, run_from, at_tick}
+use Rattle.ann_kernel.specs.Future.{Shown, advanced, advanced_by, future_of, first_line, lines_from, lines_unless, after_instant, goes_by, unless_stopped, end_lines, stop_of, stop_from, stop_unless, opened, lines_of_run, stop_of_run, left_of, flag}
 
 at_tick-append : (now : ℕ) (xs ys : List Event) → at_tick now (xs ++ ys) ≡ at_tick now xs ++ at_tick now ys
 at_tick-append now [] ys = refl

@@ -1,13 +1,12 @@
 -- From one step of a kernel to what its caller may rely on.
-use Rattle.std.proofs.Common.{◌≡◌, ◌<◌, ◌≤◌, ℕ, Bool, true, false, List, [], ◌∷◌, ◌++◌, Option, Some, None, Result, Ok, Err, OnOk, IfOk, IsTrue, nat_lt, rules, map, option_to_list, option_map, subst, arith, refl, sym, ap, ◌∙◌, append_assoc, append-nil}
+use Rattle.std.proofs.Common.{◌≡◌, ◌<◌, ℕ, Bool, true, false, List, [], ◌∷◌, ◌++◌, Option, Some, None, Result, Ok, Err, OnOk, IfOk, IsTrue, nat_lt, rules, map, option_to_list, option_map, subst, refl, sym, ap, ◌∙◌, append_assoc}
 use Rattle.std.proofs.lemmas.Bool.{ltb-true}
 use Rattle.profile_machine.specs.declared.image.Image.{Image}
-use Rattle.ada_names.specs.Simple.{IsSimple}
 use Rattle.ada_names.specs.declared.image.Image.{Image as Numbered}
 use Rattle.ann_kernel.specs.declared.progress.Reached.{Reached}
 use Rattle.trace_text.specs.declared.events.Event.{Event}
 use Rattle.trace_text.specs.declared.events.Ended.{Ended}
-use Rattle.trace_text.specs.Text.{text_of, line_text}
+use Rattle.trace_text.specs.Text.{text_of}
 use Rattle.ann_base.specs.declared.faults.NoMemory.{NoMemory}
 use Rattle.ada_static.specs.Texts.{IsLegal}
 use Rattle.ann_kernel.specs.declared.kernel.Kernel.{Kernel}

@@ -1,5 +1,5 @@
 -- The machine's instants and tocks on the worlds that a kernel shows.
-use Rattle.std.proofs.Common.{◌≡◌, ◌+◌, ℕ, zero, suc, Bool, true, false, List, [], ◌∷◌, ◌++◌, ◌-◌, Option, Some, None, ◌&&◌, option_to_list, get_or, map, ◌<◌, ltb, eqb, arith, subst, refl, sym, ap, ◌∙◌}
+use Rattle.std.proofs.Common.{◌≡◌, ℕ, zero, suc, Bool, true, false, List, [], ◌∷◌, ◌++◌, ◌-◌, Option, Some, None, ◌&&◌, option_to_list, get_or, map, ◌<◌, ltb, arith, subst, refl, sym, ap, ◌∙◌}
 use Rattle.std.proofs.lemmas.Bool.{false≢true, eqb-true}
 use Rattle.trace_text.specs.declared.events.Event.{Event}
 use Rattle.profile_machine.specs.declared.image.Image.{Image}
@@ -12,7 +12,7 @@ use Rattle.profile_machine.specs.Run.{tock, stop, opening, environment}
 use Rattle.profile_machine.specs.Steps.{settles, nothing, ◌▷◌}
 use Rattle.profile_machine.specs.Act.{call_main}
 use Rattle.profile_machine.specs.Cost.{cost_of_form, cost_of_statement}
-use Rattle.profile_machine.specs.Program.{statement_of, form_of, next_of, opens_handled, no_statement}
+use Rattle.profile_machine.specs.Program.{statement_of, form_of, no_statement}
 use Rattle.profile_machine.specs.declared.statements.StatementForm.{StatementForm}
 use Rattle.profile_machine.specs.declared.statements.Piece.{Piece}
 use Rattle.profile_machine.specs.declared.statements.Piece.TheVariants as piece

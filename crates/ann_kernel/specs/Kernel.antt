@@ -1,10 +1,10 @@
 -- What a kernel shows.
-use Rattle.std.specs.Prelude.{ℕ, List, Option}
+use Rattle.std.specs.Prelude.{ℕ, List}
 use Rattle.trace_text.specs.declared.events.Event.{Event}
 use Rattle.trace_text.specs.declared.events.Ended.{Ended}
 use Rattle.ann_kernel.specs.Worlds.{world_at}
 use Rattle.ann_kernel.specs.Lines.{lines_of}
-use Rattle.ann_kernel.specs.Future.{Shown, future_of, stop_of, left_of, advanced, written_of}
+use Rattle.ann_kernel.specs.Future.{Shown, future_of, stop_of, left_of}
 use Rattle.ann_kernel.specs.Reached.{stop_shown}
 use Rattle.ann_kernel.specs.declared.kernel.Kernel.{Kernel}
 

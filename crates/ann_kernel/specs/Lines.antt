@@ -3,11 +3,9 @@ use Rattle.std.specs.Prelude.{ℕ, List, [], ◌∷◌, ◌++◌, None, map}
 use Rattle.trace_text.specs.declared.events.Event.{Event}
 use Rattle.trace_text.specs.declared.events.Event.TheVariants as line
 use Rattle.trace_text.specs.declared.events.Created.TheVariants as created
-use Rattle.trace_text.specs.declared.events.Ended.{Ended}
 use Rattle.trace_text.specs.declared.events.Ended.TheVariants as why
 use Rattle.trace_text.specs.declared.events.QueueEnd.TheVariants.{Tail}
 use Rattle.profile_machine.specs.declared.image.Image.{Image}
-use Rattle.profile_machine.specs.declared.numbers.StatementNo.{StatementNo}
 use Rattle.profile_machine.specs.declared.statements.StatementForm.{StatementForm}
 use Rattle.profile_machine.specs.declared.statements.StatementForm.TheVariants as form
 use Rattle.profile_machine.specs.Program.{form_of}

@@ -1,5 +1,4 @@
 -- What a call of next did.
-use Rattle.std.specs.Prelude.{ℕ}
 use Rattle.trace_text.specs.declared.events.Ended.{Ended as Stop}
 use Rattle.ann_kernel.specs.declared.kernel.Next.{Next}
 use Rattle.ann_kernel.specs.declared.kernel.Next.TheVariants.{Going, Ended}

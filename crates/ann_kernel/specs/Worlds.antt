@@ -1,14 +1,12 @@
 -- The world of the profile machine for each progress of the environment task.
-use Rattle.std.specs.Prelude.{◌≡◌, ℕ, ◌+◌, ◌<◌, Bool, true, false, cond, List, [], ◌∷◌, ◌++◌, Option, Some, None, pos, eqb, ltb, replicate}
+use Rattle.std.specs.Prelude.{ℕ, ◌+◌, Bool, true, false, cond, List, [], ◌∷◌, Option, Some, None, pos, eqb, ltb, replicate}
 use Rattle.ann_base.specs.declared.exceptions.Raised.{Raised}
 use Rattle.trace_text.specs.declared.events.Who.{Who}
-use Rattle.trace_text.specs.declared.events.Who.TheVariants as who
 use Rattle.profile_machine.specs.declared.image.Image.{Image}
 use Rattle.profile_machine.specs.declared.numbers.StatementNo.{StatementNo}
 use Rattle.profile_machine.specs.declared.numbers.ScopeNo.{ScopeNo}
-use Rattle.profile_machine.specs.World.{World, Task, Runnable, Frame, Mark, Purpose, of_task, of_subprogram, to_nowhere, ScopeId, scope_id, ScopeInUse, Placed, Drawn}
+use Rattle.profile_machine.specs.World.{World, Task, Frame, Purpose, of_task, of_subprogram, to_nowhere, ScopeId, scope_id, ScopeInUse, Placed}
 use Rattle.profile_machine.specs.Program.{scope_of, form_of, next_of, statement_of, interrupt_priority}
-use Rattle.profile_machine.specs.Tasks.{new_task}
 use Rattle.profile_machine.specs.Frames.{new_frame}
 use Rattle.profile_machine.specs.Scopes.{new_scope_mark}
 use Rattle.profile_machine.specs.Run.{environment, environment_task, agent_at_first}

@@ -6,15 +6,13 @@ mod noting;
 mod reading;
 mod running;
 mod streams;
-mod whole;
-
 #[cfg(test)]
 mod tests;
+mod whole;
 
 use ann_base::{HostShelf, HostSink};
-use std::env;
-use std::io;
 use std::process::ExitCode;
+use std::{env, io};
 use whole::top;
 
 /// Passes the words behind the program's name to `top`, with the host's files and streams.

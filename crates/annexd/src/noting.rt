@@ -10,7 +10,11 @@ use itoa::Buffer;
 #[derive(Clone, Copy, Debug)]
 pub enum Refused {
     /// The source is refused at a place, with the letter and the number of the code.
-    Source { place: Place, letter: u8, number: u16 },
+    Source {
+        place: Place,
+        letter: u8,
+        number: u16,
+    },
     /// Memory was wanting.
     Memory,
 }

@@ -20,11 +20,7 @@ const MOST: usize = 262_145;
 const PIECE: usize = 4096;
 
 /// The bytes of the named file, up to one more than a source may have.
-pub fn read_source<S: Shelf>(
-    alloc: Global,
-    shelf: &mut S,
-    name: &[u8],
-) -> Result<Vec<u8>, Unread> {
+pub fn read_source<S: Shelf>(alloc: Global, shelf: &mut S, name: &[u8]) -> Result<Vec<u8>, Unread> {
     if shelf.pick(name).is_err() {
         return Err(Unread::Failed);
     }

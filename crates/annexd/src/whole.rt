@@ -60,11 +60,13 @@ fn run_source<K: Sink>(alloc: Global, source: &[u8], out: &mut K, notes: &mut K)
     match accept(alloc, source) {
         Ok(checked) => run_program(alloc, checked, out, notes),
         Err(Refused::Memory) => noted(notes, b"no memory\n", 9),
-        Err(Refused::Source {
-            place,
-            letter,
-            number,
-        }) => {
+        Err(
+            Refused::Source {
+                place,
+                letter,
+                number,
+            },
+        ) => {
             if note_refusal(notes, place, letter, number) {
                 4
             } else {

@@ -1,7 +1,5 @@
-use Rattle.std.proofs.Common.{◌≡◌, ◌++◌, ℕ, ◌∙◌, ap, map, option_to_list, subst}
-use Rattle.profile_machine.specs.Instant.{instant}
-use Rattle.ann_kernel.specs.Worlds.{world_at}
-use Rattle.ann_kernel.specs.Lines.{event_of, lines_of, stamped, stop_line}
+use Rattle.std.proofs.Common.{◌++◌, ◌∙◌, ap, option_to_list}
+use Rattle.ann_kernel.specs.Lines.{lines_of, stamped}
 use Rattle.ann_kernel.specs.Reached.{stop_shown}
 use Rattle.ann_kernel.proofs.KernelLemmas.{instant-shown, owed-both, led}
 use Rattle.ann_kernel.proofs.kernel.Kernel.instant.Goals as goal

@@ -105,7 +105,8 @@ abbrev pub with_runs : List CellRun → List Value → List Value
 with_runs [] cells = cells
 with_runs (run ∷ runs) cells = with_runs runs (with_run run cells)
 
--- the cells of a scope as it begins, by rule 42 (own)
+-- the cells of a scope as it begins: scalars hold the value of their subtype nearest to 0, False, the first literal or
+-- Null_Task_Id, and the first cell of any other object `Whole(0)` (own)
 abbrev pub initial_cells : Scope → List Value
 initial_cells scope = take scope.size (with_runs scope.cells (replicate scope.size (Whole (pos 0))))
 

@@ -93,7 +93,7 @@ next_id w = scope_id w.drawn.scopes
 abbrev pub scope_drawn : Drawn → Drawn
 scope_drawn d = record d { scopes = suc d.scopes }
 
--- the scope is in use, with its cells as they begin (rule 42) and its parameters in the first of them
+-- the scope is in use, with its cells as they begin and its parameters in the first of them
 abbrev pub begin_scope : Image → Who → ScopeNo → Beginning → World → World
 begin_scope p name scope b w =
     let new : ScopeInUse = record { id = next_id w; scope = scope; outer = b.outer; owner = name; object = b.object; subject = b.subject; cells = b.values ++ drop (length b.values) (initial_cells (scope_of p scope)) } in

@@ -1,1 +1,2 @@
 pub mod WrittenPieces
+pub mod Causes

@@ -1,5 +1,5 @@
 -- What the words of a command ask for: `run SOURCE`, where SOURCE is not empty and does not begin with a hyphen.
-use Rattle.std.specs.Prelude.{ℕ, cond, ◌==◌, if◌then◌else◌, List, [], ◌∷◌, Option, Some, None, codes}
+use Rattle.std.specs.Prelude.{ℕ, ◌==◌, if◌then◌else◌, List, [], ◌∷◌, Option, Some, None, codes}
 use Rattle.std.specs.Str.{bytes_eq}
 use Rattle.std.specs.Global.{Vec}
 

@@ -1,9 +1,12 @@
 //! Notes on standard error: why a source is refused.
+ghost use Rattle.std.specs.Prelude.{◌≡◌, ◌≤◌, OnErr};
+ghost use Rattle.ann_base.specs.Outside.{Rose};
+
 use crate::streams::write_all;
 use ada_lex::LexFault;
 use ada_names::NameFault;
 use ada_static::Refusal;
-use ann_base::{Place, Sink};
+use ann_base::{Failed, Place, Sink};
 use itoa::Buffer;
 
 /// Why no run came about.
@@ -59,25 +62,23 @@ pub fn code(place: Place, letter: u8, number: u16) -> Refused {
     }
 }
 
-/// Writes `source refused LINE:COLUMN CODE` and a line feed; whether notes took it all.
-pub fn note_refusal<K: Sink>(notes: &mut K, place: Place, letter: u8, number: u16) -> bool {
-    let mut line = Buffer::new();
-    let mut column = Buffer::new();
+/// Writes `source refused LINE:COLUMN CODE` and a line feed.
+pub fn note_refusal<K: Sink>(
+    notes: &mut K,
+    place: Place,
+    letter: u8,
+    number: u16,
+) -> Result<(), Failed>
+    ensures monotone { K.faults notes.old ≤ K.faults notes.new }
+    ensures cause { OnErr result (Rose (K.faults notes.old) (K.faults notes.new)) }
+{
     let mut digits = Buffer::new();
-    let letter = [letter];
-    for piece in [
-        b"source refused ".as_slice(),
-        line.format(place.line).as_bytes(),
-        b":",
-        column.format(place.column).as_bytes(),
-        b" ",
-        letter.as_slice(),
-        digits.format(number).as_bytes(),
-        b"\n",
-    ] {
-        if write_all(notes, piece).is_err() {
-            return false;
-        }
-    }
-    true
+    write_all(notes, b"source refused ")?;
+    write_all(notes, digits.format(place.line).as_bytes())?;
+    write_all(notes, b":")?;
+    write_all(notes, digits.format(place.column).as_bytes())?;
+    write_all(notes, b" ")?;
+    write_all(notes, &[letter])?;
+    write_all(notes, digits.format(number).as_bytes())?;
+    write_all(notes, b"\n")
 }

@@ -1,8 +1,10 @@
 //! Reading a source.
-ghost use Rattle.std.specs.Prelude.{◌≡◌, ◌≤◌};
+ghost use Rattle.std.specs.Prelude.{◌≡◌, ◌≤◌, true, IfErr};
+ghost use Rattle.ann_base.specs.Outside.{Rose, Lacks};
+ghost use Rattle.annexd.specs.Notes.{IfUnread};
 
-use ann_base::Shelf;
-use std::alloc::Global;
+use ann_base::{Failed, Shelf};
+use std::alloc::{AllocError, Global};
 
 /// Why a source was not read.
 #[derive(Clone, Copy, Debug)]
@@ -13,6 +15,26 @@ pub enum Unread {
     Memory,
 }
 
+impl From<Failed> for Unread {
+    ghost use Rattle.annexd.specs.declared.reading.Unread.TheVariants as faults;
+
+    ghost from_gives = { λ _ e. e ≡ faults.Failed };
+
+    fn from(_: Failed) -> Self {
+        Unread::Failed
+    }
+}
+
+impl From<AllocError> for Unread {
+    ghost use Rattle.annexd.specs.declared.reading.Unread.TheVariants as faults;
+
+    ghost from_gives = { λ _ e. e ≡ faults.Memory };
+
+    fn from(_: AllocError) -> Self {
+        Unread::Memory
+    }
+}
+
 /// One byte more than a source may have: no more is read.
 const MOST: usize = 262_145;
 
@@ -20,22 +42,27 @@ const MOST: usize = 262_145;
 const PIECE: usize = 4096;
 
 /// The bytes of the named file, up to one more than a source may have.
-pub fn read_source<S: Shelf>(alloc: Global, shelf: &mut S, name: &[u8]) -> Result<Vec<u8>, Unread> {
-    if shelf.pick(name).is_err() {
-        return Err(Unread::Failed);
-    }
+pub fn read_source<S: Shelf>(alloc: Global, shelf: &mut S, name: &[u8]) -> Result<Vec<u8>, Unread>
+    ensures cause { IfErr result (IfUnread (Lacks (S.files shelf.old) name.now (Rose (S.faults shelf.old) (S.faults shelf.new)))) }
+{
+    shelf.pick(name)?;
+    read_picked(alloc, shelf)
+}
+
+/// The bytes of the picked file, up to one more than a source may have.
+fn read_picked<S: Shelf>(alloc: Global, shelf: &mut S) -> Result<Vec<u8>, Unread>
+    requires { S.picked shelf.old ≡ true }
+    ensures monotone { S.faults shelf.old ≤ S.faults shelf.new }
+    ensures cause { IfErr result (IfUnread (Rose (S.faults shelf.old) (S.faults shelf.new))) }
+{
     let mut bytes = Vec::new(alloc);
     let mut piece = [0; PIECE];
     for _ in 0..MOST {
-        let Ok(count) = shelf.read(&mut piece) else {
-            return Err(Unread::Failed);
-        };
+        let count = shelf.read(&mut piece)?;
         if count == 0 {
             break;
         }
-        if bytes.extend_from_slice(&piece[..count]).is_err() {
-            return Err(Unread::Memory);
-        }
+        bytes.extend_from_slice(&piece[..count])?;
         if bytes.len() >= MOST {
             break;
         }

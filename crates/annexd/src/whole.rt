@@ -1,5 +1,7 @@
 //! All that the program does.
-ghost use Rattle.std.specs.Prelude.{◌≡◌, ◌≤◌};
+ghost use Rattle.std.specs.Prelude.{◌≡◌, ◌≢◌, ◌≤◌, ◌⊎◌, None, IfSome};
+ghost use Rattle.ann_base.specs.Outside.{Rose, Lacks};
+ghost use Rattle.annexd.specs.Asked.{asked_of};
 
 use crate::asking::asked;
 use crate::noting::{Refused, code, lexical, note_refusal, of_names, of_rules};
@@ -24,7 +26,17 @@ pub fn top<S: Shelf, K: Sink>(
     shelf: &mut S,
     out: &mut K,
     notes: &mut K,
-) -> u8 {
+) -> u8
+    ensures kept_4 { result ≡ 4 → K.held out.new ≡ K.held out.old }
+    ensures kept_6 { result ≡ 6 → K.held out.new ≡ K.held out.old }
+    ensures kept_7 { result ≡ 7 → K.held out.new ≡ K.held out.old }
+    ensures monotone_out { K.faults out.old ≤ K.faults out.new }
+    ensures monotone_notes { K.faults notes.old ≤ K.faults notes.new }
+    ensures write_fault { result ≡ 8 → Rose (K.faults out.old) (K.faults out.new) ⊎ Rose (K.faults notes.old) (K.faults notes.new) }
+    ensures words { result ≡ 6 → asked_of words.now ≡ None }
+    ensures refused { asked_of words.now ≡ None → result ≢ 8 → result ≡ 6 }
+    ensures read_fault { result ≡ 7 → IfSome (asked_of words.now) (λ name. Lacks (S.files shelf.old) name (Rose (S.faults shelf.old) (S.faults shelf.new))) }
+{
     match asked(words) {
         None => noted(notes, b"words refused\n", 6),
         Some(source) => run_file(alloc, source, shelf, out, notes),
@@ -32,11 +44,14 @@ pub fn top<S: Shelf, K: Sink>(
 }
 
 /// Writes a note and answers the status, or 8 where the note could not be written.
-fn noted<K: Sink>(notes: &mut K, note: &[u8], status: u8) -> u8 {
-    if write_all(notes, note).is_ok() {
-        status
-    } else {
-        8
+fn noted<K: Sink>(notes: &mut K, note: &[u8], status: u8) -> u8
+    ensures other { result ≢ 8 → result ≡ status }
+    ensures monotone { K.faults notes.old ≤ K.faults notes.new }
+    ensures cause { status ≢ 8 → result ≡ 8 → Rose (K.faults notes.old) (K.faults notes.new) }
+{
+    match write_all(notes, note) {
+        Ok(()) => status,
+        Err(_) => 8,
     }
 }
 
@@ -47,7 +62,16 @@ fn run_file<S: Shelf, K: Sink>(
     shelf: &mut S,
     out: &mut K,
     notes: &mut K,
-) -> u8 {
+) -> u8
+    ensures kept_4 { result ≡ 4 → K.held out.new ≡ K.held out.old }
+    ensures kept_6 { result ≡ 6 → K.held out.new ≡ K.held out.old }
+    ensures kept_7 { result ≡ 7 → K.held out.new ≡ K.held out.old }
+    ensures monotone_out { K.faults out.old ≤ K.faults out.new }
+    ensures monotone_notes { K.faults notes.old ≤ K.faults notes.new }
+    ensures write_fault { result ≡ 8 → Rose (K.faults out.old) (K.faults out.new) ⊎ Rose (K.faults notes.old) (K.faults notes.new) }
+    ensures words { result ≢ 6 }
+    ensures read_fault { result ≡ 7 → Lacks (S.files shelf.old) source.now (Rose (S.faults shelf.old) (S.faults shelf.new)) }
+{
     match read_source(alloc, shelf, source) {
         Err(Unread::Failed) => noted(notes, b"read fault\n", 7),
         Err(Unread::Memory) => noted(notes, b"no memory\n", 9),
@@ -56,7 +80,16 @@ fn run_file<S: Shelf, K: Sink>(
 }
 
 /// Runs a source where it is accepted.
-fn run_source<K: Sink>(alloc: Global, source: &[u8], out: &mut K, notes: &mut K) -> u8 {
+fn run_source<K: Sink>(alloc: Global, source: &[u8], out: &mut K, notes: &mut K) -> u8
+    ensures kept_4 { result ≡ 4 → K.held out.new ≡ K.held out.old }
+    ensures kept_6 { result ≡ 6 → K.held out.new ≡ K.held out.old }
+    ensures kept_7 { result ≡ 7 → K.held out.new ≡ K.held out.old }
+    ensures monotone_out { K.faults out.old ≤ K.faults out.new }
+    ensures monotone_notes { K.faults notes.old ≤ K.faults notes.new }
+    ensures write_fault { result ≡ 8 → Rose (K.faults out.old) (K.faults out.new) ⊎ Rose (K.faults notes.old) (K.faults notes.new) }
+    ensures words { result ≢ 6 }
+    ensures read { result ≢ 7 }
+{
     match accept(alloc, source) {
         Ok(checked) => run_program(alloc, checked, out, notes),
         Err(Refused::Memory) => noted(notes, b"no memory\n", 9),
@@ -66,18 +99,31 @@ fn run_source<K: Sink>(alloc: Global, source: &[u8], out: &mut K, notes: &mut K)
                 letter,
                 number,
             },
-        ) => {
-            if note_refusal(notes, place, letter, number) {
-                4
-            } else {
-                8
-            }
-        }
+        ) => { refuse_source(notes, place, letter, number) }
+    }
+}
+
+/// Notes why the source is refused.
+fn refuse_source<K: Sink>(notes: &mut K, place: Place, letter: u8, number: u16) -> u8
+    ensures other { result ≢ 8 → result ≡ 4 }
+    ensures monotone { K.faults notes.old ≤ K.faults notes.new }
+    ensures cause { result ≡ 8 → Rose (K.faults notes.old) (K.faults notes.new) }
+{
+    match note_refusal(notes, place, letter, number) {
+        Ok(()) => 4,
+        Err(_) => 8,
     }
 }
 
 /// Runs a checked program.
-fn run_program<K: Sink>(alloc: Global, checked: Checked, out: &mut K, notes: &mut K) -> u8 {
+fn run_program<K: Sink>(alloc: Global, checked: Checked, out: &mut K, notes: &mut K) -> u8
+    ensures source { result ≢ 4 }
+    ensures words { result ≢ 6 }
+    ensures read { result ≢ 7 }
+    ensures monotone_out { K.faults out.old ≤ K.faults out.new }
+    ensures monotone_notes { K.faults notes.old ≤ K.faults notes.new }
+    ensures write_fault { result ≡ 8 → Rose (K.faults out.old) (K.faults out.new) ⊎ Rose (K.faults notes.old) (K.faults notes.new) }
+{
     match run(alloc, checked, out) {
         Ok(stop) => status_of(stop),
         Err(Unwritten::Failed) => noted(notes, b"write fault\n", 8),
@@ -86,7 +132,9 @@ fn run_program<K: Sink>(alloc: Global, checked: Checked, out: &mut K, notes: &mu
 }
 
 /// The status of a run that stopped so.
-fn status_of(stop: Stop) -> u8 {
+fn status_of(stop: Stop) -> u8
+    ensures { result ≤ 3 }
+{
     match stop {
         Stop::Completed => 0,
         Stop::Exception(_) => 1,

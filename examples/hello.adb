@@ -1,6 +1,6 @@
 with Ada.Text_IO; use Ada.Text_IO;
-procedure Hello is
+procedure Main is
 begin
    null;
-   Put_Line ("hello");
-end Hello;
+   Put_Line ("hi");
+end Main;

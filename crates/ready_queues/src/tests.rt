@@ -1,10 +1,10 @@
-//! Each call once, over two policies through the bound of `Ready`.
+//! Each call once, over each policy through the bound of `Ready`.
 ghost use Rattle.std.specs.Prelude.{◌≡◌, IfOk, length, map};
 ghost use Rattle.ready_queues.specs.Queues.{AreEmpty};
 
 use crate::{LEVELS, Ready};
 use ann_base::{NoMemory, Slot};
-use level_policies::{AnyKey, AnyLevel, FifoLevel, LevelPolicy};
+use level_policies::{AnyKey, AnyLevel, EdfLevel, FifoLevel, LevelPolicy, RobinLevel};
 use std::alloc::Global;
 use std::process::Abort;
 use std::test::Fail;
@@ -51,6 +51,8 @@ fn each_call_over_each_policy(rt: HostRuntime) -> Result<(), Fail> {
         deadline: 500,
     };
     run::<FifoLevel>(&rt, rt.alloc(), ())?;
+    run::<RobinLevel>(&rt, rt.alloc(), 2)?;
+    run::<EdfLevel>(&rt, rt.alloc(), 500)?;
     run::<AnyLevel>(&rt, rt.alloc(), key)?;
     Ok(())
 }

@@ -8,3 +8,5 @@ pub mod Found
 pub mod Only
 pub mod Complete
 pub mod Unique
+pub mod ReservedWords
+pub mod Inside

@@ -9,7 +9,7 @@ use Rattle.ada_lex.specs.declared.tokens.Kind.TheVariants as kinds
 use Rattle.ada_lex.specs.declared.tokens.Token.{Token}
 use Rattle.ada_lex.specs.Shapes.{begins_with, goes_on, is_separator, is_no_text, text_length, mark_length}
 use Rattle.ada_lex.specs.Reading.{behind_all, made, spoils_number, start}
-use Rattle.ada_lex.specs.Meaning.{whole_of}
+use Rattle.ada_lex.specs.Meaning.{IsInside, spelling_of, meaning_of, whole_of}
 
 -- Separators and comments, and nothing else. A comment begins with two minus signs and ends with its line; the state
 -- behind the bytes is whether a comment is still open.
@@ -85,3 +85,24 @@ LexedFrom (token ∷ tokens) spot bytes = (gap : List ℕ) × (text : List ℕ) 
 -- The tokens are those of the source, each at its place.
 abbrev pub Lexed : List ℕ → List Token → Type 0
 Lexed source tokens = (length source ≤ 262144) × LexedFrom tokens start source
+
+-- ---- tokens one by one
+
+-- bytes are a token of this kind, within the limits
+pub record IsProper (kind : Kind) (bytes : List ℕ) : Type 0 where
+  pub shaped : IsToken kind bytes
+  pub within : IsWithin kind bytes
+
+-- a token lies inside the source, and its bytes there are one
+pub record IsTokenOf (source : List ℕ) (token : Token) : Type 0 where
+  pub inside : IsInside source token
+  pub proper : IsProper token.kind (spelling_of source token)
+
+-- each of them is a token of the source
+abbrev pub AreTokensOf : List ℕ → List Token → Type 0
+AreTokensOf source [] = Unit {0}
+AreTokensOf source (token ∷ tokens) = IsTokenOf source token × AreTokensOf source tokens
+
+-- some token of this kind says so
+abbrev pub IsMeaning : Kind → List ℕ → Type 0
+IsMeaning kind text = (bytes : List ℕ) × IsProper kind bytes × (text ≡ meaning_of kind bytes)

@@ -4,3 +4,4 @@ pub mod Meaning
 pub mod ReservedLetters
 pub mod DelimiterLetters
 pub mod Lexed
+pub mod Reserved

@@ -1,5 +1,8 @@
 -- What tokens mean (2.3, 2.4.1, 2.6).
-use Rattle.std.specs.Prelude.{ℕ, ◌+◌, ◌-◌, ◌<◌, ◌≤◌, ◌==◌, if◌then◌else◌, List, [], ◌∷◌, length, take, drop}
+use Rattle.std.specs.Prelude.{ℕ, ◌+◌, ◌-◌, ◌<◌, ◌≤◌, ◌==◌, if◌then◌else◌, List, [], ◌∷◌, length, take, drop, map}
+use Rattle.std.specs.Char.{to_ascii_lowercase}
+use Rattle.ada_lex.specs.declared.tokens.Kind.{Kind}
+use Rattle.ada_lex.specs.declared.tokens.Kind.TheVariants as kinds
 use Rattle.ada_lex.specs.declared.scan.Run.TheVariants.{Whole}
 use Rattle.ada_lex.specs.declared.tokens.Token.{Token}
 use Rattle.ada_lex.specs.Shapes.{run_length, value_of}
@@ -24,3 +27,10 @@ unfoldable pub undoubled : List ℕ → List ℕ
 undoubled [] = []
 undoubled (b ∷ []) = []
 undoubled (b ∷ c ∷ rest) = b ∷ (if b == 34 then undoubled rest else undoubled (c ∷ rest))
+
+-- what a token says, apart from where it stands: words in any case are one, and a text has no marks round it
+abbrev pub meaning_of : Kind → List ℕ → List ℕ
+meaning_of kinds.Word bytes = map to_ascii_lowercase bytes
+meaning_of kinds.Number bytes = bytes
+meaning_of kinds.Text bytes = undoubled (drop 1 bytes)
+meaning_of kinds.Mark bytes = bytes

@@ -1,7 +1,7 @@
 //! A source is cut into its tokens.
 ghost use Rattle.std.specs.Prelude.{◌≡◌, ◌≤◌, ◌++◌, length, option_to_list, OnOk, IfErr, IfOk, Ok, List};
 ghost use Rattle.ada_lex.specs.declared.tokens.Token.{Token};
-ghost use Rattle.ada_lex.specs.Lexed.{Lexed};
+ghost use Rattle.ada_lex.specs.Lexed.{Lexed, AreTokensOf};
 ghost use Rattle.ada_lex.specs.Reading.{Gives, tokens_from, tokens_of, start};
 
 use crate::scan::{Spot, piece_at};
@@ -51,6 +51,10 @@ pub fn lex(alloc: Global, source: &[u8]) -> Result<Vec<Token>, LexFault>
     ensures only { (tokens : List Token) → Lexed source.now tokens → Gives (λ v. v.items) result (Ok tokens) }
     // A fault is the first one from left to right; the length is asked before all.
     ensures exact { Gives (λ v. v.items) result (tokens_of source.now) }
+    // Each token lies inside the source, and there are no more than bytes.
+    ensures inside { IfOk result (λ v. AreTokensOf source.now v.items) }
+    ensures count { IfOk result (λ v. length v.items ≤ length source.now) }
+    ensures short { IfOk result (λ v. length source.now ≤ 262144) }
 {
     if source.len() > MAX_SOURCE {
         return Err(LexFault::TooLong);

@@ -15,7 +15,7 @@ pub use lexing::{MAX_SOURCE, lex};
 pub use marks::{Delimiter, delimiter_of};
 pub use meaning::{decimals, lower_case, same_word, spelling, text_value, whole_value};
 pub use tokens::{Kind, LexFault, Token};
-pub use words::{Reserved, reserved_word};
+pub use words::{Reserved, is_reserved, reserved_word};
 
 #[cfg(test)]
 mod tests;

@@ -90,6 +90,8 @@ fn meanings(rt: HostRuntime) -> Result<(), Fail> {
     assert_eq!(rt; reserved_word(b"BeGin"), Some(Reserved::Begin));
     assert_eq!(rt; reserved_word(b"xor"), Some(Reserved::Xor));
     assert_eq!(rt; reserved_word(b"First"), None);
+    assert!(rt; is_reserved(b"nULL"));
+    assert!(rt; !is_reserved(b"Integer"));
     assert_eq!(rt; delimiter_of(b":="), Some(Delimiter::Becomes));
     assert_eq!(rt; delimiter_of(b"|"), Some(Delimiter::Bar));
     assert_eq!(rt; delimiter_of(b"-"), Some(Delimiter::Minus));

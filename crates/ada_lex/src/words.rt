@@ -3,6 +3,7 @@ ghost use Rattle.std.specs.Prelude.{◌≡◌, ◌≢◌, ◌<◌, ◌≤◌, Li
 ghost use Rattle.std.specs.Char.{to_ascii_lowercase};
 ghost use Rattle.ada_lex.specs.declared.words.Reserved.{Reserved};
 ghost use Rattle.ada_lex.specs.ReservedLetters.{letters};
+ghost use Rattle.ada_lex.specs.Reserved.{is_reserved};
 
 /// A reserved word.
 #[derive(Clone, Copy, Debug, PartialEq, Eq)]
@@ -260,4 +261,12 @@ pub fn reserved_word(spelling: &[u8]) -> Option<Reserved>
     ensures none { IfNone result ((entry : Reserved) → letters entry ≢ map to_ascii_lowercase spelling.now) }
 {
     first_of(&ALL, spelling)
+}
+
+/// Whether the word is a reserved one, in any case (2.9).
+pub fn is_reserved(word: &[u8]) -> bool
+    ensures test { result ≡ is_reserved word.now }
+    ensures any_case { result ≡ is_reserved (map to_ascii_lowercase word.now) }
+{
+    reserved_word(word).is_some()
 }

@@ -1,1 +1,4 @@
-pub mod SimpleLemmas
+pub mod TableLemmas
+pub mod Prefixes
+pub mod FaultSteps
+pub mod ImageSteps

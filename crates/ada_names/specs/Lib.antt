@@ -1,3 +1,5 @@
-pub mod Numbered
-pub mod NameFaults
 pub mod Simple
+pub mod Tables
+pub mod Visible
+pub mod NameFaults
+pub mod Numbered

@@ -1,42 +1,81 @@
--- The names of a tree that have no declaration, or two (clause 8).
-use Rattle.std.specs.Prelude.{◌≡◌, ℕ, Bool, cond, ◌||◌, List, [], ◌∷◌, Option, Some, None, Result, Ok, Err, codes}
+-- The first name of a tree, in the order of the text, that has no declaration, or is declared twice (clause 8).
+use Rattle.std.specs.Prelude.{◌≡◌, ℕ, Bool, cond, List, [], ◌∷◌, ◌++◌, Option, Some, None, Result, Ok, Err, codes}
 use Rattle.std.specs.List.{list_any}
 use Rattle.std.specs.Str.{bytes_eq}
 use Rattle.ann_base.specs.declared.places.Place.{Place}
+use Rattle.ada_tree.specs.declared.syntax.Name.{Name}
+use Rattle.ada_tree.specs.declared.syntax.Expression.{Expression}
+use Rattle.ada_tree.specs.declared.syntax.Expression.TheVariants as expression
+use Rattle.ada_tree.specs.declared.syntax.ObjectDeclaration.{ObjectDeclaration}
 use Rattle.ada_tree.specs.declared.syntax.Statement.{Statement}
-use Rattle.ada_tree.specs.declared.syntax.Statement.TheVariants as tree
+use Rattle.ada_tree.specs.declared.syntax.Statement.TheVariants as statement
 use Rattle.ada_tree.specs.declared.syntax.Unit.{Unit as Tree}
+use Rattle.ada_names.specs.declared.image.Denoted.{Denoted}
 use Rattle.ada_names.specs.declared.faults.NameFault.{NameFault}
 use Rattle.ada_names.specs.declared.faults.NameFault.TheVariants.{Unknown, Twice, Ambiguous, Memory}
+use Rattle.ada_names.specs.Visible.{texts_of, declared_by, denoted, look_up, standard}
 
--- the names that are declared in the region of package Standard (A.1), this profile's library units among them
-abbrev pub standard_names : List (List ℕ)
-standard_names =
-    codes "standard" ∷ codes "integer" ∷ codes "natural" ∷ codes "positive" ∷ codes "boolean" ∷ codes "duration"
-    ∷ codes "true" ∷ codes "false" ∷ codes "constraint_error" ∷ codes "program_error" ∷ codes "storage_error"
-    ∷ codes "tasking_error" ∷ codes "ada" ∷ codes "system" ∷ codes "script_ports" ∷ []
+abbrev pub first_of : Option NameFault → Option NameFault → Option NameFault
+first_of (Some fault) later = Some fault
+first_of None later = later
 
-abbrev pub put_line : List ℕ
-put_line = codes "put_line"
+abbrev pub is_among : List (List ℕ) → List ℕ → Bool
+is_among names name = list_any (bytes_eq name) names
 
--- the first call of Put_Line
-abbrev pub first_call : List Statement → Option Place
-first_call [] = None
-first_call (tree.Null place ∷ rest) = first_call rest
-first_call (tree.PutLine place text_place text ∷ rest) = Some place
+-- ---- declarations (8.3)
 
-abbrev pub unknown_at : Option Place → Option NameFault
-unknown_at None = None
-unknown_at (Some place) = Some (Unknown place)
+-- a name that stands in the region already, before it or in the same declaration
+abbrev pub twice_among : List (List ℕ) → List Name → Option NameFault
+twice_among before [] = None
+twice_among before (name ∷ names) = cond (is_among before name.text) (Some (Twice name.place)) (twice_among (before ++ name.text ∷ []) names)
 
--- Put_Line is visible by the context clause, or is the main procedure itself (8.3, 8.4)
-abbrev pub sees_put_line : Tree → Bool
-sees_put_line unit = unit.text_io || bytes_eq unit.name put_line
+abbrev pub unknown_unless : Option Denoted → Place → Option NameFault
+unknown_unless None place = Some (Unknown place)
+unknown_unless (Some denoted) place = None
+
+-- a name inside the declaration of that name is not visible yet, and hides what stands outside
+abbrev pub fault_at : Tree → List (List ℕ) → List (List ℕ) → Place → List ℕ → Option NameFault
+fault_at unit before own place name = cond (is_among own name) (Some (Unknown place)) (unknown_unless (denoted unit before name) place)
+
+abbrev pub fault_in_expression : Tree → List (List ℕ) → List (List ℕ) → Expression → Option NameFault
+fault_in_expression unit before own (expression.Number place literal) = None
+fault_in_expression unit before own (expression.Name name) = fault_at unit before own name.place name.text
+
+abbrev pub fault_in_initial : Tree → List (List ℕ) → List (List ℕ) → Option Expression → Option NameFault
+fault_in_initial unit before own None = None
+fault_in_initial unit before own (Some e) = fault_in_expression unit before own e
+
+abbrev pub fault_in_object : Tree → List (List ℕ) → ObjectDeclaration → Option NameFault
+fault_in_object unit before o =
+    first_of (twice_among before o.names) (first_of (fault_at unit before (texts_of o.names) o.mark (codes "integer"))
+    (fault_in_initial unit before (texts_of o.names) o.initial))
+
+abbrev pub fault_in_objects : Tree → List (List ℕ) → List ObjectDeclaration → Option NameFault
+fault_in_objects unit before [] = None
+fault_in_objects unit before (o ∷ os) = first_of (fault_in_object unit before o) (fault_in_objects unit (before ++ texts_of o.names) os)
+
+-- ---- statements
+
+abbrev pub fault_in_statement : Tree → List (List ℕ) → Statement → Option NameFault
+fault_in_statement unit visible (statement.Null place) = None
+fault_in_statement unit visible (statement.Assignment target value) =
+    first_of (fault_at unit visible [] target.place target.text) (fault_in_expression unit visible [] value)
+fault_in_statement unit visible (statement.PutLine place text_place text) = fault_at unit visible [] place (codes "put_line")
+
+abbrev pub fault_in_statements : Tree → List (List ℕ) → List Statement → Option NameFault
+fault_in_statements unit visible [] = None
+fault_in_statements unit visible (s ∷ ss) = first_of (fault_in_statement unit visible s) (fault_in_statements unit visible ss)
+
+-- ---- the tree: the library units of this profile stand in the region of package Standard, the main procedure too
+
+abbrev pub fault_in_main : Option Denoted → Place → Option NameFault
+fault_in_main None place = None
+fault_in_main (Some denoted) place = Some (Twice place)
 
 abbrev pub name_fault_of : Tree → Option NameFault
 name_fault_of unit =
-    cond (list_any (bytes_eq unit.name) standard_names) (Some (Twice unit.name_place))
-    (cond (sees_put_line unit) None (unknown_at (first_call unit.statements)))
+    first_of (fault_in_main (look_up unit.name.text standard) unit.name.place)
+    (first_of (fault_in_objects unit [] unit.declarations) (fault_in_statements unit (declared_by unit.declarations) unit.statements))
 
 -- a call answers by the first fault, unless memory ran out
 abbrev pub Refuses : {X : Type 0} → Result X NameFault → Option NameFault → Type 0

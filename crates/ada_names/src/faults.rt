@@ -3,7 +3,7 @@ ghost use Rattle.std.specs.Prelude.{◌≡◌};
 ghost use Rattle.ada_names.specs.declared.faults.NameFault.TheVariants.{Memory};
 
 use ann_base::{NoMemory, Place};
-use std::alloc::AllocFailed;
+use std::alloc::{AllocError, AllocFailed};
 use thiserror::Error;
 
 /// Why the names of a tree have no declarations: the first fault in the order of the text.
@@ -35,6 +35,14 @@ impl<T: Drop> From<AllocFailed<T>> for NameFault {
     ghost from_gives = { λ _ e. e ≡ Memory };
 
     fn from(_: AllocFailed<T>) -> Self {
+        NameFault::Memory
+    }
+}
+
+impl From<AllocError> for NameFault {
+    ghost from_gives = { λ _ e. e ≡ Memory };
+
+    fn from(_: AllocError) -> Self {
         NameFault::Memory
     }
 }

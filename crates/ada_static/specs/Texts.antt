@@ -7,8 +7,7 @@ use Rattle.profile_machine.specs.declared.statements.StatementForm.TheVariants a
 use Rattle.profile_machine.specs.declared.statements.Piece.{Piece}
 use Rattle.profile_machine.specs.declared.statements.Piece.TheVariants as piece
 use Rattle.profile_machine.specs.Program.{form_of}
-use Rattle.ada_names.specs.Numbered.{statement_no}
-use Rattle.ada_names.specs.Simple.{IsSimple}
+use Rattle.ada_names.specs.Simple.{IsSimple, statement_no}
 
 abbrev pub IsPrintablePiece : Piece → Type 0
 IsPrintablePiece (piece.Text text) = IsPutText text

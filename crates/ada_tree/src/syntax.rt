@@ -1,18 +1,55 @@
 //! The tree types, in Ada's terms.
-ghost use Rattle.std.specs.Prelude.{◌≡◌, ◌++◌, ◌∷◌, [], OnOk, OnErr};
+use crate::{Bytes, Parts};
+use ann_base::Place;
 
-use crate::Bytes;
-use ann_base::{NoMemory, Place};
-use std::alloc::Global;
-use std::marker::Model;
+/// A simple name (ISO/IEC 8652:2012, 2.3, 4.1).
+#[derive(Drop)]
+pub struct Name {
+    /// Where it stands.
+    pub place: Place,
+    /// The identifier in lower case.
+    pub text: Bytes,
+}
 
-/// A statement (ISO/IEC 8652:2012, clause 5).
+/// An expression (4.4): a numeric literal or a name.
+#[derive(Drop)]
+pub enum Expression {
+    /// A numeric literal (2.4).
+    Number {
+        /// Where it stands.
+        place: Place,
+        /// The literal as it is written.
+        literal: Bytes,
+    },
+    /// A name.
+    Name(Name),
+}
+
+/// An object declaration (3.3.1): `NAME {, NAME} : Integer [:= EXPRESSION];`.
+#[derive(Drop)]
+pub struct ObjectDeclaration {
+    /// The names, of which there is one at least.
+    pub names: Parts<Name>,
+    /// The place of the subtype mark `Integer`.
+    pub mark: Place,
+    /// The initial value, where one is given.
+    pub initial: Option<Expression>,
+}
+
+/// A statement (clause 5).
 #[derive(Drop)]
 pub enum Statement {
     /// `null;` (5.1).
     Null {
         /// The place of `null`.
         place: Place,
+    },
+    /// `NAME := EXPRESSION;` (5.2).
+    Assignment {
+        /// The variable.
+        target: Name,
+        /// What it is assigned.
+        value: Expression,
     },
     /// `Put_Line (TEXT);`, a procedure call statement (6.4).
     PutLine {
@@ -25,48 +62,6 @@ pub enum Statement {
     },
 }
 
-/// A sequence of statements (5.1). Contracts see the list.
-#[derive(Drop)]
-pub struct Statements {
-    items: Vec<Statement>,
-}
-
-impl Model for Statements {
-    ghost use Rattle.std.specs.Prelude.{List};
-    ghost use Rattle.ada_tree.specs.declared.syntax.Statement.{Statement};
-
-    ghost Value = { List Statement };
-
-    ghost view = { λ statements. statements.items.items };
-}
-
-impl Statements {
-    /// The empty sequence.
-    pub fn new(alloc: Global) -> Statements
-        ensures { result ≡ [] }
-    {
-        Statements {
-            items: Vec::new(alloc),
-        }
-    }
-
-    /// Adds a statement behind the others. An `Err` changes nothing.
-    pub fn push(&mut self, statement: Statement) -> Result<(), NoMemory>
-        ensures ok { OnOk result (self.new ≡ self.old ++ statement ∷ []) }
-        ensures err { OnErr result (self.new ≡ self.old) }
-    {
-        self.items.push(statement)?;
-        Ok(())
-    }
-
-    /// The statements in order.
-    pub fn as_slice(&self) -> &[Statement]
-        ensures { result.now ≡ self.now }
-    {
-        self.items.as_slice()
-    }
-}
-
 /// A source: its context clause and its main procedure (10.1.2, 10.2).
 #[derive(Drop)]
 pub struct Unit {
@@ -74,12 +69,12 @@ pub struct Unit {
     pub text_io: bool,
     /// The place of `procedure`.
     pub place: Place,
-    /// The procedure's name in lower case.
-    pub name: Bytes,
-    /// The place of the name.
-    pub name_place: Place,
-    /// The statements of the procedure, of which there is one at least.
-    pub statements: Statements,
+    /// The procedure's name.
+    pub name: Name,
+    /// Its declarations.
+    pub declarations: Parts<ObjectDeclaration>,
+    /// Its statements, of which there is one at least.
+    pub statements: Parts<Statement>,
     /// Whether the name stands again behind `end`.
     pub named_at_end: bool,
 }

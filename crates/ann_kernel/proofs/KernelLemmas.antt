@@ -1,5 +1,5 @@
 -- From one step of a kernel to what its caller may rely on.
-use Rattle.std.proofs.Common.{◌≡◌, ◌<◌, ℕ, Bool, true, false, List, [], ◌∷◌, ◌++◌, Option, Some, None, Result, Ok, Err, OnOk, IfOk, IsTrue, nat_lt, rules, map, option_to_list, option_map, subst, refl, sym, ap, ◌∙◌, append_assoc}
+use Rattle.std.proofs.Common.{◌≡◌, ◌<◌, ℕ, ℤ, Bool, true, false, List, [], ◌∷◌, ◌++◌, Option, Some, None, Result, Ok, Err, OnOk, IfOk, IsTrue, nat_lt, rules, map, option_to_list, option_map, subst, refl, sym, ap, ◌∙◌, append_assoc}
 use Rattle.std.proofs.lemmas.Bool.{ltb-true}
 use Rattle.profile_machine.specs.declared.image.Image.{Image}
 use Rattle.ada_names.specs.declared.image.Image.{Image as Numbered}
@@ -20,6 +20,8 @@ use Rattle.ann_kernel.specs.declared.progress.Reached.TheVariants as reached
 use Rattle.ann_kernel.specs.declared.progress.Progress.{Progress}
 use Rattle.ann_kernel.specs.declared.owed.Line.{Line}
 use Rattle.ann_kernel.specs.Lines.{event_of, lines_of, stamped, stop_line}
+use Rattle.ann_kernel.specs.declared.values.Store.{Store}
+use Rattle.ann_kernel.specs.Cells.{with_store}
 use Rattle.ann_kernel.specs.Worlds.{world_at, stop_at}
 use Rattle.profile_machine.specs.World.{World}
 use Rattle.profile_machine.specs.Instant.{instant}
@@ -57,8 +59,8 @@ in-time false (Some reached) now bound h at e = cc
 
 pub kernel-moves : (k : Kernel) → IsLegal k.checked.program → Moves (shown k)
 kernel-moves k legal = record {
-  stands = instant-now k.checked.program k.now k.ran k.ticks_left k.progress legal.simple (is-true _ k.inside);
-  passes = tock-now k.checked.program k.now k.ran k.ticks_left k.progress legal.simple (is-true _ k.inside);
+  stands = instant-now k.checked.program k.now k.ran k.ticks_left k.progress k.cells.items legal.simple (is-true _ k.inside) k.kept;
+  passes = tock-now k.checked.program k.now k.ran k.ticks_left k.progress k.cells.items legal.simple (is-true _ k.inside);
   in_time = k.in_time;
   before = in-time k.at_instant k.stop k.now k.bound k.before;
 }
@@ -89,12 +91,12 @@ next-ended j (Err e) h = tt
 
 pub open-future : (p : Image) (bound : ℕ) → IsLegal p → (r : Result Kernel NoMemory) → IfOk r (λ k. shown k ≡ opened p bound) → IfOk r (λ k. future k ≡ lines_of_run p bound)
 unfolding future
-open-future p bound legal (Ok k) e = ap future_of e ∙ opened-future p bound (ap (λ o. o.0.now) (opening-shown p legal.simple))
+open-future p bound legal (Ok k) e = ap future_of e ∙ opened-future p bound (ap (λ o. o.0.now) (opening-shown p [] legal.simple))
 open-future p bound legal (Err fault) e = tt
 
 pub open-stop : (p : Image) (bound : ℕ) → IsLegal p → (r : Result Kernel NoMemory) → IfOk r (λ k. shown k ≡ opened p bound) → IfOk r (λ k. stop_to_come k ≡ stop_of_run p bound)
 unfolding stop_to_come
-open-stop p bound legal (Ok k) e = ap stop_of e ∙ opened-stop p bound (ap (λ o. o.0.now) (opening-shown p legal.simple))
+open-stop p bound legal (Ok k) e = ap stop_of e ∙ opened-stop p bound (ap (λ o. o.0.now) (opening-shown p [] legal.simple))
 open-stop p bound legal (Err fault) e = tt
 
 -- ---- an instant of the kernel
@@ -121,38 +123,41 @@ shown_by p bound now w lines found = record {
 shown_from : Image → ℕ → ℕ → World × List Event → Shown
 shown_from p bound now i = shown_by p bound now i.0 i.1 (stop p bound i.0)
 
-shown-led : (p : Image) (bound now : ℕ) (ran : Bool) (left : Option ℕ) (after : Progress) (lines : List Event) (found : Option Ended) → found ≡ stop_at bound now after → shown_from p bound now (world_at p now ran left after, lines) ≡ shown_by p bound now (world_at p now ran left after) lines found
+shown-led : (p : Image) (bound now : ℕ) (ran : Bool) (left : Option ℕ) (after : Progress) (cells : List ℤ) (lines : List Event) (found : Option Ended) → found ≡ stop_at bound now after → shown_from p bound now (world_at p now ran left after cells, lines) ≡ shown_by p bound now (world_at p now ran left after cells) lines found
 unfolding shown_from
-shown-led p bound now ran left after lines found h = ap (shown_by p bound now (world_at p now ran left after) lines) (stop-at p bound now ran left after ∙ sym h)
+shown-led p bound now ran left after cells lines found h = ap (shown_by p bound now (world_at p now ran left after cells) lines) (stop-at p bound now ran left after cells ∙ sym h)
 
 shown-owed : (p : Image) (bound now : ℕ) (w : World) (line : Option Line) (found : Option Reached) (owed : List (ℕ × Line)) → owed ≡ stamped now (option_to_list line) ++ stamped now (option_to_list (option_map stop_line found)) → shown_by p bound now w (map (event_of p) (option_to_list line)) (stop_shown found) ≡ record { program = p; bound = bound; world = w; at_instant = false; stop = stop_shown found; owed = lines_of p owed }
 unfolding shown_by
 shown-owed p bound now w line found owed o = ap (λ x. record { program = p; bound = bound; world = w; at_instant = false; stop = stop_shown found; owed = x }) (sym (ap (lines_of p) o ∙ owed-lines p now line found))
 
-pub instant-shown : (p : Image) (bound now : ℕ) (ran : Bool) (ticks left : Option ℕ) (progress after : Progress) (at_instant : Bool) (before : Option Ended) (told : List (ℕ × Event)) (i : World × List Event) (line : Option Line) (found : Option Reached) (owed : List (ℕ × Line)) →
-    i ≡ (world_at p now ran left after, map (event_of p) (option_to_list line)) →
+pub instant-shown : (p : Image) (bound now : ℕ) (ran : Bool) (ticks left : Option ℕ) (progress after : Progress) (before_cells cells : List ℤ) (at_instant : Bool) (before : Option Ended) (told : List (ℕ × Event)) (i : World × List Event) (line : Option Line) (found : Option Reached) (owed : List (ℕ × Line)) →
+    i ≡ (world_at p now ran left after cells, map (event_of p) (option_to_list line)) →
     stop_shown found ≡ stop_at bound now after →
     owed ≡ stamped now (option_to_list line) ++ stamped now (option_to_list (option_map stop_line found)) →
-    record { program = p; bound = bound; world = world_at p now ran left after; at_instant = false; stop = stop_shown found; owed = lines_of p owed }
-    ≡ after_instant (record { program = p; bound = bound; world = world_at p now ran ticks progress; at_instant = at_instant; stop = before; owed = told }) i
+    record { program = p; bound = bound; world = world_at p now ran left after cells; at_instant = false; stop = stop_shown found; owed = lines_of p owed }
+    ≡ after_instant (record { program = p; bound = bound; world = world_at p now ran ticks progress before_cells; at_instant = at_instant; stop = before; owed = told }) i
 unfolding shown_by shown_from
-instant-shown p bound now ran ticks left progress after at_instant before told i line found owed e h o =
+instant-shown p bound now ran ticks left progress after before_cells cells at_instant before told i line found owed e h o =
     sym (ap (shown_from p bound now) e
-    ∙ shown-led p bound now ran left after (map (event_of p) (option_to_list line)) (stop_shown found) h
-    ∙ shown-owed p bound now (world_at p now ran left after) line found owed o)
+    ∙ shown-led p bound now ran left after cells (map (event_of p) (option_to_list line)) (stop_shown found) h
+    ∙ shown-owed p bound now (world_at p now ran left after cells) line found owed o)
 
 -- lines that were owed one after another where none was owed before
 pub owed-both : (a b c d e : List (ℕ × Line)) → a ≡ [] → c ≡ a ++ b → e ≡ c ++ d → e ≡ b ++ d
 owed-both a b c d e h f g = g ∙ ap (λ xs. xs ++ d) (f ∙ ap (λ xs. xs ++ b) h)
 
 -- an instant of the program of an image
-Leads : Image → ℕ → Bool → Option ℕ → Option ℕ → Progress → Progress → Option Line → Type 0
-Leads p now ran ticks left progress after line = instant p (world_at p now ran ticks progress) ≡ (world_at p now ran left after, map (event_of p) (option_to_list line))
+Leads : Image → ℕ → Bool → Option ℕ → Option ℕ → Progress → Progress → List ℤ → List ℤ → Option Line → Type 0
+Leads p now ran ticks left progress after before_cells cells line = instant p (world_at p now ran ticks progress before_cells) ≡ (world_at p now ran left after cells, map (event_of p) (option_to_list line))
 
-led-open : (p : Image) (now : ℕ) (ran : Bool) (ticks left : Option ℕ) (progress after : Progress) (line : Option Line) → instant p (world_at p now ran ticks progress) ≡ (world_at p now ran left after, map (event_of p) (option_to_list line)) → Leads p now ran ticks left progress after line
+led-open : (p : Image) (now : ℕ) (ran : Bool) (ticks left : Option ℕ) (progress after : Progress) (before_cells cells : List ℤ) (line : Option Line) → instant p (world_at p now ran ticks progress before_cells) ≡ (world_at p now ran left after cells, map (event_of p) (option_to_list line)) → Leads p now ran ticks left progress after before_cells cells line
 unfolding Leads
-led-open p now ran ticks left progress after line e = e
+led-open p now ran ticks left progress after before_cells cells line e = e
 
-pub led : (i j : Numbered) (now : ℕ) (ran : Bool) (ticks left : Option ℕ) (progress after : Progress) (line : Option Line) → i ≡ j → instant i.program (world_at i.program now ran ticks progress) ≡ (world_at i.program now ran left after, map (event_of i.program) (option_to_list line)) → instant j.program (world_at j.program now ran ticks progress) ≡ (world_at j.program now ran left after, map (event_of j.program) (option_to_list line))
+pub led : (i j : Numbered) (now : ℕ) (ran : Bool) (ticks left : Option ℕ) (progress after : Progress) (seen before_cells cells : List ℤ) (store : Option Store) (line : Option Line) → i ≡ j → seen ≡ before_cells → cells ≡ with_store store before_cells → instant i.program (world_at i.program now ran ticks progress seen) ≡ (world_at i.program now ran left after (with_store store seen), map (event_of i.program) (option_to_list line)) → instant j.program (world_at j.program now ran ticks progress before_cells) ≡ (world_at j.program now ran left after cells, map (event_of j.program) (option_to_list line))
 unfolding Leads
-led i j now ran ticks left progress after line e h = subst (λ k. Leads k.program now ran ticks left progress after line) e (led-open i.program now ran ticks left progress after line h)
+led i j now ran ticks left progress after seen before_cells cells store line e q k h =
+    subst (λ xs. Leads j.program now ran ticks left progress after before_cells xs line) (sym k)
+    (subst (λ xs. Leads j.program now ran ticks left progress after xs (with_store store xs) line) q
+    (subst (λ x. Leads x.program now ran ticks left progress after seen (with_store store seen) line) e (led-open i.program now ran ticks left progress after seen (with_store store seen) line h)))

@@ -13,7 +13,7 @@ abbrev pub shown : Kernel → Shown
 shown k = record {
   program = k.checked.program;
   bound = k.bound;
-  world = world_at k.checked.program k.now k.ran k.ticks_left k.progress;
+  world = world_at k.checked.program k.now k.ran k.ticks_left k.progress k.cells.items;
   at_instant = k.at_instant;
   stop = stop_shown k.stop;
   owed = lines_of k.checked.program k.owed.items;

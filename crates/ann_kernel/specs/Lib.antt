@@ -1,3 +1,4 @@
+pub mod Cells
 pub mod Worlds
 pub mod Lines
 pub mod Future

@@ -1,14 +1,22 @@
 -- What a call of next did.
 use Rattle.trace_text.specs.declared.events.Ended.{Ended as Stop}
+use Rattle.trace_text.specs.declared.events.Ended.TheVariants as why
 use Rattle.ann_kernel.specs.declared.kernel.Next.{Next}
 use Rattle.ann_kernel.specs.declared.kernel.Next.TheVariants.{Going, Ended}
 
 -- a fact where the run goes on
 abbrev pub IfGoing : Type 0 → Next → Type 0
 IfGoing P Going = P
-IfGoing P (Ended why) = Unit {0}
+IfGoing P (Ended stop) = Unit {0}
 
 -- a fact of the reason where the run has ended
 abbrev pub IfEnded : (Stop → Type 0) → Next → Type 0
 IfEnded P Going = Unit {0}
-IfEnded P (Ended why) = P why
+IfEnded P (Ended stop) = P stop
+
+-- the run of a simple program is completed, or comes to its bound
+abbrev pub IsPlainStop : Stop → Type 0
+IsPlainStop why.Completed = Unit {0}
+IsPlainStop (why.Exception name) = ⊥
+IsPlainStop why.Stuck = ⊥
+IsPlainStop why.Bound = Unit {0}

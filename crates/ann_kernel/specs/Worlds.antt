@@ -1,5 +1,5 @@
 -- The world of the profile machine for each progress of the environment task.
-use Rattle.std.specs.Prelude.{ℕ, ◌+◌, Bool, true, false, cond, List, [], ◌∷◌, Option, Some, None, pos, eqb, ltb, replicate}
+use Rattle.std.specs.Prelude.{ℕ, ◌+◌, Bool, true, false, cond, List, [], ◌∷◌, Option, Some, None, ℤ, pos, eqb, ltb, map, replicate}
 use Rattle.ann_base.specs.declared.exceptions.Raised.{Raised}
 use Rattle.trace_text.specs.declared.events.Who.{Who}
 use Rattle.profile_machine.specs.declared.image.Image.{Image}
@@ -14,13 +14,15 @@ use Rattle.trace_text.specs.declared.events.Ended.{Ended}
 use Rattle.trace_text.specs.declared.events.Ended.TheVariants as why
 use Rattle.profile_machine.specs.declared.statements.StatementForm.{StatementForm}
 use Rattle.profile_machine.specs.declared.statements.StatementForm.TheVariants as form
-use Rattle.ada_names.specs.Numbered.{statement_no}
+use Rattle.profile_machine.specs.declared.values.Value.{Value}
+use Rattle.profile_machine.specs.declared.values.Value.TheVariants.{Whole}
+use Rattle.ada_names.specs.Simple.{statement_no}
 use Rattle.ann_kernel.specs.declared.owed.Line.{Line}
 use Rattle.ann_kernel.specs.declared.owed.Line.TheVariants as owed
 use Rattle.ann_kernel.specs.declared.progress.Progress.{Progress}
 use Rattle.ann_kernel.specs.declared.progress.Progress.TheVariants.{Calling, Inside, Behind, Over}
 
--- a scope without cells that the environment task opened, with what is still to be done in it
+-- a scope that the environment task opened, with what is still to be done in it
 abbrev pub frame_in : ℕ → Purpose → Option StatementNo → Frame
 frame_in id purpose onward = new_frame (new_scope_mark (scope_id id) None purpose) onward
 
@@ -30,14 +32,15 @@ frames_at p (Inside onward) = frame_in 1 (of_subprogram [] to_nowhere) onward �
 frames_at p Behind = frame_in 0 of_task None ∷ []
 frames_at p Over = []
 
-abbrev pub scope_used : ℕ → ScopeNo → Option ScopeId → ScopeInUse
-scope_used id scope outer = record { id = scope_id id; scope = scope; outer = outer; owner = environment; object = None; subject = None; cells = [] }
+abbrev pub scope_used : ℕ → ScopeNo → Option ScopeId → List Value → ScopeInUse
+scope_used id scope outer cells = record { id = scope_id id; scope = scope; outer = outer; owner = environment; object = None; subject = None; cells = cells }
 
-abbrev pub scopes_at : Image → Progress → List ScopeInUse
-scopes_at p Calling = scope_used 0 p.environment None ∷ []
-scopes_at p (Inside onward) = scope_used 1 p.main.scope (Some (scope_id 0)) ∷ scope_used 0 p.environment None ∷ []
-scopes_at p Behind = scope_used 0 p.environment None ∷ []
-scopes_at p Over = []
+-- the main procedure's scope has the cells of its variables
+abbrev pub scopes_at : Image → Progress → List ℤ → List ScopeInUse
+scopes_at p Calling cells = scope_used 0 p.environment None [] ∷ []
+scopes_at p (Inside onward) cells = scope_used 1 p.main.scope (Some (scope_id 0)) (map Whole cells) ∷ scope_used 0 p.environment None [] ∷ []
+scopes_at p Behind cells = scope_used 0 p.environment None [] ∷ []
+scopes_at p Over cells = []
 
 -- the environment task, which has run at each tick before now
 abbrev pub task_at : Image → ℕ → Option ℕ → Progress → Task
@@ -74,8 +77,8 @@ abbrev pub runner : Bool → Option Who
 runner true = Some environment
 runner false = None
 
-abbrev pub world_at : Image → ℕ → Bool → Option ℕ → Progress → World
-world_at p now ran ticks progress = record {
+abbrev pub world_at : Image → ℕ → Bool → Option ℕ → Progress → List ℤ → World
+world_at p now ran ticks progress cells = record {
   now = now;
   ran = runner ran;
   script = [];
@@ -87,7 +90,7 @@ world_at p now ran ticks progress = record {
   places = places_at p progress;
   quanta = replicate (interrupt_priority p + 1) 1000;
   ended = ended_at progress;
-  scopes = scopes_at p progress;
+  scopes = scopes_at p progress cells;
   objects = [];
   calls = [];
   appointments = [];
@@ -134,14 +137,16 @@ lines_after p (Inside None) = []
 lines_after p Behind = owed.Done ∷ []
 lines_after p Over = []
 
--- a statement of a body costs 1 tick, or 4 and its signs where it puts a line
-abbrev pub statement_cost : Bool → ℕ → ℕ
-statement_cost true signs = 4 + signs
-statement_cost false signs = 1
+-- an action of a body costs 1 tick, with its signs where it has a value, and 3 more where it puts a line
+abbrev pub cost_of_action : StatementForm → ℕ → ℕ
+cost_of_action (form.Declare d) signs = 1 + signs
+cost_of_action (form.Assign target e) signs = 1 + signs
+cost_of_action (form.PutLine pieces) signs = 4 + signs
+cost_of_action _ signs = 1
 
 abbrev pub cost_at : Image → Progress → ℕ
 cost_at p Calling = 2
-cost_at p (Inside (Some s)) = statement_cost (is_put_form (form_of p s)) (statement_of p s).signs
+cost_at p (Inside (Some s)) = cost_of_action (form_of p s) (statement_of p s).signs
 cost_at p (Inside None) = 1
 cost_at p Behind = 1
 cost_at p Over = 0

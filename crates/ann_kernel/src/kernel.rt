@@ -1,5 +1,6 @@
 //! The kernel: it opens a run, and goes on by at most one line a call.
 ghost use Rattle.std.specs.Prelude.{◌≡◌, ◌≤◌, ◌<◌, ◌+◌, ◌^◌, ℕ, true, IsTrue, length};
+ghost use Rattle.ann_kernel.specs.Cells.{AreCells};
 ghost use Rattle.ann_kernel.specs.Worlds.{is_inside};
 ghost use Rattle.ann_kernel.specs.Reached.{is_in_time};
 
@@ -7,6 +8,7 @@ use crate::events::event;
 use crate::owed::{Line, last_line, owe};
 use crate::progress::{Progress, Reached};
 use crate::steps::{finish, pass, stop_found};
+use crate::values::keep;
 use ada_static::Checked;
 use ann_base::NoMemory;
 use std::alloc::Global;
@@ -36,12 +38,16 @@ pub struct Kernel {
     /// Ticks that are left of the action that has begun.
     ticks_left: Option<u64>,
     progress: Progress,
+    /// The Integers in the cells of the main procedure's variables, by their numbers; 0 until it is called. They are
+    /// there from the opening, so that no instant has to allocate them.
+    cells: Vec<i32>,
     /// Whether an instant comes next, or a tock.
     at_instant: bool,
     stop: Option<Reached>,
     /// Lines with their ticks.
     owed: VecDeque<(u64, Line)>,
     ghost inside: { IsTrue (is_inside progress) },
+    ghost kept: { AreCells (length checked.program.declarations) progress cells.items },
     ghost in_time: { now ≤ bound },
     ghost before: { IsTrue (is_in_time at_instant stop now bound) },
 }
@@ -50,7 +56,7 @@ impl Kernel {
     ghost use Rattle.std.specs.Prelude.{◌++◌, ◌∷◌, [], Some, None, false, map, OnOk, IfOk, OnErr};
     ghost use Rattle.trace_text.specs.Text.{text_of};
     ghost use Rattle.ann_kernel.specs.Kernel.{shown, future, stop_to_come, left_to_do};
-    ghost use Rattle.ann_kernel.specs.Next.{IfGoing, IfEnded};
+    ghost use Rattle.ann_kernel.specs.Next.{IfGoing, IfEnded, IsPlainStop};
     ghost use Rattle.ann_kernel.specs.Future.{advanced, opened, goes_by, after_instant, after_tock, unless_stopped, written_of};
     ghost use Rattle.profile_machine.specs.Instant.{instant};
     ghost use Rattle.profile_machine.specs.Run.{tock};
@@ -65,6 +71,8 @@ impl Kernel {
         let mut owed = VecDeque::new(alloc);
         owed.push_back((0, Line::New))?;
         owed.push_back((0, Line::Ready))?;
+        let count = checked.image().program.declarations.as_slice().len();
+        let cells = vec![in alloc; 0; count]?;
         Ok(Kernel {
             checked,
             bound,
@@ -72,6 +80,7 @@ impl Kernel {
             ran: false,
             ticks_left: None,
             progress: Progress::Calling,
+            cells,
             at_instant: true,
             stop: None,
             owed,
@@ -89,6 +98,7 @@ impl Kernel {
         ensures stop { OnOk result (stop_to_come self.new ≡ stop_to_come self.old) }
         ensures going { IfOk result (IfGoing (left_to_do self.new < left_to_do self.old)) }
         ensures ended { IfOk result (IfEnded (λ why. (future self.old ≡ []) × (why ≡ stop_to_come self.old))) }
+        ensures plain { IfOk result (IfEnded IsPlainStop) }
     {
         let _legal = self.checked.image();
         self.step(out)
@@ -102,6 +112,7 @@ impl Kernel {
         ensures err { OnErr result (out.new ≡ out.old) }
         ensures going { IfOk result (IfGoing ((shown self.old).owed ≡ [] → (shown self.old).stop ≡ None)) }
         ensures ended { IfOk result (IfEnded (λ why. ((shown self.old).owed ≡ []) × ((shown self.old).stop ≡ Some why))) }
+        ensures plain { IfOk result (IfEnded IsPlainStop) }
     {
         let program = &self.checked.image().program;
         match self.owed.pop_front() {
@@ -120,6 +131,7 @@ impl Kernel {
         ensures step { OnOk result (shown self.new ≡ unless_stopped (shown self.old).stop (shown self.old)) }
         ensures going { IfOk result (IfGoing (self.old.stop ≡ None)) }
         ensures ended { IfOk result (IfEnded (λ why. (shown self.old).stop ≡ Some why)) }
+        ensures plain { IfOk result (IfEnded IsPlainStop) }
     {
         match self.stop {
             Some(Reached::Completed) => Ok(Next::Ended(Stop::Completed)),
@@ -155,10 +167,12 @@ impl Kernel {
             self.ran,
             self.ticks_left,
             self.progress,
+            self.cells.as_slice(),
         );
         let stop = stop_found(finished.progress, self.now, self.bound);
         owe(&mut self.owed, self.now, finished.line)?;
         owe(&mut self.owed, self.now, last_line(stop))?;
+        keep(&mut self.cells, finished.store);
         self.progress = finished.progress;
         self.ticks_left = finished.ticks_left;
         self.stop = stop;

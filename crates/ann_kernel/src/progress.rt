@@ -6,7 +6,7 @@ use profile_machine::StatementNo;
 pub enum Progress {
     /// It calls the main procedure.
     Calling,
-    /// Inside the main procedure: this statement, or the end of the procedure's scope.
+    /// Inside the main procedure: this declaration or statement, or the end of the procedure's scope.
     Inside(Option<StatementNo>),
     /// The end of the environment's scope.
     Behind,

@@ -1,15 +1,17 @@
 //! Instants and tocks of the environment task, alone.
-ghost use Rattle.std.specs.Prelude.{◌≡◌, ℕ, suc, true, false, map, option_to_list, IsTrue};
+ghost use Rattle.std.specs.Prelude.{◌≡◌, ℕ, ℤ, List, None, suc, true, false, map, option_to_list, length, IsTrue};
 ghost use Rattle.ada_names.specs.Simple.{IsSimple};
 ghost use Rattle.profile_machine.specs.Instant.{instant};
 ghost use Rattle.profile_machine.specs.Run.{tock};
 ghost use Rattle.ann_kernel.specs.Worlds.{world_at, is_inside, stop_at, progress_after, lines_after, is_over_progress, is_done, cost_at};
+ghost use Rattle.ann_kernel.specs.Cells.{AreCells, store_after, with_store};
 ghost use Rattle.ann_kernel.specs.Lines.{event_of};
 ghost use Rattle.ann_kernel.specs.Reached.{stop_shown};
 
 use crate::looking::look;
 use crate::owed::Line;
 use crate::progress::{Progress, Reached};
+use crate::values::{Store, store_at};
 use profile_machine::{Image as Program, StatementNo};
 
 /// The first statement of the main procedure: statement 0 is the call of it.
@@ -21,6 +23,7 @@ pub struct Finished {
     pub progress: Progress,
     pub ticks_left: Option<u64>,
     pub line: Option<Line>,
+    pub store: Option<Store>,
 }
 
 /// What a tock leaves.
@@ -36,40 +39,46 @@ pub struct Passed {
 struct Effect {
     progress: Progress,
     line: Option<Line>,
+    store: Option<Store>,
 }
 
 /// The effect of the action at this progress.
-fn effect_of(program: &Program, progress: Progress) -> Effect
+fn effect_of(program: &Program, progress: Progress, cells: &[i32]) -> Effect
     requires simple { IsSimple program.now }
     requires inside { is_inside progress ≡ true }
     ensures progress { result.progress ≡ progress_after program.now progress }
     ensures line { option_to_list result.line ≡ lines_after program.now progress }
+    ensures store { result.store ≡ store_after program.now cells.now progress }
     ensures inside { is_inside result.progress ≡ true }
 {
     match progress {
-        Progress::Calling => Effect {
-            progress: Progress::Inside(Some(FIRST_OF_MAIN)),
-            line: None,
-        },
+        Progress::Calling => silent(Progress::Inside(Some(FIRST_OF_MAIN))),
         Progress::Inside(Some(statement)) => {
             let looked = look(program, statement);
             Effect {
                 progress: Progress::Inside(looked.next),
                 line: looked.puts.then_some(Line::Put(statement)),
+                store: store_at(program, cells, statement),
             }
         }
-        Progress::Inside(None) => Effect {
-            progress: Progress::Behind,
-            line: None,
-        },
+        Progress::Inside(None) => silent(Progress::Behind),
         Progress::Behind => Effect {
             progress: Progress::Over,
             line: Some(Line::Done),
+            store: None,
         },
-        Progress::Over => Effect {
-            progress: Progress::Over,
-            line: None,
-        },
+        Progress::Over => silent(Progress::Over),
+    }
+}
+
+/// It goes on, and nothing else.
+fn silent(progress: Progress) -> Effect
+    ensures { result ≡ record { progress = progress; line = None; store = None } }
+{
+    Effect {
+        progress,
+        line: None,
+        store: None,
     }
 }
 
@@ -81,11 +90,7 @@ fn cost(program: &Program, progress: Progress) -> u64
         Progress::Calling => 2,
         Progress::Inside(Some(statement)) => {
             let looked = look(program, statement);
-            if looked.puts {
-                4 + u64::from(looked.signs)
-            } else {
-                1
-            }
+            looked.cost
         }
         Progress::Inside(None) | Progress::Behind => 1,
         Progress::Over => 0,
@@ -93,24 +98,34 @@ fn cost(program: &Program, progress: Progress) -> u64
 }
 
 /// An instant: the effect of the action that has ended, if one has.
-pub fn finish(program: &Program, ran: bool, ticks_left: Option<u64>, progress: Progress) -> Finished
+pub fn finish(
+    program: &Program,
+    ran: bool,
+    ticks_left: Option<u64>,
+    progress: Progress,
+    cells: &[i32],
+) -> Finished
     requires simple { IsSimple program.now }
     requires inside { is_inside progress ≡ true }
-    ensures instant { (now : ℕ) → instant program.now (world_at program.now now ran ticks_left progress) ≡ (world_at program.now now ran result.ticks_left result.progress, map (event_of program.now) (option_to_list result.line)) }
+    requires cells { AreCells (length program.now.declarations) progress cells.now }
+    ensures instant { (now : ℕ) → instant program.now (world_at program.now now ran ticks_left progress cells.now) ≡ (world_at program.now now ran result.ticks_left result.progress (with_store result.store cells.now), map (event_of program.now) (option_to_list result.line)) }
     ensures inside { is_inside result.progress ≡ true }
+    ensures cells { AreCells (length program.now.declarations) result.progress (with_store result.store cells.now) }
 {
     if ran && is_over(ticks_left) {
-        let effect = effect_of(program, progress);
+        let effect = effect_of(program, progress, cells);
         Finished {
             progress: effect.progress,
             ticks_left: None,
             line: effect.line,
+            store: effect.store,
         }
     } else {
         Finished {
             progress,
             ticks_left,
             line: None,
+            store: None,
         }
     }
 }
@@ -129,7 +144,7 @@ fn is_over(ticks_left: Option<u64>) -> bool
 pub fn pass(program: &Program, ran: bool, ticks_left: Option<u64>, progress: Progress) -> Passed
     requires simple { IsSimple program.now }
     requires inside { is_inside progress ≡ true }
-    ensures tock { (now : ℕ) → tock program.now (world_at program.now now ran ticks_left progress) ≡ (world_at program.now (suc now) result.ran result.ticks_left progress, map (event_of program.now) (option_to_list result.line)) }
+    ensures tock { (now : ℕ) (cells : List ℤ) → tock program.now (world_at program.now now ran ticks_left progress cells) ≡ (world_at program.now (suc now) result.ran result.ticks_left progress cells, map (event_of program.now) (option_to_list result.line)) }
 {
     if progress == Progress::Over {
         return Passed {

@@ -4,7 +4,7 @@ use Rattle.std.proofs.lemmas.Bool.{cases_lt}
 use Rattle.ann_base.specs.Outside.{Rose, Lacks, LacksIn}
 use Rattle.annexd.specs.declared.reading.Unread.{Unread}
 use Rattle.annexd.specs.declared.reading.Unread.TheVariants as unread
-use Rattle.annexd.specs.Notes.{IfUnread}
+use Rattle.annexd.specs.Reads.{IfUnread}
 
 by_order : (a b c : ℕ) → a ≤ b → b ≤ c → (a < b) ⊎ (b ≤ a) → Rose b c → Rose a c
 by_order a b c low h (inl less) (inl rose) = inl (omega arith)

@@ -1,8 +1,11 @@
 //! annexd: the timed run of an Ada program, as an exact trace.
 #![tactic(auto)]
 
+mod accepting;
 mod asking;
+mod codes;
 mod noting;
+mod performing;
 mod reading;
 mod running;
 mod streams;

@@ -1,84 +1,89 @@
-//! Notes on standard error: why a source is refused.
-ghost use Rattle.std.specs.Prelude.{◌≡◌, ◌≤◌, OnErr};
-ghost use Rattle.ann_base.specs.Outside.{Rose};
+//! The status of an outcome, and the note on it.
+ghost use Rattle.std.specs.Prelude.{◌≡◌, ◌≤◌, OnOk, OnErr, Err};
+ghost use Rattle.ann_base.specs.Outside.{Rose, extended};
+ghost use Rattle.annexd.specs.Notes.{Concludes, Noted, HoldsFront, refusal_text, note_of, failure_status, stop_status};
 
-use crate::streams::write_all;
-use ada_lex::LexFault;
-use ada_names::NameFault;
-use ada_static::Refusal;
-use ann_base::{Failed, Place, Sink};
+use crate::codes::Code;
+use crate::performing::Failure;
+use crate::streams::{write_all, write_four};
+use ann_base::{Failed, Sink};
+use ann_kernel::Stop;
 use itoa::Buffer;
 
-/// Why no run came about.
-#[derive(Clone, Copy, Debug)]
-pub enum Refused {
-    /// The source is refused at a place, with the letter and the number of the code.
-    Source {
-        place: Place,
-        letter: u8,
-        number: u16,
-    },
-    /// Memory was wanting.
-    Memory,
-}
-
-const FIRST: Place = Place { line: 1, column: 1 };
-
-/// F1 to F4.
-pub fn lexical(fault: LexFault) -> Refused {
-    match fault {
-        LexFault::BadByte(place) => code(place, b'F', 1),
-        LexFault::BadNumber(place) => code(place, b'F', 2),
-        LexFault::OpenString(place) => code(place, b'F', 3),
-        LexFault::TooLong => code(FIRST, b'F', 4),
-        LexFault::Memory => Refused::Memory,
+/// The status of an outcome. A failure is noted; where the note cannot be written the status is 8.
+pub fn conclude<K: Sink>(notes: &mut K, outcome: Result<Stop, Failure>) -> u8
+    ensures concluded { Concludes outcome (K.held notes.old) (K.held notes.new) (Rose (K.faults notes.old) (K.faults notes.new)) result }
+    ensures monotone { K.faults notes.old ≤ K.faults notes.new }
+{
+    match outcome {
+        Ok(stop) => status_of(stop),
+        Err(failure) => note(notes, failure),
     }
 }
 
-/// F7 to F9.
-pub fn of_names(fault: NameFault) -> Refused {
-    match fault {
-        NameFault::Unknown(place) => code(place, b'F', 7),
-        NameFault::Twice(place) => code(place, b'F', 8),
-        NameFault::Ambiguous(place) => code(place, b'F', 9),
-        NameFault::Memory => Refused::Memory,
+/// Notes a failure.
+fn note<K: Sink>(notes: &mut K, failure: Failure) -> u8
+    ensures noted { Noted (note_of failure) (failure_status failure) (K.held notes.old) (K.held notes.new) (Rose (K.faults notes.old) (K.faults notes.new)) result }
+    ensures monotone { K.faults notes.old ≤ K.faults notes.new }
+{
+    match write_note(notes, failure) {
+        Ok(()) => failure_status(failure),
+        Err(_) => 8,
     }
 }
 
-/// L1 to L40.
-pub fn of_rules(refusal: Refusal) -> Refused {
-    match refusal {
-        Refusal::Rule { place, rule } => code(place, b'L', rule),
-        Refusal::Memory => Refused::Memory,
-    }
-}
-
-/// A refusal of the source.
-pub fn code(place: Place, letter: u8, number: u16) -> Refused {
-    Refused::Source {
-        place,
-        letter,
-        number,
+/// Writes the note on a failure. After a fault a front of it was written.
+fn write_note<K: Sink>(notes: &mut K, failure: Failure) -> Result<(), Failed>
+    ensures written { OnOk result (K.held notes.new ≡ extended (K.held notes.old) (note_of failure)) }
+    ensures monotone { K.faults notes.old ≤ K.faults notes.new }
+    ensures cause { OnErr result (Rose (K.faults notes.old) (K.faults notes.new)) }
+    ensures front { OnErr result (HoldsFront (K.held notes.old) (K.held notes.new) (note_of failure)) }
+{
+    match failure {
+        Failure::Words => write_all(notes, b"words refused\n"),
+        Failure::Unread => write_all(notes, b"read fault\n"),
+        Failure::Refused(code) => write_refusal(notes, code),
+        Failure::Unwritten => write_all(notes, b"write fault\n"),
+        Failure::Memory => write_all(notes, b"no memory\n"),
     }
 }
 
 /// Writes `source refused LINE:COLUMN CODE` and a line feed.
-pub fn note_refusal<K: Sink>(
-    notes: &mut K,
-    place: Place,
-    letter: u8,
-    number: u16,
-) -> Result<(), Failed>
+fn write_refusal<K: Sink>(notes: &mut K, code: Code) -> Result<(), Failed>
+    ensures written { OnOk result (K.held notes.new ≡ extended (K.held notes.old) (refusal_text code)) }
     ensures monotone { K.faults notes.old ≤ K.faults notes.new }
     ensures cause { OnErr result (Rose (K.faults notes.old) (K.faults notes.new)) }
+    ensures front { OnErr result (HoldsFront (K.held notes.old) (K.held notes.new) (refusal_text code)) }
 {
-    let mut digits = Buffer::new();
-    write_all(notes, b"source refused ")?;
-    write_all(notes, digits.format(place.line).as_bytes())?;
-    write_all(notes, b":")?;
-    write_all(notes, digits.format(place.column).as_bytes())?;
-    write_all(notes, b" ")?;
-    write_all(notes, &[letter])?;
-    write_all(notes, digits.format(number).as_bytes())?;
-    write_all(notes, b"\n")
+    let (mut line, mut column, mut number) = (Buffer::new(), Buffer::new(), Buffer::new());
+    let line = line.format(code.place.line).as_bytes();
+    let column = column.format(code.place.column).as_bytes();
+    let number = number.format(code.number).as_bytes();
+    write_four(notes, b"source refused ", line, b":", column)?;
+    write_four(notes, b" ", &[code.letter], number, b"\n")
+}
+
+/// The status of a failure.
+fn failure_status(failure: Failure) -> u8
+    ensures { result ≡ failure_status failure }
+{
+    match failure {
+        Failure::Words => 6,
+        Failure::Unread => 7,
+        Failure::Refused(_) => 4,
+        Failure::Unwritten => 8,
+        Failure::Memory => 9,
+    }
+}
+
+/// The status of a run that stopped so.
+fn status_of(stop: Stop) -> u8
+    ensures { result ≡ stop_status stop }
+{
+    match stop {
+        Stop::Completed => 0,
+        Stop::Exception(_) => 1,
+        Stop::Stuck => 2,
+        Stop::Bound => 3,
+    }
 }

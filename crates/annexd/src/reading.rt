@@ -1,7 +1,8 @@
 //! Reading a source.
-ghost use Rattle.std.specs.Prelude.{◌≡◌, ◌≤◌, true, IfErr};
+ghost use Rattle.std.specs.Prelude.{◌≡◌, ◌≤◌, true, IfOk, IfErr};
 ghost use Rattle.ann_base.specs.Outside.{Rose, Lacks};
-ghost use Rattle.annexd.specs.Notes.{IfUnread};
+ghost use Rattle.annexd.specs.Reads.{IfUnread, IsReadAs, ReadsOn};
+ghost use Rattle.annexd.specs.Performed.{told, WhereTold};
 
 use ann_base::{Failed, Shelf};
 use std::alloc::{AllocError, Global};
@@ -41,31 +42,31 @@ const MOST: usize = 262_145;
 /// How many bytes a call reads.
 const PIECE: usize = 4096;
 
-/// The bytes of the named file, up to one more than a source may have.
+/// The bytes of the named file, up to one more than a source may have, or a few more than that.
 pub fn read_source<S: Shelf>(alloc: Global, shelf: &mut S, name: &[u8]) -> Result<Vec<u8>, Unread>
+    ensures read { IfOk result (λ bytes. WhereTold (told (S.files shelf.old) name.now) (IsReadAs bytes.items)) }
+    ensures monotone { S.faults shelf.old ≤ S.faults shelf.new }
     ensures cause { IfErr result (IfUnread (Lacks (S.files shelf.old) name.now (Rose (S.faults shelf.old) (S.faults shelf.new)))) }
 {
     shelf.pick(name)?;
     read_picked(alloc, shelf)
 }
 
-/// The bytes of the picked file, up to one more than a source may have.
+/// The bytes of the picked file from the next one on, up to one more than a source may have, or a few more.
 fn read_picked<S: Shelf>(alloc: Global, shelf: &mut S) -> Result<Vec<u8>, Unread>
     requires { S.picked shelf.old ≡ true }
+    ensures read { IfOk result (λ bytes. ReadsOn (S.files shelf.old) (S.at shelf.old) bytes.items) }
     ensures monotone { S.faults shelf.old ≤ S.faults shelf.new }
     ensures cause { IfErr result (IfUnread (Rose (S.faults shelf.old) (S.faults shelf.new))) }
 {
     let mut bytes = Vec::new(alloc);
     let mut piece = [0; PIECE];
-    for _ in 0..MOST {
+    while bytes.len() < MOST {
         let count = shelf.read(&mut piece)?;
         if count == 0 {
-            break;
+            return Ok(bytes);
         }
         bytes.extend_from_slice(&piece[..count])?;
-        if bytes.len() >= MOST {
-            break;
-        }
     }
     Ok(bytes)
 }

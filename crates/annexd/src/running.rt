@@ -1,9 +1,9 @@
 //! Running a checked program and writing its trace.
-ghost use Rattle.std.specs.Prelude.{◌≡◌, ◌≤◌, IfOk, IfErr, OnOk, ◌+◌};
+ghost use Rattle.std.specs.Prelude.{◌≡◌, ◌≤◌, IfOk, IfErr, OnOk, OnErr, ◌+◌};
 ghost use Rattle.ann_base.specs.Outside.{Rose, extended};
-ghost use Rattle.trace_text.specs.Text.{text_of};
-ghost use Rattle.ann_kernel.specs.Future.{lines_of_run, stop_of_run};
-ghost use Rattle.annexd.specs.Notes.{IfFailed};
+ghost use Rattle.ann_kernel.specs.Next.{IsPlainStop};
+ghost use Rattle.annexd.specs.Notes.{HoldsFront};
+ghost use Rattle.annexd.specs.Runs.{IfFailed, text_of_run, stop_of};
 
 use crate::streams::write_all;
 use ada_static::Checked;
@@ -44,10 +44,12 @@ impl From<Failed> for Unwritten {
     }
 }
 
-/// Writes the run of a checked program, line by line: all of its text where it ends.
+/// Writes the run of a checked program, line by line: all of its text where it ends, and a front of it otherwise.
 pub fn run<K: Sink>(alloc: Global, checked: Checked, out: &mut K) -> Result<Stop, Unwritten>
-    ensures written { OnOk result (K.held out.new ≡ extended (K.held out.old) (text_of (lines_of_run checked.program BOUND))) }
-    ensures stop { IfOk result (λ stop. stop ≡ stop_of_run checked.program BOUND) }
+    ensures written { OnOk result (K.held out.new ≡ extended (K.held out.old) (text_of_run checked)) }
+    ensures stop { IfOk result (λ stop. stop ≡ stop_of checked) }
+    ensures plain { IfOk result IsPlainStop }
+    ensures front { OnErr result (HoldsFront (K.held out.old) (K.held out.new) (text_of_run checked)) }
     ensures monotone { K.faults out.old ≤ K.faults out.new }
     ensures cause { IfErr result (IfFailed (Rose (K.faults out.old) (K.faults out.new))) }
 {

@@ -71,23 +71,167 @@ fn a_program_runs_however_it_is_cut(rt: HostRuntime) -> Result<(), Fail> {
 }
 
 #[test]
-fn failures_of_the_outside_end_the_run(rt: HostRuntime) -> Result<(), Fail> {
-    let got = answer(rt.alloc(), &[b"run", b"source"], HELLO, 10, &[], &[2])?;
-    assert_eq!(rt; got.status, 8);
-    assert_eq!(rt; got.out.held(), b"0 t0 new m".as_slice());
-    assert_eq!(rt; got.notes.held(), b"write fault\n".as_slice());
-    let got = answer(rt.alloc(), &[b"run", b"source"], HELLO, 10, &[2], &[])?;
+fn each_read_fails_in_turn(rt: HostRuntime) -> Result<(), Fail> {
+    // One call picks the file, ten read its 91 bytes, and one finds its end.
+    for call in 1..=12 {
+        let got = answer(rt.alloc(), &[b"run", b"source"], HELLO, 10, &[call], &[])?;
+        assert_eq!(rt; got.status, 7, "at call {call}");
+        assert_eq!(rt; got.out.held(), b"".as_slice(), "at call {call}");
+        assert_eq!(rt; got.notes.held(), b"read fault\n".as_slice(), "at call {call}");
+    }
+    let got = answer(rt.alloc(), &[b"run", b"source"], HELLO, 10, &[13], &[])?;
+    assert_eq!(rt; got.status, 0);
+    Ok(())
+}
+
+#[test]
+fn each_write_fails_in_turn(rt: HostRuntime) -> Result<(), Fail> {
+    // So many bytes have been written before each call: a line of more than ten bytes takes two calls.
+    let written: [usize; 10] = [0, 10, 17, 27, 36, 45, 55, 57, 67, 77];
+    for (place, bytes) in written.iter().enumerate() {
+        let call = place as u64 + 1;
+        let got = answer(rt.alloc(), &[b"run", b"source"], HELLO, 10, &[], &[call])?;
+        assert_eq!(rt; got.status, 8, "at call {call}");
+        assert!(rt; TRACE.starts_with(got.out.held()), "at call {call}");
+        assert_eq!(rt; got.out.held().len(), *bytes, "at call {call}");
+        assert_eq!(rt; got.notes.held(), b"write fault\n".as_slice(), "at call {call}");
+    }
+    let got = answer(rt.alloc(), &[b"run", b"source"], HELLO, 10, &[], &[11])?;
+    assert_eq!(rt; got.status, 0);
+    Ok(())
+}
+
+#[test]
+fn words_and_files_that_are_not_there(rt: HostRuntime) -> Result<(), Fail> {
+    let got = answer(rt.alloc(), &[b"walk", b"source"], HELLO, 10, &[], &[])?;
+    assert_eq!(rt; got.status, 6);
+    assert_eq!(rt; got.notes.held(), b"words refused\n".as_slice());
+    let got = answer(rt.alloc(), &[b"run", b"other"], HELLO, 10, &[], &[])?;
     assert_eq!(rt; got.status, 7);
-    assert_eq!(rt; got.out.held(), b"".as_slice());
     assert_eq!(rt; got.notes.held(), b"read fault\n".as_slice());
     Ok(())
 }
 
 #[test]
-fn what_is_not_read_is_refused_with_its_place(rt: HostRuntime) -> Result<(), Fail> {
-    let table: [(&[u8], &[u8]); 8] = [
-        (b"", b"source refused 1:1 F5\n"),
-        (b"-- x\n", b"source refused 2:1 F5\n"),
+fn programs_with_variables_run(rt: HostRuntime) -> Result<(), Fail> {
+    let table: [(&[u8], &[u8]); 6] = [
+        (
+            b"procedure Main is X : Integer := 5; begin X := 7; end Main;",
+            b"0 t0 new main 15\n0 t0 ready 15 tail\n0 t0 run\n6 t0 done\n6 end completed\n",
+        ),
+        (
+            b"procedure Main is X, Y : Integer := 5; Z : Integer; begin Z := X; Y := Z; null; end;",
+            b"0 t0 new main 15\n0 t0 ready 15 tail\n0 t0 run\n10 t0 done\n10 end completed\n",
+        ),
+        (
+            b"with Ada.Text_IO; use Ada.Text_IO; procedure Main is Count : Integer; begin Put_Line (\"a \"\"b\"\"\"); COUNT := 2_147_483_647; Put_Line (\"\"); end Main;",
+            b"0 t0 new main 15\n0 t0 ready 15 tail\n0 t0 run\n7 t0 put a \"b\"\n12 t0 put \n14 t0 done\n14 end completed\n",
+        ),
+        (
+            b"procedure Main is True : Integer := 1; X : Integer := True; begin True := X; end Main;",
+            b"0 t0 new main 15\n0 t0 ready 15 tail\n0 t0 run\n7 t0 done\n7 end completed\n",
+        ),
+        (
+            b"with Ada.Text_IO; use Ada.Text_IO; procedure Main is Main : Integer; begin Main := 3; Put_Line (\"done\"); end Main;",
+            b"0 t0 new main 15\n0 t0 ready 15 tail\n0 t0 run\n8 t0 put done\n10 t0 done\n10 end completed\n",
+        ),
+        (
+            b"procedure Main is Put_Line : Integer := 1; begin Put_Line := 2; end;",
+            b"0 t0 new main 15\n0 t0 ready 15 tail\n0 t0 run\n6 t0 done\n6 end completed\n",
+        ),
+    ];
+    for (source, trace) in table {
+        let got = answer(rt.alloc(), &[b"run", b"source"], source, 100, &[], &[])?;
+        assert_eq!(rt; got.status, 0);
+        assert_eq!(rt; got.out.held(), trace);
+        assert_eq!(rt; got.notes.held(), b"".as_slice());
+    }
+    Ok(())
+}
+
+#[test]
+fn what_is_not_accepted_is_refused_with_its_place(rt: HostRuntime) -> Result<(), Fail> {
+    let table: [(&[u8], &[u8]); 26] = [
+        (
+            b"procedure Main is X : Integer; begin X := True; end Main;",
+            b"source refused 1:43 L9\n",
+        ),
+        (
+            b"procedure Main is begin X := 1; end Main;",
+            b"source refused 1:25 F7\n",
+        ),
+        (
+            b"procedure Main is X : Integer := X; begin null; end Main;",
+            b"source refused 1:34 F7\n",
+        ),
+        (
+            b"procedure Main is X, X : Integer; begin null; end Main;",
+            b"source refused 1:22 F8\n",
+        ),
+        (
+            b"procedure Main is X, Integer : Integer; begin null; end Main;",
+            b"source refused 1:32 F7\n",
+        ),
+        (
+            b"procedure Main is X : Integer := 2147483648; begin null; end Main;",
+            b"source refused 1:34 L7\n",
+        ),
+        (
+            b"procedure Main is X : Integer := 340282366920938463463374607431768211456; begin null; end Main;",
+            b"source refused 1:34 F2\n",
+        ),
+        (
+            b"procedure Main is X : Integer := 5.0; begin null; end Main;",
+            b"source refused 1:34 L8\n",
+        ),
+        (
+            b"procedure Main is X : Integer := Ada; begin null; end Main;",
+            b"source refused 1:34 L1\n",
+        ),
+        (
+            b"with Ada.Text_IO; use Ada.Text_IO; procedure Main is X : Integer := Ada; begin null; end Main;",
+            b"source refused 1:69 L5\n",
+        ),
+        (
+            b"procedure Main is X : Integer; begin Main := X; end Main;",
+            b"source refused 1:38 L5\n",
+        ),
+        (
+            b"procedure Main is X : Integer; begin X = 1; end Main;",
+            b"source refused 1:40 F5\n",
+        ),
+        (
+            b"procedure Main is X : Integer := ; begin null; end Main;",
+            b"source refused 1:34 F5\n",
+        ),
+        (
+            b"procedure Main is X Integer; begin null; end Main;",
+            b"source refused 1:21 F5\n",
+        ),
+        (
+            b"procedure Main is X : Integer; begin end Main;",
+            b"source refused 1:38 F5\n",
+        ),
+        (
+            b"procedure Main is begin null; end Main; null;",
+            b"source refused 1:41 F5\n",
+        ),
+        (
+            b"with Ada.Text_IO; use Ada.Text_IO; procedure Main is Put_Line : Integer := 1; begin Put_Line (\"x\"); end Main;",
+            b"source refused 1:85 L5\n",
+        ),
+        (
+            b"procedure Main is X : Integer; Y : Integer := X; X : Integer; begin null; end Main;",
+            b"source refused 1:50 F8\n",
+        ),
+        (
+            b"",
+            b"source refused 1:1 F5\n",
+        ),
+        (
+            b"-- x\n",
+            b"source refused 2:1 F5\n",
+        ),
         (
             b"procedure Main is begin null; end Mian;",
             b"source refused 1:35 F5\n",

@@ -1,0 +1,20 @@
+use Rattle.std.proofs.Common.{ap, length, ◌++◌, ◌∷◌, [], ◌∙◌, arith}
+use Rattle.ada_names.specs.declared.image.Use.TheVariants as uses
+use Rattle.ada_names.proofs.Prefixes.{front, Behind-more}
+use Rattle.ada_names.proofs.ImageSteps.{uses_in_objects-more}
+use Rattle.ada_names.proofs.uses.push_declared_uses.Goals as goal
+
+pub overflow_add-before : goal.overflow_add-before
+overflow_add-before c =
+    let behind = Behind-more c.loop-rest.invariant.behind (front c.loop-rest.rest.now c.object-item.result c.in-len1-up.len_at_least c.object-item.is) (length c.as_slice.result.now) (ap length c.as_slice.ensures) in
+    omega (arith, behind.within, c.args.names.now.room)
+
+pub loop-rest-preserved : goal.loop-rest-preserved
+loop-rest-preserved c =
+    let first = front c.loop-rest.rest.now c.object-item.result c.in-len1-up.len_at_least c.object-item.is in
+    record {
+      all = uses_in_objects-more c.args.tree.now c.args.names.now.texts c.loop-rest.before c.loop-rest.uses _ _ _ _ _ _ _ c.loop-rest.invariant.all c.loop-rest.invariant.behind first (ap length c.as_slice.ensures)
+          (c.in_ok-push.ensures.ok ∙ ap (λ denotes. c.loop-rest.uses ++ uses.Mark c.object-item.result.mark denotes ∷ []) c.denotation-denotes.ensures)
+          c.in_ok-push_initial_use.ensures.pushed;
+      behind = Behind-more c.loop-rest.invariant.behind first _ (ap length c.as_slice.ensures);
+    }

@@ -1,0 +1,10 @@
+use Rattle.std.proofs.Common.{◌≡◌, length}
+use Rattle.ada_parse.specs.Reading.{objects_of}
+use Rattle.ada_parse.proofs.Lists.{joined}
+use Rattle.ada_parse.proofs.declarations.objects.Given as goal
+
+abbrev pub invariant-loop-alloc : goal.invariant-loop-alloc
+invariant-loop-alloc l = joined l.objects (objects_of l.cursor) ≡ objects_of l.fn.cursor
+
+abbrev pub decreases-loop-alloc : goal.decreases-loop-alloc
+decreases-loop-alloc l = length l.cursor

@@ -1,0 +1,156 @@
+-- The effect of an action: each step keeps a relation that its parts keep.
+use Rattle.std.specs.Prelude.{ℕ, List, Option, Some, None}
+use Rattle.ann_base.specs.declared.exceptions.Raised.{Raised}
+use Rattle.trace_text.specs.declared.events.Who.{Who}
+use Rattle.trace_text.specs.declared.events.Who.TheVariants as who
+use Rattle.profile_machine.specs.declared.image.Image.{Image}
+use Rattle.profile_machine.specs.declared.numbers.StatementNo.{StatementNo}
+use Rattle.profile_machine.specs.declared.run_data.Leaving.{Leaving}
+use Rattle.profile_machine.specs.declared.run_data.Leaving.TheVariants as how
+use Rattle.profile_machine.specs.declared.statements.Actual.{Actual}
+use Rattle.profile_machine.specs.declared.statements.Callee.{Callee}
+use Rattle.profile_machine.specs.declared.statements.Callee.TheVariants as callee
+use Rattle.profile_machine.specs.declared.statements.Destination.{Destination}
+use Rattle.profile_machine.specs.declared.statements.StatementForm.{StatementForm}
+use Rattle.profile_machine.specs.declared.statements.StatementForm.TheVariants as form
+use Rattle.profile_machine.specs.World.{Frame, Mark, Scope, Handled, InProtected, InAccept, Abortable, InInitialize, InFinalize, InAssign, AbortableMark, Release, Call}
+use Rattle.profile_machine.specs.Steps.{own, changes, looks, ◌▷◌}
+use Rattle.profile_machine.specs.Frames.{frames_of}
+use Rattle.profile_machine.specs.Calls.{with_call, attempt_with}
+use Rattle.profile_machine.specs.Act.{call_main, call, handle_or_pass, behind_handled, end_handled, end_top, wait_for_trigger, drop_trigger, below, end_abortable_by, end_in_abortable, act_statement, end_mark, act_frame, act_without, act_top, act}
+use Rattle.machine_laws.proofs.Moves.{StepRelation, MoveRelation, Moves}
+use Rattle.machine_laws.proofs.Kept.Combinators.{Keeps, Alters, changes-keeps, cond-keeps, looks-keeps, nothing-keeps, option-keeps, sees-keeps, then-keeps, unchanged-alters}
+use Rattle.machine_laws.proofs.Kept.Dispatching.{block-keeps}
+use Rattle.machine_laws.proofs.Kept.Frames.{edit_top-alters, goes-keeps, pop-alters, raises-keeps, pass_on-keeps, with_room-keeps}
+use Rattle.machine_laws.proofs.Kept.Scopes.{open_scope-alters}
+use Rattle.machine_laws.proofs.Kept.Appointments.{drop_appointment-alters}
+use Rattle.machine_laws.proofs.Kept.Calls.{with_call-keeps, attempt_with-keeps}
+use Rattle.machine_laws.proofs.Kept.CallEnds.{end_top_abortable-keeps}
+use Rattle.machine_laws.proofs.Kept.Statements.{null-keeps, assign-keeps, assign_array-keeps, if_statement-keeps, case_statement-keeps, while_turn-keeps, for_bounds-keeps, first_turn-keeps, later_turn-keeps, exit_statement-keeps, block_statement-keeps, raise_again-keeps, delay_until-keeps, put_line-keeps}
+use Rattle.machine_laws.proofs.Kept.Subprograms.{call_subprogram-keeps, return_value-keeps, return-keeps}
+use Rattle.machine_laws.proofs.Kept.Protected.{call_operation-keeps, call_own_operation-keeps}
+use Rattle.machine_laws.proofs.Kept.Priorities.{set_priority-keeps, set_quantum-keeps, set_deadline_of-keeps, delay_and_set_deadline-keeps}
+use Rattle.machine_laws.proofs.Kept.Serving.{end_in_protected-keeps}
+use Rattle.machine_laws.proofs.Kept.Rendezvous.{accept-keeps, selective_accept-keeps, end_in_accept-keeps}
+use Rattle.machine_laws.proofs.Kept.EntryCalls.{entry_call-keeps, asynchronous_select-keeps, requeue-keeps}
+use Rattle.machine_laws.proofs.Kept.Controlled.{initialize-keeps, end_in_initialize-keeps, end_in_finalize-keeps, assign_controlled-keeps, end_in_assign-keeps}
+use Rattle.machine_laws.proofs.Kept.Declarations.{declare-keeps}
+use Rattle.machine_laws.proofs.Kept.Tasking.{create-keeps, activate-keeps, end_own_activation-keeps, end_scope_mark-keeps, abort_statement-keeps}
+use Rattle.machine_laws.proofs.Kept.Handlers.{call_handler-keeps, set_event-keeps, cancel_event-keeps, set_timer-keeps, cancel_timer-keeps, add_member-keeps, remove_member-keeps, replenish-keeps, add_to_budget-keeps, set_budget-keeps, cancel_budget-keeps}
+
+module _ {R : StepRelation} {Q : MoveRelation} (moves : Moves R Q) where
+  pub call_main-keeps : (p : Image) (name : Who) (s : StatementNo) → Keeps R (call_main p name s)
+  call_main-keeps p name s = search (with_room-keeps, goes-keeps, then-keeps, looks-keeps, changes-keeps, open_scope-alters)
+
+  pub call-keeps : (p : Image) (name : Who) (s : StatementNo) (callee : Callee) (actuals : List Actual) (to : Destination) → Keeps R (call p name s callee actuals to)
+  call-keeps p name s (callee.Subprogram f) actuals to = search (call_subprogram-keeps)
+  call-keeps p name s (callee.Operation d f) actuals to = search (call_operation-keeps)
+  call-keeps p name s (callee.OwnOperation f) actuals to = search (call_own_operation-keeps)
+
+  pub handle_or_pass-keeps : (p : Image) (name : Who) (e : Raised) (next : Option StatementNo) → Keeps R (handle_or_pass p name e next)
+  handle_or_pass-keeps p name e None = search (pass_on-keeps)
+  handle_or_pass-keeps p name e (Some first) = search (changes-keeps, edit_top-alters, then-keeps, goes-keeps)
+
+  pub behind_handled-keeps : (p : Image) (name : Who) (s : StatementNo) (leaving : Leaving) → Keeps R (behind_handled p name s leaving)
+  behind_handled-keeps p name s (how.Exception e) = search (handle_or_pass-keeps)
+  behind_handled-keeps p name s how.End = search (nothing-keeps)
+  behind_handled-keeps p name s how.Return = search (pass_on-keeps)
+  behind_handled-keeps p name s (how.Exit loop) = search (pass_on-keeps)
+  behind_handled-keeps p name s how.Abort = search (pass_on-keeps)
+  behind_handled-keeps p name s how.Terminate = search (pass_on-keeps)
+
+  pub end_handled-keeps : (p : Image) (name : Who) (s : StatementNo) (leaving : Leaving) → Keeps R (end_handled p name s leaving)
+  end_handled-keeps p name s leaving = search (changes-keeps, pop-alters, then-keeps, behind_handled-keeps)
+
+  pub end_top-keeps : (p : Image) (name : Who) → Keeps R (end_top p name)
+  end_top-keeps p name = search (looks-keeps, end_top_abortable-keeps)
+
+  pub wait_for_trigger-keeps : (p : Image) (name : Who) (c : Call) (leaving : Leaving) → Keeps R (wait_for_trigger p name c leaving)
+  wait_for_trigger-keeps p name c leaving = search (changes-keeps, edit_top-alters, then-keeps, block-keeps)
+
+  pub drop_trigger-alters : (name : Who) (depth : ℕ) → Alters R (drop_trigger name depth)
+  drop_trigger-alters (who.Task t) depth = search (drop_appointment-alters)
+  drop_trigger-alters who.Agent depth = search (unchanged-alters)
+
+  pub end_abortable_by-keeps : (p : Image) (name : Who) (m : AbortableMark) (leaving : Leaving) → Keeps R (end_abortable_by p name m leaving)
+  end_abortable_by-keeps p name m leaving = option-keeps moves m.call (looks (λ w. changes (drop_trigger name (below (frames_of w name)))) ▷ end_top p name) (λ c. with_call c (λ d. attempt_with p own d (end_top p name) (wait_for_trigger p name d leaving))) (search (looks-keeps, changes-keeps, drop_trigger-alters, then-keeps, end_top-keeps)) (λ c. search (with_call-keeps, attempt_with-keeps, end_top-keeps, wait_for_trigger-keeps))
+
+  pub end_in_abortable-keeps : (p : Image) (name : Who) (m : AbortableMark) (leaving : Leaving) → Keeps R (end_in_abortable p name m leaving)
+  end_in_abortable-keeps p name m leaving = search (cond-keeps, end_top-keeps, end_abortable_by-keeps)
+
+  pub act_statement-keeps : (p : Image) (name : Who) (s : StatementNo) (form : StatementForm) → Keeps R (act_statement p name s form)
+  act_statement-keeps p name s (form.Declare object) = search (declare-keeps)
+  act_statement-keeps p name s (form.Initialize object) = search (initialize-keeps)
+  act_statement-keeps p name s (form.CreateTask object part) = search (create-keeps)
+  act_statement-keeps p name s (form.Activate part) = search (activate-keeps)
+  act_statement-keeps p name s form.EndActivation = search (end_own_activation-keeps)
+  act_statement-keeps p name s form.CallMain = search (call_main-keeps)
+  act_statement-keeps p name s (form.Handled handlers first) = search (nothing-keeps)
+  act_statement-keeps p name s form.Null = search (null-keeps)
+  act_statement-keeps p name s (form.Assign target e) = search (assign-keeps)
+  act_statement-keeps p name s (form.AssignArray target source) = search (assign_array-keeps)
+  act_statement-keeps p name s (form.AssignControlled target source) = search (assign_controlled-keeps)
+  act_statement-keeps p name s (form.If condition first otherwise) = search (if_statement-keeps)
+  act_statement-keeps p name s (form.Case selector alternatives) = search (case_statement-keeps)
+  act_statement-keeps p name s (form.Loop body within) = search (goes-keeps)
+  act_statement-keeps p name s (form.While condition body within) = search (while_turn-keeps)
+  act_statement-keeps p name s (form.For parameter reverse low high turn within) = search (for_bounds-keeps)
+  act_statement-keeps p name s (form.FirstTurn parameter reverse body) = search (first_turn-keeps)
+  act_statement-keeps p name s (form.LaterTurn parameter reverse body) = search (later_turn-keeps)
+  act_statement-keeps p name s (form.Exit condition of_loop) = search (exit_statement-keeps)
+  act_statement-keeps p name s (form.Block scope) = search (block_statement-keeps)
+  act_statement-keeps p name s form.Return = search (return-keeps)
+  act_statement-keeps p name s (form.ReturnValue function e) = search (return_value-keeps)
+  act_statement-keeps p name s (form.Raise e) = search (raises-keeps)
+  act_statement-keeps p name s (form.RaiseAgain scope) = search (raise_again-keeps)
+  act_statement-keeps p name s (form.Delay e) = search (sees-keeps, delay_until-keeps)
+  act_statement-keeps p name s (form.DelayUntil e) = search (sees-keeps, delay_until-keeps)
+  act_statement-keeps p name s (form.Call callee actuals to) = search (call-keeps)
+  act_statement-keeps p name s (form.PutLine pieces) = search (put_line-keeps)
+  act_statement-keeps p name s (form.EntryCall entry owner actuals) = search (entry_call-keeps)
+  act_statement-keeps p name s (form.ConditionalCall call otherwise) = search (entry_call-keeps)
+  act_statement-keeps p name s (form.TimedCall call delay) = search (entry_call-keeps)
+  act_statement-keeps p name s (form.AsynchronousSelect trigger abortable) = search (asynchronous_select-keeps)
+  act_statement-keeps p name s (form.Accept entry scope) = search (accept-keeps)
+  act_statement-keeps p name s (form.SelectiveAccept alternatives otherwise) = search (selective_accept-keeps)
+  act_statement-keeps p name s (form.Abort tasks) = search (abort_statement-keeps)
+  act_statement-keeps p name s (form.Requeue entry owner with_abort) = search (requeue-keeps)
+  act_statement-keeps p name s (form.SetEvent event set handler) = search (set_event-keeps)
+  act_statement-keeps p name s (form.CancelEvent event cancelled) = search (cancel_event-keeps)
+  act_statement-keeps p name s (form.SetTimer timer set handler) = search (set_timer-keeps)
+  act_statement-keeps p name s (form.CancelTimer timer cancelled) = search (cancel_timer-keeps)
+  act_statement-keeps p name s (form.AddTask budget task) = search (add_member-keeps)
+  act_statement-keeps p name s (form.RemoveTask budget task) = search (remove_member-keeps)
+  act_statement-keeps p name s (form.Replenish budget to) = search (replenish-keeps)
+  act_statement-keeps p name s (form.AddToBudget budget interval) = search (add_to_budget-keeps)
+  act_statement-keeps p name s (form.SetBudget budget handler) = search (set_budget-keeps)
+  act_statement-keeps p name s (form.CancelBudget budget cancelled) = search (cancel_budget-keeps)
+  act_statement-keeps p name s (form.SetPriority priority task) = search (set_priority-keeps)
+  act_statement-keeps p name s (form.SetQuantum level quantum) = search (set_quantum-keeps)
+  act_statement-keeps p name s (form.SetDeadline deadline task) = search (set_deadline_of-keeps)
+  act_statement-keeps p name s (form.DelayUntilAndSetDeadline until offset) = search (delay_and_set_deadline-keeps)
+
+  pub end_mark-keeps : (p : Image) (name : Who) (f : Frame) (mark : Mark) → Keeps R (end_mark p name f mark)
+  end_mark-keeps p name f (Scope m) = search (end_scope_mark-keeps)
+  end_mark-keeps p name f (Handled s) = search (end_handled-keeps)
+  end_mark-keeps p name f (InProtected m) = search (end_in_protected-keeps)
+  end_mark-keeps p name f (InAccept m) = search (end_in_accept-keeps)
+  end_mark-keeps p name f (Abortable m) = search (end_in_abortable-keeps)
+  end_mark-keeps p name f (InInitialize l) = search (end_in_initialize-keeps)
+  end_mark-keeps p name f (InFinalize o) = search (end_in_finalize-keeps)
+  end_mark-keeps p name f (InAssign m) = search (end_in_assign-keeps)
+
+  pub act_frame-keeps : (p : Image) (name : Who) (f : Frame) (next : Option StatementNo) → Keeps R (act_frame p name f next)
+  act_frame-keeps p name f (Some s) = search (act_statement-keeps)
+  act_frame-keeps p name f None = search (end_mark-keeps)
+
+  pub act_without-keeps : (p : Image) (release : Option Release) → Keeps R (act_without p release)
+  act_without-keeps p None = search (nothing-keeps)
+  act_without-keeps p (Some r) = search (call_handler-keeps)
+
+  pub act_top-keeps : (p : Image) (name : Who) (f : Option Frame) → Keeps R (act_top p name f)
+  act_top-keeps p name None = search (looks-keeps, act_without-keeps)
+  act_top-keeps p name (Some f) = search (act_frame-keeps)
+
+  pub act-keeps : (p : Image) (name : Who) → Keeps R (act p name)
+  act-keeps p name = search (looks-keeps, act_top-keeps)

@@ -1,0 +1,157 @@
+-- Steps and moves that are put together of those that keep a relation keep it.
+use Rattle.std.proofs.Common.{◌≡◌, Bool, true, false, cond, List, [], ◌∷◌, Option, Some, None}
+use Rattle.std.specs.Prelude.{Ok, Err}
+use Rattle.trace_text.specs.declared.events.Event.{Event}
+use Rattle.trace_text.specs.declared.events.Who.{Who}
+use Rattle.profile_machine.specs.declared.image.Image.{Image}
+use Rattle.profile_machine.specs.World.{World}
+use Rattle.profile_machine.specs.Steps.{Step, Move, Part, nothing, changes, says, looks, when, for_some, for_each, settles, ◌▷◌}
+use Rattle.profile_machine.specs.Operators.{Valued, ◌>>=◌}
+use Rattle.profile_machine.specs.Values.{Seen, seen_by}
+use Rattle.profile_machine.specs.Statements.{sees}
+use Rattle.machine_laws.proofs.Moves.{StepRelation, MoveRelation, Moves}
+use Rattle.machine_laws.specs.LineKinds.{is_of_effect}
+
+-- ---- what it is to keep a relation
+
+-- a step leads from each world to one that stands so to it
+unfoldable pub Keeps : StepRelation → Step → Type 0
+Keeps R step = (w : World) → R w (step w).1 (step w).0
+
+-- the same from one world
+unfoldable pub From : StepRelation → World → Step → Type 0
+From R w step = R w (step w).1 (step w).0
+
+-- a change of the world
+unfoldable pub Alters : StepRelation → (World → World) → Type 0
+Alters R f = (w : World) → R w [] (f w)
+
+-- a world, if there is no exception
+unfoldable pub Gives : StepRelation → World → Valued World → Type 0
+Gives R w (Ok next) = R w [] next
+Gives R w (Err e) = Unit {0}
+
+-- a move leads from each world to one that stands so to it
+unfoldable pub Leads : MoveRelation → Move → Type 0
+Leads Q move = (w : World) → Q w (move w).1 (move w).0
+
+module _ {R : StepRelation} {Q : MoveRelation} (moves : Moves R Q) where
+  -- ---- steps
+
+  pub then-keeps : (f g : Step) → Keeps R f → Keeps R g → Keeps R (f ▷ g)
+  unfolding Keeps
+  then-keeps f g a b w = moves.goes_on w (f w).0 (g (f w).0).0 (a w) (b (f w).0)
+
+  pub nothing-keeps : Keeps R nothing
+  unfolding Keeps
+  nothing-keeps w = moves.stays w
+
+  pub changes-keeps : (f : World → World) → Alters R f → Keeps R (changes f)
+  unfolding Keeps Alters
+  changes-keeps f a w = a w
+
+  pub unchanged-alters : Alters R (λ w. w)
+  unfolding Alters
+  unchanged-alters w = moves.stays w
+
+  pub says-keeps : (part : Part) (event : Event) → is_of_effect event ≡ true → Keeps R (says part event)
+  unfolding Keeps
+  says-keeps part event a w = moves.says part event w a
+
+  pub looks-keeps : (f : World → Step) → ((v : World) → Keeps R (f v)) → Keeps R (looks f)
+  unfolding Keeps
+  looks-keeps f a w = a w w
+
+  pub sees-keeps : (p : Image) (name : Who) (f : Seen → Step) → ((q : Seen) → Keeps R (f q)) → Keeps R (sees p name f)
+  unfolding Keeps
+  sees-keeps p name f a w = a (seen_by p w name) w
+
+  pub branch-keeps : (b : Bool) (f g : Step) → Keeps R f → Keeps R g → Keeps R (elim b as (λ _. Step) [ true ↦ f | false ↦ g ])
+  branch-keeps true f g a b = a
+  branch-keeps false f g a b = b
+
+  pub cond-keeps : (b : Bool) (f g : Step) → Keeps R f → Keeps R g → Keeps R (cond b f g)
+  cond-keeps true f g a b = a
+  cond-keeps false f g a b = b
+
+  pub option-keeps : {X : Type 0} (x : Option X) (f : Step) (g : X → Step) → Keeps R f → ((y : X) → Keeps R (g y)) → Keeps R (elim x as (λ _. Step) [ None ↦ f | Some y ↦ g y ])
+  option-keeps None f g a b = a
+  option-keeps (Some y) f g a b = b y
+
+  pub when-keeps : (b : Bool) (step : Step) → Keeps R step → Keeps R (when b step)
+  when-keeps true step a = a
+  when-keeps false step a = nothing-keeps
+
+  pub for_some-keeps : {X : Type 0} (x : Option X) (f : X → Step) → ((y : X) → Keeps R (f y)) → Keeps R (for_some x f)
+  for_some-keeps None f a = nothing-keeps
+  for_some-keeps (Some x) f a = a x
+
+  pub for_each-keeps : {X : Type 0} (xs : List X) (f : X → Step) → ((y : X) → Keeps R (f y)) → Keeps R (for_each xs f)
+  for_each-keeps [] f a = nothing-keeps
+  for_each-keeps (x ∷ xs) f a = then-keeps (f x) (for_each xs f) (a x) (for_each-keeps xs f a)
+
+  -- ---- from one world
+
+  pub looks-from : (f : World → Step) → ((w : World) → From R w (f w)) → Keeps R (looks f)
+  unfolding Keeps From
+  looks-from f a w = a w
+
+  pub keeps-from : (f : Step) (w : World) → Keeps R f → From R w f
+  unfolding Keeps From
+  keeps-from f w a = a w
+
+  pub then-from : (f g : Step) (w : World) → From R w f → Keeps R g → From R w (f ▷ g)
+  unfolding Keeps From
+  then-from f g w a b = moves.goes_on w (f w).0 (g (f w).0).0 a (b (f w).0)
+
+  pub then_on-from : (f g : Step) (w : World) → From R w f → From R (f w).0 g → From R w (f ▷ g)
+  unfolding From
+  then_on-from f g w a b = moves.goes_on w (f w).0 (g (f w).0).0 a b
+
+  pub changes-from : (f : World → World) (w : World) → R w [] (f w) → From R w (changes f)
+  unfolding From
+  changes-from f w a = a
+
+  -- ---- worlds that may be exceptions
+
+  pub ok-gives : (w next : World) → R w [] next → Gives R w (Ok next)
+  unfolding Gives
+  ok-gives w next a = a
+
+  pub bind-gives : {X : Type 0} (x : Valued X) (f : X → Valued World) (w : World) → ((y : X) → Gives R w (f y)) → Gives R w (x >>= f)
+  unfolding Gives
+  bind-gives (Ok x) f w a = a x
+  bind-gives (Err e) f w a = tt
+
+  gives-on : (x : Valued World) (a b : World) → R a [] b → Gives R b x → Gives R a x
+  unfolding Gives
+  gives-on (Ok c) a b h k = moves.goes_on a b c h k
+  gives-on (Err e) a b h k = tt
+
+  pub next-gives : (x : Valued World) (f : World → Valued World) (w : World) → Gives R w x → ((v : World) → Gives R v (f v)) → Gives R w (x >>= f)
+  unfolding Gives
+  next-gives (Ok v) f w a b = gives-on (f v) w v a (b v)
+  next-gives (Err e) f w a b = tt
+
+  -- ---- moves
+
+  pub then-leads : (f g : Move) → Leads Q f → Leads Q g → Leads Q (f ▷ g)
+  unfolding Leads
+  then-leads f g a b w = moves.leads_on w (f w).0 (g (f w).0).0 (a w) (b (f w).0)
+
+  pub nothing-leads : Leads Q nothing
+  unfolding Leads
+  nothing-leads w = moves.rests w
+
+  pub looks-leads : (f : World → Move) → ((v : World) → Leads Q (f v)) → Leads Q (looks f)
+  unfolding Leads
+  looks-leads f a w = a w w
+
+  pub branch-leads : (b : Bool) (f g : Move) → Leads Q f → Leads Q g → Leads Q (elim b as (λ _. Move) [ true ↦ f | false ↦ g ])
+  branch-leads true f g a b = a
+  branch-leads false f g a b = b
+
+  -- an effect is over
+  pub settles-leads : (step : Step) → Keeps R step → Leads Q (settles step)
+  unfolding Keeps Leads
+  settles-leads step a w = moves.settles w (step w).0 (step w).1 (a w)

@@ -1,0 +1,121 @@
+-- Initialize, Finalize and assignment: each step keeps a relation that its parts keep.
+use Rattle.std.specs.Prelude.{ℕ, suc, Bool, true, false, Option, Some, None}
+use Rattle.trace_text.specs.declared.events.Event.TheVariants as line
+use Rattle.trace_text.specs.declared.events.Who.{Who}
+use Rattle.profile_machine.specs.declared.image.Image.{Image}
+use Rattle.profile_machine.specs.declared.numbers.DeclNo.{DeclNo}
+use Rattle.profile_machine.specs.declared.numbers.StatementNo.{StatementNo}
+use Rattle.profile_machine.specs.declared.numbers.SubprogramNo.{SubprogramNo}
+use Rattle.profile_machine.specs.declared.run_data.Leaving.{Leaving}
+use Rattle.profile_machine.specs.declared.run_data.Leaving.TheVariants as how
+use Rattle.profile_machine.specs.declared.values.Value.TheVariants.{Thing}
+use Rattle.profile_machine.specs.World.{Located, Variable, Registered, ScopeMark, AssignMark, AssignStep, finalize_target, copy_components, adjust_target, assigned}
+use Rattle.profile_machine.specs.Program.{declaration_of}
+use Rattle.profile_machine.specs.Steps.{own, says, changes, ◌▷◌}
+use Rattle.profile_machine.specs.Scopes.{write_cell}
+use Rattle.profile_machine.specs.Statements.{cells_from, put_cells}
+use Rattle.profile_machine.specs.Controlled.{first_place, open_operation, top_region, registered_as, register, initialize_by, initialize, end_in_initialize, edit_top_scope, finalize_has_raised, open_finalize, has_room_to_finalize, finalize_by, no_longer_registered, finalize, behind_finalize, end_in_finalize, begin_assignment, assign_registered, assign_located, assign_controlled, edit_top_assign, leave_without_room, finalize_target_by, has_room_to_adjust, adjust_by, copy_components_of, copy_object, do_step, step_with, end_in_assign}
+use Rattle.machine_laws.proofs.Moves.{StepRelation, MoveRelation, Moves}
+use Rattle.machine_laws.proofs.Kept.Combinators.{Keeps, Alters, branch-keeps, changes-from, changes-keeps, cond-keeps, looks-from, looks-keeps, nothing-keeps, says-keeps, sees-keeps, then-from, then-keeps}
+use Rattle.machine_laws.proofs.Kept.Frames.{edit_top-alters, goes-keeps, push-alters, pop-alters, leaves-keeps, raises-keeps, pass_on-keeps, given-keeps, with_room-keeps}
+use Rattle.machine_laws.proofs.Kept.Scopes.{write_cell-alters, open_scope-alters}
+
+module _ {R : StepRelation} {Q : MoveRelation} (moves : Moves R Q) where
+  pub open_operation-keeps : (p : Image) (name : Who) (f : SubprogramNo) (l : Located) → Keeps R (open_operation p name f l)
+  open_operation-keeps p name f l = search (looks-keeps, changes-keeps, open_scope-alters)
+
+  pub register-keeps : (p : Image) (name : Who) (l : Located) → Keeps R (register p name l)
+  register-keeps p name l =
+      looks-from moves _ (λ w. let n = suc w.drawn.controlled in
+      then-from moves (changes (registered_as n (top_region w name) l)) (changes (write_cell l.within (first_place p l) (Thing n)) ▷ says own (line.Init name n (top_region w name) (declaration_of p l.declared).name)) w
+      (changes-from moves (registered_as n (top_region w name) l) w (moves.registers (top_region w name) l w))
+      (search (then-keeps, changes-keeps, write_cell-alters, says-keeps)))
+
+  pub initialize_by-keeps : (p : Image) (name : Who) (s : StatementNo) (l : Located) (f : Option SubprogramNo) → Keeps R (initialize_by p name s l f)
+  initialize_by-keeps p name s l None = search (goes-keeps, then-keeps, register-keeps)
+  initialize_by-keeps p name s l (Some f) = search (with_room-keeps, goes-keeps, then-keeps, changes-keeps, push-alters, open_operation-keeps)
+
+  pub initialize-keeps : (p : Image) (name : Who) (s : StatementNo) (d : DeclNo) → Keeps R (initialize p name s d)
+  initialize-keeps p name s d = search (sees-keeps, given-keeps, initialize_by-keeps) depth 6
+
+  pub end_in_initialize-keeps : (p : Image) (name : Who) (l : Located) (leaving : Leaving) → Keeps R (end_in_initialize p name l leaving)
+  end_in_initialize-keeps p name l leaving = search (changes-keeps, pop-alters, then-keeps, cond-keeps, register-keeps, pass_on-keeps)
+
+  pub edit_top_scope-alters : (name : Who) (f : ScopeMark → ScopeMark) → Alters R (edit_top_scope name f)
+  edit_top_scope-alters name f = search (edit_top-alters)
+
+  pub open_finalize-keeps : (p : Image) (name : Who) (n : ℕ) (l : Located) (f : SubprogramNo) → Keeps R (open_finalize p name n l f)
+  open_finalize-keeps p name n l f = search (changes-keeps, push-alters, then-keeps, open_operation-keeps)
+
+  pub finalize_by-keeps : (p : Image) (name : Who) (r : Registered) (f : Option SubprogramNo) → Keeps R (finalize_by p name r f)
+  finalize_by-keeps p name r None = search (nothing-keeps)
+  finalize_by-keeps p name r (Some f) = looks-keeps moves _ (λ w. branch-keeps moves (has_room_to_finalize p w name f) (open_finalize p name r.object r.located f) (changes (edit_top_scope name finalize_has_raised)) (search (open_finalize-keeps)) (search (changes-keeps, edit_top_scope-alters)))
+
+  no_longer_registered-alters : (n : ℕ) → Alters R (no_longer_registered n)
+  unfolding Alters
+  no_longer_registered-alters n w = moves.unregisters n w
+
+  pub finalize-keeps : (p : Image) (name : Who) (r : Registered) → Keeps R (finalize p name r)
+  finalize-keeps p name r = search (says-keeps, then-keeps, changes-keeps, no_longer_registered-alters, finalize_by-keeps) depth 6
+
+  pub behind_finalize-keeps : (p : Image) (name : Who) (leaving : Leaving) (test : Bool) → Keeps R (behind_finalize p name leaving test)
+  behind_finalize-keeps p name (how.Exception e) true = search (pass_on-keeps)
+  behind_finalize-keeps p name (how.Exception e) false = search (changes-keeps, edit_top_scope-alters)
+  behind_finalize-keeps p name how.End of_assignment = search (nothing-keeps)
+  behind_finalize-keeps p name how.Return of_assignment = search (nothing-keeps)
+  behind_finalize-keeps p name (how.Exit loop) of_assignment = search (nothing-keeps)
+  behind_finalize-keeps p name how.Abort of_assignment = search (nothing-keeps)
+  behind_finalize-keeps p name how.Terminate of_assignment = search (nothing-keeps)
+
+  pub end_in_finalize-keeps : (p : Image) (name : Who) (leaving : Leaving) → Keeps R (end_in_finalize p name leaving)
+  end_in_finalize-keeps p name leaving = search (changes-keeps, pop-alters, then-keeps, looks-keeps, behind_finalize-keeps)
+
+  pub begin_assignment-keeps : (p : Image) (name : Who) (s : StatementNo) (target source : ℕ) → Keeps R (begin_assignment p name s target source)
+  begin_assignment-keeps p name s target source = search (with_room-keeps, goes-keeps, then-keeps, says-keeps, changes-keeps, push-alters) depth 6
+
+  pub assign_registered-keeps : (p : Image) (name : Who) (s : StatementNo) (r r_2 : Option Registered) → Keeps R (assign_registered p name s r r_2)
+  assign_registered-keeps p name s (Some target) (Some source) = search (begin_assignment-keeps)
+  assign_registered-keeps p name s (Some target) None = search (raises-keeps)
+  assign_registered-keeps p name s None source = search (raises-keeps)
+
+  pub assign_located-keeps : (p : Image) (name : Who) (s : StatementNo) (target source : Located) → Keeps R (assign_located p name s target source)
+  assign_located-keeps p name s target source = search (cond-keeps, goes-keeps, looks-keeps, assign_registered-keeps)
+
+  pub assign_controlled-keeps : (p : Image) (name : Who) (s : StatementNo) (target source : DeclNo) → Keeps R (assign_controlled p name s target source)
+  assign_controlled-keeps p name s target source = search (sees-keeps, given-keeps, assign_located-keeps) depth 6
+
+  pub edit_top_assign-alters : (name : Who) (f : AssignMark → AssignMark) → Alters R (edit_top_assign name f)
+  edit_top_assign-alters name f = search (edit_top-alters)
+
+  pub leave_without_room-keeps : (name : Who) → Keeps R (leave_without_room name)
+  leave_without_room-keeps name = search (leaves-keeps)
+
+  pub finalize_target_by-keeps : (p : Image) (name : Who) (r : Registered) (f : Option SubprogramNo) → Keeps R (finalize_target_by p name r f)
+  finalize_target_by-keeps p name r None = search (nothing-keeps)
+  finalize_target_by-keeps p name r (Some f) = looks-keeps moves _ (λ w. branch-keeps moves (has_room_to_finalize p w name f) (open_finalize p name r.object r.located f) (leave_without_room name) (search (open_finalize-keeps)) (search (leave_without_room-keeps)))
+
+  pub adjust_by-keeps : (p : Image) (name : Who) (r : Registered) (f : Option SubprogramNo) → Keeps R (adjust_by p name r f)
+  adjust_by-keeps p name r None = search (nothing-keeps)
+  adjust_by-keeps p name r (Some f) = looks-keeps moves _ (λ w. branch-keeps moves (has_room_to_adjust p w name f) (open_operation p name f r.located) (leave_without_room name) (search (open_operation-keeps)) (search (leave_without_room-keeps)))
+
+  pub copy_components_of-alters : (target source : Variable) (count : ℕ) → Alters R (copy_components_of target source count)
+  unfolding Alters
+  copy_components_of-alters target source count w = moves.edits_cells target.within (put_cells target.place (cells_from w source count)) w
+
+  pub copy_object-alters : (p : Image) (target source : Located) → Alters R (copy_object p target source)
+  copy_object-alters p target source = search (copy_components_of-alters)
+
+  pub do_step-keeps : (p : Image) (name : Who) (step : AssignStep) (target source : Registered) → Keeps R (do_step p name step target source)
+  do_step-keeps p name finalize_target target source = search (changes-keeps, edit_top_assign-alters, then-keeps, finalize_target_by-keeps)
+  do_step-keeps p name copy_components target source = search (changes-keeps, edit_top_assign-alters, then-keeps, copy_object-alters)
+  do_step-keeps p name adjust_target target source = search (changes-keeps, edit_top_assign-alters, then-keeps, adjust_by-keeps)
+  do_step-keeps p name assigned target source = search (changes-keeps, pop-alters)
+
+  pub step_with-keeps : (p : Image) (name : Who) (step : AssignStep) (r r_2 : Option Registered) → Keeps R (step_with p name step r r_2)
+  step_with-keeps p name step (Some target) (Some source) = search (do_step-keeps)
+  step_with-keeps p name step (Some target) None = search (changes-keeps, pop-alters)
+  step_with-keeps p name step None source = search (changes-keeps, pop-alters)
+
+  pub end_in_assign-keeps : (p : Image) (name : Who) (m : AssignMark) (leaving : Option Leaving) → Keeps R (end_in_assign p name m leaving)
+  end_in_assign-keeps p name m (Some (how.Exception e)) = search (changes-keeps, pop-alters, then-keeps, raises-keeps)
+  end_in_assign-keeps p name m _ = search (looks-keeps, step_with-keeps)

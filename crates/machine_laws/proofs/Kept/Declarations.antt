@@ -1,0 +1,136 @@
+-- Declarations of objects: each step keeps a relation that its parts keep.
+use Rattle.std.specs.Prelude.{ℕ, suc, not, List, [], ◌∷◌, Ok, leb, length}
+use Rattle.ann_base.specs.declared.exceptions.Raised.TheVariants as exception
+use Rattle.trace_text.specs.declared.events.Event.TheVariants as line
+use Rattle.trace_text.specs.declared.events.Created.TheVariants as created
+use Rattle.trace_text.specs.declared.events.Who.{Who}
+use Rattle.profile_machine.specs.declared.image.Image.{Image}
+use Rattle.profile_machine.specs.declared.numbers.DeclNo.{DeclNo}
+use Rattle.profile_machine.specs.declared.numbers.ControlledNo.{ControlledNo}
+use Rattle.profile_machine.specs.declared.numbers.ProtectedUnitNo.{ProtectedUnitNo}
+use Rattle.profile_machine.specs.declared.numbers.StatementNo.{StatementNo}
+use Rattle.profile_machine.specs.declared.declarations.DeclarationKind.{DeclarationKind}
+use Rattle.profile_machine.specs.declared.declarations.DeclarationKind.TheVariants as kind
+use Rattle.profile_machine.specs.declared.declarations.Initial.{Initial}
+use Rattle.profile_machine.specs.declared.declarations.Initial.TheVariants as initial
+use Rattle.profile_machine.specs.declared.expressions.ObjectName.TheVariants.{Declared}
+use Rattle.profile_machine.specs.declared.values.Value.{Value}
+use Rattle.profile_machine.specs.declared.values.Value.TheVariants.{Thing}
+use Rattle.profile_machine.specs.World.{World, Located, Variable}
+use Rattle.profile_machine.specs.Program.{declaration_of, next_of, protected_unit_of, controlled_of}
+use Rattle.profile_machine.specs.Steps.{own, changes, ◌▷◌}
+use Rattle.profile_machine.specs.Frames.{goes}
+use Rattle.profile_machine.specs.Operators.{◌>>=◌, unless}
+use Rattle.profile_machine.specs.Values.{Seen, value, object_cell, component_at, protected_cells, controlled_cells}
+use Rattle.profile_machine.specs.Statements.{copy_cells}
+use Rattle.profile_machine.specs.CallEnds.{store}
+use Rattle.profile_machine.specs.Declarations.{initialized, initial_of, components_initialized, located_here, set_thing, object_declared, object_drawn, new_object, with_object, says_object, declare_protected, controlled_declared, event_drawn, event_declared, with_budget, budget_declared, timed_task, with_timer, timer_declared, declared, declare_quietly, declare_by, declare}
+use Rattle.std.proofs.Common.{refl}
+use Rattle.profile_machine.specs.Values.{seen_by}
+use Rattle.machine_laws.proofs.Moves.{StepRelation, MoveRelation, Moves}
+use Rattle.machine_laws.proofs.Kept.Combinators.{Keeps, Alters, Gives, bind-gives, changes-keeps, looks-from, next-gives, ok-gives, then-keeps}
+use Rattle.machine_laws.proofs.Kept.Frames.{given-from, given_world-from, goes-keeps}
+use Rattle.machine_laws.proofs.Kept.Scopes.{write_cell-alters}
+use Rattle.machine_laws.proofs.Kept.CallEnds.{store-gives}
+use Rattle.machine_laws.proofs.Kept.Statements.{copy_cells-alters}
+
+module _ {R : StepRelation} {Q : MoveRelation} (moves : Moves R Q) where
+  initialized-gives : (q : Seen) (v : Variable) (i : Initial) (w : World) → Gives R w (initialized q v i w)
+  unfolding Alters
+  initialized-gives q v initial.Default w = ok-gives moves w w (moves.stays w)
+  initialized-gives q v (initial.Scalar e) w = bind-gives moves (value q e) (λ x. store q.program v x w) w (λ x. store-gives moves q.program v x w)
+  initialized-gives q v (initial.Array source) w =
+      bind-gives moves (object_cell q source) (λ f. Ok (copy_cells q.program v f w)) w (λ f. ok-gives moves w (copy_cells q.program v f w) (copy_cells-alters moves q.program v f w))
+
+  components_initialized-gives : (q : Seen) (own_cells : ℕ) (l : Located) (cs : List DeclNo) (w : World) → Gives R w (components_initialized q own_cells l cs w)
+  components_initialized-gives q own_cells l [] w = ok-gives moves w w (moves.stays w)
+  components_initialized-gives q own_cells l (c ∷ cs) w =
+      let v = component_at q.program own_cells l c in
+      let i = initial_of (declaration_of q.program c).kind in
+      next-gives moves (initialized q v i w) (components_initialized q own_cells l cs) w (initialized-gives q v i w) (components_initialized-gives q own_cells l cs)
+
+  pub set_thing-alters : (p : Image) (l : Located) (v : Value) → Alters R (set_thing p l v)
+  set_thing-alters p l v = search (write_cell-alters)
+
+  object_declared-gives : (q : Seen) (d : DeclNo) (i : Initial) → Gives R q.world (object_declared q d i)
+  object_declared-gives q d i =
+      bind-gives moves (object_cell q (Declared d)) (λ v. initialized q v i q.world) q.world (λ v. initialized-gives q v i q.world)
+
+  with_object-alters : (p : Image) (l : Located) (u : ProtectedUnitNo) → Alters R (with_object p l u)
+  unfolding Alters
+  with_object-alters p l u w =
+      let n = suc w.drawn.objects in
+      let added = record w { objects = new_object p l u n ∷ w.objects; drawn = object_drawn w.drawn } in
+      moves.goes_on w added (with_object p l u w) (moves.adds_object p l u w) (set_thing-alters p l (Thing n) added)
+
+  says_object-keeps : (p : Image) (l : Located) (u : ProtectedUnitNo) → Keeps R (says_object p l u)
+  unfolding Keeps
+  says_object-keeps p l u w = moves.says own (line.New (created.Object (record { 0 = w.drawn.objects })) (declaration_of p l.declared).expanded (protected_unit_of p u).ceiling) w refl
+
+  pub declare_protected-keeps : (p : Image) (name : Who) (s : StatementNo) (d : DeclNo) (u : ProtectedUnitNo) → Keeps R (declare_protected p name s d u)
+  declare_protected-keeps p name s d u =
+      looks-from moves _ (λ w. let q = seen_by p w name in
+      given-from moves p own name (located_here q d) _ w (λ l.
+      given_world-from moves p own name (components_initialized q protected_cells l (protected_unit_of p u).components w) (λ _. goes name (next_of p s) ▷ changes (with_object p l u) ▷ says_object p l u) w
+      (components_initialized-gives q protected_cells l (protected_unit_of p u).components w)
+      (λ _. search (then-keeps, goes-keeps, changes-keeps, with_object-alters, says_object-keeps))))
+
+  controlled_declared-gives : (q : Seen) (d : DeclNo) (c : ControlledNo) → Gives R q.world (controlled_declared q d c)
+  unfolding Alters
+  controlled_declared-gives q d c =
+      let components = (controlled_of q.program c).components in
+      bind-gives moves (located_here q d) (λ l. components_initialized q controlled_cells l components q.world >>= λ next. Ok (set_thing q.program l (Thing 0) next)) q.world (λ l.
+      next-gives moves (components_initialized q controlled_cells l components q.world) (λ next. Ok (set_thing q.program l (Thing 0) next)) q.world
+      (components_initialized-gives q controlled_cells l components q.world)
+      (λ next. ok-gives moves next (set_thing q.program l (Thing 0) next) (set_thing-alters q.program l (Thing 0) next)))
+
+  -- an object is located, and its first cell names it in a world that stands rightly to the one before
+  thing_declared-gives : (q : Seen) (d : DeclNo) (v : Value) (next : World) → R q.world [] next → Gives R q.world (located_here q d >>= λ l. Ok (set_thing q.program l v next))
+  unfolding Alters
+  thing_declared-gives q d v next a =
+      bind-gives moves (located_here q d) (λ l. Ok (set_thing q.program l v next)) q.world (λ l.
+      ok-gives moves q.world (set_thing q.program l v next) (moves.goes_on q.world next (set_thing q.program l v next) a (set_thing-alters q.program l v next)))
+
+  event_declared-gives : (q : Seen) (d : DeclNo) → Gives R q.world (event_declared q d)
+  event_declared-gives q d = thing_declared-gives q d (Thing q.world.drawn.events) (record q.world { drawn = event_drawn q.world.drawn }) (moves.draws_event q.world)
+
+  budget_declared-gives : (q : Seen) (d : DeclNo) → Gives R q.world (budget_declared q d)
+  budget_declared-gives q d = thing_declared-gives q d (Thing (length q.world.budgets)) (with_budget q.world) (moves.adds_budget q.world)
+
+  timer_declared-gives : (q : Seen) (d task : DeclNo) → Gives R q.world (timer_declared q d task)
+  timer_declared-gives q d task =
+      let number = Thing (length q.world.timers) in
+      bind-gives moves (timed_task q task) (λ t. unless (not (leb 256 (length q.world.timers))) exception.TimerResource t >>= λ u. located_here q d >>= λ l. Ok (set_thing q.program l number (with_timer u q.world))) q.world (λ t.
+      bind-gives moves (unless (not (leb 256 (length q.world.timers))) exception.TimerResource t) (λ u. located_here q d >>= λ l. Ok (set_thing q.program l number (with_timer u q.world))) q.world (λ u.
+      thing_declared-gives q d number (with_timer u q.world) (moves.adds_timer u q.world)))
+
+  declared-gives : (q : Seen) (d : DeclNo) (kind : DeclarationKind) → Gives R q.world (declared q d kind)
+  declared-gives q d (kind.Object i) = object_declared-gives q d i
+  declared-gives q d (kind.Task u) = ok-gives moves q.world q.world (moves.stays q.world)
+  declared-gives q d (kind.Protected u) = ok-gives moves q.world q.world (moves.stays q.world)
+  declared-gives q d (kind.Controlled c) = controlled_declared-gives q d c
+  declared-gives q d kind.Event = event_declared-gives q d
+  declared-gives q d (kind.Timer task) = timer_declared-gives q d task
+  declared-gives q d kind.Budget = budget_declared-gives q d
+  declared-gives q d kind.Parameter = ok-gives moves q.world q.world (moves.stays q.world)
+  declared-gives q d kind.Other = ok-gives moves q.world q.world (moves.stays q.world)
+
+  pub declare_quietly-keeps : (p : Image) (name : Who) (s : StatementNo) (d : DeclNo) → Keeps R (declare_quietly p name s d)
+  declare_quietly-keeps p name s d =
+      looks-from moves _ (λ w.
+      given_world-from moves p own name (declared (seen_by p w name) d (declaration_of p d).kind) (λ _. goes name (next_of p s)) w
+      (declared-gives (seen_by p w name) d (declaration_of p d).kind) (λ _. goes-keeps moves name (next_of p s)))
+
+  pub declare_by-keeps : (p : Image) (name : Who) (s : StatementNo) (d : DeclNo) (kind : DeclarationKind) → Keeps R (declare_by p name s d kind)
+  declare_by-keeps p name s d (kind.Protected u) = search (declare_protected-keeps)
+  declare_by-keeps p name s d (kind.Object i) = search (declare_quietly-keeps)
+  declare_by-keeps p name s d (kind.Task u) = search (declare_quietly-keeps)
+  declare_by-keeps p name s d (kind.Controlled c) = search (declare_quietly-keeps)
+  declare_by-keeps p name s d kind.Event = search (declare_quietly-keeps)
+  declare_by-keeps p name s d (kind.Timer task) = search (declare_quietly-keeps)
+  declare_by-keeps p name s d kind.Budget = search (declare_quietly-keeps)
+  declare_by-keeps p name s d kind.Parameter = search (declare_quietly-keeps)
+  declare_by-keeps p name s d kind.Other = search (declare_quietly-keeps)
+
+  pub declare-keeps : (p : Image) (name : Who) (s : StatementNo) (d : DeclNo) → Keeps R (declare p name s d)
+  declare-keeps p name s d = search (declare_by-keeps)

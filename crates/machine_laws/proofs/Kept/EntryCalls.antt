@@ -1,0 +1,124 @@
+-- Entry calls: each step keeps a relation that its parts keep.
+use Rattle.std.specs.Prelude.{ℕ, ℤ, Bool, true, false, Option, Some, None}
+use Rattle.ann_base.specs.declared.identities.CallNo.{CallNo}
+use Rattle.ann_base.specs.declared.identities.ObjectNo.{ObjectNo}
+use Rattle.ann_base.specs.declared.identities.TaskNo.{TaskNo}
+use Rattle.ann_base.specs.declared.exceptions.Raised.{Raised}
+use Rattle.trace_text.specs.declared.events.Who.{Who}
+use Rattle.trace_text.specs.declared.events.Who.TheVariants as who
+use Rattle.profile_machine.specs.declared.image.Image.{Image}
+use Rattle.profile_machine.specs.declared.numbers.EntryNo.{EntryNo}
+use Rattle.profile_machine.specs.declared.numbers.StatementNo.{StatementNo}
+use Rattle.profile_machine.specs.declared.statements.EntryOwner.{EntryOwner}
+use Rattle.profile_machine.specs.declared.statements.StatementForm.{StatementForm}
+use Rattle.profile_machine.specs.declared.statements.StatementForm.TheVariants as form
+use Rattle.profile_machine.specs.World.{Call, CallKind, Owner, a_task, an_object}
+use Rattle.profile_machine.specs.Steps.{Step, Part}
+use Rattle.profile_machine.specs.EntryCalls.{add_call, make_call, end_at_once, call_gone, call_meets, call_queues, call_not_met, call_accepted_by, call_callable, call_task, call_runs, call_without_room, has_room_for_action, call_runs_if_room, call_passes, call_refused, call_closed, call_by_barrier, call_object, call_owner, call_named, entry_call, appoint_trigger, trigger_delay, async_delay, async_by_trigger, asynchronous_select, mark_sending, requeue, Named}
+use Rattle.machine_laws.proofs.Moves.{StepRelation, MoveRelation, Moves}
+use Rattle.machine_laws.proofs.Kept.Combinators.{Keeps, Alters, branch-keeps, changes-keeps, looks-keeps, nothing-keeps, says-keeps, sees-keeps, then-keeps, unchanged-alters}
+use Rattle.machine_laws.proofs.Kept.Dispatching.{block-keeps}
+use Rattle.machine_laws.proofs.Kept.Frames.{goes-keeps, leaves-keeps, raises-keeps, given-keeps, raise_if-keeps, with_room-keeps}
+use Rattle.machine_laws.proofs.Kept.Appointments.{appoint-alters}
+use Rattle.machine_laws.proofs.Kept.Calls.{edit_call-alters, forget_call-alters, says_call-keeps, enqueue-keeps}
+use Rattle.machine_laws.proofs.Kept.CallEnds.{gone-keeps}
+use Rattle.machine_laws.proofs.Kept.Protected.{where_let_inside-keeps, begin_action_on-keeps, serve_call-keeps}
+use Rattle.machine_laws.proofs.Kept.Sending.{open_abortable-alters, not_accepted-keeps}
+use Rattle.machine_laws.proofs.Kept.Rendezvous.{meet-keeps}
+
+module _ {R : StepRelation} {Q : MoveRelation} (moves : Moves R Q) where
+  add_call-alters : (c : Call) → Alters R (add_call c)
+  unfolding Alters
+  add_call-alters c w = moves.adds_call c w
+
+  pub make_call-keeps : (p : Image) (c : Call) (step : Call → Step) → ((x : Call) → Keeps R (step x)) → Keeps R (make_call p c step)
+  make_call-keeps p c step k2 = search (goes-keeps, then-keeps, looks-keeps, changes-keeps, add_call-alters, says_call-keeps) depth 7
+
+  pub end_at_once-keeps : (p : Image) (part : Part) (c : Call) (e : Raised) → Keeps R (end_at_once p part c e)
+  end_at_once-keeps p part c e = search (changes-keeps, forget_call-alters, then-keeps, raises-keeps)
+
+  pub call_gone-keeps : (p : Image) (c : Call) → Keeps R (call_gone p c)
+  call_gone-keeps p c = search (gone-keeps, then-keeps, end_at_once-keeps)
+
+  pub call_meets-keeps : (p : Image) (t : TaskNo) (s : StatementNo) (c : Call) → Keeps R (call_meets p t s c)
+  call_meets-keeps p t s c = search (meet-keeps, block-keeps, end_at_once-keeps)
+
+  pub call_queues-keeps : (p : Image) (c : Call) → Keeps R (call_queues p c)
+  call_queues-keeps p c = search (enqueue-keeps, then-keeps, not_accepted-keeps)
+
+  pub call_not_met-keeps : (p : Image) (c : Call) (test : Bool) → Keeps R (call_not_met p c test)
+  call_not_met-keeps p c true = search (make_call-keeps, end_at_once-keeps)
+  call_not_met-keeps p c false = search (with_room-keeps, make_call-keeps, call_queues-keeps)
+
+  pub call_accepted_by-keeps : (p : Image) (t : TaskNo) (c : Call) (next : Option StatementNo) → Keeps R (call_accepted_by p t c next)
+  call_accepted_by-keeps p t c (Some s) = search (make_call-keeps, call_meets-keeps)
+  call_accepted_by-keeps p t c None = search (looks-keeps, call_not_met-keeps)
+
+  pub call_callable-keeps : (p : Image) (t : TaskNo) (c : Call) (test : Bool) → Keeps R (call_callable p t c test)
+  call_callable-keeps p t c false = search (make_call-keeps, call_gone-keeps)
+  call_callable-keeps p t c true = search (looks-keeps, call_accepted_by-keeps)
+
+  pub call_task-keeps : (p : Image) (t : TaskNo) (c : Call) → Keeps R (call_task p t c)
+  call_task-keeps p t c = search (looks-keeps, call_callable-keeps)
+
+  pub call_runs-keeps : (p : Image) (o : ObjectNo) (c : Call) → Keeps R (call_runs p o c)
+  call_runs-keeps p o c = search (begin_action_on-keeps, then-keeps, serve_call-keeps, nothing-keeps)
+
+  pub call_without_room-keeps : (p : Image) (o : ObjectNo) (c : Call) → Keeps R (call_without_room p o c)
+  call_without_room-keeps p o c = search (says-keeps, then-keeps, end_at_once-keeps) depth 10
+
+  pub call_runs_if_room-keeps : (p : Image) (o : ObjectNo) (c : Call) → Keeps R (call_runs_if_room p o c)
+  call_runs_if_room-keeps p o c = looks-keeps moves _ (λ w. branch-keeps moves (has_room_for_action p w c) (call_runs p o c) (call_without_room p o c) (search (call_runs-keeps)) (search (call_without_room-keeps)))
+
+  pub call_passes-keeps : (p : Image) (o : ObjectNo) (c : Call) → Keeps R (call_passes p o c)
+  call_passes-keeps p o c = search (says-keeps, then-keeps, enqueue-keeps, not_accepted-keeps) depth 7
+
+  pub call_refused-keeps : (p : Image) (o : ObjectNo) (c : Call) → Keeps R (call_refused p o c)
+  call_refused-keeps p o c = search (says-keeps, then-keeps, end_at_once-keeps) depth 6
+
+  pub call_closed-keeps : (p : Image) (o : ObjectNo) (c : Call) (test : Bool) → Keeps R (call_closed p o c test)
+  call_closed-keeps p o c true = search (make_call-keeps, call_refused-keeps)
+  call_closed-keeps p o c false = search (with_room-keeps, make_call-keeps, call_passes-keeps)
+
+  pub call_by_barrier-keeps : (p : Image) (o : ObjectNo) (c : Call) (test : Bool) → Keeps R (call_by_barrier p o c test)
+  call_by_barrier-keeps p o c true = search (with_room-keeps, make_call-keeps, call_runs_if_room-keeps)
+  call_by_barrier-keeps p o c false = search (looks-keeps, call_closed-keeps)
+
+  pub call_object-keeps : (p : Image) (o : ObjectNo) (c : Call) → Keeps R (call_object p o c)
+  call_object-keeps p o c = search (where_let_inside-keeps, looks-keeps, call_by_barrier-keeps)
+
+  pub call_owner-keeps : (p : Image) (c : Call) (owner : Owner) → Keeps R (call_owner p c owner)
+  call_owner-keeps p c (a_task t) = search (call_task-keeps)
+  call_owner-keeps p c (an_object o) = search (call_object-keeps)
+
+  pub call_named-keeps : (p : Image) (t : TaskNo) (kind : CallKind) (s : StatementNo) (n : Named) → Keeps R (call_named p t kind s n)
+  call_named-keeps p t kind s n = search (sees-keeps, given-keeps, call_owner-keeps) depth 6
+
+  pub entry_call-keeps : (p : Image) (name : Who) (kind : CallKind) (s : StatementNo) → Keeps R (entry_call p name kind s)
+  entry_call-keeps p (who.Task t) kind s = search (looks-keeps, raise_if-keeps, call_named-keeps)
+  entry_call-keeps p who.Agent kind s = search (raises-keeps)
+
+  pub appoint_trigger-alters : (name : Who) (depth : ℕ) (m : ℤ) → Alters R (appoint_trigger name depth m)
+  appoint_trigger-alters (who.Task t) depth m = search (appoint-alters)
+  appoint_trigger-alters who.Agent depth m = search (unchanged-alters)
+
+  pub trigger_delay-keeps : (p : Image) (name : Who) (s trigger : StatementNo) (m : ℤ) (test : Bool) → Keeps R (trigger_delay p name s trigger m test)
+  trigger_delay-keeps p name s trigger m false = search (goes-keeps)
+  trigger_delay-keeps p name s trigger m true = search (with_room-keeps, goes-keeps, then-keeps, looks-keeps, changes-keeps, open_abortable-alters, appoint_trigger-alters) depth 7
+
+  pub async_delay-keeps : (p : Image) (name : Who) (s trigger : StatementNo) → Keeps R (async_delay p name s trigger)
+  async_delay-keeps p name s trigger = search (sees-keeps, raise_if-keeps, given-keeps, trigger_delay-keeps) depth 6
+
+  pub async_by_trigger-keeps : (p : Image) (name : Who) (s trigger : StatementNo) (form : StatementForm) → Keeps R (async_by_trigger p name s trigger form)
+  async_by_trigger-keeps p name s trigger (form.EntryCall entry owner actuals) = search (entry_call-keeps)
+  async_by_trigger-keeps p name s trigger _ = search (async_delay-keeps)
+
+  pub asynchronous_select-keeps : (p : Image) (name : Who) (s trigger : StatementNo) → Keeps R (asynchronous_select p name s trigger)
+  asynchronous_select-keeps p name s trigger = search (async_by_trigger-keeps)
+
+  pub mark_sending-alters : (c : Option CallNo) (o : Owner) (e : EntryNo) (with_abort : Bool) → Alters R (mark_sending c o e with_abort)
+  mark_sending-alters None o e with_abort = search (unchanged-alters)
+  mark_sending-alters (Some c) o e with_abort = search (edit_call-alters)
+
+  pub requeue-keeps : (p : Image) (name : Who) (e : EntryNo) (o : EntryOwner) (with_abort : Bool) → Keeps R (requeue p name e o with_abort)
+  requeue-keeps p name e o with_abort = search (sees-keeps, given-keeps, changes-keeps, mark_sending-alters, then-keeps, leaves-keeps) depth 8

@@ -1,0 +1,92 @@
+-- Opening constructs, leaving them, and going on: each step keeps a relation that its parts keep.
+use Rattle.std.specs.Prelude.{ℕ, Bool, true, false, Option, Some, None, Result, Ok, Err}
+use Rattle.ann_base.specs.declared.exceptions.Raised.{Raised}
+use Rattle.ann_base.specs.declared.exceptions.Raised.TheVariants as exception
+use Rattle.trace_text.specs.declared.events.Who.{Who}
+use Rattle.profile_machine.specs.declared.image.Image.{Image}
+use Rattle.profile_machine.specs.declared.numbers.StatementNo.{StatementNo}
+use Rattle.profile_machine.specs.declared.run_data.Leaving.{Leaving}
+use Rattle.profile_machine.specs.declared.run_data.Leaving.TheVariants as how
+use Rattle.profile_machine.specs.declared.statements.StatementForm.{StatementForm}
+use Rattle.profile_machine.specs.declared.statements.StatementForm.TheVariants as form
+use Rattle.profile_machine.specs.World.{World, Frame, Handled}
+use Rattle.profile_machine.specs.Program.{next_of}
+use Rattle.profile_machine.specs.Steps.{Part, own, Step, changes, ◌▷◌}
+use Rattle.profile_machine.specs.Frames.{top_of, new_frame, edit_top, goes, push, pop, leaves, raises, has_room, open_handled, open_at, open_sequence, stands_in, exit_loop, pass_on, given, raise_if, with_room}
+use Rattle.profile_machine.specs.Operators.{Valued}
+use Rattle.machine_laws.proofs.Moves.{StepRelation, MoveRelation, Moves}
+use Rattle.machine_laws.proofs.Kept.Combinators.{Keeps, From, Alters, Gives, branch-keeps, changes-keeps, keeps-from, looks-keeps, nothing-keeps, says-keeps, then-keeps}
+use Rattle.machine_laws.proofs.Kept.Tasks.{edit_task-alters}
+
+module _ {R : StepRelation} {Q : MoveRelation} (moves : Moves R Q) where
+  pub edit_top-alters : (name : Who) (f : Frame → Frame) → Alters R (edit_top name f)
+  edit_top-alters name f = search (edit_task-alters)
+
+  pub goes-keeps : (name : Who) (onward : Option StatementNo) → Keeps R (goes name onward)
+  goes-keeps name onward = search (changes-keeps, edit_top-alters)
+
+  pub push-alters : (name : Who) (f : Frame) → Alters R (push name f)
+  push-alters name f = search (edit_task-alters)
+
+  pub pop-alters : (name : Who) → Alters R (pop name)
+  pop-alters name = search (edit_task-alters)
+
+  pub leaves-keeps : (name : Who) (leaving : Leaving) → Keeps R (leaves name leaving)
+  leaves-keeps name leaving = search (changes-keeps, edit_top-alters)
+
+  pub raises-keeps : (p : Image) (part : Part) (name : Who) (e : Raised) → Keeps R (raises p part name e)
+  raises-keeps p part name e = search (says-keeps, then-keeps, leaves-keeps)
+
+  pub open_handled-keeps : (p : Image) (name : Who) (s : StatementNo) (form : StatementForm) → Keeps R (open_handled p name s form)
+  open_handled-keeps p name s (form.Handled handlers first) = looks-keeps moves _ (λ w. branch-keeps moves (has_room w name 1 0) (goes name (next_of p s) ▷ changes (push name (new_frame (Handled s) (Some first)))) (raises p own name exception.Storage) (search (goes-keeps, then-keeps, changes-keeps, push-alters)) (search (raises-keeps)))
+  open_handled-keeps p name s _ = search (nothing-keeps)
+
+  pub open_at-keeps : (p : Image) (name : Who) (next : Option StatementNo) → Keeps R (open_at p name next)
+  open_at-keeps p name None = search (nothing-keeps)
+  open_at-keeps p name (Some s) = search (open_handled-keeps)
+
+  pub open_sequence-keeps : (p : Image) (name : Who) → Keeps R (open_sequence p name)
+  open_sequence-keeps p name = search (looks-keeps, open_at-keeps)
+
+  pub exit_loop-keeps : (p : Image) (name : Who) (loop : StatementNo) → Keeps R (exit_loop p name loop)
+  exit_loop-keeps p name loop = looks-keeps moves _ (λ w. branch-keeps moves (stands_in p loop (top_of w name)) (goes name (next_of p loop)) (leaves name (how.Exit loop)) (search (goes-keeps)) (search (leaves-keeps)))
+
+  pub pass_on-keeps : (p : Image) (name : Who) (leaving : Leaving) → Keeps R (pass_on p name leaving)
+  pass_on-keeps p name how.End = search (nothing-keeps)
+  pass_on-keeps p name how.Return = search (leaves-keeps)
+  pass_on-keeps p name (how.Exit loop) = search (exit_loop-keeps)
+  pass_on-keeps p name (how.Exception e) = search (leaves-keeps)
+  pass_on-keeps p name how.Abort = search (leaves-keeps)
+  pass_on-keeps p name how.Terminate = search (leaves-keeps)
+
+  pub given-keeps : {X : Type 0} (p : Image) (part : Part) (name : Who) (result : Result X Raised) (f : X → Step) → ((x : X) → Keeps R (f x)) → Keeps R (given p part name result f)
+  given-keeps p part name (Ok x) f k = k x
+  given-keeps p part name (Err e) f k = raises-keeps p part name e
+
+  -- ---- from one world
+
+  pub given-from : {X : Type 0} (p : Image) (part : Part) (name : Who) (result : Result X Raised) (f : X → Step) (w : World) → ((x : X) → From R w (f x)) → From R w (given p part name result f)
+  given-from p part name (Ok x) f w k = k x
+  given-from p part name (Err e) f w k = keeps-from moves (raises p part name e) w (raises-keeps p part name e)
+
+  pub raise_if-from : (p : Image) (name : Who) (test : Bool) (e : Raised) (step : Step) (w : World) → From R w step → From R w (raise_if p name test e step)
+  raise_if-from p name true e step w k = keeps-from moves (raises p own name e) w (raises-keeps p own name e)
+  raise_if-from p name false e step w k = k
+
+  -- the world that a value gives becomes the world
+  pub given_world-from : (p : Image) (part : Part) (name : Who) (result : Valued World) (f : World → Step) (w : World) → Gives R w result → ((next : World) → Keeps R (f next)) → From R w (given p part name result (λ next. changes (λ _. next) ▷ f next))
+  unfolding From Gives Keeps
+  given_world-from p part name (Ok next) f w a k = moves.goes_on w next (f next next).0 a (k next next)
+  given_world-from p part name (Err e) f w a k = raises-keeps p part name e w
+
+  pub becomes-from : (p : Image) (part : Part) (name : Who) (result : Valued World) (w : World) → Gives R w result → From R w (given p part name result (λ next. changes (λ _. next)))
+  unfolding From Gives Keeps
+  becomes-from p part name (Ok next) w a = a
+  becomes-from p part name (Err e) w a = raises-keeps p part name e w
+
+  pub raise_if-keeps : (p : Image) (name : Who) (test : Bool) (e : Raised) (step : Step) → Keeps R step → Keeps R (raise_if p name test e step)
+  raise_if-keeps p name true e step k4 = search (raises-keeps)
+  raise_if-keeps p name false e step k4 = search
+
+  pub with_room-keeps : (p : Image) (name : Who) (marks cells : ℕ) (step : Step) → Keeps R step → Keeps R (with_room p name marks cells step)
+  with_room-keeps p name marks cells step k4 = looks-keeps moves _ (λ w. branch-keeps moves (has_room w name marks cells) step (raises p own name exception.Storage) (search) (search (raises-keeps)))

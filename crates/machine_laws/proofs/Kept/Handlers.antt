@@ -1,0 +1,184 @@
+-- Events, timers, budgets, interrupts and releases: each step keeps a relation that its parts keep.
+use Rattle.std.specs.Prelude.{ℕ, ◌+◌, ◌-◌, ℤ, Bool, true, false, cond, Option, Some, None}
+use Rattle.ann_base.specs.declared.identities.TaskNo.{TaskNo}
+use Rattle.trace_text.specs.declared.events.Event.TheVariants as line
+use Rattle.trace_text.specs.declared.events.Who.{Who}
+use Rattle.trace_text.specs.declared.events.Who.TheVariants as who
+use Rattle.profile_machine.specs.declared.image.Image.{Image}
+use Rattle.profile_machine.specs.declared.numbers.DeclNo.{DeclNo}
+use Rattle.profile_machine.specs.declared.numbers.ExprNo.{ExprNo}
+use Rattle.profile_machine.specs.declared.numbers.StatementNo.{StatementNo}
+use Rattle.profile_machine.specs.declared.expressions.VariableName.{VariableName}
+use Rattle.profile_machine.specs.declared.statements.HandlerName.{HandlerName}
+use Rattle.profile_machine.specs.declared.statements.Setting.{Setting}
+use Rattle.profile_machine.specs.declared.values.Value.TheVariants.{Truth}
+use Rattle.profile_machine.specs.World.{World, HandlerOf, Release, Drawn, Object, Timer, TimerSetting, Budget, Variable, State, Made, Runnable, Blocked, Waiting, Appointment, Due, an_event, a_delay, a_timeout, a_trigger, of_subprogram, to_nowhere}
+use Rattle.profile_machine.specs.World as world
+use Rattle.profile_machine.specs.Program.{is_robin_level, marks_of, subprogram_of}
+use Rattle.profile_machine.specs.Steps.{Step, Part, own}
+use Rattle.profile_machine.specs.Tasks.{task_of, edit_task}
+use Rattle.profile_machine.specs.Frames.{has_room}
+use Rattle.profile_machine.specs.Values.{Seen}
+use Rattle.profile_machine.specs.CallEnds.{store}
+use Rattle.profile_machine.specs.Protected.{Entering, same_object_again, above_ceiling, held_by_another, let_inside}
+use Rattle.profile_machine.specs.Serving.{end_release}
+use Rattle.profile_machine.specs.Handlers.{add_release, says_release, wake_agent, release, with_room_for_release, scope_size_of, begin_handler, begin_handler_if_room, enter_handler, call_handler, interrupt, setting_of, answer, cancel_event_setting, appoint_event, event_set_to, set_event, cancel_event, clear_timer, with_timer_set, timer_set_beyond, timer_set_to, set_timer, cancel_timer, edit_budget, change_member, add_member, remove_member, fill_budget, replenish, add_to_budget, set_budget, cancel_budget, clock_risen, due_by_tick, charge_budget, timers_reached, quantum_spent_by, charge_clock, charge_group, charge_task, charge}
+use Rattle.std.proofs.Common.{◌≡◌, refl}
+use Rattle.std.specs.Prelude.{Bool}
+use Rattle.machine_laws.proofs.Moves.{StepRelation, MoveRelation, Moves}
+use Rattle.machine_laws.proofs.Kept.Combinators.{Keeps, Alters, branch-keeps, changes-keeps, for_some-keeps, looks-from, looks-keeps, nothing-keeps, says-keeps, sees-keeps, then-keeps, unchanged-alters}
+use Rattle.machine_laws.proofs.Kept.Frames.{becomes-from, goes-keeps, given-keeps, raise_if-keeps}
+use Rattle.machine_laws.proofs.Kept.Tasks.{edit_task-alters}
+use Rattle.machine_laws.proofs.Kept.Dispatching.{ready-keeps}
+use Rattle.machine_laws.proofs.Kept.Scopes.{open_scope-alters}
+use Rattle.machine_laws.proofs.Kept.Appointments.{appoint-alters, drop_appointment-alters}
+use Rattle.machine_laws.proofs.Kept.CallEnds.{store-gives}
+use Rattle.machine_laws.proofs.Kept.Protected.{find_held-keeps, begin_action_on-keeps}
+use Rattle.machine_laws.proofs.Kept.Serving.{end_release-keeps}
+
+module _ {R : StepRelation} {Q : MoveRelation} (moves : Moves R Q) where
+  add_release-alters : (h : HandlerOf) (argument : Option ℕ) → Alters R (add_release h argument)
+  unfolding Alters
+  add_release-alters h argument w = moves.releases h argument w
+
+  says_release-keeps : (p : Image) (part : Part) (h : HandlerOf) → Keeps R (says_release p part h)
+  unfolding Keeps
+  says_release-keeps p part h w = moves.says part (line.Release w.drawn.releases h.object (subprogram_of p h.procedure).name) w refl
+
+  pub wake_agent-keeps : (p : Image) (part : Part) (state : State) → Keeps R (wake_agent p part state)
+  wake_agent-keeps p part (Blocked waiting) = search (ready-keeps)
+  wake_agent-keeps p part Runnable = search (nothing-keeps)
+  wake_agent-keeps p part Made = search (nothing-keeps)
+
+  pub release-keeps : (p : Image) (part : Part) (h : HandlerOf) (argument : Option ℕ) → Keeps R (release p part h argument)
+  release-keeps p part h argument = search (changes-keeps, add_release-alters, then-keeps, says_release-keeps, looks-keeps, wake_agent-keeps) depth 6
+
+  pub with_room_for_release-keeps : (p : Image) (name : Who) (needed : Bool) (step : Step) → Keeps R step → Keeps R (with_room_for_release p name needed step)
+  with_room_for_release-keeps p name needed step k3 = search (looks-keeps, raise_if-keeps)
+
+  pub begin_handler-keeps : (p : Image) (r : Release) → Keeps R (begin_handler p r)
+  begin_handler-keeps p r = search (begin_action_on-keeps, then-keeps, looks-keeps, changes-keeps, open_scope-alters)
+
+  pub begin_handler_if_room-keeps : (p : Image) (r : Release) → Keeps R (begin_handler_if_room p r)
+  begin_handler_if_room-keeps p r = looks-keeps moves _ (λ w. branch-keeps moves (has_room w who.Agent (1 + marks_of p (subprogram_of p r.handler.procedure).scope) (scope_size_of p r.handler.procedure)) (begin_handler p r) (end_release p r.number) (search (begin_handler-keeps)) (search (end_release-keeps)))
+
+  pub enter_handler-keeps : (p : Image) (r : Release) (entering : Entering) → Keeps R (enter_handler p r entering)
+  enter_handler-keeps p r same_object_again = search (end_release-keeps)
+  enter_handler-keeps p r above_ceiling = search (end_release-keeps)
+  enter_handler-keeps p r held_by_another = search (find_held-keeps)
+  enter_handler-keeps p r let_inside = search (begin_handler_if_room-keeps)
+
+  pub call_handler-keeps : (p : Image) (r : Release) → Keeps R (call_handler p r)
+  call_handler-keeps p r = search (looks-keeps, enter_handler-keeps)
+
+  pub interrupt-keeps : (p : Image) (n : ℕ) → Keeps R (interrupt p n)
+  interrupt-keeps p n = search (says-keeps, then-keeps, looks-keeps, for_some-keeps, release-keeps) depth 6
+
+  pub setting_of-keeps : (p : Image) (name : Who) (q : Seen) (base : ℤ) (set : Setting) (named : Option HandlerName) (step : Option HandlerOf → ℤ → Step) → ((x : Option HandlerOf) (y : ℤ) → Keeps R (step x y)) → Keeps R (setting_of p name q base set named step)
+  setting_of-keeps p name q base set named step k6 = search (given-keeps, with_room_for_release-keeps, raise_if-keeps)
+
+  pub answer-keeps : (p : Image) (name : Who) (v : Variable) (b : Bool) → Keeps R (answer p name v b)
+  answer-keeps p name v b = looks-from moves _ (λ w. becomes-from moves p own name (store p v (Truth b) w) w (store-gives moves p v (Truth b) w))
+
+  pub cancel_event_setting-alters : (e : ℕ) → Alters R (cancel_event_setting e)
+  cancel_event_setting-alters e = search (drop_appointment-alters)
+
+  pub appoint_event-keeps : (p : Image) (e : ℕ) (h : HandlerOf) (m : ℤ) (test : Bool) → Keeps R (appoint_event p e h m test)
+  appoint_event-keeps p e h m true = search (changes-keeps, appoint-alters)
+  appoint_event-keeps p e h m false = search (release-keeps)
+
+  pub event_set_to-keeps : (p : Image) (e : ℕ) (h : Option HandlerOf) (m : ℤ) → Keeps R (event_set_to p e h m)
+  event_set_to-keeps p e None m = search (nothing-keeps)
+  event_set_to-keeps p e (Some h) m = search (looks-keeps, appoint_event-keeps)
+
+  pub set_event-keeps : (p : Image) (name : Who) (s : StatementNo) (d : DeclNo) (set : Setting) (named : Option HandlerName) → Keeps R (set_event p name s d set named)
+  set_event-keeps p name s d set named = search (sees-keeps, given-keeps, setting_of-keeps, goes-keeps, then-keeps, changes-keeps, cancel_event_setting-alters, event_set_to-keeps) depth 9
+
+  pub cancel_event-keeps : (p : Image) (name : Who) (s : StatementNo) (d : DeclNo) (target : VariableName) → Keeps R (cancel_event p name s d target)
+  cancel_event-keeps p name s d target = search (sees-keeps, given-keeps, goes-keeps, then-keeps, changes-keeps, cancel_event_setting-alters, answer-keeps) depth 9
+
+  pub clear_timer-alters : (k : ℕ) → Alters R (clear_timer k)
+  unfolding Alters
+  clear_timer-alters k w = moves.clears_timer k w
+
+  with_timer_set-alters : (k : ℕ) (h : HandlerOf) (v : ℤ) → Alters R (with_timer_set k h v)
+  unfolding Alters
+  with_timer_set-alters k h v w = moves.sets_timer k h v w
+
+  pub timer_set_beyond-keeps : (p : Image) (k : ℕ) (h : HandlerOf) (v : ℤ) (test : Bool) → Keeps R (timer_set_beyond p k h v test)
+  timer_set_beyond-keeps p k h v true = search (changes-keeps, with_timer_set-alters)
+  timer_set_beyond-keeps p k h v false = search (release-keeps)
+
+  pub timer_set_to-keeps : (p : Image) (k clock : ℕ) (h : Option HandlerOf) (v : ℤ) → Keeps R (timer_set_to p k clock h v)
+  timer_set_to-keeps p k clock None v = search (nothing-keeps)
+  timer_set_to-keeps p k clock (Some h) v = search (timer_set_beyond-keeps)
+
+  pub set_timer-keeps : (p : Image) (name : Who) (s : StatementNo) (d : DeclNo) (set : Setting) (named : Option HandlerName) → Keeps R (set_timer p name s d set named)
+  set_timer-keeps p name s d set named = search (sees-keeps, given-keeps, setting_of-keeps, goes-keeps, then-keeps, changes-keeps, clear_timer-alters, timer_set_to-keeps) depth 9
+
+  pub cancel_timer-keeps : (p : Image) (name : Who) (s : StatementNo) (d : DeclNo) (target : VariableName) → Keeps R (cancel_timer p name s d target)
+  cancel_timer-keeps p name s d target = search (sees-keeps, given-keeps, goes-keeps, then-keeps, changes-keeps, clear_timer-alters, answer-keeps) depth 9
+
+  edit_budget-alters : (b : ℕ) (f : Budget → Budget) → Alters R (edit_budget b f)
+  unfolding Alters
+  edit_budget-alters b f w = moves.edits_budget b f w
+
+  pub change_member-keeps : (p : Image) (name : Who) (s : StatementNo) (t : world.Task) (is_right : Bool) (b : Option ℕ) → Keeps R (change_member p name s t is_right b)
+  change_member-keeps p name s t is_right b = search (raise_if-keeps, goes-keeps, then-keeps, changes-keeps, edit_task-alters)
+
+  pub add_member-keeps : (p : Image) (name : Who) (s : StatementNo) (d : DeclNo) (e : ExprNo) → Keeps R (add_member p name s d e)
+  add_member-keeps p name s d e = search (sees-keeps, given-keeps, change_member-keeps) depth 6
+
+  pub remove_member-keeps : (p : Image) (name : Who) (s : StatementNo) (d : DeclNo) (e : ExprNo) → Keeps R (remove_member p name s d e)
+  remove_member-keeps p name s d e = search (sees-keeps, given-keeps, change_member-keeps) depth 6
+
+  pub fill_budget-keeps : (p : Image) (name : Who) (s : StatementNo) (d : DeclNo) (e : ExprNo) (f : ℤ → Budget → Budget) → Keeps R (fill_budget p name s d e f)
+  fill_budget-keeps p name s d e f = search (sees-keeps, given-keeps, with_room_for_release-keeps, raise_if-keeps, goes-keeps, then-keeps, changes-keeps, edit_budget-alters) depth 8
+
+  pub replenish-keeps : (p : Image) (name : Who) (s : StatementNo) (d : DeclNo) (e : ExprNo) → Keeps R (replenish p name s d e)
+  replenish-keeps p name s d e = search (fill_budget-keeps)
+
+  pub add_to_budget-keeps : (p : Image) (name : Who) (s : StatementNo) (d : DeclNo) (e : ExprNo) → Keeps R (add_to_budget p name s d e)
+  add_to_budget-keeps p name s d e = search (fill_budget-keeps)
+
+  pub set_budget-keeps : (p : Image) (name : Who) (s : StatementNo) (d : DeclNo) (named : Option HandlerName) → Keeps R (set_budget p name s d named)
+  set_budget-keeps p name s d named = search (sees-keeps, given-keeps, with_room_for_release-keeps, raise_if-keeps, goes-keeps, then-keeps, changes-keeps, edit_budget-alters) depth 8
+
+  pub cancel_budget-keeps : (p : Image) (name : Who) (s : StatementNo) (d : DeclNo) (target : VariableName) → Keeps R (cancel_budget p name s d target)
+  cancel_budget-keeps p name s d target = search (sees-keeps, given-keeps, goes-keeps, then-keeps, changes-keeps, edit_budget-alters, answer-keeps) depth 9
+
+  pub charge_budget-alters : (n : Option ℕ) → Alters R (charge_budget n)
+  charge_budget-alters None = search (unchanged-alters)
+  charge_budget-alters (Some b) = search (edit_budget-alters)
+
+  -- ---- a tick is charged
+
+  charge_clock-alters : (t : TaskNo) → Alters R (charge_clock t)
+  unfolding Alters
+  charge_clock-alters t w =
+      let next = edit_task (who.Task t) clock_risen w in
+      moves.goes_on w next (charge_clock t w) (moves.edits_task (who.Task t) clock_risen w (λ u. refl)) (moves.sets_timers_due (timers_reached t next) next)
+
+  charge_group-alters : (t : TaskNo) → Alters R (charge_group t)
+  unfolding Alters
+  charge_group-alters t w =
+      let b = (task_of w (who.Task t)).budget in
+      moves.goes_on w (charge_budget b w) (charge_group t w) (charge_budget-alters b w) (moves.sets_budget_due (due_by_tick w b) (charge_budget b w))
+
+  spent-who : (robin : Bool) (t : world.Task) → (cond robin (record t { quantum = t.quantum - 1 }) t).who ≡ t.who
+  spent-who true t = refl
+  spent-who false t = refl
+
+  charge_task-alters : (p : Image) (t : TaskNo) → Alters R (charge_task p t)
+  unfolding Alters
+  charge_task-alters p t w =
+      let risen = charge_clock t w in
+      let charged = charge_group t risen in
+      moves.goes_on w risen (charge_task p t w) (charge_clock-alters t w)
+      (moves.goes_on risen charged (charge_task p t w) (charge_group-alters t risen)
+      (moves.edits_task (who.Task t) (quantum_spent_by p) charged (λ u. spent-who (is_robin_level p u.base) u)))
+
+  pub charge-alters : (p : Image) (name : Who) → Alters R (charge p name)
+  unfolding Alters
+  charge-alters p (who.Task t) w = charge_task-alters p t w
+  charge-alters p who.Agent w = moves.stays w

@@ -1,0 +1,23 @@
+-- Inherited priorities: each step keeps a relation that its parts keep.
+use Rattle.std.specs.Prelude.{ℕ}
+use Rattle.trace_text.specs.declared.events.Who.{Who}
+use Rattle.profile_machine.specs.declared.image.Image.{Image}
+use Rattle.profile_machine.specs.World.{Cause}
+use Rattle.profile_machine.specs.Inheritance.{inherit, lose, inherit_running, lose_running}
+use Rattle.machine_laws.proofs.Moves.{StepRelation, MoveRelation, Moves}
+use Rattle.machine_laws.proofs.Kept.Combinators.{Keeps, Alters, changes-keeps, looks-keeps, then-keeps, when-keeps}
+use Rattle.machine_laws.proofs.Kept.Tasks.{edit_task-alters}
+use Rattle.machine_laws.proofs.Kept.Dispatching.{to_head-keeps}
+
+module _ {R : StepRelation} {Q : MoveRelation} (moves : Moves R Q) where
+  pub inherit-alters : (name : Who) (cause : Cause) (level : ℕ) → Alters R (inherit name cause level)
+  inherit-alters name cause level = search (edit_task-alters)
+
+  pub lose-alters : (name : Who) (cause : Cause) → Alters R (lose name cause)
+  lose-alters name cause = search (edit_task-alters)
+
+  pub inherit_running-keeps : (p : Image) (name : Who) (cause : Cause) (level : ℕ) → Keeps R (inherit_running p name cause level)
+  inherit_running-keeps p name cause level = search (looks-keeps, changes-keeps, inherit-alters, then-keeps, when-keeps, to_head-keeps) depth 6
+
+  pub lose_running-keeps : (p : Image) (name : Who) (cause : Cause) → Keeps R (lose_running p name cause)
+  lose_running-keeps p name cause = search (looks-keeps, changes-keeps, lose-alters, then-keeps, when-keeps, to_head-keeps) depth 6

@@ -1,0 +1,145 @@
+-- The parts of an instant, and the instant: each step keeps a relation that its parts keep.
+use Rattle.std.specs.Prelude.{ℕ, zero, suc, ℤ, pos, int_le, Bool, true, false, List, [], ◌∷◌, Option, Some, None}
+use Rattle.ann_base.specs.declared.identities.CallNo.{CallNo}
+use Rattle.trace_text.specs.declared.events.Who.{Who}
+use Rattle.trace_text.specs.declared.events.Who.TheVariants as who
+use Rattle.profile_machine.specs.declared.image.Image.{Image}
+use Rattle.profile_machine.specs.declared.run_data.Item.{Item}
+use Rattle.profile_machine.specs.declared.run_data.Item.TheVariants as item
+use Rattle.profile_machine.specs.World.{Waiting, for_select, Due, an_event, a_delay, a_timeout, a_trigger, Appointment, TimerSetting}
+use Rattle.profile_machine.specs.Steps.{Step, changes, nothing, settles, ◌▷◌}
+use Rattle.profile_machine.specs.Tasks.{task_of}
+use Rattle.profile_machine.specs.Appointments.{first_due}
+use Rattle.profile_machine.specs.Instant.{effect, is_over, effect_of_runner, finish_action, with_port, with_masked, with_kept, interrupt_comes, deliver_kept, script_item, with_script, items_due, script_items, take_delay, end_delay, time_out, come_due, take_due, all_due, appointments_due, events_due, moments_due, expire, expire_timer, no_timers_due, timers_due, run_out, no_budget_due, budgets_due, spend_quantum, quantum_spent, instant}
+use Rattle.machine_laws.proofs.Moves.{StepRelation, MoveRelation, Moves}
+use Rattle.machine_laws.proofs.Kept.Combinators.{Keeps, Leads, Alters, branch-keeps, branch-leads, changes-keeps, for_each-keeps, for_some-keeps, looks-keeps, looks-leads, nothing-keeps, nothing-leads, says-keeps, settles-leads, then-keeps, then-leads, when-keeps}
+use Rattle.machine_laws.proofs.Kept.Tasks.{edit_task-alters}
+use Rattle.machine_laws.proofs.Kept.Dispatching.{to_tail-keeps, ready-keeps}
+use Rattle.machine_laws.proofs.Kept.Frames.{goes-keeps, open_sequence-keeps}
+use Rattle.machine_laws.proofs.Kept.Appointments.{drop_appointment-alters}
+use Rattle.machine_laws.proofs.Kept.Calls.{with_call-keeps, unqueued-alters}
+use Rattle.machine_laws.proofs.Kept.Unwinding.{unwind-keeps}
+use Rattle.machine_laws.proofs.Kept.CallEnds.{trigger_at-keeps, deliver-keeps}
+use Rattle.machine_laws.proofs.Kept.Tasking.{take_terminates-keeps, unwind_all-keeps}
+use Rattle.machine_laws.proofs.Kept.Handlers.{release-keeps, interrupt-keeps, clear_timer-alters}
+use Rattle.machine_laws.proofs.Kept.Act.{act-keeps}
+
+module _ {R : StepRelation} {Q : MoveRelation} (moves : Moves R Q) where
+  pub effect-keeps : (p : Image) (name : Who) → Keeps R (effect p name)
+  effect-keeps p name = search (changes-keeps, edit_task-alters, then-keeps, act-keeps, open_sequence-keeps, take_terminates-keeps, unwind_all-keeps) depth 7
+
+  effect_of_runner-leads : (p : Image) (by : Option Who) → Leads Q (effect_of_runner p by)
+  effect_of_runner-leads p None = nothing-leads moves
+  effect_of_runner-leads p (Some name) =
+      looks-leads moves _ (λ w. branch-leads moves (is_over (task_of w name).ticks_left) (settles (effect p name)) nothing (search (settles-leads, effect-keeps)) (search (nothing-leads)))
+
+  pub finish_action-leads : (p : Image) → Leads Q (finish_action p)
+  finish_action-leads p = search (looks-leads, effect_of_runner-leads)
+
+  with_port-alters : (n : ℕ) (value : ℤ) → Alters R (with_port n value)
+  unfolding Alters
+  with_port-alters n value w = moves.sets_port n value w
+
+  with_masked-alters : (n : ℕ) (flag : Bool) → Alters R (with_masked n flag)
+  unfolding Alters
+  with_masked-alters n flag w = moves.masks n flag w
+
+  with_kept-alters : (n : ℕ) (flag : Bool) → Alters R (with_kept n flag)
+  unfolding Alters
+  with_kept-alters n flag w = moves.keeps_interrupt n flag w
+
+  pub interrupt_comes-keeps : (p : Image) (n : ℕ) (test : Bool) → Keeps R (interrupt_comes p n test)
+  interrupt_comes-keeps p n true = search (says-keeps, then-keeps, changes-keeps, with_kept-alters)
+  interrupt_comes-keeps p n false = search (interrupt-keeps)
+
+  pub deliver_kept-keeps : (p : Image) (n : ℕ) (test : Bool) → Keeps R (deliver_kept p n test)
+  deliver_kept-keeps p n true = search (changes-keeps, with_kept-alters, then-keeps, interrupt-keeps)
+  deliver_kept-keeps p n false = search (nothing-keeps)
+
+  pub script_item-keeps : (p : Image) (it : Item) → Keeps R (script_item p it)
+  script_item-keeps p (item.Interrupt n) = search (looks-keeps, interrupt_comes-keeps)
+  script_item-keeps p (item.Port n value) = search (changes-keeps, with_port-alters, then-keeps, says-keeps)
+  script_item-keeps p (item.Mask n) = search (changes-keeps, with_masked-alters, then-keeps, says-keeps)
+  script_item-keeps p (item.Unmask n) = search (changes-keeps, with_masked-alters, then-keeps, says-keeps, looks-keeps, deliver_kept-keeps) depth 7
+
+  with_script-alters : (script : List (ℤ × Item)) → Alters R (with_script script)
+  unfolding Alters
+  with_script-alters script w = moves.cuts_script script w
+
+  items_due-keeps : (p : Image) (now : ℕ) (script : List (ℤ × Item)) → Keeps R (items_due p now script)
+  items_due-keeps p now [] = search (nothing-keeps)
+  items_due-keeps p now (x ∷ xs) =
+      branch-keeps moves (int_le x.0 (pos now)) (changes (with_script xs) ▷ script_item p x.1 ▷ items_due p now xs) nothing
+      (then-keeps moves (changes (with_script xs)) _ (search (changes-keeps, with_script-alters)) (then-keeps moves (script_item p x.1) _ (script_item-keeps p x.1) (items_due-keeps p now xs))) (search (nothing-keeps))
+
+  pub script_items-leads : (p : Image) → Leads Q (script_items p)
+  script_items-leads p = search (settles-leads, looks-keeps, items_due-keeps)
+
+  pub take_delay-keeps : (p : Image) (name : Who) (waiting : Option Waiting) → Keeps R (take_delay p name waiting)
+  take_delay-keeps p name (Some (for_select accepts (Some delay) terminate)) = search (goes-keeps)
+  take_delay-keeps p name _ = search (nothing-keeps)
+
+  pub end_delay-keeps : (p : Image) (name : Who) → Keeps R (end_delay p name)
+  end_delay-keeps p name = search (looks-keeps, take_delay-keeps, then-keeps, ready-keeps)
+
+  pub time_out-keeps : (p : Image) (c : CallNo) → Keeps R (time_out p c)
+  time_out-keeps p c = search (with_call-keeps, changes-keeps, unqueued-alters, then-keeps, says-keeps, deliver-keeps) depth 6
+
+  pub come_due-keeps : (p : Image) (due : Due) → Keeps R (come_due p due)
+  come_due-keeps p (an_event n h) = search (release-keeps)
+  come_due-keeps p (a_delay t) = search (end_delay-keeps)
+  come_due-keeps p (a_timeout c) = search (time_out-keeps)
+  come_due-keeps p (a_trigger t depth) = search (trigger_at-keeps, then-keeps, unwind-keeps)
+
+  pub take_due-keeps : (p : Image) (again : Step) (a : Option Appointment) → Keeps R again → Keeps R (take_due p again a)
+  take_due-keeps p again None k1 = search (nothing-keeps)
+  take_due-keeps p again (Some a) k1 = search (changes-keeps, drop_appointment-alters, then-keeps, come_due-keeps)
+
+  all_due-keeps : (fuel : ℕ) (p : Image) (events : Bool) → Keeps R (all_due fuel p events)
+  all_due-keeps zero p events = search (nothing-keeps)
+  all_due-keeps (suc fuel) p events =
+      looks-keeps moves _ (λ w. take_due-keeps p (all_due fuel p events) (first_due events w.now w.appointments) (all_due-keeps fuel p events))
+
+  pub appointments_due-leads : (p : Image) (events : Bool) → Leads Q (appointments_due p events)
+  appointments_due-leads p events = search (settles-leads, looks-keeps, all_due-keeps)
+
+  pub events_due-leads : (p : Image) → Leads Q (events_due p)
+  events_due-leads p = search (appointments_due-leads)
+
+  pub moments_due-leads : (p : Image) → Leads Q (moments_due p)
+  moments_due-leads p = search (appointments_due-leads)
+
+  pub expire-keeps : (p : Image) (k : ℕ) (setting : Option TimerSetting) → Keeps R (expire p k setting)
+  expire-keeps p k None = search (nothing-keeps)
+  expire-keeps p k (Some s) = search (changes-keeps, clear_timer-alters, then-keeps, release-keeps)
+
+  pub expire_timer-keeps : (p : Image) (k : ℕ) → Keeps R (expire_timer p k)
+  expire_timer-keeps p k = search (looks-keeps, expire-keeps)
+
+  no_timers_due-alters : Alters R no_timers_due
+  unfolding Alters
+  no_timers_due-alters w = moves.sets_timers_due [] w
+
+  pub timers_due-leads : (p : Image) → Leads Q (timers_due p)
+  timers_due-leads p = search (settles-leads, looks-keeps, for_each-keeps, expire_timer-keeps, then-keeps, changes-keeps, no_timers_due-alters) depth 7
+
+  pub run_out-keeps : (p : Image) (b : ℕ) → Keeps R (run_out p b)
+  run_out-keeps p b = search (looks-keeps, for_some-keeps, release-keeps)
+
+  no_budget_due-alters : Alters R no_budget_due
+  unfolding Alters
+  no_budget_due-alters w = moves.sets_budget_due None w
+
+  pub budgets_due-leads : (p : Image) → Leads Q (budgets_due p)
+  budgets_due-leads p = search (settles-leads, looks-keeps, for_some-keeps, run_out-keeps, then-keeps, changes-keeps, no_budget_due-alters) depth 7
+
+  pub spend_quantum-keeps : (p : Image) (by : Option Who) → Keeps R (spend_quantum p by)
+  spend_quantum-keeps p None = search (nothing-keeps)
+  spend_quantum-keeps p (Some who.Agent) = search (nothing-keeps)
+  spend_quantum-keeps p (Some (who.Task t)) = search (looks-keeps, when-keeps, says-keeps, then-keeps, to_tail-keeps) depth 6
+
+  pub quantum_spent-leads : (p : Image) → Leads Q (quantum_spent p)
+  quantum_spent-leads p = search (settles-leads, looks-keeps, spend_quantum-keeps)
+
+  pub instant-leads : (p : Image) → Leads Q (instant p)
+  instant-leads p = search (finish_action-leads, then-leads, script_items-leads, events_due-leads, moments_due-leads, timers_due-leads, budgets_due-leads, quantum_spent-leads) depth 8

@@ -1,0 +1,107 @@
+-- Base priorities and deadlines that are set: each step keeps a relation that its parts keep.
+use Rattle.std.specs.Prelude.{ℕ, ℤ, ◌&&◌, Option, Some, None}
+use Rattle.trace_text.specs.declared.events.Who.{Who}
+use Rattle.trace_text.specs.declared.events.Who.TheVariants as who
+use Rattle.profile_machine.specs.declared.image.Image.{Image}
+use Rattle.profile_machine.specs.declared.image.Queuing.{Queuing}
+use Rattle.profile_machine.specs.declared.image.Queuing.TheVariants as queuing
+use Rattle.profile_machine.specs.declared.numbers.ExprNo.{ExprNo}
+use Rattle.profile_machine.specs.declared.numbers.StatementNo.{StatementNo}
+use Rattle.profile_machine.specs.World.{World, Call, State, Made, Runnable, Blocked, Waiting, for_activation, for_moment, for_call, for_end_of_call, for_accept, for_select, for_dependents, for_release}
+use Rattle.profile_machine.specs.World as world
+use Rattle.profile_machine.specs.Words.{edit_at}
+use Rattle.profile_machine.specs.Program.{next_of, has_edf}
+use Rattle.profile_machine.specs.Steps.{Part, own, changes}
+use Rattle.profile_machine.specs.Frames.{goes, in_protected}
+use Rattle.profile_machine.specs.Values.{value, moment, whole_in}
+use Rattle.profile_machine.specs.Calls.{place_of_entry, take_call, put_call}
+use Rattle.profile_machine.specs.Masters.{part_of}
+use Rattle.profile_machine.specs.Priorities.{placed_anew, reprioritize, reprioritize_own, replace_in, says_base, set_base, says_deadline, set_deadline, take_base, take_deadline, set_deferred, placing_of, defer_base, set_or_defer_base, set_base_of, priority_in_range, set_priority, quantum_of, set_quantum, defer_deadline, set_or_defer_deadline, set_deadline_of, delay_with_deadline, delay_and_set_deadline}
+use Rattle.machine_laws.proofs.Moves.{StepRelation, MoveRelation, Moves}
+use Rattle.machine_laws.proofs.Kept.Combinators.{Keeps, Alters, branch-keeps, changes-keeps, for_some-keeps, looks-keeps, nothing-keeps, says-keeps, sees-keeps, then-keeps, when-keeps}
+use Rattle.machine_laws.proofs.Kept.Tasks.{edit_task-alters}
+use Rattle.machine_laws.proofs.Kept.Dispatching.{to_tail-keeps}
+use Rattle.machine_laws.proofs.Kept.Frames.{goes-keeps, given-keeps, raise_if-keeps}
+use Rattle.machine_laws.proofs.Kept.Calls.{edit_call-alters, with_call-keeps, edit_queue-alters}
+use Rattle.machine_laws.proofs.Kept.Statements.{delay_to-keeps}
+
+module _ {R : StepRelation} {Q : MoveRelation} (moves : Moves R Q) where
+  pub placed_anew-alters : (queuing : Queuing) (p : Image) (c : Call) (level : ℕ) → Alters R (placed_anew queuing p c level)
+  unfolding Alters
+  placed_anew-alters queuing.Fifo p c level w = moves.stays w
+  placed_anew-alters queuing.Priority p c level w =
+      edit_queue-alters moves c.owner (place_of_entry p c.entry) (λ q. put_call queuing.Priority w c.number level (take_call c.number q)) w
+
+  pub reprioritize-keeps : (p : Image) (level : ℕ) (c : Call) → Keeps R (reprioritize p level c)
+  reprioritize-keeps p level c = search (when-keeps, changes-keeps, edit_call-alters, then-keeps, placed_anew-alters) depth 6
+
+  pub reprioritize_own-keeps : (p : Image) (name : Who) (waiting : Waiting) → Keeps R (reprioritize_own p name waiting)
+  reprioritize_own-keeps p name waiting = search (looks-keeps, for_some-keeps, with_call-keeps, reprioritize-keeps)
+
+  pub replace_in-keeps : (p : Image) (part : Part) (name : Who) (state : State) → Keeps R (replace_in p part name state)
+  replace_in-keeps p part name Made = search (nothing-keeps)
+  replace_in-keeps p part name Runnable = search (to_tail-keeps)
+  replace_in-keeps p part name (Blocked waiting) = search (reprioritize_own-keeps)
+
+  pub says_base-keeps : (part : Part) (name : Who) (level : ℕ) → Keeps R (says_base part name level)
+  says_base-keeps part (who.Task t) level = search (says-keeps)
+  says_base-keeps part who.Agent level = search (nothing-keeps)
+
+  pub set_base-keeps : (p : Image) (part placing : Part) (name : Who) (level : ℕ) → Keeps R (set_base p part placing name level)
+  set_base-keeps p part placing name level = search (changes-keeps, edit_task-alters, then-keeps, says_base-keeps, looks-keeps, replace_in-keeps) depth 6
+
+  pub says_deadline-keeps : (part : Part) (name : Who) (d : ℤ) → Keeps R (says_deadline part name d)
+  says_deadline-keeps part (who.Task t) d = search (says-keeps)
+  says_deadline-keeps part who.Agent d = search (nothing-keeps)
+
+  pub set_deadline-keeps : (p : Image) (part placing : Part) (name : Who) (d : ℤ) → Keeps R (set_deadline p part placing name d)
+  set_deadline-keeps p part placing name d = search (changes-keeps, edit_task-alters, then-keeps, says_deadline-keeps, looks-keeps, when-keeps, to_tail-keeps) depth 7
+
+  pub take_base-keeps : (p : Image) (name : Who) (n : Option ℕ) → Keeps R (take_base p name n)
+  take_base-keeps p name None = search (nothing-keeps)
+  take_base-keeps p name (Some level) = search (changes-keeps, edit_task-alters, then-keeps, set_base-keeps)
+
+  pub take_deadline-keeps : (p : Image) (name : Who) (moment : Option ℤ) → Keeps R (take_deadline p name moment)
+  take_deadline-keeps p name None = search (nothing-keeps)
+  take_deadline-keeps p name (Some d) = search (changes-keeps, edit_task-alters, then-keeps, set_deadline-keeps)
+
+  pub set_deferred-keeps : (p : Image) (name : Who) → Keeps R (set_deferred p name)
+  set_deferred-keeps p name = search (looks-keeps, when-keeps, take_base-keeps, then-keeps, take_deadline-keeps)
+
+  pub defer_base-keeps : (p : Image) (name : Who) (level : ℕ) → Keeps R (defer_base p name level)
+  defer_base-keeps p name level = search (changes-keeps, edit_task-alters)
+
+  pub set_or_defer_base-keeps : (p : Image) (actor name : Who) (level : ℕ) → Keeps R (set_or_defer_base p actor name level)
+  set_or_defer_base-keeps p actor name level = looks-keeps moves _ (λ w. branch-keeps moves (in_protected w name) (defer_base p name level) (set_base p (part_of actor name) (placing_of actor name) name level) (search (defer_base-keeps)) (search (set_base-keeps)))
+
+  pub set_base_of-keeps : (p : Image) (actor : Who) (s : StatementNo) (level : ℕ) (t : Option world.Task) → Keeps R (set_base_of p actor s level t)
+  set_base_of-keeps p actor s level None = search (goes-keeps)
+  set_base_of-keeps p actor s level (Some t) = search (raise_if-keeps, goes-keeps, then-keeps, set_or_defer_base-keeps)
+
+  pub set_priority-keeps : (p : Image) (name : Who) (s : StatementNo) (e : ExprNo) (task : Option ExprNo) → Keeps R (set_priority p name s e task)
+  set_priority-keeps p name s e task = search (sees-keeps, given-keeps, set_base_of-keeps) depth 6
+
+  set_level-keeps : (level ticks : ℕ) → Keeps R (changes (λ w. record w { quanta = edit_at level (λ _. ticks) w.quanta }))
+  unfolding Keeps
+  set_level-keeps level ticks w = moves.sets_quantum level ticks w
+
+  pub set_quantum-keeps : (p : Image) (name : Who) (s : StatementNo) (level quantum : ExprNo) → Keeps R (set_quantum p name s level quantum)
+  set_quantum-keeps p name s level quantum =
+      sees-keeps moves p name _ (λ q. given-keeps moves p own name (value q level) _ (λ v. given-keeps moves p own name (moment q quantum) _ (λ n.
+      given-keeps moves p own name (priority_in_range p p.policies.last_priority (whole_in v)) _ (λ l. given-keeps moves p own name (quantum_of p l n) _ (λ ticks.
+      then-keeps moves (goes name (next_of p s)) _ (goes-keeps moves name (next_of p s)) (set_level-keeps l ticks))))))
+
+  pub defer_deadline-keeps : (name : Who) (d : ℤ) → Keeps R (defer_deadline name d)
+  defer_deadline-keeps name d = search (changes-keeps, edit_task-alters)
+
+  pub set_or_defer_deadline-keeps : (p : Image) (actor name : Who) (d : ℤ) → Keeps R (set_or_defer_deadline p actor name d)
+  set_or_defer_deadline-keeps p actor name d = looks-keeps moves _ (λ w. branch-keeps moves (in_protected w name && has_edf p) (defer_deadline name d) (set_deadline p (part_of actor name) (placing_of actor name) name d) (search (defer_deadline-keeps)) (search (set_deadline-keeps)))
+
+  pub set_deadline_of-keeps : (p : Image) (name : Who) (s : StatementNo) (e : ExprNo) (task : Option ExprNo) → Keeps R (set_deadline_of p name s e task)
+  set_deadline_of-keeps p name s e task = search (sees-keeps, given-keeps, goes-keeps, then-keeps, set_or_defer_deadline-keeps) depth 7
+
+  pub delay_with_deadline-keeps : (p : Image) (name : Who) (s : StatementNo) (until offset : ℤ) → Keeps R (delay_with_deadline p name s until offset)
+  delay_with_deadline-keeps p name s until offset = search (goes-keeps, then-keeps, changes-keeps, edit_task-alters, says_deadline-keeps, delay_to-keeps) depth 6
+
+  pub delay_and_set_deadline-keeps : (p : Image) (name : Who) (s : StatementNo) (until offset : ExprNo) → Keeps R (delay_and_set_deadline p name s until offset)
+  delay_and_set_deadline-keeps p name s until offset = search (sees-keeps, raise_if-keeps, given-keeps, delay_with_deadline-keeps) depth 6

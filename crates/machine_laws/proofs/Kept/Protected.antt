@@ -1,0 +1,75 @@
+-- Protected actions and entry bodies: each step keeps a relation that its parts keep.
+use Rattle.std.specs.Prelude.{ℕ, List, Option, Some, None}
+use Rattle.ann_base.specs.declared.exceptions.Raised.TheVariants as exception
+use Rattle.ann_base.specs.declared.identities.ObjectNo.{ObjectNo}
+use Rattle.ann_base.specs.declared.identities.CallNo.{CallNo}
+use Rattle.trace_text.specs.declared.events.Event.TheVariants as line
+use Rattle.trace_text.specs.declared.events.Finished.TheVariants as finished
+use Rattle.trace_text.specs.declared.events.Mode.{Mode}
+use Rattle.trace_text.specs.declared.events.Who.{Who}
+use Rattle.profile_machine.specs.declared.image.Image.{Image}
+use Rattle.profile_machine.specs.declared.numbers.DeclNo.{DeclNo}
+use Rattle.profile_machine.specs.declared.numbers.StatementNo.{StatementNo}
+use Rattle.profile_machine.specs.declared.numbers.SubprogramNo.{SubprogramNo}
+use Rattle.profile_machine.specs.declared.statements.Actual.{Actual}
+use Rattle.profile_machine.specs.declared.statements.Destination.{Destination}
+use Rattle.profile_machine.specs.World.{ResultTo, ProtectedMark, Call}
+use Rattle.profile_machine.specs.Steps.{Step, Part, says, ◌▷◌}
+use Rattle.profile_machine.specs.Frames.{exception_name}
+use Rattle.profile_machine.specs.Subprograms.{Handed}
+use Rattle.profile_machine.specs.Protected.{find_held, enter_or, where_let_inside, open_action, begin_action_on, begin_operation, call_operation_of, call_operation, begin_own_operation, call_own_operation, edit_top_protected, begin_call, body_opens, has_room_for_body, serve_call, Entering, same_object_again, above_ceiling, held_by_another, let_inside}
+use Rattle.machine_laws.proofs.Moves.{StepRelation, MoveRelation, Moves}
+use Rattle.machine_laws.proofs.Kept.Combinators.{Keeps, Alters, branch-keeps, changes-keeps, looks-keeps, says-keeps, sees-keeps, then-keeps}
+use Rattle.machine_laws.proofs.Kept.Dispatching.{to_tail-keeps}
+use Rattle.machine_laws.proofs.Kept.Frames.{edit_top-alters, goes-keeps, push-alters, raises-keeps, given-keeps, raise_if-keeps, with_room-keeps}
+use Rattle.machine_laws.proofs.Kept.Scopes.{open_scope-alters}
+use Rattle.machine_laws.proofs.Kept.Inheritance.{inherit_running-keeps}
+use Rattle.machine_laws.proofs.Kept.Calls.{edit_call-alters, edit_object-alters, unqueued-alters}
+use Rattle.machine_laws.proofs.Kept.Subprograms.{begin_body-keeps, handing-keeps}
+
+module _ {R : StepRelation} {Q : MoveRelation} (moves : Moves R Q) where
+  pub find_held-keeps : (p : Image) (name : Who) (o : ObjectNo) (mode : Mode) → Keeps R (find_held p name o mode)
+  find_held-keeps p name o mode = search (says-keeps, then-keeps, to_tail-keeps)
+
+  pub enter_or-keeps : (p : Image) (name : Who) (o : ObjectNo) (mode : Mode) (step : Step) (entering : Entering) → Keeps R step → Keeps R (enter_or p name o mode step entering)
+  enter_or-keeps p name o mode step same_object_again k4 = search (raises-keeps)
+  enter_or-keeps p name o mode step above_ceiling k4 = search (raises-keeps)
+  enter_or-keeps p name o mode step held_by_another k4 = search (find_held-keeps)
+  enter_or-keeps p name o mode step let_inside k4 = search
+
+  pub where_let_inside-keeps : (p : Image) (name : Who) (o : ObjectNo) (mode : Mode) (step : Step) → Keeps R step → Keeps R (where_let_inside p name o mode step)
+  where_let_inside-keeps p name o mode step k4 = search (looks-keeps, enter_or-keeps)
+
+  pub open_action-alters : (name : Who) (o : ObjectNo) (mode : Mode) → Alters R (open_action name o mode)
+  open_action-alters name o mode = search (edit_object-alters)
+
+  pub begin_action_on-keeps : (p : Image) (name : Who) (o : ObjectNo) (mode : Mode) (call : Option CallNo) (release : Option ℕ) → Keeps R (begin_action_on p name o mode call release)
+  begin_action_on-keeps p name o mode call release = search (says-keeps, then-keeps, changes-keeps, open_action-alters, looks-keeps, inherit_running-keeps, push-alters) depth 9
+
+  pub begin_operation-keeps : (p : Image) (name : Who) (s : StatementNo) (f : SubprogramNo) (o : ObjectNo) (h : Handed) (to : ResultTo) → Keeps R (begin_operation p name s f o h to)
+  begin_operation-keeps p name s f o h to = search (goes-keeps, then-keeps, begin_action_on-keeps, looks-keeps, changes-keeps, open_scope-alters) depth 6
+
+  pub call_operation_of-keeps : (p : Image) (name : Who) (s : StatementNo) (f : SubprogramNo) (actuals : List Actual) (to : Destination) (o : ObjectNo) → Keeps R (call_operation_of p name s f actuals to o)
+  call_operation_of-keeps p name s f actuals to o = search (looks-keeps, raise_if-keeps, with_room-keeps, handing-keeps, where_let_inside-keeps, begin_operation-keeps) depth 9
+
+  pub call_operation-keeps : (p : Image) (name : Who) (s : StatementNo) (d : DeclNo) (f : SubprogramNo) (actuals : List Actual) (to : Destination) → Keeps R (call_operation p name s d f actuals to)
+  call_operation-keeps p name s d f actuals to = search (sees-keeps, given-keeps, call_operation_of-keeps) depth 6
+
+  pub begin_own_operation-keeps : (p : Image) (name : Who) (s : StatementNo) (f : SubprogramNo) (o : Option ObjectNo) (h : Handed) (to : ResultTo) → Keeps R (begin_own_operation p name s f o h to)
+  begin_own_operation-keeps p name s f None h to = search (raises-keeps)
+  begin_own_operation-keeps p name s f (Some o) h to = search (looks-keeps, begin_body-keeps)
+
+  pub call_own_operation-keeps : (p : Image) (name : Who) (s : StatementNo) (f : SubprogramNo) (actuals : List Actual) (to : Destination) → Keeps R (call_own_operation p name s f actuals to)
+  call_own_operation-keeps p name s f actuals to = search (with_room-keeps, handing-keeps, sees-keeps, begin_own_operation-keeps)
+
+  pub edit_top_protected-alters : (name : Who) (f : ProtectedMark → ProtectedMark) → Alters R (edit_top_protected name f)
+  edit_top_protected-alters name f = search (edit_top-alters)
+
+  pub begin_call-keeps : (p : Image) (part : Part) (name : Who) (c : Call) → Keeps R (begin_call p part name c)
+  begin_call-keeps p part name c = search (changes-keeps, unqueued-alters, then-keeps, edit_call-alters, says-keeps) depth 7
+
+  pub body_opens-keeps : (p : Image) (name : Who) (o : ObjectNo) (c : Call) → Keeps R (body_opens p name o c)
+  body_opens-keeps p name o c = search (changes-keeps, edit_top_protected-alters, then-keeps, looks-keeps, open_scope-alters) depth 6
+
+  pub serve_call-keeps : (p : Image) (part : Part) (name : Who) (o : ObjectNo) (c : Call) (then_ otherwise : Step) → Keeps R then_ → Keeps R otherwise → Keeps R (serve_call p part name o c then_ otherwise)
+  serve_call-keeps p part name o c then_ otherwise k5 k6 = looks-keeps moves _ (λ w. then-keeps moves (begin_call p part name c) _ (search (begin_call-keeps)) (branch-keeps moves (has_room_for_body p w name c.entry) (body_opens p name o c ▷ then_) (says part (line.Finish name c.number (finished.Raised (exception_name p exception.Storage))) ▷ otherwise) (search (body_opens-keeps, then-keeps)) (search (says-keeps, then-keeps))))

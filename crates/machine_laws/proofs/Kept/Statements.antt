@@ -1,0 +1,131 @@
+-- Simple and compound statements: each step keeps a relation that its parts keep.
+use Rattle.std.specs.Prelude.{ℤ, Bool, true, false, List, Option, Some, None, Ok}
+use Rattle.trace_text.specs.declared.events.Who.{Who}
+use Rattle.trace_text.specs.declared.events.Who.TheVariants as who
+use Rattle.profile_machine.specs.declared.image.Image.{Image}
+use Rattle.profile_machine.specs.declared.numbers.DeclNo.{DeclNo}
+use Rattle.profile_machine.specs.declared.numbers.ExprNo.{ExprNo}
+use Rattle.profile_machine.specs.declared.numbers.ScopeNo.{ScopeNo}
+use Rattle.profile_machine.specs.declared.numbers.StatementNo.{StatementNo}
+use Rattle.profile_machine.specs.declared.expressions.ObjectName.{ObjectName}
+use Rattle.profile_machine.specs.declared.expressions.VariableName.{VariableName}
+use Rattle.profile_machine.specs.declared.statements.CaseAlternative.{CaseAlternative}
+use Rattle.profile_machine.specs.declared.statements.Piece.{Piece}
+use Rattle.profile_machine.specs.declared.values.Value.{Value}
+use Rattle.profile_machine.specs.World.{World, Variable}
+use Rattle.profile_machine.specs.Program.{declaration_of, next_of}
+use Rattle.profile_machine.specs.Steps.{own}
+use Rattle.profile_machine.specs.Frames.{goes}
+use Rattle.profile_machine.specs.Operators.{Valued, ◌>>=◌}
+use Rattle.profile_machine.specs.Values.{Seen, seen_by, value, variable, object_cell}
+use Rattle.profile_machine.specs.CallEnds.{store}
+use Rattle.profile_machine.specs.Statements.{null, assign, cells_from, put_cells, copy_cells, array_copied, assign_array, if_statement, case_statement, while_turn, loop_cell, put, first_bound, last_bound, bounds_set, for_bounds, first_turn, advance, later_turn, exit_where, exit_statement, block_statement, raise_again, wait_until, delay_to, delay_until, put_line}
+use Rattle.machine_laws.proofs.Moves.{StepRelation, MoveRelation, Moves}
+use Rattle.machine_laws.proofs.Kept.Combinators.{Keeps, Alters, Gives, bind-gives, changes-keeps, looks-from, looks-keeps, nothing-keeps, ok-gives, says-keeps, sees-keeps, then-keeps}
+use Rattle.machine_laws.proofs.Kept.Frames.{given_world-from, goes-keeps, raises-keeps, exit_loop-keeps, given-keeps, raise_if-keeps, with_room-keeps}
+use Rattle.machine_laws.proofs.Kept.Dispatching.{to_tail-keeps, block-keeps}
+use Rattle.machine_laws.proofs.Kept.Scopes.{write_cell-alters, open_scope-alters}
+use Rattle.machine_laws.proofs.Kept.Appointments.{appoint-alters}
+use Rattle.machine_laws.proofs.Kept.CallEnds.{store-gives}
+
+module _ {R : StepRelation} {Q : MoveRelation} (moves : Moves R Q) where
+  pub null-keeps : (p : Image) (name : Who) (s : StatementNo) → Keeps R (null p name s)
+  null-keeps p name s = search (goes-keeps)
+
+  pub assign-keeps : (p : Image) (name : Who) (s : StatementNo) (target : VariableName) (e : ExprNo) → Keeps R (assign p name s target e)
+  assign-keeps p name s target e =
+      looks-from moves _ (λ w. let q = seen_by p w name in
+      given_world-from moves p own name (variable q target >>= λ v. value q e >>= λ x. store p v x w) (λ _. goes name (next_of p s)) w
+      (bind-gives moves (variable q target) (λ v. value q e >>= λ x. store p v x w) w (λ v. bind-gives moves (value q e) (λ x. store p v x w) w (λ x. store-gives moves p v x w)))
+      (λ _. goes-keeps moves name (next_of p s)))
+
+  pub copy_cells-alters : (p : Image) (target source : Variable) → Alters R (copy_cells p target source)
+  unfolding Alters
+  copy_cells-alters p target source w = moves.edits_cells target.within (put_cells target.place (cells_from w source (declaration_of p source.declared).cells)) w
+
+  array_copied-gives : (p : Image) (q : Seen) (target source : ObjectName) → Gives R q.world (array_copied p q target source)
+  unfolding Alters
+  array_copied-gives p q target source =
+      bind-gives moves (object_cell q target) (λ t. object_cell q source >>= λ f. Ok (copy_cells p t f q.world)) q.world (λ t.
+      bind-gives moves (object_cell q source) (λ f. Ok (copy_cells p t f q.world)) q.world (λ f.
+      ok-gives moves q.world (copy_cells p t f q.world) (copy_cells-alters p t f q.world)))
+
+  pub assign_array-keeps : (p : Image) (name : Who) (s : StatementNo) (target source : ObjectName) → Keeps R (assign_array p name s target source)
+  assign_array-keeps p name s target source =
+      looks-from moves _ (λ w.
+      given_world-from moves p own name (array_copied p (seen_by p w name) target source) (λ _. goes name (next_of p s)) w
+      (array_copied-gives p (seen_by p w name) target source) (λ _. goes-keeps moves name (next_of p s)))
+
+  pub if_statement-keeps : (p : Image) (name : Who) (e : ExprNo) (first : StatementNo) (otherwise : Option StatementNo) → Keeps R (if_statement p name e first otherwise)
+  if_statement-keeps p name e first otherwise = search (sees-keeps, given-keeps, goes-keeps) depth 6
+
+  pub case_statement-keeps : (p : Image) (name : Who) (e : ExprNo) (alternatives : List CaseAlternative) → Keeps R (case_statement p name e alternatives)
+  case_statement-keeps p name e alternatives = search (sees-keeps, given-keeps, goes-keeps) depth 6
+
+  pub while_turn-keeps : (p : Image) (name : Who) (s : StatementNo) (e : ExprNo) (body : StatementNo) → Keeps R (while_turn p name s e body)
+  while_turn-keeps p name s e body = search (sees-keeps, given-keeps, goes-keeps) depth 6
+
+  pub put-alters : (v : Variable) (x : Value) → Alters R (put v x)
+  put-alters v x = search (write_cell-alters)
+
+  bounds_put : Seen → Bool → Value → Value → Variable → Variable → Valued World
+  bounds_put q reverse l h x y = Ok (put y (last_bound reverse l h) (put x (first_bound reverse l h) q.world))
+
+  bounds_put-gives : (q : Seen) (reverse : Bool) (l h : Value) (x y : Variable) → Gives R q.world (bounds_put q reverse l h x y)
+  unfolding bounds_put Alters
+  bounds_put-gives q reverse l h x y =
+      let first = put x (first_bound reverse l h) q.world in
+      ok-gives moves q.world (put y (last_bound reverse l h) first)
+      (moves.goes_on q.world first (put y (last_bound reverse l h) first) (put-alters x (first_bound reverse l h) q.world) (put-alters y (last_bound reverse l h) first))
+
+  bounds_set-gives : (q : Seen) (d : DeclNo) (reverse : Bool) (low high : ExprNo) → Gives R q.world (bounds_set q d reverse low high)
+  unfolding bounds_put
+  bounds_set-gives q d reverse low high =
+      bind-gives moves (value q low) (λ l. value q high >>= λ h. loop_cell q d 0 >>= λ x. loop_cell q d 1 >>= bounds_put q reverse l h x) q.world (λ l.
+      bind-gives moves (value q high) (λ h. loop_cell q d 0 >>= λ x. loop_cell q d 1 >>= bounds_put q reverse l h x) q.world (λ h.
+      bind-gives moves (loop_cell q d 0) (λ x. loop_cell q d 1 >>= bounds_put q reverse l h x) q.world (λ x.
+      bind-gives moves (loop_cell q d 1) (bounds_put q reverse l h x) q.world (λ y. bounds_put-gives q reverse l h x y))))
+
+  pub for_bounds-keeps : (p : Image) (name : Who) (d : DeclNo) (reverse : Bool) (low high : ExprNo) (turn : StatementNo) → Keeps R (for_bounds p name d reverse low high turn)
+  for_bounds-keeps p name d reverse low high turn =
+      looks-from moves _ (λ w.
+      given_world-from moves p own name (bounds_set (seen_by p w name) d reverse low high) (λ _. goes name (Some turn)) w
+      (bounds_set-gives (seen_by p w name) d reverse low high) (λ _. goes-keeps moves name (Some turn)))
+
+  pub first_turn-keeps : (p : Image) (name : Who) (s : StatementNo) (d : DeclNo) (reverse : Bool) (body : StatementNo) → Keeps R (first_turn p name s d reverse body)
+  first_turn-keeps p name s d reverse body = search (sees-keeps, given-keeps, goes-keeps) depth 6
+
+  pub advance-keeps : (name : Who) (x : Variable) (reverse : Bool) (v : Value) (body : StatementNo) (past : Option StatementNo) (test : Bool) → Keeps R (advance name x reverse v body past test)
+  advance-keeps name x reverse v body past true = search (goes-keeps)
+  advance-keeps name x reverse v body past false = search (changes-keeps, put-alters, then-keeps, goes-keeps)
+
+  pub later_turn-keeps : (p : Image) (name : Who) (s : StatementNo) (d : DeclNo) (reverse : Bool) (body : StatementNo) → Keeps R (later_turn p name s d reverse body)
+  later_turn-keeps p name s d reverse body = search (sees-keeps, given-keeps, advance-keeps) depth 6
+
+  pub exit_where-keeps : (p : Image) (name : Who) (s loop : StatementNo) (test : Bool) → Keeps R (exit_where p name s loop test)
+  exit_where-keeps p name s loop true = search (exit_loop-keeps)
+  exit_where-keeps p name s loop false = search (goes-keeps)
+
+  pub exit_statement-keeps : (p : Image) (name : Who) (s loop : StatementNo) (e : Option ExprNo) → Keeps R (exit_statement p name s loop e)
+  exit_statement-keeps p name s loop None = search (exit_loop-keeps)
+  exit_statement-keeps p name s loop (Some e) = search (sees-keeps, given-keeps, exit_where-keeps) depth 6
+
+  pub block_statement-keeps : (p : Image) (name : Who) (s : StatementNo) (scope : ScopeNo) → Keeps R (block_statement p name s scope)
+  block_statement-keeps p name s scope = search (with_room-keeps, goes-keeps, then-keeps, looks-keeps, changes-keeps, open_scope-alters)
+
+  pub raise_again-keeps : (p : Image) (name : Who) (scope : ScopeNo) → Keeps R (raise_again p name scope)
+  raise_again-keeps p name scope = search (sees-keeps, given-keeps, raises-keeps) depth 6
+
+  pub wait_until-keeps : (p : Image) (name : Who) (until : ℤ) (test : Bool) → Keeps R (wait_until p name until test)
+  wait_until-keeps p (who.Task t) until true = search (changes-keeps, appoint-alters, then-keeps, block-keeps)
+  wait_until-keeps p (who.Task t) until false = search (to_tail-keeps)
+  wait_until-keeps p who.Agent until future = search (nothing-keeps)
+
+  pub delay_to-keeps : (p : Image) (name : Who) (until : ℤ) → Keeps R (delay_to p name until)
+  delay_to-keeps p name until = search (looks-keeps, wait_until-keeps)
+
+  pub delay_until-keeps : (p : Image) (name : Who) (s : StatementNo) (until : Valued ℤ) → Keeps R (delay_until p name s until)
+  delay_until-keeps p name s until = search (looks-keeps, raise_if-keeps, given-keeps, goes-keeps, then-keeps, delay_to-keeps) depth 7
+
+  pub put_line-keeps : (p : Image) (name : Who) (s : StatementNo) (pieces : List Piece) → Keeps R (put_line p name s pieces)
+  put_line-keeps p name s pieces = search (sees-keeps, given-keeps, goes-keeps, then-keeps, says-keeps) depth 8

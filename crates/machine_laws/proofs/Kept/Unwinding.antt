@@ -1,0 +1,44 @@
+-- Constructs that are struck and left: each step keeps a relation that its parts keep.
+use Rattle.trace_text.specs.declared.events.Who.{Who}
+use Rattle.profile_machine.specs.declared.image.Image.{Image}
+use Rattle.profile_machine.specs.World.{State, Made, Runnable, Blocked, Waiting, for_activation, for_moment, for_call, for_end_of_call, for_accept, for_select, for_dependents, for_release}
+use Rattle.profile_machine.specs.Steps.{Part}
+use Rattle.profile_machine.specs.Unwinding.{strike_outermost, leave_by_abort, stop_waiting, wake_and_leave, unwind_blocked, unwind_in, unwind}
+use Rattle.machine_laws.proofs.Moves.{StepRelation, MoveRelation, Moves}
+use Rattle.machine_laws.proofs.Kept.Combinators.{Keeps, Alters, changes-keeps, looks-keeps, nothing-keeps, then-keeps, when-keeps}
+use Rattle.machine_laws.proofs.Kept.Tasks.{edit_task-alters}
+use Rattle.machine_laws.proofs.Kept.Dispatching.{ready-keeps}
+use Rattle.machine_laws.proofs.Kept.Frames.{leaves-keeps}
+use Rattle.machine_laws.proofs.Kept.Appointments.{drop_delay-alters}
+use Rattle.machine_laws.proofs.Kept.Calls.{forget_call-alters, attempt-keeps}
+
+module _ {R : StepRelation} {Q : MoveRelation} (moves : Moves R Q) where
+  pub strike_outermost-alters : (name : Who) → Alters R (strike_outermost name)
+  strike_outermost-alters name = search (edit_task-alters)
+
+  pub leave_by_abort-keeps : (name : Who) → Keeps R (leave_by_abort name)
+  leave_by_abort-keeps name = search (changes-keeps, edit_task-alters, then-keeps, leaves-keeps)
+
+  pub stop_waiting-keeps : (p : Image) (part : Part) (name : Who) → Keeps R (stop_waiting p part name)
+  stop_waiting-keeps p part name = search (changes-keeps, drop_delay-alters, then-keeps, ready-keeps)
+
+  pub wake_and_leave-keeps : (p : Image) (part : Part) (name : Who) → Keeps R (wake_and_leave p part name)
+  wake_and_leave-keeps p part name = search (stop_waiting-keeps, then-keeps, leave_by_abort-keeps)
+
+  pub unwind_blocked-keeps : (p : Image) (part : Part) (name : Who) (waiting : Waiting) → Keeps R (unwind_blocked p part name waiting)
+  unwind_blocked-keeps p part name (for_call c) = search (attempt-keeps, changes-keeps, forget_call-alters, then-keeps, wake_and_leave-keeps, nothing-keeps)
+  unwind_blocked-keeps p part name (for_end_of_call c) = search (nothing-keeps)
+  unwind_blocked-keeps p part name for_activation = search (wake_and_leave-keeps)
+  unwind_blocked-keeps p part name for_moment = search (wake_and_leave-keeps)
+  unwind_blocked-keeps p part name (for_accept s) = search (wake_and_leave-keeps)
+  unwind_blocked-keeps p part name (for_select accepts delay terminate) = search (wake_and_leave-keeps)
+  unwind_blocked-keeps p part name (for_dependents r) = search (wake_and_leave-keeps)
+  unwind_blocked-keeps p part name for_release = search (nothing-keeps)
+
+  pub unwind_in-keeps : (p : Image) (part : Part) (name : Who) (state : State) → Keeps R (unwind_in p part name state)
+  unwind_in-keeps p part name Made = search (nothing-keeps)
+  unwind_in-keeps p part name Runnable = search (leave_by_abort-keeps)
+  unwind_in-keeps p part name (Blocked waiting) = search (unwind_blocked-keeps)
+
+  pub unwind-keeps : (p : Image) (part : Part) (name : Who) → Keeps R (unwind p part name)
+  unwind-keeps p part name = search (looks-keeps, when-keeps, unwind_in-keeps)

@@ -1,0 +1,13 @@
+mod ListLemmas
+mod Moves
+mod Kept
+mod TimeLemmas
+mod LineLemmas
+mod AppointmentLemmas
+mod ReachedLemmas
+mod NumberLemmas
+mod RunLemmas
+mod IdleLemmas
+mod RepresentationLemmas
+mod OrderLemmas
+mod PlaceLemmas

@@ -1,0 +1,100 @@
+-- What every change that the machine makes of a world keeps, as a relation between the world before, the lines that are
+-- said, and the world behind: a law of all instants is one record, with a field for each change that steps are made of.
+use Rattle.std.proofs.Common.{◌≡◌, ℕ, ℤ, suc, Bool, true, List, [], ◌∷◌, ◌++◌, map, Option}
+use Rattle.ann_base.specs.declared.identities.CallNo.{CallNo}
+use Rattle.ann_base.specs.declared.identities.ObjectNo.{ObjectNo}
+use Rattle.ann_base.specs.declared.identities.RegionNo.{RegionNo}
+use Rattle.ann_base.specs.declared.identities.TaskNo.{TaskNo}
+use Rattle.trace_text.specs.declared.events.Event.{Event}
+use Rattle.trace_text.specs.declared.events.Who.{Who}
+use Rattle.trace_text.specs.declared.events.Who.TheVariants as who
+use Rattle.profile_machine.specs.declared.image.Image.{Image}
+use Rattle.profile_machine.specs.declared.numbers.ProtectedUnitNo.{ProtectedUnitNo}
+use Rattle.profile_machine.specs.declared.numbers.ScopeNo.{ScopeNo}
+use Rattle.profile_machine.specs.declared.run_data.Item.{Item}
+use Rattle.profile_machine.specs.declared.run_data.Leaving.{Leaving}
+use Rattle.profile_machine.specs.declared.values.Value.{Value}
+use Rattle.profile_machine.specs.World.{World, Task, ScopeId, Located, Call, Object, Due, Budget, HandlerOf, Release}
+use Rattle.profile_machine.specs.Words.{edit_at}
+use Rattle.profile_machine.specs.Steps.{Part, Said, in_order, placed_by}
+use Rattle.profile_machine.specs.Tasks.{edit_task}
+use Rattle.profile_machine.specs.Scopes.{Beginning, edit_cells, begin_scope, region_drawn, end_scope}
+use Rattle.profile_machine.specs.Appointments.{appoint, drop_appointment}
+use Rattle.profile_machine.specs.Calls.{edit_call, forget_call, edit_object}
+use Rattle.profile_machine.specs.Masters.{forget_task}
+use Rattle.profile_machine.specs.EntryCalls.{add_call}
+use Rattle.profile_machine.specs.Controlled.{registered_as, no_longer_registered}
+use Rattle.profile_machine.specs.Declarations.{new_object, object_drawn, event_drawn, with_budget, with_timer}
+use Rattle.profile_machine.specs.Tasking.{add_task, end_environment}
+use Rattle.profile_machine.specs.Serving.{serves_nothing}
+use Rattle.profile_machine.specs.Handlers.{add_release, clear_timer, with_timer_set, edit_budget}
+use Rattle.profile_machine.specs.Run.{with_serving}
+use Rattle.machine_laws.specs.LineKinds.{is_of_effect, is_of_tock}
+use Rattle.profile_machine.specs.Instant.{with_port, with_masked, with_kept, with_script}
+
+-- of the steps of an effect, whose lines are not yet in order, and of the moves of an instant or a tock
+abbrev pub StepRelation : Type 1
+StepRelation = World → List Said → World → Type 0
+
+abbrev pub MoveRelation : Type 1
+MoveRelation = World → List Event → World → Type 0
+
+-- the lines of an effect that is over
+abbrev pub lines_of : List Said → List Event
+lines_of said = map (λ x. x.event) (in_order said)
+
+pub record Moves (R : StepRelation) (Q : MoveRelation) : Type 0 where
+  -- nothing is done, one step follows another, and a line of an effect is said
+  pub stays : (w : World) → R w [] w
+  pub goes_on : (a b c : World) {xs ys : List Said} → R a xs b → R b ys c → R a (xs ++ ys) c
+  pub says : (part : Part) (event : Event) (w : World) → is_of_effect event ≡ true → R w (record { part = part; event = event } ∷ []) w
+  -- the same of moves; an effect is over, and a change that says nothing is a move too
+  pub rests : (w : World) → Q w [] w
+  pub leads_on : (a b c : World) {xs ys : List Event} → Q a xs b → Q b ys c → Q a (xs ++ ys) c
+  pub settles : (a b : World) (xs : List Said) → R a xs b → Q a (lines_of xs) (placed_by (lines_of xs) b)
+  pub silently : (a b : World) → R a [] b → Q a [] b
+  -- tasks: no edit changes who it is, and a new one has the next number
+  pub edits_task : (name : Who) (f : Task → Task) (w : World) → ((t : Task) → (f t).who ≡ t.who) → R w [] (edit_task name f w)
+  pub adds_task : (t : Task) (w : World) → t.who ≡ who.Task (record { 0 = w.drawn.tasks }) → R w [] (add_task t w)
+  pub forgets_task : (name : Who) (w : World) → R w [] (forget_task name w)
+  pub sets_quantum : (level ticks : ℕ) (w : World) → R w [] (record w { quanta = edit_at level (λ _. ticks) w.quanta })
+  pub ends_environment : (leaving : Leaving) (w : World) → R w [] (end_environment leaving w)
+  -- scopes and their cells
+  pub begins_scope : (p : Image) (name : Who) (scope : ScopeNo) (b : Beginning) (w : World) → R w [] (begin_scope p name scope b w)
+  pub draws_region : (w : World) → R w [] (record w { drawn = region_drawn w.drawn })
+  pub edits_cells : (id : ScopeId) (f : List Value → List Value) (w : World) → R w [] (edit_cells id f w)
+  pub ends_scope : (id : ScopeId) (w : World) → R w [] (end_scope id w)
+  -- calls: no edit changes the number
+  pub edits_call : (c : CallNo) (f : Call → Call) (w : World) → ((d : Call) → (f d).number ≡ d.number) → R w [] (edit_call c f w)
+  pub adds_call : (c : Call) (w : World) → R w [] (add_call c w)
+  pub forgets_call : (c : CallNo) (w : World) → R w [] (forget_call c w)
+  -- protected objects
+  pub edits_object : (o : ObjectNo) (f : Object → Object) (w : World) → ((x : Object) → (f x).number ≡ x.number) → R w [] (edit_object o f w)
+  pub adds_object : (p : Image) (l : Located) (u : ProtectedUnitNo) (w : World) → R w [] (record w { objects = new_object p l u (suc w.drawn.objects) ∷ w.objects; drawn = object_drawn w.drawn })
+  -- appointments
+  pub appoints : (due : Due) (moment : ℤ) (w : World) → R w [] (appoint due moment w)
+  pub drops_appointment : (test : Due → Bool) (w : World) → R w [] (drop_appointment test w)
+  -- controlled objects: a new one has the next number
+  pub registers : (r : RegionNo) (l : Located) (w : World) → R w [] (registered_as (suc w.drawn.controlled) r l w)
+  pub unregisters : (n : ℕ) (w : World) → R w [] (no_longer_registered n w)
+  -- events, timers, budgets and releases
+  pub draws_event : (w : World) → R w [] (record w { drawn = event_drawn w.drawn })
+  pub adds_timer : (t : TaskNo) (w : World) → R w [] (with_timer t w)
+  pub clears_timer : (k : ℕ) (w : World) → R w [] (clear_timer k w)
+  pub sets_timer : (k : ℕ) (h : HandlerOf) (value : ℤ) (w : World) → R w [] (with_timer_set k h value w)
+  pub sets_timers_due : (timers : List ℕ) (w : World) → R w [] (record w { timers_due = timers })
+  pub adds_budget : (w : World) → R w [] (with_budget w)
+  pub edits_budget : (b : ℕ) (f : Budget → Budget) (w : World) → R w [] (edit_budget b f w)
+  pub sets_budget_due : (budget : Option ℕ) (w : World) → R w [] (record w { budget_due = budget })
+  pub releases : (h : HandlerOf) (argument : Option ℕ) (w : World) → R w [] (add_release h argument w)
+  pub has_served : (w : World) → R w [] (serves_nothing w)
+  -- the outside
+  pub sets_port : (n : ℕ) (value : ℤ) (w : World) → R w [] (with_port n value w)
+  pub masks : (n : ℕ) (flag : Bool) (w : World) → R w [] (with_masked n flag w)
+  pub keeps_interrupt : (n : ℕ) (flag : Bool) (w : World) → R w [] (with_kept n flag w)
+  pub cuts_script : (script : List (ℤ × Item)) (w : World) → R w [] (with_script script w)
+
+-- what a tock does besides, up to its tick: it says its lines, and the agent takes up the first release that is pending
+pub record TockMoves (Q : MoveRelation) : Type 0 where
+  pub tells : (event : Event) (w : World) → is_of_tock event ≡ true → Q w (event ∷ []) w
+  pub serves : (r : Release) (rest : List Release) (w : World) → w.releases ≡ r ∷ rest → Q w [] (with_serving r rest w)

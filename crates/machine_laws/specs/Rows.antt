@@ -1,0 +1,2 @@
+pub mod Row24_1
+pub mod RowRepresentation

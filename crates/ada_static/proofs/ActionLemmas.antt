@@ -1,9 +1,7 @@
 -- Each action of a tree's program that breaks no rule stays within it, and puts what can be printed.
-use Rattle.std.proofs.Common.{◌≡◌, ◌≤◌, ◌<◌, ◌+◌, ℕ, zero, suc, Bool, true, false, cond, leb, List, [], ◌∷◌, ◌++◌, Option, Some, None, length, get_or, map, codes, refl, ap, sym, subst, ◌∙◌, arith}
+use Rattle.std.proofs.Common.{◌≡◌, ◌≤◌, ◌+◌, ℕ, zero, suc, leb, List, [], ◌∷◌, ◌++◌, Option, Some, None, length, get_or, codes, refl, ap, sym, ◌∙◌, arith}
 use Rattle.std.proofs.lemmas.Bool.{cases_Bool, leb-true, cond-false}
 use Rattle.ann_base.specs.declared.places.Place.{Place}
-use Rattle.ada_tree.specs.declared.syntax.Expression.{Expression}
-use Rattle.ada_tree.specs.declared.syntax.ObjectDeclaration.{ObjectDeclaration}
 use Rattle.ada_tree.specs.declared.syntax.Statement.{Statement}
 use Rattle.ada_tree.specs.declared.syntax.Statement.TheVariants as statement
 use Rattle.ada_tree.specs.declared.syntax.Unit.{Unit as Tree}
@@ -13,7 +11,7 @@ use Rattle.profile_machine.specs.Program.{no_statement}
 use Rattle.ada_names.specs.declared.image.Denoted.{Denoted}
 use Rattle.ada_names.specs.declared.image.Denoted.TheVariants.{Variable, MainProcedure, PutLine, IntegerType, OtherType, TruthLiteral, Exception, Package, UnitWithoutWith}
 use Rattle.ada_names.specs.declared.image.Use.{Use}
-use Rattle.ada_names.specs.Simple.{IsBodyForm, NamesVariable, StaysInBody, decl_no}
+use Rattle.ada_names.specs.Simple.{IsBodyForm, NamesVariable, StaysInBody}
 use Rattle.ada_names.specs.Visible.{declared_by}
 use Rattle.ada_names.specs.Numbered.{denotation, declaration_in, variable_of, declarations_from, form_for, forms_from, forms_of, initial_valuations, linked, uses_in_statement, uses_in_statements, uses_in_objects, uses_of, values_of}
 use Rattle.ada_static.specs.Texts.{PutsPrintable}

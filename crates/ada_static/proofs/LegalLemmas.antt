@@ -1,12 +1,12 @@
 -- The program of a checked image may run.
-use Rattle.std.proofs.Common.{◌≡◌, ◌≤◌, ◌<◌, ◌+◌, ℕ, zero, suc, List, [], ◌∷◌, None, length, get_or, refl, ap, sym, subst, ◌∙◌, arith}
+use Rattle.std.proofs.Common.{◌≡◌, ◌<◌, ◌+◌, ℕ, zero, suc, None, length, get_or, refl, ap, sym, subst, ◌∙◌, arith}
 use Rattle.ada_tree.specs.declared.syntax.Unit.{Unit as Tree}
 use Rattle.ada_tree.specs.Readable.{IsReadable}
 use Rattle.ada_names.specs.declared.image.Image.{Image}
 use Rattle.profile_machine.specs.Program.{no_declaration, no_statement, form_of}
-use Rattle.ada_names.specs.Simple.{IsSimple, IsVariable, statement_no}
+use Rattle.ada_names.specs.Simple.{IsVariable, statement_no}
 use Rattle.ada_names.specs.Visible.{declared_by}
-use Rattle.ada_names.specs.Numbered.{variables_from, linked, forms_of, program_of, uses_of, image_of}
+use Rattle.ada_names.specs.Numbered.{variables_from, linked, forms_of, program_of, uses_of}
 use Rattle.ada_static.specs.Texts.{IsLegal, PutsPrintable}
 use Rattle.ada_static.specs.Faults.{IsChecked, first_fault}
 use Rattle.ada_static.proofs.NameLemmas.{IsName-from_word, short_from_word}

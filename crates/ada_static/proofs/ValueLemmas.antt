@@ -1,9 +1,9 @@
 -- Each expression of a tree's program is an Integer or the value of a variable.
-use Rattle.std.proofs.Common.{◌≡◌, ◌≤◌, ◌<◌, ◌+◌, ℕ, zero, suc, ℤ, pos, Bool, true, false, cond, leb, nat_lt, List, [], ◌∷◌, ◌++◌, Option, Some, None, length, get_or, map, unwrap_or, option_map, codes, refl, ap, sym, subst, ◌∙◌, arith}
+use Rattle.std.proofs.Common.{◌≡◌, ◌≤◌, ◌<◌, ◌+◌, ℕ, zero, suc, pos, Bool, true, false, cond, leb, nat_lt, List, [], ◌∷◌, ◌++◌, Option, Some, None, length, unwrap_or, option_map, codes, refl, sym, subst, arith}
 use Rattle.std.specs.List.{position, position_or_len}
 use Rattle.std.specs.Str.{bytes_eq}
 use Rattle.std.proofs.lemmas.Bool.{cases_Bool, ltb-true, cond-true, cond-false}
-use Rattle.std.proofs.lemmas.List.{length-append, length-map}
+use Rattle.std.proofs.lemmas.List.{length-append}
 use Rattle.ada_lex.specs.Meaning.{whole_of}
 use Rattle.ada_tree.specs.declared.syntax.Expression.{Expression}
 use Rattle.ada_tree.specs.declared.syntax.Expression.TheVariants as expression
@@ -15,9 +15,9 @@ use Rattle.profile_machine.specs.declared.expressions.Expression.{Expression as 
 use Rattle.profile_machine.specs.Program.{expression_of}
 use Rattle.ada_names.specs.declared.image.Denoted.{Denoted}
 use Rattle.ada_names.specs.declared.image.Denoted.TheVariants.{Variable, MainProcedure, PutLine, IntegerType, OtherType, TruthLiteral, Exception, Package, UnitWithoutWith}
-use Rattle.ada_names.specs.Simple.{IsPlainValue, is_integer, decl_no, expr_no}
+use Rattle.ada_names.specs.Simple.{IsPlainValue, decl_no, expr_no}
 use Rattle.ada_names.specs.Visible.{texts_of, declared_by, standard, look_up, in_standard, in_text_io, under_with, or_else, main_named, variable_named, denoted}
-use Rattle.ada_names.specs.Numbered.{denotation, integer_of, whole_value, named_value, valuation_of, initial_valuation, initial_valuations, statement_valuation, statement_valuations, valuations_of}
+use Rattle.ada_names.specs.Numbered.{denotation, whole_value, named_value, valuation_of, initial_valuation, initial_valuations, statement_valuation, statement_valuations, valuations_of}
 use Rattle.ada_static.proofs.Cases.{either}
 
 -- ---- what a name denotes is no variable above those that are visible

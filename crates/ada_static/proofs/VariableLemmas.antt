@@ -1,5 +1,5 @@
 -- Each declaration of a tree's program is the variable with its number.
-use Rattle.std.proofs.Common.{◌≡◌, ◌≤◌, ◌<◌, ◌+◌, ◌-◌, ℕ, zero, suc, List, [], ◌∷◌, ◌++◌, Option, Some, None, length, get_or, map, refl, ap, sym, subst, ◌∙◌, arith}
+use Rattle.std.proofs.Common.{◌≡◌, ◌<◌, ◌+◌, ◌-◌, ℕ, zero, suc, List, [], ◌∷◌, ◌++◌, Option, Some, None, length, get_or, refl, ap, sym, subst, ◌∙◌, arith}
 use Rattle.std.proofs.lemmas.Bool.{cases_lt}
 use Rattle.std.proofs.lemmas.List.{length-append, length-map, get_or_append_left, get_or-append_right}
 use Rattle.ada_tree.specs.declared.syntax.Name.{Name}
@@ -12,7 +12,7 @@ use Rattle.profile_machine.specs.declared.declarations.Initial.{Initial}
 use Rattle.profile_machine.specs.Program.{no_declaration}
 use Rattle.ada_names.specs.Simple.{IsVariable, IsVariableKind}
 use Rattle.ada_names.specs.Visible.{texts_of, declared_by}
-use Rattle.ada_names.specs.Numbered.{initial_with, values_in, variable_declared, variables_declared, variables_from}
+use Rattle.ada_names.specs.Numbered.{initial_with, values_in, variables_declared, variables_from}
 use Rattle.ada_static.proofs.Cases.{either}
 
 initial_kind : (e : ℕ) (i : Option Expression) → IsVariableKind (kind.Object (initial_with e i))
@@ -47,8 +47,8 @@ variables_are unit n e (o ∷ os) k h =
     let both : length (xs ++ ys) ≡ length xs + length ys = length-append xs ys in
     either (cases_lt k (length xs))
     (λ inside.
-      subst (λ d. IsVariable (n + k) d) (sym (get_or_append_left xs ys no_declaration k inside)) (declared_are unit n (initial_with e o.initial) (initial_kind e o.initial) o.names k inside))
+    subst (λ d. IsVariable (n + k) d) (sym (get_or_append_left xs ys no_declaration k inside)) (declared_are unit n (initial_with e o.initial) (initial_kind e o.initial) o.names k inside))
     (λ behind.
-      let place : n + length o.names + (k - length xs) ≡ n + k = omega arith in
-      subst (λ d. IsVariable (n + k) d) (sym (get_or-append_right xs ys (length xs) k no_declaration refl behind))
-      (subst (λ m. IsVariable m (get_or ys (k - length xs) no_declaration)) place (variables_are unit (n + length o.names) (e + values_in o.initial) os (k - length xs) (omega arith))))
+    let place : n + length o.names + (k - length xs) ≡ n + k = omega arith in
+    subst (λ d. IsVariable (n + k) d) (sym (get_or-append_right xs ys (length xs) k no_declaration refl behind))
+    (subst (λ m. IsVariable m (get_or ys (k - length xs) no_declaration)) place (variables_are unit (n + length o.names) (e + values_in o.initial) os (k - length xs) (omega arith))))

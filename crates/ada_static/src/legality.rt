@@ -148,12 +148,7 @@ fn rule_of_length(length: usize) -> Option<u16>
 
 /// The rule that a call with one text breaks. Put_Line has one formal parameter, and the main procedure has none, so
 /// that the text is too much there.
-fn call_fault(
-    denoted: Denoted,
-    place: Place,
-    actual: Place,
-    length: usize,
-) -> Option<(Place, u16)>
+fn call_fault(denoted: Denoted, place: Place, actual: Place, length: usize) -> Option<(Place, u16)>
     ensures { result ≡ call_fault denoted place actual length }
 {
     match denoted {

@@ -14,6 +14,5 @@ mod refusals;
 pub use checked::{Checked, check};
 pub use refusals::Refusal;
 
-
 #[cfg(test)]
 mod tests;

@@ -19,11 +19,10 @@ read_none (Some files) (Some first) = (front_of_none (files first.0) first.1, ap
 front_and_more : (file : Option (List ℕ)) (offset : ℕ) (bytes got : List ℕ) (asked count : ℕ) → IsFrontOfFile file offset bytes → HasReadFile file (offset + length bytes) asked got count → IsFrontOfFile file offset (bytes ++ got)
 front_and_more None offset bytes got asked count front piece = tt
 front_and_more (Some file) offset bytes got asked count front piece =
-    let there : drop (offset + length bytes) file ≡ front.0 = sym (drop-drop (length bytes) offset file) ∙ ap (drop (length bytes)) front.1 ∙ drop-append_seam bytes front.0 in
-    (
+    let there : drop (offset + length bytes) file ≡ front.0 = sym (drop-drop (length bytes) offset file) ∙ ap (drop (length bytes)) front.1 ∙ drop-append_seam bytes front.0 in (
       drop count front.0,
       front.1 ∙ ap (λ xs. bytes ++ xs) (sym (take-append-drop count front.0)) ∙ sym (append_assoc bytes (take count front.0) (drop count front.0))
-      ∙ ap (λ xs. (bytes ++ xs) ++ drop count front.0) (sym (piece.bytes_read ∙ ap (take count) there)),
+          ∙ ap (λ xs. (bytes ++ xs) ++ drop count front.0) (sym (piece.bytes_read ∙ ap (take count) there)),
     )
 
 -- one more piece has been read
@@ -31,8 +30,7 @@ pub read_more : (files : Option (List ℕ → Option (List ℕ))) (first at behi
 read_more None first at behind bytes got asked count so_far piece size = tt
 read_more (Some files) None at behind bytes got asked count so_far piece size = tt
 read_more (Some files) (Some first) at behind bytes got asked count so_far piece size =
-    let known = subst (λ a. HasRead (Some files) a behind asked got count) so_far.1 piece in
-    (
+    let known = subst (λ a. HasRead (Some files) a behind asked got count) so_far.1 piece in (
       front_and_more (files first.0) first.1 bytes got asked count so_far.0 known.0,
       known.1 ∙ ap (λ n. Some (first.0, n)) (omega (arith, length-append bytes got, size)),
     )

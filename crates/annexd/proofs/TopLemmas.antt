@@ -274,4 +274,3 @@ note_memory asked files unread unwritten rose old new notes_old notes_new (Err U
 note_memory asked files unread unwritten rose old new notes_old notes_new (Err Unwritten) status p (inr c) e = absurd (omega (arith, c.0, e))
 note_memory asked files unread unwritten rose old new notes_old notes_new (Err Memory) status p (inl c) e = c.1
 note_memory asked files unread unwritten rose old new notes_old notes_new (Err Memory) status p (inr c) e = absurd (omega (arith, c.0, e))
-

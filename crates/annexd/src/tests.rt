@@ -77,7 +77,11 @@ fn each_read_fails_in_turn(rt: HostRuntime) -> Result<(), Fail> {
         let got = answer(rt.alloc(), &[b"run", b"source"], HELLO, 10, &[call], &[])?;
         assert_eq!(rt; got.status, 7, "at call {call}");
         assert_eq!(rt; got.out.held(), b"".as_slice(), "at call {call}");
-        assert_eq!(rt; got.notes.held(), b"read fault\n".as_slice(), "at call {call}");
+        assert_eq!(rt;
+            got.notes.held(),
+            b"read fault\n".as_slice(),
+            "at call {call}"
+        );
     }
     let got = answer(rt.alloc(), &[b"run", b"source"], HELLO, 10, &[13], &[])?;
     assert_eq!(rt; got.status, 0);
@@ -94,7 +98,11 @@ fn each_write_fails_in_turn(rt: HostRuntime) -> Result<(), Fail> {
         assert_eq!(rt; got.status, 8, "at call {call}");
         assert!(rt; TRACE.starts_with(got.out.held()), "at call {call}");
         assert_eq!(rt; got.out.held().len(), *bytes, "at call {call}");
-        assert_eq!(rt; got.notes.held(), b"write fault\n".as_slice(), "at call {call}");
+        assert_eq!(rt;
+            got.notes.held(),
+            b"write fault\n".as_slice(),
+            "at call {call}"
+        );
     }
     let got = answer(rt.alloc(), &[b"run", b"source"], HELLO, 10, &[], &[11])?;
     assert_eq!(rt; got.status, 0);
@@ -224,14 +232,8 @@ fn what_is_not_accepted_is_refused_with_its_place(rt: HostRuntime) -> Result<(),
             b"procedure Main is X : Integer; Y : Integer := X; X : Integer; begin null; end Main;",
             b"source refused 1:50 F8\n",
         ),
-        (
-            b"",
-            b"source refused 1:1 F5\n",
-        ),
-        (
-            b"-- x\n",
-            b"source refused 2:1 F5\n",
-        ),
+        (b"", b"source refused 1:1 F5\n"),
+        (b"-- x\n", b"source refused 2:1 F5\n"),
         (
             b"procedure Main is begin null; end Mian;",
             b"source refused 1:35 F5\n",

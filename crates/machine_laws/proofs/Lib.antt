@@ -11,3 +11,5 @@ mod IdleLemmas
 mod RepresentationLemmas
 mod OrderLemmas
 mod PlaceLemmas
+mod QueueLemmas
+mod DispatchLemmas

@@ -151,7 +151,9 @@ instant-no_end p w = AllAre-also is_of_effect is_no_end effect-no_end (instant p
 pub tock-no_end-lines : (p : Image) (w : World) → AllAre is_no_end (tock p w).1
 tock-no_end-lines p w = AllAre-also is_of_tock is_no_end tock-no_end (tock p w).1 (tocks_say_ticks p w)
 
-pub opening-no_end : (p : Image) (script : List (ℤ × Item)) → AllAre is_no_end (opening p script).1
+pub openings_say_effects : (p : Image) (script : List (ℤ × Item)) → AllAre is_of_effect (opening p script).1
 unfolding Leads
-opening-no_end p script =
-    AllAre-also is_of_effect is_no_end effect-no_end (opening p script).1 (settles-leads of_effects (opens p) (opens-keeps of_effects p) (blank_world p script))
+openings_say_effects p script = settles-leads of_effects (opens p) (opens-keeps of_effects p) (blank_world p script)
+
+pub opening-no_end : (p : Image) (script : List (ℤ × Item)) → AllAre is_no_end (opening p script).1
+opening-no_end p script = AllAre-also is_of_effect is_no_end effect-no_end (opening p script).1 (openings_say_effects p script)

@@ -51,12 +51,12 @@ above_by-trans a b c true false g h k l = grind arith
 above_by-trans a b c false true g h k l = grind arith
 above_by-trans a b c false false g h k l = let none : g ≡ false = h refl refl in grind arith
 
-is_above-asym : (x y : Placed) → is_above x y ≡ true → is_above y x ≡ false
+pub is_above-asym : (x y : Placed) → is_above x y ≡ true → is_above y x ≡ false
 unfolding above_by
 is_above-asym x y e =
     above_by-asym x.level y.level (is_deadline_before x.deadline y.deadline) (is_deadline_before y.deadline x.deadline) (before-asym x.deadline y.deadline) e
 
-is_above-trans : (x y z : Placed) → is_above y x ≡ false → is_above z y ≡ false → is_above z x ≡ false
+pub is_above-trans : (x y z : Placed) → is_above y x ≡ false → is_above z y ≡ false → is_above z x ≡ false
 unfolding above_by
 is_above-trans x y z e f =
     above_by-trans x.level y.level z.level (is_deadline_before y.deadline x.deadline) (is_deadline_before z.deadline y.deadline) (is_deadline_before z.deadline x.deadline) (before-trans x.deadline y.deadline z.deadline) e f
@@ -92,7 +92,7 @@ Behind-head x new (y ∷ ys) e h =
     (λ t. (h.0, Behind-head y new ys (is_above-asym y new t) h.1))
     (λ f. (e, (f, h.1)))
 
-Descends-head : (new : Placed) (xs : List Placed) → Descends xs → Descends (put_at_head new xs)
+pub Descends-head : (new : Placed) (xs : List Placed) → Descends xs → Descends (put_at_head new xs)
 Descends-head new [] h = tt
 Descends-head new (y ∷ ys) h =
     either Descends (is_above y new) (y ∷ put_at_head new ys) (new ∷ y ∷ ys)
@@ -103,7 +103,7 @@ Behind-farther : (x y : Placed) (xs : List Placed) → is_above y x ≡ false �
 Behind-farther x y [] e h = tt
 Behind-farther x y (z ∷ zs) e h = (is_above-trans x y z e h.0, h.1)
 
-Behind-out : (name : Who) (x : Placed) (xs : List Placed) → Behind x xs → Behind x (take_out name xs)
+pub Behind-out : (name : Who) (x : Placed) (xs : List Placed) → Behind x xs → Behind x (take_out name xs)
 Behind-out name x [] h = tt
 Behind-out name x (y ∷ ys) h =
     either (Behind x) (not (same_who name y.who)) (y ∷ take_out name ys) (take_out name ys)

@@ -94,7 +94,7 @@ tock_line-places _ places e = refl
 tocks_place_by_lines : TockMoves PlacesFollow
 tocks_place_by_lines = record { tells = λ event w k. sym (tock_line-places event w.places k); serves = λ r rest w k. refl }
 
-tock_lines-places : (lines : List Event) (places : List Placed) → AllAre is_of_tock lines → places_after_all lines places ≡ places
+pub tock_lines-places : (lines : List Event) (places : List Placed) → AllAre is_of_tock lines → places_after_all lines places ≡ places
 tock_lines-places [] places a = refl
 tock_lines-places (x ∷ xs) places a = ap (places_after_all xs) (tock_line-places x places a.0) ∙ tock_lines-places xs places a.1
 

@@ -140,6 +140,22 @@ unfolding turn
 turn-goes bound now next i t rest (Some reason) n l a b k h = stopped-goes bound now i.1 reason n a (λ e. k (ap Some e))
 turn-goes bound now next i t rest None n l a b k h = then_runs-goes bound now next (i.1 ++ t.1) rest (AllAre-append is_no_end i.1 t.1 n l) a b (h refl)
 
+turn-rises : (now next : ℕ) (i t : World × List Event) (rest : Ran) (reason : Option Ended) → now ≤ next → RisesFrom next rest.lines → RisesFrom now (turn now i t rest reason).lines
+unfolding turn
+turn-rises now next i t rest (Some reason) a h = RisesFrom-at_tick now now (i.1 ++ line.End reason ∷ []) (omega arith)
+turn-rises now next i t rest None a h = RisesFrom-then now now (i.1 ++ t.1) rest.lines (omega arith) (RisesFrom-less now next rest.lines a h)
+
+-- the ticks of what is left do not fall, with any fuel
+pub run_from-rises : (fuel : ℕ) (p : Image) (bound : ℕ) (w : World) → RisesFrom w.now (run_from fuel p bound w).lines
+unfolding turn
+run_from-rises zero p bound w = RisesFrom-at_tick w.now w.now (line.End why.Bound ∷ []) (omega arith)
+run_from-rises (suc fuel) p bound w =
+    let i = instant p w in
+    let t = tock p i.0 in
+    let later : t.0.now ≡ suc w.now = tocks_take_one_tick p i.0 ∙ ap (λ n. suc n) (instants_take_no_time p w) in
+    turn-rises w.now (suc w.now) i t (run_from fuel p bound t.0) (stop p bound i.0) (omega arith)
+    (subst (λ n. RisesFrom n (run_from fuel p bound t.0).lines) later (run_from-rises fuel p bound t.0))
+
 run_from-goes : (fuel : ℕ) (p : Image) (bound : ℕ) (w : World) → w.now ≤ bound → fuel + w.now ≡ suc bound → Goes bound w.now (run_from fuel p bound w)
 unfolding turn
 run_from-goes zero p bound w a b = absurd (omega arith)

@@ -1,5 +1,5 @@
 -- No instant changes the time: of all that steps are made of, only a tick does.
-use Rattle.std.proofs.Common.{◌≡◌, suc, List, ap, refl, ℤ, ◌∙◌}
+use Rattle.std.proofs.Common.{◌≡◌, ℕ, suc, List, Option, None, ap, refl, ℤ, ◌∙◌}
 use Rattle.trace_text.specs.declared.events.Who.{Who}
 use Rattle.trace_text.specs.declared.events.Who.TheVariants as who
 use Rattle.profile_machine.specs.declared.image.Image.{Image}
@@ -14,13 +14,17 @@ use Rattle.machine_laws.proofs.Moves.{Moves}
 use Rattle.machine_laws.proofs.Kept.Combinators.{Keeps, Leads}
 use Rattle.machine_laws.proofs.Kept.Instant.{instant-leads}
 
--- both worlds stand at the same time
-abbrev pub AtOnce : {X : Type 0} → World → List X → World → Type 0
-AtOnce before lines after = after.now ≡ before.now
+-- the time, and who ran the tick before
+abbrev pub clock_of : World → ℕ × Option Who
+clock_of w = (w.now, w.ran)
 
-edit_task-now : (name : Who) (f : Task → Task) (w : World) → (edit_task name f w).now ≡ w.now
-edit_task-now (who.Task t) f w = refl
-edit_task-now who.Agent f w = refl
+-- both are the same in both worlds
+abbrev pub AtOnce : {X : Type 0} → World → List X → World → Type 0
+AtOnce before lines after = clock_of after ≡ clock_of before
+
+edit_task-clock : (name : Who) (f : Task → Task) (w : World) → clock_of (edit_task name f w) ≡ clock_of w
+edit_task-clock (who.Task t) f w = refl
+edit_task-clock who.Agent f w = refl
 
 pub at_once : Moves AtOnce AtOnce
 at_once = record {
@@ -31,7 +35,7 @@ at_once = record {
   leads_on = λ a b c p q. q ∙ p;
   settles = λ a b xs k. k;
   silently = λ a b k. k;
-  edits_task = λ name f w k. edit_task-now name f w;
+  edits_task = λ name f w k. edit_task-clock name f w;
   adds_task = λ t w k. refl;
   forgets_task = λ name w. refl;
   sets_quantum = λ level ticks w. refl;
@@ -67,13 +71,21 @@ at_once = record {
 
 pub instants_take_no_time : (p : Image) (w : World) → (instant p w).0.now ≡ w.now
 unfolding Leads
-instants_take_no_time p w = instant-leads at_once p w
+instants_take_no_time p w = ap (λ x. x.0) (instant-leads at_once p w)
+
+pub instants_keep_runner : (p : Image) (w : World) → (instant p w).0.ran ≡ w.ran
+unfolding Leads
+instants_keep_runner p w = ap (λ x. x.1) (instant-leads at_once p w)
 
 pub tocks_take_one_tick : (p : Image) (w : World) → (tock p w).0.now ≡ suc w.now
 unfolding Leads
 tocks_take_one_tick p w =
-    ap (λ a. a.0.now) (tock-parts p w) ∙ ap (λ n. suc n) (before_tick-leads at_once (record { tells = λ event v k. refl; serves = λ r rest v k. refl }) p (choose w) w)
+    ap (λ a. a.0.now) (tock-parts p w) ∙ ap (λ x. suc x.0) (before_tick-leads at_once (record { tells = λ event v k. refl; serves = λ r rest v k. refl }) p (choose w) w)
 
 pub opening-now : (p : Image) (script : List (ℤ × Item)) → (opening p script).0.now ≡ 0
 unfolding Keeps
-opening-now p script = opens-keeps at_once p (blank_world p script)
+opening-now p script = ap (λ x. x.0) (opens-keeps at_once p (blank_world p script))
+
+pub opening-runner : (p : Image) (script : List (ℤ × Item)) → (opening p script).0.ran ≡ None
+unfolding Keeps
+opening-runner p script = ap (λ x. x.1) (opens-keeps at_once p (blank_world p script))

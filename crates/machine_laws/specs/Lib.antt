@@ -1,3 +1,4 @@
+pub mod DispatchLaws
 pub mod IdleLaws
 pub mod LineKinds
 pub mod NumberLaws

@@ -10,6 +10,7 @@
 //! law of the row `representation` is proved in `proofs/RepresentationLemmas.antt`, since its run is too long to compute.
 #![tactic(auto)]
 
+pub mod dispatching;
 pub mod lines;
 pub mod places;
 pub mod rows;

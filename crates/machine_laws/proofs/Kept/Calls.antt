@@ -23,7 +23,7 @@ module _ {R : StepRelation} {Q : MoveRelation} (moves : Moves R Q) where
   forget_call-alters c w = moves.forgets_call c w
 
   pub with_call-keeps : (c : CallNo) (f : Call → Step) → ((x : Call) → Keeps R (f x)) → Keeps R (with_call c f)
-  with_call-keeps c f k1 = search (looks-keeps, for_some-keeps)
+  with_call-keeps c f kept = search (looks-keeps, for_some-keeps)
 
   pub says_call-keeps : (p : Image) (part : Part) (c : Call) → Keeps R (says_call p part c)
   says_call-keeps p part c = search (says-keeps)
@@ -55,7 +55,7 @@ module _ {R : StepRelation} {Q : MoveRelation} (moves : Moves R Q) where
   attempt_on-keeps p part c = branch-keeps moves (is_cancellable c) (changes (unqueued p c) ▷ says part (line.Cancel c.caller c.number)) (changes (edit_call c.number (λ d. record d { attempted = true }))) (search (changes-keeps, unqueued-alters, then-keeps, says-keeps)) (search (changes-keeps, edit_call-alters))
 
   pub attempt_with-keeps : (p : Image) (part : Part) (c : Call) (cancels stays : Step) → Keeps R cancels → Keeps R stays → Keeps R (attempt_with p part c cancels stays)
-  attempt_with-keeps p part c cancels stays k3 k4 = then-keeps moves (attempt_on p part c) _ (search (attempt_on-keeps)) (branch-keeps moves (is_cancellable c) cancels stays (search) (search))
+  attempt_with-keeps p part c cancels stays kept also_kept = then-keeps moves (attempt_on p part c) _ (search (attempt_on-keeps)) (branch-keeps moves (is_cancellable c) cancels stays (search) (search))
 
   pub attempt-keeps : (p : Image) (part : Part) (c : CallNo) (cancels stays : Step) → Keeps R cancels → Keeps R stays → Keeps R (attempt p part c cancels stays)
-  attempt-keeps p part c cancels stays k3 k4 = search (with_call-keeps, attempt_with-keeps)
+  attempt-keeps p part c cancels stays kept also_kept = search (with_call-keeps, attempt_with-keeps)

@@ -73,7 +73,7 @@ module _ {R : StepRelation} {Q : MoveRelation} (moves : Moves R Q) where
   pub begin_assignment-keeps : (p : Image) (name : Who) (s : StatementNo) (target source : ℕ) → Keeps R (begin_assignment p name s target source)
   begin_assignment-keeps p name s target source = search (with_room-keeps, goes-keeps, then-keeps, says-keeps, changes-keeps, push-alters) depth 6
 
-  pub assign_registered-keeps : (p : Image) (name : Who) (s : StatementNo) (r r_2 : Option Registered) → Keeps R (assign_registered p name s r r_2)
+  pub assign_registered-keeps : (p : Image) (name : Who) (s : StatementNo) (target source : Option Registered) → Keeps R (assign_registered p name s target source)
   assign_registered-keeps p name s (Some target) (Some source) = search (begin_assignment-keeps)
   assign_registered-keeps p name s (Some target) None = search (raises-keeps)
   assign_registered-keeps p name s None source = search (raises-keeps)
@@ -111,7 +111,7 @@ module _ {R : StepRelation} {Q : MoveRelation} (moves : Moves R Q) where
   do_step-keeps p name adjust_target target source = search (changes-keeps, edit_top_assign-alters, then-keeps, adjust_by-keeps)
   do_step-keeps p name assigned target source = search (changes-keeps, pop-alters)
 
-  pub step_with-keeps : (p : Image) (name : Who) (step : AssignStep) (r r_2 : Option Registered) → Keeps R (step_with p name step r r_2)
+  pub step_with-keeps : (p : Image) (name : Who) (step : AssignStep) (target source : Option Registered) → Keeps R (step_with p name step target source)
   step_with-keeps p name step (Some target) (Some source) = search (do_step-keeps)
   step_with-keeps p name step (Some target) None = search (changes-keeps, pop-alters)
   step_with-keeps p name step None source = search (changes-keeps, pop-alters)

@@ -32,7 +32,7 @@ module _ {R : StepRelation} {Q : MoveRelation} (moves : Moves R Q) where
   add_call-alters c w = moves.adds_call c w
 
   pub make_call-keeps : (p : Image) (c : Call) (step : Call → Step) → ((x : Call) → Keeps R (step x)) → Keeps R (make_call p c step)
-  make_call-keeps p c step k2 = search (goes-keeps, then-keeps, looks-keeps, changes-keeps, add_call-alters, says_call-keeps) depth 7
+  make_call-keeps p c step kept = search (goes-keeps, then-keeps, looks-keeps, changes-keeps, add_call-alters, says_call-keeps) depth 7
 
   pub end_at_once-keeps : (p : Image) (part : Part) (c : Call) (e : Raised) → Keeps R (end_at_once p part c e)
   end_at_once-keeps p part c e = search (changes-keeps, forget_call-alters, then-keeps, raises-keeps)

@@ -85,8 +85,8 @@ module _ {R : StepRelation} {Q : MoveRelation} (moves : Moves R Q) where
   becomes-from p part name (Err e) w a = raises-keeps p part name e w
 
   pub raise_if-keeps : (p : Image) (name : Who) (test : Bool) (e : Raised) (step : Step) → Keeps R step → Keeps R (raise_if p name test e step)
-  raise_if-keeps p name true e step k4 = search (raises-keeps)
-  raise_if-keeps p name false e step k4 = search
+  raise_if-keeps p name true e step kept = search (raises-keeps)
+  raise_if-keeps p name false e step kept = search
 
   pub with_room-keeps : (p : Image) (name : Who) (marks cells : ℕ) (step : Step) → Keeps R step → Keeps R (with_room p name marks cells step)
-  with_room-keeps p name marks cells step k4 = looks-keeps moves _ (λ w. branch-keeps moves (has_room w name marks cells) step (raises p own name exception.Storage) (search) (search (raises-keeps)))
+  with_room-keeps p name marks cells step kept = looks-keeps moves _ (λ w. branch-keeps moves (has_room w name marks cells) step (raises p own name exception.Storage) (search) (search (raises-keeps)))

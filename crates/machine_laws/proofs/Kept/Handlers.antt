@@ -54,7 +54,7 @@ module _ {R : StepRelation} {Q : MoveRelation} (moves : Moves R Q) where
   release-keeps p part h argument = search (changes-keeps, add_release-alters, then-keeps, says_release-keeps, looks-keeps, wake_agent-keeps) depth 6
 
   pub with_room_for_release-keeps : (p : Image) (name : Who) (needed : Bool) (step : Step) → Keeps R step → Keeps R (with_room_for_release p name needed step)
-  with_room_for_release-keeps p name needed step k3 = search (looks-keeps, raise_if-keeps)
+  with_room_for_release-keeps p name needed step kept = search (looks-keeps, raise_if-keeps)
 
   pub begin_handler-keeps : (p : Image) (r : Release) → Keeps R (begin_handler p r)
   begin_handler-keeps p r = search (begin_action_on-keeps, then-keeps, looks-keeps, changes-keeps, open_scope-alters)
@@ -75,7 +75,7 @@ module _ {R : StepRelation} {Q : MoveRelation} (moves : Moves R Q) where
   interrupt-keeps p n = search (says-keeps, then-keeps, looks-keeps, for_some-keeps, release-keeps) depth 6
 
   pub setting_of-keeps : (p : Image) (name : Who) (q : Seen) (base : ℤ) (set : Setting) (named : Option HandlerName) (step : Option HandlerOf → ℤ → Step) → ((x : Option HandlerOf) (y : ℤ) → Keeps R (step x y)) → Keeps R (setting_of p name q base set named step)
-  setting_of-keeps p name q base set named step k6 = search (given-keeps, with_room_for_release-keeps, raise_if-keeps)
+  setting_of-keeps p name q base set named step kept = search (given-keeps, with_room_for_release-keeps, raise_if-keeps)
 
   pub answer-keeps : (p : Image) (name : Who) (v : Variable) (b : Bool) → Keeps R (answer p name v b)
   answer-keeps p name v b = looks-from moves _ (λ w. becomes-from moves p own name (store p v (Truth b) w) w (store-gives moves p v (Truth b) w))

@@ -92,8 +92,8 @@ module _ {R : StepRelation} {Q : MoveRelation} (moves : Moves R Q) where
   come_due-keeps p (a_trigger t depth) = search (trigger_at-keeps, then-keeps, unwind-keeps)
 
   pub take_due-keeps : (p : Image) (again : Step) (a : Option Appointment) → Keeps R again → Keeps R (take_due p again a)
-  take_due-keeps p again None k1 = search (nothing-keeps)
-  take_due-keeps p again (Some a) k1 = search (changes-keeps, drop_appointment-alters, then-keeps, come_due-keeps)
+  take_due-keeps p again None kept = search (nothing-keeps)
+  take_due-keeps p again (Some a) kept = search (changes-keeps, drop_appointment-alters, then-keeps, come_due-keeps)
 
   all_due-keeps : (fuel : ℕ) (p : Image) (events : Bool) → Keeps R (all_due fuel p events)
   all_due-keeps zero p events = search (nothing-keeps)

@@ -32,13 +32,13 @@ module _ {R : StepRelation} {Q : MoveRelation} (moves : Moves R Q) where
   find_held-keeps p name o mode = search (says-keeps, then-keeps, to_tail-keeps)
 
   pub enter_or-keeps : (p : Image) (name : Who) (o : ObjectNo) (mode : Mode) (step : Step) (entering : Entering) → Keeps R step → Keeps R (enter_or p name o mode step entering)
-  enter_or-keeps p name o mode step same_object_again k4 = search (raises-keeps)
-  enter_or-keeps p name o mode step above_ceiling k4 = search (raises-keeps)
-  enter_or-keeps p name o mode step held_by_another k4 = search (find_held-keeps)
-  enter_or-keeps p name o mode step let_inside k4 = search
+  enter_or-keeps p name o mode step same_object_again kept = search (raises-keeps)
+  enter_or-keeps p name o mode step above_ceiling kept = search (raises-keeps)
+  enter_or-keeps p name o mode step held_by_another kept = search (find_held-keeps)
+  enter_or-keeps p name o mode step let_inside kept = search
 
   pub where_let_inside-keeps : (p : Image) (name : Who) (o : ObjectNo) (mode : Mode) (step : Step) → Keeps R step → Keeps R (where_let_inside p name o mode step)
-  where_let_inside-keeps p name o mode step k4 = search (looks-keeps, enter_or-keeps)
+  where_let_inside-keeps p name o mode step kept = search (looks-keeps, enter_or-keeps)
 
   pub open_action-alters : (name : Who) (o : ObjectNo) (mode : Mode) → Alters R (open_action name o mode)
   open_action-alters name o mode = search (edit_object-alters)
@@ -72,4 +72,4 @@ module _ {R : StepRelation} {Q : MoveRelation} (moves : Moves R Q) where
   body_opens-keeps p name o c = search (changes-keeps, edit_top_protected-alters, then-keeps, looks-keeps, open_scope-alters) depth 6
 
   pub serve_call-keeps : (p : Image) (part : Part) (name : Who) (o : ObjectNo) (c : Call) (then_ otherwise : Step) → Keeps R then_ → Keeps R otherwise → Keeps R (serve_call p part name o c then_ otherwise)
-  serve_call-keeps p part name o c then_ otherwise k5 k6 = looks-keeps moves _ (λ w. then-keeps moves (begin_call p part name c) _ (search (begin_call-keeps)) (branch-keeps moves (has_room_for_body p w name c.entry) (body_opens p name o c ▷ then_) (says part (line.Finish name c.number (finished.Raised (exception_name p exception.Storage))) ▷ otherwise) (search (body_opens-keeps, then-keeps)) (search (says-keeps, then-keeps))))
+  serve_call-keeps p part name o c then_ otherwise kept also_kept = looks-keeps moves _ (λ w. then-keeps moves (begin_call p part name c) _ (search (begin_call-keeps)) (branch-keeps moves (has_room_for_body p w name c.entry) (body_opens p name o c ▷ then_) (says part (line.Finish name c.number (finished.Raised (exception_name p exception.Storage))) ▷ otherwise) (search (body_opens-keeps, then-keeps)) (search (says-keeps, then-keeps))))

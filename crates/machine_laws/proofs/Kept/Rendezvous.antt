@@ -50,19 +50,19 @@ module _ {R : StepRelation} {Q : MoveRelation} (moves : Moves R Q) where
       moves.goes_on w begun (open_accept p name s c w) (moves.begins_scope p name scope b w) (push-alters moves name (new_frame mark (scope_of p scope).first) begun)
 
   pub begin_rendezvous-keeps : (p : Image) (part : Part) (name : Who) (s : StatementNo) (c : Call) (then_ otherwise : Step) → Keeps R then_ → Keeps R otherwise → Keeps R (begin_rendezvous p part name s c then_ otherwise)
-  begin_rendezvous-keeps p part name s c then_ otherwise k5 k6 = looks-keeps moves _ (λ w. then-keeps moves (begin_call p part name c) _ (search (begin_call-keeps)) (then-keeps moves (goes name (next_of p s)) _ (search (goes-keeps)) (branch-keeps moves (has_room_for_accept p w name s) (changes (open_accept p name s c) ▷ open_sequence p name ▷ then_) (says part (line.Finish name c.number (finished.Raised (exception_name p exception.Storage))) ▷ otherwise) (search (changes-keeps, open_accept-alters, then-keeps, open_sequence-keeps)) (search (says-keeps, then-keeps)))))
+  begin_rendezvous-keeps p part name s c then_ otherwise kept also_kept = looks-keeps moves _ (λ w. then-keeps moves (begin_call p part name c) _ (search (begin_call-keeps)) (then-keeps moves (goes name (next_of p s)) _ (search (goes-keeps)) (branch-keeps moves (has_room_for_accept p w name s) (changes (open_accept p name s c) ▷ open_sequence p name ▷ then_) (says part (line.Finish name c.number (finished.Raised (exception_name p exception.Storage))) ▷ otherwise) (search (changes-keeps, open_accept-alters, then-keeps, open_sequence-keeps)) (search (says-keeps, then-keeps)))))
 
   pub accept_call-keeps : (p : Image) (name : Who) (s : StatementNo) (c : CallNo) → Keeps R (accept_call p name s c)
   accept_call-keeps p name s c = search (with_call-keeps, begin_rendezvous-keeps, inherit_running-keeps, deliver-keeps, then-keeps, raises-keeps)
 
   pub meet_with_room-keeps : (p : Image) (part : Part) (name : Who) (s : StatementNo) (c : Call) (then_ : Step) → Keeps R then_ → Keeps R (meet_with_room p part name s c then_)
-  meet_with_room-keeps p part name s c then_ k5 = search (begin_rendezvous-keeps, changes-keeps, inherit-alters, then-keeps, ready-keeps, nothing-keeps) depth 6
+  meet_with_room-keeps p part name s c then_ kept = search (begin_rendezvous-keeps, changes-keeps, inherit-alters, then-keeps, ready-keeps, nothing-keeps) depth 6
 
   pub meet_without_room-keeps : (p : Image) (part : Part) (name : Who) (s : StatementNo) (c : Call) (otherwise : Step) → Keeps R otherwise → Keeps R (meet_without_room p part name s c otherwise)
-  meet_without_room-keeps p part name s c otherwise k5 = search (begin_call-keeps, then-keeps, goes-keeps, says-keeps, ready-keeps, raises-keeps) depth 8
+  meet_without_room-keeps p part name s c otherwise kept = search (begin_call-keeps, then-keeps, goes-keeps, says-keeps, ready-keeps, raises-keeps) depth 8
 
   pub meet-keeps : (p : Image) (part : Part) (name : Who) (s : StatementNo) (c : Call) (then_ otherwise : Step) → Keeps R then_ → Keeps R otherwise → Keeps R (meet p part name s c then_ otherwise)
-  meet-keeps p part name s c then_ otherwise k5 k6 = then-keeps moves (changes (drop_delay name)) _ (search (changes-keeps, drop_delay-alters)) (looks-keeps moves _ (λ w. branch-keeps moves (has_room_for_accept p w name s) (meet_with_room p part name s c then_) (meet_without_room p part name s c otherwise) (search (meet_with_room-keeps)) (search (meet_without_room-keeps))))
+  meet-keeps p part name s c then_ otherwise kept also_kept = then-keeps moves (changes (drop_delay name)) _ (search (changes-keeps, drop_delay-alters)) (looks-keeps moves _ (λ w. branch-keeps moves (has_room_for_accept p w name s) (meet_with_room p part name s c then_) (meet_without_room p part name s c otherwise) (search (meet_with_room-keeps)) (search (meet_without_room-keeps))))
 
   pub accept_or_wait-keeps : (p : Image) (name : Who) (s : StatementNo) (c : Option CallNo) → Keeps R (accept_or_wait p name s c)
   accept_or_wait-keeps p name s (Some c) = search (accept_call-keeps)

@@ -68,8 +68,8 @@ module _ {R : StepRelation} {Q : MoveRelation} (moves : Moves R Q) where
   begins_part-keeps p false c = search (nothing-keeps)
 
   pub serve_chosen-keeps : (p : Image) (name : Who) (m : ProtectedMark) (is_sent : Bool) (again : Step) (c : Option CallNo) → Keeps R again → Keeps R (serve_chosen p name m is_sent again c)
-  serve_chosen-keeps p name m is_sent again None k4 = search (release_object-keeps)
-  serve_chosen-keeps p name m is_sent again (Some c) k4 = search (with_call-keeps, serve_call-keeps, begins_part-keeps, deliver-keeps, then-keeps)
+  serve_chosen-keeps p name m is_sent again None kept = search (release_object-keeps)
+  serve_chosen-keeps p name m is_sent again (Some c) kept = search (with_call-keeps, serve_call-keeps, begins_part-keeps, deliver-keeps, then-keeps)
 
   pub serve_next-keeps : (fuel : ℕ) (p : Image) (name : Who) (mark : ProtectedMark) (sent : Option CallNo) → Keeps R (serve_next fuel p name mark sent)
   serve_next-keeps zero p name mark sent = search (release_object-keeps)

@@ -34,7 +34,7 @@ module _ {R : StepRelation} {Q : MoveRelation} (moves : Moves R Q) where
   begin_body-keeps p name s f b h to = search (goes-keeps, then-keeps, changes-keeps, open_scope-alters)
 
   pub handing-keeps : (p : Image) (name : Who) (f : SubprogramNo) (actuals : List Actual) (to : Destination) (step : Handed → ResultTo → Step) → ((x : Handed) (y : ResultTo) → Keeps R (step x y)) → Keeps R (handing p name f actuals to step)
-  handing-keeps p name f actuals to step k5 = search (sees-keeps, given-keeps) depth 6
+  handing-keeps p name f actuals to step kept = search (sees-keeps, given-keeps) depth 6
 
   pub call_subprogram-keeps : (p : Image) (name : Who) (s : StatementNo) (f : SubprogramNo) (actuals : List Actual) (to : Destination) → Keeps R (call_subprogram p name s f actuals to)
   call_subprogram-keeps p name s f actuals to = search (with_room-keeps, handing-keeps, sees-keeps, begin_body-keeps)

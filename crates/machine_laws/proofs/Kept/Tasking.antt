@@ -82,7 +82,7 @@ module _ {R : StepRelation} {Q : MoveRelation} (moves : Moves R Q) where
   pub activate_one-keeps : (p : Image) (activator : Who) (level : ℕ) (t : world.Task) → Keeps R (activate_one p activator level t)
   activate_one-keeps p activator level t = looks-keeps moves _ (λ w. branch-keeps moves (has_room w t.who 1 (scope_of p (unit_of_task p t).scope).size) (begin_task p activator level t) (fail_to_begin p activator t) (search (begin_task-keeps)) (search (fail_to_begin-keeps)))
 
-  pub await_group-keeps : (p : Image) (name : Who) (test test_2 : Bool) → Keeps R (await_group p name test test_2)
+  pub await_group-keeps : (p : Image) (name : Who) (begins failed : Bool) → Keeps R (await_group p name begins failed)
   await_group-keeps p name true failed = search (block-keeps)
   await_group-keeps p name false true = search (raises-keeps)
   await_group-keeps p name false false = search (nothing-keeps)
@@ -113,7 +113,7 @@ module _ {R : StepRelation} {Q : MoveRelation} (moves : Moves R Q) where
   end_task-keeps p name leaving = search (says_done-keeps, then-keeps, looks-keeps, end_activation-keeps, terminate-keeps, when-keeps, changes-keeps, end_environment-alters) depth 8
 
   pub end_body-keeps : (p : Image) (name : Who) (leaving : Leaving) (normally : Step) → Keeps R normally → Keeps R (end_body p name leaving normally)
-  end_body-keeps p name leaving normally k3 = branch-keeps moves (is_normal leaving) normally (pass_on p name leaving) (search) (search (pass_on-keeps))
+  end_body-keeps p name leaving normally kept = branch-keeps moves (is_normal leaving) normally (pass_on p name leaving) (search) (search (pass_on-keeps))
 
   pub behind_scope-keeps : (p : Image) (name : Who) (purpose : Purpose) (cells : List Value) (leaving : Leaving) → Keeps R (behind_scope p name purpose cells leaving)
   behind_scope-keeps p name (of_block s) cells leaving = search (pass_on-keeps)
@@ -138,7 +138,7 @@ module _ {R : StepRelation} {Q : MoveRelation} (moves : Moves R Q) where
   pub end_scope_mark-keeps : (p : Image) (name : Who) (m : ScopeMark) (leaving : Leaving) → Keeps R (end_scope_mark p name m leaving)
   end_scope_mark-keeps p name m leaving = search (end_scope_mark_of-keeps)
 
-  pub says_abort-keeps : (name name_2 : Who) → Keeps R (says_abort name name_2)
+  pub says_abort-keeps : (actor name : Who) → Keeps R (says_abort actor name)
   says_abort-keeps (who.Task actor) (who.Task t) = search (says-keeps)
   says_abort-keeps (who.Task actor) who.Agent = search (nothing-keeps)
   says_abort-keeps who.Agent t = search (nothing-keeps)

@@ -174,10 +174,10 @@ goes-next name vs es body now (Some s) cells f a h stays =
     ∙ goes-opened name vs es body now s cells (length vs) f h
 
 -- the task goes on with an action of the main procedure, and nothing comes about
-pub goes-on : (name : List ℕ) (vs : List Declaration) (es : List Expression) (body : List Action) (now : ℕ) (next : Option StatementNo) (cells : List ℤ) → AreSimple vs es body → StaysInBody next → let p = simple_program name vs es body in
+pub inside-goes : (name : List ℕ) (vs : List Declaration) (es : List Expression) (body : List Action) (now : ℕ) (next : Option StatementNo) (cells : List ℤ) → AreSimple vs es body → StaysInBody next → let p = simple_program name vs es body in
     behind p (inside p now next cells, []) ≡ (inside p now next cells, [])
 unfolding Goes
-goes-on name vs es body now next cells a stays = goes-next name vs es body now next cells form.Null a tt stays
+inside-goes name vs es body now next cells a stays = goes-next name vs es body now next cells form.Null a tt stays
 
 -- where an action of this form ends, the task goes on, and what it stores is stored
 pub form-ends : (name : List ℕ) (vs : List Declaration) (es : List Expression) (body : List Action) (now : ℕ) (s : StatementNo) (cells : List ℤ) (f : StatementForm) → AreSimple vs es body → AreIntegers cells → IsBodyForm (length vs) f → StaysInBody (next_of (simple_program name vs es body) s) → let p = simple_program name vs es body in

@@ -21,7 +21,7 @@ use Rattle.ada_names.specs.Simple.{IsBodyForm, simple_program, statement_no}
 use Rattle.ann_kernel.specs.declared.progress.Progress.TheVariants.{Calling}
 use Rattle.ann_kernel.specs.Worlds.{world_at}
 use Rattle.ann_kernel.proofs.SimpleShape.{AreSimple, form_at}
-use Rattle.ann_kernel.proofs.MainActions.{inside_with, inside, others, settled, behind, goes-on}
+use Rattle.ann_kernel.proofs.MainActions.{inside_with, inside, others, settled, behind, inside-goes}
 
 -- no sequence with handlers begins with the main procedure: it opens one mark
 abbrev marks_for : StatementForm → ℕ
@@ -81,4 +81,4 @@ calling-acts name vs es body now cells a fresh =
     ∙ ap (λ found. behind p (by_room p (calling p now cells) found)) (has-room name vs es body now cells a.room)
     ∙ ap (behind p) (calls-with name vs es body now cells)
     ∙ ap (λ cs. behind p (inside_with p now (Some (statement_no 1)) cs, [])) (fresh-cells (length vs) ∙ ap (map Whole) (sym fresh))
-    ∙ goes-on name vs es body now (Some (statement_no 1)) cells a (let h : 0 < 1 = omega arith in h)
+    ∙ inside-goes name vs es body now (Some (statement_no 1)) cells a (let h : 0 < 1 = omega arith in h)

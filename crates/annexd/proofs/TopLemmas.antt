@@ -244,7 +244,7 @@ write_fault asked files unread unwritten rose old new notes_old notes_new (Err M
 -- a note was tried
 pub note_tried : (asked : Option (List ℕ)) (files : Option (List ℕ → Option (List ℕ))) (unread unwritten rose : Type 0) (old new notes_old notes_new : Option (List ℕ)) (r : Result Ended Failure) (status : ℕ) → Performs asked files unread old new unwritten r → Concludes r notes_old notes_new rose status → status ≡ 8 → NoteTried notes_old notes_new
 note_tried asked files unread unwritten rose old new notes_old notes_new (Ok stop) status p c e = absurd (omega (arith, c.0, stop_status-small stop, e))
-note_tried asked files unread unwritten rose old new notes_old notes_new (Err failure) status p (inl c) e = (failure, note_of failure, [], sym (append-nil (note_of failure)), c.1)
+note_tried asked files unread unwritten rose old new notes_old notes_new (Err failure) status p (inl c) e = (failure, (note_of failure, [], sym (append-nil (note_of failure)), c.1))
 note_tried asked files unread unwritten rose old new notes_old notes_new (Err failure) status p (inr c) e = (failure, c.2)
 
 -- 8 and 9: out gained nothing, or a front of the text of the run

@@ -14,20 +14,36 @@ mod tests;
 mod whole;
 
 use ann_base::{HostShelf, HostSink};
+use noting::conclude;
+use performing::Failure;
 use std::process::ExitCode;
 use std::{env, io};
 use whole::top;
 
-/// Passes the words behind the program's name to `top`, with the host's files and streams.
+/// Passes the words behind the program's name to `top`, with the host's files and streams. Where memory is wanting for
+/// the words the status is 9, as it is behind them.
 fn main(rt: HostRuntime) -> io::Result<ExitCode> {
+    let mut notes = HostSink::errors(rt.stderr());
+    let status = match words_behind_name(rt) {
+        Ok(words) => {
+            let mut shelf = HostShelf::new(rt);
+            let mut out = HostSink::output(rt.stdout());
+            top(rt.alloc(), &words, &mut shelf, &mut out, &mut notes)
+        }
+        Err(error) if error.kind() == io::ErrorKind::OutOfMemory => {
+            conclude(&mut notes, Err(Failure::Memory))
+        }
+        Err(error) => return Err(error),
+    };
+    Ok(ExitCode::from(status))
+}
+
+/// The words behind the program's name.
+fn words_behind_name(rt: HostRuntime) -> io::Result<Vec<Vec<u8>>> {
     let alloc = rt.alloc();
     let mut words = Vec::new(alloc);
     for word in env::args(&rt)?.skip(1) {
         words.push(Vec::from_slice(alloc, word.as_bytes())?)?;
     }
-    let mut shelf = HostShelf::new(rt);
-    let mut out = HostSink::output(rt.stdout());
-    let mut notes = HostSink::errors(rt.stderr());
-    let status = top(alloc, &words, &mut shelf, &mut out, &mut notes);
-    Ok(ExitCode::from(status))
+    Ok(words)
 }

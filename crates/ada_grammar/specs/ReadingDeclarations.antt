@@ -1,0 +1,261 @@
+-- Reading declarations that are no bodies (clauses 3, 6, 8.4, 9, 11, 13.1.1), where so many levels are left.
+use Rattle.std.specs.Prelude.{ℕ, Bool, ◌||◌, List, [], ◌∷◌, Option, Some, None, codes}
+use Rattle.ann_base.specs.declared.places.Place.{Place}
+use Rattle.ada_syntax.specs.declared.names.Identifier.{Identifier}
+use Rattle.ada_syntax.specs.declared.names.OneOrMore.{OneOrMore}
+use Rattle.ada_syntax.specs.declared.expressions.Expression.{Expression}
+use Rattle.ada_syntax.specs.declared.statements.Sequence.{Sequence}
+use Rattle.ada_syntax.specs.declared.declarations.Declaration.{Declaration}
+use Rattle.ada_syntax.specs.declared.declarations.Component.{Component}
+use Rattle.ada_syntax.specs.declared.declarations.TypeDefinition.{TypeDefinition}
+use Rattle.ada_syntax.specs.declared.declarations.Aspect.{Aspect}
+use Rattle.ada_syntax.specs.declared.declarations.SubprogramSpecification.{SubprogramSpecification}
+use Rattle.ada_syntax.specs.declared.declarations.EntryDeclaration.{EntryDeclaration}
+use Rattle.ada_syntax.specs.declared.declarations.EntryHead.{EntryHead}
+use Rattle.ada_syntax.specs.declared.declarations.TaskDefinition.{TaskDefinition}
+use Rattle.ada_syntax.specs.declared.declarations.ProtectedOperation.{ProtectedOperation}
+use Rattle.ada_syntax.specs.declared.declarations.Declaration.TheVariants as declarations
+use Rattle.ada_syntax.specs.declared.declarations.TypeDefinition.TheVariants as definitions
+use Rattle.ada_syntax.specs.declared.declarations.ProtectedOperation.TheVariants as operations
+use Rattle.ada_syntax.specs.Written.{Lexeme}
+use Rattle.ada_grammar.specs.Reading.{Parser, ◌>>=◌, ◌>>◌, pure, choose, sees_word, sees_mark, sees_identifier, the_word, the_mark, an_identifier, flag_of, end_name_of, opening_of, below, items_of, behind_mark_of, identifiers_of, name_of}
+use Rattle.ada_grammar.specs.ReadingExpressions.{expression_of}
+use Rattle.ada_grammar.specs.ReadingSimple.{bounds_of, subtype_mark_of, parameters_of}
+
+-- ---- objects, types, exceptions (3.3.1, 3.2.1, 11.1)
+
+-- [":=" expression]
+unfoldable pub initial_of : ℕ → Parser (Option Expression)
+initial_of left = choose (sees_mark (codes ":=")) (do the_mark (codes ":="); value ← expression_of left; pure (Some value)) (pure None)
+
+-- ["aliased"] ["constant"] mark [":=" expression] ";", behind the names and the colon
+unfoldable pub object_of : ℕ → OneOrMore Identifier → Parser (Declaration Sequence)
+object_of left names = do
+  aliased ← flag_of (codes "aliased")
+  constant ← flag_of (codes "constant")
+  mark ← subtype_mark_of left
+  initial ← initial_of left
+  the_mark (codes ";")
+  pure (declarations.Object (record { names = names; aliased = aliased; constant = constant; mark = mark; initial = initial }))
+
+unfoldable pub exception_of : OneOrMore Identifier → Parser (Declaration Sequence)
+exception_of names = do
+  the_word (codes "exception")
+  the_mark (codes ";")
+  pure (declarations.Exception names)
+
+unfoldable pub named_declaration_of : ℕ → Parser (Declaration Sequence)
+named_declaration_of left = do
+  names ← identifiers_of
+  the_mark (codes ":")
+  choose (sees_word (codes "exception")) (exception_of names) (object_of left names)
+
+-- NAME {"," NAME} ":" mark [":=" expression] ";"
+unfoldable pub component_of : ℕ → Parser Component
+component_of left = do
+  names ← identifiers_of
+  the_mark (codes ":")
+  mark ← subtype_mark_of left
+  initial ← initial_of left
+  the_mark (codes ";")
+  pure (record { names = names; mark = mark; initial = initial })
+
+-- "(" NAME {"," NAME} ")"
+unfoldable pub enumeration_of : ℕ → Parser TypeDefinition
+enumeration_of left = do
+  opening_of left
+  literals ← identifiers_of
+  the_mark (codes ")")
+  pure (definitions.Enumeration literals)
+
+-- "array" "(" expression ".." expression ")" "of" mark
+unfoldable pub array_of : ℕ → Parser TypeDefinition
+array_of left = do
+  the_word (codes "array")
+  opening_of left
+  bounds ← bounds_of (below left)
+  the_mark (codes ")")
+  the_word (codes "of")
+  component ← subtype_mark_of left
+  pure (definitions.Array bounds.0 bounds.1 component)
+
+-- "null" "record" | "record" component {component} "end" "record"
+unfoldable pub null_record_of : Parser (Option (OneOrMore Component))
+null_record_of = do
+  the_word (codes "null")
+  the_word (codes "record")
+  pure None
+
+unfoldable pub components_record_of : ℕ → Parser (Option (OneOrMore Component))
+components_record_of left = do
+  the_word (codes "record")
+  first ← component_of left
+  others ← items_of sees_identifier (component_of left)
+  the_word (codes "end")
+  the_word (codes "record")
+  pure (Some (record { first = first; others = others }))
+
+unfoldable pub extension_of : ℕ → Parser (Option (OneOrMore Component))
+extension_of left = choose (sees_word (codes "null")) null_record_of (components_record_of left)
+
+-- "new" name "with" extension
+unfoldable pub derived_of : ℕ → Parser TypeDefinition
+derived_of left = do
+  the_word (codes "new")
+  parent ← name_of
+  the_word (codes "with")
+  components ← extension_of left
+  pure (definitions.Derived parent components)
+
+unfoldable pub definition_of : ℕ → Parser TypeDefinition
+definition_of left = choose (sees_mark (codes "(")) (enumeration_of left) (choose (sees_word (codes "array")) (array_of left) (derived_of left))
+
+-- "type" NAME "is" definition ";"
+unfoldable pub type_of : ℕ → Parser (Declaration Sequence)
+type_of left = do
+  place ← the_word (codes "type")
+  name ← an_identifier
+  the_word (codes "is")
+  definition ← definition_of left
+  the_mark (codes ";")
+  pure (declarations.Type (record { place = place; name = name; definition = definition }))
+
+-- "subtype" NAME "is" mark ";"
+unfoldable pub subtype_of : ℕ → Parser (Declaration Sequence)
+subtype_of left = do
+  place ← the_word (codes "subtype")
+  name ← an_identifier
+  the_word (codes "is")
+  mark ← subtype_mark_of left
+  the_mark (codes ";")
+  pure (declarations.Subtype (record { place = place; name = name; mark = mark }))
+
+-- "use" name ";"
+unfoldable pub use_of : Parser (Declaration Sequence)
+use_of = do
+  place ← the_word (codes "use")
+  name ← name_of
+  the_mark (codes ";")
+  pure (declarations.Use place name)
+
+-- ---- specifications (6.1, 9.1, 9.4, 9.5.2, 13.1.1)
+
+-- NAME ["=>" expression]
+unfoldable pub aspect_value_of : ℕ → Parser (Option Expression)
+aspect_value_of left = choose (sees_mark (codes "=>")) (do the_mark (codes "=>"); value ← expression_of left; pure (Some value)) (pure None)
+
+unfoldable pub aspect_of : ℕ → Parser Aspect
+aspect_of left = do
+  name ← an_identifier
+  value ← aspect_value_of left
+  pure (record { name = name; value = value })
+
+-- ["with" aspect {"," aspect}]
+unfoldable pub given_aspects_of : ℕ → Parser (List Aspect)
+given_aspects_of left = do
+  the_word (codes "with")
+  first ← aspect_of left
+  others ← items_of (sees_mark (codes ",")) (behind_mark_of (codes ",") (aspect_of left))
+  pure (first ∷ others)
+
+unfoldable pub aspects_of : ℕ → Parser (List Aspect)
+aspects_of left = choose (sees_word (codes "with")) (given_aspects_of left) (pure [])
+
+-- ["overriding"]
+unfoldable pub overriding_of : Parser (Option Place)
+overriding_of = choose (sees_word (codes "overriding")) (the_word (codes "overriding") >>= λ place. pure (Some place)) (pure None)
+
+-- "procedure" NAME [parameters] [aspects]
+unfoldable pub procedure_of : ℕ → Option Place → Parser SubprogramSpecification
+procedure_of left overriding = do
+  place ← the_word (codes "procedure")
+  name ← an_identifier
+  parameters ← parameters_of left
+  aspects ← aspects_of left
+  pure (record { overriding = overriding; place = place; name = name; parameters = parameters; result = None; aspects = aspects })
+
+-- "function" NAME [parameters] "return" mark [aspects]
+unfoldable pub function_of : ℕ → Option Place → Parser SubprogramSpecification
+function_of left overriding = do
+  place ← the_word (codes "function")
+  name ← an_identifier
+  parameters ← parameters_of left
+  the_word (codes "return")
+  result ← subtype_mark_of left
+  aspects ← aspects_of left
+  pure (record { overriding = overriding; place = place; name = name; parameters = parameters; result = Some result; aspects = aspects })
+
+unfoldable pub specification_of : ℕ → Parser SubprogramSpecification
+specification_of left = do
+  overriding ← overriding_of
+  choose (sees_word (codes "function")) (function_of left overriding) (procedure_of left overriding)
+
+abbrev pub begins_specification : List Lexeme → Bool
+begins_specification ls = sees_word (codes "overriding") ls || (sees_word (codes "procedure") ls || sees_word (codes "function") ls)
+
+-- "entry" NAME [parameters] ";"
+unfoldable pub entry_of : ℕ → Parser EntryDeclaration
+entry_of left = do
+  place ← the_word (codes "entry")
+  name ← an_identifier
+  parameters ← parameters_of left
+  the_mark (codes ";")
+  pure (record { place = place; name = name; parameters = parameters })
+
+-- ["is" {entry} "end" [NAME]]
+unfoldable pub task_definition_of : ℕ → List ℕ → Parser (Option TaskDefinition)
+task_definition_of left name =
+    choose (sees_word (codes "is"))
+    (do the_word (codes "is"); entries ← items_of (sees_word (codes "entry")) (entry_of left); the_word (codes "end"); named ← end_name_of name; pure (Some (record { entries = entries; named_at_end = named })))
+    (pure None)
+
+-- ["type"] NAME [aspects] [definition] ";", behind "task"
+unfoldable pub task_of : ℕ → Place → Parser (Declaration Sequence)
+task_of left place = do
+  is_type ← flag_of (codes "type")
+  name ← an_identifier
+  aspects ← aspects_of left
+  definition ← task_definition_of left name.text
+  the_mark (codes ";")
+  pure (declarations.Task (record { place = place; is_type = is_type; name = name; aspects = aspects; definition = definition }))
+
+unfoldable pub specified_operation_of : ℕ → Parser ProtectedOperation
+specified_operation_of left = do
+  specification ← specification_of left
+  the_mark (codes ";")
+  pure (operations.Subprogram specification)
+
+unfoldable pub operation_of : ℕ → Parser ProtectedOperation
+operation_of left = choose (sees_word (codes "entry")) (entry_of left >>= λ entry. pure (operations.Entry entry)) (specified_operation_of left)
+
+abbrev pub begins_operation : List Lexeme → Bool
+begins_operation ls = sees_word (codes "entry") ls || begins_specification ls
+
+-- ["private" {component}]
+unfoldable pub private_of : ℕ → Parser (Option (List Component))
+private_of left =
+    choose (sees_word (codes "private")) (do the_word (codes "private"); components ← items_of sees_identifier (component_of left); pure (Some components)) (pure None)
+
+-- ["type"] NAME [aspects] "is" {operation} ["private" {component}] "end" [NAME] ";", behind "protected"
+unfoldable pub protected_of : ℕ → Place → Parser (Declaration Sequence)
+protected_of left place = do
+  is_type ← flag_of (codes "type")
+  name ← an_identifier
+  aspects ← aspects_of left
+  the_word (codes "is")
+  named_operations ← items_of begins_operation (operation_of left)
+  components ← private_of left
+  the_word (codes "end")
+  named ← end_name_of name.text
+  the_mark (codes ";")
+  pure (declarations.Protected (record { place = place; is_type = is_type; name = name; aspects = aspects; operations = named_operations; components = components; named_at_end = named }))
+
+-- "entry" NAME [parameters] "when" expression
+unfoldable pub entry_head_of : ℕ → Parser EntryHead
+entry_head_of left = do
+  place ← the_word (codes "entry")
+  name ← an_identifier
+  parameters ← parameters_of left
+  the_word (codes "when")
+  barrier ← expression_of left
+  pure (record { place = place; name = name; parameters = parameters; barrier = barrier })

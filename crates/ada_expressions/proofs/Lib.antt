@@ -1,0 +1,4 @@
+pub mod Lower
+pub mod Levels
+pub mod FirstItems
+pub mod GivenArguments

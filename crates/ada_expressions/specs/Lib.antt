@@ -1,0 +1,4 @@
+pub mod Steps
+pub mod Inside
+pub mod Turns
+pub mod Lists

@@ -1,0 +1,44 @@
+-- A loop that reads items as long as one begins: what each way out of it has read.
+use Rattle.std.proofs.Common.{◌≡◌, ℕ, zero, suc, ◌+◌, ◌-◌, ◌<◌, ◌≤◌, Bool, true, false, List, [], ◌∷◌, ◌++◌, Ok, Err, refl, sym, ap, subst, ◌∙◌, arith}
+use Rattle.ada_syntax.specs.Written.{Lexeme}
+use Rattle.ada_grammar.specs.declared.stuck.Stuck.{Stuck}
+use Rattle.ada_grammar.specs.declared.stuck.Stuck.TheVariants as stuck
+use Rattle.ada_grammar.specs.Reading.{Parser, Read, items_from}
+use Rattle.ada_expressions.specs.Steps.{Reads, Stops}
+use Rattle.ada_expressions.specs.Turns.{one_more, no_more}
+
+module _ {A : Type 0} (begins : List Lexeme → Bool) (item : Parser A) where
+  ends_at : (fuel : ℕ) (found : List A) (ls : List Lexeme) → begins ls ≡ false → items_from begins item fuel found ls ≡ Ok (found, ls)
+  unfolding items_from
+  ends_at zero found ls e = refl
+  ends_at (suc fuel) found ls e = rw e refl
+
+  pub none_begins : (turn end : ℕ) (found : List A) (ls : List Lexeme) (whole : Read (List A)) → begins ls ≡ false
+      → items_from begins item (end - turn) found ls ≡ whole → whole ≡ Ok (found, ls)
+  none_begins turn end found ls whole e is = sym is ∙ ends_at (end - turn) found ls e
+
+  pub no_turn : (turn end : ℕ) (found : List A) (ls : List Lexeme) (whole : Read (List A)) → end ≤ turn
+      → items_from begins item (end - turn) found ls ≡ whole → whole ≡ Ok (found, ls)
+  unfolding items_from
+  no_turn turn end found ls whole p is = sym (no_more (λ n. items_from begins item n found ls) whole turn end p is)
+
+  goes_on : (fuel : ℕ) (found : List A) (ls m : List Lexeme) (x : A) → begins ls ≡ true → item ls ≡ Ok (x, m)
+      → items_from begins item (suc fuel) found ls ≡ items_from begins item fuel (found ++ x ∷ []) m
+  unfolding items_from
+  goes_on fuel found ls m x e f = rw (e, f) refl
+
+  pub one_read : (turn end : ℕ) (found : List A) (ls m : List Lexeme) (x : A) (whole : Read (List A)) → turn < end → begins ls ≡ true → item ls ≡ Ok (x, m)
+      → items_from begins item (end - turn) found ls ≡ whole → items_from begins item (end - (turn + 1)) (found ++ x ∷ []) m ≡ whole
+  one_read turn end found ls m x whole p e f is =
+      sym (goes_on (end - (turn + 1)) found ls m x e f) ∙ one_more (λ n. items_from begins item n found ls) whole turn end p is
+
+  stops_at : (fuel : ℕ) (found : List A) (ls : List Lexeme) (why : Stuck) → begins ls ≡ true → Stops why (item ls) → Stops why (items_from begins item (suc fuel) found ls)
+  unfolding items_from
+  stops_at fuel found ls stuck.Memory e f = tt
+  stops_at fuel found ls (stuck.At left) e f = rw (e, f) refl
+  stops_at fuel found ls (stuck.TooDeep left) e f = rw (e, f) refl
+
+  pub one_stops : (turn end : ℕ) (found : List A) (ls : List Lexeme) (why : Stuck) (whole : Read (List A)) → turn < end → begins ls ≡ true → Stops why (item ls)
+      → items_from begins item (end - turn) found ls ≡ whole → Stops why whole
+  one_stops turn end found ls why whole p e f is =
+      subst (λ (r : Read (List A)). Stops why r) (one_more (λ n. items_from begins item n found ls) whole turn end p is) (stops_at (end - (turn + 1)) found ls why e f)

@@ -1,0 +1,530 @@
+//! Expressions (ISO/IEC 8652:2012, 4.4). The productions take the reader of the expressions in brackets as a
+//! parameter, so that each is proved by itself.
+ghost use Rattle.std.specs.Prelude.{◌≡◌, IfOk, codes, length};
+ghost use Rattle.ada_grammar.specs.Reading.{behind_mark_of, items_from, sees_mark, sees_word};
+ghost use Rattle.ada_grammar.specs.ReadingExpressions.{addend_of, addition_behind_of, adds, argument_of, arguments_of, bracketed_of, compared_of, expression_of, factor_of, first_term_of, formed, given_arguments_of, highest_of, inner_of, joined_of, logical_of, logical_text, multiplied_of, multiplies, named_argument_of, named_of, operand_of, primary_of, product_of, relation_of, signed_of, sum_of, term_of};
+ghost use Rattle.ada_expressions.specs.Inside.{ReadsInside};
+ghost use Rattle.ada_expressions.specs.Steps.{Reads};
+
+use crate::cursor::Cursor;
+use crate::names::name;
+use crate::operators::{
+    addition, adds, again, compares, comparison, designator, highest_place, joins, joins_again,
+    logical_operator, multiplication, multiplies, sign_place,
+};
+use ada_grammar::Stuck;
+use ada_syntax::{
+    Addend, Argument, Expression, ExpressionForm, HighestOperator, LogicalOperator, Multiplied,
+    OneOrMore, Operand, Sign,
+};
+use ann_base::NoMemory;
+use sqlite_items::{Boxed, Items};
+use std::alloc::Global;
+
+/// How expressions are read where `left` levels may still be opened.
+#[derive(Clone, Copy)]
+pub struct Expressions<F> {
+    /// Where memory comes from.
+    pub alloc: Global,
+    /// How many levels may still be opened.
+    pub left: usize,
+    /// Reads an expression where so many levels are left.
+    pub read: F,
+}
+
+/// The expression of this form.
+fn formed(alloc: Global, form: ExpressionForm<Expression>) -> Result<Expression, NoMemory>
+    ensures { IfOk result (λ e. e ≡ formed form) }
+{
+    Ok(Expression {
+        form: Boxed::new(alloc, form)?,
+    })
+}
+
+impl<F: Fn(Global, &mut Cursor<'_>, usize) -> Result<Expression, Stuck>> Expressions<F> {
+    /// An expression one level further in.
+    fn inner(&self, cursor: &mut Cursor<'_>) -> Result<Expression, Stuck>
+        requires reads { ReadsInside self.now.left (F.pre self.now.read) (F.post self.now.read) }
+        ensures { Reads result cursor.new (inner_of self.now.left cursor.old) }
+    {
+        match self.left {
+            0 => Err(cursor.stuck()),
+            left => (self.read)(self.alloc, cursor, left - 1),
+        }
+    }
+
+    /// `NAME => EXPRESSION`
+    #[tactic(auto, unfolding(ada_grammar::specs::ReadingExpressions::named_argument_of))]
+    fn named_argument(&self, cursor: &mut Cursor<'_>) -> Result<Argument<Expression>, Stuck>
+        requires reads { ReadsInside self.now.left (F.pre self.now.read) (F.post self.now.read) }
+        ensures { Reads result cursor.new (named_argument_of self.now.left (inner_of self.now.left) cursor.old) }
+    {
+        let formal = cursor.identifier(self.alloc)?;
+        cursor.mark(b"=>")?;
+        let value = self.inner(cursor)?;
+        Ok(Argument {
+            formal: Some(formal),
+            value,
+        })
+    }
+
+    /// An index or an actual (4.1.1, 6.4.1).
+    #[tactic(auto, unfolding(ada_grammar::specs::ReadingExpressions::argument_of))]
+    fn argument(&self, cursor: &mut Cursor<'_>) -> Result<Argument<Expression>, Stuck>
+        requires reads { ReadsInside self.now.left (F.pre self.now.read) (F.post self.now.read) }
+        ensures { Reads result cursor.new (argument_of self.now.left (inner_of self.now.left) cursor.old) }
+    {
+        if cursor.is_identifier_before(b"=>") {
+            self.named_argument(cursor)
+        } else {
+            let value = self.inner(cursor)?;
+            Ok(Argument {
+                formal: None,
+                value,
+            })
+        }
+    }
+
+    /// An argument behind a comma.
+    #[tactic(auto, unfolding(ada_grammar::specs::Reading::behind_mark_of))]
+    fn next_argument(&self, cursor: &mut Cursor<'_>) -> Result<Argument<Expression>, Stuck>
+        requires reads { ReadsInside self.now.left (F.pre self.now.read) (F.post self.now.read) }
+        ensures { Reads result cursor.new (behind_mark_of (codes ",") (argument_of self.now.left (inner_of self.now.left)) cursor.old) }
+    {
+        cursor.mark(b",")?;
+        self.argument(cursor)
+    }
+
+    /// The arguments behind the first one.
+    #[tactic(auto, unfolding(ada_grammar::specs::Reading::items_of))]
+    fn add_arguments(
+        &self,
+        cursor: &mut Cursor<'_>,
+        mut arguments: Items<Argument<Expression>>,
+    ) -> Result<Items<Argument<Expression>>, Stuck>
+        requires reads { ReadsInside self.now.left (F.pre self.now.read) (F.post self.now.read) }
+        ensures { Reads result cursor.new (items_from (sees_mark (codes ",")) (behind_mark_of (codes ",") (argument_of self.now.left (inner_of self.now.left))) (length cursor.old) arguments cursor.old) }
+    {
+        for _turn in 0..cursor.left() {
+            if !cursor.is_mark(b",") {
+                return Ok(arguments);
+            }
+            arguments.push(self.next_argument(cursor)?)?;
+        }
+        Ok(arguments)
+    }
+
+    /// Arguments in brackets (4.1.1, 6.4.1).
+    #[tactic(auto, unfolding(ada_grammar::specs::ReadingExpressions::given_arguments_of))]
+    fn given_arguments(&self, cursor: &mut Cursor<'_>) -> Result<Items<Argument<Expression>>, Stuck>
+        requires reads { ReadsInside self.now.left (F.pre self.now.read) (F.post self.now.read) }
+        ensures { Reads result cursor.new (given_arguments_of self.now.left (inner_of self.now.left) cursor.old) }
+    {
+        cursor.open(self.left)?;
+        let mut arguments = Items::new(self.alloc);
+        arguments.push(self.argument(cursor)?)?;
+        let arguments = self.add_arguments(cursor, arguments)?;
+        cursor.mark(b")")?;
+        Ok(arguments)
+    }
+
+    /// The arguments of a name, none where no bracket stands.
+    #[tactic(auto, unfolding(ada_grammar::specs::ReadingExpressions::arguments_of))]
+    fn arguments(&self, cursor: &mut Cursor<'_>) -> Result<Items<Argument<Expression>>, Stuck>
+        requires reads { ReadsInside self.now.left (F.pre self.now.read) (F.post self.now.read) }
+        ensures { Reads result cursor.new (arguments_of self.now.left (inner_of self.now.left) cursor.old) }
+    {
+        if cursor.is_mark(b"(") {
+            self.given_arguments(cursor)
+        } else {
+            Ok(Items::new(self.alloc))
+        }
+    }
+
+    /// A name, an attribute, an indexed component or a function call (4.1, 6.4).
+    #[tactic(auto, unfolding(ada_grammar::specs::ReadingExpressions::named_of))]
+    fn named(&self, cursor: &mut Cursor<'_>) -> Result<Expression, Stuck>
+        requires reads { ReadsInside self.now.left (F.pre self.now.read) (F.post self.now.read) }
+        ensures { Reads result cursor.new (named_of self.now.left (inner_of self.now.left) cursor.old) }
+    {
+        let name = name(self.alloc, cursor)?;
+        let attribute = designator(cursor)?;
+        let arguments = self.arguments(cursor)?;
+        let form = ExpressionForm::Named {
+            name,
+            attribute,
+            arguments,
+        };
+        Ok(formed(self.alloc, form)?)
+    }
+
+    /// `(EXPRESSION)`
+    #[tactic(auto, unfolding(ada_grammar::specs::ReadingExpressions::bracketed_of))]
+    fn bracketed(&self, cursor: &mut Cursor<'_>) -> Result<Expression, Stuck>
+        requires reads { ReadsInside self.now.left (F.pre self.now.read) (F.post self.now.read) }
+        ensures { Reads result cursor.new (bracketed_of self.now.left (inner_of self.now.left) cursor.old) }
+    {
+        let place = cursor.open(self.left)?;
+        let inner = self.inner(cursor)?;
+        cursor.mark(b")")?;
+        Ok(formed(self.alloc, ExpressionForm::Bracketed { place, inner })?)
+    }
+
+    /// A primary (4.4).
+    #[tactic(auto, unfolding(ada_grammar::specs::ReadingExpressions::primary_of))]
+    fn primary(&self, cursor: &mut Cursor<'_>) -> Result<Expression, Stuck>
+        requires reads { ReadsInside self.now.left (F.pre self.now.read) (F.post self.now.read) }
+        ensures { Reads result cursor.new (primary_of self.now.left (inner_of self.now.left) cursor.old) }
+    {
+        if cursor.is_number() {
+            let (place, literal) = cursor.number(self.alloc)?;
+            Ok(formed(self.alloc, ExpressionForm::Number { place, literal })?)
+        } else if cursor.is_text() {
+            let (place, text) = cursor.text(self.alloc)?;
+            Ok(formed(self.alloc, ExpressionForm::Text { place, text })?)
+        } else if cursor.is_word(b"null") {
+            let place = cursor.word(b"null")?;
+            Ok(formed(self.alloc, ExpressionForm::Null { place })?)
+        } else if cursor.is_mark(b"(") {
+            self.bracketed(cursor)
+        } else {
+            self.named(cursor)
+        }
+    }
+
+    /// A primary behind `abs` or `not` (4.4, 4.5.6).
+    #[tactic(auto, unfolding(ada_grammar::specs::ReadingExpressions::highest_of))]
+    fn highest(
+        &self,
+        cursor: &mut Cursor<'_>,
+        operator: HighestOperator,
+    ) -> Result<Expression, Stuck>
+        requires reads { ReadsInside self.now.left (F.pre self.now.read) (F.post self.now.read) }
+        ensures { Reads result cursor.new (highest_of self.now.left (inner_of self.now.left) operator cursor.old) }
+    {
+        let place = highest_place(cursor, operator)?;
+        let operand = self.primary(cursor)?;
+        let form = ExpressionForm::Highest {
+            place,
+            operator,
+            operand,
+        };
+        Ok(formed(self.alloc, form)?)
+    }
+
+    /// A factor (4.4).
+    #[tactic(auto, unfolding(ada_grammar::specs::ReadingExpressions::factor_of))]
+    fn factor(&self, cursor: &mut Cursor<'_>) -> Result<Expression, Stuck>
+        requires reads { ReadsInside self.now.left (F.pre self.now.read) (F.post self.now.read) }
+        ensures { Reads result cursor.new (factor_of self.now.left (inner_of self.now.left) cursor.old) }
+    {
+        if cursor.is_word(b"abs") {
+            self.highest(cursor, HighestOperator::Absolute)
+        } else if cursor.is_word(b"not") {
+            self.highest(cursor, HighestOperator::Not)
+        } else {
+            self.primary(cursor)
+        }
+    }
+
+    /// A factor behind a multiplying operator.
+    #[tactic(auto, unfolding(ada_grammar::specs::ReadingExpressions::multiplied_of))]
+    fn multiplied(&self, cursor: &mut Cursor<'_>) -> Result<Multiplied<Expression>, Stuck>
+        requires reads { ReadsInside self.now.left (F.pre self.now.read) (F.post self.now.read) }
+        ensures { Reads result cursor.new (multiplied_of self.now.left (inner_of self.now.left) cursor.old) }
+    {
+        let (place, operator) = multiplication(cursor)?;
+        let factor = self.factor(cursor)?;
+        Ok(Multiplied {
+            place,
+            operator,
+            factor,
+        })
+    }
+
+    /// The factors behind the second one.
+    fn add_factors(
+        &self,
+        cursor: &mut Cursor<'_>,
+        mut factors: Items<Multiplied<Expression>>,
+    ) -> Result<Items<Multiplied<Expression>>, Stuck>
+        requires reads { ReadsInside self.now.left (F.pre self.now.read) (F.post self.now.read) }
+        ensures { Reads result cursor.new (items_from multiplies (multiplied_of self.now.left (inner_of self.now.left)) (length cursor.old) factors cursor.old) }
+    {
+        for _turn in 0..cursor.left() {
+            if !multiplies(cursor) {
+                return Ok(factors);
+            }
+            factors.push(self.multiplied(cursor)?)?;
+        }
+        Ok(factors)
+    }
+
+    /// Factors that are multiplied or divided, behind the first one (4.5.5).
+    #[tactic(auto, unfolding(ada_grammar::specs::ReadingExpressions::product_of, ada_grammar::specs::Reading::items_of))]
+    fn product(&self, cursor: &mut Cursor<'_>, first: Expression) -> Result<Expression, Stuck>
+        requires reads { ReadsInside self.now.left (F.pre self.now.read) (F.post self.now.read) }
+        ensures { Reads result cursor.new (product_of self.now.left (inner_of self.now.left) first cursor.old) }
+    {
+        let second = self.multiplied(cursor)?;
+        let others = OneOrMore {
+            first: second,
+            others: self.add_factors(cursor, Items::new(self.alloc))?,
+        };
+        Ok(formed(self.alloc, ExpressionForm::Multiplying { first, others })?)
+    }
+
+    /// A term (4.4).
+    #[tactic(auto, unfolding(ada_grammar::specs::ReadingExpressions::term_of))]
+    fn term(&self, cursor: &mut Cursor<'_>) -> Result<Expression, Stuck>
+        requires reads { ReadsInside self.now.left (F.pre self.now.read) (F.post self.now.read) }
+        ensures { Reads result cursor.new (term_of self.now.left (inner_of self.now.left) cursor.old) }
+    {
+        let first = self.factor(cursor)?;
+        if multiplies(cursor) {
+            self.product(cursor, first)
+        } else {
+            Ok(first)
+        }
+    }
+
+    /// A term behind a sign (4.5.4).
+    #[tactic(auto, unfolding(ada_grammar::specs::ReadingExpressions::signed_of))]
+    fn signed(&self, cursor: &mut Cursor<'_>, sign: Sign) -> Result<Expression, Stuck>
+        requires reads { ReadsInside self.now.left (F.pre self.now.read) (F.post self.now.read) }
+        ensures { Reads result cursor.new (signed_of self.now.left (inner_of self.now.left) sign cursor.old) }
+    {
+        let place = sign_place(cursor, sign)?;
+        let operand = self.term(cursor)?;
+        let form = ExpressionForm::Signed {
+            place,
+            sign,
+            operand,
+        };
+        Ok(formed(self.alloc, form)?)
+    }
+
+    /// The first term of a sum, with its sign.
+    #[tactic(auto, unfolding(ada_grammar::specs::ReadingExpressions::first_term_of))]
+    fn first_term(&self, cursor: &mut Cursor<'_>) -> Result<Expression, Stuck>
+        requires reads { ReadsInside self.now.left (F.pre self.now.read) (F.post self.now.read) }
+        ensures { Reads result cursor.new (first_term_of self.now.left (inner_of self.now.left) cursor.old) }
+    {
+        if cursor.is_mark(b"+") {
+            self.signed(cursor, Sign::Plus)
+        } else if cursor.is_mark(b"-") {
+            self.signed(cursor, Sign::Minus)
+        } else {
+            self.term(cursor)
+        }
+    }
+
+    /// A term behind a binary adding operator.
+    #[tactic(auto, unfolding(ada_grammar::specs::ReadingExpressions::addend_of))]
+    fn addend(&self, cursor: &mut Cursor<'_>) -> Result<Addend<Expression>, Stuck>
+        requires reads { ReadsInside self.now.left (F.pre self.now.read) (F.post self.now.read) }
+        ensures { Reads result cursor.new (addend_of self.now.left (inner_of self.now.left) cursor.old) }
+    {
+        let (place, operator) = addition(cursor)?;
+        let term = self.term(cursor)?;
+        Ok(Addend {
+            place,
+            operator,
+            term,
+        })
+    }
+
+    /// The terms behind the second one.
+    fn add_terms(
+        &self,
+        cursor: &mut Cursor<'_>,
+        mut terms: Items<Addend<Expression>>,
+    ) -> Result<Items<Addend<Expression>>, Stuck>
+        requires reads { ReadsInside self.now.left (F.pre self.now.read) (F.post self.now.read) }
+        ensures { Reads result cursor.new (items_from adds (addend_of self.now.left (inner_of self.now.left)) (length cursor.old) terms cursor.old) }
+    {
+        for _turn in 0..cursor.left() {
+            if !adds(cursor) {
+                return Ok(terms);
+            }
+            terms.push(self.addend(cursor)?)?;
+        }
+        Ok(terms)
+    }
+
+    /// Terms that are added, subtracted or joined, behind the first one (4.5.3).
+    #[tactic(auto, unfolding(ada_grammar::specs::ReadingExpressions::addition_behind_of, ada_grammar::specs::Reading::items_of))]
+    fn addition_behind(
+        &self,
+        cursor: &mut Cursor<'_>,
+        first: Expression,
+    ) -> Result<Expression, Stuck>
+        requires reads { ReadsInside self.now.left (F.pre self.now.read) (F.post self.now.read) }
+        ensures { Reads result cursor.new (addition_behind_of self.now.left (inner_of self.now.left) first cursor.old) }
+    {
+        let second = self.addend(cursor)?;
+        let others = OneOrMore {
+            first: second,
+            others: self.add_terms(cursor, Items::new(self.alloc))?,
+        };
+        Ok(formed(self.alloc, ExpressionForm::Adding { first, others })?)
+    }
+
+    /// A simple expression (4.4).
+    #[tactic(auto, unfolding(ada_grammar::specs::ReadingExpressions::sum_of))]
+    fn sum(&self, cursor: &mut Cursor<'_>) -> Result<Expression, Stuck>
+        requires reads { ReadsInside self.now.left (F.pre self.now.read) (F.post self.now.read) }
+        ensures { Reads result cursor.new (sum_of self.now.left (inner_of self.now.left) cursor.old) }
+    {
+        let first = self.first_term(cursor)?;
+        if adds(cursor) {
+            self.addition_behind(cursor, first)
+        } else {
+            Ok(first)
+        }
+    }
+
+    /// Two sums that are compared, behind the first one (4.5.2).
+    #[tactic(auto, unfolding(ada_grammar::specs::ReadingExpressions::compared_of))]
+    fn compared(&self, cursor: &mut Cursor<'_>, first: Expression) -> Result<Expression, Stuck>
+        requires reads { ReadsInside self.now.left (F.pre self.now.read) (F.post self.now.read) }
+        ensures { Reads result cursor.new (compared_of self.now.left (inner_of self.now.left) first cursor.old) }
+    {
+        let (place, operator) = comparison(cursor)?;
+        let second = self.sum(cursor)?;
+        let form = ExpressionForm::Relational {
+            left: first,
+            place,
+            operator,
+            right: second,
+        };
+        Ok(formed(self.alloc, form)?)
+    }
+
+    /// A relation (4.4).
+    #[tactic(auto, unfolding(ada_grammar::specs::ReadingExpressions::relation_of))]
+    fn relation(&self, cursor: &mut Cursor<'_>) -> Result<Expression, Stuck>
+        requires reads { ReadsInside self.now.left (F.pre self.now.read) (F.post self.now.read) }
+        ensures { Reads result cursor.new (relation_of self.now.left (inner_of self.now.left) cursor.old) }
+    {
+        let first = self.sum(cursor)?;
+        if compares(cursor) {
+            self.compared(cursor, first)
+        } else {
+            Ok(first)
+        }
+    }
+
+    /// A relation behind this logical operator.
+    #[tactic(auto, unfolding(ada_grammar::specs::ReadingExpressions::operand_of))]
+    fn operand(
+        &self,
+        cursor: &mut Cursor<'_>,
+        operator: LogicalOperator,
+    ) -> Result<Operand<Expression>, Stuck>
+        requires reads { ReadsInside self.now.left (F.pre self.now.read) (F.post self.now.read) }
+        ensures { Reads result cursor.new (operand_of self.now.left (inner_of self.now.left) operator cursor.old) }
+    {
+        let place = again(cursor, operator)?;
+        let relation = self.relation(cursor)?;
+        Ok(Operand { place, relation })
+    }
+
+    /// The relations behind the second one.
+    fn add_operands(
+        &self,
+        cursor: &mut Cursor<'_>,
+        operator: LogicalOperator,
+        mut operands: Items<Operand<Expression>>,
+    ) -> Result<Items<Operand<Expression>>, Stuck>
+        requires reads { ReadsInside self.now.left (F.pre self.now.read) (F.post self.now.read) }
+        ensures { Reads result cursor.new (items_from (sees_word (logical_text operator)) (operand_of self.now.left (inner_of self.now.left) operator) (length cursor.old) operands cursor.old) }
+    {
+        for _turn in 0..cursor.left() {
+            if !joins_again(cursor, operator) {
+                return Ok(operands);
+            }
+            operands.push(self.operand(cursor, operator)?)?;
+        }
+        Ok(operands)
+    }
+
+    /// Relations that one logical operator joins, behind the first one (4.5.1).
+    #[tactic(auto, unfolding(ada_grammar::specs::ReadingExpressions::joined_of, ada_grammar::specs::Reading::items_of))]
+    fn joined(&self, cursor: &mut Cursor<'_>, first: Expression) -> Result<Expression, Stuck>
+        requires reads { ReadsInside self.now.left (F.pre self.now.read) (F.post self.now.read) }
+        ensures { Reads result cursor.new (joined_of self.now.left (inner_of self.now.left) first cursor.old) }
+    {
+        let (place, operator) = logical_operator(cursor)?;
+        let relation = self.relation(cursor)?;
+        let others = OneOrMore {
+            first: Operand { place, relation },
+            others: self.add_operands(cursor, operator, Items::new(self.alloc))?,
+        };
+        let form = ExpressionForm::Logical {
+            operator,
+            first,
+            others,
+        };
+        Ok(formed(self.alloc, form)?)
+    }
+
+    /// An expression (4.4).
+    #[tactic(auto, unfolding(ada_grammar::specs::ReadingExpressions::logical_of))]
+    fn logical(&self, cursor: &mut Cursor<'_>) -> Result<Expression, Stuck>
+        requires reads { ReadsInside self.now.left (F.pre self.now.read) (F.post self.now.read) }
+        ensures { Reads result cursor.new (logical_of self.now.left (inner_of self.now.left) cursor.old) }
+    {
+        let first = self.relation(cursor)?;
+        if joins(cursor) {
+            self.joined(cursor, first)
+        } else {
+            Ok(first)
+        }
+    }
+}
+
+/// An expression, where `left` levels may still be opened.
+#[tactic(auto, using(crate::proofs::Levels::at_level))]
+pub fn expression(alloc: Global, cursor: &mut Cursor<'_>, left: usize) -> Result<Expression, Stuck>
+    ensures { Reads result cursor.new (expression_of left cursor.old) }
+{
+    Expressions {
+        alloc,
+        left,
+        read: expression,
+    }
+    .logical(cursor)
+}
+
+/// `[(ARGUMENT {, ARGUMENT})]`, where `left` levels may still be opened; empty where no bracket stands (4.1.1, 6.4).
+pub fn arguments(
+    alloc: Global,
+    cursor: &mut Cursor<'_>,
+    left: usize,
+) -> Result<Items<Argument<Expression>>, Stuck>
+    ensures { Reads result cursor.new (arguments_of left (inner_of left) cursor.old) }
+{
+    Expressions {
+        alloc,
+        left,
+        read: expression,
+    }
+    .arguments(cursor)
+}
+
+/// An argument in brackets, before which `left` levels might still be opened (2.8).
+pub fn argument(
+    alloc: Global,
+    cursor: &mut Cursor<'_>,
+    left: usize,
+) -> Result<Argument<Expression>, Stuck>
+    ensures { Reads result cursor.new (argument_of left (inner_of left) cursor.old) }
+{
+    Expressions {
+        alloc,
+        left,
+        read: expression,
+    }
+    .argument(cursor)
+}

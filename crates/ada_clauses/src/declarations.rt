@@ -1,0 +1,274 @@
+//! Declarations of objects, exceptions, types and subtypes, and use clauses (ISO/IEC 8652:2012, clauses 3, 8.4 and
+//! 11.1).
+ghost use Rattle.std.specs.Prelude.{◌≡◌, codes, length};
+ghost use Rattle.ada_grammar.specs.ReadingDeclarations.{array_of, component_of, components_record_of, definition_of, derived_of, enumeration_of, exception_of, extension_of, initial_of, named_declaration_of, null_record_of, object_of, subtype_of, type_of, use_of};
+ghost use Rattle.ada_grammar.specs.Reading.{items_from, sees_identifier};
+ghost use Rattle.ada_expressions.specs.Steps.{Reads};
+
+use crate::marks::{below, bounds, subtype_mark};
+use ada_expressions::{Cursor, expression, identifiers, name};
+use ada_grammar::Stuck;
+use ada_syntax::{
+    Component, Declaration, Expression, Identifier, ObjectDeclaration, OneOrMore, Sequence,
+    SubtypeDeclaration, TypeDeclaration, TypeDefinition,
+};
+use sqlite_items::Items;
+use std::alloc::Global;
+
+/// `[:= EXPRESSION]` (3.3.1)
+#[tactic(auto, unfolding(ada_grammar::specs::ReadingDeclarations::initial_of))]
+fn initial_value(
+    alloc: Global,
+    cursor: &mut Cursor<'_>,
+    left: usize,
+) -> Result<Option<Expression>, Stuck>
+    ensures { Reads result cursor.new (initial_of left cursor.old) }
+{
+    if cursor.is_mark(b":=") {
+        cursor.mark(b":=")?;
+        Ok(Some(expression(alloc, cursor, left)?))
+    } else {
+        Ok(None)
+    }
+}
+
+/// `[aliased] [constant] MARK [:= EXPRESSION];`, behind the names and the colon (3.3.1)
+#[tactic(auto, unfolding(ada_grammar::specs::ReadingDeclarations::object_of))]
+fn object_declaration(
+    alloc: Global,
+    cursor: &mut Cursor<'_>,
+    left: usize,
+    names: OneOrMore<Identifier>,
+) -> Result<Declaration<Sequence>, Stuck>
+    ensures { Reads result cursor.new (object_of left names cursor.old) }
+{
+    let aliased = cursor.flag(b"aliased")?;
+    let constant = cursor.flag(b"constant")?;
+    let mark = subtype_mark(alloc, cursor, left)?;
+    let initial = initial_value(alloc, cursor, left)?;
+    cursor.mark(b";")?;
+    Ok(Declaration::Object(ObjectDeclaration {
+        names,
+        aliased,
+        constant,
+        mark,
+        initial,
+    }))
+}
+
+/// `exception;`, behind the names and the colon (11.1)
+#[tactic(auto, unfolding(ada_grammar::specs::ReadingDeclarations::exception_of))]
+fn exception_declaration(
+    cursor: &mut Cursor<'_>,
+    names: OneOrMore<Identifier>,
+) -> Result<Declaration<Sequence>, Stuck>
+    ensures { Reads result cursor.new (exception_of names cursor.old) }
+{
+    cursor.word(b"exception")?;
+    cursor.mark(b";")?;
+    Ok(Declaration::Exception { names })
+}
+
+/// An object declaration, or an exception declaration (3.3.1, 11.1).
+#[tactic(auto, unfolding(ada_grammar::specs::ReadingDeclarations::named_declaration_of))]
+pub fn named_declaration(
+    alloc: Global,
+    cursor: &mut Cursor<'_>,
+    left: usize,
+) -> Result<Declaration<Sequence>, Stuck>
+    ensures { Reads result cursor.new (named_declaration_of left cursor.old) }
+{
+    let names = identifiers(alloc, cursor)?;
+    cursor.mark(b":")?;
+    if cursor.is_word(b"exception") {
+        exception_declaration(cursor, names)
+    } else {
+        object_declaration(alloc, cursor, left, names)
+    }
+}
+
+/// `NAME {, NAME} : MARK [:= EXPRESSION];` (3.8)
+#[tactic(auto, unfolding(ada_grammar::specs::ReadingDeclarations::component_of))]
+fn component(alloc: Global, cursor: &mut Cursor<'_>, left: usize) -> Result<Component, Stuck>
+    ensures { Reads result cursor.new (component_of left cursor.old) }
+{
+    let names = identifiers(alloc, cursor)?;
+    cursor.mark(b":")?;
+    let mark = subtype_mark(alloc, cursor, left)?;
+    let initial = initial_value(alloc, cursor, left)?;
+    cursor.mark(b";")?;
+    Ok(Component {
+        names,
+        mark,
+        initial,
+    })
+}
+
+/// Components as long as one begins.
+pub(crate) fn add_components(
+    alloc: Global,
+    cursor: &mut Cursor<'_>,
+    left: usize,
+    mut found: Items<Component>,
+) -> Result<Items<Component>, Stuck>
+    ensures { Reads result cursor.new (items_from sees_identifier (component_of left) (length cursor.old) found cursor.old) }
+{
+    for _turn in 0..cursor.left() {
+        if !cursor.is_identifier() {
+            return Ok(found);
+        }
+        found.push(component(alloc, cursor, left)?)?;
+    }
+    Ok(found)
+}
+
+/// `(NAME {, NAME})` (3.5.1)
+#[tactic(auto, unfolding(ada_grammar::specs::ReadingDeclarations::enumeration_of))]
+fn enumeration(alloc: Global, cursor: &mut Cursor<'_>, left: usize) -> Result<TypeDefinition, Stuck>
+    ensures { Reads result cursor.new (enumeration_of left cursor.old) }
+{
+    cursor.open(left)?;
+    let literals = identifiers(alloc, cursor)?;
+    cursor.mark(b")")?;
+    Ok(TypeDefinition::Enumeration { literals })
+}
+
+/// `array (LOW .. HIGH) of MARK` (3.6)
+#[tactic(auto, unfolding(ada_grammar::specs::ReadingDeclarations::array_of))]
+fn array(alloc: Global, cursor: &mut Cursor<'_>, left: usize) -> Result<TypeDefinition, Stuck>
+    ensures { Reads result cursor.new (array_of left cursor.old) }
+{
+    cursor.word(b"array")?;
+    cursor.open(left)?;
+    let (low, high) = bounds(alloc, cursor, below(left))?;
+    cursor.mark(b")")?;
+    cursor.word(b"of")?;
+    let component = subtype_mark(alloc, cursor, left)?;
+    Ok(TypeDefinition::Array {
+        low,
+        high,
+        component,
+    })
+}
+
+/// `null record` (3.8)
+#[tactic(auto, unfolding(ada_grammar::specs::ReadingDeclarations::null_record_of))]
+fn null_record(cursor: &mut Cursor<'_>) -> Result<Option<OneOrMore<Component>>, Stuck>
+    ensures { Reads result cursor.new (null_record_of cursor.old) }
+{
+    cursor.word(b"null")?;
+    cursor.word(b"record")?;
+    Ok(None)
+}
+
+/// `record COMPONENT {COMPONENT} end record` (3.8)
+#[tactic(auto, unfolding(ada_grammar::specs::ReadingDeclarations::components_record_of, ada_grammar::specs::Reading::items_of))]
+fn components_record(
+    alloc: Global,
+    cursor: &mut Cursor<'_>,
+    left: usize,
+) -> Result<Option<OneOrMore<Component>>, Stuck>
+    ensures { Reads result cursor.new (components_record_of left cursor.old) }
+{
+    cursor.word(b"record")?;
+    let first = component(alloc, cursor, left)?;
+    let others = add_components(alloc, cursor, left, Items::new(alloc))?;
+    cursor.word(b"end")?;
+    cursor.word(b"record")?;
+    Ok(Some(OneOrMore { first, others }))
+}
+
+/// The record that extends a parent type (3.9.1).
+#[tactic(auto, unfolding(ada_grammar::specs::ReadingDeclarations::extension_of))]
+fn extension(
+    alloc: Global,
+    cursor: &mut Cursor<'_>,
+    left: usize,
+) -> Result<Option<OneOrMore<Component>>, Stuck>
+    ensures { Reads result cursor.new (extension_of left cursor.old) }
+{
+    if cursor.is_word(b"null") {
+        null_record(cursor)
+    } else {
+        components_record(alloc, cursor, left)
+    }
+}
+
+/// `new NAME with RECORD` (3.4, 3.9.1)
+#[tactic(auto, unfolding(ada_grammar::specs::ReadingDeclarations::derived_of))]
+fn derived(alloc: Global, cursor: &mut Cursor<'_>, left: usize) -> Result<TypeDefinition, Stuck>
+    ensures { Reads result cursor.new (derived_of left cursor.old) }
+{
+    cursor.word(b"new")?;
+    let parent = name(alloc, cursor)?;
+    cursor.word(b"with")?;
+    let components = extension(alloc, cursor, left)?;
+    Ok(TypeDefinition::Derived { parent, components })
+}
+
+/// How a type is defined (3.2.1).
+#[tactic(auto, unfolding(ada_grammar::specs::ReadingDeclarations::definition_of))]
+fn type_definition(
+    alloc: Global,
+    cursor: &mut Cursor<'_>,
+    left: usize,
+) -> Result<TypeDefinition, Stuck>
+    ensures { Reads result cursor.new (definition_of left cursor.old) }
+{
+    if cursor.is_mark(b"(") {
+        enumeration(alloc, cursor, left)
+    } else if cursor.is_word(b"array") {
+        array(alloc, cursor, left)
+    } else {
+        derived(alloc, cursor, left)
+    }
+}
+
+/// `type NAME is DEFINITION;` (3.2.1)
+#[tactic(auto, unfolding(ada_grammar::specs::ReadingDeclarations::type_of))]
+pub fn type_declaration(
+    alloc: Global,
+    cursor: &mut Cursor<'_>,
+    left: usize,
+) -> Result<Declaration<Sequence>, Stuck>
+    ensures { Reads result cursor.new (type_of left cursor.old) }
+{
+    let place = cursor.word(b"type")?;
+    let name = cursor.identifier(alloc)?;
+    cursor.word(b"is")?;
+    let definition = type_definition(alloc, cursor, left)?;
+    cursor.mark(b";")?;
+    Ok(Declaration::Type(TypeDeclaration {
+        place,
+        name,
+        definition,
+    }))
+}
+
+/// `subtype NAME is MARK;` (3.2.2)
+#[tactic(auto, unfolding(ada_grammar::specs::ReadingDeclarations::subtype_of))]
+pub fn subtype_declaration(
+    alloc: Global,
+    cursor: &mut Cursor<'_>,
+    left: usize,
+) -> Result<Declaration<Sequence>, Stuck>
+    ensures { Reads result cursor.new (subtype_of left cursor.old) }
+{
+    let place = cursor.word(b"subtype")?;
+    let name = cursor.identifier(alloc)?;
+    cursor.word(b"is")?;
+    let mark = subtype_mark(alloc, cursor, left)?;
+    cursor.mark(b";")?;
+    Ok(Declaration::Subtype(SubtypeDeclaration { place, name, mark }))
+}
+
+/// `use NAME;` (8.4)
+#[tactic(auto, unfolding(ada_grammar::specs::ReadingDeclarations::use_of))]
+pub fn use_clause(alloc: Global, cursor: &mut Cursor<'_>) -> Result<Declaration<Sequence>, Stuck>
+    ensures { Reads result cursor.new (use_of cursor.old) }
+{
+    let place = cursor.word(b"use")?;
+    let name = name(alloc, cursor)?;
+    cursor.mark(b";")?;
+    Ok(Declaration::Use { place, name })
+}

@@ -1,0 +1,397 @@
+//! Specifications of subprograms, entries, tasks and protected units, with their aspects (ISO/IEC 8652:2012, 6.1, 9.1,
+//! 9.4, 9.5.2, 13.1.1).
+ghost use Rattle.std.specs.Prelude.{◌≡◌, IfOk, codes, length, map};
+ghost use Rattle.std.specs.Char.{to_ascii_lowercase};
+ghost use Rattle.ada_grammar.specs.ReadingDeclarations.{aspect_of, aspect_value_of, aspects_of, begins_operation, begins_specification, entry_head_of, entry_of, function_of, given_aspects_of, operation_of, overriding_of, private_of, procedure_of, protected_of, specification_of, specified_operation_of, task_definition_of, task_of};
+ghost use Rattle.ada_grammar.specs.Reading.{behind_mark_of, items_from, sees_mark, sees_word};
+ghost use Rattle.ada_expressions.specs.Steps.{Reads};
+
+use crate::declarations::add_components;
+use crate::marks::{first_before, parameters, subtype_mark};
+use ada_expressions::{Cursor, expression};
+use ada_grammar::Stuck;
+use ada_syntax::{
+    Aspect, Component, Declaration, EntryDeclaration, EntryHead, Expression, ProtectedDeclaration,
+    ProtectedOperation, Sequence, SubprogramSpecification, TaskDeclaration, TaskDefinition,
+};
+use ann_base::Place;
+use sqlite_items::Items;
+use std::alloc::Global;
+
+/// `[=> EXPRESSION]` (13.1.1)
+#[tactic(auto, unfolding(ada_grammar::specs::ReadingDeclarations::aspect_value_of))]
+fn aspect_value(
+    alloc: Global,
+    cursor: &mut Cursor<'_>,
+    left: usize,
+) -> Result<Option<Expression>, Stuck>
+    ensures { Reads result cursor.new (aspect_value_of left cursor.old) }
+{
+    if cursor.is_mark(b"=>") {
+        cursor.mark(b"=>")?;
+        Ok(Some(expression(alloc, cursor, left)?))
+    } else {
+        Ok(None)
+    }
+}
+
+/// `NAME [=> EXPRESSION]` (13.1.1)
+#[tactic(auto, unfolding(ada_grammar::specs::ReadingDeclarations::aspect_of))]
+fn aspect(alloc: Global, cursor: &mut Cursor<'_>, left: usize) -> Result<Aspect, Stuck>
+    ensures { Reads result cursor.new (aspect_of left cursor.old) }
+{
+    let name = cursor.identifier(alloc)?;
+    let value = aspect_value(alloc, cursor, left)?;
+    Ok(Aspect { name, value })
+}
+
+/// An aspect behind a comma.
+#[tactic(auto, unfolding(ada_grammar::specs::Reading::behind_mark_of))]
+fn next_aspect(alloc: Global, cursor: &mut Cursor<'_>, left: usize) -> Result<Aspect, Stuck>
+    ensures { Reads result cursor.new (behind_mark_of (codes ",") (aspect_of left) cursor.old) }
+{
+    cursor.mark(b",")?;
+    aspect(alloc, cursor, left)
+}
+
+/// The aspects behind the first one.
+fn add_aspects(
+    alloc: Global,
+    cursor: &mut Cursor<'_>,
+    left: usize,
+    mut found: Items<Aspect>,
+) -> Result<Items<Aspect>, Stuck>
+    ensures { Reads result cursor.new (items_from (sees_mark (codes ",")) (behind_mark_of (codes ",") (aspect_of left)) (length cursor.old) found cursor.old) }
+{
+    for _turn in 0..cursor.left() {
+        if !cursor.is_mark(b",") {
+            return Ok(found);
+        }
+        found.push(next_aspect(alloc, cursor, left)?)?;
+    }
+    Ok(found)
+}
+
+/// `with ASPECT {, ASPECT}` (13.1.1)
+#[tactic(auto, unfolding(ada_grammar::specs::ReadingDeclarations::given_aspects_of, ada_grammar::specs::Reading::items_of))]
+fn given_aspects(
+    alloc: Global,
+    cursor: &mut Cursor<'_>,
+    left: usize,
+) -> Result<Items<Aspect>, Stuck>
+    ensures { Reads result cursor.new (given_aspects_of left cursor.old) }
+{
+    cursor.word(b"with")?;
+    let first = aspect(alloc, cursor, left)?;
+    let others = add_aspects(alloc, cursor, left, Items::new(alloc))?;
+    Ok(first_before(alloc, first, others)?)
+}
+
+/// `[with ASPECT {, ASPECT}]`, empty where no `with` stands (13.1.1).
+#[tactic(auto, unfolding(ada_grammar::specs::ReadingDeclarations::aspects_of))]
+pub fn aspects(alloc: Global, cursor: &mut Cursor<'_>, left: usize) -> Result<Items<Aspect>, Stuck>
+    ensures { Reads result cursor.new (aspects_of left cursor.old) }
+{
+    if cursor.is_word(b"with") {
+        given_aspects(alloc, cursor, left)
+    } else {
+        Ok(Items::new(alloc))
+    }
+}
+
+/// `[overriding]` (8.3.1)
+#[tactic(auto, unfolding(ada_grammar::specs::ReadingDeclarations::overriding_of))]
+fn overriding_indicator(cursor: &mut Cursor<'_>) -> Result<Option<Place>, Stuck>
+    ensures { Reads result cursor.new (overriding_of cursor.old) }
+{
+    if cursor.is_word(b"overriding") {
+        Ok(Some(cursor.word(b"overriding")?))
+    } else {
+        Ok(None)
+    }
+}
+
+/// `procedure NAME [PARAMETERS] [ASPECTS]` (6.1)
+#[tactic(auto, unfolding(ada_grammar::specs::ReadingDeclarations::procedure_of))]
+fn procedure_specification(
+    alloc: Global,
+    cursor: &mut Cursor<'_>,
+    left: usize,
+    overriding: Option<Place>,
+) -> Result<SubprogramSpecification, Stuck>
+    ensures reads { Reads result cursor.new (procedure_of left overriding cursor.old) }
+    ensures lower { IfOk result (λ it. map to_ascii_lowercase it.name.text ≡ it.name.text) }
+{
+    let place = cursor.word(b"procedure")?;
+    let name = cursor.identifier(alloc)?;
+    let parameters = parameters(alloc, cursor, left)?;
+    let aspects = aspects(alloc, cursor, left)?;
+    Ok(SubprogramSpecification {
+        overriding,
+        place,
+        name,
+        parameters,
+        result: None,
+        aspects,
+    })
+}
+
+/// `function NAME [PARAMETERS] return MARK [ASPECTS]` (6.1)
+#[tactic(auto, unfolding(ada_grammar::specs::ReadingDeclarations::function_of))]
+fn function_specification(
+    alloc: Global,
+    cursor: &mut Cursor<'_>,
+    left: usize,
+    overriding: Option<Place>,
+) -> Result<SubprogramSpecification, Stuck>
+    ensures reads { Reads result cursor.new (function_of left overriding cursor.old) }
+    ensures lower { IfOk result (λ it. map to_ascii_lowercase it.name.text ≡ it.name.text) }
+{
+    let place = cursor.word(b"function")?;
+    let name = cursor.identifier(alloc)?;
+    let parameters = parameters(alloc, cursor, left)?;
+    cursor.word(b"return")?;
+    let result = subtype_mark(alloc, cursor, left)?;
+    let aspects = aspects(alloc, cursor, left)?;
+    Ok(SubprogramSpecification {
+        overriding,
+        place,
+        name,
+        parameters,
+        result: Some(result),
+        aspects,
+    })
+}
+
+/// A subprogram specification with its aspects; its name is in lower case (6.1, 8.3.1).
+#[tactic(auto, unfolding(ada_grammar::specs::ReadingDeclarations::specification_of))]
+pub fn specification(
+    alloc: Global,
+    cursor: &mut Cursor<'_>,
+    left: usize,
+) -> Result<SubprogramSpecification, Stuck>
+    ensures reads { Reads result cursor.new (specification_of left cursor.old) }
+    ensures lower { IfOk result (λ it. map to_ascii_lowercase it.name.text ≡ it.name.text) }
+{
+    let overriding = overriding_indicator(cursor)?;
+    if cursor.is_word(b"function") {
+        function_specification(alloc, cursor, left, overriding)
+    } else {
+        procedure_specification(alloc, cursor, left, overriding)
+    }
+}
+
+/// Whether a subprogram specification begins here (6.1, 8.3.1).
+pub fn begins_specification(cursor: &Cursor<'_>) -> bool
+    ensures { result ≡ begins_specification cursor.now }
+{
+    cursor.is_word(b"overriding") || cursor.is_word(b"procedure") || cursor.is_word(b"function")
+}
+
+/// `entry NAME [PARAMETERS];` (9.5.2)
+#[tactic(auto, unfolding(ada_grammar::specs::ReadingDeclarations::entry_of))]
+pub fn entry_declaration(
+    alloc: Global,
+    cursor: &mut Cursor<'_>,
+    left: usize,
+) -> Result<EntryDeclaration, Stuck>
+    ensures { Reads result cursor.new (entry_of left cursor.old) }
+{
+    let place = cursor.word(b"entry")?;
+    let name = cursor.identifier(alloc)?;
+    let parameters = parameters(alloc, cursor, left)?;
+    cursor.mark(b";")?;
+    Ok(EntryDeclaration {
+        place,
+        name,
+        parameters,
+    })
+}
+
+/// Entry declarations as long as one begins.
+fn add_entries(
+    alloc: Global,
+    cursor: &mut Cursor<'_>,
+    left: usize,
+    mut found: Items<EntryDeclaration>,
+) -> Result<Items<EntryDeclaration>, Stuck>
+    ensures { Reads result cursor.new (items_from (sees_word (codes "entry")) (entry_of left) (length cursor.old) found cursor.old) }
+{
+    for _turn in 0..cursor.left() {
+        if !cursor.is_word(b"entry") {
+            return Ok(found);
+        }
+        found.push(entry_declaration(alloc, cursor, left)?)?;
+    }
+    Ok(found)
+}
+
+/// `[is {ENTRY} end [NAME]]`, of the task with this name (9.1)
+#[tactic(auto, unfolding(ada_grammar::specs::ReadingDeclarations::task_definition_of, ada_grammar::specs::Reading::items_of, ada_grammar::specs::Reading::end_name_of))]
+fn task_definition(
+    alloc: Global,
+    cursor: &mut Cursor<'_>,
+    left: usize,
+    name: &[u8],
+) -> Result<Option<TaskDefinition>, Stuck>
+    requires lower { map to_ascii_lowercase name.now ≡ name.now }
+    ensures { Reads result cursor.new (task_definition_of left name.now cursor.old) }
+{
+    if cursor.is_word(b"is") {
+        cursor.word(b"is")?;
+        let entries = add_entries(alloc, cursor, left, Items::new(alloc))?;
+        cursor.word(b"end")?;
+        let named_at_end = cursor.flag(name)?;
+        Ok(Some(TaskDefinition {
+            entries,
+            named_at_end,
+        }))
+    } else {
+        Ok(None)
+    }
+}
+
+/// `[type] NAME [ASPECTS] [DEFINITION];`, behind the `task` at this place (9.1)
+#[tactic(auto, unfolding(ada_grammar::specs::ReadingDeclarations::task_of))]
+pub fn task_declaration(
+    alloc: Global,
+    cursor: &mut Cursor<'_>,
+    left: usize,
+    place: Place,
+) -> Result<Declaration<Sequence>, Stuck>
+    ensures { Reads result cursor.new (task_of left place cursor.old) }
+{
+    let is_type = cursor.flag(b"type")?;
+    let name = cursor.identifier(alloc)?;
+    let aspects = aspects(alloc, cursor, left)?;
+    let definition = task_definition(alloc, cursor, left, name.text.as_slice())?;
+    cursor.mark(b";")?;
+    Ok(Declaration::Task(TaskDeclaration {
+        place,
+        is_type,
+        name,
+        aspects,
+        definition,
+    }))
+}
+
+/// `SPECIFICATION;` (9.4)
+#[tactic(auto, unfolding(ada_grammar::specs::ReadingDeclarations::specified_operation_of))]
+fn protected_subprogram(
+    alloc: Global,
+    cursor: &mut Cursor<'_>,
+    left: usize,
+) -> Result<ProtectedOperation, Stuck>
+    ensures { Reads result cursor.new (specified_operation_of left cursor.old) }
+{
+    let specification = specification(alloc, cursor, left)?;
+    cursor.mark(b";")?;
+    Ok(ProtectedOperation::Subprogram(specification))
+}
+
+/// An operation that a protected declaration names (9.4).
+#[tactic(auto, unfolding(ada_grammar::specs::ReadingDeclarations::operation_of))]
+pub fn protected_operation(
+    alloc: Global,
+    cursor: &mut Cursor<'_>,
+    left: usize,
+) -> Result<ProtectedOperation, Stuck>
+    ensures { Reads result cursor.new (operation_of left cursor.old) }
+{
+    if cursor.is_word(b"entry") {
+        Ok(ProtectedOperation::Entry(entry_declaration(alloc, cursor, left)?))
+    } else {
+        protected_subprogram(alloc, cursor, left)
+    }
+}
+
+/// Whether an operation of a protected unit begins here (9.4).
+pub fn begins_operation(cursor: &Cursor<'_>) -> bool
+    ensures { result ≡ begins_operation cursor.now }
+{
+    cursor.is_word(b"entry") || begins_specification(cursor)
+}
+
+/// Operations as long as one begins.
+fn add_operations(
+    alloc: Global,
+    cursor: &mut Cursor<'_>,
+    left: usize,
+    mut found: Items<ProtectedOperation>,
+) -> Result<Items<ProtectedOperation>, Stuck>
+    ensures { Reads result cursor.new (items_from begins_operation (operation_of left) (length cursor.old) found cursor.old) }
+{
+    for _turn in 0..cursor.left() {
+        if !begins_operation(cursor) {
+            return Ok(found);
+        }
+        found.push(protected_operation(alloc, cursor, left)?)?;
+    }
+    Ok(found)
+}
+
+/// `[private {COMPONENT}]` (9.4)
+#[tactic(auto, unfolding(ada_grammar::specs::ReadingDeclarations::private_of, ada_grammar::specs::Reading::items_of))]
+fn private_part(
+    alloc: Global,
+    cursor: &mut Cursor<'_>,
+    left: usize,
+) -> Result<Option<Items<Component>>, Stuck>
+    ensures { Reads result cursor.new (private_of left cursor.old) }
+{
+    if cursor.is_word(b"private") {
+        cursor.word(b"private")?;
+        Ok(Some(add_components(alloc, cursor, left, Items::new(alloc))?))
+    } else {
+        Ok(None)
+    }
+}
+
+/// `[type] NAME [ASPECTS] is {OPERATION} [private {COMPONENT}] end [NAME];`, behind the `protected` at this place (9.4)
+#[tactic(auto, unfolding(ada_grammar::specs::ReadingDeclarations::protected_of, ada_grammar::specs::Reading::items_of, ada_grammar::specs::Reading::end_name_of))]
+pub fn protected_declaration(
+    alloc: Global,
+    cursor: &mut Cursor<'_>,
+    left: usize,
+    place: Place,
+) -> Result<Declaration<Sequence>, Stuck>
+    ensures { Reads result cursor.new (protected_of left place cursor.old) }
+{
+    let is_type = cursor.flag(b"type")?;
+    let name = cursor.identifier(alloc)?;
+    let aspects = aspects(alloc, cursor, left)?;
+    cursor.word(b"is")?;
+    let operations = add_operations(alloc, cursor, left, Items::new(alloc))?;
+    let components = private_part(alloc, cursor, left)?;
+    cursor.word(b"end")?;
+    let named_at_end = cursor.flag(name.text.as_slice())?;
+    cursor.mark(b";")?;
+    Ok(Declaration::Protected(ProtectedDeclaration {
+        place,
+        is_type,
+        name,
+        aspects,
+        operations,
+        components,
+        named_at_end,
+    }))
+}
+
+/// `entry NAME [PARAMETERS] when EXPRESSION`; the name is in lower case (9.5.2)
+#[tactic(auto, unfolding(ada_grammar::specs::ReadingDeclarations::entry_head_of))]
+pub fn entry_head(alloc: Global, cursor: &mut Cursor<'_>, left: usize) -> Result<EntryHead, Stuck>
+    ensures reads { Reads result cursor.new (entry_head_of left cursor.old) }
+    ensures lower { IfOk result (λ head. map to_ascii_lowercase head.name.text ≡ head.name.text) }
+{
+    let place = cursor.word(b"entry")?;
+    let name = cursor.identifier(alloc)?;
+    let parameters = parameters(alloc, cursor, left)?;
+    cursor.word(b"when")?;
+    let barrier = expression(alloc, cursor, left)?;
+    Ok(EntryHead {
+        place,
+        name,
+        parameters,
+        barrier,
+    })
+}

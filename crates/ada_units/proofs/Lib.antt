@@ -1,0 +1,4 @@
+pub mod Levels
+pub mod Packages
+pub mod Sources
+pub mod Given

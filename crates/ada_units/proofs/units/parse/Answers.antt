@@ -1,0 +1,13 @@
+use Rattle.ada_syntax.specs.Written.{lexemes_of}
+use Rattle.ada_units.proofs.Given.{spells, shaped, only}
+use Rattle.ada_units.proofs.units.parse.Goals as goal
+
+pub returns : goal.returns
+returns c =
+    let lexemes = lexemes_of c.args.source.now c.args.tokens.now in
+    record {
+      found = spells c.read.result lexemes c.read_is_spelt.ensures c.read.ensures.exact;
+      shaped = shaped c.read.result lexemes c.read_is_spelt.ensures c.read.ensures.exact;
+      only = only c.read.result lexemes c.spelt_is_read.ensures c.read.ensures.exact;
+      exact = c.read.ensures.exact;
+    }

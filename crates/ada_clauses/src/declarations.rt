@@ -8,7 +8,7 @@ ghost use Rattle.ada_expressions.specs.Steps.{Reads};
 use crate::marks::{below, bounds, subtype_mark};
 use ada_expressions::{Cursor, expression, identifiers, name};
 use ada_grammar::Stuck;
-use ada_syntax::{
+use ada_tree::{
     Component, Declaration, Expression, Identifier, ObjectDeclaration, OneOrMore, Sequence,
     SubtypeDeclaration, TypeDeclaration, TypeDefinition,
 };

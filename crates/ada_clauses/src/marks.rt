@@ -6,7 +6,7 @@ ghost use Rattle.ada_expressions.specs.Steps.{Reads};
 
 use ada_expressions::{Cursor, expression, identifiers, name};
 use ada_grammar::Stuck;
-use ada_syntax::{Constraint, Expression, Mark, Parameter};
+use ada_tree::{Constraint, Expression, Mark, Parameter};
 use sqlite_items::Items;
 use std::alloc::{AllocError, Global};
 

@@ -7,7 +7,7 @@ ghost use Rattle.ada_expressions.specs.Steps.{Reads};
 use crate::marks::bounds;
 use ada_expressions::{Cursor, arguments, expression, name, name_list};
 use ada_grammar::Stuck;
-use ada_syntax::{
+use ada_tree::{
     Argument, Assignment, Call, Choice, Delay, Exit, Expression, HandledExceptions, Identifier,
     Iteration, Label, Name, Sequence, Statement,
 };

@@ -10,7 +10,7 @@ use crate::declarations::add_components;
 use crate::marks::{first_before, parameters, subtype_mark};
 use ada_expressions::{Cursor, expression};
 use ada_grammar::Stuck;
-use ada_syntax::{
+use ada_tree::{
     Aspect, Component, Declaration, EntryDeclaration, EntryHead, Expression, ProtectedDeclaration,
     ProtectedOperation, Sequence, SubprogramSpecification, TaskDeclaration, TaskDefinition,
 };

@@ -1,6 +1,6 @@
 -- A list that begins with an item which is read before the loop over the others.
 use Rattle.std.proofs.Common.{◌≡◌, ℕ, zero, suc, Bool, true, false, if◌then◌else◌, List, [], ◌∷◌, ◌++◌, Ok, Err, refl, sym, ap, ◌∙◌}
-use Rattle.ada_syntax.specs.Written.{Lexeme}
+use Rattle.ada_tree.specs.Written.{Lexeme}
 use Rattle.ada_grammar.specs.Reading.{Parser, Read, and_then, ◌>>◌, pure, items_from}
 
 module _ {A : Type 0} (begins : List Lexeme → Bool) (item : Parser A) where

@@ -1,9 +1,9 @@
 -- Arguments in brackets, where the first one is read.
 use Rattle.std.proofs.Common.{◌≡◌, ℕ, List, [], ◌∷◌, ◌++◌, Ok, length, codes}
 use Rattle.ann_base.specs.declared.places.Place.{Place}
-use Rattle.ada_syntax.specs.declared.expressions.Expression.{Expression}
-use Rattle.ada_syntax.specs.declared.expressions.Argument.{Argument}
-use Rattle.ada_syntax.specs.Written.{Lexeme}
+use Rattle.ada_tree.specs.declared.expressions.Expression.{Expression}
+use Rattle.ada_tree.specs.declared.expressions.Argument.{Argument}
+use Rattle.ada_tree.specs.Written.{Lexeme}
 use Rattle.ada_grammar.specs.Reading.{Parser, and_then, ◌>>◌, pure, behind_mark_of, items_from, items_of, opening_of, sees_mark, the_mark}
 use Rattle.ada_grammar.specs.ReadingExpressions.{argument_of, given_arguments_of}
 use Rattle.ada_expressions.proofs.FirstItems.{first_and_others}

@@ -1,6 +1,6 @@
 -- One level further in.
 use Rattle.std.proofs.Common.{◌≡◌, ℕ, zero, suc, ◌-◌, ◌<◌, List, length, Err, ap, refl, arith}
-use Rattle.ada_syntax.specs.Written.{Lexeme}
+use Rattle.ada_tree.specs.Written.{Lexeme}
 use Rattle.ada_grammar.specs.declared.stuck.Stuck.TheVariants as stuck
 use Rattle.ada_grammar.specs.ReadingExpressions.{expression_of, inner_of, logical_of}
 

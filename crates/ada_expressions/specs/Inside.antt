@@ -2,8 +2,8 @@
 use Rattle.std.specs.Prelude.{ℕ, ◌<◌, List, Result}
 use Rattle.std.specs.declared.alloc.Global.{Global}
 use denote.Ref.{MutBor}
-use Rattle.ada_syntax.specs.declared.expressions.Expression.{Expression}
-use Rattle.ada_syntax.specs.Written.{Lexeme}
+use Rattle.ada_tree.specs.declared.expressions.Expression.{Expression}
+use Rattle.ada_tree.specs.Written.{Lexeme}
 use Rattle.ada_grammar.specs.declared.stuck.Stuck.{Stuck}
 use Rattle.ada_grammar.specs.ReadingExpressions.{expression_of}
 use Rattle.ada_expressions.specs.Steps.{Reads}

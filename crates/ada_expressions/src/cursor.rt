@@ -2,14 +2,14 @@
 ghost use Rattle.std.specs.Prelude.{◌≡◌, ◌∷◌, [], ℕ, List, length, map, IfOk};
 ghost use Rattle.std.specs.Char.{to_ascii_lowercase};
 ghost use Rattle.ada_lex.specs.Lexed.{IsTokenOf, AreTokensOf};
-ghost use Rattle.ada_syntax.specs.Written.{lexeme_of, lexemes_of};
+ghost use Rattle.ada_tree.specs.Written.{lexeme_of, lexemes_of};
 ghost use Rattle.ada_grammar.specs.declared.stuck.Stuck.TheVariants.{At, TooDeep};
 ghost use Rattle.ada_grammar.specs.Reading.{is_this_word, is_this_mark, is_identifier, is_numeral, is_string, starts, starts_both, sees_word, sees_mark, sees_identifier, the_word, the_mark, an_identifier, a_number, a_text, flag_of, opening_of, opening_is_of};
 ghost use Rattle.ada_expressions.specs.Steps.{Reads};
 
 use ada_grammar::Stuck;
 use ada_lex::{Kind, Token, is_reserved, lower_case, same_word, spelling, text_value};
-use ada_syntax::{Bytes, Identifier};
+use ada_tree::{Bytes, Identifier};
 use ann_base::Place;
 use std::alloc::Global;
 use std::marker::Model;
@@ -24,7 +24,7 @@ pub struct Cursor<'a> {
 impl<'a> Model for Cursor<'a> {
     ghost use Rattle.std.specs.Prelude.{List};
     ghost use Rattle.ada_lex.specs.Lexed.{AreTokensOf};
-    ghost use Rattle.ada_syntax.specs.Written.{Lexeme, lexemes_of};
+    ghost use Rattle.ada_tree.specs.Written.{Lexeme, lexemes_of};
 
     ghost Value = { List Lexeme };
 

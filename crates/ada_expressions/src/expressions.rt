@@ -13,7 +13,7 @@ use crate::operators::{
     logical_operator, multiplication, multiplies, sign_place,
 };
 use ada_grammar::Stuck;
-use ada_syntax::{
+use ada_tree::{
     Addend, Argument, Expression, ExpressionForm, HighestOperator, LogicalOperator, Multiplied,
     OneOrMore, Operand, Sign,
 };

@@ -5,7 +5,7 @@ ghost use Rattle.ada_expressions.specs.Steps.{Reads};
 
 use crate::cursor::Cursor;
 use ada_grammar::Stuck;
-use ada_syntax::{Identifier, Name, OneOrMore};
+use ada_tree::{Identifier, Name, OneOrMore};
 use sqlite_items::Items;
 use std::alloc::Global;
 

@@ -1,13 +1,13 @@
 //! Operators and attributes (ISO/IEC 8652:2012, 4.5, 4.1.4).
 ghost use Rattle.std.specs.Prelude.{◌≡◌, codes};
-ghost use Rattle.ada_syntax.specs.SpellingExpressions.{highest_text, sign_text};
+ghost use Rattle.ada_tree.specs.SpellingExpressions.{highest_text, sign_text};
 ghost use Rattle.ada_grammar.specs.Reading.{sees_word, the_mark, the_word};
 ghost use Rattle.ada_grammar.specs.ReadingExpressions.{addition_of, adds, again_of, attribute_word_of, both_words_of, compares, comparison_of, conjunction_of, designator_of, disjunction_of, joins, logical_operator_of, logical_text, multiplication_of, multiplies};
 ghost use Rattle.ada_expressions.specs.Steps.{Reads};
 
 use crate::cursor::Cursor;
 use ada_grammar::Stuck;
-use ada_syntax::{
+use ada_tree::{
     AddingOperator, Attribute, AttributeDesignator, HighestOperator, LogicalOperator,
     MultiplyingOperator, RelationalOperator, Sign,
 };

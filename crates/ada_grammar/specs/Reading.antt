@@ -5,10 +5,10 @@ use Rattle.ann_base.specs.declared.places.Place.{Place}
 use Rattle.ada_lex.specs.declared.tokens.Kind.{Kind}
 use Rattle.ada_lex.specs.declared.tokens.Kind.TheVariants as kinds
 use Rattle.ada_lex.specs.Reserved.{is_reserved}
-use Rattle.ada_syntax.specs.declared.names.Identifier.{Identifier}
-use Rattle.ada_syntax.specs.declared.names.Name.{Name}
-use Rattle.ada_syntax.specs.declared.names.OneOrMore.{OneOrMore}
-use Rattle.ada_syntax.specs.Written.{Lexeme}
+use Rattle.ada_tree.specs.declared.names.Identifier.{Identifier}
+use Rattle.ada_tree.specs.declared.names.Name.{Name}
+use Rattle.ada_tree.specs.declared.names.OneOrMore.{OneOrMore}
+use Rattle.ada_tree.specs.Written.{Lexeme}
 use Rattle.ada_grammar.specs.declared.stuck.Stuck.{Stuck}
 use Rattle.ada_grammar.specs.declared.stuck.Stuck.TheVariants as stuck
 

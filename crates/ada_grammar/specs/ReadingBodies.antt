@@ -1,16 +1,16 @@
 -- Reading bodies, and all declarations (clauses 3.11, 6.3, 9.1, 9.4, 9.5.2).
 use Rattle.std.specs.Prelude.{ℕ, Bool, ◌||◌, List, codes}
 use Rattle.ann_base.specs.declared.places.Place.{Place}
-use Rattle.ada_syntax.specs.declared.statements.Sequence.{Sequence}
-use Rattle.ada_syntax.specs.declared.statements.SequenceRole.{SequenceRole}
-use Rattle.ada_syntax.specs.declared.statements.SequenceRole.TheVariants as role
-use Rattle.ada_syntax.specs.declared.declarations.Declaration.{Declaration}
-use Rattle.ada_syntax.specs.declared.declarations.Body.{Body}
-use Rattle.ada_syntax.specs.declared.declarations.SubprogramSpecification.{SubprogramSpecification}
-use Rattle.ada_syntax.specs.declared.declarations.OperationBody.{OperationBody}
-use Rattle.ada_syntax.specs.declared.declarations.Declaration.TheVariants as declarations
-use Rattle.ada_syntax.specs.declared.declarations.OperationBody.TheVariants as bodies
-use Rattle.ada_syntax.specs.Written.{Lexeme}
+use Rattle.ada_tree.specs.declared.statements.Sequence.{Sequence}
+use Rattle.ada_tree.specs.declared.statements.SequenceRole.{SequenceRole}
+use Rattle.ada_tree.specs.declared.statements.SequenceRole.TheVariants as role
+use Rattle.ada_tree.specs.declared.declarations.Declaration.{Declaration}
+use Rattle.ada_tree.specs.declared.declarations.Body.{Body}
+use Rattle.ada_tree.specs.declared.declarations.SubprogramSpecification.{SubprogramSpecification}
+use Rattle.ada_tree.specs.declared.declarations.OperationBody.{OperationBody}
+use Rattle.ada_tree.specs.declared.declarations.Declaration.TheVariants as declarations
+use Rattle.ada_tree.specs.declared.declarations.OperationBody.TheVariants as bodies
+use Rattle.ada_tree.specs.Written.{Lexeme}
 use Rattle.ada_grammar.specs.Reading.{Parser, ◌>>=◌, ◌>>◌, pure, choose, sees_word, sees_mark, sees_identifier, the_word, the_mark, an_identifier, end_name_of, opening_is_of, below, items_of}
 use Rattle.ada_grammar.specs.ReadingDeclarations.{begins_operation, begins_specification, entry_head_of, named_declaration_of, protected_of, specification_of, subtype_of, task_of, type_of, use_of}
 

@@ -1,23 +1,23 @@
 -- Reading declarations that are no bodies (clauses 3, 6, 8.4, 9, 11, 13.1.1), where so many levels are left.
 use Rattle.std.specs.Prelude.{ℕ, Bool, ◌||◌, List, [], ◌∷◌, Option, Some, None, codes}
 use Rattle.ann_base.specs.declared.places.Place.{Place}
-use Rattle.ada_syntax.specs.declared.names.Identifier.{Identifier}
-use Rattle.ada_syntax.specs.declared.names.OneOrMore.{OneOrMore}
-use Rattle.ada_syntax.specs.declared.expressions.Expression.{Expression}
-use Rattle.ada_syntax.specs.declared.statements.Sequence.{Sequence}
-use Rattle.ada_syntax.specs.declared.declarations.Declaration.{Declaration}
-use Rattle.ada_syntax.specs.declared.declarations.Component.{Component}
-use Rattle.ada_syntax.specs.declared.declarations.TypeDefinition.{TypeDefinition}
-use Rattle.ada_syntax.specs.declared.declarations.Aspect.{Aspect}
-use Rattle.ada_syntax.specs.declared.declarations.SubprogramSpecification.{SubprogramSpecification}
-use Rattle.ada_syntax.specs.declared.declarations.EntryDeclaration.{EntryDeclaration}
-use Rattle.ada_syntax.specs.declared.declarations.EntryHead.{EntryHead}
-use Rattle.ada_syntax.specs.declared.declarations.TaskDefinition.{TaskDefinition}
-use Rattle.ada_syntax.specs.declared.declarations.ProtectedOperation.{ProtectedOperation}
-use Rattle.ada_syntax.specs.declared.declarations.Declaration.TheVariants as declarations
-use Rattle.ada_syntax.specs.declared.declarations.TypeDefinition.TheVariants as definitions
-use Rattle.ada_syntax.specs.declared.declarations.ProtectedOperation.TheVariants as operations
-use Rattle.ada_syntax.specs.Written.{Lexeme}
+use Rattle.ada_tree.specs.declared.names.Identifier.{Identifier}
+use Rattle.ada_tree.specs.declared.names.OneOrMore.{OneOrMore}
+use Rattle.ada_tree.specs.declared.expressions.Expression.{Expression}
+use Rattle.ada_tree.specs.declared.statements.Sequence.{Sequence}
+use Rattle.ada_tree.specs.declared.declarations.Declaration.{Declaration}
+use Rattle.ada_tree.specs.declared.declarations.Component.{Component}
+use Rattle.ada_tree.specs.declared.declarations.TypeDefinition.{TypeDefinition}
+use Rattle.ada_tree.specs.declared.declarations.Aspect.{Aspect}
+use Rattle.ada_tree.specs.declared.declarations.SubprogramSpecification.{SubprogramSpecification}
+use Rattle.ada_tree.specs.declared.declarations.EntryDeclaration.{EntryDeclaration}
+use Rattle.ada_tree.specs.declared.declarations.EntryHead.{EntryHead}
+use Rattle.ada_tree.specs.declared.declarations.TaskDefinition.{TaskDefinition}
+use Rattle.ada_tree.specs.declared.declarations.ProtectedOperation.{ProtectedOperation}
+use Rattle.ada_tree.specs.declared.declarations.Declaration.TheVariants as declarations
+use Rattle.ada_tree.specs.declared.declarations.TypeDefinition.TheVariants as definitions
+use Rattle.ada_tree.specs.declared.declarations.ProtectedOperation.TheVariants as operations
+use Rattle.ada_tree.specs.Written.{Lexeme}
 use Rattle.ada_grammar.specs.Reading.{Parser, ◌>>=◌, ◌>>◌, pure, choose, sees_word, sees_mark, sees_identifier, the_word, the_mark, an_identifier, flag_of, end_name_of, opening_of, below, items_of, behind_mark_of, identifiers_of, name_of}
 use Rattle.ada_grammar.specs.ReadingExpressions.{expression_of}
 use Rattle.ada_grammar.specs.ReadingSimple.{bounds_of, subtype_mark_of, parameters_of}

@@ -1,30 +1,30 @@
 -- Reading expressions (4.4), given how many levels are left and how an expression is read one level further in.
 use Rattle.std.specs.Prelude.{ℕ, zero, suc, Bool, ◌||◌, List, [], ◌∷◌, Option, Some, None, codes}
 use Rattle.ann_base.specs.declared.places.Place.{Place}
-use Rattle.ada_syntax.specs.declared.operators.LogicalOperator.{LogicalOperator}
-use Rattle.ada_syntax.specs.declared.operators.LogicalOperator.TheVariants as logical
-use Rattle.ada_syntax.specs.declared.operators.RelationalOperator.{RelationalOperator}
-use Rattle.ada_syntax.specs.declared.operators.RelationalOperator.TheVariants as relational
-use Rattle.ada_syntax.specs.declared.operators.AddingOperator.{AddingOperator}
-use Rattle.ada_syntax.specs.declared.operators.AddingOperator.TheVariants as adding
-use Rattle.ada_syntax.specs.declared.operators.Sign.{Sign}
-use Rattle.ada_syntax.specs.declared.operators.Sign.TheVariants as signs
-use Rattle.ada_syntax.specs.declared.operators.MultiplyingOperator.{MultiplyingOperator}
-use Rattle.ada_syntax.specs.declared.operators.MultiplyingOperator.TheVariants as multiplying
-use Rattle.ada_syntax.specs.declared.operators.HighestOperator.{HighestOperator}
-use Rattle.ada_syntax.specs.declared.operators.HighestOperator.TheVariants as highest
-use Rattle.ada_syntax.specs.declared.operators.Attribute.{Attribute}
-use Rattle.ada_syntax.specs.declared.operators.Attribute.TheVariants as attributes
-use Rattle.ada_syntax.specs.declared.expressions.Expression.{Expression, roll-Expression}
-use Rattle.ada_syntax.specs.declared.expressions.ExpressionForm.{ExpressionForm}
-use Rattle.ada_syntax.specs.declared.expressions.ExpressionForm.TheVariants as form
-use Rattle.ada_syntax.specs.declared.expressions.Operand.{Operand}
-use Rattle.ada_syntax.specs.declared.expressions.Addend.{Addend}
-use Rattle.ada_syntax.specs.declared.expressions.Multiplied.{Multiplied}
-use Rattle.ada_syntax.specs.declared.expressions.AttributeDesignator.{AttributeDesignator}
-use Rattle.ada_syntax.specs.declared.expressions.Argument.{Argument}
-use Rattle.ada_syntax.specs.Written.{Lexeme}
-use Rattle.ada_syntax.specs.SpellingExpressions.{relational_text, adding_text, sign_text, highest_text, attribute_text}
+use Rattle.ada_tree.specs.declared.operators.LogicalOperator.{LogicalOperator}
+use Rattle.ada_tree.specs.declared.operators.LogicalOperator.TheVariants as logical
+use Rattle.ada_tree.specs.declared.operators.RelationalOperator.{RelationalOperator}
+use Rattle.ada_tree.specs.declared.operators.RelationalOperator.TheVariants as relational
+use Rattle.ada_tree.specs.declared.operators.AddingOperator.{AddingOperator}
+use Rattle.ada_tree.specs.declared.operators.AddingOperator.TheVariants as adding
+use Rattle.ada_tree.specs.declared.operators.Sign.{Sign}
+use Rattle.ada_tree.specs.declared.operators.Sign.TheVariants as signs
+use Rattle.ada_tree.specs.declared.operators.MultiplyingOperator.{MultiplyingOperator}
+use Rattle.ada_tree.specs.declared.operators.MultiplyingOperator.TheVariants as multiplying
+use Rattle.ada_tree.specs.declared.operators.HighestOperator.{HighestOperator}
+use Rattle.ada_tree.specs.declared.operators.HighestOperator.TheVariants as highest
+use Rattle.ada_tree.specs.declared.operators.Attribute.{Attribute}
+use Rattle.ada_tree.specs.declared.operators.Attribute.TheVariants as attributes
+use Rattle.ada_tree.specs.declared.expressions.Expression.{Expression, roll-Expression}
+use Rattle.ada_tree.specs.declared.expressions.ExpressionForm.{ExpressionForm}
+use Rattle.ada_tree.specs.declared.expressions.ExpressionForm.TheVariants as form
+use Rattle.ada_tree.specs.declared.expressions.Operand.{Operand}
+use Rattle.ada_tree.specs.declared.expressions.Addend.{Addend}
+use Rattle.ada_tree.specs.declared.expressions.Multiplied.{Multiplied}
+use Rattle.ada_tree.specs.declared.expressions.AttributeDesignator.{AttributeDesignator}
+use Rattle.ada_tree.specs.declared.expressions.Argument.{Argument}
+use Rattle.ada_tree.specs.Written.{Lexeme}
+use Rattle.ada_tree.specs.SpellingExpressions.{relational_text, adding_text, sign_text, highest_text, attribute_text}
 use Rattle.ada_grammar.specs.Reading.{Parser, ◌>>=◌, ◌>>◌, pure, nothing, choose, is_this_mark, is_identifier, is_numeral, is_string, starts, starts_both, sees_word, sees_mark, the_word, the_mark, an_identifier, a_number, a_text, opening_of, items_of, behind_mark_of, name_of}
 
 -- an expression of this form

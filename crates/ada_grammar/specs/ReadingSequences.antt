@@ -1,12 +1,12 @@
 -- Reading sequences: statements, their handlers, and the declarations before them (11.2, 3.11).
 use Rattle.std.specs.Prelude.{ℕ, zero, suc, List, [], ◌∷◌, codes}
-use Rattle.ada_syntax.specs.declared.names.OneOrMore.{OneOrMore}
-use Rattle.ada_syntax.specs.declared.statements.Statement.{Statement}
-use Rattle.ada_syntax.specs.declared.statements.Handler.{Handler}
-use Rattle.ada_syntax.specs.declared.statements.Sequence.{Sequence, roll-Sequence}
-use Rattle.ada_syntax.specs.declared.statements.SequenceRole.{SequenceRole}
-use Rattle.ada_syntax.specs.declared.statements.SequenceRole.TheVariants as role
-use Rattle.ada_syntax.specs.declared.declarations.Declaration.{Declaration}
+use Rattle.ada_tree.specs.declared.names.OneOrMore.{OneOrMore}
+use Rattle.ada_tree.specs.declared.statements.Statement.{Statement}
+use Rattle.ada_tree.specs.declared.statements.Handler.{Handler}
+use Rattle.ada_tree.specs.declared.statements.Sequence.{Sequence, roll-Sequence}
+use Rattle.ada_tree.specs.declared.statements.SequenceRole.{SequenceRole}
+use Rattle.ada_tree.specs.declared.statements.SequenceRole.TheVariants as role
+use Rattle.ada_tree.specs.declared.declarations.Declaration.{Declaration}
 use Rattle.ada_grammar.specs.Reading.{Parser, ◌>>=◌, ◌>>◌, pure, nothing, too_deep, choose, sees_word, the_word, the_mark, items_of}
 use Rattle.ada_grammar.specs.ReadingSimple.{exceptions_of}
 use Rattle.ada_grammar.specs.ReadingStatements.{begins_statement, statement_inside_of}

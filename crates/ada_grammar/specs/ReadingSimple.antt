@@ -1,25 +1,25 @@
 -- Reading statements without others in them (clauses 3, 5, 6, 9, 11), where so many levels are left inside the statement.
 use Rattle.std.specs.Prelude.{ℕ, Bool, true, false, List, [], ◌∷◌, Option, Some, None, codes}
-use Rattle.ada_syntax.specs.declared.names.Identifier.{Identifier}
-use Rattle.ada_syntax.specs.declared.names.Name.{Name}
-use Rattle.ada_syntax.specs.declared.expressions.Expression.{Expression}
-use Rattle.ada_syntax.specs.declared.expressions.Argument.{Argument}
-use Rattle.ada_syntax.specs.declared.declarations.Mark.{Mark}
-use Rattle.ada_syntax.specs.declared.declarations.Constraint.{Constraint}
-use Rattle.ada_syntax.specs.declared.declarations.Parameter.{Parameter}
-use Rattle.ada_syntax.specs.declared.declarations.Constraint.TheVariants as constraints
-use Rattle.ada_syntax.specs.declared.statements.Statement.{Statement}
-use Rattle.ada_syntax.specs.declared.statements.Call.{Call}
-use Rattle.ada_syntax.specs.declared.statements.Delay.{Delay}
-use Rattle.ada_syntax.specs.declared.statements.Choice.{Choice}
-use Rattle.ada_syntax.specs.declared.statements.Label.{Label}
-use Rattle.ada_syntax.specs.declared.statements.Iteration.{Iteration}
-use Rattle.ada_syntax.specs.declared.statements.HandledExceptions.{HandledExceptions}
-use Rattle.ada_syntax.specs.declared.statements.Sequence.{Sequence}
-use Rattle.ada_syntax.specs.declared.statements.Statement.TheVariants as statements
-use Rattle.ada_syntax.specs.declared.statements.Choice.TheVariants as choices
-use Rattle.ada_syntax.specs.declared.statements.Iteration.TheVariants as iterations
-use Rattle.ada_syntax.specs.declared.statements.HandledExceptions.TheVariants as exceptions
+use Rattle.ada_tree.specs.declared.names.Identifier.{Identifier}
+use Rattle.ada_tree.specs.declared.names.Name.{Name}
+use Rattle.ada_tree.specs.declared.expressions.Expression.{Expression}
+use Rattle.ada_tree.specs.declared.expressions.Argument.{Argument}
+use Rattle.ada_tree.specs.declared.declarations.Mark.{Mark}
+use Rattle.ada_tree.specs.declared.declarations.Constraint.{Constraint}
+use Rattle.ada_tree.specs.declared.declarations.Parameter.{Parameter}
+use Rattle.ada_tree.specs.declared.declarations.Constraint.TheVariants as constraints
+use Rattle.ada_tree.specs.declared.statements.Statement.{Statement}
+use Rattle.ada_tree.specs.declared.statements.Call.{Call}
+use Rattle.ada_tree.specs.declared.statements.Delay.{Delay}
+use Rattle.ada_tree.specs.declared.statements.Choice.{Choice}
+use Rattle.ada_tree.specs.declared.statements.Label.{Label}
+use Rattle.ada_tree.specs.declared.statements.Iteration.{Iteration}
+use Rattle.ada_tree.specs.declared.statements.HandledExceptions.{HandledExceptions}
+use Rattle.ada_tree.specs.declared.statements.Sequence.{Sequence}
+use Rattle.ada_tree.specs.declared.statements.Statement.TheVariants as statements
+use Rattle.ada_tree.specs.declared.statements.Choice.TheVariants as choices
+use Rattle.ada_tree.specs.declared.statements.Iteration.TheVariants as iterations
+use Rattle.ada_tree.specs.declared.statements.HandledExceptions.TheVariants as exceptions
 use Rattle.ada_grammar.specs.Reading.{Parser, ◌>>=◌, ◌>>◌, pure, nothing, choose, sees_word, sees_mark, sees_identifier, the_word, the_mark, an_identifier, flag_of, end_name_of, opening_of, below, items_of, behind_mark_of, identifiers_of, name_of, names_of}
 use Rattle.ada_grammar.specs.ReadingExpressions.{expression_of, inner_of, arguments_of}
 

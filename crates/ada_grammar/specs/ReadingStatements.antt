@@ -1,28 +1,28 @@
 -- Reading the statements that hold others (clauses 5, 9.5 to 9.7, 11), where so many levels are left inside the statement.
 use Rattle.std.specs.Prelude.{ℕ, zero, suc, Bool, true, false, ◌||◌, List, Option, Some, None, codes}
 use Rattle.ann_base.specs.declared.places.Place.{Place}
-use Rattle.ada_syntax.specs.declared.names.Identifier.{Identifier}
-use Rattle.ada_syntax.specs.declared.names.OneOrMore.{OneOrMore}
-use Rattle.ada_syntax.specs.declared.statements.Statement.{Statement}
-use Rattle.ada_syntax.specs.declared.statements.Elsif.{Elsif}
-use Rattle.ada_syntax.specs.declared.statements.CaseAlternative.{CaseAlternative}
-use Rattle.ada_syntax.specs.declared.statements.Accept.{Accept}
-use Rattle.ada_syntax.specs.declared.statements.AcceptBody.{AcceptBody}
-use Rattle.ada_syntax.specs.declared.statements.Call.{Call}
-use Rattle.ada_syntax.specs.declared.statements.Delay.{Delay}
-use Rattle.ada_syntax.specs.declared.statements.Sequence.{Sequence}
-use Rattle.ada_syntax.specs.declared.statements.SequenceRole.{SequenceRole}
-use Rattle.ada_syntax.specs.declared.statements.Statement.TheVariants as statements
-use Rattle.ada_syntax.specs.declared.statements.SequenceRole.TheVariants as role
-use Rattle.ada_syntax.specs.declared.selects.SelectForm.{SelectForm}
-use Rattle.ada_syntax.specs.declared.selects.SelectAlternative.{SelectAlternative}
-use Rattle.ada_syntax.specs.declared.selects.Guard.{Guard}
-use Rattle.ada_syntax.specs.declared.selects.Alternative.{Alternative}
-use Rattle.ada_syntax.specs.declared.selects.Trigger.{Trigger}
-use Rattle.ada_syntax.specs.declared.selects.SelectForm.TheVariants as select
-use Rattle.ada_syntax.specs.declared.selects.Alternative.TheVariants as alternative
-use Rattle.ada_syntax.specs.declared.selects.Trigger.TheVariants as trigger
-use Rattle.ada_syntax.specs.Written.{Lexeme}
+use Rattle.ada_tree.specs.declared.names.Identifier.{Identifier}
+use Rattle.ada_tree.specs.declared.names.OneOrMore.{OneOrMore}
+use Rattle.ada_tree.specs.declared.statements.Statement.{Statement}
+use Rattle.ada_tree.specs.declared.statements.Elsif.{Elsif}
+use Rattle.ada_tree.specs.declared.statements.CaseAlternative.{CaseAlternative}
+use Rattle.ada_tree.specs.declared.statements.Accept.{Accept}
+use Rattle.ada_tree.specs.declared.statements.AcceptBody.{AcceptBody}
+use Rattle.ada_tree.specs.declared.statements.Call.{Call}
+use Rattle.ada_tree.specs.declared.statements.Delay.{Delay}
+use Rattle.ada_tree.specs.declared.statements.Sequence.{Sequence}
+use Rattle.ada_tree.specs.declared.statements.SequenceRole.{SequenceRole}
+use Rattle.ada_tree.specs.declared.statements.Statement.TheVariants as statements
+use Rattle.ada_tree.specs.declared.statements.SequenceRole.TheVariants as role
+use Rattle.ada_tree.specs.declared.selects.SelectForm.{SelectForm}
+use Rattle.ada_tree.specs.declared.selects.SelectAlternative.{SelectAlternative}
+use Rattle.ada_tree.specs.declared.selects.Guard.{Guard}
+use Rattle.ada_tree.specs.declared.selects.Alternative.{Alternative}
+use Rattle.ada_tree.specs.declared.selects.Trigger.{Trigger}
+use Rattle.ada_tree.specs.declared.selects.SelectForm.TheVariants as select
+use Rattle.ada_tree.specs.declared.selects.Alternative.TheVariants as alternative
+use Rattle.ada_tree.specs.declared.selects.Trigger.TheVariants as trigger
+use Rattle.ada_tree.specs.Written.{Lexeme}
 use Rattle.ada_grammar.specs.Reading.{Parser, ◌>>=◌, ◌>>◌, pure, nothing, too_deep, choose, is_identifier, is_this_mark, starts_both, sees_word, sees_identifier, the_word, the_mark, an_identifier, end_name_of, items_of, separated_of}
 use Rattle.ada_grammar.specs.ReadingExpressions.{expression_of}
 use Rattle.ada_grammar.specs.ReadingSimple.{parameters_of, simple_of, call_of, delay_of, choice_of, iteration_of, label_end_of, exit_of, null_of, return_of, raise_of, abort_of, requeue_of}

@@ -1,17 +1,17 @@
 -- Reading library units and a source (2.8, clause 7, 10.1).
 use Rattle.std.specs.Prelude.{◌≡◌, ℕ, ◌-◌, ◌++◌, length, Result, zero, suc, Bool, true, false, ◌||◌, List, [], ◌∷◌, Option, Some, None, Ok, Err, codes}
 use Rattle.ann_base.specs.declared.places.Place.{Place}
-use Rattle.ada_syntax.specs.declared.statements.Sequence.{Sequence}
-use Rattle.ada_syntax.specs.declared.statements.SequenceRole.TheVariants as role
-use Rattle.ada_syntax.specs.declared.declarations.Declaration.{Declaration}
-use Rattle.ada_syntax.specs.declared.units.Pragma.{Pragma}
-use Rattle.ada_syntax.specs.declared.units.ContextClause.{ContextClause}
-use Rattle.ada_syntax.specs.declared.units.LibraryPackage.{LibraryPackage}
-use Rattle.ada_syntax.specs.declared.units.Package.{Package}
-use Rattle.ada_syntax.specs.declared.units.MainProcedure.{MainProcedure}
-use Rattle.ada_syntax.specs.declared.units.Unit.{Unit as Tree}
-use Rattle.ada_syntax.specs.declared.units.Package.TheVariants as packages
-use Rattle.ada_syntax.specs.Written.{Lexeme}
+use Rattle.ada_tree.specs.declared.statements.Sequence.{Sequence}
+use Rattle.ada_tree.specs.declared.statements.SequenceRole.TheVariants as role
+use Rattle.ada_tree.specs.declared.declarations.Declaration.{Declaration}
+use Rattle.ada_tree.specs.declared.units.Pragma.{Pragma}
+use Rattle.ada_tree.specs.declared.units.ContextClause.{ContextClause}
+use Rattle.ada_tree.specs.declared.units.LibraryPackage.{LibraryPackage}
+use Rattle.ada_tree.specs.declared.units.Package.{Package}
+use Rattle.ada_tree.specs.declared.units.MainProcedure.{MainProcedure}
+use Rattle.ada_tree.specs.declared.units.Unit.{Unit as Tree}
+use Rattle.ada_tree.specs.declared.units.Package.TheVariants as packages
+use Rattle.ada_tree.specs.Written.{Lexeme}
 use Rattle.ada_grammar.specs.declared.stuck.Stuck.{Stuck}
 use Rattle.ada_grammar.specs.declared.stuck.Stuck.TheVariants as stuck
 use Rattle.ada_grammar.specs.declared.faults.ParseFault.{ParseFault}

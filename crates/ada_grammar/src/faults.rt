@@ -8,7 +8,7 @@ use thiserror::Error;
 /// Why tokens spell no tree.
 #[derive(Debug, Drop, Error)]
 pub enum ParseFault {
-    /// The first token after which no tree can go on, or the number of tokens at the end of the source.
+    /// The token where reading from left to right stops, or the number of tokens at the end of the source.
     #[error("a token that cannot stand here")]
     Unexpected { token: u32 },
     /// The token that opens nesting 101.

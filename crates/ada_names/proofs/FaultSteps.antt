@@ -1,8 +1,8 @@
 -- A turn of the loops that look for the first fault.
 use Rattle.std.proofs.Common.{◌≡◌, ◌≤◌, ◌+◌, ℕ, false, List, [], ◌∷◌, ◌++◌, Some, None, cond, length, take, drop, ap, sym, ◌∙◌}
-use Rattle.ada_tree.specs.declared.syntax.Name.{Name}
-use Rattle.ada_tree.specs.declared.syntax.ObjectDeclaration.{ObjectDeclaration}
-use Rattle.ada_tree.specs.declared.syntax.Unit.{Unit as Tree}
+use Rattle.ada_built.specs.declared.syntax.Name.{Name}
+use Rattle.ada_built.specs.declared.syntax.ObjectDeclaration.{ObjectDeclaration}
+use Rattle.ada_built.specs.declared.syntax.Unit.{Unit as Tree}
 use Rattle.ada_names.specs.declared.faults.NameFault.TheVariants.{Twice}
 use Rattle.ada_names.specs.Visible.{texts_of}
 use Rattle.ada_names.specs.NameFaults.{first_of, is_among, twice_among, fault_in_object, fault_in_objects}

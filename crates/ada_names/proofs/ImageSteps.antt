@@ -2,10 +2,10 @@
 use Rattle.std.proofs.Common.{◌≡◌, ◌<◌, ◌+◌, ℕ, suc, false, not, ◌==◌, List, [], ◌∷◌, ◌++◌, is_some, length, take, refl, ap, sym, ◌∙◌, append_assoc, codes, arith}
 use Rattle.std.proofs.lemmas.Bool.{ne_eqb}
 use Rattle.std.proofs.lemmas.List.{append-nil, length-append, length-map}
-use Rattle.ada_tree.specs.declared.syntax.Name.{Name}
-use Rattle.ada_tree.specs.declared.syntax.ObjectDeclaration.{ObjectDeclaration}
-use Rattle.ada_tree.specs.declared.syntax.Statement.{Statement}
-use Rattle.ada_tree.specs.declared.syntax.Unit.{Unit as Tree}
+use Rattle.ada_built.specs.declared.syntax.Name.{Name}
+use Rattle.ada_built.specs.declared.syntax.ObjectDeclaration.{ObjectDeclaration}
+use Rattle.ada_built.specs.declared.syntax.Statement.{Statement}
+use Rattle.ada_built.specs.declared.syntax.Unit.{Unit as Tree}
 use Rattle.profile_machine.specs.declared.declarations.Declaration.{Declaration}
 use Rattle.profile_machine.specs.declared.declarations.Initial.{Initial}
 use Rattle.profile_machine.specs.declared.expressions.Expression.{Expression as Valuation}

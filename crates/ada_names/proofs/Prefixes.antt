@@ -1,8 +1,8 @@
 -- The names of a declaration stand behind those of the declarations before it.
 use Rattle.std.proofs.Common.{◌≡◌, ◌≤◌, ◌+◌, ◌-◌, ℕ, suc, List, [], ◌∷◌, ◌++◌, length, take, drop, get_or, ap, sym, subst, ◌∙◌, arith}
 use Rattle.std.proofs.lemmas.List.{length-map, length-append, length-drop, take_all, take_at, drop_at, drop-drop, drop-take, take-take, take-append-drop}
-use Rattle.ada_tree.specs.declared.syntax.Name.{Name}
-use Rattle.ada_tree.specs.declared.syntax.ObjectDeclaration.{ObjectDeclaration}
+use Rattle.ada_built.specs.declared.syntax.Name.{Name}
+use Rattle.ada_built.specs.declared.syntax.ObjectDeclaration.{ObjectDeclaration}
 use Rattle.ada_names.specs.Visible.{texts_of, declared_by}
 
 -- a list whose first item and whose others a loop looks at

@@ -3,13 +3,13 @@ use Rattle.std.specs.Prelude.{◌≡◌, ℕ, Bool, cond, List, [], ◌∷◌, �
 use Rattle.std.specs.List.{list_any}
 use Rattle.std.specs.Str.{bytes_eq}
 use Rattle.ann_base.specs.declared.places.Place.{Place}
-use Rattle.ada_tree.specs.declared.syntax.Name.{Name}
-use Rattle.ada_tree.specs.declared.syntax.Expression.{Expression}
-use Rattle.ada_tree.specs.declared.syntax.Expression.TheVariants as expression
-use Rattle.ada_tree.specs.declared.syntax.ObjectDeclaration.{ObjectDeclaration}
-use Rattle.ada_tree.specs.declared.syntax.Statement.{Statement}
-use Rattle.ada_tree.specs.declared.syntax.Statement.TheVariants as statement
-use Rattle.ada_tree.specs.declared.syntax.Unit.{Unit as Tree}
+use Rattle.ada_built.specs.declared.syntax.Name.{Name}
+use Rattle.ada_built.specs.declared.syntax.Expression.{Expression}
+use Rattle.ada_built.specs.declared.syntax.Expression.TheVariants as expression
+use Rattle.ada_built.specs.declared.syntax.ObjectDeclaration.{ObjectDeclaration}
+use Rattle.ada_built.specs.declared.syntax.Statement.{Statement}
+use Rattle.ada_built.specs.declared.syntax.Statement.TheVariants as statement
+use Rattle.ada_built.specs.declared.syntax.Unit.{Unit as Tree}
 use Rattle.ada_names.specs.declared.image.Denoted.{Denoted}
 use Rattle.ada_names.specs.declared.faults.NameFault.{NameFault}
 use Rattle.ada_names.specs.declared.faults.NameFault.TheVariants.{Unknown, Twice, Ambiguous, Memory}

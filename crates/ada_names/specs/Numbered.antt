@@ -1,12 +1,12 @@
 -- The image of a tree: the program with numbers for names, and the uses of names, literals and texts.
 use Rattle.std.specs.Prelude.{ℕ, ◌+◌, ℤ, pos, Bool, true, false, leb, cond, List, [], ◌∷◌, ◌++◌, Option, Some, None, unwrap_or, length, codes}
-use Rattle.ada_tree.specs.declared.syntax.Name.{Name}
-use Rattle.ada_tree.specs.declared.syntax.Expression.{Expression}
-use Rattle.ada_tree.specs.declared.syntax.Expression.TheVariants as expression
-use Rattle.ada_tree.specs.declared.syntax.ObjectDeclaration.{ObjectDeclaration}
-use Rattle.ada_tree.specs.declared.syntax.Statement.{Statement}
-use Rattle.ada_tree.specs.declared.syntax.Statement.TheVariants as statement
-use Rattle.ada_tree.specs.declared.syntax.Unit.{Unit as Tree}
+use Rattle.ada_built.specs.declared.syntax.Name.{Name}
+use Rattle.ada_built.specs.declared.syntax.Expression.{Expression}
+use Rattle.ada_built.specs.declared.syntax.Expression.TheVariants as expression
+use Rattle.ada_built.specs.declared.syntax.ObjectDeclaration.{ObjectDeclaration}
+use Rattle.ada_built.specs.declared.syntax.Statement.{Statement}
+use Rattle.ada_built.specs.declared.syntax.Statement.TheVariants as statement
+use Rattle.ada_built.specs.declared.syntax.Unit.{Unit as Tree}
 use Rattle.ada_lex.specs.Meaning.{whole_of, decimals_of}
 use Rattle.profile_machine.specs.declared.image.Image.{Image as Program}
 use Rattle.profile_machine.specs.declared.numbers.StatementNo.{StatementNo}

@@ -2,9 +2,9 @@
 -- what the use clause makes visible.
 use Rattle.std.specs.Prelude.{ℕ, Bool, true, false, List, [], ◌∷◌, ◌++◌, Option, Some, None, option_map, map, position, cond, codes}
 use Rattle.std.specs.Str.{bytes_eq}
-use Rattle.ada_tree.specs.declared.syntax.Name.{Name}
-use Rattle.ada_tree.specs.declared.syntax.ObjectDeclaration.{ObjectDeclaration}
-use Rattle.ada_tree.specs.declared.syntax.Unit.{Unit as Tree}
+use Rattle.ada_built.specs.declared.syntax.Name.{Name}
+use Rattle.ada_built.specs.declared.syntax.ObjectDeclaration.{ObjectDeclaration}
+use Rattle.ada_built.specs.declared.syntax.Unit.{Unit as Tree}
 use Rattle.ada_names.specs.declared.image.Denoted.{Denoted}
 use Rattle.ada_names.specs.declared.image.Denoted.TheVariants.{Variable, MainProcedure, PutLine, IntegerType, OtherType, TruthLiteral, Exception, Package, UnitWithoutWith}
 use Rattle.ada_names.specs.Simple.{decl_no}

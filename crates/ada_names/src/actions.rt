@@ -10,7 +10,7 @@ use crate::faults::NameFault;
 use crate::names::{Names, copy};
 use crate::numbers::{next_number, number_of};
 use crate::visible::denotation;
-use ada_tree::{Statement, Unit};
+use ada_built::{Statement, Unit};
 use profile_machine::{
     DeclNo, ExprNo, Piece, Sequence, Statement as Action, StatementForm, StatementNo, Text,
 };

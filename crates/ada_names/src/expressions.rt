@@ -8,8 +8,8 @@ use crate::faults::NameFault;
 use crate::image::Denoted;
 use crate::names::Names;
 use crate::visible::denotation;
+use ada_built::{Expression, Statement, Unit};
 use ada_lex::decimals;
-use ada_tree::{Expression, Statement, Unit};
 use profile_machine::{DeclNo, Expression as Valuation, ObjectName, Sequence, Value, VariableName};
 
 /// The last Integer (3.5.4; this profile's choice).

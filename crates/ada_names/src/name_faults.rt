@@ -7,7 +7,7 @@ use crate::faults::NameFault;
 use crate::names::Names;
 use crate::standard::look_up;
 use crate::visible::denoted;
-use ada_tree::{Expression, Name, ObjectDeclaration, Statement, Unit};
+use ada_built::{Expression, Name, ObjectDeclaration, Statement, Unit};
 use ann_base::Place;
 
 /// The first fault of a tree whose variables have these names, in the order of the text.

@@ -7,7 +7,7 @@ ghost use Rattle.ada_names.specs.NameFaults.{is_among};
 use crate::faults::NameFault;
 use crate::image::Denoted;
 use crate::table::{give_number, number_of};
-use ada_tree::{Name, ObjectDeclaration};
+use ada_built::{Name, ObjectDeclaration};
 use indexmap::IndexMap;
 use profile_machine::{DeclNo, Sequence, Text};
 use std::alloc::Global;

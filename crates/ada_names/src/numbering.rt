@@ -14,7 +14,7 @@ use crate::names::{Names, copy, declared_by};
 use crate::numbers::number_of;
 use crate::uses::uses_of;
 use crate::variables::variables_of;
-use ada_tree::Unit;
+use ada_built::Unit;
 use profile_machine::{
     Image as Program, MainProcedure, Policies, Queuing, Scope, ScopeNo, Sequence, StatementNo,
 };

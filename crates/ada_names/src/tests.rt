@@ -1,6 +1,7 @@
 //! A tree and its image.
 use super::*;
-use ada_tree::{Bytes, Expression, Name, ObjectDeclaration, Parts, Statement, Unit};
+use ada_built::{Expression, Name, ObjectDeclaration, Parts, Statement, Unit};
+use ada_tree::Bytes;
 use ann_base::{NoMemory, Place};
 use profile_machine::{DeclNo, Expression as Valuation, ObjectName, Value, VariableName};
 use std::alloc::Global;

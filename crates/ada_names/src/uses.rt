@@ -8,7 +8,7 @@ use crate::faults::NameFault;
 use crate::image::Use;
 use crate::names::Names;
 use crate::visible::denotation;
-use ada_tree::{Expression, Statement, Unit};
+use ada_built::{Expression, Statement, Unit};
 use profile_machine::Sequence;
 use std::alloc::Global;
 

@@ -6,7 +6,7 @@ ghost use Rattle.ada_names.specs.Numbered.{initial_with, values_in, variable_dec
 use crate::faults::NameFault;
 use crate::names::{append, copy};
 use crate::numbers::{next_number, number_of};
-use ada_tree::{Expression, Name, Unit};
+use ada_built::{Expression, Name, Unit};
 use profile_machine::{
     Constraint, Declaration, DeclarationKind, ExprNo, Initial, ScopeNo, Sequence, Text,
 };

@@ -6,7 +6,7 @@ ghost use Rattle.ada_names.specs.Numbered.{denotation};
 use crate::image::Denoted;
 use crate::names::Names;
 use crate::standard::look_up;
-use ada_tree::Unit;
+use ada_built::Unit;
 
 /// What a name denotes where the first `visible` variables are declared already: they hide the main procedure and the
 /// names of package Standard, and all of these hide what the use clause makes visible (8.3, 8.4).

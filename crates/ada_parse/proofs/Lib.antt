@@ -1,13 +1,4 @@
-pub mod Lower
-pub mod Bind
-pub mod Lists
-pub mod Begins
-pub mod TokenLaws
-pub mod Sound
-pub mod Shrinking
-pub mod SoundUnits
-pub mod Goes
-pub mod Complete
-pub mod CompleteUnits
-pub mod Meanings
-pub mod Parsed
+pub mod Levels
+pub mod Packages
+pub mod Sources
+pub mod Given

@@ -1,3 +1,1 @@
-pub mod Reading
-pub mod Steps
-pub mod Trees
+pub mod Inside

@@ -1,16 +1,11 @@
 //! From tokens to the tree that they spell.
 #![tactic(auto)]
 
-mod cursor;
-mod declarations;
-mod faults;
-mod laws;
+mod bodies;
+mod selects;
+mod sequences;
 mod statements;
 mod units;
 
-pub use faults::ParseFault;
-pub use laws::one_tree_spells;
+pub use sequences::sequence;
 pub use units::parse;
-
-#[cfg(test)]
-mod tests;

@@ -1,53 +1,106 @@
-//! The productions of a source.
-ghost use Rattle.std.specs.Prelude.{◌≡◌, ◌≤◌, length, map, true, IfOk, Ok, List};
-ghost use Rattle.std.specs.Char.{to_ascii_lowercase};
+//! Library units and the source (ISO/IEC 8652:2012, 2.8, clause 7, 10.1).
+ghost use Rattle.std.specs.Prelude.{◌≡◌, ◌≤◌, codes, length, true, IfOk, Ok};
 ghost use Rattle.ada_lex.specs.Lexed.{AreTokensOf};
-ghost use Rattle.ada_tree.specs.declared.syntax.Unit.{Unit};
-ghost use Rattle.ada_tree.specs.Spelling.{SpellsTokens, lexemes_of};
+ghost use Rattle.ada_tree.specs.declared.units.Unit.{Unit as Tree};
+ghost use Rattle.ada_tree.specs.Written.{lexemes_of};
+ghost use Rattle.ada_tree.specs.Spelling.{SpellsTokens};
 ghost use Rattle.ada_tree.specs.Shape.{is_shaped};
-ghost use Rattle.ada_tree.specs.Readable.{IsReadable};
-ghost use Rattle.ada_parse.specs.Reading.{Gives, text_io_of, clauses_of, context_of, named_end_of, end_name_of, procedure_of, source_of, unit_of};
-ghost use Rattle.ada_parse.specs.Steps.{Reads};
+ghost use Rattle.ada_grammar.specs.Reading.{behind_mark_of, items_of, sees_mark, sees_word, separated_of};
+ghost use Rattle.ada_grammar.specs.ReadingExpressions.{argument_of, inner_of};
+ghost use Rattle.ada_expressions.specs.Steps.{Reads};
+ghost use Rattle.ada_grammar.specs.ReadingUnits.{Gives, begins_clause, clause_of, context_of, declarations_at, finished, main_of, package_body_of, package_declaration_of, package_of, package_statements_of, packages_of, placed_fault, pragma_of, private_part_of, source_of, unit_of, use_clause_of, with_of};
 
-use crate::ParseFault;
-use crate::cursor::{Cursor, Stuck};
-use crate::declarations::objects;
-use crate::statements::statements;
+use crate::bodies::below;
+use crate::sequences::{Sequences, sequence};
+use crate::statements::end_name;
+use ada_clauses::aspects;
+use ada_expressions::{Cursor, argument, name_list};
+use ada_grammar::{ParseFault, Stuck};
 use ada_lex::Token;
-use ada_tree::{Bytes, Unit};
+use ada_tree::{
+    Argument, ContextClause, Declaration, Expression, LibraryPackage, MainProcedure, OneOrMore,
+    Package, PackageBody, PackageDeclaration, Pragma, Sequence, SequenceRole, Unit,
+};
 use ann_base::Place;
+use grammar_laws::{read_is_spelt, spelt_is_read};
+use sqlite_items::Items;
 use std::alloc::Global;
 
-/// The tree that the tokens of a source spell (ISO/IEC 8652:2012, 10.1), or the first token with which no tree can go
-/// on. `tokens` are those that `lex` answers for the source.
+/// How many levels of nesting a source may open.
+const LEVELS: usize = 100;
+
+/// The tree that the tokens of a source spell (10.1), or the first token with which reading cannot go on, or the one
+/// that opens nesting 101. `tokens` are those that `lex` answers for the source.
 pub fn parse(alloc: Global, source: &[u8], tokens: &[Token]) -> Result<Unit, ParseFault>
     requires tokens { AreTokensOf source.now tokens.now }
     requires count { length tokens.now ≤ 262144 }
-    // The tree spells the tokens, is shaped, and its names and texts are those of tokens.
+    // The tree spells the tokens, and is shaped.
     ensures found { IfOk result (λ unit. SpellsTokens unit (lexemes_of source.now tokens.now)) }
     ensures shaped { IfOk result (λ unit. is_shaped unit ≡ true) }
-    ensures readable { IfOk result IsReadable }
     // Any shaped tree that spells the tokens is the answer, unless memory runs out; so it is refused only where there is none.
-    ensures only { (unit : Unit) → SpellsTokens unit (lexemes_of source.now tokens.now) → is_shaped unit ≡ true → Gives result (Ok unit) }
+    ensures only { (unit : Tree) → SpellsTokens unit (lexemes_of source.now tokens.now) → is_shaped unit ≡ true → Gives result (Ok unit) }
     // Otherwise the fault is at the first token with which the reading from left to right cannot go on.
     ensures exact { Gives result (unit_of (lexemes_of source.now tokens.now)) }
 {
+    // What the laws of the grammar say of what is read.
+    read_is_spelt();
+    spelt_is_read();
+    read(alloc, source, tokens)
+}
+
+/// What reading the tokens from left to right gives.
+fn read(alloc: Global, source: &[u8], tokens: &[Token]) -> Result<Unit, ParseFault>
+    requires tokens { AreTokensOf source.now tokens.now }
+    requires count { length tokens.now ≤ 262144 }
+    ensures exact { Gives result (unit_of (lexemes_of source.now tokens.now)) }
+{
     let mut cursor = Cursor::new(source, tokens);
-    match source_unit(alloc, &mut cursor) {
+    match source_unit(alloc, &mut cursor, LEVELS) {
         Ok(unit) => Ok(unit),
-        Err(Stuck::At { left }) => Err(ParseFault::Unexpected {
-            token: tokens.len().saturating_sub(left) as u32,
-        }),
-        Err(Stuck::Memory) => Err(ParseFault::Memory),
+        Err(stuck) => Err(fault(tokens, stuck)),
     }
 }
 
-#[tactic(auto, unfolding(crate::specs::Reading::source_of))]
-fn source_unit(alloc: Global, cursor: &mut Cursor<'_>) -> Result<Unit, Stuck>
-    ensures { Reads result cursor.new (source_of cursor.old) }
+/// The fault where reading these tokens is stuck: how many tokens were read before it.
+fn fault(tokens: &[Token], stuck: Stuck) -> ParseFault
+    requires count { length tokens.now ≤ 262144 }
+    ensures { result ≡ placed_fault (length tokens.now) stuck }
 {
-    let text_io = context(cursor)?;
-    let unit = main_procedure(alloc, cursor, text_io)?;
+    match stuck {
+        Stuck::At { left } => ParseFault::Unexpected {
+            token: tokens.len().saturating_sub(left) as u32,
+        },
+        Stuck::TooDeep { left } => ParseFault::TooDeep {
+            token: tokens.len().saturating_sub(left) as u32,
+        },
+        Stuck::Memory => ParseFault::Memory,
+    }
+}
+
+/// `{PRAGMA} {PACKAGE} MAIN` (10.1)
+#[tactic(auto, unfolding(ada_grammar::specs::ReadingUnits::source_of))]
+fn source_unit(alloc: Global, cursor: &mut Cursor<'_>, left: usize) -> Result<Unit, Stuck>
+    ensures { Reads result cursor.new (source_of left cursor.old) }
+{
+    let pragmas = pragmas(alloc, cursor, left)?;
+    let (packages, context) = packages(alloc, cursor, left)?;
+    let main = main_procedure(alloc, cursor, left)?;
+    finished(
+        cursor,
+        Unit {
+            pragmas,
+            packages,
+            context,
+            main,
+        },
+    )
+}
+
+/// The unit, where nothing stands behind it.
+#[tactic(auto, using(crate::proofs::Sources::finished_at_end, crate::proofs::Sources::finished_too_early))]
+fn finished(cursor: &mut Cursor<'_>, unit: Unit) -> Result<Unit, Stuck>
+    ensures { Reads result cursor.new (finished unit cursor.old) }
+{
     let left = cursor.left();
     if left > 0 {
         Err(Stuck::At { left })
@@ -56,80 +109,312 @@ fn source_unit(alloc: Global, cursor: &mut Cursor<'_>) -> Result<Unit, Stuck>
     }
 }
 
-/// `[with Ada.Text_IO; use Ada.Text_IO;]`, and whether it stands there (10.1.2).
-#[tactic(auto, unfolding(crate::specs::Reading::context_of))]
-fn context(cursor: &mut Cursor<'_>) -> Result<bool, Stuck>
-    ensures { Reads result cursor.new (context_of cursor.old) }
+/// An argument behind a comma.
+#[tactic(auto, unfolding(ada_grammar::specs::Reading::behind_mark_of))]
+fn next_argument(
+    alloc: Global,
+    cursor: &mut Cursor<'_>,
+    left: usize,
+) -> Result<Argument<Expression>, Stuck>
+    ensures { Reads result cursor.new (behind_mark_of (codes ",") (argument_of left (inner_of left)) cursor.old) }
 {
-    if cursor.is_word(b"with") {
-        clauses(cursor)
-    } else {
-        Ok(false)
+    cursor.mark(b",")?;
+    argument(alloc, cursor, left)
+}
+
+/// The arguments behind the first one.
+#[tactic(auto, unfolding(ada_grammar::specs::Reading::items_of))]
+fn next_arguments(
+    alloc: Global,
+    cursor: &mut Cursor<'_>,
+    left: usize,
+) -> Result<Items<Argument<Expression>>, Stuck>
+    ensures { Reads result cursor.new (items_of (sees_mark (codes ",")) (behind_mark_of (codes ",") (argument_of left (inner_of left))) cursor.old) }
+{
+    let mut found = Items::new(alloc);
+    for _turn in 0..cursor.left() {
+        if !cursor.is_mark(b",") {
+            return Ok(found);
+        }
+        found.push(next_argument(alloc, cursor, left)?)?;
     }
+    Ok(found)
 }
 
-#[tactic(auto, unfolding(crate::specs::Reading::clauses_of))]
-fn clauses(cursor: &mut Cursor<'_>) -> Result<bool, Stuck>
-    ensures { Reads result cursor.new (clauses_of cursor.old) }
+/// The arguments of a pragma (2.8).
+#[tactic(auto, unfolding(ada_grammar::specs::Reading::separated_of))]
+fn pragma_arguments(
+    alloc: Global,
+    cursor: &mut Cursor<'_>,
+    left: usize,
+) -> Result<OneOrMore<Argument<Expression>>, Stuck>
+    ensures { Reads result cursor.new (separated_of (codes ",") (argument_of left (inner_of left)) cursor.old) }
 {
-    text_io_clause(cursor, b"with")?;
-    text_io_clause(cursor, b"use")?;
-    Ok(true)
+    let first = argument(alloc, cursor, left)?;
+    let others = next_arguments(alloc, cursor, left)?;
+    Ok(OneOrMore { first, others })
 }
 
-#[tactic(auto, unfolding(crate::specs::Reading::text_io_of))]
-fn text_io_clause(cursor: &mut Cursor<'_>, word: &[u8]) -> Result<Place, Stuck>
-    ensures { Reads result cursor.new (text_io_of (map to_ascii_lowercase word.now) cursor.old) }
+/// A pragma (2.8).
+#[tactic(auto, unfolding(ada_grammar::specs::ReadingUnits::pragma_of))]
+fn pragma_line(alloc: Global, cursor: &mut Cursor<'_>, left: usize) -> Result<Pragma, Stuck>
+    ensures { Reads result cursor.new (pragma_of left cursor.old) }
 {
-    cursor.word(word)?;
-    cursor.word(b"ada")?;
-    cursor.mark(b".")?;
-    cursor.word(b"text_io")?;
-    cursor.mark(b";")
-}
-
-/// `procedure NAME is objects begin statements end [NAME];` (6.3).
-#[tactic(auto, unfolding(crate::specs::Reading::procedure_of))]
-fn main_procedure(alloc: Global, cursor: &mut Cursor<'_>, text_io: bool) -> Result<Unit, Stuck>
-    ensures { Reads result cursor.new (procedure_of text_io cursor.old) }
-{
-    let place = cursor.word(b"procedure")?;
-    let name = cursor.name(alloc)?;
-    cursor.word(b"is")?;
-    let declarations = objects(alloc, cursor)?;
-    cursor.word(b"begin")?;
-    let statements = statements(alloc, cursor)?;
-    cursor.word(b"end")?;
-    let named_at_end = end_name(cursor, &name.text)?;
+    let place = cursor.word(b"pragma")?;
+    let name = cursor.identifier(alloc)?;
+    cursor.open(left)?;
+    let arguments = pragma_arguments(alloc, cursor, left)?;
+    cursor.mark(b")")?;
     cursor.mark(b";")?;
-    Ok(Unit {
-        text_io,
+    Ok(Pragma {
         place,
         name,
-        declarations,
-        statements,
-        named_at_end,
+        arguments,
     })
 }
 
-/// The construct's own name, or none: whether it stands behind `end`.
-#[tactic(auto, unfolding(crate::specs::Reading::end_name_of))]
-fn end_name(cursor: &mut Cursor<'_>, name: &Bytes) -> Result<bool, Stuck>
-    requires { map to_ascii_lowercase name.now ≡ name.now }
-    ensures { Reads result cursor.new (end_name_of name.now cursor.old) }
+/// The pragmas before the first unit (10.1.5).
+#[tactic(auto, unfolding(ada_grammar::specs::Reading::items_of))]
+fn pragmas(alloc: Global, cursor: &mut Cursor<'_>, left: usize) -> Result<Items<Pragma>, Stuck>
+    ensures { Reads result cursor.new (items_of (sees_word (codes "pragma")) (pragma_of left) cursor.old) }
 {
-    if cursor.is_word(name.as_slice()) {
-        named_end(cursor, name)
+    let mut found = Items::new(alloc);
+    for _turn in 0..cursor.left() {
+        if !cursor.is_word(b"pragma") {
+            return Ok(found);
+        }
+        found.push(pragma_line(alloc, cursor, left)?)?;
+    }
+    Ok(found)
+}
+
+/// A with clause (10.1.2).
+#[tactic(auto, unfolding(ada_grammar::specs::ReadingUnits::with_of))]
+fn with_clause(alloc: Global, cursor: &mut Cursor<'_>) -> Result<ContextClause, Stuck>
+    ensures { Reads result cursor.new (with_of cursor.old) }
+{
+    let place = cursor.word(b"with")?;
+    let names = name_list(alloc, cursor, b",")?;
+    cursor.mark(b";")?;
+    Ok(ContextClause {
+        place,
+        is_use: false,
+        names,
+    })
+}
+
+/// A use clause in a context (8.4).
+#[tactic(auto, unfolding(ada_grammar::specs::ReadingUnits::use_clause_of))]
+fn use_clause(alloc: Global, cursor: &mut Cursor<'_>) -> Result<ContextClause, Stuck>
+    ensures { Reads result cursor.new (use_clause_of cursor.old) }
+{
+    let place = cursor.word(b"use")?;
+    let names = name_list(alloc, cursor, b",")?;
+    cursor.mark(b";")?;
+    Ok(ContextClause {
+        place,
+        is_use: true,
+        names,
+    })
+}
+
+/// Whether a context clause begins here (10.1.2).
+fn begins_clause(cursor: &Cursor<'_>) -> bool
+    ensures { result ≡ begins_clause cursor.now }
+{
+    cursor.is_word(b"with") || cursor.is_word(b"use")
+}
+
+/// A context clause (10.1.2).
+#[tactic(auto, unfolding(ada_grammar::specs::ReadingUnits::clause_of))]
+fn clause(alloc: Global, cursor: &mut Cursor<'_>) -> Result<ContextClause, Stuck>
+    ensures { Reads result cursor.new (clause_of cursor.old) }
+{
+    if cursor.is_word(b"use") {
+        use_clause(alloc, cursor)
     } else {
-        Ok(false)
+        with_clause(alloc, cursor)
     }
 }
 
-#[tactic(auto, unfolding(crate::specs::Reading::named_end_of))]
-fn named_end(cursor: &mut Cursor<'_>, name: &Bytes) -> Result<bool, Stuck>
-    requires { map to_ascii_lowercase name.now ≡ name.now }
-    ensures { Reads result cursor.new (named_end_of name.now cursor.old) }
+/// The context of a library unit (10.1.2).
+#[tactic(auto, unfolding(ada_grammar::specs::Reading::items_of, ada_grammar::specs::ReadingUnits::context_of))]
+fn context_clauses(alloc: Global, cursor: &mut Cursor<'_>) -> Result<Items<ContextClause>, Stuck>
+    ensures { Reads result cursor.new (context_of cursor.old) }
 {
-    cursor.word(name.as_slice())?;
-    Ok(true)
+    let mut found = Items::new(alloc);
+    for _turn in 0..cursor.left() {
+        if !begins_clause(cursor) {
+            return Ok(found);
+        }
+        found.push(clause(alloc, cursor)?)?;
+    }
+    Ok(found)
+}
+
+/// The declarations of a package (7.1).
+fn declarations(
+    alloc: Global,
+    cursor: &mut Cursor<'_>,
+    left: usize,
+) -> Result<Items<Declaration<Sequence>>, Stuck>
+    ensures { Reads result cursor.new (declarations_at left cursor.old) }
+{
+    Sequences {
+        alloc,
+        left,
+        read: sequence,
+    }
+    .declarations(cursor)
+}
+
+/// `[private {DECLARATION}]` (7.1)
+#[tactic(auto, unfolding(ada_grammar::specs::ReadingUnits::private_part_of))]
+fn private_part(
+    alloc: Global,
+    cursor: &mut Cursor<'_>,
+    left: usize,
+) -> Result<Option<Items<Declaration<Sequence>>>, Stuck>
+    ensures { Reads result cursor.new (private_part_of left cursor.old) }
+{
+    if cursor.is_word(b"private") {
+        cursor.word(b"private")?;
+        let hidden = declarations(alloc, cursor, left)?;
+        Ok(Some(hidden))
+    } else {
+        Ok(None)
+    }
+}
+
+/// A package declaration, behind `package` (7.1).
+#[tactic(auto, unfolding(ada_grammar::specs::ReadingUnits::package_declaration_of))]
+fn package_declaration(
+    alloc: Global,
+    cursor: &mut Cursor<'_>,
+    left: usize,
+    place: Place,
+) -> Result<Package, Stuck>
+    ensures { Reads result cursor.new (package_declaration_of left place cursor.old) }
+{
+    let name = cursor.identifier(alloc)?;
+    cursor.word(b"is")?;
+    let declarations = declarations(alloc, cursor, left)?;
+    let private = private_part(alloc, cursor, left)?;
+    cursor.word(b"end")?;
+    let named_at_end = end_name(cursor, &name)?;
+    cursor.mark(b";")?;
+    Ok(Package::Declaration(PackageDeclaration {
+        place,
+        name,
+        declarations,
+        private,
+        named_at_end,
+    }))
+}
+
+/// `[begin SEQUENCE]` (7.2)
+#[tactic(auto, unfolding(ada_grammar::specs::ReadingUnits::package_statements_of))]
+fn package_statements(
+    alloc: Global,
+    cursor: &mut Cursor<'_>,
+    left: usize,
+) -> Result<Option<Sequence>, Stuck>
+    ensures { Reads result cursor.new (package_statements_of left cursor.old) }
+{
+    if cursor.is_word(b"begin") {
+        cursor.word(b"begin")?;
+        let statements = sequence(alloc, cursor, left, SequenceRole::Handled)?;
+        Ok(Some(statements))
+    } else {
+        Ok(None)
+    }
+}
+
+/// A package body, behind `package` (7.2).
+#[tactic(auto, unfolding(ada_grammar::specs::ReadingUnits::package_body_of))]
+fn package_body(
+    alloc: Global,
+    cursor: &mut Cursor<'_>,
+    left: usize,
+    place: Place,
+) -> Result<Package, Stuck>
+    ensures { Reads result cursor.new (package_body_of left place cursor.old) }
+{
+    cursor.word(b"body")?;
+    let name = cursor.identifier(alloc)?;
+    cursor.open_is(left)?;
+    let inside = below(left);
+    let declarations = declarations(alloc, cursor, inside)?;
+    let sequence = package_statements(alloc, cursor, inside)?;
+    cursor.word(b"end")?;
+    let named_at_end = end_name(cursor, &name)?;
+    cursor.mark(b";")?;
+    Ok(Package::Body(PackageBody {
+        place,
+        name,
+        declarations,
+        sequence,
+        named_at_end,
+    }))
+}
+
+/// A package declaration or a package body (7.1, 7.2).
+#[tactic(auto, unfolding(ada_grammar::specs::ReadingUnits::package_of))]
+fn package(alloc: Global, cursor: &mut Cursor<'_>, left: usize) -> Result<Package, Stuck>
+    ensures { Reads result cursor.new (package_of left cursor.old) }
+{
+    let place = cursor.word(b"package")?;
+    if cursor.is_word(b"body") {
+        package_body(alloc, cursor, left, place)
+    } else {
+        package_declaration(alloc, cursor, left, place)
+    }
+}
+
+/// Packages, each with its context, and the context that no package follows (10.1.1).
+#[tactic(auto, unfolding(ada_grammar::specs::ReadingUnits::packages_of))]
+fn packages(
+    alloc: Global,
+    cursor: &mut Cursor<'_>,
+    left: usize,
+) -> Result<(Items<LibraryPackage>, Items<ContextClause>), Stuck>
+    ensures { Reads result cursor.new (packages_of left cursor.old) }
+{
+    let mut found = Items::new(alloc);
+    for _turn in 0..cursor.left() {
+        let context = context_clauses(alloc, cursor)?;
+        if !cursor.is_word(b"package") {
+            return Ok((found, context));
+        }
+        let package = package(alloc, cursor, left)?;
+        found.push(LibraryPackage { context, package })?;
+    }
+    let last = context_clauses(alloc, cursor)?;
+    Ok((found, last))
+}
+
+/// The main procedure (6.3).
+#[tactic(auto, unfolding(ada_grammar::specs::ReadingUnits::main_of))]
+fn main_procedure(
+    alloc: Global,
+    cursor: &mut Cursor<'_>,
+    left: usize,
+) -> Result<MainProcedure, Stuck>
+    ensures { Reads result cursor.new (main_of left cursor.old) }
+{
+    let place = cursor.word(b"procedure")?;
+    let name = cursor.identifier(alloc)?;
+    let aspects = aspects(alloc, cursor, left)?;
+    let sequences = Sequences {
+        alloc,
+        left,
+        read: sequence,
+    };
+    let body = sequences.body(cursor, &name)?;
+    Ok(MainProcedure {
+        place,
+        name,
+        aspects,
+        body,
+    })
 }

@@ -2,10 +2,10 @@
 use Rattle.std.proofs.Common.{◌≡◌, ◌≤◌, ◌+◌, ℕ, zero, suc, leb, List, [], ◌∷◌, ◌++◌, Option, Some, None, length, get_or, codes, refl, ap, sym, ◌∙◌, arith}
 use Rattle.std.proofs.lemmas.Bool.{cases_Bool, leb-true, cond-false}
 use Rattle.ann_base.specs.declared.places.Place.{Place}
-use Rattle.ada_tree.specs.declared.syntax.Statement.{Statement}
-use Rattle.ada_tree.specs.declared.syntax.Statement.TheVariants as statement
-use Rattle.ada_tree.specs.declared.syntax.Unit.{Unit as Tree}
-use Rattle.ada_tree.specs.Readable.{HasText, HaveTexts}
+use Rattle.ada_built.specs.declared.syntax.Statement.{Statement}
+use Rattle.ada_built.specs.declared.syntax.Statement.TheVariants as statement
+use Rattle.ada_built.specs.declared.syntax.Unit.{Unit as Tree}
+use Rattle.ada_built.specs.Readable.{HasText, HaveTexts}
 use Rattle.profile_machine.specs.declared.statements.StatementForm.{StatementForm}
 use Rattle.profile_machine.specs.Program.{no_statement}
 use Rattle.ada_names.specs.declared.image.Denoted.{Denoted}

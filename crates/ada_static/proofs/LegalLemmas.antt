@@ -1,7 +1,7 @@
 -- The program of a checked image may run.
 use Rattle.std.proofs.Common.{◌≡◌, ◌<◌, ◌+◌, ℕ, zero, suc, None, length, get_or, refl, ap, sym, subst, ◌∙◌, arith}
-use Rattle.ada_tree.specs.declared.syntax.Unit.{Unit as Tree}
-use Rattle.ada_tree.specs.Readable.{IsReadable}
+use Rattle.ada_built.specs.declared.syntax.Unit.{Unit as Tree}
+use Rattle.ada_built.specs.Readable.{IsReadable}
 use Rattle.ada_names.specs.declared.image.Image.{Image}
 use Rattle.profile_machine.specs.Program.{no_declaration, no_statement, form_of}
 use Rattle.ada_names.specs.Simple.{IsVariable, statement_no}

@@ -5,12 +5,12 @@ use Rattle.std.specs.Str.{bytes_eq}
 use Rattle.std.proofs.lemmas.Bool.{cases_Bool, ltb-true, cond-true, cond-false}
 use Rattle.std.proofs.lemmas.List.{length-append}
 use Rattle.ada_lex.specs.Meaning.{whole_of}
-use Rattle.ada_tree.specs.declared.syntax.Expression.{Expression}
-use Rattle.ada_tree.specs.declared.syntax.Expression.TheVariants as expression
-use Rattle.ada_tree.specs.declared.syntax.ObjectDeclaration.{ObjectDeclaration}
-use Rattle.ada_tree.specs.declared.syntax.Statement.{Statement}
-use Rattle.ada_tree.specs.declared.syntax.Statement.TheVariants as statement
-use Rattle.ada_tree.specs.declared.syntax.Unit.{Unit as Tree}
+use Rattle.ada_built.specs.declared.syntax.Expression.{Expression}
+use Rattle.ada_built.specs.declared.syntax.Expression.TheVariants as expression
+use Rattle.ada_built.specs.declared.syntax.ObjectDeclaration.{ObjectDeclaration}
+use Rattle.ada_built.specs.declared.syntax.Statement.{Statement}
+use Rattle.ada_built.specs.declared.syntax.Statement.TheVariants as statement
+use Rattle.ada_built.specs.declared.syntax.Unit.{Unit as Tree}
 use Rattle.profile_machine.specs.declared.expressions.Expression.{Expression as Valuation}
 use Rattle.profile_machine.specs.Program.{expression_of}
 use Rattle.ada_names.specs.declared.image.Denoted.{Denoted}

@@ -1,8 +1,8 @@
 -- The first rule of legality that an image breaks, by place and then by number.
 use Rattle.std.specs.Prelude.{◌≡◌, ◌<◌, length, ℕ, Bool, true, false, leb, cond, List, [], ◌∷◌, Option, Some, None, Result, Ok, Err}
 use Rattle.ann_base.specs.declared.places.Place.{Place}
-use Rattle.ada_tree.specs.declared.syntax.Unit.{Unit as Tree}
-use Rattle.ada_tree.specs.Readable.{IsReadable}
+use Rattle.ada_built.specs.declared.syntax.Unit.{Unit as Tree}
+use Rattle.ada_built.specs.Readable.{IsReadable}
 use Rattle.ada_names.specs.declared.image.Denoted.{Denoted}
 use Rattle.ada_names.specs.declared.image.Denoted.TheVariants.{Variable, MainProcedure, PutLine, IntegerType, OtherType, TruthLiteral, Exception, Package, UnitWithoutWith}
 use Rattle.ada_names.specs.declared.image.Use.{Use}

@@ -2,11 +2,12 @@
 ghost use Rattle.std.specs.Prelude.{IfOk};
 ghost use Rattle.ada_lex.specs.declared.tokens.Kind.TheVariants as kinds;
 ghost use Rattle.ada_lex.specs.Lexed.{IsMeaning};
-ghost use Rattle.ada_tree.specs.Readable.{HasText, HaveTexts, IsReadable};
+ghost use Rattle.ada_built.specs.Readable.{HasText, HaveTexts, IsReadable};
 
 use super::*;
+use ada_built::{Expression, Name, ObjectDeclaration, Parts, Statement, Unit};
 use ada_names::number;
-use ada_tree::{Bytes, Expression, Name, ObjectDeclaration, Parts, Statement, Unit};
+use ada_tree::Bytes;
 use ann_base::{NoMemory, Place};
 use std::alloc::Global;
 use std::test::Fail;

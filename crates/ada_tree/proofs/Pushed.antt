@@ -1,18 +1,30 @@
 -- Tokens that were pushed one behind another.
-use Rattle.std.proofs.Common.{◌≡◌, List, [], ◌∷◌, ◌++◌, map, Result, Ok, Err, append_assoc}
+use Rattle.std.proofs.Common.{◌≡◌, List, ◌++◌, map, Result, Ok, Err, append_assoc}
 use Rattle.std.proofs.lemmas.List.{map-append}
 use Rattle.std.specs.Prelude.{OnOk}
 use Rattle.ada_tree.specs.declared.spelling.Spelt.{Spelt}
-use Rattle.ada_tree.specs.Spelling.{Written, spelt}
+use Rattle.ada_tree.specs.Written.{Written}
+use Rattle.ada_tree.specs.Spelling.{spelt}
 
-pub three_pushed : {V E : Type 0} (answer : Result V E) (a b c d : List Spelt) (x y z : Spelt) → b ≡ a ++ x ∷ [] → c ≡ b ++ y ∷ [] → OnOk answer (d ≡ c ++ z ∷ []) → OnOk answer (d ≡ a ++ x ∷ y ∷ z ∷ [])
-three_pushed (Ok v) a b c d x y z p q r = rw (r, q, p) (simp append_assoc)
-three_pushed (Err e) a b c d x y z p q r = tt
+-- what was pushed first, and then the rest
+then_pushed : {V E : Type 0} (answer : Result V E) (before between after : List Spelt) (first rest : List Written)
+    → between ≡ before ++ map spelt first → OnOk answer (after ≡ between ++ map spelt rest) → OnOk answer (after ≡ before ++ map spelt (first ++ rest))
+then_pushed (Ok v) before between after first rest p q = rw (q, p, map-append spelt first rest) (append_assoc before (map spelt first) (map spelt rest))
+then_pushed (Err e) before between after first rest p q = tt
 
--- the tokens of a source
-pub unit_pushed : (t0 t1 t2 t3 t4 t5 t6 t7 t8 t9 t10 : List Spelt) (context objects statements name : List Written) (a b c d e f : Written)
-    → t0 ≡ [] → t1 ≡ t0 ++ map spelt context → t2 ≡ t1 ++ spelt a ∷ [] → t3 ≡ t2 ++ spelt b ∷ [] → t4 ≡ t3 ++ spelt c ∷ [] → t5 ≡ t4 ++ map spelt objects
-    → t6 ≡ t5 ++ spelt d ∷ [] → t7 ≡ t6 ++ map spelt statements → t8 ≡ t7 ++ spelt e ∷ [] → t9 ≡ t8 ++ map spelt name → t10 ≡ t9 ++ spelt f ∷ []
-    → t10 ≡ map spelt (context ++ (a ∷ b ∷ c ∷ (objects ++ d ∷ (statements ++ e ∷ (name ++ f ∷ [])))))
-unit_pushed t0 t1 t2 t3 t4 t5 t6 t7 t8 t9 t10 context objects statements name a b c d e f p0 p1 p2 p3 p4 p5 p6 p7 p8 p9 p10 =
-    rw (p10, p9, p8, p7, p6, p5, p4, p3, p2, p1, p0) (simp (map-append, append_assoc))
+pub three_pushed : {V E : Type 0} (answer : Result V E) (t0 t1 t2 t3 : List Spelt) (a b c : List Written)
+    → t1 ≡ t0 ++ map spelt a → t2 ≡ t1 ++ map spelt b → OnOk answer (t3 ≡ t2 ++ map spelt c) → OnOk answer (t3 ≡ t0 ++ map spelt (a ++ (b ++ c)))
+three_pushed answer t0 t1 t2 t3 a b c p q r = then_pushed answer t0 t1 t3 a (b ++ c) p (then_pushed answer t1 t2 t3 b c q r)
+
+pub four_pushed : {V E : Type 0} (answer : Result V E) (t0 t1 t2 t3 t4 : List Spelt) (a b c d : List Written)
+    → t1 ≡ t0 ++ map spelt a → t2 ≡ t1 ++ map spelt b → t3 ≡ t2 ++ map spelt c → OnOk answer (t4 ≡ t3 ++ map spelt d) → OnOk answer (t4 ≡ t0 ++ map spelt (a ++ (b ++ (c ++ d))))
+four_pushed answer t0 t1 t2 t3 t4 a b c d p q r s = then_pushed answer t0 t1 t4 a (b ++ (c ++ d)) p (three_pushed answer t1 t2 t3 t4 b c d q r s)
+
+pub seven_pushed : {V E : Type 0} (answer : Result V E) (t0 t1 t2 t3 t4 t5 t6 t7 : List Spelt) (a b c d e f g : List Written)
+    → t1 ≡ t0 ++ map spelt a → t2 ≡ t1 ++ map spelt b → t3 ≡ t2 ++ map spelt c → t4 ≡ t3 ++ map spelt d → t5 ≡ t4 ++ map spelt e → t6 ≡ t5 ++ map spelt f
+    → OnOk answer (t7 ≡ t6 ++ map spelt g) → OnOk answer (t7 ≡ t0 ++ map spelt (a ++ (b ++ (c ++ (d ++ (e ++ (f ++ g)))))))
+seven_pushed answer t0 t1 t2 t3 t4 t5 t6 t7 a b c d e f g p q r s t u v =
+    let later = e ++ (f ++ g) in
+    then_pushed answer t0 t1 t7 a (b ++ (c ++ (d ++ later))) p
+    (then_pushed answer t1 t2 t7 b (c ++ (d ++ later)) q
+    (then_pushed answer t2 t3 t7 c (d ++ later) r (four_pushed answer t3 t4 t5 t6 t7 d e f g s t u v)))

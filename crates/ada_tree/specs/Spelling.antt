@@ -1,134 +1,110 @@
--- How a tree is spelt: its tokens in order, each with its place where the tree keeps it.
-use Rattle.std.specs.Prelude.{◌≡◌, ℕ, Bool, true, false, List, [], ◌∷◌, ◌++◌, Option, Some, None, map, codes}
-use Rattle.ann_base.specs.declared.places.Place.{Place}
-use Rattle.ada_lex.specs.declared.tokens.Kind.{Kind}
-use Rattle.ada_lex.specs.declared.tokens.Kind.TheVariants as kinds
-use Rattle.ada_lex.specs.declared.tokens.Token.{Token}
-use Rattle.ada_lex.specs.Meaning.{spelling_of, meaning_of}
+-- How sequences, library units and a source are spelt (11.2, 3.11, 2.8, clause 7, 10.1).
+use Rattle.std.specs.Prelude.{ℕ, Bool, true, false, List, [], ◌∷◌, ◌++◌, codes}
+use Rattle.ada_tree.specs.declared.statements.SequenceRole.{SequenceRole}
+use Rattle.ada_tree.specs.declared.statements.SequenceRole.TheVariants as role
+use Rattle.ada_tree.specs.declared.statements.Sequence.{Sequence}
+use Rattle.ada_tree.specs.declared.statements.Sequence.TheOpen.{Sequence-F}
+use Rattle.ada_tree.specs.declared.statements.Sequence.TheFolds.{fold-Sequence}
+use Rattle.ada_tree.specs.declared.statements.SequenceParts.{SequenceParts}
+use Rattle.ada_tree.specs.declared.statements.Handler.{Handler}
+use Rattle.ada_tree.specs.declared.declarations.Declaration.{Declaration}
+use Rattle.ada_tree.specs.declared.units.Unit.{Unit as Tree}
+use Rattle.ada_tree.specs.declared.units.Pragma.{Pragma}
+use Rattle.ada_tree.specs.declared.units.ContextClause.{ContextClause}
+use Rattle.ada_tree.specs.declared.units.LibraryPackage.{LibraryPackage}
+use Rattle.ada_tree.specs.declared.units.Package.{Package}
+use Rattle.ada_tree.specs.declared.units.PackageDeclaration.{PackageDeclaration}
+use Rattle.ada_tree.specs.declared.units.PackageBody.{PackageBody}
+use Rattle.ada_tree.specs.declared.units.MainProcedure.{MainProcedure}
+use Rattle.ada_tree.specs.declared.units.Package.TheVariants as packages
 use Rattle.ada_tree.specs.declared.spelling.Spelt.{Spelt}
-use Rattle.ada_tree.specs.declared.syntax.Name.{Name}
-use Rattle.ada_tree.specs.declared.syntax.Expression.{Expression}
-use Rattle.ada_tree.specs.declared.syntax.Expression.TheVariants as expression
-use Rattle.ada_tree.specs.declared.syntax.ObjectDeclaration.{ObjectDeclaration}
-use Rattle.ada_tree.specs.declared.syntax.Statement.{Statement}
-use Rattle.ada_tree.specs.declared.syntax.Statement.TheVariants as statement
-use Rattle.ada_tree.specs.declared.syntax.Unit.{Unit as Tree}
+use Rattle.ada_tree.specs.Written.{Written, Lexeme, AllSpell, word, word_at, mark, identifier_written, each_written, all_written, separated, optional, name_written, end_name_written}
+use Rattle.ada_tree.specs.SpellingExpressions.{expression_written, argument_written}
+use Rattle.ada_tree.specs.SpellingStatements.{semicolon, statement_written, handler_written}
+use Rattle.ada_tree.specs.SpellingDeclarations.{declaration_written, body_written, aspects_written}
 
--- ---- tokens as they are meant
+-- ---- sequences
 
--- a token of a tree: what it says, and its place where the tree keeps one
-pub record Written : Type 0 where
-  pub kind : Kind
-  pub text : List ℕ
-  pub place : Option Place
+module _ {Q : Type 0} (sequence : Q → SequenceRole → List Written) where
+  -- ["exception" handler {handler}]
+  abbrev pub handlers_written : List (Handler Q) → List Written
+  handlers_written [] = []
+  handlers_written (h ∷ hs) = word (codes "exception") ∷ (handler_written sequence h ++ each_written (handler_written sequence) hs)
 
--- a token of a source: what it says, and its place
-pub record Lexeme : Type 0 where
-  pub kind : Kind
-  pub text : List ℕ
-  pub place : Place
+  -- statement {statement} handlers
+  abbrev pub handled_written : SequenceParts Q → List Written
+  handled_written s = all_written (statement_written sequence) s.statements ++ handlers_written s.handlers
 
-abbrev pub lexeme_of : List ℕ → Token → Lexeme
-lexeme_of source token = record { kind = token.kind; text = meaning_of token.kind (spelling_of source token); place = token.place }
+  abbrev pub parts_written : SequenceParts Q → SequenceRole → List Written
+  parts_written s role.Statements = all_written (statement_written sequence) s.statements
+  parts_written s role.Handled = handled_written s
+  parts_written s role.Body = each_written (declaration_written sequence) s.declarations ++ word (codes "begin") ∷ handled_written s
 
-abbrev pub lexemes_of : List ℕ → List Token → List Lexeme
-lexemes_of source tokens = map (lexeme_of source) tokens
+abbrev pub as_it_stands : (SequenceRole → List Written) → SequenceRole → List Written
+as_it_stands written = written
 
--- ---- the tokens of a tree, by the cases of the grammar
+abbrev pub sequence_layer : Sequence-F (SequenceRole → List Written) → SequenceRole → List Written
+sequence_layer s = parts_written as_it_stands s.parts
 
-abbrev pub word : List ℕ → Written
-word text = record { kind = kinds.Word; text = text; place = None }
+abbrev pub sequence_written : Sequence → SequenceRole → List Written
+sequence_written = fold-Sequence (SequenceRole → List Written) sequence_layer
 
-abbrev pub word_at : Place → List ℕ → Written
-word_at place text = record { kind = kinds.Word; text = text; place = Some place }
+-- ---- units
 
-abbrev pub mark : List ℕ → Written
-mark text = record { kind = kinds.Mark; text = text; place = None }
+-- "pragma" NAME "(" argument {"," argument} ")" ";" (2.8)
+abbrev pub pragma_written : Pragma → List Written
+pragma_written p =
+    word_at p.place (codes "pragma") ∷ identifier_written p.name ∷ mark (codes "(") ∷ (separated (mark (codes ",")) (argument_written expression_written) p.arguments ++ mark (codes ")") ∷ semicolon)
 
--- source: `with Ada.Text_IO; use Ada.Text_IO;` and the main procedure (10.1.2)
-abbrev pub text_io_written : List ℕ → List Written
-text_io_written clause = word clause ∷ word (codes "ada") ∷ mark (codes ".") ∷ word (codes "text_io") ∷ mark (codes ";") ∷ []
+abbrev pub clause_text : Bool → List ℕ
+clause_text true = codes "use"
+clause_text false = codes "with"
 
-abbrev pub context_written : Bool → List Written
-context_written true = text_io_written (codes "with") ++ text_io_written (codes "use")
-context_written false = []
+-- ("with" | "use") name {"," name} ";" (10.1.2, 8.4)
+abbrev pub clause_written : ContextClause → List Written
+clause_written c = word_at c.place (clause_text c.is_use) ∷ (separated (mark (codes ",")) name_written c.names ++ semicolon)
 
--- name and expression (4.1, 4.4)
-abbrev pub name_written : Name → Written
-name_written name = word_at name.place name.text
+abbrev pub declarations_written : List (Declaration Sequence) → List Written
+declarations_written = each_written (declaration_written sequence_written)
 
-abbrev pub expression_written : Expression → Written
-expression_written (expression.Number place literal) = record { kind = kinds.Number; text = literal; place = Some place }
-expression_written (expression.Name name) = name_written name
+abbrev pub private_part_written : List (Declaration Sequence) → List Written
+private_part_written declarations = word (codes "private") ∷ declarations_written declarations
 
--- object declaration: NAME {"," NAME} ":" "Integer" [":=" expression] ";" (3.3.1)
-abbrev pub more_names_written : List Name → List Written
-more_names_written [] = []
-more_names_written (name ∷ names) = mark (codes ",") ∷ name_written name ∷ more_names_written names
+-- "package" NAME "is" {declaration} ["private" {declaration}] "end" [NAME] ";" (7.1)
+abbrev pub package_declaration_written : PackageDeclaration → List Written
+package_declaration_written p =
+    word_at p.place (codes "package") ∷ identifier_written p.name ∷ word (codes "is") ∷ (declarations_written p.declarations
+    ++ (optional private_part_written p.private ++ word (codes "end") ∷ (end_name_written p.named_at_end p.name ++ semicolon)))
 
-abbrev pub names_written : List Name → List Written
-names_written [] = []
-names_written (name ∷ names) = name_written name ∷ more_names_written names
+abbrev pub package_statements_written : Sequence → List Written
+package_statements_written s = word (codes "begin") ∷ sequence_written s role.Handled
 
-abbrev pub initial_written : Option Expression → List Written
-initial_written None = []
-initial_written (Some e) = mark (codes ":=") ∷ expression_written e ∷ []
+-- "package" "body" NAME "is" {declaration} ["begin" handled sequence] "end" [NAME] ";" (7.2)
+abbrev pub package_body_written : PackageBody → List Written
+package_body_written p =
+    word_at p.place (codes "package") ∷ word (codes "body") ∷ identifier_written p.name ∷ word (codes "is") ∷ (declarations_written p.declarations
+    ++ (optional package_statements_written p.sequence ++ word (codes "end") ∷ (end_name_written p.named_at_end p.name ++ semicolon)))
 
-abbrev pub object_written : ObjectDeclaration → List Written
-object_written o =
-    names_written o.names ++ mark (codes ":") ∷ word_at o.mark (codes "integer") ∷ (initial_written o.initial ++ mark (codes ";") ∷ [])
+abbrev pub package_written : Package → List Written
+package_written (packages.Declaration p) = package_declaration_written p
+package_written (packages.Body p) = package_body_written p
 
-abbrev pub objects_written : List ObjectDeclaration → List Written
-objects_written [] = []
-objects_written (o ∷ os) = object_written o ++ objects_written os
+-- {context clause} package (10.1.1)
+abbrev pub library_package_written : LibraryPackage → List Written
+library_package_written l = each_written clause_written l.context ++ package_written l.package
 
--- statement (5.1, 5.2, 6.4)
-abbrev pub statement_written : Statement → List Written
-statement_written (statement.Null place) = word_at place (codes "null") ∷ mark (codes ";") ∷ []
-statement_written (statement.Assignment target value) = name_written target ∷ mark (codes ":=") ∷ expression_written value ∷ mark (codes ";") ∷ []
-statement_written (statement.PutLine place text_place text) =
-    word_at place (codes "put_line") ∷ mark (codes "(") ∷ record { kind = kinds.Text; text = text; place = Some text_place }
-    ∷ mark (codes ")") ∷ mark (codes ";") ∷ []
+-- "procedure" NAME [aspects] "is" body "end" [NAME] ";" (6.3)
+abbrev pub main_written : MainProcedure → List Written
+main_written m = word_at m.place (codes "procedure") ∷ identifier_written m.name ∷ (aspects_written m.aspects ++ body_written sequence_written m.name m.body)
 
-abbrev pub statements_written : List Statement → List Written
-statements_written [] = []
-statements_written (s ∷ ss) = statement_written s ++ statements_written ss
-
--- the name behind `end` is the construct's own, or none: a mark says which
-abbrev pub end_name_written : Bool → List ℕ → List Written
-end_name_written true name = word name ∷ []
-end_name_written false name = []
-
--- procedure (6.3)
-abbrev pub procedure_written : Tree → List Written
-procedure_written unit =
-    word_at unit.place (codes "procedure") ∷ name_written unit.name ∷ word (codes "is") ∷ (objects_written unit.declarations
-    ++ word (codes "begin") ∷ (statements_written unit.statements
-    ++ word (codes "end") ∷ (end_name_written unit.named_at_end unit.name.text ++ mark (codes ";") ∷ [])))
-
+-- {pragma} {package} {context clause} main (10.1)
 abbrev pub unit_written : Tree → List Written
-unit_written unit = context_written unit.text_io ++ procedure_written unit
+unit_written u = each_written pragma_written u.pragmas ++ (each_written library_package_written u.packages ++ (each_written clause_written u.context ++ main_written u.main))
 
--- without places
+-- ---- without places, and the tokens that a tree spells
+
 abbrev pub spelt : Written → Spelt
 spelt written = record { kind = written.kind; text = written.text }
-
--- ---- a tree spells tokens
-
-abbrev pub StandsAt : Option Place → Place → Type 0
-StandsAt None place = Unit {0}
-StandsAt (Some at) place = at ≡ place
-
-pub record Spells (written : Written) (lexeme : Lexeme) : Type 0 where
-  pub kind : written.kind ≡ lexeme.kind
-  pub text : written.text ≡ lexeme.text
-  pub place : StandsAt written.place lexeme.place
-
-abbrev pub AllSpell : List Written → List Lexeme → Type 0
-AllSpell [] [] = Unit {0}
-AllSpell [] (l ∷ ls) = ⊥
-AllSpell (w ∷ ws) [] = ⊥
-AllSpell (w ∷ ws) (l ∷ ls) = Spells w l × AllSpell ws ls
 
 -- The tree spells these tokens, and its places are theirs.
 abbrev pub SpellsTokens : Tree → List Lexeme → Type 0

@@ -1,86 +1,72 @@
-//! Which trees are those of the grammar.
-ghost use Rattle.std.specs.Prelude.{◌≡◌};
+//! Which trees are those of the grammar: precedence is kept, and nesting is at most 100.
+ghost use Rattle.std.specs.Prelude.{◌≡◌, ◌∷◌};
 ghost use Rattle.std.specs.List.{list_all};
-ghost use Rattle.ada_tree.specs.Shape.{is_shaped, is_name, is_expression, is_initial, are_names, is_object, is_statement, are_statements};
+ghost use Rattle.ada_tree.specs.ShapeExpressions.{enclosed_fit, within};
 
-use crate::{Expression, Name, ObjectDeclaration, Statement, Unit};
-use ada_lex::is_reserved;
+use crate::OneOrMore;
+use sqlite_items::Items;
 
-/// Whether the tree is one of the grammar: names are not reserved words, each declaration has a name and the
-/// procedure a statement. Precedence is kept and nesting is at most 100, since nothing nests yet.
-pub fn shaped(tree: &Unit) -> bool
-    ensures { result ≡ is_shaped tree.now }
-{
-    is_name(&tree.name)
-        && are_objects(tree.declarations.as_slice())
-        && are_statements(tree.statements.as_slice())
+/// What nests.
+pub(crate) trait Fit {
+    ghost use Rattle.std.specs.Prelude.{◌≡◌, ℕ, Bool};
+
+    ghost fits: { ℕ → Self → Bool };
+
+    /// Whether precedence is kept in it, and it nests within the levels that are left.
+    fn fits(&self, left: usize) -> bool
+        ensures { result ≡ fits left self.now };
 }
 
-fn is_name(name: &Name) -> bool
-    ensures { result ≡ is_name name.now }
-{
-    !is_reserved(name.text.as_slice())
-}
+impl<T: Fit> Fit for Items<T> {
+    ghost use Rattle.std.specs.List.{list_all};
 
-fn is_expression(expression: &Expression) -> bool
-    ensures { result ≡ is_expression expression.now }
-{
-    match expression {
-        Expression::Number { .. } => true,
-        Expression::Name(name) => is_name(name),
+    ghost fits = { λ left. list_all (T.fits left) };
+
+    fn fits(&self, left: usize) -> bool {
+        all_fit(self.as_slice(), left)
     }
 }
 
-fn is_initial(initial: &Option<Expression>) -> bool
-    ensures { result ≡ is_initial initial.now }
+/// Whether all of them nest within the levels that are left.
+fn all_fit<T: Fit>(items: &[T], left: usize) -> bool
+    ensures { result ≡ list_all (T.fits left) items.now }
 {
-    match initial {
-        None => true,
-        Some(expression) => is_expression(expression),
+    items.iter().all(|item| item.fits(left))
+}
+
+impl<T: Fit> Fit for OneOrMore<T> {
+    ghost use Rattle.ada_tree.specs.ShapeExpressions.{all_fit};
+
+    ghost fits = { λ left. all_fit (T.fits left) };
+
+    fn fits(&self, left: usize) -> bool {
+        self.first.fits(left) && self.others.fits(left)
     }
 }
 
-fn are_names(names: &[Name]) -> bool
-    ensures { result ≡ are_names names.now }
-{
-    !names.is_empty() && all_names(names)
-}
+impl<T: Fit> Fit for Option<T> {
+    ghost use Rattle.ada_tree.specs.ShapeExpressions.{optional_fits};
 
-fn all_names(names: &[Name]) -> bool
-    ensures { result ≡ list_all is_name names.now }
-{
-    names.iter().all(is_name)
-}
+    ghost fits = { λ left. optional_fits (T.fits left) };
 
-fn is_object(object: &ObjectDeclaration) -> bool
-    ensures { result ≡ is_object object.now }
-{
-    are_names(object.names.as_slice()) && is_initial(&object.initial)
-}
-
-fn are_objects(objects: &[ObjectDeclaration]) -> bool
-    ensures { result ≡ list_all is_object objects.now }
-{
-    objects.iter().all(is_object)
-}
-
-fn is_statement(statement: &Statement) -> bool
-    ensures { result ≡ is_statement statement.now }
-{
-    match statement {
-        Statement::Null { .. } | Statement::PutLine { .. } => true,
-        Statement::Assignment { target, value } => is_name(target) && is_expression(value),
+    fn fits(&self, left: usize) -> bool {
+        match self {
+            None => true,
+            Some(item) => item.fits(left),
+        }
     }
 }
 
-fn are_statements(statements: &[Statement]) -> bool
-    ensures { result ≡ are_statements statements.now }
+/// Whether items in brackets, which are a level, nest within the levels that are left.
+pub(crate) fn bracketed_fit<T: Fit>(items: &[T], left: usize) -> bool
+    ensures { result ≡ enclosed_fit left T.fits items.now }
 {
-    !statements.is_empty() && all_statements(statements)
+    items.is_empty() || left > 0 && all_fit(items, left - 1)
 }
 
-fn all_statements(statements: &[Statement]) -> bool
-    ensures { result ≡ list_all is_statement statements.now }
+/// Whether a part nests within the levels that are left behind the one that it takes.
+pub(crate) fn within<T: Fit>(part: &T, left: usize) -> bool
+    ensures { result ≡ within left (λ m. T.fits m part.now) }
 {
-    statements.iter().all(is_statement)
+    left > 0 && part.fits(left - 1)
 }

@@ -1,242 +1,240 @@
 //! How a tree is spelt.
-ghost use Rattle.std.specs.Prelude.{◌≡◌, ◌++◌, ◌∷◌, [], map, codes, IfOk, OnOk};
-ghost use Rattle.ada_tree.specs.Spelling.{unit_written, spelt, word, mark, text_io_written, context_written, name_written, expression_written, more_names_written, names_written, initial_written, object_written, objects_written, statement_written, statements_written, end_name_written};
+ghost use Rattle.std.specs.Prelude.{◌≡◌, ◌++◌, ◌∷◌, [], List, Option, None, false, map, codes, OnOk, IfOk};
+ghost use Rattle.ada_tree.specs.Written.{Written, word, mark, behind, each_written, separated, all_written, optional, enclosed, one_identifier, name_written, end_name_written, flag};
+ghost use Rattle.ada_tree.specs.Spelling.{spelt};
 
-use crate::{Bytes, Expression, Name, ObjectDeclaration, Statement, Unit};
+use crate::{Bytes, Identifier, Name, OneOrMore};
 use ada_lex::Kind;
 use ann_base::NoMemory;
+use sqlite_items::Items;
 use std::alloc::Global;
+use std::marker::Model;
 
 /// A token without its place: words in lower case, a text without its quotation marks, a doubled mark once.
 #[derive(Drop)]
 pub struct Spelt {
+    /// Its kind.
     pub kind: Kind,
+    /// What it says.
     pub text: Bytes,
 }
 
-/// The tokens that spell the tree, in order.
-pub fn spell(alloc: Global, tree: &Unit) -> Result<Vec<Spelt>, NoMemory>
-    ensures { IfOk result (λ v. v.items ≡ map spelt (unit_written tree.now)) }
-{
-    let mut tokens = Vec::new(alloc);
-    push_context(alloc, &mut tokens, tree.text_io)?;
-    push_word(alloc, &mut tokens, b"procedure")?;
-    push_name(alloc, &mut tokens, &tree.name)?;
-    push_word(alloc, &mut tokens, b"is")?;
-    push_objects(alloc, &mut tokens, tree.declarations.as_slice())?;
-    push_word(alloc, &mut tokens, b"begin")?;
-    push_statements(alloc, &mut tokens, tree.statements.as_slice())?;
-    push_word(alloc, &mut tokens, b"end")?;
-    push_end_name(alloc, &mut tokens, tree.named_at_end, &tree.name)?;
-    push_mark(alloc, &mut tokens, b";")?;
-    Ok(tokens)
+/// The tokens that are spelt so far.
+#[derive(Drop)]
+pub(crate) struct Tokens {
+    alloc: Global,
+    spelt: Vec<Spelt>,
 }
 
-/// `with Ada.Text_IO; use Ada.Text_IO;`, where it stands there (ISO/IEC 8652:2012, 10.1.2).
-fn push_context(alloc: Global, tokens: &mut Vec<Spelt>, text_io: bool) -> Result<(), NoMemory>
-    ensures { OnOk result (tokens.new.items ≡ tokens.old.items ++ map spelt (context_written text_io)) }
+impl Model for Tokens {
+    ghost use Rattle.std.specs.Prelude.{List};
+    ghost use Rattle.ada_tree.specs.declared.spelling.Spelt.{Spelt};
+
+    ghost Value = { List Spelt };
+
+    ghost view = { λ tokens. tokens.spelt.items };
+}
+
+impl Tokens {
+    /// None yet.
+    pub(crate) fn new(alloc: Global) -> Tokens
+        ensures { result ≡ [] }
+    {
+        Tokens {
+            alloc,
+            spelt: Vec::new(alloc),
+        }
+    }
+
+    /// The tokens, in order.
+    pub(crate) fn into_vec(self) -> Vec<Spelt>
+        ensures { result.items ≡ self }
+    {
+        let Tokens { spelt, .. } = self;
+        spelt
+    }
+
+    /// One token more.
+    pub(crate) fn push(&mut self, kind: Kind, text: &[u8]) -> Result<(), NoMemory>
+        ensures { OnOk result (self.new ≡ self.old ++ record { kind = kind; text = text.now } ∷ []) }
+    {
+        let text = Bytes::copy_of(self.alloc, text)?;
+        self.spelt.push(Spelt { kind, text })?;
+        Ok(())
+    }
+
+    /// One word more.
+    pub(crate) fn word(&mut self, text: &[u8]) -> Result<(), NoMemory>
+        ensures { OnOk result (self.new ≡ self.old ++ map spelt (word text.now ∷ [])) }
+    {
+        self.push(Kind::Word, text)
+    }
+
+    /// One mark more.
+    pub(crate) fn mark(&mut self, text: &[u8]) -> Result<(), NoMemory>
+        ensures { OnOk result (self.new ≡ self.old ++ map spelt (mark text.now ∷ [])) }
+    {
+        self.push(Kind::Mark, text)
+    }
+}
+
+/// What tokens spell.
+pub(crate) trait Spell {
+    ghost use Rattle.std.specs.Prelude.{◌≡◌, ◌++◌, List, map, OnOk};
+    ghost use Rattle.ada_tree.specs.Written.{Written};
+    ghost use Rattle.ada_tree.specs.Spelling.{spelt};
+
+    ghost written: { Self → List Written };
+
+    /// Adds its tokens.
+    fn spell(&self, tokens: &mut Tokens) -> Result<(), NoMemory>
+        ensures { OnOk result (tokens.new ≡ tokens.old ++ map spelt (written self.now)) };
+}
+
+/// Items one behind another.
+pub(crate) fn spell_each<T: Spell>(tokens: &mut Tokens, items: &[T]) -> Result<(), NoMemory>
+    ensures { OnOk result (tokens.new ≡ tokens.old ++ map spelt (each_written T.written items.now)) }
 {
-    if text_io {
-        push_clause(alloc, tokens, b"with")?;
-        push_clause(alloc, tokens, b"use")?;
+    for item in items {
+        item.spell(tokens)?;
     }
     Ok(())
 }
 
-fn push_clause(alloc: Global, tokens: &mut Vec<Spelt>, clause: &[u8]) -> Result<(), NoMemory>
-    ensures { OnOk result (tokens.new.items ≡ tokens.old.items ++ map spelt (text_io_written clause.now)) }
-{
-    push_word(alloc, tokens, clause)?;
-    push_text_io(alloc, tokens)?;
-    push_mark(alloc, tokens, b";")
-}
-
-fn push_text_io(alloc: Global, tokens: &mut Vec<Spelt>) -> Result<(), NoMemory>
-    ensures { OnOk result (tokens.new.items ≡ tokens.old.items ++ spelt (word (codes "ada")) ∷ spelt (mark (codes ".")) ∷ spelt (word (codes "text_io")) ∷ []) }
-{
-    push_word(alloc, tokens, b"ada")?;
-    push_mark(alloc, tokens, b".")?;
-    push_word(alloc, tokens, b"text_io")
-}
-
-/// The procedure's name, where it stands behind `end` (6.3).
-fn push_end_name(
-    alloc: Global,
-    tokens: &mut Vec<Spelt>,
-    named: bool,
-    name: &Name,
+/// Items with a word or a mark before each.
+pub(crate) fn spell_behind<T: Spell>(
+    tokens: &mut Tokens,
+    kind: Kind,
+    text: &[u8],
+    items: &[T],
 ) -> Result<(), NoMemory>
-    ensures { OnOk result (tokens.new.items ≡ tokens.old.items ++ map spelt (end_name_written named name.now.text)) }
+    ensures { OnOk result (tokens.new ≡ tokens.old ++ map spelt (each_written (behind (record { kind = kind; text = text.now; identifier = false; place = None }) T.written) items.now)) }
 {
-    if named {
-        push_name(alloc, tokens, name)?;
+    for item in items {
+        tokens.push(kind, text)?;
+        item.spell(tokens)?;
     }
     Ok(())
 }
 
-fn push_objects(
-    alloc: Global,
-    tokens: &mut Vec<Spelt>,
-    objects: &[ObjectDeclaration],
+/// Items with a mark between them.
+pub(crate) fn spell_separated<T: Spell>(
+    tokens: &mut Tokens,
+    separator: &[u8],
+    items: &OneOrMore<T>,
 ) -> Result<(), NoMemory>
-    ensures { OnOk result (tokens.new.items ≡ tokens.old.items ++ map spelt (objects_written objects.now)) }
+    ensures { OnOk result (tokens.new ≡ tokens.old ++ map spelt (separated (mark separator.now) T.written items.now)) }
 {
-    for object in objects {
-        push_object(alloc, tokens, object)?;
-    }
-    Ok(())
+    items.first.spell(tokens)?;
+    spell_behind(tokens, Kind::Mark, separator, items.others.as_slice())
 }
 
-/// An object declaration (3.3.1).
-fn push_object(
-    alloc: Global,
-    tokens: &mut Vec<Spelt>,
-    object: &ObjectDeclaration,
+/// Items in brackets with a mark between them; nothing where there are none.
+pub(crate) fn spell_bracketed<T: Spell>(
+    tokens: &mut Tokens,
+    separator: &[u8],
+    items: &[T],
 ) -> Result<(), NoMemory>
-    ensures { OnOk result (tokens.new.items ≡ tokens.old.items ++ map spelt (object_written object.now)) }
+    ensures { OnOk result (tokens.new ≡ tokens.old ++ map spelt (enclosed (mark (codes "(")) (mark separator.now) (mark (codes ")") ∷ []) T.written items.now)) }
 {
-    push_names(alloc, tokens, object.names.as_slice())?;
-    push_mark(alloc, tokens, b":")?;
-    push_word(alloc, tokens, b"integer")?;
-    push_initial(alloc, tokens, &object.initial)?;
-    push_mark(alloc, tokens, b";")
-}
-
-fn push_names(alloc: Global, tokens: &mut Vec<Spelt>, names: &[Name]) -> Result<(), NoMemory>
-    ensures { OnOk result (tokens.new.items ≡ tokens.old.items ++ map spelt (names_written names.now)) }
-{
-    match names {
+    match items {
         [] => Ok(()),
-        [name, names @ ..] => {
-            push_name(alloc, tokens, name)?;
-            push_more_names(alloc, tokens, names)
+        [first, others @ ..] => {
+            tokens.mark(b"(")?;
+            first.spell(tokens)?;
+            spell_behind(tokens, Kind::Mark, separator, others)?;
+            tokens.mark(b")")
         }
     }
 }
 
-fn push_more_names(alloc: Global, tokens: &mut Vec<Spelt>, names: &[Name]) -> Result<(), NoMemory>
-    ensures { OnOk result (tokens.new.items ≡ tokens.old.items ++ map spelt (more_names_written names.now)) }
-{
-    for name in names {
-        push_mark(alloc, tokens, b",")?;
-        push_name(alloc, tokens, name)?;
+impl<T: Spell> Spell for Items<T> {
+    ghost use Rattle.ada_tree.specs.Written.{each_written};
+
+    ghost written = { each_written T.written };
+
+    fn spell(&self, tokens: &mut Tokens) -> Result<(), NoMemory> {
+        spell_each(tokens, self.as_slice())
     }
-    Ok(())
 }
 
-fn push_initial(
-    alloc: Global,
-    tokens: &mut Vec<Spelt>,
-    initial: &Option<Expression>,
+impl<T: Spell> Spell for OneOrMore<T> {
+    ghost use Rattle.ada_tree.specs.Written.{all_written};
+
+    ghost written = { all_written T.written };
+
+    fn spell(&self, tokens: &mut Tokens) -> Result<(), NoMemory> {
+        self.first.spell(tokens)?;
+        self.others.spell(tokens)
+    }
+}
+
+impl<T: Spell> Spell for Option<T> {
+    ghost use Rattle.ada_tree.specs.Written.{optional};
+
+    ghost written = { optional T.written };
+
+    fn spell(&self, tokens: &mut Tokens) -> Result<(), NoMemory> {
+        match self {
+            None => Ok(()),
+            Some(item) => item.spell(tokens),
+        }
+    }
+}
+
+impl Spell for Identifier {
+    ghost use Rattle.ada_tree.specs.Written.{one_identifier};
+
+    ghost written = { one_identifier };
+
+    fn spell(&self, tokens: &mut Tokens) -> Result<(), NoMemory> {
+        tokens.word(self.text.as_slice())
+    }
+}
+
+/// A name (ISO/IEC 8652:2012, 4.1).
+impl Spell for Name {
+    ghost use Rattle.ada_tree.specs.Written.{name_written};
+
+    ghost written = { name_written };
+
+    fn spell(&self, tokens: &mut Tokens) -> Result<(), NoMemory> {
+        spell_separated(tokens, b".", &self.parts)
+    }
+}
+
+/// An item behind a word or a mark; nothing where there is none.
+pub(crate) fn spell_led<T: Spell>(
+    tokens: &mut Tokens,
+    kind: Kind,
+    text: &[u8],
+    item: &Option<T>,
 ) -> Result<(), NoMemory>
-    ensures { OnOk result (tokens.new.items ≡ tokens.old.items ++ map spelt (initial_written initial.now)) }
+    ensures { OnOk result (tokens.new ≡ tokens.old ++ map spelt (optional (behind (record { kind = kind; text = text.now; identifier = false; place = None }) T.written) item.now)) }
 {
-    match initial {
+    match item {
         None => Ok(()),
-        Some(value) => {
-            push_mark(alloc, tokens, b":=")?;
-            push_expression(alloc, tokens, value)
+        Some(item) => {
+            tokens.push(kind, text)?;
+            item.spell(tokens)
         }
     }
 }
 
-fn push_statements(
-    alloc: Global,
-    tokens: &mut Vec<Spelt>,
-    statements: &[Statement],
+/// The construct's name, where it stands behind `end`.
+pub(crate) fn spell_end_name(
+    tokens: &mut Tokens,
+    named: bool,
+    name: &Identifier,
 ) -> Result<(), NoMemory>
-    ensures { OnOk result (tokens.new.items ≡ tokens.old.items ++ map spelt (statements_written statements.now)) }
+    ensures { OnOk result (tokens.new ≡ tokens.old ++ map spelt (end_name_written named name.now)) }
 {
-    for statement in statements {
-        push_statement(alloc, tokens, statement)?;
-    }
-    Ok(())
+    if named { name.spell(tokens) } else { Ok(()) }
 }
 
-/// A statement (5.1).
-fn push_statement(
-    alloc: Global,
-    tokens: &mut Vec<Spelt>,
-    statement: &Statement,
-) -> Result<(), NoMemory>
-    ensures { OnOk result (tokens.new.items ≡ tokens.old.items ++ map spelt (statement_written statement.now)) }
+/// A word, where it stands there.
+pub(crate) fn spell_flag(tokens: &mut Tokens, stands: bool, text: &[u8]) -> Result<(), NoMemory>
+    ensures { OnOk result (tokens.new ≡ tokens.old ++ map spelt (flag stands (word text.now ∷ []))) }
 {
-    match statement {
-        Statement::Null { .. } => push_null(alloc, tokens),
-        Statement::Assignment { target, value } => push_assignment(alloc, tokens, target, value),
-        Statement::PutLine { text, .. } => push_put_line(alloc, tokens, text.as_slice()),
-    }
-}
-
-fn push_null(alloc: Global, tokens: &mut Vec<Spelt>) -> Result<(), NoMemory>
-    ensures { OnOk result (tokens.new.items ≡ tokens.old.items ++ spelt (word (codes "null")) ∷ spelt (mark (codes ";")) ∷ []) }
-{
-    push_word(alloc, tokens, b"null")?;
-    push_mark(alloc, tokens, b";")
-}
-
-fn push_assignment(
-    alloc: Global,
-    tokens: &mut Vec<Spelt>,
-    target: &Name,
-    value: &Expression,
-) -> Result<(), NoMemory>
-    ensures { OnOk result (tokens.new.items ≡ tokens.old.items ++ spelt (name_written target.now) ∷ spelt (mark (codes ":=")) ∷ spelt (expression_written value.now) ∷ spelt (mark (codes ";")) ∷ []) }
-{
-    push_name(alloc, tokens, target)?;
-    push_mark(alloc, tokens, b":=")?;
-    push_expression(alloc, tokens, value)?;
-    push_mark(alloc, tokens, b";")
-}
-
-fn push_put_line(alloc: Global, tokens: &mut Vec<Spelt>, text: &[u8]) -> Result<(), NoMemory>
-    ensures { OnOk result (tokens.new.items ≡ tokens.old.items ++ spelt (word (codes "put_line")) ∷ spelt (mark (codes "(")) ∷ record { kind = Kind.Text; text = text.now } ∷ spelt (mark (codes ")")) ∷ spelt (mark (codes ";")) ∷ []) }
-{
-    push_word(alloc, tokens, b"put_line")?;
-    push_mark(alloc, tokens, b"(")?;
-    push(alloc, tokens, Kind::Text, text)?;
-    push_mark(alloc, tokens, b")")?;
-    push_mark(alloc, tokens, b";")
-}
-
-/// An expression (4.4).
-fn push_expression(
-    alloc: Global,
-    tokens: &mut Vec<Spelt>,
-    expression: &Expression,
-) -> Result<(), NoMemory>
-    ensures { OnOk result (tokens.new.items ≡ tokens.old.items ++ spelt (expression_written expression.now) ∷ []) }
-{
-    match expression {
-        Expression::Number { literal, .. } => {
-            push(alloc, tokens, Kind::Number, literal.as_slice())
-        }
-        Expression::Name(name) => push_name(alloc, tokens, name),
-    }
-}
-
-fn push_name(alloc: Global, tokens: &mut Vec<Spelt>, name: &Name) -> Result<(), NoMemory>
-    ensures { OnOk result (tokens.new.items ≡ tokens.old.items ++ spelt (name_written name.now) ∷ []) }
-{
-    push_word(alloc, tokens, name.text.as_slice())
-}
-
-fn push_word(alloc: Global, tokens: &mut Vec<Spelt>, text: &[u8]) -> Result<(), NoMemory>
-    ensures { OnOk result (tokens.new.items ≡ tokens.old.items ++ spelt (word text.now) ∷ []) }
-{
-    push(alloc, tokens, Kind::Word, text)
-}
-
-fn push_mark(alloc: Global, tokens: &mut Vec<Spelt>, text: &[u8]) -> Result<(), NoMemory>
-    ensures { OnOk result (tokens.new.items ≡ tokens.old.items ++ spelt (mark text.now) ∷ []) }
-{
-    push(alloc, tokens, Kind::Mark, text)
-}
-
-fn push(alloc: Global, tokens: &mut Vec<Spelt>, kind: Kind, text: &[u8]) -> Result<(), NoMemory>
-    ensures { OnOk result (tokens.new.items ≡ tokens.old.items ++ record { kind = kind; text = text.now } ∷ []) }
-{
-    let text = Bytes::copy_of(alloc, text)?;
-    tokens.push(Spelt { kind, text })?;
-    Ok(())
+    if stands { tokens.word(text) } else { Ok(()) }
 }

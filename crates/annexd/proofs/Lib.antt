@@ -1,3 +1,4 @@
+pub mod Acceptances
 pub mod WrittenPieces
 pub mod NoteTexts
 pub mod FilesRead

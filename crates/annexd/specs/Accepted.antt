@@ -7,12 +7,18 @@ use Rattle.ada_lex.specs.declared.tokens.LexFault.{LexFault}
 use Rattle.ada_lex.specs.declared.tokens.LexFault.TheVariants as lexical
 use Rattle.ada_lex.specs.Lexed.{Lexed}
 use Rattle.ada_lex.specs.Reading.{tokens_of}
-use Rattle.ada_tree.specs.declared.syntax.Unit.{Unit as Tree}
-use Rattle.ada_tree.specs.Spelling.{lexemes_of, SpellsTokens}
+use Rattle.ada_tree.specs.declared.units.Unit.{Unit as Tree}
+use Rattle.ada_tree.specs.Written.{lexemes_of}
+use Rattle.ada_tree.specs.Spelling.{SpellsTokens}
 use Rattle.ada_tree.specs.Shape.{is_shaped}
-use Rattle.ada_parse.specs.declared.faults.ParseFault.{ParseFault}
-use Rattle.ada_parse.specs.declared.faults.ParseFault.TheVariants as grammatical
-use Rattle.ada_parse.specs.Reading.{unit_of}
+use Rattle.ada_grammar.specs.declared.faults.ParseFault.{ParseFault}
+use Rattle.ada_grammar.specs.declared.faults.ParseFault.TheVariants as grammatical
+use Rattle.ada_grammar.specs.ReadingUnits.{unit_of}
+use Rattle.ada_built.specs.declared.faults.NotBuilt.{NotBuilt}
+use Rattle.ada_built.specs.declared.faults.NotBuilt.TheVariants as forms
+use Rattle.ada_built.specs.declared.syntax.Unit.{Unit as Program}
+use Rattle.ada_built.specs.Built.{built_of}
+use Rattle.ada_built.specs.Readable.{IsReadable}
 use Rattle.ada_names.specs.declared.faults.NameFault.{NameFault}
 use Rattle.ada_names.specs.declared.faults.NameFault.TheVariants as named
 use Rattle.ada_names.specs.declared.image.Image.{Image}
@@ -23,16 +29,18 @@ use Rattle.annexd.specs.declared.codes.Code.{Code}
 use Rattle.annexd.specs.declared.codes.Refused.{Refused}
 use Rattle.annexd.specs.declared.codes.Refused.TheVariants.{Source, Memory}
 
--- The bytes are accepted as an image: their tokens spell a shaped tree, each of its names has one declaration, the image
--- is that of the tree, and it breaks no rule.
+-- The bytes are accepted as an image: their tokens spell a shaped tree, all of its forms are built, each name of the
+-- program that it is has one declaration, the image is that of the program, and it breaks no rule.
 pub record Accepted (source : List ℕ) (image : Image) : Type 0 where
   pub tokens : List Token
   pub lexed : Lexed source tokens
-  pub unit : Tree
-  pub spelt : SpellsTokens unit (lexemes_of source tokens)
-  pub shaped : is_shaped unit ≡ true
-  pub named : name_fault_of unit ≡ None
-  pub numbered : image ≡ image_of unit
+  pub tree : Tree
+  pub spelt : SpellsTokens tree (lexemes_of source tokens)
+  pub shaped : is_shaped tree ≡ true
+  pub program : Program
+  pub built : built_of tree ≡ Ok program
+  pub named : name_fault_of program ≡ None
+  pub numbered : image ≡ image_of program
   pub unbroken : rule_fault_of image ≡ None
 
 -- ---- codes: a letter and a number, at a place
@@ -75,6 +83,11 @@ grammar_code source tokens (grammatical.Unexpected token) = refused_at (place_of
 grammar_code source tokens (grammatical.TooDeep token) = refused_at (place_of source tokens token) 70 6
 grammar_code source tokens grammatical.Memory = Memory
 
+-- L40
+abbrev pub form_code : NotBuilt → Refused
+form_code (forms.Form place) = refused_at place 76 40
+form_code forms.Memory = Memory
+
 -- F7 to F9
 abbrev pub name_code : NameFault → Refused
 name_code (named.Unknown place) = refused_at place 70 7
@@ -88,12 +101,17 @@ abbrev pub by_rules : Image → Option (Place × ℕ) → Result Image Refused
 by_rules image None = Ok image
 by_rules image (Some fault) = Err (refused_at fault.0 76 fault.1)
 
-abbrev pub by_names : Tree → Option NameFault → Result Image Refused
-by_names unit None = by_rules (image_of unit) (rule_fault_of (image_of unit))
-by_names unit (Some fault) = Err (name_code fault)
+abbrev pub by_names : Program → Option NameFault → Result Image Refused
+by_names program None = by_rules (image_of program) (rule_fault_of (image_of program))
+by_names program (Some fault) = Err (name_code fault)
+
+-- a form that is not built is L40 at its first token
+abbrev pub by_forms : Result Program Place → Result Image Refused
+by_forms (Ok program) = by_names program (name_fault_of program)
+by_forms (Err place) = Err (refused_at place 76 40)
 
 abbrev pub by_grammar : List ℕ → List Token → Result Tree ParseFault → Result Image Refused
-by_grammar source tokens (Ok unit) = by_names unit (name_fault_of unit)
+by_grammar source tokens (Ok tree) = by_forms (built_of tree)
 by_grammar source tokens (Err fault) = Err (grammar_code source tokens fault)
 
 abbrev pub by_tokens : List ℕ → Result (List Token) LexFault → Result Image Refused
@@ -112,16 +130,29 @@ Judges (Ok image) read = read ≡ Ok image
 Judges (Err (Source code)) read = read ≡ Err (Source code)
 Judges (Err Memory) read = Unit {0}
 
--- the same for given tokens, and for a given tree
+-- the same for given tokens, for a given tree, and for a program
 pub record AcceptedTokens (source : List ℕ) (tokens : List Token) (image : Image) : Type 0 where
-  pub unit : Tree
-  pub spelt : SpellsTokens unit (lexemes_of source tokens)
-  pub shaped : is_shaped unit ≡ true
-  pub named : name_fault_of unit ≡ None
-  pub numbered : image ≡ image_of unit
+  pub tree : Tree
+  pub spelt : SpellsTokens tree (lexemes_of source tokens)
+  pub shaped : is_shaped tree ≡ true
+  pub program : Program
+  pub built : built_of tree ≡ Ok program
+  pub named : name_fault_of program ≡ None
+  pub numbered : image ≡ image_of program
   pub unbroken : rule_fault_of image ≡ None
 
-pub record AcceptedTree (unit : Tree) (image : Image) : Type 0 where
-  pub named : name_fault_of unit ≡ None
-  pub numbered : image ≡ image_of unit
+pub record AcceptedTree (tree : Tree) (image : Image) : Type 0 where
+  pub program : Program
+  pub built : built_of tree ≡ Ok program
+  pub named : name_fault_of program ≡ None
+  pub numbered : image ≡ image_of program
   pub unbroken : rule_fault_of image ≡ None
+
+pub record AcceptedProgram (program : Program) (image : Image) : Type 0 where
+  pub named : name_fault_of program ≡ None
+  pub numbered : image ≡ image_of program
+  pub unbroken : rule_fault_of image ≡ None
+
+-- whatever is built of a tree is readable
+abbrev pub IsReadableOnceBuilt : Tree → Type 0
+IsReadableOnceBuilt tree = (program : Program) → built_of tree ≡ Ok program → IsReadable program

@@ -3,13 +3,15 @@ ghost use Rattle.std.specs.Prelude.{◌≡◌, ◌≤◌, length, Ok, None, IfOk
 ghost use Rattle.ada_lex.specs.Lexed.{Lexed, AreTokensOf};
 ghost use Rattle.ada_names.specs.declared.image.Image.{Image};
 ghost use Rattle.ada_names.specs.NameFaults.{name_fault_of};
-ghost use Rattle.ada_parse.specs.Reading.{unit_of};
-ghost use Rattle.ada_tree.specs.Readable.{IsReadable};
-ghost use Rattle.ada_tree.specs.Spelling.{lexemes_of};
-ghost use Rattle.annexd.specs.Accepted.{Accepted, AcceptedTokens, AcceptedTree, Judges, judged, by_grammar, by_names, by_rules};
+ghost use Rattle.ada_built.specs.Built.{built_of};
+ghost use Rattle.ada_built.specs.Readable.{IsReadable};
+ghost use Rattle.ada_grammar.specs.ReadingUnits.{unit_of};
+ghost use Rattle.ada_tree.specs.Written.{lexemes_of};
+ghost use Rattle.annexd.specs.Accepted.{Accepted, AcceptedProgram, AcceptedTokens, AcceptedTree, IsReadableOnceBuilt, Judges, judged, by_forms, by_grammar, by_names, by_rules};
 ghost use Rattle.ada_static.specs.Faults.{IsNumbered, rule_fault_of};
 
-use crate::codes::{Refused, grammatical, lexical, of_names, of_rule};
+use crate::codes::{Refused, grammatical, lexical, of_forms, of_names, of_rule};
+use ada_built::{Unit as Program, built, built_is_readable};
 use ada_lex::{Token, lex};
 use ada_names::{Image, number};
 use ada_parse::parse;
@@ -41,6 +43,8 @@ fn accept_tokens(alloc: Global, source: &[u8], tokens: &[Token]) -> Result<Check
     ensures accepted { IfOk result (λ checked. AcceptedTokens source.now tokens.now checked) }
     ensures only { (image : Image) → AcceptedTokens source.now tokens.now image → Judges result (Ok image) }
 {
+    // What the law of built programs says of the tree that is found.
+    built_is_readable();
     match parse(alloc, source, tokens) {
         Ok(tree) => accept_tree(alloc, &tree),
         Err(fault) => Err(grammatical(source, tokens, fault)),
@@ -49,11 +53,23 @@ fn accept_tokens(alloc: Global, source: &[u8], tokens: &[Token]) -> Result<Check
 
 /// From the tree on.
 fn accept_tree(alloc: Global, tree: &Unit) -> Result<Checked, Refused>
-    requires { IsReadable tree.now }
-    ensures exact { Judges result (by_names tree.now (name_fault_of tree.now)) }
+    requires { IsReadableOnceBuilt tree.now }
+    ensures exact { Judges result (by_forms (built_of tree.now)) }
     ensures accepted { IfOk result (λ checked. AcceptedTree tree.now checked) }
 {
-    match number(alloc, tree) {
+    match built(alloc, tree) {
+        Ok(program) => accept_program(alloc, &program),
+        Err(not_built) => Err(of_forms(not_built)),
+    }
+}
+
+/// From the program on.
+fn accept_program(alloc: Global, program: &Program) -> Result<Checked, Refused>
+    requires { IsReadable program.now }
+    ensures exact { Judges result (by_names program.now (name_fault_of program.now)) }
+    ensures accepted { IfOk result (λ checked. AcceptedProgram program.now checked) }
+{
+    match number(alloc, program) {
         Ok(image) => accept_image(alloc, image),
         Err(fault) => Err(of_names(fault)),
     }

@@ -1,10 +1,11 @@
 //! Why a source is refused: codes and their places.
 ghost use Rattle.std.specs.Prelude.{◌≡◌, ◌≤◌, length, Err};
-ghost use Rattle.annexd.specs.Accepted.{lexical_code, grammar_code, name_code, place_of, end_of, behind_place};
+ghost use Rattle.annexd.specs.Accepted.{lexical_code, grammar_code, form_code, name_code, place_of, end_of, behind_place};
 
+use ada_built::NotBuilt;
+use ada_grammar::ParseFault;
 use ada_lex::{LexFault, Token};
 use ada_names::NameFault;
-use ada_parse::ParseFault;
 use ann_base::Place;
 
 /// A refusal of a source: where it stands, and the letter and the number of its code, F1 to F9 or L1 to L40.
@@ -58,6 +59,16 @@ pub fn grammatical(source: &[u8], tokens: &[Token], fault: ParseFault) -> Refuse
         ParseFault::Unexpected { token } => refused_at(place_of(source, tokens, token), b'F', 5),
         ParseFault::TooDeep { token } => refused_at(place_of(source, tokens, token), b'F', 6),
         ParseFault::Memory => Refused::Memory,
+    }
+}
+
+/// L40, a form that is not built.
+pub fn of_forms(fault: NotBuilt) -> Refused
+    ensures { result ≡ form_code fault }
+{
+    match fault {
+        NotBuilt::Form(place) => refused_at(place, b'L', 40),
+        NotBuilt::Memory => Refused::Memory,
     }
 }
 

@@ -4,22 +4,22 @@ use Rattle.std.specs.List.{list_all}
 use Rattle.ann_base.specs.declared.places.Place.{Place}
 use Rattle.ada_lex.specs.Reserved.{is_reserved}
 use Rattle.ada_lex.specs.ReservedLetters.{letters}
-use Rattle.ada_syntax.specs.declared.names.Identifier.{Identifier}
-use Rattle.ada_syntax.specs.declared.statements.Sequence.{Sequence}
-use Rattle.ada_syntax.specs.declared.statements.SequenceRole.{SequenceRole}
-use Rattle.ada_syntax.specs.declared.statements.SequenceRole.TheVariants as role
-use Rattle.ada_syntax.specs.declared.declarations.Body.{Body}
-use Rattle.ada_syntax.specs.declared.declarations.EntryHead.{EntryHead}
-use Rattle.ada_syntax.specs.declared.declarations.OperationBody.{OperationBody}
-use Rattle.ada_syntax.specs.declared.declarations.OperationBody.TheVariants as bodies
-use Rattle.ada_syntax.specs.declared.declarations.SubprogramSpecification.{SubprogramSpecification}
-use Rattle.ada_syntax.specs.Written.{Written, Lexeme, word, mark, each_written, end_name_written}
-use Rattle.ada_syntax.specs.Spelling.{sequence_written}
-use Rattle.ada_syntax.specs.SpellingStatements.{semicolon}
-use Rattle.ada_syntax.specs.SpellingDeclarations.{specification_written, entry_head_written, body_written, operation_body_written}
-use Rattle.ada_syntax.specs.Shape.{sequence_fits}
-use Rattle.ada_syntax.specs.ShapeExpressions.{within}
-use Rattle.ada_syntax.specs.ShapeDeclarations.{specification_fits, entry_head_fits, body_fits, operation_body_fits}
+use Rattle.ada_tree.specs.declared.names.Identifier.{Identifier}
+use Rattle.ada_tree.specs.declared.statements.Sequence.{Sequence}
+use Rattle.ada_tree.specs.declared.statements.SequenceRole.{SequenceRole}
+use Rattle.ada_tree.specs.declared.statements.SequenceRole.TheVariants as role
+use Rattle.ada_tree.specs.declared.declarations.Body.{Body}
+use Rattle.ada_tree.specs.declared.declarations.EntryHead.{EntryHead}
+use Rattle.ada_tree.specs.declared.declarations.OperationBody.{OperationBody}
+use Rattle.ada_tree.specs.declared.declarations.OperationBody.TheVariants as bodies
+use Rattle.ada_tree.specs.declared.declarations.SubprogramSpecification.{SubprogramSpecification}
+use Rattle.ada_tree.specs.Written.{Written, Lexeme, word, mark, each_written, end_name_written}
+use Rattle.ada_tree.specs.Spelling.{sequence_written}
+use Rattle.ada_tree.specs.SpellingStatements.{semicolon}
+use Rattle.ada_tree.specs.SpellingDeclarations.{specification_written, entry_head_written, body_written, operation_body_written}
+use Rattle.ada_tree.specs.Shape.{sequence_fits}
+use Rattle.ada_tree.specs.ShapeExpressions.{within}
+use Rattle.ada_tree.specs.ShapeDeclarations.{specification_fits, entry_head_fits, body_fits, operation_body_fits}
 use Rattle.ada_grammar.specs.Reading.{Read, Parser, and_then, ◌>>=◌, pure, nothing, too_deep, starts, sees_word, end_name_of, opening_is_of, items_of}
 use Rattle.ada_grammar.specs.ReadingStatements.{begins_statement}
 use Rattle.ada_grammar.specs.ReadingDeclarations.{begins_operation, entry_head_of, specification_of}

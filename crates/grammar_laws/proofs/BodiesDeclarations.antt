@@ -3,17 +3,17 @@ use Rattle.std.proofs.Common.{◌≡◌, ℕ, true, false, List, ◌∷◌, ◌+
 use Rattle.ann_base.specs.declared.places.Place.{Place}
 use Rattle.ada_lex.specs.Reserved.{is_reserved}
 use Rattle.ada_lex.specs.ReservedLetters.{letters}
-use Rattle.ada_syntax.specs.declared.statements.Sequence.{Sequence}
-use Rattle.ada_syntax.specs.declared.statements.SequenceRole.{SequenceRole}
-use Rattle.ada_syntax.specs.declared.declarations.Declaration.{Declaration}
-use Rattle.ada_syntax.specs.declared.declarations.Declaration.TheVariants as declarations
-use Rattle.ada_syntax.specs.declared.declarations.SubprogramSpecification.{SubprogramSpecification}
-use Rattle.ada_syntax.specs.Written.{Written, Lexeme, word, word_at, identifier_written, name_written}
-use Rattle.ada_syntax.specs.Spelling.{sequence_written}
-use Rattle.ada_syntax.specs.SpellingStatements.{semicolon, mark_written}
-use Rattle.ada_syntax.specs.SpellingDeclarations.{definition_written, specification_written, body_written, declaration_written}
-use Rattle.ada_syntax.specs.Shape.{sequence_fits}
-use Rattle.ada_syntax.specs.ShapeDeclarations.{declaration_fits}
+use Rattle.ada_tree.specs.declared.statements.Sequence.{Sequence}
+use Rattle.ada_tree.specs.declared.statements.SequenceRole.{SequenceRole}
+use Rattle.ada_tree.specs.declared.declarations.Declaration.{Declaration}
+use Rattle.ada_tree.specs.declared.declarations.Declaration.TheVariants as declarations
+use Rattle.ada_tree.specs.declared.declarations.SubprogramSpecification.{SubprogramSpecification}
+use Rattle.ada_tree.specs.Written.{Written, Lexeme, word, word_at, identifier_written, name_written}
+use Rattle.ada_tree.specs.Spelling.{sequence_written}
+use Rattle.ada_tree.specs.SpellingStatements.{semicolon, mark_written}
+use Rattle.ada_tree.specs.SpellingDeclarations.{definition_written, specification_written, body_written, declaration_written}
+use Rattle.ada_tree.specs.Shape.{sequence_fits}
+use Rattle.ada_tree.specs.ShapeDeclarations.{declaration_fits}
 use Rattle.ada_grammar.specs.Reading.{Parser, starts, sees_word, sees_identifier, below}
 use Rattle.ada_grammar.specs.ReadingDeclarations.{type_of, subtype_of, use_of}
 use Rattle.ada_grammar.specs.ReadingBodies.{subprogram_of, any_task_of, any_protected_of, declaration_of, begins_declaration}

@@ -2,22 +2,22 @@
 use Rattle.std.proofs.Common.{◌≡◌, ℕ, suc, Bool, true, false, List, [], ◌∷◌, ◌++◌, refl, ap, subst, codes}
 use Rattle.std.specs.List.{list_all}
 use Rattle.ann_base.specs.declared.places.Place.{Place}
-use Rattle.ada_syntax.specs.declared.names.Identifier.{Identifier}
-use Rattle.ada_syntax.specs.declared.statements.Sequence.{Sequence}
-use Rattle.ada_syntax.specs.declared.statements.SequenceRole.{SequenceRole}
-use Rattle.ada_syntax.specs.declared.declarations.Body.{Body}
-use Rattle.ada_syntax.specs.declared.declarations.Declaration.{Declaration}
-use Rattle.ada_syntax.specs.declared.declarations.Declaration.TheVariants as declarations
-use Rattle.ada_syntax.specs.declared.declarations.ProtectedBody.{ProtectedBody}
-use Rattle.ada_syntax.specs.declared.declarations.ProtectedDeclaration.{ProtectedDeclaration}
-use Rattle.ada_syntax.specs.declared.declarations.SubprogramSpecification.{SubprogramSpecification}
-use Rattle.ada_syntax.specs.declared.declarations.TaskDeclaration.{TaskDeclaration}
-use Rattle.ada_syntax.specs.Written.{Written, Lexeme, word, word_at, mark, identifier_written, each_written, end_name_written}
-use Rattle.ada_syntax.specs.Spelling.{sequence_written}
-use Rattle.ada_syntax.specs.SpellingStatements.{semicolon}
-use Rattle.ada_syntax.specs.SpellingDeclarations.{specification_written, task_written, protected_written, body_written, operation_body_written, protected_body_written, declaration_written}
-use Rattle.ada_syntax.specs.Shape.{sequence_fits}
-use Rattle.ada_syntax.specs.ShapeDeclarations.{specification_fits, task_fits, protected_fits, body_fits, operation_body_fits, operations_fit, protected_body_fits, declaration_fits}
+use Rattle.ada_tree.specs.declared.names.Identifier.{Identifier}
+use Rattle.ada_tree.specs.declared.statements.Sequence.{Sequence}
+use Rattle.ada_tree.specs.declared.statements.SequenceRole.{SequenceRole}
+use Rattle.ada_tree.specs.declared.declarations.Body.{Body}
+use Rattle.ada_tree.specs.declared.declarations.Declaration.{Declaration}
+use Rattle.ada_tree.specs.declared.declarations.Declaration.TheVariants as declarations
+use Rattle.ada_tree.specs.declared.declarations.ProtectedBody.{ProtectedBody}
+use Rattle.ada_tree.specs.declared.declarations.ProtectedDeclaration.{ProtectedDeclaration}
+use Rattle.ada_tree.specs.declared.declarations.SubprogramSpecification.{SubprogramSpecification}
+use Rattle.ada_tree.specs.declared.declarations.TaskDeclaration.{TaskDeclaration}
+use Rattle.ada_tree.specs.Written.{Written, Lexeme, word, word_at, mark, identifier_written, each_written, end_name_written}
+use Rattle.ada_tree.specs.Spelling.{sequence_written}
+use Rattle.ada_tree.specs.SpellingStatements.{semicolon}
+use Rattle.ada_tree.specs.SpellingDeclarations.{specification_written, task_written, protected_written, body_written, operation_body_written, protected_body_written, declaration_written}
+use Rattle.ada_tree.specs.Shape.{sequence_fits}
+use Rattle.ada_tree.specs.ShapeDeclarations.{specification_fits, task_fits, protected_fits, body_fits, operation_body_fits, operations_fit, protected_body_fits, declaration_fits}
 use Rattle.ada_grammar.specs.Reading.{Parser, ◌>>=◌, ◌>>◌, pure, choose, starts, sees_word, sees_mark, the_word, the_mark, end_name_of, below, items_of}
 use Rattle.ada_grammar.specs.ReadingDeclarations.{begins_operation, specification_of, task_of, protected_of}
 use Rattle.ada_grammar.specs.ReadingBodies.{body_of, operation_body_of, subprogram_body_of, subprogram_of, task_body_of, any_task_of, protected_body_of, any_protected_of}

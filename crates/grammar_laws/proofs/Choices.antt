@@ -1,9 +1,9 @@
 -- Choices, brackets, and forms of which one is read.
 use Rattle.std.proofs.Common.{◌≡◌, ℕ, zero, suc, Bool, true, false, cond, List, [], ◌∷◌, refl, sym, subst, ◌∙◌, codes}
 use Rattle.ann_base.specs.declared.places.Place.{Place}
-use Rattle.ada_syntax.specs.declared.names.OneOrMore.{OneOrMore}
-use Rattle.ada_syntax.specs.Written.{Written, Lexeme, mark, mark_at, enclosed}
-use Rattle.ada_syntax.specs.ShapeExpressions.{within}
+use Rattle.ada_tree.specs.declared.names.OneOrMore.{OneOrMore}
+use Rattle.ada_tree.specs.Written.{Written, Lexeme, mark, mark_at, enclosed}
+use Rattle.ada_tree.specs.ShapeExpressions.{within}
 use Rattle.ada_grammar.specs.Reading.{Read, Parser, and_then, ◌>>=◌, pure, choose, nothing, too_deep, sees_mark, the_mark, opening_of}
 use Rattle.grammar_laws.specs.Leads.{Leads}
 use Rattle.grammar_laws.proofs.Exact.{done, Found, Rest, Any, itself, Exact, ready, plain}

@@ -2,25 +2,25 @@
 use Rattle.std.proofs.Common.{◌≡◌, Bool, true, false, List, [], ◌∷◌, ◌++◌, refl, codes}
 use Rattle.std.specs.Prelude.{Option, Some, None}
 use Rattle.ann_base.specs.declared.places.Place.{Place}
-use Rattle.ada_syntax.specs.declared.names.Identifier.{Identifier}
-use Rattle.ada_syntax.specs.declared.names.Name.{Name}
-use Rattle.ada_syntax.specs.declared.names.OneOrMore.{OneOrMore}
-use Rattle.ada_syntax.specs.declared.expressions.Expression.{Expression}
-use Rattle.ada_syntax.specs.declared.expressions.Argument.{Argument}
-use Rattle.ada_syntax.specs.declared.statements.Assignment.{Assignment}
-use Rattle.ada_syntax.specs.declared.statements.Call.{Call}
-use Rattle.ada_syntax.specs.declared.statements.Delay.{Delay}
-use Rattle.ada_syntax.specs.declared.statements.Exit.{Exit}
-use Rattle.ada_syntax.specs.declared.statements.Iteration.{Iteration}
-use Rattle.ada_syntax.specs.declared.statements.Iteration.TheVariants as iterations
-use Rattle.ada_syntax.specs.declared.declarations.TypeDeclaration.{TypeDeclaration}
-use Rattle.ada_syntax.specs.declared.declarations.SubtypeDeclaration.{SubtypeDeclaration}
-use Rattle.ada_syntax.specs.declared.declarations.TaskDeclaration.{TaskDeclaration}
-use Rattle.ada_syntax.specs.declared.declarations.ProtectedDeclaration.{ProtectedDeclaration}
-use Rattle.ada_syntax.specs.Written.{Written, Lexeme, word, word_at, mark, identifier_written, flag, optional, each_written, behind, separated, one_identifier, name_written}
-use Rattle.ada_syntax.specs.SpellingExpressions.{expression_written, argument_written, arguments_written}
-use Rattle.ada_syntax.specs.SpellingStatements.{semicolon, index_written, assignment_written, call_written, delay_written, when_written, loop_name_written, exit_written, iteration_written, mark_written, with_abort_written}
-use Rattle.ada_syntax.specs.SpellingDeclarations.{definition_written, type_written, subtype_written, aspects_written, task_definition_written}
+use Rattle.ada_tree.specs.declared.names.Identifier.{Identifier}
+use Rattle.ada_tree.specs.declared.names.Name.{Name}
+use Rattle.ada_tree.specs.declared.names.OneOrMore.{OneOrMore}
+use Rattle.ada_tree.specs.declared.expressions.Expression.{Expression}
+use Rattle.ada_tree.specs.declared.expressions.Argument.{Argument}
+use Rattle.ada_tree.specs.declared.statements.Assignment.{Assignment}
+use Rattle.ada_tree.specs.declared.statements.Call.{Call}
+use Rattle.ada_tree.specs.declared.statements.Delay.{Delay}
+use Rattle.ada_tree.specs.declared.statements.Exit.{Exit}
+use Rattle.ada_tree.specs.declared.statements.Iteration.{Iteration}
+use Rattle.ada_tree.specs.declared.statements.Iteration.TheVariants as iterations
+use Rattle.ada_tree.specs.declared.declarations.TypeDeclaration.{TypeDeclaration}
+use Rattle.ada_tree.specs.declared.declarations.SubtypeDeclaration.{SubtypeDeclaration}
+use Rattle.ada_tree.specs.declared.declarations.TaskDeclaration.{TaskDeclaration}
+use Rattle.ada_tree.specs.declared.declarations.ProtectedDeclaration.{ProtectedDeclaration}
+use Rattle.ada_tree.specs.Written.{Written, Lexeme, word, word_at, mark, identifier_written, flag, optional, each_written, behind, separated, one_identifier, name_written}
+use Rattle.ada_tree.specs.SpellingExpressions.{expression_written, argument_written, arguments_written}
+use Rattle.ada_tree.specs.SpellingStatements.{semicolon, index_written, assignment_written, call_written, delay_written, when_written, loop_name_written, exit_written, iteration_written, mark_written, with_abort_written}
+use Rattle.ada_tree.specs.SpellingDeclarations.{definition_written, type_written, subtype_written, aspects_written, task_definition_written}
 use Rattle.ada_grammar.specs.Reading.{starts, starts_both, sees_mark, sees_word}
 use Rattle.ada_grammar.specs.ReadingStatements.{begins_loop, sees_label}
 use Rattle.grammar_laws.specs.Leads.{Leads}

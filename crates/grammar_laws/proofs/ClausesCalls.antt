@@ -1,21 +1,21 @@
 -- Assignments, calls and delays (5.2, 6.4, 9.5.3, 9.6).
 use Rattle.std.proofs.Common.{◌≡◌, ℕ, zero, suc, Bool, true, false, ◌&&◌, List, [], ◌∷◌, ◌++◌, refl, ap, codes}
 use Rattle.std.specs.Prelude.{Option, Some, None}
-use Rattle.ada_syntax.specs.declared.names.Identifier.{Identifier}
-use Rattle.ada_syntax.specs.declared.names.Name.{Name}
-use Rattle.ada_syntax.specs.declared.expressions.Expression.{Expression}
-use Rattle.ada_syntax.specs.declared.expressions.Argument.{Argument}
-use Rattle.ada_syntax.specs.declared.statements.Statement.{Statement}
-use Rattle.ada_syntax.specs.declared.statements.Statement.TheVariants as statements
-use Rattle.ada_syntax.specs.declared.statements.SequenceRole.{SequenceRole}
-use Rattle.ada_syntax.specs.declared.statements.Sequence.{Sequence}
-use Rattle.ada_syntax.specs.declared.statements.Assignment.{Assignment}
-use Rattle.ada_syntax.specs.declared.statements.Call.{Call}
-use Rattle.ada_syntax.specs.Written.{Written, Lexeme, word, mark, flag, optional, name_written}
-use Rattle.ada_syntax.specs.SpellingExpressions.{expression_written, argument_written, arguments_written}
-use Rattle.ada_syntax.specs.SpellingStatements.{semicolon, index_written, assignment_written, call_written, delay_written, statement_written}
-use Rattle.ada_syntax.specs.ShapeExpressions.{optional_fits, expression_fits, arguments_fit}
-use Rattle.ada_syntax.specs.ShapeStatements.{value_fits, index_fits, assignment_fits, call_fits, delay_fits, parts_fit}
+use Rattle.ada_tree.specs.declared.names.Identifier.{Identifier}
+use Rattle.ada_tree.specs.declared.names.Name.{Name}
+use Rattle.ada_tree.specs.declared.expressions.Expression.{Expression}
+use Rattle.ada_tree.specs.declared.expressions.Argument.{Argument}
+use Rattle.ada_tree.specs.declared.statements.Statement.{Statement}
+use Rattle.ada_tree.specs.declared.statements.Statement.TheVariants as statements
+use Rattle.ada_tree.specs.declared.statements.SequenceRole.{SequenceRole}
+use Rattle.ada_tree.specs.declared.statements.Sequence.{Sequence}
+use Rattle.ada_tree.specs.declared.statements.Assignment.{Assignment}
+use Rattle.ada_tree.specs.declared.statements.Call.{Call}
+use Rattle.ada_tree.specs.Written.{Written, Lexeme, word, mark, flag, optional, name_written}
+use Rattle.ada_tree.specs.SpellingExpressions.{expression_written, argument_written, arguments_written}
+use Rattle.ada_tree.specs.SpellingStatements.{semicolon, index_written, assignment_written, call_written, delay_written, statement_written}
+use Rattle.ada_tree.specs.ShapeExpressions.{optional_fits, expression_fits, arguments_fit}
+use Rattle.ada_tree.specs.ShapeStatements.{value_fits, index_fits, assignment_fits, call_fits, delay_fits, parts_fit}
 use Rattle.ada_grammar.specs.Reading.{Parser, ◌>>=◌, ◌>>◌, pure, starts, sees_mark, sees_identifier, the_mark, flag_of, name_of}
 use Rattle.ada_grammar.specs.ReadingExpressions.{expression_of}
 use Rattle.ada_grammar.specs.ReadingSimple.{all_arguments_of, only_index_of, index_of, assignment_behind_of, call_behind_of, simple_of, call_of, delay_of}

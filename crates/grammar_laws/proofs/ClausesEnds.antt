@@ -6,8 +6,8 @@ use Rattle.ada_lex.specs.declared.tokens.Kind.TheVariants as kinds
 use Rattle.std.specs.Prelude.{Option, Some, None}
 use Rattle.ada_lex.specs.Reserved.{is_reserved}
 use Rattle.ada_lex.specs.ReservedLetters.{letters}
-use Rattle.ada_syntax.specs.declared.names.Identifier.{Identifier}
-use Rattle.ada_syntax.specs.Written.{Written, Lexeme, flag, optional, each_written, behind, enclosed}
+use Rattle.ada_tree.specs.declared.names.Identifier.{Identifier}
+use Rattle.ada_tree.specs.Written.{Written, Lexeme, flag, optional, each_written, behind, enclosed}
 use Rattle.ada_grammar.specs.Reading.{sees_mark, sees_word, sees_identifier, starts}
 use Rattle.ada_grammar.specs.ReadingExpressions.{compares, adds, multiplies, joins}
 use Rattle.ada_grammar.specs.ReadingDeclarations.{begins_operation}

@@ -2,19 +2,19 @@
 use Rattle.std.proofs.Common.{◌≡◌, ℕ, Bool, true, false, ◌&&◌, List, [], ◌∷◌, ◌++◌, refl, sym, subst, codes}
 use Rattle.std.specs.Prelude.{Option, Some, None}
 use Rattle.std.specs.List.{list_all}
-use Rattle.ada_syntax.specs.declared.names.Identifier.{Identifier}
-use Rattle.ada_syntax.specs.declared.names.Name.{Name}
-use Rattle.ada_syntax.specs.declared.names.OneOrMore.{OneOrMore}
-use Rattle.ada_syntax.specs.declared.expressions.Expression.{Expression}
-use Rattle.ada_syntax.specs.declared.declarations.Mark.{Mark}
-use Rattle.ada_syntax.specs.declared.declarations.Constraint.{Constraint}
-use Rattle.ada_syntax.specs.declared.declarations.Constraint.TheVariants as constraints
-use Rattle.ada_syntax.specs.declared.declarations.Parameter.{Parameter}
-use Rattle.ada_syntax.specs.Written.{Written, Lexeme, word, mark, flag, optional, each_written, behind, one_identifier, name_written, identifiers_written}
-use Rattle.ada_syntax.specs.SpellingExpressions.{expression_written}
-use Rattle.ada_syntax.specs.SpellingStatements.{constraint_written, mark_written, parameter_written, parameters_written}
-use Rattle.ada_syntax.specs.ShapeExpressions.{within, optional_fits}
-use Rattle.ada_syntax.specs.ShapeStatements.{value_fits, nothing_in_it, constraint_fits, mark_fits, parameter_fits, parameters_fit}
+use Rattle.ada_tree.specs.declared.names.Identifier.{Identifier}
+use Rattle.ada_tree.specs.declared.names.Name.{Name}
+use Rattle.ada_tree.specs.declared.names.OneOrMore.{OneOrMore}
+use Rattle.ada_tree.specs.declared.expressions.Expression.{Expression}
+use Rattle.ada_tree.specs.declared.declarations.Mark.{Mark}
+use Rattle.ada_tree.specs.declared.declarations.Constraint.{Constraint}
+use Rattle.ada_tree.specs.declared.declarations.Constraint.TheVariants as constraints
+use Rattle.ada_tree.specs.declared.declarations.Parameter.{Parameter}
+use Rattle.ada_tree.specs.Written.{Written, Lexeme, word, mark, flag, optional, each_written, behind, one_identifier, name_written, identifiers_written}
+use Rattle.ada_tree.specs.SpellingExpressions.{expression_written}
+use Rattle.ada_tree.specs.SpellingStatements.{constraint_written, mark_written, parameter_written, parameters_written}
+use Rattle.ada_tree.specs.ShapeExpressions.{within, optional_fits}
+use Rattle.ada_tree.specs.ShapeStatements.{value_fits, nothing_in_it, constraint_fits, mark_fits, parameter_fits, parameters_fit}
 use Rattle.ada_grammar.specs.Reading.{Parser, ◌>>=◌, pure, starts, sees_mark, sees_word, sees_identifier, the_mark, flag_of, below, items_of, behind_mark_of, name_of, identifiers_of}
 use Rattle.ada_grammar.specs.ReadingExpressions.{expression_of}
 use Rattle.ada_grammar.specs.ReadingSimple.{access_of, bounds_of, range_of, constraint_of, subtype_mark_of, parameter_of, given_parameters_of, parameters_of}

@@ -2,23 +2,23 @@
 use Rattle.std.proofs.Common.{◌≡◌, ℕ, Bool, true, false, List, [], ◌∷◌, ◌++◌, refl, codes}
 use Rattle.std.specs.Prelude.{Option, Some}
 use Rattle.ann_base.specs.declared.places.Place.{Place}
-use Rattle.ada_syntax.specs.declared.names.Identifier.{Identifier}
-use Rattle.ada_syntax.specs.declared.names.Name.{Name}
-use Rattle.ada_syntax.specs.declared.names.OneOrMore.{OneOrMore}
-use Rattle.ada_syntax.specs.declared.expressions.Expression.{Expression}
-use Rattle.ada_syntax.specs.declared.statements.Sequence.{Sequence}
-use Rattle.ada_syntax.specs.declared.statements.SequenceRole.{SequenceRole}
-use Rattle.ada_syntax.specs.declared.declarations.Declaration.{Declaration}
-use Rattle.ada_syntax.specs.declared.declarations.Declaration.TheVariants as declarations
-use Rattle.ada_syntax.specs.declared.declarations.ObjectDeclaration.{ObjectDeclaration}
-use Rattle.ada_syntax.specs.declared.declarations.Component.{Component}
-use Rattle.ada_syntax.specs.Written.{Written, Lexeme, word, word_at, mark, flag, optional, name_written, identifiers_written}
-use Rattle.ada_syntax.specs.SpellingExpressions.{expression_written}
-use Rattle.ada_syntax.specs.SpellingStatements.{semicolon, mark_written}
-use Rattle.ada_syntax.specs.SpellingDeclarations.{becomes_written, object_written, component_written, declaration_written}
-use Rattle.ada_syntax.specs.ShapeExpressions.{optional_fits}
-use Rattle.ada_syntax.specs.ShapeStatements.{value_fits, mark_fits}
-use Rattle.ada_syntax.specs.ShapeDeclarations.{object_fits, component_fits, declaration_fits}
+use Rattle.ada_tree.specs.declared.names.Identifier.{Identifier}
+use Rattle.ada_tree.specs.declared.names.Name.{Name}
+use Rattle.ada_tree.specs.declared.names.OneOrMore.{OneOrMore}
+use Rattle.ada_tree.specs.declared.expressions.Expression.{Expression}
+use Rattle.ada_tree.specs.declared.statements.Sequence.{Sequence}
+use Rattle.ada_tree.specs.declared.statements.SequenceRole.{SequenceRole}
+use Rattle.ada_tree.specs.declared.declarations.Declaration.{Declaration}
+use Rattle.ada_tree.specs.declared.declarations.Declaration.TheVariants as declarations
+use Rattle.ada_tree.specs.declared.declarations.ObjectDeclaration.{ObjectDeclaration}
+use Rattle.ada_tree.specs.declared.declarations.Component.{Component}
+use Rattle.ada_tree.specs.Written.{Written, Lexeme, word, word_at, mark, flag, optional, name_written, identifiers_written}
+use Rattle.ada_tree.specs.SpellingExpressions.{expression_written}
+use Rattle.ada_tree.specs.SpellingStatements.{semicolon, mark_written}
+use Rattle.ada_tree.specs.SpellingDeclarations.{becomes_written, object_written, component_written, declaration_written}
+use Rattle.ada_tree.specs.ShapeExpressions.{optional_fits}
+use Rattle.ada_tree.specs.ShapeStatements.{value_fits, mark_fits}
+use Rattle.ada_tree.specs.ShapeDeclarations.{object_fits, component_fits, declaration_fits}
 use Rattle.ada_grammar.specs.Reading.{Parser, ◌>>=◌, starts, sees_mark, sees_word, sees_identifier, the_mark, flag_of, identifiers_of, name_of}
 use Rattle.ada_grammar.specs.ReadingExpressions.{expression_of}
 use Rattle.ada_grammar.specs.ReadingSimple.{subtype_mark_of}

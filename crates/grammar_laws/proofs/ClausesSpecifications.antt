@@ -3,21 +3,21 @@ use Rattle.std.proofs.Common.{◌≡◌, ℕ, Bool, true, false, ◌&&◌, List,
 use Rattle.std.specs.Prelude.{Option, Some, None}
 use Rattle.std.specs.List.{list_all}
 use Rattle.ann_base.specs.declared.places.Place.{Place}
-use Rattle.ada_syntax.specs.declared.names.Identifier.{Identifier}
-use Rattle.ada_syntax.specs.declared.expressions.Expression.{Expression}
-use Rattle.ada_syntax.specs.declared.declarations.Mark.{Mark}
-use Rattle.ada_syntax.specs.declared.declarations.Parameter.{Parameter}
-use Rattle.ada_syntax.specs.declared.declarations.Aspect.{Aspect}
-use Rattle.ada_syntax.specs.declared.declarations.SubprogramSpecification.{SubprogramSpecification}
-use Rattle.ada_syntax.specs.declared.declarations.EntryDeclaration.{EntryDeclaration}
-use Rattle.ada_syntax.specs.declared.declarations.EntryHead.{EntryHead}
-use Rattle.ada_syntax.specs.Written.{Written, Lexeme, word, word_at, mark, identifier_written, each_written, behind, optional}
-use Rattle.ada_syntax.specs.SpellingExpressions.{expression_written}
-use Rattle.ada_syntax.specs.SpellingStatements.{semicolon, mark_written, parameters_written}
-use Rattle.ada_syntax.specs.SpellingDeclarations.{aspect_value_written, aspect_written, aspects_written, overriding_written, subprogram_word, result_written, specification_written, entry_written, entry_head_written}
-use Rattle.ada_syntax.specs.ShapeExpressions.{optional_fits}
-use Rattle.ada_syntax.specs.ShapeStatements.{value_fits, mark_fits, parameters_fit}
-use Rattle.ada_syntax.specs.ShapeDeclarations.{aspect_fits, aspects_fit, specification_fits, entry_fits, entry_head_fits}
+use Rattle.ada_tree.specs.declared.names.Identifier.{Identifier}
+use Rattle.ada_tree.specs.declared.expressions.Expression.{Expression}
+use Rattle.ada_tree.specs.declared.declarations.Mark.{Mark}
+use Rattle.ada_tree.specs.declared.declarations.Parameter.{Parameter}
+use Rattle.ada_tree.specs.declared.declarations.Aspect.{Aspect}
+use Rattle.ada_tree.specs.declared.declarations.SubprogramSpecification.{SubprogramSpecification}
+use Rattle.ada_tree.specs.declared.declarations.EntryDeclaration.{EntryDeclaration}
+use Rattle.ada_tree.specs.declared.declarations.EntryHead.{EntryHead}
+use Rattle.ada_tree.specs.Written.{Written, Lexeme, word, word_at, mark, identifier_written, each_written, behind, optional}
+use Rattle.ada_tree.specs.SpellingExpressions.{expression_written}
+use Rattle.ada_tree.specs.SpellingStatements.{semicolon, mark_written, parameters_written}
+use Rattle.ada_tree.specs.SpellingDeclarations.{aspect_value_written, aspect_written, aspects_written, overriding_written, subprogram_word, result_written, specification_written, entry_written, entry_head_written}
+use Rattle.ada_tree.specs.ShapeExpressions.{optional_fits}
+use Rattle.ada_tree.specs.ShapeStatements.{value_fits, mark_fits, parameters_fit}
+use Rattle.ada_tree.specs.ShapeDeclarations.{aspect_fits, aspects_fit, specification_fits, entry_fits, entry_head_fits}
 use Rattle.ada_grammar.specs.Reading.{◌>>=◌, starts, sees_mark, sees_word, sees_identifier, the_word, items_of, behind_mark_of}
 use Rattle.ada_grammar.specs.ReadingExpressions.{expression_of}
 use Rattle.ada_grammar.specs.ReadingSimple.{subtype_mark_of, parameters_of}

@@ -4,26 +4,26 @@ use Rattle.std.specs.Prelude.{Option, Some, None}
 use Rattle.ann_base.specs.declared.places.Place.{Place}
 use Rattle.ada_lex.specs.Reserved.{is_reserved}
 use Rattle.ada_lex.specs.ReservedLetters.{letters}
-use Rattle.ada_syntax.specs.declared.names.Identifier.{Identifier}
-use Rattle.ada_syntax.specs.declared.names.Name.{Name}
-use Rattle.ada_syntax.specs.declared.names.OneOrMore.{OneOrMore}
-use Rattle.ada_syntax.specs.declared.expressions.Expression.{Expression}
-use Rattle.ada_syntax.specs.declared.statements.Statement.{Statement}
-use Rattle.ada_syntax.specs.declared.statements.Statement.TheVariants as statements
-use Rattle.ada_syntax.specs.declared.statements.Sequence.{Sequence}
-use Rattle.ada_syntax.specs.declared.statements.Choice.{Choice}
-use Rattle.ada_syntax.specs.declared.statements.Choice.TheVariants as choices
-use Rattle.ada_syntax.specs.declared.statements.Iteration.{Iteration}
-use Rattle.ada_syntax.specs.declared.statements.Iteration.TheVariants as iterations
-use Rattle.ada_syntax.specs.declared.statements.HandledExceptions.{HandledExceptions}
-use Rattle.ada_syntax.specs.declared.statements.HandledExceptions.TheVariants as exceptions
-use Rattle.ada_syntax.specs.declared.statements.Label.{Label}
-use Rattle.ada_syntax.specs.declared.statements.Exit.{Exit}
-use Rattle.ada_syntax.specs.Written.{Written, Lexeme, word, word_at, mark, identifier_written, flag, optional, each_written, behind, separated, one_identifier, name_written, end_name_written}
-use Rattle.ada_syntax.specs.SpellingExpressions.{expression_written}
-use Rattle.ada_syntax.specs.SpellingStatements.{semicolon, choice_written, iteration_written, loop_name_written, when_written, exit_written, exceptions_written, with_abort_written, label_end_written}
-use Rattle.ada_syntax.specs.ShapeExpressions.{optional_fits}
-use Rattle.ada_syntax.specs.ShapeStatements.{value_fits, choice_fits, iteration_fits, exit_fits}
+use Rattle.ada_tree.specs.declared.names.Identifier.{Identifier}
+use Rattle.ada_tree.specs.declared.names.Name.{Name}
+use Rattle.ada_tree.specs.declared.names.OneOrMore.{OneOrMore}
+use Rattle.ada_tree.specs.declared.expressions.Expression.{Expression}
+use Rattle.ada_tree.specs.declared.statements.Statement.{Statement}
+use Rattle.ada_tree.specs.declared.statements.Statement.TheVariants as statements
+use Rattle.ada_tree.specs.declared.statements.Sequence.{Sequence}
+use Rattle.ada_tree.specs.declared.statements.Choice.{Choice}
+use Rattle.ada_tree.specs.declared.statements.Choice.TheVariants as choices
+use Rattle.ada_tree.specs.declared.statements.Iteration.{Iteration}
+use Rattle.ada_tree.specs.declared.statements.Iteration.TheVariants as iterations
+use Rattle.ada_tree.specs.declared.statements.HandledExceptions.{HandledExceptions}
+use Rattle.ada_tree.specs.declared.statements.HandledExceptions.TheVariants as exceptions
+use Rattle.ada_tree.specs.declared.statements.Label.{Label}
+use Rattle.ada_tree.specs.declared.statements.Exit.{Exit}
+use Rattle.ada_tree.specs.Written.{Written, Lexeme, word, word_at, mark, identifier_written, flag, optional, each_written, behind, separated, one_identifier, name_written, end_name_written}
+use Rattle.ada_tree.specs.SpellingExpressions.{expression_written}
+use Rattle.ada_tree.specs.SpellingStatements.{semicolon, choice_written, iteration_written, loop_name_written, when_written, exit_written, exceptions_written, with_abort_written, label_end_written}
+use Rattle.ada_tree.specs.ShapeExpressions.{optional_fits}
+use Rattle.ada_tree.specs.ShapeStatements.{value_fits, choice_fits, iteration_fits, exit_fits}
 use Rattle.ada_grammar.specs.Reading.{Parser, ◌>>=◌, ◌>>◌, pure, starts, sees_mark, sees_word, sees_identifier, the_word, the_mark, an_identifier, flag_of, end_name_of, name_of, names_of}
 use Rattle.ada_grammar.specs.ReadingExpressions.{expression_of}
 use Rattle.ada_grammar.specs.ReadingSimple.{bounds_of, value_choice_of, choice_of, while_of, for_of, iteration_of, label_end_of, loop_name_of, when_of, exit_of, null_of, result_value_of, return_of, exception_name_of, raise_of, abort_of, with_abort_of, requeue_of, exceptions_of}

@@ -3,9 +3,9 @@ use Rattle.std.proofs.Common.{◌≡◌, ℕ, Bool, true, false, cond, ◌&&◌,
 use Rattle.std.specs.Prelude.{Option, Some, None}
 use Rattle.std.specs.List.{list_all}
 use Rattle.ann_base.specs.declared.places.Place.{Place}
-use Rattle.ada_syntax.specs.declared.names.Identifier.{Identifier}
-use Rattle.ada_syntax.specs.Written.{Written, Lexeme, word, word_at, mark, identifier_written, each_written, behind, enclosed, end_name_written}
-use Rattle.ada_syntax.specs.ShapeExpressions.{optional_fits}
+use Rattle.ada_tree.specs.declared.names.Identifier.{Identifier}
+use Rattle.ada_tree.specs.Written.{Written, Lexeme, word, word_at, mark, identifier_written, each_written, behind, enclosed, end_name_written}
+use Rattle.ada_tree.specs.ShapeExpressions.{optional_fits}
 use Rattle.ada_grammar.specs.Reading.{Read, Parser, ◌>>=◌, ◌>>◌, pure, choose, starts, sees_mark, the_word, the_mark, an_identifier, end_name_of, items_of, behind_mark_of}
 use Rattle.grammar_laws.specs.Leads.{Leads}
 use Rattle.grammar_laws.proofs.Leading.{as_written}

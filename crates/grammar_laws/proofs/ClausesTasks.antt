@@ -5,23 +5,23 @@ use Rattle.std.specs.List.{list_all}
 use Rattle.ann_base.specs.declared.places.Place.{Place}
 use Rattle.ada_lex.specs.Reserved.{is_reserved}
 use Rattle.ada_lex.specs.ReservedLetters.{letters}
-use Rattle.ada_syntax.specs.declared.names.Identifier.{Identifier}
-use Rattle.ada_syntax.specs.declared.statements.Sequence.{Sequence}
-use Rattle.ada_syntax.specs.declared.declarations.Declaration.{Declaration}
-use Rattle.ada_syntax.specs.declared.declarations.Declaration.TheVariants as declarations
-use Rattle.ada_syntax.specs.declared.declarations.Component.{Component}
-use Rattle.ada_syntax.specs.declared.declarations.SubprogramSpecification.{SubprogramSpecification}
-use Rattle.ada_syntax.specs.declared.declarations.EntryDeclaration.{EntryDeclaration}
-use Rattle.ada_syntax.specs.declared.declarations.TaskDeclaration.{TaskDeclaration}
-use Rattle.ada_syntax.specs.declared.declarations.TaskDefinition.{TaskDefinition}
-use Rattle.ada_syntax.specs.declared.declarations.ProtectedDeclaration.{ProtectedDeclaration}
-use Rattle.ada_syntax.specs.declared.declarations.ProtectedOperation.{ProtectedOperation}
-use Rattle.ada_syntax.specs.declared.declarations.ProtectedOperation.TheVariants as operations
-use Rattle.ada_syntax.specs.Written.{Written, Lexeme, word, word_at, mark, identifier_written, each_written, optional, end_name_written}
-use Rattle.ada_syntax.specs.SpellingStatements.{semicolon, parameters_written}
-use Rattle.ada_syntax.specs.SpellingDeclarations.{component_written, aspects_written, specification_written, entry_written, task_definition_written, type_flag, operation_written, private_written}
-use Rattle.ada_syntax.specs.ShapeExpressions.{optional_fits}
-use Rattle.ada_syntax.specs.ShapeDeclarations.{aspects_fit, specification_fits, entry_fits, task_definition_fits, task_fits, operation_fits, private_fits, protected_fits}
+use Rattle.ada_tree.specs.declared.names.Identifier.{Identifier}
+use Rattle.ada_tree.specs.declared.statements.Sequence.{Sequence}
+use Rattle.ada_tree.specs.declared.declarations.Declaration.{Declaration}
+use Rattle.ada_tree.specs.declared.declarations.Declaration.TheVariants as declarations
+use Rattle.ada_tree.specs.declared.declarations.Component.{Component}
+use Rattle.ada_tree.specs.declared.declarations.SubprogramSpecification.{SubprogramSpecification}
+use Rattle.ada_tree.specs.declared.declarations.EntryDeclaration.{EntryDeclaration}
+use Rattle.ada_tree.specs.declared.declarations.TaskDeclaration.{TaskDeclaration}
+use Rattle.ada_tree.specs.declared.declarations.TaskDefinition.{TaskDefinition}
+use Rattle.ada_tree.specs.declared.declarations.ProtectedDeclaration.{ProtectedDeclaration}
+use Rattle.ada_tree.specs.declared.declarations.ProtectedOperation.{ProtectedOperation}
+use Rattle.ada_tree.specs.declared.declarations.ProtectedOperation.TheVariants as operations
+use Rattle.ada_tree.specs.Written.{Written, Lexeme, word, word_at, mark, identifier_written, each_written, optional, end_name_written}
+use Rattle.ada_tree.specs.SpellingStatements.{semicolon, parameters_written}
+use Rattle.ada_tree.specs.SpellingDeclarations.{component_written, aspects_written, specification_written, entry_written, task_definition_written, type_flag, operation_written, private_written}
+use Rattle.ada_tree.specs.ShapeExpressions.{optional_fits}
+use Rattle.ada_tree.specs.ShapeDeclarations.{aspects_fit, specification_fits, entry_fits, task_definition_fits, task_fits, operation_fits, private_fits, protected_fits}
 use Rattle.ada_grammar.specs.Reading.{◌>>=◌, pure, starts, sees_word, sees_identifier, flag_of, end_name_of, items_of}
 use Rattle.ada_grammar.specs.ReadingDeclarations.{component_of, aspects_of, specification_of, entry_of, task_definition_of, task_of, specified_operation_of, operation_of, begins_operation, private_of, protected_of}
 use Rattle.grammar_laws.specs.Leads.{Leads}

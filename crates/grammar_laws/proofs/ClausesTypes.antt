@@ -4,26 +4,26 @@ use Rattle.std.specs.Prelude.{Option, Some, None}
 use Rattle.std.specs.List.{list_all}
 use Rattle.ada_lex.specs.Reserved.{is_reserved}
 use Rattle.ada_lex.specs.ReservedLetters.{letters}
-use Rattle.ada_syntax.specs.declared.names.Identifier.{Identifier}
-use Rattle.ada_syntax.specs.declared.names.Name.{Name}
-use Rattle.ada_syntax.specs.declared.names.OneOrMore.{OneOrMore}
-use Rattle.ada_syntax.specs.declared.expressions.Expression.{Expression}
-use Rattle.ada_syntax.specs.declared.statements.Sequence.{Sequence}
-use Rattle.ada_syntax.specs.declared.declarations.Declaration.{Declaration}
-use Rattle.ada_syntax.specs.declared.declarations.Declaration.TheVariants as declarations
-use Rattle.ada_syntax.specs.declared.declarations.Mark.{Mark}
-use Rattle.ada_syntax.specs.declared.declarations.Component.{Component}
-use Rattle.ada_syntax.specs.declared.declarations.TypeDeclaration.{TypeDeclaration}
-use Rattle.ada_syntax.specs.declared.declarations.TypeDefinition.{TypeDefinition}
-use Rattle.ada_syntax.specs.declared.declarations.TypeDefinition.TheVariants as definitions
-use Rattle.ada_syntax.specs.declared.declarations.SubtypeDeclaration.{SubtypeDeclaration}
-use Rattle.ada_syntax.specs.Written.{Written, Lexeme, word, mark, each_written, all_written, name_written, identifiers_written}
-use Rattle.ada_syntax.specs.SpellingExpressions.{expression_written}
-use Rattle.ada_syntax.specs.SpellingStatements.{mark_written}
-use Rattle.ada_syntax.specs.SpellingDeclarations.{component_written, extension_written, definition_written, type_written, subtype_written}
-use Rattle.ada_syntax.specs.ShapeExpressions.{within, optional_fits}
-use Rattle.ada_syntax.specs.ShapeStatements.{nothing_in_it, mark_fits}
-use Rattle.ada_syntax.specs.ShapeDeclarations.{component_fits, components_fit, bounds_fit, definition_fits}
+use Rattle.ada_tree.specs.declared.names.Identifier.{Identifier}
+use Rattle.ada_tree.specs.declared.names.Name.{Name}
+use Rattle.ada_tree.specs.declared.names.OneOrMore.{OneOrMore}
+use Rattle.ada_tree.specs.declared.expressions.Expression.{Expression}
+use Rattle.ada_tree.specs.declared.statements.Sequence.{Sequence}
+use Rattle.ada_tree.specs.declared.declarations.Declaration.{Declaration}
+use Rattle.ada_tree.specs.declared.declarations.Declaration.TheVariants as declarations
+use Rattle.ada_tree.specs.declared.declarations.Mark.{Mark}
+use Rattle.ada_tree.specs.declared.declarations.Component.{Component}
+use Rattle.ada_tree.specs.declared.declarations.TypeDeclaration.{TypeDeclaration}
+use Rattle.ada_tree.specs.declared.declarations.TypeDefinition.{TypeDefinition}
+use Rattle.ada_tree.specs.declared.declarations.TypeDefinition.TheVariants as definitions
+use Rattle.ada_tree.specs.declared.declarations.SubtypeDeclaration.{SubtypeDeclaration}
+use Rattle.ada_tree.specs.Written.{Written, Lexeme, word, mark, each_written, all_written, name_written, identifiers_written}
+use Rattle.ada_tree.specs.SpellingExpressions.{expression_written}
+use Rattle.ada_tree.specs.SpellingStatements.{mark_written}
+use Rattle.ada_tree.specs.SpellingDeclarations.{component_written, extension_written, definition_written, type_written, subtype_written}
+use Rattle.ada_tree.specs.ShapeExpressions.{within, optional_fits}
+use Rattle.ada_tree.specs.ShapeStatements.{nothing_in_it, mark_fits}
+use Rattle.ada_tree.specs.ShapeDeclarations.{component_fits, components_fit, bounds_fit, definition_fits}
 use Rattle.ada_grammar.specs.Reading.{Parser, ◌>>=◌, ◌>>◌, pure, starts, sees_mark, sees_word, sees_identifier, the_word, the_mark, below, items_of, identifiers_of, name_of}
 use Rattle.ada_grammar.specs.ReadingSimple.{bounds_of, subtype_mark_of}
 use Rattle.ada_grammar.specs.ReadingDeclarations.{component_of, enumeration_of, array_of, null_record_of, components_record_of, extension_of, derived_of, definition_of, type_of, subtype_of}

@@ -4,19 +4,19 @@ use Rattle.ann_base.specs.declared.places.Place.{Place}
 use Rattle.ada_lex.specs.declared.tokens.Kind.TheVariants as kinds
 use Rattle.ada_lex.specs.Reserved.{is_reserved}
 use Rattle.ada_lex.specs.ReservedLetters.{letters}
-use Rattle.ada_syntax.specs.declared.operators.LogicalOperator.{LogicalOperator}
-use Rattle.ada_syntax.specs.declared.operators.LogicalOperator.TheVariants as logical
-use Rattle.ada_syntax.specs.declared.operators.Sign.{Sign}
-use Rattle.ada_syntax.specs.declared.operators.Sign.TheVariants as sign
-use Rattle.ada_syntax.specs.declared.operators.HighestOperator.{HighestOperator}
-use Rattle.ada_syntax.specs.declared.operators.HighestOperator.TheVariants as highest
-use Rattle.ada_syntax.specs.declared.expressions.Expression.{Expression}
-use Rattle.ada_syntax.specs.declared.expressions.Expression.TheViews.{out-Expression}
-use Rattle.ada_syntax.specs.declared.expressions.ExpressionForm.{ExpressionForm}
-use Rattle.ada_syntax.specs.declared.expressions.ExpressionForm.TheVariants as form
-use Rattle.ada_syntax.specs.Written.{Written, Lexeme, word_at, mark, mark_at, number_at, text_at, each_written, all_written, behind, optional, one_identifier}
-use Rattle.ada_syntax.specs.SpellingExpressions.{logical_written, relational_text, sign_text, highest_text, designator_written, arguments_written, operand_written, addend_written, multiplied_written, form_written, expression_written}
-use Rattle.ada_syntax.proofs.ExpressionFolds.{expression_is_written}
+use Rattle.ada_tree.specs.declared.operators.LogicalOperator.{LogicalOperator}
+use Rattle.ada_tree.specs.declared.operators.LogicalOperator.TheVariants as logical
+use Rattle.ada_tree.specs.declared.operators.Sign.{Sign}
+use Rattle.ada_tree.specs.declared.operators.Sign.TheVariants as sign
+use Rattle.ada_tree.specs.declared.operators.HighestOperator.{HighestOperator}
+use Rattle.ada_tree.specs.declared.operators.HighestOperator.TheVariants as highest
+use Rattle.ada_tree.specs.declared.expressions.Expression.{Expression}
+use Rattle.ada_tree.specs.declared.expressions.Expression.TheViews.{out-Expression}
+use Rattle.ada_tree.specs.declared.expressions.ExpressionForm.{ExpressionForm}
+use Rattle.ada_tree.specs.declared.expressions.ExpressionForm.TheVariants as form
+use Rattle.ada_tree.specs.Written.{Written, Lexeme, word_at, mark, mark_at, number_at, text_at, each_written, all_written, behind, optional, one_identifier}
+use Rattle.ada_tree.specs.SpellingExpressions.{logical_written, relational_text, sign_text, highest_text, designator_written, arguments_written, operand_written, addend_written, multiplied_written, form_written, expression_written}
+use Rattle.ada_tree.proofs.ExpressionFolds.{expression_is_written}
 use Rattle.ada_grammar.specs.Reading.{sees_identifier, starts}
 use Rattle.grammar_laws.specs.Leads.{Leads}
 use Rattle.grammar_laws.proofs.Leading.{leads_through, leads_length}

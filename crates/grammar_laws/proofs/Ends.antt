@@ -1,8 +1,8 @@
 -- What may not stand behind a part: it would go on.
 use Rattle.std.proofs.Common.{Bool, not, ◌&&◌, List, codes}
-use Rattle.ada_syntax.specs.Written.{Lexeme}
-use Rattle.ada_syntax.specs.declared.statements.SequenceRole.{SequenceRole}
-use Rattle.ada_syntax.specs.declared.statements.SequenceRole.TheVariants as role
+use Rattle.ada_tree.specs.Written.{Lexeme}
+use Rattle.ada_tree.specs.declared.statements.SequenceRole.{SequenceRole}
+use Rattle.ada_tree.specs.declared.statements.SequenceRole.TheVariants as role
 use Rattle.ada_grammar.specs.ReadingExpressions.{compares, adds, multiplies, joins}
 use Rattle.ada_grammar.specs.ReadingStatements.{begins_statement}
 use Rattle.grammar_laws.proofs.Tokens.{not_word}

@@ -3,8 +3,8 @@ use Rattle.std.proofs.Common.{◌≡◌, ℕ, zero, suc, ◌<◌, ◌≤◌, Boo
 use Rattle.std.specs.Prelude.{Option, Some, None}
 use Rattle.std.specs.List.{list_all}
 use Rattle.std.proofs.Common.{append_assoc}
-use Rattle.ada_syntax.specs.Written.{Written, Lexeme, Spells, each_written, optional}
-use Rattle.ada_syntax.specs.ShapeExpressions.{optional_fits}
+use Rattle.ada_tree.specs.Written.{Written, Lexeme, Spells, each_written, optional}
+use Rattle.ada_tree.specs.ShapeExpressions.{optional_fits}
 use Rattle.ada_grammar.specs.Reading.{Read, Parser, and_then, ◌>>=◌, pure, choose, items_from, items_of}
 use Rattle.grammar_laws.specs.Leads.{Leads}
 use Rattle.grammar_laws.proofs.Leading.{leads_both, leads_through, leads_length, as_written, spelt_is}

@@ -1,8 +1,8 @@
 -- Expressions and their arguments at every level of brackets (4.4).
 use Rattle.std.proofs.Common.{ℕ, zero, suc}
-use Rattle.ada_syntax.specs.declared.expressions.Precedence.TheVariants as precedence
-use Rattle.ada_syntax.specs.SpellingExpressions.{expression_written, argument_written, arguments_written}
-use Rattle.ada_syntax.specs.ShapeExpressions.{expression_fits, argument_fits, arguments_fit}
+use Rattle.ada_tree.specs.declared.expressions.Precedence.TheVariants as precedence
+use Rattle.ada_tree.specs.SpellingExpressions.{expression_written, argument_written, arguments_written}
+use Rattle.ada_tree.specs.ShapeExpressions.{expression_fits, argument_fits, arguments_fit}
 use Rattle.ada_grammar.specs.Reading.{nothing}
 use Rattle.ada_grammar.specs.ReadingExpressions.{expression_of, inner_of, argument_of, arguments_of}
 use Rattle.grammar_laws.proofs.Exact.{Exact}

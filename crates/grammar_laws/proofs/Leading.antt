@@ -1,6 +1,6 @@
 -- Tokens that lead on, one part behind another.
 use Rattle.std.proofs.Common.{◌≡◌, ◌+◌, List, [], ◌∷◌, ◌++◌, length, refl, sym, ap, subst, arith}
-use Rattle.ada_syntax.specs.Written.{Written, Lexeme, Spells, AllSpell}
+use Rattle.ada_tree.specs.Written.{Written, Lexeme, Spells, AllSpell}
 use Rattle.grammar_laws.specs.Leads.{Leads}
 
 pub leads_both : (a b : List Written) (ls m r : List Lexeme) → Leads a ls m → Leads b m r → Leads (a ++ b) ls r

@@ -1,12 +1,12 @@
 -- The levels of precedence, one on top of another.
 use Rattle.std.proofs.Common.{◌≡◌, ℕ, Bool, true, false, cond, ◌&&◌, List, ◌++◌, refl, sym, ap, subst, ◌∙◌}
-use Rattle.ada_syntax.specs.declared.expressions.Precedence.{Precedence}
-use Rattle.ada_syntax.specs.declared.expressions.Expression.{Expression}
-use Rattle.ada_syntax.specs.declared.expressions.Expression.TheViews.{out-Expression}
-use Rattle.ada_syntax.specs.declared.expressions.ExpressionForm.{ExpressionForm}
-use Rattle.ada_syntax.specs.Written.{Written, Lexeme}
-use Rattle.ada_syntax.specs.SpellingExpressions.{form_written, expression_written}
-use Rattle.ada_syntax.specs.ShapeExpressions.{form_fits, expression_fits}
+use Rattle.ada_tree.specs.declared.expressions.Precedence.{Precedence}
+use Rattle.ada_tree.specs.declared.expressions.Expression.{Expression}
+use Rattle.ada_tree.specs.declared.expressions.Expression.TheViews.{out-Expression}
+use Rattle.ada_tree.specs.declared.expressions.ExpressionForm.{ExpressionForm}
+use Rattle.ada_tree.specs.Written.{Written, Lexeme}
+use Rattle.ada_tree.specs.SpellingExpressions.{form_written, expression_written}
+use Rattle.ada_tree.specs.ShapeExpressions.{form_fits, expression_fits}
 use Rattle.ada_grammar.specs.Reading.{Read, Parser, ◌>>=◌, pure, choose}
 use Rattle.ada_grammar.specs.ReadingExpressions.{formed}
 use Rattle.grammar_laws.specs.Leads.{Leads}

@@ -3,22 +3,22 @@ use Rattle.std.proofs.Common.{cond, append_assoc, ◌≡◌, ℕ, Bool, true, fa
 use Rattle.std.proofs.lemmas.Bool.{false≢true}
 use Rattle.std.specs.List.{list_all}
 use Rattle.ann_base.specs.declared.places.Place.{Place}
-use Rattle.ada_syntax.specs.declared.names.OneOrMore.{OneOrMore}
-use Rattle.ada_syntax.specs.declared.operators.LogicalOperator.{LogicalOperator}
-use Rattle.ada_syntax.specs.declared.operators.LogicalOperator.TheVariants as logical
-use Rattle.ada_syntax.specs.declared.operators.Sign.{Sign}
-use Rattle.ada_syntax.specs.declared.operators.HighestOperator.{HighestOperator}
-use Rattle.ada_syntax.specs.declared.operators.HighestOperator.TheVariants as highest
-use Rattle.ada_syntax.specs.declared.expressions.Precedence.{Precedence}
-use Rattle.ada_syntax.specs.declared.expressions.Precedence.TheVariants as precedence
-use Rattle.ada_syntax.specs.declared.expressions.Expression.{Expression}
-use Rattle.ada_syntax.specs.declared.expressions.Expression.TheViews.{out-Expression}
-use Rattle.ada_syntax.specs.declared.expressions.ExpressionForm.{ExpressionForm}
-use Rattle.ada_syntax.specs.declared.expressions.ExpressionForm.TheVariants as form
-use Rattle.ada_syntax.specs.declared.expressions.Operand.{Operand}
-use Rattle.ada_syntax.specs.Written.{Written, Lexeme, word, word_at, mark_at, each_written, all_written}
-use Rattle.ada_syntax.specs.SpellingExpressions.{logical_written, relational_text, sign_text, highest_text, operand_written, addend_written, form_written, expression_written}
-use Rattle.ada_syntax.specs.ShapeExpressions.{all_fit, operand_fits, addend_fits, form_fits, expression_fits}
+use Rattle.ada_tree.specs.declared.names.OneOrMore.{OneOrMore}
+use Rattle.ada_tree.specs.declared.operators.LogicalOperator.{LogicalOperator}
+use Rattle.ada_tree.specs.declared.operators.LogicalOperator.TheVariants as logical
+use Rattle.ada_tree.specs.declared.operators.Sign.{Sign}
+use Rattle.ada_tree.specs.declared.operators.HighestOperator.{HighestOperator}
+use Rattle.ada_tree.specs.declared.operators.HighestOperator.TheVariants as highest
+use Rattle.ada_tree.specs.declared.expressions.Precedence.{Precedence}
+use Rattle.ada_tree.specs.declared.expressions.Precedence.TheVariants as precedence
+use Rattle.ada_tree.specs.declared.expressions.Expression.{Expression}
+use Rattle.ada_tree.specs.declared.expressions.Expression.TheViews.{out-Expression}
+use Rattle.ada_tree.specs.declared.expressions.ExpressionForm.{ExpressionForm}
+use Rattle.ada_tree.specs.declared.expressions.ExpressionForm.TheVariants as form
+use Rattle.ada_tree.specs.declared.expressions.Operand.{Operand}
+use Rattle.ada_tree.specs.Written.{Written, Lexeme, word, word_at, mark_at, each_written, all_written}
+use Rattle.ada_tree.specs.SpellingExpressions.{logical_written, relational_text, sign_text, highest_text, operand_written, addend_written, form_written, expression_written}
+use Rattle.ada_tree.specs.ShapeExpressions.{all_fit, operand_fits, addend_fits, form_fits, expression_fits}
 use Rattle.ada_grammar.specs.Reading.{Read, Parser, and_then, ◌>>=◌, ◌>>◌, pure, choose, starts, sees_word, the_word, items_of}
 use Rattle.ada_grammar.specs.ReadingExpressions.{formed, joins, relation_of, again_of, both_words_of, logical_text, conjunction_of, disjunction_of, exclusive_of, logical_operator_of, operand_of, joined_of, logical_of}
 use Rattle.grammar_laws.specs.Leads.{Leads}

@@ -1,8 +1,8 @@
 -- Names (4.1).
 use Rattle.std.proofs.Common.{◌≡◌, ℕ, Bool, true, false, not, ◌&&◌, List, [], ◌∷◌, ◌++◌, refl, sym, subst, codes}
 use Rattle.std.specs.List.{list_all}
-use Rattle.ada_syntax.specs.Written.{Written, Lexeme, mark, behind, separated, each_written, one_identifier, identifiers_written, name_written}
-use Rattle.ada_syntax.specs.ShapeExpressions.{all_fit}
+use Rattle.ada_tree.specs.Written.{Written, Lexeme, mark, behind, separated, each_written, one_identifier, identifiers_written, name_written}
+use Rattle.ada_tree.specs.ShapeExpressions.{all_fit}
 use Rattle.ada_grammar.specs.Reading.{Parser, ◌>>◌, starts, the_mark, sees_mark, an_identifier, items_of, behind_mark_of, separated_of, identifiers_of, name_of, names_of}
 use Rattle.grammar_laws.specs.Leads.{Leads}
 use Rattle.grammar_laws.proofs.Exact.{Any, itself, Exact, field, closing, reshaped, first_true, second_true, listed}

@@ -4,21 +4,21 @@ use Rattle.std.proofs.lemmas.Bool.{false≢true}
 use Rattle.std.specs.Prelude.{Option, Some, None}
 use Rattle.std.specs.List.{list_all}
 use Rattle.ann_base.specs.declared.places.Place.{Place}
-use Rattle.ada_syntax.specs.declared.names.Identifier.{Identifier}
-use Rattle.ada_syntax.specs.declared.names.OneOrMore.{OneOrMore}
-use Rattle.ada_syntax.specs.declared.operators.Attribute.{Attribute}
-use Rattle.ada_syntax.specs.declared.operators.Attribute.TheVariants as attributes
-use Rattle.ada_syntax.specs.declared.expressions.Precedence.TheVariants as precedence
-use Rattle.ada_syntax.specs.declared.expressions.Expression.{Expression}
-use Rattle.ada_syntax.specs.declared.expressions.Expression.TheViews.{out-Expression, out-roll-Expression, roll-out-Expression}
-use Rattle.ada_syntax.specs.declared.expressions.ExpressionForm.{ExpressionForm}
-use Rattle.ada_syntax.specs.declared.expressions.ExpressionForm.TheVariants as form
-use Rattle.ada_syntax.specs.declared.expressions.AttributeDesignator.{AttributeDesignator}
-use Rattle.ada_syntax.specs.declared.expressions.Argument.{Argument}
-use Rattle.ada_syntax.specs.Written.{Written, Lexeme, word_at, mark, identifier_written, each_written, behind, optional}
-use Rattle.ada_syntax.specs.SpellingExpressions.{attribute_text, designator_written, argument_written, arguments_written, form_written, expression_written}
-use Rattle.ada_syntax.specs.ShapeExpressions.{optional_fits, argument_fits, arguments_fit, form_fits, expression_fits}
-use Rattle.ada_syntax.proofs.ExpressionFolds.{expression_is_written, expression_is_fit}
+use Rattle.ada_tree.specs.declared.names.Identifier.{Identifier}
+use Rattle.ada_tree.specs.declared.names.OneOrMore.{OneOrMore}
+use Rattle.ada_tree.specs.declared.operators.Attribute.{Attribute}
+use Rattle.ada_tree.specs.declared.operators.Attribute.TheVariants as attributes
+use Rattle.ada_tree.specs.declared.expressions.Precedence.TheVariants as precedence
+use Rattle.ada_tree.specs.declared.expressions.Expression.{Expression}
+use Rattle.ada_tree.specs.declared.expressions.Expression.TheViews.{out-Expression, out-roll-Expression, roll-out-Expression}
+use Rattle.ada_tree.specs.declared.expressions.ExpressionForm.{ExpressionForm}
+use Rattle.ada_tree.specs.declared.expressions.ExpressionForm.TheVariants as form
+use Rattle.ada_tree.specs.declared.expressions.AttributeDesignator.{AttributeDesignator}
+use Rattle.ada_tree.specs.declared.expressions.Argument.{Argument}
+use Rattle.ada_tree.specs.Written.{Written, Lexeme, word_at, mark, identifier_written, each_written, behind, optional}
+use Rattle.ada_tree.specs.SpellingExpressions.{attribute_text, designator_written, argument_written, arguments_written, form_written, expression_written}
+use Rattle.ada_tree.specs.ShapeExpressions.{optional_fits, argument_fits, arguments_fit, form_fits, expression_fits}
+use Rattle.ada_tree.proofs.ExpressionFolds.{expression_is_written, expression_is_fit}
 use Rattle.ada_grammar.specs.Reading.{Parser, ◌>>=◌, ◌>>◌, pure, starts, starts_both, is_identifier, is_this_mark, sees_word, sees_mark, the_word, the_mark, an_identifier, items_of, behind_mark_of}
 use Rattle.ada_grammar.specs.ReadingExpressions.{formed, this_attribute_of, attribute_word_of, designator_of, names_formal, named_argument_of, argument_of, given_arguments_of, arguments_of}
 use Rattle.grammar_laws.specs.Leads.{Leads}

@@ -3,18 +3,18 @@ use Rattle.std.proofs.Common.{◌≡◌, ℕ, zero, suc, Bool, true, false, ◌&
 use Rattle.std.proofs.lemmas.Bool.{false≢true}
 use Rattle.std.specs.Prelude.{Option, Some, None}
 use Rattle.ann_base.specs.declared.places.Place.{Place}
-use Rattle.ada_syntax.specs.declared.names.Name.{Name}
-use Rattle.ada_syntax.specs.declared.expressions.Precedence.{Precedence}
-use Rattle.ada_syntax.specs.declared.expressions.Precedence.TheVariants as precedence
-use Rattle.ada_syntax.specs.declared.expressions.Expression.{Expression}
-use Rattle.ada_syntax.specs.declared.expressions.Expression.TheViews.{out-Expression}
-use Rattle.ada_syntax.specs.declared.expressions.ExpressionForm.{ExpressionForm}
-use Rattle.ada_syntax.specs.declared.expressions.ExpressionForm.TheVariants as form
-use Rattle.ada_syntax.specs.declared.expressions.AttributeDesignator.{AttributeDesignator}
-use Rattle.ada_syntax.specs.declared.expressions.Argument.{Argument}
-use Rattle.ada_syntax.specs.Written.{Written, Lexeme, word_at, mark, mark_at, number_at, text_at, identifier_written, one_identifier, each_written, behind, optional, name_written}
-use Rattle.ada_syntax.specs.SpellingExpressions.{attribute_text, designator_written, arguments_written, form_written, expression_written}
-use Rattle.ada_syntax.specs.ShapeExpressions.{within, optional_fits, arguments_fit, form_fits, expression_fits}
+use Rattle.ada_tree.specs.declared.names.Name.{Name}
+use Rattle.ada_tree.specs.declared.expressions.Precedence.{Precedence}
+use Rattle.ada_tree.specs.declared.expressions.Precedence.TheVariants as precedence
+use Rattle.ada_tree.specs.declared.expressions.Expression.{Expression}
+use Rattle.ada_tree.specs.declared.expressions.Expression.TheViews.{out-Expression}
+use Rattle.ada_tree.specs.declared.expressions.ExpressionForm.{ExpressionForm}
+use Rattle.ada_tree.specs.declared.expressions.ExpressionForm.TheVariants as form
+use Rattle.ada_tree.specs.declared.expressions.AttributeDesignator.{AttributeDesignator}
+use Rattle.ada_tree.specs.declared.expressions.Argument.{Argument}
+use Rattle.ada_tree.specs.Written.{Written, Lexeme, word_at, mark, mark_at, number_at, text_at, identifier_written, one_identifier, each_written, behind, optional, name_written}
+use Rattle.ada_tree.specs.SpellingExpressions.{attribute_text, designator_written, arguments_written, form_written, expression_written}
+use Rattle.ada_tree.specs.ShapeExpressions.{within, optional_fits, arguments_fit, form_fits, expression_fits}
 use Rattle.ada_grammar.specs.Reading.{Parser, ◌>>=◌, pure, starts, is_numeral, is_string, sees_word, sees_mark, the_word, a_number, a_text, name_of}
 use Rattle.ada_grammar.specs.ReadingExpressions.{formed, designator_of, arguments_of, named_of, bracketed_of, primary_of}
 use Rattle.grammar_laws.specs.Leads.{Leads}

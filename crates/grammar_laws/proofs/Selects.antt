@@ -5,33 +5,33 @@ use Rattle.std.specs.List.{list_all}
 use Rattle.ann_base.specs.declared.places.Place.{Place}
 use Rattle.ada_lex.specs.Reserved.{is_reserved}
 use Rattle.ada_lex.specs.ReservedLetters.{letters}
-use Rattle.ada_syntax.specs.declared.statements.Call.{Call}
-use Rattle.ada_syntax.specs.declared.statements.Delay.{Delay}
-use Rattle.ada_syntax.specs.declared.statements.Accept.{Accept}
-use Rattle.ada_syntax.specs.declared.statements.Statement.TheVariants as statements
-use Rattle.ada_syntax.specs.declared.statements.SequenceRole.{SequenceRole}
-use Rattle.ada_syntax.specs.declared.statements.SequenceRole.TheVariants as role
-use Rattle.ada_syntax.specs.declared.statements.Sequence.{Sequence}
-use Rattle.ada_syntax.specs.declared.selects.SelectStatement.{SelectStatement}
-use Rattle.ada_syntax.specs.declared.selects.SelectForm.{SelectForm}
-use Rattle.ada_syntax.specs.declared.selects.SelectiveAccept.{SelectiveAccept}
-use Rattle.ada_syntax.specs.declared.selects.SelectAlternative.{SelectAlternative}
-use Rattle.ada_syntax.specs.declared.selects.Guard.{Guard}
-use Rattle.ada_syntax.specs.declared.selects.Alternative.{Alternative}
-use Rattle.ada_syntax.specs.declared.selects.TimedEntryCall.{TimedEntryCall}
-use Rattle.ada_syntax.specs.declared.selects.ConditionalEntryCall.{ConditionalEntryCall}
-use Rattle.ada_syntax.specs.declared.selects.AsynchronousSelect.{AsynchronousSelect}
-use Rattle.ada_syntax.specs.declared.selects.Trigger.{Trigger}
-use Rattle.ada_syntax.specs.declared.selects.SelectForm.TheVariants as select
-use Rattle.ada_syntax.specs.declared.selects.Alternative.TheVariants as alternative
-use Rattle.ada_syntax.specs.declared.selects.Trigger.TheVariants as trigger
-use Rattle.ada_syntax.specs.Written.{Written, Lexeme, word, word_at, mark, identifier_written, each_written, behind, separated, optional}
-use Rattle.ada_syntax.specs.Spelling.{sequence_written}
-use Rattle.ada_syntax.specs.SpellingExpressions.{expression_written, arguments_written}
-use Rattle.ada_syntax.specs.SpellingStatements.{semicolon, parameters_written, accept_body_written, statements_written, else_written, call_written, delay_written, accept_written, guard_written, trigger_written, alternative_written, select_alternative_written, select_form_written, select_written}
-use Rattle.ada_syntax.specs.Shape.{sequence_fits}
-use Rattle.ada_syntax.specs.ShapeExpressions.{within, optional_fits}
-use Rattle.ada_syntax.specs.ShapeStatements.{statements_fit, call_opens, delay_opens, accept_opens, guard_fits, alternative_fits, select_alternative_fits, select_form_fits}
+use Rattle.ada_tree.specs.declared.statements.Call.{Call}
+use Rattle.ada_tree.specs.declared.statements.Delay.{Delay}
+use Rattle.ada_tree.specs.declared.statements.Accept.{Accept}
+use Rattle.ada_tree.specs.declared.statements.Statement.TheVariants as statements
+use Rattle.ada_tree.specs.declared.statements.SequenceRole.{SequenceRole}
+use Rattle.ada_tree.specs.declared.statements.SequenceRole.TheVariants as role
+use Rattle.ada_tree.specs.declared.statements.Sequence.{Sequence}
+use Rattle.ada_tree.specs.declared.selects.SelectStatement.{SelectStatement}
+use Rattle.ada_tree.specs.declared.selects.SelectForm.{SelectForm}
+use Rattle.ada_tree.specs.declared.selects.SelectiveAccept.{SelectiveAccept}
+use Rattle.ada_tree.specs.declared.selects.SelectAlternative.{SelectAlternative}
+use Rattle.ada_tree.specs.declared.selects.Guard.{Guard}
+use Rattle.ada_tree.specs.declared.selects.Alternative.{Alternative}
+use Rattle.ada_tree.specs.declared.selects.TimedEntryCall.{TimedEntryCall}
+use Rattle.ada_tree.specs.declared.selects.ConditionalEntryCall.{ConditionalEntryCall}
+use Rattle.ada_tree.specs.declared.selects.AsynchronousSelect.{AsynchronousSelect}
+use Rattle.ada_tree.specs.declared.selects.Trigger.{Trigger}
+use Rattle.ada_tree.specs.declared.selects.SelectForm.TheVariants as select
+use Rattle.ada_tree.specs.declared.selects.Alternative.TheVariants as alternative
+use Rattle.ada_tree.specs.declared.selects.Trigger.TheVariants as trigger
+use Rattle.ada_tree.specs.Written.{Written, Lexeme, word, word_at, mark, identifier_written, each_written, behind, separated, optional}
+use Rattle.ada_tree.specs.Spelling.{sequence_written}
+use Rattle.ada_tree.specs.SpellingExpressions.{expression_written, arguments_written}
+use Rattle.ada_tree.specs.SpellingStatements.{semicolon, parameters_written, accept_body_written, statements_written, else_written, call_written, delay_written, accept_written, guard_written, trigger_written, alternative_written, select_alternative_written, select_form_written, select_written}
+use Rattle.ada_tree.specs.Shape.{sequence_fits}
+use Rattle.ada_tree.specs.ShapeExpressions.{within, optional_fits}
+use Rattle.ada_tree.specs.ShapeStatements.{statements_fit, call_opens, delay_opens, accept_opens, guard_fits, alternative_fits, select_alternative_fits, select_form_fits}
 use Rattle.ada_grammar.specs.Reading.{Read, Parser, ◌>>=◌, choose, nothing, too_deep, starts, sees_word, sees_identifier, items_of}
 use Rattle.ada_grammar.specs.ReadingStatements.{begins_statement, call_opened_of, delay_opened_of, accept_opened_of, optional_statements_of, else_of, accept_alternative_of, delay_alternative_of, terminate_of, alternative_of, guard_of, select_alternative_of, next_alternative_of, selective_of, asynchronous_of, timed_of, conditional_of, behind_call_of, call_select_of, delay_select_of, select_form_of, select_of}
 use Rattle.grammar_laws.specs.Leads.{Leads}

@@ -5,26 +5,26 @@ use Rattle.std.specs.List.{list_all}
 use Rattle.ann_base.specs.declared.places.Place.{Place}
 use Rattle.ada_lex.specs.Reserved.{is_reserved}
 use Rattle.ada_lex.specs.ReservedLetters.{letters}
-use Rattle.ada_syntax.specs.declared.names.OneOrMore.{OneOrMore}
-use Rattle.ada_syntax.specs.declared.statements.Statement.{Statement}
-use Rattle.ada_syntax.specs.declared.statements.Handler.{Handler}
-use Rattle.ada_syntax.specs.declared.statements.HandledExceptions.{HandledExceptions}
-use Rattle.ada_syntax.specs.declared.statements.Sequence.{Sequence}
-use Rattle.ada_syntax.specs.declared.statements.Sequence.TheViews.{out-Sequence, out-roll-Sequence, roll-out-Sequence}
-use Rattle.ada_syntax.specs.declared.statements.SequenceParts.{SequenceParts}
-use Rattle.ada_syntax.specs.declared.statements.SequenceRole.{SequenceRole}
-use Rattle.ada_syntax.specs.declared.statements.SequenceRole.TheVariants as role
-use Rattle.ada_syntax.specs.declared.declarations.Declaration.{Declaration}
-use Rattle.ada_syntax.specs.Written.{Written, Lexeme, word, mark, each_written, all_written}
-use Rattle.ada_syntax.specs.SpellingStatements.{exceptions_written, statements_written, statement_written, handler_written}
-use Rattle.ada_syntax.specs.SpellingDeclarations.{declaration_written}
-use Rattle.ada_syntax.specs.Spelling.{handlers_written, parts_written, sequence_written}
-use Rattle.ada_syntax.specs.ShapeExpressions.{all_fit}
-use Rattle.ada_syntax.specs.ShapeStatements.{statement_fits, statements_fit, handler_fits}
-use Rattle.ada_syntax.specs.ShapeDeclarations.{declaration_fits}
-use Rattle.ada_syntax.specs.Shape.{sequence_fits_by, sequence_fits}
-use Rattle.ada_syntax.proofs.SequenceFolds.{sequence_is_written}
-use Rattle.ada_syntax.proofs.SequenceFits.{sequence_is_fit}
+use Rattle.ada_tree.specs.declared.names.OneOrMore.{OneOrMore}
+use Rattle.ada_tree.specs.declared.statements.Statement.{Statement}
+use Rattle.ada_tree.specs.declared.statements.Handler.{Handler}
+use Rattle.ada_tree.specs.declared.statements.HandledExceptions.{HandledExceptions}
+use Rattle.ada_tree.specs.declared.statements.Sequence.{Sequence}
+use Rattle.ada_tree.specs.declared.statements.Sequence.TheViews.{out-Sequence, out-roll-Sequence, roll-out-Sequence}
+use Rattle.ada_tree.specs.declared.statements.SequenceParts.{SequenceParts}
+use Rattle.ada_tree.specs.declared.statements.SequenceRole.{SequenceRole}
+use Rattle.ada_tree.specs.declared.statements.SequenceRole.TheVariants as role
+use Rattle.ada_tree.specs.declared.declarations.Declaration.{Declaration}
+use Rattle.ada_tree.specs.Written.{Written, Lexeme, word, mark, each_written, all_written}
+use Rattle.ada_tree.specs.SpellingStatements.{exceptions_written, statements_written, statement_written, handler_written}
+use Rattle.ada_tree.specs.SpellingDeclarations.{declaration_written}
+use Rattle.ada_tree.specs.Spelling.{handlers_written, parts_written, sequence_written}
+use Rattle.ada_tree.specs.ShapeExpressions.{all_fit}
+use Rattle.ada_tree.specs.ShapeStatements.{statement_fits, statements_fit, handler_fits}
+use Rattle.ada_tree.specs.ShapeDeclarations.{declaration_fits}
+use Rattle.ada_tree.specs.Shape.{sequence_fits_by, sequence_fits}
+use Rattle.ada_tree.proofs.SequenceFolds.{sequence_is_written}
+use Rattle.ada_tree.proofs.SequenceFits.{sequence_is_fit}
 use Rattle.ada_grammar.specs.Reading.{Read, Parser, and_then, ◌>>=◌, pure, choose, starts, sees_word, below, items_of}
 use Rattle.ada_grammar.specs.ReadingSimple.{exceptions_of}
 use Rattle.ada_grammar.specs.ReadingStatements.{begins_statement}

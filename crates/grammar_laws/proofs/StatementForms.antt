@@ -7,30 +7,30 @@ use Rattle.std.specs.Str.{bytes_eq}
 use Rattle.ann_base.specs.declared.places.Place.{Place}
 use Rattle.ada_lex.specs.Reserved.{is_reserved}
 use Rattle.ada_lex.specs.ReservedLetters.{letters}
-use Rattle.ada_syntax.specs.declared.names.Identifier.{Identifier}
-use Rattle.ada_syntax.specs.declared.names.Name.{Name}
-use Rattle.ada_syntax.specs.declared.statements.Statement.{Statement}
-use Rattle.ada_syntax.specs.declared.statements.Statement.TheVariants as statements
-use Rattle.ada_syntax.specs.declared.statements.SequenceRole.{SequenceRole}
-use Rattle.ada_syntax.specs.declared.statements.Sequence.{Sequence}
-use Rattle.ada_syntax.specs.declared.expressions.Expression.{Expression}
-use Rattle.ada_syntax.specs.declared.expressions.Argument.{Argument}
-use Rattle.ada_syntax.specs.declared.statements.Label.{Label}
-use Rattle.ada_syntax.specs.declared.statements.Call.{Call}
-use Rattle.ada_syntax.specs.declared.statements.Assignment.{Assignment}
-use Rattle.ada_syntax.specs.declared.statements.Loop.{Loop}
-use Rattle.ada_syntax.specs.declared.statements.Block.{Block}
-use Rattle.ada_syntax.specs.declared.statements.Iteration.{Iteration}
-use Rattle.ada_syntax.specs.declared.statements.Iteration.TheVariants as iterations
-use Rattle.ada_syntax.specs.declared.statements.SequenceRole.TheVariants as role
-use Rattle.ada_syntax.specs.declared.statements.Accept.{Accept}
-use Rattle.ada_syntax.specs.declared.statements.Delay.{Delay}
-use Rattle.ada_syntax.specs.Written.{Written, Lexeme, word, word_at, mark, flag, separated, identifier_written, one_identifier, each_written, behind, name_written, optional}
-use Rattle.ada_syntax.specs.Spelling.{sequence_written}
-use Rattle.ada_syntax.specs.SpellingStatements.{semicolon, call_written, index_written, assignment_written, delay_written, label_written, iteration_written, loop_written, block_opened, block_written, parameters_written, accept_body_written, with_abort_written, accept_written, statement_written}
-use Rattle.ada_syntax.specs.SpellingExpressions.{expression_written, arguments_written}
-use Rattle.ada_syntax.specs.Shape.{sequence_fits}
-use Rattle.ada_syntax.specs.ShapeStatements.{delay_fits, accept_fits, parts_fit}
+use Rattle.ada_tree.specs.declared.names.Identifier.{Identifier}
+use Rattle.ada_tree.specs.declared.names.Name.{Name}
+use Rattle.ada_tree.specs.declared.statements.Statement.{Statement}
+use Rattle.ada_tree.specs.declared.statements.Statement.TheVariants as statements
+use Rattle.ada_tree.specs.declared.statements.SequenceRole.{SequenceRole}
+use Rattle.ada_tree.specs.declared.statements.Sequence.{Sequence}
+use Rattle.ada_tree.specs.declared.expressions.Expression.{Expression}
+use Rattle.ada_tree.specs.declared.expressions.Argument.{Argument}
+use Rattle.ada_tree.specs.declared.statements.Label.{Label}
+use Rattle.ada_tree.specs.declared.statements.Call.{Call}
+use Rattle.ada_tree.specs.declared.statements.Assignment.{Assignment}
+use Rattle.ada_tree.specs.declared.statements.Loop.{Loop}
+use Rattle.ada_tree.specs.declared.statements.Block.{Block}
+use Rattle.ada_tree.specs.declared.statements.Iteration.{Iteration}
+use Rattle.ada_tree.specs.declared.statements.Iteration.TheVariants as iterations
+use Rattle.ada_tree.specs.declared.statements.SequenceRole.TheVariants as role
+use Rattle.ada_tree.specs.declared.statements.Accept.{Accept}
+use Rattle.ada_tree.specs.declared.statements.Delay.{Delay}
+use Rattle.ada_tree.specs.Written.{Written, Lexeme, word, word_at, mark, flag, separated, identifier_written, one_identifier, each_written, behind, name_written, optional}
+use Rattle.ada_tree.specs.Spelling.{sequence_written}
+use Rattle.ada_tree.specs.SpellingStatements.{semicolon, call_written, index_written, assignment_written, delay_written, label_written, iteration_written, loop_written, block_opened, block_written, parameters_written, accept_body_written, with_abort_written, accept_written, statement_written}
+use Rattle.ada_tree.specs.SpellingExpressions.{expression_written, arguments_written}
+use Rattle.ada_tree.specs.Shape.{sequence_fits}
+use Rattle.ada_tree.specs.ShapeStatements.{delay_fits, accept_fits, parts_fit}
 use Rattle.ada_grammar.specs.Reading.{Parser, ◌>>=◌, pure, starts, starts_both, is_word, is_identifier, sees_word, sees_mark}
 use Rattle.ada_grammar.specs.ReadingSimple.{delay_of, simple_of, null_of, exit_of, return_of, raise_of, abort_of, requeue_of}
 use Rattle.ada_grammar.specs.ReadingStatements.{begins_loop, begins_block, begins_compound, sees_label, if_of, case_of, loop_of, block_of, labelled_of, accept_of, select_of, compound_of, named_statement_of, simple_statement_of, statement_inside_of}

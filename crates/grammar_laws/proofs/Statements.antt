@@ -4,22 +4,22 @@ use Rattle.std.specs.Prelude.{Option, Some}
 use Rattle.std.specs.List.{list_all}
 use Rattle.ada_lex.specs.Reserved.{is_reserved}
 use Rattle.ada_lex.specs.ReservedLetters.{letters}
-use Rattle.ada_syntax.specs.declared.names.Identifier.{Identifier}
-use Rattle.ada_syntax.specs.declared.statements.Statement.TheVariants as statements
-use Rattle.ada_syntax.specs.declared.statements.SequenceRole.{SequenceRole}
-use Rattle.ada_syntax.specs.declared.statements.SequenceRole.TheVariants as role
-use Rattle.ada_syntax.specs.declared.statements.Sequence.{Sequence}
-use Rattle.ada_syntax.specs.declared.statements.If.{If}
-use Rattle.ada_syntax.specs.declared.statements.Elsif.{Elsif}
-use Rattle.ada_syntax.specs.declared.statements.Case.{Case}
-use Rattle.ada_syntax.specs.declared.statements.CaseAlternative.{CaseAlternative}
-use Rattle.ada_syntax.specs.declared.statements.AcceptBody.{AcceptBody}
-use Rattle.ada_syntax.specs.Written.{Lexeme, word, word_at, mark, flag, each_written, all_written, separated, optional}
-use Rattle.ada_syntax.specs.Spelling.{sequence_written}
-use Rattle.ada_syntax.specs.SpellingStatements.{semicolon, statements_written, choice_written, elsif_written, else_written, if_written, case_alternative_written, case_written, accept_body_written, accept_written}
-use Rattle.ada_syntax.specs.Shape.{sequence_fits}
-use Rattle.ada_syntax.specs.ShapeExpressions.{optional_fits, all_fit}
-use Rattle.ada_syntax.specs.ShapeStatements.{choice_fits, statements_fit, elsif_fits, if_fits, case_alternative_fits, case_fits, accept_body_fits, accept_fits}
+use Rattle.ada_tree.specs.declared.names.Identifier.{Identifier}
+use Rattle.ada_tree.specs.declared.statements.Statement.TheVariants as statements
+use Rattle.ada_tree.specs.declared.statements.SequenceRole.{SequenceRole}
+use Rattle.ada_tree.specs.declared.statements.SequenceRole.TheVariants as role
+use Rattle.ada_tree.specs.declared.statements.Sequence.{Sequence}
+use Rattle.ada_tree.specs.declared.statements.If.{If}
+use Rattle.ada_tree.specs.declared.statements.Elsif.{Elsif}
+use Rattle.ada_tree.specs.declared.statements.Case.{Case}
+use Rattle.ada_tree.specs.declared.statements.CaseAlternative.{CaseAlternative}
+use Rattle.ada_tree.specs.declared.statements.AcceptBody.{AcceptBody}
+use Rattle.ada_tree.specs.Written.{Lexeme, word, word_at, mark, flag, each_written, all_written, separated, optional}
+use Rattle.ada_tree.specs.Spelling.{sequence_written}
+use Rattle.ada_tree.specs.SpellingStatements.{semicolon, statements_written, choice_written, elsif_written, else_written, if_written, case_alternative_written, case_written, accept_body_written, accept_written}
+use Rattle.ada_tree.specs.Shape.{sequence_fits}
+use Rattle.ada_tree.specs.ShapeExpressions.{optional_fits, all_fit}
+use Rattle.ada_tree.specs.ShapeStatements.{choice_fits, statements_fit, elsif_fits, if_fits, case_alternative_fits, case_fits, accept_body_fits, accept_fits}
 use Rattle.ada_grammar.specs.Reading.{Parser, starts, sees_word, sees_mark, end_name_of, items_of, separated_of}
 use Rattle.ada_grammar.specs.ReadingStatements.{begins_statement, elsif_of, else_of, if_of, case_alternative_of, case_alternatives_of, case_of, accept_body_of, accept_of, optional_statements_of}
 use Rattle.ada_grammar.specs.ReadingSimple.{choice_of}

@@ -2,19 +2,19 @@
 use Rattle.std.proofs.Common.{◌≡◌, Bool, true, false, ◌||◌, List, [], ◌∷◌, ◌++◌, refl, subst, codes}
 use Rattle.std.specs.Prelude.{Option}
 use Rattle.ann_base.specs.declared.places.Place.{Place}
-use Rattle.ada_syntax.specs.declared.names.Name.{Name}
-use Rattle.ada_syntax.specs.declared.statements.Statement.{Statement}
-use Rattle.ada_syntax.specs.declared.statements.Statement.TheVariants as statements
-use Rattle.ada_syntax.specs.declared.statements.SequenceRole.TheVariants as role
-use Rattle.ada_syntax.specs.declared.statements.Sequence.{Sequence}
-use Rattle.ada_syntax.specs.declared.statements.Sequence.TheViews.{out-Sequence}
-use Rattle.ada_syntax.specs.declared.statements.Iteration.{Iteration}
-use Rattle.ada_syntax.specs.declared.statements.Iteration.TheVariants as iterations
-use Rattle.ada_syntax.specs.Written.{Written, Lexeme, word, word_at, mark, flag, identifier_written, one_identifier, each_written, behind, separated, name_written, optional}
-use Rattle.ada_syntax.specs.Spelling.{sequence_written}
-use Rattle.ada_syntax.specs.SpellingExpressions.{expression_written}
-use Rattle.ada_syntax.specs.SpellingStatements.{semicolon, with_abort_written, parameters_written, accept_body_written, iteration_written, label_written, block_opened, statements_written, statement_written}
-use Rattle.ada_syntax.proofs.SequenceFolds.{sequence_is_written}
+use Rattle.ada_tree.specs.declared.names.Name.{Name}
+use Rattle.ada_tree.specs.declared.statements.Statement.{Statement}
+use Rattle.ada_tree.specs.declared.statements.Statement.TheVariants as statements
+use Rattle.ada_tree.specs.declared.statements.SequenceRole.TheVariants as role
+use Rattle.ada_tree.specs.declared.statements.Sequence.{Sequence}
+use Rattle.ada_tree.specs.declared.statements.Sequence.TheViews.{out-Sequence}
+use Rattle.ada_tree.specs.declared.statements.Iteration.{Iteration}
+use Rattle.ada_tree.specs.declared.statements.Iteration.TheVariants as iterations
+use Rattle.ada_tree.specs.Written.{Written, Lexeme, word, word_at, mark, flag, identifier_written, one_identifier, each_written, behind, separated, name_written, optional}
+use Rattle.ada_tree.specs.Spelling.{sequence_written}
+use Rattle.ada_tree.specs.SpellingExpressions.{expression_written}
+use Rattle.ada_tree.specs.SpellingStatements.{semicolon, with_abort_written, parameters_written, accept_body_written, iteration_written, label_written, block_opened, statements_written, statement_written}
+use Rattle.ada_tree.proofs.SequenceFolds.{sequence_is_written}
 use Rattle.ada_grammar.specs.Reading.{starts, sees_word, sees_identifier}
 use Rattle.ada_grammar.specs.ReadingStatements.{begins_compound, begins_simple, begins_statement}
 use Rattle.grammar_laws.specs.Leads.{Leads}

@@ -4,23 +4,23 @@ use Rattle.std.specs.Prelude.{Option, Some, None}
 use Rattle.ann_base.specs.declared.places.Place.{Place}
 use Rattle.ada_lex.specs.Reserved.{is_reserved}
 use Rattle.ada_lex.specs.ReservedLetters.{letters}
-use Rattle.ada_syntax.specs.declared.names.Identifier.{Identifier}
-use Rattle.ada_syntax.specs.declared.statements.Statement.{Statement}
-use Rattle.ada_syntax.specs.declared.statements.Statement.TheVariants as statements
-use Rattle.ada_syntax.specs.declared.statements.SequenceRole.{SequenceRole}
-use Rattle.ada_syntax.specs.declared.statements.SequenceRole.TheVariants as role
-use Rattle.ada_syntax.specs.declared.statements.Sequence.{Sequence}
-use Rattle.ada_syntax.specs.declared.statements.Label.{Label}
-use Rattle.ada_syntax.specs.declared.statements.Loop.{Loop}
-use Rattle.ada_syntax.specs.declared.statements.Block.{Block}
-use Rattle.ada_syntax.specs.declared.statements.Iteration.{Iteration}
-use Rattle.ada_syntax.specs.declared.statements.Iteration.TheVariants as iterations
-use Rattle.ada_syntax.specs.Written.{Written, Lexeme, word, word_at, mark, flag, identifier_written, optional}
-use Rattle.ada_syntax.specs.Spelling.{sequence_written}
-use Rattle.ada_syntax.specs.SpellingExpressions.{expression_written}
-use Rattle.ada_syntax.specs.SpellingStatements.{semicolon, statements_written, iteration_written, label_written, label_end_written, loop_written, block_opened, block_written, statement_written}
-use Rattle.ada_syntax.specs.Shape.{sequence_fits}
-use Rattle.ada_syntax.specs.ShapeStatements.{loop_fits, block_fits, parts_fit}
+use Rattle.ada_tree.specs.declared.names.Identifier.{Identifier}
+use Rattle.ada_tree.specs.declared.statements.Statement.{Statement}
+use Rattle.ada_tree.specs.declared.statements.Statement.TheVariants as statements
+use Rattle.ada_tree.specs.declared.statements.SequenceRole.{SequenceRole}
+use Rattle.ada_tree.specs.declared.statements.SequenceRole.TheVariants as role
+use Rattle.ada_tree.specs.declared.statements.Sequence.{Sequence}
+use Rattle.ada_tree.specs.declared.statements.Label.{Label}
+use Rattle.ada_tree.specs.declared.statements.Loop.{Loop}
+use Rattle.ada_tree.specs.declared.statements.Block.{Block}
+use Rattle.ada_tree.specs.declared.statements.Iteration.{Iteration}
+use Rattle.ada_tree.specs.declared.statements.Iteration.TheVariants as iterations
+use Rattle.ada_tree.specs.Written.{Written, Lexeme, word, word_at, mark, flag, identifier_written, optional}
+use Rattle.ada_tree.specs.Spelling.{sequence_written}
+use Rattle.ada_tree.specs.SpellingExpressions.{expression_written}
+use Rattle.ada_tree.specs.SpellingStatements.{semicolon, statements_written, iteration_written, label_written, label_end_written, loop_written, block_opened, block_written, statement_written}
+use Rattle.ada_tree.specs.Shape.{sequence_fits}
+use Rattle.ada_tree.specs.ShapeStatements.{loop_fits, block_fits, parts_fit}
 use Rattle.ada_grammar.specs.Reading.{Parser, choose, starts, sees_word, end_name_of}
 use Rattle.ada_grammar.specs.ReadingSimple.{label_end_of}
 use Rattle.ada_grammar.specs.ReadingStatements.{begins_statement, begins_block, loop_of, block_end_of, declare_of, begin_of, block_of, labelled_of}

@@ -1,11 +1,11 @@
 -- The steps that statements are read by.
 use Rattle.std.proofs.Common.{◌≡◌, ℕ, Bool, true, false, cond, ◌&&◌, List, [], ◌∷◌, ◌++◌, refl, sym, ap, subst, ◌∙◌}
 use Rattle.ann_base.specs.declared.places.Place.{Place}
-use Rattle.ada_syntax.specs.declared.names.Identifier.{Identifier}
-use Rattle.ada_syntax.specs.declared.expressions.Expression.{Expression}
-use Rattle.ada_syntax.specs.Written.{Written, Lexeme, word, word_at, mark, identifier_written, one_identifier}
-use Rattle.ada_syntax.specs.SpellingExpressions.{expression_written}
-use Rattle.ada_syntax.specs.ShapeStatements.{value_fits}
+use Rattle.ada_tree.specs.declared.names.Identifier.{Identifier}
+use Rattle.ada_tree.specs.declared.expressions.Expression.{Expression}
+use Rattle.ada_tree.specs.Written.{Written, Lexeme, word, word_at, mark, identifier_written, one_identifier}
+use Rattle.ada_tree.specs.SpellingExpressions.{expression_written}
+use Rattle.ada_tree.specs.ShapeStatements.{value_fits}
 use Rattle.ada_grammar.specs.Reading.{Read, Parser, ◌>>=◌, choose, the_word, the_mark, an_identifier}
 use Rattle.ada_grammar.specs.ReadingExpressions.{expression_of}
 use Rattle.grammar_laws.specs.Leads.{Leads}

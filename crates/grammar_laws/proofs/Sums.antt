@@ -3,23 +3,23 @@ use Rattle.std.proofs.Common.{◌≡◌, ℕ, Bool, true, false, not, List, [], 
 use Rattle.std.proofs.lemmas.Bool.{false≢true}
 use Rattle.std.specs.List.{list_all}
 use Rattle.ann_base.specs.declared.places.Place.{Place}
-use Rattle.ada_syntax.specs.declared.names.OneOrMore.{OneOrMore}
-use Rattle.ada_syntax.specs.declared.operators.RelationalOperator.{RelationalOperator}
-use Rattle.ada_syntax.specs.declared.operators.RelationalOperator.TheVariants as relational
-use Rattle.ada_syntax.specs.declared.operators.AddingOperator.{AddingOperator}
-use Rattle.ada_syntax.specs.declared.operators.AddingOperator.TheVariants as adding
-use Rattle.ada_syntax.specs.declared.operators.Sign.{Sign}
-use Rattle.ada_syntax.specs.declared.operators.Sign.TheVariants as signs
-use Rattle.ada_syntax.specs.declared.operators.HighestOperator.{HighestOperator}
-use Rattle.ada_syntax.specs.declared.expressions.Precedence.TheVariants as precedence
-use Rattle.ada_syntax.specs.declared.expressions.Expression.{Expression}
-use Rattle.ada_syntax.specs.declared.expressions.Expression.TheViews.{out-Expression}
-use Rattle.ada_syntax.specs.declared.expressions.ExpressionForm.{ExpressionForm}
-use Rattle.ada_syntax.specs.declared.expressions.ExpressionForm.TheVariants as form
-use Rattle.ada_syntax.specs.declared.expressions.Addend.{Addend}
-use Rattle.ada_syntax.specs.Written.{Written, Lexeme, word_at, mark_at, identifier_written, each_written, all_written}
-use Rattle.ada_syntax.specs.SpellingExpressions.{relational_text, adding_text, sign_text, highest_text, addend_written, multiplied_written, form_written, expression_written}
-use Rattle.ada_syntax.specs.ShapeExpressions.{all_fit, addend_fits, multiplied_fits, form_fits, expression_fits}
+use Rattle.ada_tree.specs.declared.names.OneOrMore.{OneOrMore}
+use Rattle.ada_tree.specs.declared.operators.RelationalOperator.{RelationalOperator}
+use Rattle.ada_tree.specs.declared.operators.RelationalOperator.TheVariants as relational
+use Rattle.ada_tree.specs.declared.operators.AddingOperator.{AddingOperator}
+use Rattle.ada_tree.specs.declared.operators.AddingOperator.TheVariants as adding
+use Rattle.ada_tree.specs.declared.operators.Sign.{Sign}
+use Rattle.ada_tree.specs.declared.operators.Sign.TheVariants as signs
+use Rattle.ada_tree.specs.declared.operators.HighestOperator.{HighestOperator}
+use Rattle.ada_tree.specs.declared.expressions.Precedence.TheVariants as precedence
+use Rattle.ada_tree.specs.declared.expressions.Expression.{Expression}
+use Rattle.ada_tree.specs.declared.expressions.Expression.TheViews.{out-Expression}
+use Rattle.ada_tree.specs.declared.expressions.ExpressionForm.{ExpressionForm}
+use Rattle.ada_tree.specs.declared.expressions.ExpressionForm.TheVariants as form
+use Rattle.ada_tree.specs.declared.expressions.Addend.{Addend}
+use Rattle.ada_tree.specs.Written.{Written, Lexeme, word_at, mark_at, identifier_written, each_written, all_written}
+use Rattle.ada_tree.specs.SpellingExpressions.{relational_text, adding_text, sign_text, highest_text, addend_written, multiplied_written, form_written, expression_written}
+use Rattle.ada_tree.specs.ShapeExpressions.{all_fit, addend_fits, multiplied_fits, form_fits, expression_fits}
 use Rattle.ada_grammar.specs.Reading.{Parser, starts, sees_mark, the_mark, items_of}
 use Rattle.ada_grammar.specs.ReadingExpressions.{formed, compares, adds, relational_of, comparison_of, adding_of, addition_of, term_of, signed_of, first_term_of, addend_of, addition_behind_of, sum_of, compared_of, relation_of}
 use Rattle.grammar_laws.specs.Leads.{Leads}

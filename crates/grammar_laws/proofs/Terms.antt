@@ -5,21 +5,21 @@ use Rattle.std.proofs.lemmas.Bool.Decides.{nat_tests}
 use Rattle.std.specs.Prelude.{nat_le}
 use Rattle.std.specs.List.{list_all}
 use Rattle.ann_base.specs.declared.places.Place.{Place}
-use Rattle.ada_syntax.specs.declared.names.Identifier.{Identifier}
-use Rattle.ada_syntax.specs.declared.names.OneOrMore.{OneOrMore}
-use Rattle.ada_syntax.specs.declared.operators.MultiplyingOperator.{MultiplyingOperator}
-use Rattle.ada_syntax.specs.declared.operators.MultiplyingOperator.TheVariants as multiplying
-use Rattle.ada_syntax.specs.declared.operators.HighestOperator.{HighestOperator}
-use Rattle.ada_syntax.specs.declared.operators.HighestOperator.TheVariants as highest
-use Rattle.ada_syntax.specs.declared.expressions.Precedence.{Precedence}
-use Rattle.ada_syntax.specs.declared.expressions.Precedence.TheVariants as precedence
-use Rattle.ada_syntax.specs.declared.expressions.Expression.{Expression}
-use Rattle.ada_syntax.specs.declared.expressions.ExpressionForm.{ExpressionForm}
-use Rattle.ada_syntax.specs.declared.expressions.ExpressionForm.TheVariants as form
-use Rattle.ada_syntax.specs.declared.expressions.Multiplied.{Multiplied}
-use Rattle.ada_syntax.specs.Written.{Written, Lexeme, word_at, mark, mark_at, number_at, text_at, identifier_written, one_identifier, each_written, all_written, behind}
-use Rattle.ada_syntax.specs.SpellingExpressions.{multiplying_written, highest_text, multiplied_written, form_written, expression_written}
-use Rattle.ada_syntax.specs.ShapeExpressions.{all_fit, rank, precedence_of, parts_fit, multiplied_fits, form_fits, expression_fits}
+use Rattle.ada_tree.specs.declared.names.Identifier.{Identifier}
+use Rattle.ada_tree.specs.declared.names.OneOrMore.{OneOrMore}
+use Rattle.ada_tree.specs.declared.operators.MultiplyingOperator.{MultiplyingOperator}
+use Rattle.ada_tree.specs.declared.operators.MultiplyingOperator.TheVariants as multiplying
+use Rattle.ada_tree.specs.declared.operators.HighestOperator.{HighestOperator}
+use Rattle.ada_tree.specs.declared.operators.HighestOperator.TheVariants as highest
+use Rattle.ada_tree.specs.declared.expressions.Precedence.{Precedence}
+use Rattle.ada_tree.specs.declared.expressions.Precedence.TheVariants as precedence
+use Rattle.ada_tree.specs.declared.expressions.Expression.{Expression}
+use Rattle.ada_tree.specs.declared.expressions.ExpressionForm.{ExpressionForm}
+use Rattle.ada_tree.specs.declared.expressions.ExpressionForm.TheVariants as form
+use Rattle.ada_tree.specs.declared.expressions.Multiplied.{Multiplied}
+use Rattle.ada_tree.specs.Written.{Written, Lexeme, word_at, mark, mark_at, number_at, text_at, identifier_written, one_identifier, each_written, all_written, behind}
+use Rattle.ada_tree.specs.SpellingExpressions.{multiplying_written, highest_text, multiplied_written, form_written, expression_written}
+use Rattle.ada_tree.specs.ShapeExpressions.{all_fit, rank, precedence_of, parts_fit, multiplied_fits, form_fits, expression_fits}
 use Rattle.ada_grammar.specs.Reading.{Parser, starts, sees_word, sees_mark, the_word, the_mark, items_of}
 use Rattle.ada_grammar.specs.ReadingExpressions.{formed, multiplies, multiplying_mark_of, multiplying_word_of, multiplication_of, primary_of, highest_of, factor_of, multiplied_of, product_of, term_of}
 use Rattle.grammar_laws.specs.Leads.{Leads}

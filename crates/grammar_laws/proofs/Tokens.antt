@@ -8,8 +8,8 @@ use Rattle.ann_base.specs.declared.places.Place.{Place}
 use Rattle.ada_lex.specs.declared.tokens.Kind.{Kind}
 use Rattle.ada_lex.specs.declared.tokens.Kind.TheVariants as kinds
 use Rattle.ada_lex.specs.Reserved.{is_reserved}
-use Rattle.ada_syntax.specs.declared.names.Identifier.{Identifier}
-use Rattle.ada_syntax.specs.Written.{Written, Lexeme, Spells, word, word_at, mark, mark_at, number_at, text_at, identifier_written, one_identifier, flag}
+use Rattle.ada_tree.specs.declared.names.Identifier.{Identifier}
+use Rattle.ada_tree.specs.Written.{Written, Lexeme, Spells, word, word_at, mark, mark_at, number_at, text_at, identifier_written, one_identifier, flag}
 use Rattle.ada_grammar.specs.declared.stuck.Stuck.TheVariants as stuck
 use Rattle.ada_grammar.specs.Reading.{Read, Parser, and_then, ◌>>=◌, pure, choose, is_word, is_number, is_text, is_mark, is_this_word, is_this_mark, is_identifier, is_numeral, is_string, starts, token, sees_word, sees_mark, sees_identifier, the_word, the_mark, an_identifier, a_number, a_text, flag_of}
 use Rattle.grammar_laws.specs.Leads.{Leads}

@@ -5,31 +5,31 @@ use Rattle.std.specs.List.{list_all}
 use Rattle.ann_base.specs.declared.places.Place.{Place}
 use Rattle.ada_lex.specs.Reserved.{is_reserved}
 use Rattle.ada_lex.specs.ReservedLetters.{letters}
-use Rattle.ada_syntax.specs.declared.names.Identifier.{Identifier}
-use Rattle.ada_syntax.specs.declared.names.Name.{Name}
-use Rattle.ada_syntax.specs.declared.names.OneOrMore.{OneOrMore}
-use Rattle.ada_syntax.specs.declared.expressions.Expression.{Expression}
-use Rattle.ada_syntax.specs.declared.expressions.Argument.{Argument}
-use Rattle.ada_syntax.specs.declared.statements.Sequence.{Sequence}
-use Rattle.ada_syntax.specs.declared.statements.SequenceRole.TheVariants as role
-use Rattle.ada_syntax.specs.declared.declarations.Declaration.{Declaration}
-use Rattle.ada_syntax.specs.declared.units.Pragma.{Pragma}
-use Rattle.ada_syntax.specs.declared.units.ContextClause.{ContextClause}
-use Rattle.ada_syntax.specs.declared.units.LibraryPackage.{LibraryPackage}
-use Rattle.ada_syntax.specs.declared.units.Package.{Package}
-use Rattle.ada_syntax.specs.declared.units.Package.TheVariants as packages
-use Rattle.ada_syntax.specs.declared.units.PackageDeclaration.{PackageDeclaration}
-use Rattle.ada_syntax.specs.declared.units.PackageBody.{PackageBody}
-use Rattle.ada_syntax.specs.declared.units.MainProcedure.{MainProcedure}
-use Rattle.ada_syntax.specs.declared.units.Unit.{Unit as Tree}
-use Rattle.ada_syntax.specs.Written.{Written, Lexeme, word, word_at, mark, identifier_written, each_written, separated, optional, name_written, end_name_written}
-use Rattle.ada_syntax.specs.SpellingExpressions.{expression_written, argument_written}
-use Rattle.ada_syntax.specs.SpellingStatements.{semicolon}
-use Rattle.ada_syntax.specs.SpellingDeclarations.{body_written, aspects_written}
-use Rattle.ada_syntax.specs.Spelling.{sequence_written, pragma_written, clause_text, clause_written, declarations_written, private_part_written, package_declaration_written, package_statements_written, package_body_written, package_written, library_package_written, main_written, unit_written}
-use Rattle.ada_syntax.specs.ShapeExpressions.{within, all_fit, optional_fits, argument_fits, expression_fits}
-use Rattle.ada_syntax.specs.ShapeDeclarations.{aspects_fit, body_fits}
-use Rattle.ada_syntax.specs.Shape.{sequence_fits, pragma_fits, declarations_fit, package_declaration_fits, package_statements_fit, package_parts_fit, package_fits, library_package_fits, main_fits, unit_fits}
+use Rattle.ada_tree.specs.declared.names.Identifier.{Identifier}
+use Rattle.ada_tree.specs.declared.names.Name.{Name}
+use Rattle.ada_tree.specs.declared.names.OneOrMore.{OneOrMore}
+use Rattle.ada_tree.specs.declared.expressions.Expression.{Expression}
+use Rattle.ada_tree.specs.declared.expressions.Argument.{Argument}
+use Rattle.ada_tree.specs.declared.statements.Sequence.{Sequence}
+use Rattle.ada_tree.specs.declared.statements.SequenceRole.TheVariants as role
+use Rattle.ada_tree.specs.declared.declarations.Declaration.{Declaration}
+use Rattle.ada_tree.specs.declared.units.Pragma.{Pragma}
+use Rattle.ada_tree.specs.declared.units.ContextClause.{ContextClause}
+use Rattle.ada_tree.specs.declared.units.LibraryPackage.{LibraryPackage}
+use Rattle.ada_tree.specs.declared.units.Package.{Package}
+use Rattle.ada_tree.specs.declared.units.Package.TheVariants as packages
+use Rattle.ada_tree.specs.declared.units.PackageDeclaration.{PackageDeclaration}
+use Rattle.ada_tree.specs.declared.units.PackageBody.{PackageBody}
+use Rattle.ada_tree.specs.declared.units.MainProcedure.{MainProcedure}
+use Rattle.ada_tree.specs.declared.units.Unit.{Unit as Tree}
+use Rattle.ada_tree.specs.Written.{Written, Lexeme, word, word_at, mark, identifier_written, each_written, separated, optional, name_written, end_name_written}
+use Rattle.ada_tree.specs.SpellingExpressions.{expression_written, argument_written}
+use Rattle.ada_tree.specs.SpellingStatements.{semicolon}
+use Rattle.ada_tree.specs.SpellingDeclarations.{body_written, aspects_written}
+use Rattle.ada_tree.specs.Spelling.{sequence_written, pragma_written, clause_text, clause_written, declarations_written, private_part_written, package_declaration_written, package_statements_written, package_body_written, package_written, library_package_written, main_written, unit_written}
+use Rattle.ada_tree.specs.ShapeExpressions.{within, all_fit, optional_fits, argument_fits, expression_fits}
+use Rattle.ada_tree.specs.ShapeDeclarations.{aspects_fit, body_fits}
+use Rattle.ada_tree.specs.Shape.{sequence_fits, pragma_fits, declarations_fit, package_declaration_fits, package_statements_fit, package_parts_fit, package_fits, library_package_fits, main_fits, unit_fits}
 use Rattle.ada_grammar.specs.Reading.{Read, and_then, ◌>>=◌, pure, choose, starts, sees_word, sees_mark, the_word, the_mark, below, items_of, separated_of, names_of, end_name_of}
 use Rattle.ada_grammar.specs.ReadingExpressions.{inner_of, argument_of}
 use Rattle.ada_grammar.specs.ReadingStatements.{begins_statement}

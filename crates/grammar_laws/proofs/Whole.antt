@@ -1,13 +1,13 @@
 -- The laws, whole.
 use Rattle.std.proofs.Common.{◌≡◌, ℕ, true, List, length, Result, Ok, Err, refl, sym, ap, subst, ◌∙◌}
-use Rattle.ada_syntax.specs.declared.expressions.Precedence.TheVariants as precedence
-use Rattle.ada_syntax.specs.declared.expressions.Expression.{Expression}
-use Rattle.ada_syntax.specs.declared.units.Unit.{Unit as Tree}
-use Rattle.ada_syntax.specs.Written.{Lexeme}
-use Rattle.ada_syntax.specs.SpellingExpressions.{expression_written}
-use Rattle.ada_syntax.specs.Spelling.{unit_written}
-use Rattle.ada_syntax.specs.ShapeExpressions.{expression_fits}
-use Rattle.ada_syntax.specs.Shape.{is_shaped}
+use Rattle.ada_tree.specs.declared.expressions.Precedence.TheVariants as precedence
+use Rattle.ada_tree.specs.declared.expressions.Expression.{Expression}
+use Rattle.ada_tree.specs.declared.units.Unit.{Unit as Tree}
+use Rattle.ada_tree.specs.Written.{Lexeme}
+use Rattle.ada_tree.specs.SpellingExpressions.{expression_written}
+use Rattle.ada_tree.specs.Spelling.{unit_written}
+use Rattle.ada_tree.specs.ShapeExpressions.{expression_fits}
+use Rattle.ada_tree.specs.Shape.{is_shaped}
 use Rattle.ada_grammar.specs.declared.faults.ParseFault.{ParseFault}
 use Rattle.ada_grammar.specs.Reading.{Read}
 use Rattle.ada_grammar.specs.ReadingUnits.{placed, source_of, unit_of}

@@ -1,13 +1,13 @@
 -- Laws of the grammar: what is read is what is written, and what is written is read.
 use Rattle.std.specs.Prelude.{◌≡◌, ℕ, true, List, Ok}
-use Rattle.ada_syntax.specs.declared.expressions.Precedence.TheVariants as precedence
-use Rattle.ada_syntax.specs.declared.expressions.Expression.{Expression}
-use Rattle.ada_syntax.specs.declared.units.Unit.{Unit as Tree}
-use Rattle.ada_syntax.specs.Written.{Lexeme}
-use Rattle.ada_syntax.specs.SpellingExpressions.{expression_written}
-use Rattle.ada_syntax.specs.Spelling.{SpellsTokens}
-use Rattle.ada_syntax.specs.ShapeExpressions.{expression_fits}
-use Rattle.ada_syntax.specs.Shape.{is_shaped}
+use Rattle.ada_tree.specs.declared.expressions.Precedence.TheVariants as precedence
+use Rattle.ada_tree.specs.declared.expressions.Expression.{Expression}
+use Rattle.ada_tree.specs.declared.units.Unit.{Unit as Tree}
+use Rattle.ada_tree.specs.Written.{Lexeme}
+use Rattle.ada_tree.specs.SpellingExpressions.{expression_written}
+use Rattle.ada_tree.specs.Spelling.{SpellsTokens}
+use Rattle.ada_tree.specs.ShapeExpressions.{expression_fits}
+use Rattle.ada_tree.specs.Shape.{is_shaped}
 use Rattle.ada_grammar.specs.ReadingExpressions.{expression_of}
 use Rattle.ada_grammar.specs.ReadingUnits.{unit_of}
 use Rattle.grammar_laws.specs.Leads.{Leads}

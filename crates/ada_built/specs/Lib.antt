@@ -1,0 +1,4 @@
+pub mod Readable
+pub mod Openings
+pub mod Built
+pub mod Laws

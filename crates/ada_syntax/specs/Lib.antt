@@ -1,9 +1,0 @@
-pub mod Written
-pub mod SpellingExpressions
-pub mod SpellingStatements
-pub mod SpellingDeclarations
-pub mod Spelling
-pub mod ShapeExpressions
-pub mod ShapeStatements
-pub mod ShapeDeclarations
-pub mod Shape

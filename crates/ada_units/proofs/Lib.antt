@@ -1,4 +1,0 @@
-pub mod Levels
-pub mod Packages
-pub mod Sources
-pub mod Given

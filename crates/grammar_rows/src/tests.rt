@@ -1,0 +1,67 @@
+//! Sources with the tree or the fault that the grammar gives them.
+mod rows;
+
+use ada_grammar::ParseFault;
+use ada_lex::lex;
+use ada_parse::parse;
+use rows::{NESTING, ROWS_1, ROWS_2, ROWS_3, ROWS_4, ROWS_5, WORKED};
+use std::alloc::Global;
+use std::process::Abort;
+use std::test::Fail;
+
+/// Code and place of the fault, code 0 where there is a tree; at the end of the source the place is 0:0.
+fn fault_of(alloc: Global, source: &[u8]) -> Result<(u8, u32, u32), Fail> {
+    let tokens = lex(alloc, source)?;
+    let (code, token) = match parse(alloc, source, &tokens) {
+        Ok(_) => return Ok((0, 0, 0)),
+        Err(ParseFault::Memory) => return Ok((9, 0, 0)),
+        Err(ParseFault::Unexpected { token }) => (5, token),
+        Err(ParseFault::TooDeep { token }) => (6, token),
+    };
+    match tokens.get(token as usize) {
+        None => Ok((code, 0, 0)),
+        Some(token) => Ok((code, token.place.line, token.place.column)),
+    }
+}
+
+fn check(rt: &impl Abort, alloc: Global, rows: &[(&[u8], (u8, u32, u32))]) -> Result<(), Fail> {
+    for (source, want) in rows {
+        assert_eq!(rt; fault_of(alloc, source)?, *want, "{source:?}");
+    }
+    Ok(())
+}
+
+#[test]
+fn rows_1_hold(rt: HostRuntime) -> Result<(), Fail> {
+    check(&rt, rt.alloc(), &ROWS_1)
+}
+
+#[test]
+fn rows_2_hold(rt: HostRuntime) -> Result<(), Fail> {
+    check(&rt, rt.alloc(), &ROWS_2)
+}
+
+#[test]
+fn rows_3_hold(rt: HostRuntime) -> Result<(), Fail> {
+    check(&rt, rt.alloc(), &ROWS_3)
+}
+
+#[test]
+fn rows_4_hold(rt: HostRuntime) -> Result<(), Fail> {
+    check(&rt, rt.alloc(), &ROWS_4)
+}
+
+#[test]
+fn rows_5_hold(rt: HostRuntime) -> Result<(), Fail> {
+    check(&rt, rt.alloc(), &ROWS_5)
+}
+
+#[test]
+fn nesting_holds(rt: HostRuntime) -> Result<(), Fail> {
+    check(&rt, rt.alloc(), &NESTING)
+}
+
+#[test]
+fn worked_programs_hold(rt: HostRuntime) -> Result<(), Fail> {
+    check(&rt, rt.alloc(), &WORKED)
+}

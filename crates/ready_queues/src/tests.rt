@@ -21,8 +21,12 @@ fn fresh<L: LevelPolicy>(alloc: Global) -> Result<Vec<L>, NoMemory>
     Ok(levels)
 }
 
-// Who is chosen behind each step, by number.
-fn run<L: LevelPolicy>(rt: &impl Abort, alloc: Global, key: L::Key) -> Result<(), Fail> {
+// Who is chosen behind each step, by number; what two ticks of a task answer, and its key then.
+fn run<L: LevelPolicy>(
+    rt: &impl Abort,
+    alloc: Global,
+    key: L::Key,
+) -> Result<(bool, bool, L::Key), Fail> {
     let mut ready = Ready::with_room(alloc, fresh::<L>(alloc)?)?;
     assert!(rt; ready.choose().is_none());
     ready.release(Slot(1), 15, key);
@@ -36,12 +40,13 @@ fn run<L: LevelPolicy>(rt: &impl Abort, alloc: Global, key: L::Key) -> Result<()
     assert_eq!(rt; ready.choose(), Some(Slot(1)));
     ready.set_base(Slot(1), 14, key);
     assert_eq!(rt; ready.choose(), Some(Slot(2)));
-    let _ = ready.spend(Slot(2), true);
-    let _ = ready.key(Slot(2));
+    let first = ready.spend(Slot(2), false);
+    let second = ready.spend(Slot(2), false);
+    let left = ready.key(Slot(2));
     ready.block(Slot(2));
     ready.stands_by_order();
     assert_eq!(rt; ready.choose(), Some(Slot(1)));
-    Ok(())
+    Ok((first, second, left))
 }
 
 #[test]
@@ -50,9 +55,16 @@ fn each_call_over_each_policy(rt: HostRuntime) -> Result<(), Fail> {
         quantum: 2,
         deadline: 500,
     };
-    run::<FifoLevel>(&rt, rt.alloc(), ())?;
-    run::<RobinLevel>(&rt, rt.alloc(), 2)?;
-    run::<EdfLevel>(&rt, rt.alloc(), 500)?;
-    run::<AnyLevel>(&rt, rt.alloc(), key)?;
+    let spent = AnyKey {
+        quantum: 0,
+        deadline: 500,
+    };
+    assert_eq!(rt; run::<FifoLevel>(&rt, rt.alloc(), ())?, (false, false, ()));
+    assert_eq!(rt; run::<RobinLevel>(&rt, rt.alloc(), 2)?, (false, true, 0));
+    assert_eq!(rt; run::<EdfLevel>(&rt, rt.alloc(), 500)?, (false, false, 500));
+    assert_eq!(rt;
+        run::<AnyLevel>(&rt, rt.alloc(), key)?,
+        (false, false, spent)
+    );
     Ok(())
 }

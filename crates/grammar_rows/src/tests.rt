@@ -1,12 +1,19 @@
 //! Sources with the tree or the fault that the grammar gives them.
-mod rows;
+mod blocks;
+mod bodies;
+mod declarations;
+mod expressions;
+mod nesting;
+mod selects;
+mod statements;
+mod units;
+mod worked;
 
 use ada_grammar::ParseFault;
 use ada_lex::{Kind, Token, lex, lower_case, text_value};
 use ada_parse::parse;
 use ada_tree::{Spelt, Unit, shaped, spell};
 use ann_base::NoMemory;
-use rows::{NESTING, ROWS_1, ROWS_2, ROWS_3, ROWS_4, ROWS_5, WORKED};
 use std::alloc::Global;
 use std::process::Abort;
 use std::test::Fail;
@@ -70,36 +77,46 @@ fn check(rt: &impl Abort, alloc: Global, rows: &[(&[u8], (u8, u32, u32))]) -> Re
 }
 
 #[test]
-fn rows_1_hold(rt: HostRuntime) -> Result<(), Fail> {
-    check(&rt, rt.alloc(), &ROWS_1)
+fn library_units(rt: HostRuntime) -> Result<(), Fail> {
+    check(&rt, rt.alloc(), &units::ROWS)
 }
 
 #[test]
-fn rows_2_hold(rt: HostRuntime) -> Result<(), Fail> {
-    check(&rt, rt.alloc(), &ROWS_2)
+fn declarations_of_each_form(rt: HostRuntime) -> Result<(), Fail> {
+    check(&rt, rt.alloc(), &declarations::ROWS)
 }
 
 #[test]
-fn rows_3_hold(rt: HostRuntime) -> Result<(), Fail> {
-    check(&rt, rt.alloc(), &ROWS_3)
+fn subprograms_tasks_and_protected_units(rt: HostRuntime) -> Result<(), Fail> {
+    check(&rt, rt.alloc(), &bodies::ROWS)
 }
 
 #[test]
-fn rows_4_hold(rt: HostRuntime) -> Result<(), Fail> {
-    check(&rt, rt.alloc(), &ROWS_4)
+fn simple_and_compound_statements(rt: HostRuntime) -> Result<(), Fail> {
+    check(&rt, rt.alloc(), &statements::ROWS)
 }
 
 #[test]
-fn rows_5_hold(rt: HostRuntime) -> Result<(), Fail> {
-    check(&rt, rt.alloc(), &ROWS_5)
+fn blocks_and_transfers(rt: HostRuntime) -> Result<(), Fail> {
+    check(&rt, rt.alloc(), &blocks::ROWS)
 }
 
 #[test]
-fn nesting_holds(rt: HostRuntime) -> Result<(), Fail> {
-    check(&rt, rt.alloc(), &NESTING)
+fn select_statements(rt: HostRuntime) -> Result<(), Fail> {
+    check(&rt, rt.alloc(), &selects::ROWS)
 }
 
 #[test]
-fn worked_programs_hold(rt: HostRuntime) -> Result<(), Fail> {
-    check(&rt, rt.alloc(), &WORKED)
+fn expressions_and_names(rt: HostRuntime) -> Result<(), Fail> {
+    check(&rt, rt.alloc(), &expressions::ROWS)
+}
+
+#[test]
+fn levels_of_nesting(rt: HostRuntime) -> Result<(), Fail> {
+    check(&rt, rt.alloc(), &nesting::ROWS)
+}
+
+#[test]
+fn worked_programs(rt: HostRuntime) -> Result<(), Fail> {
+    check(&rt, rt.alloc(), &worked::ROWS)
 }

@@ -1,0 +1,10 @@
+pub mod Local
+pub mod Passing
+pub mod Expressions
+pub mod Simple
+pub mod Declarations
+pub mod Statements
+pub mod Bodies
+pub mod Sequences
+pub mod Units
+pub mod Faults

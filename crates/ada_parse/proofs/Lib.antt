@@ -1,4 +1,3 @@
-pub mod Levels
 pub mod Packages
 pub mod Sources
 pub mod Given

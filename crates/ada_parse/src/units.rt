@@ -1,5 +1,5 @@
 //! Library units and the source (ISO/IEC 8652:2012, 2.8, clause 7, 10.1).
-ghost use Rattle.std.specs.Prelude.{◌≡◌, ◌≤◌, codes, length, true, IfOk, Ok};
+ghost use Rattle.std.specs.Prelude.{◌≡◌, ◌≤◌, codes, length, true, IfErr, IfOk, Ok};
 ghost use Rattle.ada_lex.specs.Lexed.{AreTokensOf};
 ghost use Rattle.ada_tree.specs.declared.units.Unit.{Unit as Tree};
 ghost use Rattle.ada_tree.specs.Written.{lexemes_of};
@@ -8,20 +8,20 @@ ghost use Rattle.ada_tree.specs.Shape.{is_shaped};
 ghost use Rattle.ada_grammar.specs.Reading.{behind_mark_of, items_of, sees_mark, sees_word, separated_of};
 ghost use Rattle.ada_grammar.specs.ReadingExpressions.{argument_of, inner_of};
 ghost use Rattle.ada_expressions.specs.Steps.{Reads};
+ghost use Rattle.fault_places.specs.Laws.{NoneGoesOn};
 ghost use Rattle.ada_grammar.specs.ReadingUnits.{Gives, begins_clause, clause_of, context_of, declarations_at, finished, main_of, package_body_of, package_declaration_of, package_of, package_statements_of, packages_of, placed_fault, pragma_of, private_part_of, source_of, unit_of, use_clause_of, with_of};
 
-use crate::bodies::below;
-use crate::sequences::{Sequences, sequence};
-use crate::statements::end_name;
 use ada_clauses::aspects;
 use ada_expressions::{Cursor, argument, name_list};
 use ada_grammar::{ParseFault, Stuck};
 use ada_lex::Token;
+use ada_sequences::{below, body, declarations, end_name, sequence};
 use ada_tree::{
     Argument, ContextClause, Declaration, Expression, LibraryPackage, MainProcedure, OneOrMore,
     Package, PackageBody, PackageDeclaration, Pragma, Sequence, SequenceRole, Unit,
 };
 use ann_base::Place;
+use fault_places::{no_tree_goes_deeper, no_tree_goes_on};
 use grammar_laws::{read_is_spelt, spelt_is_read};
 use sqlite_items::Items;
 use std::alloc::Global;
@@ -41,10 +41,14 @@ pub fn parse(alloc: Global, source: &[u8], tokens: &[Token]) -> Result<Unit, Par
     ensures only { (unit : Tree) → SpellsTokens unit (lexemes_of source.now tokens.now) → is_shaped unit ≡ true → Gives result (Ok unit) }
     // Otherwise the fault is at the first token with which the reading from left to right cannot go on.
     ensures exact { Gives result (unit_of (lexemes_of source.now tokens.now)) }
+    // No shaped tree begins with the tokens up to that of the fault, itself counted.
+    ensures place { IfErr result (λ fault. NoneGoesOn (lexemes_of source.now tokens.now) fault) }
 {
-    // What the laws of the grammar say of what is read.
+    // What the laws of the grammar say of what is read, and of where the reading stops.
     read_is_spelt();
     spelt_is_read();
+    no_tree_goes_on();
+    no_tree_goes_deeper();
     read(alloc, source, tokens)
 }
 
@@ -252,22 +256,6 @@ fn context_clauses(alloc: Global, cursor: &mut Cursor<'_>) -> Result<Items<Conte
     Ok(found)
 }
 
-/// The declarations of a package (7.1).
-fn declarations(
-    alloc: Global,
-    cursor: &mut Cursor<'_>,
-    left: usize,
-) -> Result<Items<Declaration<Sequence>>, Stuck>
-    ensures { Reads result cursor.new (declarations_at left cursor.old) }
-{
-    Sequences {
-        alloc,
-        left,
-        read: sequence,
-    }
-    .declarations(cursor)
-}
-
 /// `[private {DECLARATION}]` (7.1)
 #[tactic(auto, unfolding(ada_grammar::specs::ReadingUnits::private_part_of))]
 fn private_part(
@@ -405,12 +393,7 @@ fn main_procedure(
     let place = cursor.word(b"procedure")?;
     let name = cursor.identifier(alloc)?;
     let aspects = aspects(alloc, cursor, left)?;
-    let sequences = Sequences {
-        alloc,
-        left,
-        read: sequence,
-    };
-    let body = sequences.body(cursor, &name)?;
+    let body = body(alloc, cursor, left, &name)?;
     Ok(MainProcedure {
         place,
         name,

@@ -4,6 +4,7 @@ use Rattle.ada_tree.specs.declared.units.Unit.{Unit as Tree}
 use Rattle.ada_tree.specs.Written.{Lexeme}
 use Rattle.ada_tree.specs.Spelling.{SpellsTokens}
 use Rattle.ada_tree.specs.Shape.{is_shaped}
+use Rattle.ada_grammar.specs.declared.faults.ParseFault.{ParseFault}
 use Rattle.ada_grammar.specs.declared.faults.ParseFault.TheVariants as faults
 use Rattle.ada_grammar.specs.ReadingUnits.{unit_of}
 
@@ -18,3 +19,9 @@ NoTreeGoesOn = (lexemes : List Lexeme) (token : ℕ) → unit_of lexemes ≡ Err
 -- The same where a token opens level 101.
 abbrev pub NoTreeGoesDeeper : Type 0
 NoTreeGoesDeeper = (lexemes : List Lexeme) (token : ℕ) → unit_of lexemes ≡ Err (faults.TooDeep token) → token < length lexemes → NoneBeginsWith (take (suc token) lexemes)
+
+-- What a fault says of the trees: where its token stands, none begins with the tokens up to it, itself counted.
+abbrev pub NoneGoesOn : List Lexeme → ParseFault → Type 0
+NoneGoesOn lexemes faults.Memory = Unit {0}
+NoneGoesOn lexemes (faults.Unexpected token) = token < length lexemes → NoneBeginsWith (take (suc token) lexemes)
+NoneGoesOn lexemes (faults.TooDeep token) = token < length lexemes → NoneBeginsWith (take (suc token) lexemes)

@@ -1,5 +1,5 @@
 use Rattle.ada_tree.specs.Written.{lexemes_of}
-use Rattle.ada_parse.proofs.Given.{spells, shaped, only}
+use Rattle.ada_parse.proofs.Given.{spells, shaped, only, place}
 use Rattle.ada_parse.proofs.units.parse.Goals as goal
 
 pub returns : goal.returns
@@ -10,4 +10,5 @@ returns c =
       shaped = shaped c.read.result lexemes c.read_is_spelt.ensures c.read.ensures.exact;
       only = only c.read.result lexemes c.spelt_is_read.ensures c.read.ensures.exact;
       exact = c.read.ensures.exact;
+      place = place c.read.result lexemes c.no_tree_goes_on.ensures c.no_tree_goes_deeper.ensures c.read.ensures.exact;
     }

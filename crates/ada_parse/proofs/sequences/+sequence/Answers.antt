@@ -1,5 +1,0 @@
-use Rattle.ada_parse.proofs.Levels.{sequence_is_parts}
-use Rattle.ada_parse.proofs.sequences.+sequence.Goals as goal
-
-pub returns : goal.returns
-returns t c = rw (sequence_is_parts c.args.left c.args.role c.args.cursor.now) c.parts.ensures

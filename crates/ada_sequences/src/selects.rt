@@ -1,0 +1,348 @@
+//! Select statements (ISO/IEC 8652:2012, 9.7).
+ghost use Rattle.std.specs.Prelude.{◌≡◌, suc, codes};
+ghost use Rattle.ada_grammar.specs.Reading.{items_of, sees_word};
+ghost use Rattle.ada_expressions.specs.Steps.{Reads};
+ghost use Rattle.ada_sequences.specs.Inside.{ReadsInside};
+ghost use Rattle.ada_grammar.specs.ReadingStatements.{accept_alternative_of, accept_opened_of, alternative_of, asynchronous_of, behind_call_of, call_opened_of, call_select_of, conditional_of, delay_alternative_of, delay_opened_of, delay_select_of, guard_of, next_alternative_of, select_alternative_of, select_form_of, select_of, selective_of, terminate_of, timed_of};
+ghost use Rattle.ada_grammar.specs.ReadingSequences.{inside_of, sequence_of};
+
+use crate::statements::Statements;
+use ada_clauses::{call, delay};
+use ada_expressions::{Cursor, expression};
+use ada_grammar::Stuck;
+use ada_tree::{
+    Accept, Alternative, AsynchronousSelect, Call, ConditionalEntryCall, Delay, Guard, OneOrMore,
+    SelectAlternative, SelectForm, SelectStatement, SelectiveAccept, Sequence, SequenceRole,
+    Statement, TimedEntryCall, Trigger,
+};
+use sqlite_items::Items;
+use std::alloc::Global;
+
+impl<
+    F: Fn(Global, &mut Cursor<'_>, usize, SequenceRole) -> Result<Sequence, Stuck> + Copy,
+> Statements<F> {
+    /// An entry call in a select statement, which takes a level.
+    #[tactic(auto, unfolding(ada_grammar::specs::ReadingStatements::call_opened_of))]
+    fn opened_call(&self, cursor: &mut Cursor<'_>) -> Result<Call, Stuck>
+        ensures { Reads result cursor.new (call_opened_of self.now.left cursor.old) }
+    {
+        match self.left {
+            0 => {
+                if cursor.is_identifier() {
+                    Err(cursor.too_deep())
+                } else {
+                    Err(cursor.stuck())
+                }
+            }
+            left => call(self.alloc, cursor, left - 1),
+        }
+    }
+
+    /// A delay statement in a select statement, which takes a level.
+    #[tactic(auto, unfolding(ada_grammar::specs::ReadingStatements::delay_opened_of))]
+    fn opened_delay(&self, cursor: &mut Cursor<'_>) -> Result<Delay, Stuck>
+        ensures { Reads result cursor.new (delay_opened_of self.now.left cursor.old) }
+    {
+        match self.left {
+            0 => {
+                if cursor.is_word(b"delay") {
+                    Err(cursor.too_deep())
+                } else {
+                    Err(cursor.stuck())
+                }
+            }
+            left => delay(self.alloc, cursor, left - 1),
+        }
+    }
+
+    /// An accept statement in a select statement, which takes a level.
+    fn opened_accept(&self, cursor: &mut Cursor<'_>) -> Result<Accept<Sequence>, Stuck>
+        requires reads { ReadsInside (suc self.now.left) (F.pre self.now.read) (F.post self.now.read) }
+        ensures { Reads result cursor.new (accept_opened_of self.now.left (inside_of self.now.left) cursor.old) }
+    {
+        match self.left {
+            0 => {
+                if cursor.is_word(b"accept") {
+                    Err(cursor.too_deep())
+                } else {
+                    Err(cursor.stuck())
+                }
+            }
+            left => Statements {
+                alloc: self.alloc,
+                left: left - 1,
+                read: self.read,
+            }
+            .accept(cursor),
+        }
+    }
+
+    /// An accept alternative (9.7.1).
+    #[tactic(auto, unfolding(ada_grammar::specs::ReadingStatements::accept_alternative_of))]
+    fn accept_alternative(&self, cursor: &mut Cursor<'_>) -> Result<Alternative<Sequence>, Stuck>
+        requires reads { ReadsInside (suc self.now.left) (F.pre self.now.read) (F.post self.now.read) }
+        ensures { Reads result cursor.new (accept_alternative_of self.now.left (sequence_of self.now.left) (inside_of self.now.left) cursor.old) }
+    {
+        let accept = self.opened_accept(cursor)?;
+        let statements = self.optional_statements(cursor)?;
+        Ok(Alternative::Accept { accept, statements })
+    }
+
+    /// A delay alternative (9.7.1).
+    #[tactic(auto, unfolding(ada_grammar::specs::ReadingStatements::delay_alternative_of))]
+    fn delay_alternative(&self, cursor: &mut Cursor<'_>) -> Result<Alternative<Sequence>, Stuck>
+        requires reads { ReadsInside (suc self.now.left) (F.pre self.now.read) (F.post self.now.read) }
+        ensures { Reads result cursor.new (delay_alternative_of self.now.left (sequence_of self.now.left) (inside_of self.now.left) cursor.old) }
+    {
+        let delay = self.opened_delay(cursor)?;
+        let statements = self.optional_statements(cursor)?;
+        Ok(Alternative::Delay { delay, statements })
+    }
+
+    /// `terminate;` (9.7.1)
+    #[tactic(auto, unfolding(ada_grammar::specs::ReadingStatements::terminate_of))]
+    fn terminate_alternative(&self, cursor: &mut Cursor<'_>) -> Result<Alternative<Sequence>, Stuck>
+        ensures { Reads result cursor.new (terminate_of self.now.left (sequence_of self.now.left) (inside_of self.now.left) cursor.old) }
+    {
+        let place = cursor.word(b"terminate")?;
+        cursor.mark(b";")?;
+        Ok(Alternative::Terminate { place })
+    }
+
+    /// What an alternative waits for (9.7.1).
+    #[tactic(auto, unfolding(ada_grammar::specs::ReadingStatements::alternative_of))]
+    fn alternative(&self, cursor: &mut Cursor<'_>) -> Result<Alternative<Sequence>, Stuck>
+        requires reads { ReadsInside (suc self.now.left) (F.pre self.now.read) (F.post self.now.read) }
+        ensures { Reads result cursor.new (alternative_of self.now.left (sequence_of self.now.left) (inside_of self.now.left) cursor.old) }
+    {
+        if cursor.is_word(b"accept") {
+            self.accept_alternative(cursor)
+        } else if cursor.is_word(b"delay") {
+            self.delay_alternative(cursor)
+        } else {
+            self.terminate_alternative(cursor)
+        }
+    }
+
+    /// `[when EXPRESSION =>]` (9.7.1)
+    #[tactic(auto, unfolding(ada_grammar::specs::ReadingStatements::guard_of))]
+    fn guard(&self, cursor: &mut Cursor<'_>) -> Result<Option<Guard>, Stuck>
+        ensures { Reads result cursor.new (guard_of self.now.left (sequence_of self.now.left) (inside_of self.now.left) cursor.old) }
+    {
+        if cursor.is_word(b"when") {
+            let place = cursor.word(b"when")?;
+            let condition = expression(self.alloc, cursor, self.left)?;
+            cursor.mark(b"=>")?;
+            Ok(Some(Guard { place, condition }))
+        } else {
+            Ok(None)
+        }
+    }
+
+    /// An alternative with its guard (9.7.1).
+    #[tactic(auto, unfolding(ada_grammar::specs::ReadingStatements::select_alternative_of))]
+    fn select_alternative(
+        &self,
+        cursor: &mut Cursor<'_>,
+    ) -> Result<SelectAlternative<Sequence>, Stuck>
+        requires reads { ReadsInside (suc self.now.left) (F.pre self.now.read) (F.post self.now.read) }
+        ensures { Reads result cursor.new (select_alternative_of self.now.left (sequence_of self.now.left) (inside_of self.now.left) cursor.old) }
+    {
+        let guard = self.guard(cursor)?;
+        let alternative = self.alternative(cursor)?;
+        Ok(SelectAlternative { guard, alternative })
+    }
+
+    /// An alternative behind `or` (9.7.1).
+    #[tactic(auto, unfolding(ada_grammar::specs::ReadingStatements::next_alternative_of))]
+    fn next_alternative(
+        &self,
+        cursor: &mut Cursor<'_>,
+    ) -> Result<SelectAlternative<Sequence>, Stuck>
+        requires reads { ReadsInside (suc self.now.left) (F.pre self.now.read) (F.post self.now.read) }
+        ensures { Reads result cursor.new (next_alternative_of self.now.left (sequence_of self.now.left) (inside_of self.now.left) cursor.old) }
+    {
+        cursor.word(b"or")?;
+        self.select_alternative(cursor)
+    }
+
+    /// The alternatives behind the first one (9.7.1).
+    #[tactic(auto, unfolding(ada_grammar::specs::Reading::items_of))]
+    fn next_alternatives(
+        &self,
+        cursor: &mut Cursor<'_>,
+    ) -> Result<Items<SelectAlternative<Sequence>>, Stuck>
+        requires reads { ReadsInside (suc self.now.left) (F.pre self.now.read) (F.post self.now.read) }
+        ensures { Reads result cursor.new (items_of (sees_word (codes "or")) (next_alternative_of self.now.left (sequence_of self.now.left) (inside_of self.now.left)) cursor.old) }
+    {
+        let mut found = Items::new(self.alloc);
+        for _turn in 0..cursor.left() {
+            if !cursor.is_word(b"or") {
+                return Ok(found);
+            }
+            found.push(self.next_alternative(cursor)?)?;
+        }
+        Ok(found)
+    }
+
+    /// A selective accept, behind its first alternative (9.7.1).
+    #[tactic(auto, unfolding(ada_grammar::specs::ReadingStatements::selective_of))]
+    fn selective_accept(
+        &self,
+        cursor: &mut Cursor<'_>,
+        first: SelectAlternative<Sequence>,
+    ) -> Result<SelectForm<Sequence>, Stuck>
+        requires reads { ReadsInside (suc self.now.left) (F.pre self.now.read) (F.post self.now.read) }
+        ensures { Reads result cursor.new (selective_of self.now.left (sequence_of self.now.left) (inside_of self.now.left) first cursor.old) }
+    {
+        let others = self.next_alternatives(cursor)?;
+        let otherwise = self.otherwise(cursor)?;
+        Ok(SelectForm::SelectiveAccept(SelectiveAccept {
+            alternatives: OneOrMore { first, others },
+            otherwise,
+        }))
+    }
+
+    /// An asynchronous select, behind its triggering statement and those that follow it (9.7.4).
+    #[tactic(auto, unfolding(ada_grammar::specs::ReadingStatements::asynchronous_of))]
+    fn asynchronous_select(
+        &self,
+        cursor: &mut Cursor<'_>,
+        trigger: Trigger,
+        statements: Option<Sequence>,
+    ) -> Result<SelectForm<Sequence>, Stuck>
+        requires reads { ReadsInside (suc self.now.left) (F.pre self.now.read) (F.post self.now.read) }
+        ensures { Reads result cursor.new (asynchronous_of self.now.left (sequence_of self.now.left) (inside_of self.now.left) trigger statements cursor.old) }
+    {
+        cursor.word(b"then")?;
+        cursor.word(b"abort")?;
+        let abortable = self.sequence(cursor, SequenceRole::Statements)?;
+        Ok(SelectForm::AsynchronousSelect(AsynchronousSelect {
+            trigger,
+            statements,
+            abortable,
+        }))
+    }
+
+    /// A timed entry call, behind the call and the statements that follow it (9.7.2).
+    #[tactic(auto, unfolding(ada_grammar::specs::ReadingStatements::timed_of))]
+    fn timed_entry_call(
+        &self,
+        cursor: &mut Cursor<'_>,
+        call: Call,
+        statements: Option<Sequence>,
+    ) -> Result<SelectForm<Sequence>, Stuck>
+        requires reads { ReadsInside (suc self.now.left) (F.pre self.now.read) (F.post self.now.read) }
+        ensures { Reads result cursor.new (timed_of self.now.left (sequence_of self.now.left) (inside_of self.now.left) call statements cursor.old) }
+    {
+        cursor.word(b"or")?;
+        let delay = self.opened_delay(cursor)?;
+        let delay_statements = self.optional_statements(cursor)?;
+        Ok(SelectForm::TimedEntryCall(TimedEntryCall {
+            call,
+            statements,
+            delay,
+            delay_statements,
+        }))
+    }
+
+    /// A conditional entry call, behind the call and the statements that follow it (9.7.3).
+    #[tactic(auto, unfolding(ada_grammar::specs::ReadingStatements::conditional_of))]
+    fn conditional_entry_call(
+        &self,
+        cursor: &mut Cursor<'_>,
+        call: Call,
+        statements: Option<Sequence>,
+    ) -> Result<SelectForm<Sequence>, Stuck>
+        requires reads { ReadsInside (suc self.now.left) (F.pre self.now.read) (F.post self.now.read) }
+        ensures { Reads result cursor.new (conditional_of self.now.left (sequence_of self.now.left) (inside_of self.now.left) call statements cursor.old) }
+    {
+        cursor.word(b"else")?;
+        let otherwise = self.sequence(cursor, SequenceRole::Statements)?;
+        Ok(SelectForm::ConditionalEntryCall(ConditionalEntryCall {
+            call,
+            statements,
+            otherwise,
+        }))
+    }
+
+    /// A select statement that begins with a call, behind the call and the statements that follow it.
+    #[tactic(auto, unfolding(ada_grammar::specs::ReadingStatements::behind_call_of))]
+    fn behind_call(
+        &self,
+        cursor: &mut Cursor<'_>,
+        call: Call,
+        statements: Option<Sequence>,
+    ) -> Result<SelectForm<Sequence>, Stuck>
+        requires reads { ReadsInside (suc self.now.left) (F.pre self.now.read) (F.post self.now.read) }
+        ensures { Reads result cursor.new (behind_call_of self.now.left (sequence_of self.now.left) (inside_of self.now.left) call statements cursor.old) }
+    {
+        if cursor.is_word(b"or") {
+            self.timed_entry_call(cursor, call, statements)
+        } else if cursor.is_word(b"else") {
+            self.conditional_entry_call(cursor, call, statements)
+        } else {
+            self.asynchronous_select(cursor, Trigger::Call(call), statements)
+        }
+    }
+
+    /// A select statement that begins with a call.
+    #[tactic(auto, unfolding(ada_grammar::specs::ReadingStatements::call_select_of))]
+    fn call_select(&self, cursor: &mut Cursor<'_>) -> Result<SelectForm<Sequence>, Stuck>
+        requires reads { ReadsInside (suc self.now.left) (F.pre self.now.read) (F.post self.now.read) }
+        ensures { Reads result cursor.new (call_select_of self.now.left (sequence_of self.now.left) (inside_of self.now.left) cursor.old) }
+    {
+        let call = self.opened_call(cursor)?;
+        let statements = self.optional_statements(cursor)?;
+        self.behind_call(cursor, call, statements)
+    }
+
+    /// A select statement that begins with a delay.
+    #[tactic(auto, unfolding(ada_grammar::specs::ReadingStatements::delay_select_of))]
+    fn delay_select(&self, cursor: &mut Cursor<'_>) -> Result<SelectForm<Sequence>, Stuck>
+        requires reads { ReadsInside (suc self.now.left) (F.pre self.now.read) (F.post self.now.read) }
+        ensures { Reads result cursor.new (delay_select_of self.now.left (sequence_of self.now.left) (inside_of self.now.left) cursor.old) }
+    {
+        let delay = self.opened_delay(cursor)?;
+        let statements = self.optional_statements(cursor)?;
+        if cursor.is_word(b"then") {
+            self.asynchronous_select(cursor, Trigger::Delay(delay), statements)
+        } else {
+            let first = SelectAlternative {
+                guard: None,
+                alternative: Alternative::Delay { delay, statements },
+            };
+            self.selective_accept(cursor, first)
+        }
+    }
+
+    /// What stands between `select` and its `end`.
+    #[tactic(auto, unfolding(ada_grammar::specs::ReadingStatements::select_form_of))]
+    fn select_form(&self, cursor: &mut Cursor<'_>) -> Result<SelectForm<Sequence>, Stuck>
+        requires reads { ReadsInside (suc self.now.left) (F.pre self.now.read) (F.post self.now.read) }
+        ensures { Reads result cursor.new (select_form_of self.now.left (sequence_of self.now.left) (inside_of self.now.left) cursor.old) }
+    {
+        if cursor.is_identifier() {
+            self.call_select(cursor)
+        } else if cursor.is_word(b"delay") {
+            self.delay_select(cursor)
+        } else {
+            let first = self.select_alternative(cursor)?;
+            self.selective_accept(cursor, first)
+        }
+    }
+
+    /// A select statement.
+    #[tactic(auto, unfolding(ada_grammar::specs::ReadingStatements::select_of))]
+    pub fn select(&self, cursor: &mut Cursor<'_>) -> Result<Statement<Sequence>, Stuck>
+        requires reads { ReadsInside (suc self.now.left) (F.pre self.now.read) (F.post self.now.read) }
+        ensures { Reads result cursor.new (select_of self.now.left (sequence_of self.now.left) (inside_of self.now.left) cursor.old) }
+    {
+        let place = cursor.word(b"select")?;
+        let form = self.select_form(cursor)?;
+        cursor.word(b"end")?;
+        cursor.word(b"select")?;
+        cursor.mark(b";")?;
+        Ok(Statement::Select(SelectStatement { place, form }))
+    }
+}

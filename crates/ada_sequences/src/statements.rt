@@ -1,0 +1,527 @@
+//! Statements that hold others (ISO/IEC 8652:2012, clauses 5 and 9.5). The productions take the reader of the
+//! sequences in them as a parameter, so that each is proved by itself.
+ghost use Rattle.std.specs.Prelude.{◌≡◌, suc, IfSome, None, Some, codes, map};
+ghost use Rattle.std.specs.Char.{to_ascii_lowercase};
+ghost use Rattle.ada_grammar.specs.Reading.{behind_mark_of, end_name_of, items_of, sees_mark, sees_word, separated_of};
+ghost use Rattle.ada_expressions.specs.Steps.{Reads};
+ghost use Rattle.ada_grammar.specs.ReadingSimple.{choice_of};
+ghost use Rattle.ada_sequences.specs.Inside.{ReadsInside};
+ghost use Rattle.ada_grammar.specs.ReadingStatements.{accept_body_of, accept_of, begin_of, begins_block, begins_compound, begins_loop, begins_simple, begins_statement, block_end_of, block_of, case_alternative_of, case_alternatives_of, case_of, compound_of, declare_of, else_of, elsif_of, if_of, labelled_of, loop_of, named_statement_of, optional_statements_of, sees_label, simple_statement_of, statement_inside_of};
+ghost use Rattle.ada_grammar.specs.ReadingSequences.{inside_of, sequence_of};
+
+use ada_clauses::{
+    abort_statement, choice, delay, exit_statement, iteration, label_end, null_statement,
+    parameters, raise_statement, requeue_statement, return_statement, simple_statement,
+};
+use ada_expressions::{Cursor, expression};
+use ada_grammar::Stuck;
+use ada_tree::{
+    Accept, AcceptBody, Block, Case, CaseAlternative, Choice, Elsif, Identifier, If, Loop,
+    OneOrMore, Sequence, SequenceRole, Statement,
+};
+use ann_base::Place;
+use sqlite_items::Items;
+use std::alloc::Global;
+
+/// Whether a loop without a name begins here (5.5).
+fn begins_loop(cursor: &Cursor<'_>) -> bool
+    ensures { result ≡ begins_loop cursor.now }
+{
+    cursor.is_word(b"loop") || cursor.is_word(b"while") || cursor.is_word(b"for")
+}
+
+/// Whether a block without a name begins here (5.6).
+fn begins_block(cursor: &Cursor<'_>) -> bool
+    ensures { result ≡ begins_block cursor.now }
+{
+    cursor.is_word(b"declare") || cursor.is_word(b"begin")
+}
+
+/// Whether a statement that holds others, and has no name, begins here (5.1).
+fn begins_compound(cursor: &Cursor<'_>) -> bool
+    ensures { result ≡ begins_compound cursor.now }
+{
+    cursor.is_word(b"if")
+        || cursor.is_word(b"case")
+        || begins_loop(cursor)
+        || begins_block(cursor)
+        || cursor.is_word(b"accept")
+        || cursor.is_word(b"select")
+}
+
+/// Whether another statement, or one with a name, begins here (5.1).
+fn begins_simple(cursor: &Cursor<'_>) -> bool
+    ensures { result ≡ begins_simple cursor.now }
+{
+    cursor.is_word(b"null")
+        || cursor.is_word(b"delay")
+        || cursor.is_word(b"exit")
+        || cursor.is_word(b"return")
+        || cursor.is_word(b"raise")
+        || cursor.is_word(b"abort")
+        || cursor.is_word(b"requeue")
+        || cursor.is_identifier()
+}
+
+/// Whether a statement begins here (5.1).
+#[tactic(auto, unfolding(ada_grammar::specs::ReadingStatements::begins_statement))]
+pub fn begins_statement(cursor: &Cursor<'_>) -> bool
+    ensures { result ≡ begins_statement cursor.now }
+{
+    begins_compound(cursor) || begins_simple(cursor)
+}
+
+/// The construct's own name behind its `end`, or none: whether it stands there.
+#[tactic(auto, unfolding(ada_grammar::specs::Reading::end_name_of))]
+pub fn end_name(cursor: &mut Cursor<'_>, name: &Identifier) -> Result<bool, Stuck>
+    requires lower { map to_ascii_lowercase name.now.text ≡ name.now.text }
+    ensures { Reads result cursor.new (end_name_of name.now.text cursor.old) }
+{
+    cursor.flag(name.text.as_slice())
+}
+
+/// How statements are read where `left` levels may still be opened inside them.
+#[derive(Clone, Copy)]
+pub struct Statements<F> {
+    /// Where memory comes from.
+    pub alloc: Global,
+    /// How many levels may still be opened inside.
+    pub left: usize,
+    /// Reads a sequence where so many levels are left.
+    pub read: F,
+}
+
+impl<
+    F: Fn(Global, &mut Cursor<'_>, usize, SequenceRole) -> Result<Sequence, Stuck> + Copy,
+> Statements<F> {
+    /// The sequence inside a statement.
+    pub fn sequence(&self, cursor: &mut Cursor<'_>, role: SequenceRole) -> Result<Sequence, Stuck>
+        requires reads { ReadsInside (suc self.now.left) (F.pre self.now.read) (F.post self.now.read) }
+        ensures { Reads result cursor.new (sequence_of self.now.left role cursor.old) }
+    {
+        (self.read)(self.alloc, cursor, self.left, role)
+    }
+
+    /// `elsif EXPRESSION then STATEMENTS` (5.3)
+    #[tactic(auto, unfolding(ada_grammar::specs::ReadingStatements::elsif_of))]
+    fn elsif(&self, cursor: &mut Cursor<'_>) -> Result<Elsif<Sequence>, Stuck>
+        requires reads { ReadsInside (suc self.now.left) (F.pre self.now.read) (F.post self.now.read) }
+        ensures { Reads result cursor.new (elsif_of self.now.left (sequence_of self.now.left) cursor.old) }
+    {
+        let place = cursor.word(b"elsif")?;
+        let condition = expression(self.alloc, cursor, self.left)?;
+        cursor.word(b"then")?;
+        let statements = self.sequence(cursor, SequenceRole::Statements)?;
+        Ok(Elsif {
+            place,
+            condition,
+            statements,
+        })
+    }
+
+    /// `{elsif EXPRESSION then STATEMENTS}` (5.3)
+    #[tactic(auto, unfolding(ada_grammar::specs::Reading::items_of))]
+    fn elsifs(&self, cursor: &mut Cursor<'_>) -> Result<Items<Elsif<Sequence>>, Stuck>
+        requires reads { ReadsInside (suc self.now.left) (F.pre self.now.read) (F.post self.now.read) }
+        ensures { Reads result cursor.new (items_of (sees_word (codes "elsif")) (elsif_of self.now.left (sequence_of self.now.left)) cursor.old) }
+    {
+        let mut found = Items::new(self.alloc);
+        for _turn in 0..cursor.left() {
+            if !cursor.is_word(b"elsif") {
+                return Ok(found);
+            }
+            found.push(self.elsif(cursor)?)?;
+        }
+        Ok(found)
+    }
+
+    /// `[else STATEMENTS]` (5.3, 9.7.1)
+    #[tactic(auto, unfolding(ada_grammar::specs::ReadingStatements::else_of))]
+    pub fn otherwise(&self, cursor: &mut Cursor<'_>) -> Result<Option<Sequence>, Stuck>
+        requires reads { ReadsInside (suc self.now.left) (F.pre self.now.read) (F.post self.now.read) }
+        ensures { Reads result cursor.new (else_of self.now.left (sequence_of self.now.left) cursor.old) }
+    {
+        if cursor.is_word(b"else") {
+            cursor.word(b"else")?;
+            let statements = self.sequence(cursor, SequenceRole::Statements)?;
+            Ok(Some(statements))
+        } else {
+            Ok(None)
+        }
+    }
+
+    /// An if statement (5.3).
+    #[tactic(auto, unfolding(ada_grammar::specs::ReadingStatements::if_of))]
+    fn if_statement(&self, cursor: &mut Cursor<'_>) -> Result<Statement<Sequence>, Stuck>
+        requires reads { ReadsInside (suc self.now.left) (F.pre self.now.read) (F.post self.now.read) }
+        ensures { Reads result cursor.new (if_of self.now.left (sequence_of self.now.left) cursor.old) }
+    {
+        let place = cursor.word(b"if")?;
+        let condition = expression(self.alloc, cursor, self.left)?;
+        cursor.word(b"then")?;
+        let statements = self.sequence(cursor, SequenceRole::Statements)?;
+        let elsifs = self.elsifs(cursor)?;
+        let otherwise = self.otherwise(cursor)?;
+        cursor.word(b"end")?;
+        cursor.word(b"if")?;
+        cursor.mark(b";")?;
+        Ok(Statement::If(If {
+            place,
+            condition,
+            statements,
+            elsifs,
+            otherwise,
+        }))
+    }
+
+    /// A choice behind a bar (3.8.1).
+    #[tactic(auto, unfolding(ada_grammar::specs::Reading::behind_mark_of))]
+    fn next_choice(&self, cursor: &mut Cursor<'_>) -> Result<Choice, Stuck>
+        ensures { Reads result cursor.new (behind_mark_of (codes "|") (choice_of self.now.left) cursor.old) }
+    {
+        cursor.mark(b"|")?;
+        choice(self.alloc, cursor, self.left)
+    }
+
+    /// The choices behind the first one (3.8.1).
+    #[tactic(auto, unfolding(ada_grammar::specs::Reading::items_of))]
+    fn next_choices(&self, cursor: &mut Cursor<'_>) -> Result<Items<Choice>, Stuck>
+        ensures { Reads result cursor.new (items_of (sees_mark (codes "|")) (behind_mark_of (codes "|") (choice_of self.now.left)) cursor.old) }
+    {
+        let mut found = Items::new(self.alloc);
+        for _turn in 0..cursor.left() {
+            if !cursor.is_mark(b"|") {
+                return Ok(found);
+            }
+            found.push(self.next_choice(cursor)?)?;
+        }
+        Ok(found)
+    }
+
+    /// `CHOICE {| CHOICE}` (3.8.1)
+    #[tactic(auto, unfolding(ada_grammar::specs::Reading::separated_of))]
+    fn choices(&self, cursor: &mut Cursor<'_>) -> Result<OneOrMore<Choice>, Stuck>
+        ensures { Reads result cursor.new (separated_of (codes "|") (choice_of self.now.left) cursor.old) }
+    {
+        let first = choice(self.alloc, cursor, self.left)?;
+        let others = self.next_choices(cursor)?;
+        Ok(OneOrMore { first, others })
+    }
+
+    /// `when CHOICE {| CHOICE} => STATEMENTS` (5.4)
+    #[tactic(auto, unfolding(ada_grammar::specs::ReadingStatements::case_alternative_of))]
+    fn case_alternative(&self, cursor: &mut Cursor<'_>) -> Result<CaseAlternative<Sequence>, Stuck>
+        requires reads { ReadsInside (suc self.now.left) (F.pre self.now.read) (F.post self.now.read) }
+        ensures { Reads result cursor.new (case_alternative_of self.now.left (sequence_of self.now.left) cursor.old) }
+    {
+        let place = cursor.word(b"when")?;
+        let choices = self.choices(cursor)?;
+        cursor.mark(b"=>")?;
+        let statements = self.sequence(cursor, SequenceRole::Statements)?;
+        Ok(CaseAlternative {
+            place,
+            choices,
+            statements,
+        })
+    }
+
+    /// The alternatives behind the first one (5.4).
+    #[tactic(auto, unfolding(ada_grammar::specs::Reading::items_of))]
+    fn next_case_alternatives(
+        &self,
+        cursor: &mut Cursor<'_>,
+    ) -> Result<Items<CaseAlternative<Sequence>>, Stuck>
+        requires reads { ReadsInside (suc self.now.left) (F.pre self.now.read) (F.post self.now.read) }
+        ensures { Reads result cursor.new (items_of (sees_word (codes "when")) (case_alternative_of self.now.left (sequence_of self.now.left)) cursor.old) }
+    {
+        let mut found = Items::new(self.alloc);
+        for _turn in 0..cursor.left() {
+            if !cursor.is_word(b"when") {
+                return Ok(found);
+            }
+            found.push(self.case_alternative(cursor)?)?;
+        }
+        Ok(found)
+    }
+
+    /// The alternatives of a case statement (5.4).
+    #[tactic(auto, unfolding(ada_grammar::specs::ReadingStatements::case_alternatives_of))]
+    fn case_alternatives(
+        &self,
+        cursor: &mut Cursor<'_>,
+    ) -> Result<OneOrMore<CaseAlternative<Sequence>>, Stuck>
+        requires reads { ReadsInside (suc self.now.left) (F.pre self.now.read) (F.post self.now.read) }
+        ensures { Reads result cursor.new (case_alternatives_of self.now.left (sequence_of self.now.left) cursor.old) }
+    {
+        let first = self.case_alternative(cursor)?;
+        let others = self.next_case_alternatives(cursor)?;
+        Ok(OneOrMore { first, others })
+    }
+
+    /// A case statement (5.4).
+    #[tactic(auto, unfolding(ada_grammar::specs::ReadingStatements::case_of))]
+    fn case_statement(&self, cursor: &mut Cursor<'_>) -> Result<Statement<Sequence>, Stuck>
+        requires reads { ReadsInside (suc self.now.left) (F.pre self.now.read) (F.post self.now.read) }
+        ensures { Reads result cursor.new (case_of self.now.left (sequence_of self.now.left) cursor.old) }
+    {
+        let place = cursor.word(b"case")?;
+        let selector = expression(self.alloc, cursor, self.left)?;
+        cursor.word(b"is")?;
+        let alternatives = self.case_alternatives(cursor)?;
+        cursor.word(b"end")?;
+        cursor.word(b"case")?;
+        cursor.mark(b";")?;
+        Ok(Statement::Case(Case {
+            place,
+            selector,
+            alternatives,
+        }))
+    }
+
+    /// A loop, behind its name (5.5).
+    #[tactic(auto, unfolding(ada_grammar::specs::ReadingStatements::loop_of))]
+    fn loop_statement(
+        &self,
+        cursor: &mut Cursor<'_>,
+        name: Option<Identifier>,
+    ) -> Result<Statement<Sequence>, Stuck>
+        requires reads { ReadsInside (suc self.now.left) (F.pre self.now.read) (F.post self.now.read) }
+        requires lower { IfSome name (λ name. map to_ascii_lowercase name.text ≡ name.text) }
+        ensures { Reads result cursor.new (loop_of self.now.left (sequence_of self.now.left) name cursor.old) }
+    {
+        let iteration = iteration(self.alloc, cursor, self.left)?;
+        let place = cursor.word(b"loop")?;
+        let statements = self.sequence(cursor, SequenceRole::Statements)?;
+        cursor.word(b"end")?;
+        cursor.word(b"loop")?;
+        let label = label_end(cursor, name)?;
+        cursor.mark(b";")?;
+        Ok(Statement::Loop(Loop {
+            label,
+            iteration,
+            place,
+            statements,
+        }))
+    }
+
+    /// The end of a block with these parts (5.6).
+    #[tactic(auto, unfolding(ada_grammar::specs::ReadingStatements::block_end_of))]
+    fn block_end(
+        &self,
+        cursor: &mut Cursor<'_>,
+        name: Option<Identifier>,
+        place: Place,
+        declare: bool,
+        sequence: Sequence,
+    ) -> Result<Statement<Sequence>, Stuck>
+        requires lower { IfSome name (λ name. map to_ascii_lowercase name.text ≡ name.text) }
+        ensures { Reads result cursor.new (block_end_of self.now.left (sequence_of self.now.left) name place declare sequence cursor.old) }
+    {
+        cursor.word(b"end")?;
+        let label = label_end(cursor, name)?;
+        cursor.mark(b";")?;
+        Ok(Statement::Block(Block {
+            label,
+            place,
+            declare,
+            sequence,
+        }))
+    }
+
+    /// A block with declarations, behind its name (5.6).
+    #[tactic(auto, unfolding(ada_grammar::specs::ReadingStatements::declare_of))]
+    fn declare_block(
+        &self,
+        cursor: &mut Cursor<'_>,
+        name: Option<Identifier>,
+    ) -> Result<Statement<Sequence>, Stuck>
+        requires reads { ReadsInside (suc self.now.left) (F.pre self.now.read) (F.post self.now.read) }
+        requires lower { IfSome name (λ name. map to_ascii_lowercase name.text ≡ name.text) }
+        ensures { Reads result cursor.new (declare_of self.now.left (sequence_of self.now.left) name cursor.old) }
+    {
+        let place = cursor.word(b"declare")?;
+        let sequence = self.sequence(cursor, SequenceRole::Body)?;
+        self.block_end(cursor, name, place, true, sequence)
+    }
+
+    /// A block without declarations, behind its name (5.6).
+    #[tactic(auto, unfolding(ada_grammar::specs::ReadingStatements::begin_of))]
+    fn begin_block(
+        &self,
+        cursor: &mut Cursor<'_>,
+        name: Option<Identifier>,
+    ) -> Result<Statement<Sequence>, Stuck>
+        requires reads { ReadsInside (suc self.now.left) (F.pre self.now.read) (F.post self.now.read) }
+        requires lower { IfSome name (λ name. map to_ascii_lowercase name.text ≡ name.text) }
+        ensures { Reads result cursor.new (begin_of self.now.left (sequence_of self.now.left) name cursor.old) }
+    {
+        let place = cursor.word(b"begin")?;
+        let sequence = self.sequence(cursor, SequenceRole::Handled)?;
+        self.block_end(cursor, name, place, false, sequence)
+    }
+
+    /// A block, behind its name (5.6).
+    #[tactic(auto, unfolding(ada_grammar::specs::ReadingStatements::block_of))]
+    fn block(
+        &self,
+        cursor: &mut Cursor<'_>,
+        name: Option<Identifier>,
+    ) -> Result<Statement<Sequence>, Stuck>
+        requires reads { ReadsInside (suc self.now.left) (F.pre self.now.read) (F.post self.now.read) }
+        requires lower { IfSome name (λ name. map to_ascii_lowercase name.text ≡ name.text) }
+        ensures { Reads result cursor.new (block_of self.now.left (sequence_of self.now.left) name cursor.old) }
+    {
+        if cursor.is_word(b"declare") {
+            self.declare_block(cursor, name)
+        } else {
+            self.begin_block(cursor, name)
+        }
+    }
+
+    /// A loop or a block with a name (5.5, 5.6).
+    #[tactic(auto, unfolding(ada_grammar::specs::ReadingStatements::labelled_of))]
+    fn labelled(&self, cursor: &mut Cursor<'_>) -> Result<Statement<Sequence>, Stuck>
+        requires reads { ReadsInside (suc self.now.left) (F.pre self.now.read) (F.post self.now.read) }
+        ensures { Reads result cursor.new (labelled_of self.now.left (sequence_of self.now.left) cursor.old) }
+    {
+        let name = cursor.identifier(self.alloc)?;
+        cursor.mark(b":")?;
+        if begins_block(cursor) {
+            self.block(cursor, Some(name))
+        } else {
+            self.loop_statement(cursor, Some(name))
+        }
+    }
+
+    /// `[do SEQUENCE end [NAME]]` (9.5.2)
+    #[tactic(auto, unfolding(ada_grammar::specs::ReadingStatements::accept_body_of))]
+    fn accept_body(
+        &self,
+        cursor: &mut Cursor<'_>,
+        name: &Identifier,
+    ) -> Result<Option<AcceptBody<Sequence>>, Stuck>
+        requires reads { ReadsInside (suc self.now.left) (F.pre self.now.read) (F.post self.now.read) }
+        requires lower { map to_ascii_lowercase name.now.text ≡ name.now.text }
+        ensures { Reads result cursor.new (accept_body_of self.now.left (sequence_of self.now.left) name.now.text cursor.old) }
+    {
+        if cursor.is_word(b"do") {
+            cursor.word(b"do")?;
+            let sequence = self.sequence(cursor, SequenceRole::Handled)?;
+            cursor.word(b"end")?;
+            let named_at_end = end_name(cursor, name)?;
+            Ok(Some(AcceptBody {
+                sequence,
+                named_at_end,
+            }))
+        } else {
+            Ok(None)
+        }
+    }
+
+    /// An accept statement (9.5.2).
+    #[tactic(auto, unfolding(ada_grammar::specs::ReadingStatements::accept_of))]
+    pub fn accept(&self, cursor: &mut Cursor<'_>) -> Result<Accept<Sequence>, Stuck>
+        requires reads { ReadsInside (suc self.now.left) (F.pre self.now.read) (F.post self.now.read) }
+        ensures { Reads result cursor.new (accept_of self.now.left (sequence_of self.now.left) cursor.old) }
+    {
+        let place = cursor.word(b"accept")?;
+        let entry = cursor.identifier(self.alloc)?;
+        let parameters = parameters(self.alloc, cursor, self.left)?;
+        let body = self.accept_body(cursor, &entry)?;
+        cursor.mark(b";")?;
+        Ok(Accept {
+            place,
+            entry,
+            parameters,
+            body,
+        })
+    }
+
+    /// Statements, where some stand there.
+    #[tactic(auto, unfolding(ada_grammar::specs::ReadingStatements::optional_statements_of))]
+    pub fn optional_statements(&self, cursor: &mut Cursor<'_>) -> Result<Option<Sequence>, Stuck>
+        requires reads { ReadsInside (suc self.now.left) (F.pre self.now.read) (F.post self.now.read) }
+        ensures { Reads result cursor.new (optional_statements_of self.now.left (sequence_of self.now.left) cursor.old) }
+    {
+        if begins_statement(cursor) {
+            let statements = self.sequence(cursor, SequenceRole::Statements)?;
+            Ok(Some(statements))
+        } else {
+            Ok(None)
+        }
+    }
+
+    /// A statement that begins with a name.
+    #[tactic(auto, unfolding(ada_grammar::specs::ReadingStatements::named_statement_of))]
+    fn named_statement(&self, cursor: &mut Cursor<'_>) -> Result<Statement<Sequence>, Stuck>
+        requires reads { ReadsInside (suc self.now.left) (F.pre self.now.read) (F.post self.now.read) }
+        ensures { Reads result cursor.new (named_statement_of self.now.left (sequence_of self.now.left) (inside_of self.now.left) cursor.old) }
+    {
+        if cursor.is_identifier_before(b":") {
+            self.labelled(cursor)
+        } else {
+            simple_statement(self.alloc, cursor, self.left)
+        }
+    }
+
+    /// A statement that holds others, and has no name (5.1).
+    #[tactic(auto, unfolding(ada_grammar::specs::ReadingStatements::compound_of))]
+    fn compound(&self, cursor: &mut Cursor<'_>) -> Result<Statement<Sequence>, Stuck>
+        requires reads { ReadsInside (suc self.now.left) (F.pre self.now.read) (F.post self.now.read) }
+        ensures { Reads result cursor.new (compound_of self.now.left (sequence_of self.now.left) (inside_of self.now.left) cursor.old) }
+    {
+        if cursor.is_word(b"if") {
+            self.if_statement(cursor)
+        } else if cursor.is_word(b"case") {
+            self.case_statement(cursor)
+        } else if begins_loop(cursor) {
+            self.loop_statement(cursor, None)
+        } else if begins_block(cursor) {
+            self.block(cursor, None)
+        } else if cursor.is_word(b"accept") {
+            let accept = self.accept(cursor)?;
+            Ok(Statement::Accept(accept))
+        } else {
+            self.select(cursor)
+        }
+    }
+
+    /// Another statement, or one with a name (5.1).
+    #[tactic(auto, unfolding(ada_grammar::specs::ReadingStatements::simple_statement_of))]
+    fn simple(&self, cursor: &mut Cursor<'_>) -> Result<Statement<Sequence>, Stuck>
+        requires reads { ReadsInside (suc self.now.left) (F.pre self.now.read) (F.post self.now.read) }
+        ensures { Reads result cursor.new (simple_statement_of self.now.left (sequence_of self.now.left) (inside_of self.now.left) cursor.old) }
+    {
+        if cursor.is_word(b"null") {
+            null_statement(cursor)
+        } else if cursor.is_word(b"delay") {
+            let delay = delay(self.alloc, cursor, self.left)?;
+            Ok(Statement::Delay(delay))
+        } else if cursor.is_word(b"exit") {
+            exit_statement(self.alloc, cursor, self.left)
+        } else if cursor.is_word(b"return") {
+            return_statement(self.alloc, cursor, self.left)
+        } else if cursor.is_word(b"raise") {
+            raise_statement(self.alloc, cursor)
+        } else if cursor.is_word(b"abort") {
+            abort_statement(self.alloc, cursor)
+        } else if cursor.is_word(b"requeue") {
+            requeue_statement(self.alloc, cursor)
+        } else {
+            self.named_statement(cursor)
+        }
+    }
+
+    /// A statement (5.1).
+    #[tactic(auto, unfolding(ada_grammar::specs::ReadingStatements::statement_inside_of))]
+    pub fn statement(&self, cursor: &mut Cursor<'_>) -> Result<Statement<Sequence>, Stuck>
+        requires reads { ReadsInside (suc self.now.left) (F.pre self.now.read) (F.post self.now.read) }
+        ensures { Reads result cursor.new (statement_inside_of self.now.left (sequence_of self.now.left) (inside_of self.now.left) cursor.old) }
+    {
+        if begins_compound(cursor) {
+            self.compound(cursor)
+        } else {
+            self.simple(cursor)
+        }
+    }
+}

@@ -1,9 +1,11 @@
 mod ListLemmas
 mod Moves
+mod AtOnce
 mod Kept
 mod TimeLemmas
 mod LineLemmas
 mod AppointmentLemmas
+mod DueLemmas
 mod ReachedLemmas
 mod NumberLemmas
 mod RunLemmas

@@ -1,6 +1,7 @@
 -- What every change that the machine makes of a world keeps, as a relation between the world before, the lines that are
 -- said, and the world behind: a law of all instants is one record, with a field for each change that steps are made of.
 use Rattle.std.proofs.Common.{◌≡◌, ℕ, ℤ, suc, Bool, true, List, [], ◌∷◌, ◌++◌, map, Option}
+use Rattle.std.specs.Prelude.{int_lt, pos}
 use Rattle.ann_base.specs.declared.identities.CallNo.{CallNo}
 use Rattle.ann_base.specs.declared.identities.ObjectNo.{ObjectNo}
 use Rattle.ann_base.specs.declared.identities.RegionNo.{RegionNo}
@@ -71,8 +72,8 @@ pub record Moves (R : StepRelation) (Q : MoveRelation) : Type 0 where
   -- protected objects
   pub edits_object : (o : ObjectNo) (f : Object → Object) (w : World) → ((x : Object) → (f x).number ≡ x.number) → R w [] (edit_object o f w)
   pub adds_object : (p : Image) (l : Located) (u : ProtectedUnitNo) (w : World) → R w [] (record w { objects = new_object p l u (suc w.drawn.objects) ∷ w.objects; drawn = object_drawn w.drawn })
-  -- appointments
-  pub appoints : (due : Due) (moment : ℤ) (w : World) → R w [] (appoint due moment w)
+  -- appointments: one that is set is later than now
+  pub appoints : (due : Due) (moment : ℤ) (w : World) → int_lt (pos w.now) moment ≡ true → R w [] (appoint due moment w)
   pub drops_appointment : (test : Due → Bool) (w : World) → R w [] (drop_appointment test w)
   -- controlled objects: a new one has the next number
   pub registers : (r : RegionNo) (l : Located) (w : World) → R w [] (registered_as (suc w.drawn.controlled) r l w)

@@ -97,7 +97,7 @@ stays_numbered = record {
   forgets_call = λ c w h. (h.0, Falls-without call_number (is_call c) (suc w.drawn.calls) w.calls h.1, h.2, h.3, h.4, h.5, h.6);
   edits_object = λ o f w k h. (h.0, h.1, h.2, h.3, Falls-edit_where object_number (is_object o) f (λ x. ap (λ n. n.0) (k x)) (suc w.drawn.objects) w.objects h.4, h.5, h.6);
   adds_object = λ p l u w h. (h.0, h.1, h.2, h.3, (omega arith, h.4), h.5, h.6);
-  appoints = λ due moment w h. (h.0, h.1, h.2, h.3, h.4, h.5, InOrder-put (record { due = due; moment = moment }) w.appointments h.6);
+  appoints = λ due moment w later h. (h.0, h.1, h.2, h.3, h.4, h.5, InOrder-put (record { due = due; moment = moment }) w.appointments h.6);
   drops_appointment = λ test w h. (h.0, h.1, h.2, h.3, h.4, h.5, InOrder-without (λ a. test a.due) w.appointments h.6);
   registers = λ r l w h. (h.0, h.1, (omega arith, h.2), h.3, h.4, h.5, h.6);
   unregisters = λ n w h. (h.0, h.1, Falls-without registered_number (is_number n) (suc w.drawn.controlled) w.registered h.2, h.3, h.4, h.5, h.6);

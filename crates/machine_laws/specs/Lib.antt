@@ -1,4 +1,5 @@
 pub mod DispatchLaws
+pub mod DueLaws
 pub mod IdleLaws
 pub mod LineKinds
 pub mod NumberLaws

@@ -1,4 +1,5 @@
-//! Time: of all that the machine does only a tick takes time.
+//! Time: of all that the machine does only a tick takes time, and no moment that is waited for passes by.
+ghost use Rattle.machine_laws.specs.DueLaws.{InstantsLeaveNoneDue, NoneIsBeforeNow};
 ghost use Rattle.machine_laws.specs.TimeLaws.{InstantsTakeNoTime, TocksTakeOneTick};
 
 /// No instant changes the time.
@@ -11,4 +12,12 @@ pub fn instants_take_no_time()
 #[tactic(auto, using(crate::proofs::TimeLemmas::tocks_take_one_tick))]
 pub fn tocks_take_one_tick()
     ensures { TocksTakeOneTick }
+{}
+
+/// An instant takes all appointments that are due: those that it leaves, or sets, are later than now (9.6, D.15). So in
+/// no world that a run reaches one is before now.
+#[tactic(auto, using(crate::proofs::DueLemmas::instants_leave_none_due, crate::proofs::DueLemmas::none_is_before_now))]
+pub fn no_appointment_is_missed()
+    ensures instants { InstantsLeaveNoneDue }
+    ensures reached { NoneIsBeforeNow }
 {}

@@ -6,8 +6,9 @@
 //! - the scopes in use are those of the marks, each run by whose mark it is (3.1);
 //! - open protected actions are marks of their holders, who are not blocked and have at least the ceiling as active
 //!   priority (9.5.1, D.3);
-//! - what stands in an entry queue is a call on that entry which has not begun (9.5.3);
-//! - no appointment is before now (9.6, D.15).
+//! - what stands in an entry queue is a call on that entry which has not begun (9.5.3).
+//!
+//! That no appointment is before now is a law of `time`.
 ghost use Rattle.machine_laws.specs.NumberLaws.{TasksAreNumbered, CallsAreNumbered, RegisteredAreNumbered, ScopesAreNumbered, ObjectsAreNumbered, ReleasesAreNumbered, AppointmentsAreInOrder};
 
 /// In every world that a run reaches, numbered lists are in the order of their numbers, no number of a task or of a

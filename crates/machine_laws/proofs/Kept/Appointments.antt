@@ -1,16 +1,22 @@
 -- Appointments that are set and dropped: each step keeps a relation that its parts keep.
-use Rattle.std.specs.Prelude.{ℤ, Bool}
+use Rattle.std.proofs.Common.{◌≡◌, ℕ, ℤ, Bool, true, false, arith}
+use Rattle.std.specs.Prelude.{int_le, int_lt, pos}
+use Rattle.std.proofs.lemmas.Int.{ints}
 use Rattle.trace_text.specs.declared.events.Who.{Who}
 use Rattle.trace_text.specs.declared.events.Who.TheVariants as who
-use Rattle.profile_machine.specs.World.{Due}
+use Rattle.profile_machine.specs.World.{World, Due}
+use Rattle.profile_machine.specs.Steps.{changes}
 use Rattle.profile_machine.specs.Appointments.{appoint, drop_appointment, drop_delay}
 use Rattle.machine_laws.proofs.Moves.{StepRelation, MoveRelation, Moves}
-use Rattle.machine_laws.proofs.Kept.Combinators.{Alters, unchanged-alters}
+use Rattle.machine_laws.proofs.Kept.Combinators.{Alters, From, changes-from, unchanged-alters}
+
+-- a moment that is not past is later
+pub is_later : (now : ℕ) (moment : ℤ) → int_le moment (pos now) ≡ false → int_lt (pos now) moment ≡ true
+is_later now moment h = grind (arith, ints)
 
 module _ {R : StepRelation} {Q : MoveRelation} (moves : Moves R Q) where
-  pub appoint-alters : (due : Due) (moment : ℤ) → Alters R (appoint due moment)
-  unfolding Alters
-  appoint-alters due moment w = moves.appoints due moment w
+  pub appoint-from : (due : Due) (moment : ℤ) (w : World) → int_lt (pos w.now) moment ≡ true → From R w (changes (appoint due moment))
+  appoint-from due moment w later = changes-from moves (appoint due moment) w (moves.appoints due moment w later)
 
   pub drop_appointment-alters : (test : Due → Bool) → Alters R (drop_appointment test)
   unfolding Alters

@@ -100,6 +100,10 @@ module _ {R : StepRelation} {Q : MoveRelation} (moves : Moves R Q) where
   unfolding Keeps From
   keeps-from f w a = a w
 
+  pub looks_at-from : (f : World → Step) (w : World) → From R w (f w) → From R w (looks f)
+  unfolding From
+  looks_at-from f w a = a
+
   pub then-from : (f g : Step) (w : World) → From R w f → Keeps R g → From R w (f ▷ g)
   unfolding Keeps From
   then-from f g w a b = moves.goes_on w (f w).0 (g (f w).0).0 a (b (f w).0)

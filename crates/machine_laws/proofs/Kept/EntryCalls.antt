@@ -1,5 +1,6 @@
 -- Entry calls: each step keeps a relation that its parts keep.
-use Rattle.std.specs.Prelude.{ℕ, ℤ, Bool, true, false, Option, Some, None}
+use Rattle.std.proofs.Common.{◌≡◌, refl}
+use Rattle.std.specs.Prelude.{ℕ, ℤ, pos, int_lt, Bool, true, false, Option, Some, None, length}
 use Rattle.ann_base.specs.declared.identities.CallNo.{CallNo}
 use Rattle.ann_base.specs.declared.identities.ObjectNo.{ObjectNo}
 use Rattle.ann_base.specs.declared.identities.TaskNo.{TaskNo}
@@ -12,14 +13,18 @@ use Rattle.profile_machine.specs.declared.numbers.StatementNo.{StatementNo}
 use Rattle.profile_machine.specs.declared.statements.EntryOwner.{EntryOwner}
 use Rattle.profile_machine.specs.declared.statements.StatementForm.{StatementForm}
 use Rattle.profile_machine.specs.declared.statements.StatementForm.TheVariants as form
-use Rattle.profile_machine.specs.World.{Call, CallKind, Owner, a_task, an_object}
-use Rattle.profile_machine.specs.Steps.{Step, Part}
+use Rattle.profile_machine.specs.World.{World, Call, CallKind, Owner, a_task, an_object, a_trigger}
+use Rattle.profile_machine.specs.Steps.{Step, Part, own, changes, looks, ◌▷◌}
+use Rattle.profile_machine.specs.Program.{next_of}
+use Rattle.profile_machine.specs.Frames.{frames_of, goes}
+use Rattle.profile_machine.specs.Sending.{open_abortable}
 use Rattle.profile_machine.specs.EntryCalls.{add_call, make_call, end_at_once, call_gone, call_meets, call_queues, call_not_met, call_accepted_by, call_callable, call_task, call_runs, call_without_room, has_room_for_action, call_runs_if_room, call_passes, call_refused, call_closed, call_by_barrier, call_object, call_owner, call_named, entry_call, appoint_trigger, trigger_delay, async_delay, async_by_trigger, asynchronous_select, mark_sending, requeue, Named}
 use Rattle.machine_laws.proofs.Moves.{StepRelation, MoveRelation, Moves}
-use Rattle.machine_laws.proofs.Kept.Combinators.{Keeps, Alters, branch-keeps, changes-keeps, looks-keeps, nothing-keeps, says-keeps, sees-keeps, then-keeps, unchanged-alters}
+use Rattle.machine_laws.proofs.Kept.Combinators.{Keeps, From, Alters, branch-keeps, changes-keeps, keeps-from, looks-from, looks-keeps, looks_at-from, nothing-keeps, says-keeps, sees-keeps, then-keeps, then_on-from, unchanged-alters}
+use Rattle.machine_laws.proofs.AtOnce.{at_once, later_behind}
 use Rattle.machine_laws.proofs.Kept.Dispatching.{block-keeps}
-use Rattle.machine_laws.proofs.Kept.Frames.{goes-keeps, leaves-keeps, raises-keeps, given-keeps, raise_if-keeps, with_room-keeps}
-use Rattle.machine_laws.proofs.Kept.Appointments.{appoint-alters}
+use Rattle.machine_laws.proofs.Kept.Frames.{goes-keeps, leaves-keeps, raises-keeps, given-from, given-keeps, raise_if-from, raise_if-keeps, with_room-from, with_room-keeps}
+use Rattle.machine_laws.proofs.Kept.Appointments.{appoint-from}
 use Rattle.machine_laws.proofs.Kept.Calls.{edit_call-alters, forget_call-alters, says_call-keeps, enqueue-keeps}
 use Rattle.machine_laws.proofs.Kept.CallEnds.{gone-keeps}
 use Rattle.machine_laws.proofs.Kept.Protected.{where_let_inside-keeps, begin_action_on-keeps, serve_call-keeps}
@@ -98,16 +103,27 @@ module _ {R : StepRelation} {Q : MoveRelation} (moves : Moves R Q) where
   entry_call-keeps p (who.Task t) kind s = search (looks-keeps, raise_if-keeps, call_named-keeps)
   entry_call-keeps p who.Agent kind s = search (raises-keeps)
 
-  pub appoint_trigger-alters : (name : Who) (depth : ℕ) (m : ℤ) → Alters R (appoint_trigger name depth m)
-  appoint_trigger-alters (who.Task t) depth m = search (appoint-alters)
-  appoint_trigger-alters who.Agent depth m = search (unchanged-alters)
+  appoint_trigger-from : (name : Who) (depth : ℕ) (m : ℤ) (w : World) → int_lt (pos w.now) m ≡ true → From R w (changes (appoint_trigger name depth m))
+  appoint_trigger-from (who.Task t) depth m w later = appoint-from moves (a_trigger t depth) m w later
+  appoint_trigger-from who.Agent depth m w later = keeps-from moves (changes (λ v. v)) w (changes-keeps moves (λ v. v) (unchanged-alters moves))
 
-  pub trigger_delay-keeps : (p : Image) (name : Who) (s trigger : StatementNo) (m : ℤ) (test : Bool) → Keeps R (trigger_delay p name s trigger m test)
-  trigger_delay-keeps p name s trigger m false = search (goes-keeps)
-  trigger_delay-keeps p name s trigger m true = search (with_room-keeps, goes-keeps, then-keeps, looks-keeps, changes-keeps, open_abortable-alters, appoint_trigger-alters) depth 7
+  -- the abortable part opens, and the moment is set
+  opens_until : (p : Image) (name : Who) (s : StatementNo) (m : ℤ) (w : World) → int_lt (pos w.now) m ≡ true → From R w (looks (λ v. changes (open_abortable p name s None) ▷ changes (appoint_trigger name (length (frames_of v name)) m)))
+  opens_until p name s m w later =
+      looks_at-from moves (λ v. changes (open_abortable p name s None) ▷ changes (appoint_trigger name (length (frames_of v name)) m)) w
+      (then_on-from moves (changes (open_abortable p name s None)) _ w (keeps-from moves _ w (search (changes-keeps, open_abortable-alters)))
+      (appoint_trigger-from name (length (frames_of w name)) m _ (later_behind (changes (open_abortable p name s None)) w m (changes-keeps at_once _ (open_abortable-alters at_once p name s None)) later)))
+
+  trigger_delay-from : (p : Image) (name : Who) (s trigger : StatementNo) (m : ℤ) (test : Bool) (w : World) → int_lt (pos w.now) m ≡ test → From R w (trigger_delay p name s trigger m test)
+  trigger_delay-from p name s trigger m false w is = keeps-from moves _ w (search (goes-keeps))
+  trigger_delay-from p name s trigger m true w is =
+      with_room-from moves p name 1 0 _ w
+      (then_on-from moves (goes name (next_of p s)) _ w (keeps-from moves (goes name (next_of p s)) w (goes-keeps moves name (next_of p s)))
+      (opens_until p name s m _ (later_behind (goes name (next_of p s)) w m (goes-keeps at_once name (next_of p s)) is)))
 
   pub async_delay-keeps : (p : Image) (name : Who) (s trigger : StatementNo) → Keeps R (async_delay p name s trigger)
-  async_delay-keeps p name s trigger = search (sees-keeps, raise_if-keeps, given-keeps, trigger_delay-keeps) depth 6
+  async_delay-keeps p name s trigger =
+      looks-from moves _ (λ w. raise_if-from moves p name _ _ _ w (given-from moves p own name _ _ w (λ m. trigger_delay-from p name s trigger m (int_lt (pos w.now) m) w refl)))
 
   pub async_by_trigger-keeps : (p : Image) (name : Who) (s trigger : StatementNo) (form : StatementForm) → Keeps R (async_by_trigger p name s trigger form)
   async_by_trigger-keeps p name s trigger (form.EntryCall entry owner actuals) = search (entry_call-keeps)

@@ -15,7 +15,7 @@ use Rattle.profile_machine.specs.Steps.{Part, own, Step, changes, ◌▷◌}
 use Rattle.profile_machine.specs.Frames.{top_of, new_frame, edit_top, goes, push, pop, leaves, raises, has_room, open_handled, open_at, open_sequence, stands_in, exit_loop, pass_on, given, raise_if, with_room}
 use Rattle.profile_machine.specs.Operators.{Valued}
 use Rattle.machine_laws.proofs.Moves.{StepRelation, MoveRelation, Moves}
-use Rattle.machine_laws.proofs.Kept.Combinators.{Keeps, From, Alters, Gives, branch-keeps, changes-keeps, keeps-from, looks-keeps, nothing-keeps, says-keeps, then-keeps}
+use Rattle.machine_laws.proofs.Kept.Combinators.{Keeps, From, Alters, Gives, branch-keeps, changes-keeps, keeps-from, looks-keeps, looks_at-from, nothing-keeps, says-keeps, then-keeps}
 use Rattle.machine_laws.proofs.Kept.Tasks.{edit_task-alters}
 
 module _ {R : StepRelation} {Q : MoveRelation} (moves : Moves R Q) where
@@ -83,6 +83,13 @@ module _ {R : StepRelation} {Q : MoveRelation} (moves : Moves R Q) where
   unfolding From Gives Keeps
   becomes-from p part name (Ok next) w a = a
   becomes-from p part name (Err e) w a = raises-keeps p part name e w
+
+  branch-from : (p : Image) (name : Who) (test : Bool) (e : Raised) (step : Step) (w : World) → From R w step → From R w (elim test as (λ _. Step) [ true ↦ step | false ↦ raises p own name e ])
+  branch-from p name true e step w k = k
+  branch-from p name false e step w k = keeps-from moves (raises p own name e) w (raises-keeps p own name e)
+
+  pub with_room-from : (p : Image) (name : Who) (marks cells : ℕ) (step : Step) (w : World) → From R w step → From R w (with_room p name marks cells step)
+  with_room-from p name marks cells step w k = looks_at-from moves (λ v. elim (has_room v name marks cells) as (λ _. Step) [ true ↦ step | false ↦ raises p own name exception.Storage ]) w (branch-from p name (has_room w name marks cells) exception.Storage step w k)
 
   pub raise_if-keeps : (p : Image) (name : Who) (test : Bool) (e : Raised) (step : Step) → Keeps R step → Keeps R (raise_if p name test e step)
   raise_if-keeps p name true e step kept = search (raises-keeps)

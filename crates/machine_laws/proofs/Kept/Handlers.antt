@@ -1,5 +1,5 @@
 -- Events, timers, budgets, interrupts and releases: each step keeps a relation that its parts keep.
-use Rattle.std.specs.Prelude.{ℕ, ◌+◌, ◌-◌, ℤ, Bool, true, false, cond, Option, Some, None}
+use Rattle.std.specs.Prelude.{ℕ, ◌+◌, ◌-◌, ℤ, pos, int_lt, Bool, true, false, cond, Option, Some, None}
 use Rattle.ann_base.specs.declared.identities.TaskNo.{TaskNo}
 use Rattle.trace_text.specs.declared.events.Event.TheVariants as line
 use Rattle.trace_text.specs.declared.events.Who.{Who}
@@ -26,12 +26,12 @@ use Rattle.profile_machine.specs.Handlers.{add_release, says_release, wake_agent
 use Rattle.std.proofs.Common.{◌≡◌, refl}
 use Rattle.std.specs.Prelude.{Bool}
 use Rattle.machine_laws.proofs.Moves.{StepRelation, MoveRelation, Moves}
-use Rattle.machine_laws.proofs.Kept.Combinators.{Keeps, Alters, branch-keeps, changes-keeps, for_some-keeps, looks-from, looks-keeps, nothing-keeps, says-keeps, sees-keeps, then-keeps, unchanged-alters}
+use Rattle.machine_laws.proofs.Kept.Combinators.{Keeps, From, Alters, branch-keeps, changes-keeps, for_some-keeps, keeps-from, looks-from, looks-keeps, nothing-keeps, says-keeps, sees-keeps, then-keeps, unchanged-alters}
 use Rattle.machine_laws.proofs.Kept.Frames.{becomes-from, goes-keeps, given-keeps, raise_if-keeps}
 use Rattle.machine_laws.proofs.Kept.Tasks.{edit_task-alters}
 use Rattle.machine_laws.proofs.Kept.Dispatching.{ready-keeps}
 use Rattle.machine_laws.proofs.Kept.Scopes.{open_scope-alters}
-use Rattle.machine_laws.proofs.Kept.Appointments.{appoint-alters, drop_appointment-alters}
+use Rattle.machine_laws.proofs.Kept.Appointments.{appoint-from, drop_appointment-alters}
 use Rattle.machine_laws.proofs.Kept.CallEnds.{store-gives}
 use Rattle.machine_laws.proofs.Kept.Protected.{find_held-keeps, begin_action_on-keeps}
 use Rattle.machine_laws.proofs.Kept.Serving.{end_release-keeps}
@@ -83,13 +83,13 @@ module _ {R : StepRelation} {Q : MoveRelation} (moves : Moves R Q) where
   pub cancel_event_setting-alters : (e : ℕ) → Alters R (cancel_event_setting e)
   cancel_event_setting-alters e = search (drop_appointment-alters)
 
-  pub appoint_event-keeps : (p : Image) (e : ℕ) (h : HandlerOf) (m : ℤ) (test : Bool) → Keeps R (appoint_event p e h m test)
-  appoint_event-keeps p e h m true = search (changes-keeps, appoint-alters)
-  appoint_event-keeps p e h m false = search (release-keeps)
+  appoint_event-from : (p : Image) (e : ℕ) (h : HandlerOf) (m : ℤ) (test : Bool) (w : World) → int_lt (pos w.now) m ≡ test → From R w (appoint_event p e h m test)
+  appoint_event-from p e h m true w is = appoint-from moves (an_event e h) m w is
+  appoint_event-from p e h m false w is = keeps-from moves (release p own h (Some e)) w (release-keeps p own h (Some e))
 
   pub event_set_to-keeps : (p : Image) (e : ℕ) (h : Option HandlerOf) (m : ℤ) → Keeps R (event_set_to p e h m)
   event_set_to-keeps p e None m = search (nothing-keeps)
-  event_set_to-keeps p e (Some h) m = search (looks-keeps, appoint_event-keeps)
+  event_set_to-keeps p e (Some h) m = looks-from moves _ (λ w. appoint_event-from p e h m (int_lt (pos w.now) m) w refl)
 
   pub set_event-keeps : (p : Image) (name : Who) (s : StatementNo) (d : DeclNo) (set : Setting) (named : Option HandlerName) → Keeps R (set_event p name s d set named)
   set_event-keeps p name s d set named = search (sees-keeps, given-keeps, setting_of-keeps, goes-keeps, then-keeps, changes-keeps, cancel_event_setting-alters, event_set_to-keeps) depth 9

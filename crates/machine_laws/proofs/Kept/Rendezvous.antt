@@ -1,5 +1,5 @@
 -- Accepting calls: each step keeps a relation that its parts keep.
-use Rattle.std.specs.Prelude.{ℤ, Bool, true, false, List, Option, Some, None}
+use Rattle.std.specs.Prelude.{ℤ, pos, int_le, int_lt, Bool, true, false, List, Option, Some, None}
 use Rattle.ann_base.specs.declared.identities.CallNo.{CallNo}
 use Rattle.ann_base.specs.declared.identities.TaskNo.{TaskNo}
 use Rattle.ann_base.specs.declared.exceptions.Raised.TheVariants as exception
@@ -15,7 +15,7 @@ use Rattle.profile_machine.specs.declared.run_data.Leaving.TheVariants as how
 use Rattle.profile_machine.specs.declared.statements.SelectAlternative.{SelectAlternative}
 use Rattle.profile_machine.specs.declared.statements.SelectKind.{SelectKind}
 use Rattle.profile_machine.specs.declared.values.Value.{Value}
-use Rattle.profile_machine.specs.World.{Mark, InAccept, AcceptMark, Call, Owner, a_task, an_object, Sending}
+use Rattle.profile_machine.specs.World.{World, Mark, InAccept, AcceptMark, Call, Owner, a_task, an_object, Sending, a_delay}
 use Rattle.profile_machine.specs.Program.{form_of, next_of, scope_of}
 use Rattle.profile_machine.specs.Steps.{Step, Part, says, changes, ◌▷◌}
 use Rattle.profile_machine.specs.Frames.{new_frame, goes, exception_name, open_sequence}
@@ -24,16 +24,17 @@ use Rattle.profile_machine.specs.Appointments.{drop_delay}
 use Rattle.profile_machine.specs.Protected.{begin_call}
 use Rattle.profile_machine.specs.Serving.{with_values, formals_count}
 use Rattle.profile_machine.specs.Rendezvous.{accept_scope, open_accept, has_room_for_accept, begin_rendezvous, accept_call, meet_with_room, meet_without_room, meet, accept_or_wait, accept, accept_chosen, wait_at_select, appoint_delay, select_delay, select_wait, select_otherwise, select_by_call, select_open, selective_accept, gone_sent, meet_sent, arrive_at, arrive, finish_accept, finish_rendezvous, behind_accept, finished_call, end_in_accept, Moment}
-use Rattle.std.proofs.Common.{◌≡◌}
+use Rattle.std.proofs.Common.{◌≡◌, refl}
 use Rattle.machine_laws.proofs.Moves.{StepRelation, MoveRelation, Moves}
-use Rattle.machine_laws.proofs.Kept.Combinators.{Keeps, Alters, branch-keeps, changes-keeps, for_some-keeps, looks-keeps, nothing-keeps, says-keeps, sees-keeps, then-keeps, unchanged-alters}
+use Rattle.machine_laws.proofs.Kept.Combinators.{Keeps, From, Alters, branch-keeps, changes-keeps, for_some-keeps, keeps-from, looks-from, looks-keeps, nothing-keeps, says-keeps, sees-keeps, then-from, then-keeps, then_on-from, unchanged-alters}
+use Rattle.machine_laws.proofs.AtOnce.{at_once, later_behind}
 use Rattle.machine_laws.proofs.Kept.Serving.{keeps_sending-number}
 use Rattle.machine_laws.proofs.Kept.Tasks.{edit_task-alters}
 use Rattle.machine_laws.proofs.Kept.Dispatching.{ready-keeps, block-keeps}
 use Rattle.machine_laws.proofs.Kept.Frames.{goes-keeps, push-alters, pop-alters, raises-keeps, open_sequence-keeps, pass_on-keeps, given-keeps, raise_if-keeps}
 use Rattle.machine_laws.proofs.Kept.Scopes.{end_scope-alters}
 use Rattle.machine_laws.proofs.Kept.Inheritance.{inherit-alters, inherit_running-keeps, lose_running-keeps}
-use Rattle.machine_laws.proofs.Kept.Appointments.{appoint-alters, drop_delay-alters}
+use Rattle.machine_laws.proofs.Kept.Appointments.{appoint-from, is_later, drop_delay-alters}
 use Rattle.machine_laws.proofs.Kept.Calls.{edit_call-alters, with_call-keeps, enqueue-keeps}
 use Rattle.machine_laws.proofs.Kept.CallEnds.{deliver-keeps, gone-keeps}
 use Rattle.machine_laws.proofs.Kept.Protected.{begin_call-keeps}
@@ -78,17 +79,21 @@ module _ {R : StepRelation} {Q : MoveRelation} (moves : Moves R Q) where
   wait_at_select-keeps name accepts delay true = search (changes-keeps, edit_task-alters)
   wait_at_select-keeps name accepts delay false = search (block-keeps)
 
-  pub appoint_delay-alters : (name : Who) (m : ℤ) → Alters R (appoint_delay name m)
-  appoint_delay-alters (who.Task t) m = search (appoint-alters)
-  appoint_delay-alters who.Agent m = search (unchanged-alters)
+  appoint_delay-from : (name : Who) (m : ℤ) (w : World) → int_lt (pos w.now) m ≡ true → From R w (changes (appoint_delay name m))
+  appoint_delay-from (who.Task t) m w later = appoint-from moves (a_delay t) m w later
+  appoint_delay-from who.Agent m w later = keeps-from moves (changes (λ v. v)) w (changes-keeps moves (λ v. v) (unchanged-alters moves))
 
-  pub select_delay-keeps : (p : Image) (name : Who) (s : StatementNo) (accepts : List StatementNo) (m : Moment) (terminate test : Bool) → Keeps R (select_delay p name s accepts m terminate test)
-  select_delay-keeps p name s accepts m terminate true = search (goes-keeps)
-  select_delay-keeps p name s accepts m terminate false = search (goes-keeps, then-keeps, changes-keeps, appoint_delay-alters, wait_at_select-keeps)
+  select_delay-from : (p : Image) (name : Who) (s : StatementNo) (accepts : List StatementNo) (m : Moment) (terminate test : Bool) (w : World) → int_le m.at (pos w.now) ≡ test → From R w (select_delay p name s accepts m terminate test)
+  select_delay-from p name s accepts m terminate true w is = keeps-from moves _ w (search (goes-keeps))
+  select_delay-from p name s accepts m terminate false w is =
+      then_on-from moves (goes name (next_of p s)) _ w (keeps-from moves (goes name (next_of p s)) w (goes-keeps moves name (next_of p s)))
+      (then-from moves (changes (appoint_delay name m.at)) _ _
+      (appoint_delay-from name m.at _ (later_behind (goes name (next_of p s)) w m.at (goes-keeps at_once name (next_of p s)) (is_later w.now m.at is)))
+      (wait_at_select-keeps name accepts (Some m.delay) terminate))
 
   pub select_wait-keeps : (p : Image) (name : Who) (s : StatementNo) (accepts : List StatementNo) (terminate : Bool) (moment : Option Moment) → Keeps R (select_wait p name s accepts terminate moment)
   select_wait-keeps p name s accepts terminate None = search (goes-keeps, then-keeps, wait_at_select-keeps)
-  select_wait-keeps p name s accepts terminate (Some m) = search (looks-keeps, select_delay-keeps)
+  select_wait-keeps p name s accepts terminate (Some m) = looks-from moves _ (λ w. select_delay-from p name s accepts m terminate (int_le m.at (pos w.now)) w refl)
 
   pub select_otherwise-keeps : (p : Image) (name : Who) (s : StatementNo) (kinds : List SelectKind) (m : Option Moment) (next : Option StatementNo) → Keeps R (select_otherwise p name s kinds m next)
   select_otherwise-keeps p name s kinds m (Some otherwise) = search (goes-keeps)

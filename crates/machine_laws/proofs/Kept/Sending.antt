@@ -1,19 +1,28 @@
 -- Calls that are sent on, and abortable parts that begin: each step keeps a relation that its parts keep.
-use Rattle.std.specs.Prelude.{ℤ, Bool, true, false, cond, Option, Some, None}
+use Rattle.std.proofs.Common.{◌≡◌, ℤ, Bool, true, false, cond, not, ◌&&◌, Option, Some, None, refl, sym}
+use Rattle.std.specs.Prelude.{◌||◌}
+use Rattle.std.proofs.lemmas.Bool.{false≢true}
 use Rattle.ann_base.specs.declared.identities.CallNo.{CallNo}
 use Rattle.trace_text.specs.declared.events.Who.{Who}
 use Rattle.profile_machine.specs.declared.image.Image.{Image}
 use Rattle.profile_machine.specs.declared.numbers.StatementNo.{StatementNo}
-use Rattle.profile_machine.specs.World.{Call, CallKind, plain, conditional, timed, triggering, Sending}
-use Rattle.profile_machine.specs.Steps.{Part}
-use Rattle.profile_machine.specs.Sending.{open_abortable, cancel_at_once, appoint_timeout, wait_for_call, wait_or_cancel, not_accepted, send_on, cancel_sent, begin_abortable, timeout_again, sent_not_begun_by, sent_not_begun}
+use Rattle.profile_machine.specs.World.{World, a_timeout, Call, CallKind, plain, conditional, timed, triggering, Sending}
+use Rattle.profile_machine.specs.Steps.{Part, changes}
+use Rattle.profile_machine.specs.Sending.{open_abortable, is_not_future, is_conditional, is_to_be_cancelled, cancel_at_once, appoint_timeout, wait_for_call, wait_or_cancel, not_accepted, send_on, cancel_sent, begin_abortable, timeout_again, sent_not_begun_by, sent_not_begun}
 use Rattle.machine_laws.proofs.Moves.{StepRelation, MoveRelation, Moves}
-use Rattle.machine_laws.proofs.Kept.Combinators.{Keeps, Alters, changes-keeps, looks-keeps, nothing-keeps, says-keeps, then-keeps, unchanged-alters, when-keeps}
+use Rattle.machine_laws.proofs.Kept.Combinators.{Keeps, From, Alters, changes-keeps, looks-keeps, looks-from, keeps-from, then-from, nothing-keeps, says-keeps, then-keeps, unchanged-alters, when-keeps}
 use Rattle.machine_laws.proofs.Kept.Dispatching.{ready-keeps, block-keeps}
 use Rattle.machine_laws.proofs.Kept.Frames.{push-alters}
-use Rattle.machine_laws.proofs.Kept.Appointments.{appoint-alters}
+use Rattle.machine_laws.proofs.Kept.Appointments.{appoint-from, is_later}
 use Rattle.machine_laws.proofs.Kept.Calls.{edit_call-alters, with_call-keeps, says_call-keeps, unqueued-alters, attempt_with-keeps}
 use Rattle.machine_laws.proofs.Kept.CallEnds.{resume-keeps, deliver-keeps}
+
+-- of a test that fails, unless the first part is why
+last_is_false : (a b c d : Bool) → (not a && (b || c || d)) ≡ false → a ≡ false → d ≡ false
+last_is_false true b c d h k = absurd (false≢true (sym k))
+last_is_false false true c d h k = absurd (false≢true (sym h))
+last_is_false false false true d h k = absurd (false≢true (sym h))
+last_is_false false false false d h k = h
 
 module _ {R : StepRelation} {Q : MoveRelation} (moves : Moves R Q) where
   pub open_abortable-alters : (p : Image) (name : Who) (select : StatementNo) (call : Option CallNo) → Alters R (open_abortable p name select call)
@@ -22,21 +31,22 @@ module _ {R : StepRelation} {Q : MoveRelation} (moves : Moves R Q) where
   pub cancel_at_once-keeps : (p : Image) (part : Part) (c : Call) → Keeps R (cancel_at_once p part c)
   cancel_at_once-keeps p part c = search (attempt_with-keeps, resume-keeps, nothing-keeps)
 
-  pub appoint_timeout-alters : (c : CallNo) (moment : Option ℤ) → Alters R (appoint_timeout c moment)
-  appoint_timeout-alters c None = search (unchanged-alters)
-  appoint_timeout-alters c (Some moment) = search (appoint-alters)
+  appoint_timeout-from : (c : CallNo) (moment : Option ℤ) (w : World) → is_not_future w.now moment ≡ false → From R w (changes (appoint_timeout c moment))
+  appoint_timeout-from c None w later = keeps-from moves (changes (λ v. v)) w (changes-keeps moves (λ v. v) (unchanged-alters moves))
+  appoint_timeout-from c (Some moment) w later = appoint-from moves (a_timeout c) moment w (is_later w.now moment later)
 
   pub wait_for_call-keeps : (p : Image) (c : Call) → Keeps R (wait_for_call p c)
   wait_for_call-keeps p c = search (block-keeps)
 
-  pub wait_or_cancel-keeps : (p : Image) (part : Part) (c : Call) (test : Bool) → Keeps R (wait_or_cancel p part c test)
-  wait_or_cancel-keeps p part c true = search (cancel_at_once-keeps)
-  wait_or_cancel-keeps p part c false = search (changes-keeps, appoint_timeout-alters, then-keeps, wait_for_call-keeps)
+  wait_or_cancel-from : (p : Image) (part : Part) (c : Call) (test : Bool) (w : World) → is_not_future w.now c.moment ≡ test → From R w (wait_or_cancel p part c test)
+  wait_or_cancel-from p part c true w is = keeps-from moves (cancel_at_once p part c) w (cancel_at_once-keeps p part c)
+  wait_or_cancel-from p part c false w is =
+      then-from moves (changes (appoint_timeout c.number c.moment)) (wait_for_call p c) w (appoint_timeout-from c.number c.moment w is) (wait_for_call-keeps p c)
 
   pub not_accepted-keeps : (p : Image) (part : Part) (c : Call) (kind : CallKind) → Keeps R (not_accepted p part c kind)
   not_accepted-keeps p part c plain = search (wait_for_call-keeps)
   not_accepted-keeps p part c conditional = search (cancel_at_once-keeps)
-  not_accepted-keeps p part c timed = search (looks-keeps, wait_or_cancel-keeps)
+  not_accepted-keeps p part c timed = looks-from moves _ (λ w. wait_or_cancel-from p part c (is_not_future w.now c.moment) w refl)
   not_accepted-keeps p part c triggering = search (changes-keeps, open_abortable-alters)
 
   pub send_on-keeps : (p : Image) (c : CallNo) (s : Sending) → Keeps R (send_on p c s)
@@ -48,16 +58,16 @@ module _ {R : StepRelation} {Q : MoveRelation} (moves : Moves R Q) where
   pub begin_abortable-keeps : (p : Image) (c : CallNo) → Keeps R (begin_abortable p c)
   begin_abortable-keeps p c = search (with_call-keeps, looks-keeps, when-keeps, changes-keeps, open_abortable-alters, then-keeps, ready-keeps) depth 6
 
-  unless_firm-alters : (firm : Bool) (c : Call) → Alters R (cond firm (λ w. w) (appoint_timeout c.number c.moment))
-  unless_firm-alters true c = unchanged-alters moves
-  unless_firm-alters false c = appoint_timeout-alters c.number c.moment
+  unless_firm-from : (firm : Bool) (c : Call) (w : World) → (firm ≡ false → is_not_future w.now c.moment ≡ false) → From R w (changes (cond firm (λ v. v) (appoint_timeout c.number c.moment)))
+  unless_firm-from true c w later = keeps-from moves (changes (λ v. v)) w (changes-keeps moves (λ v. v) (unchanged-alters moves))
+  unless_firm-from false c w later = appoint_timeout-from c.number c.moment w (later refl)
 
-  timeout_again-alters : (c : Call) → Alters R (timeout_again c)
-  timeout_again-alters c = unless_firm-alters c.firm c
-
-  pub sent_not_begun_by-keeps : (p : Image) (c : Call) (test : Bool) → Keeps R (sent_not_begun_by p c test)
-  sent_not_begun_by-keeps p c true = search (cancel_sent-keeps)
-  sent_not_begun_by-keeps p c false = search (changes-keeps, timeout_again-alters, then-keeps, begin_abortable-keeps)
+  sent_not_begun_by-from : (p : Image) (c : Call) (test : Bool) (w : World) → is_to_be_cancelled w.now c ≡ test → From R w (sent_not_begun_by p c test)
+  sent_not_begun_by-from p c true w is = keeps-from moves (cancel_sent p c) w (cancel_sent-keeps p c)
+  sent_not_begun_by-from p c false w is =
+      then-from moves (changes (timeout_again c)) (begin_abortable p c.number) w
+      (unless_firm-from c.firm c w (last_is_false c.firm (is_conditional c.kind) c.attempted (is_not_future w.now c.moment) is))
+      (begin_abortable-keeps p c.number)
 
   pub sent_not_begun-keeps : (p : Image) (c : CallNo) → Keeps R (sent_not_begun p c)
-  sent_not_begun-keeps p c = search (with_call-keeps, looks-keeps, sent_not_begun_by-keeps)
+  sent_not_begun-keeps p c = with_call-keeps moves c _ (λ d. looks-from moves _ (λ w. sent_not_begun_by-from p d (is_to_be_cancelled w.now d) w refl))

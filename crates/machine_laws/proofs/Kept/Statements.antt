@@ -1,5 +1,6 @@
 -- Simple and compound statements: each step keeps a relation that its parts keep.
-use Rattle.std.specs.Prelude.{ℤ, Bool, true, false, List, Option, Some, None, Ok}
+use Rattle.std.proofs.Common.{◌≡◌, refl}
+use Rattle.std.specs.Prelude.{ℤ, pos, int_lt, Bool, true, false, List, Option, Some, None, Ok}
 use Rattle.trace_text.specs.declared.events.Who.{Who}
 use Rattle.trace_text.specs.declared.events.Who.TheVariants as who
 use Rattle.profile_machine.specs.declared.image.Image.{Image}
@@ -12,20 +13,22 @@ use Rattle.profile_machine.specs.declared.expressions.VariableName.{VariableName
 use Rattle.profile_machine.specs.declared.statements.CaseAlternative.{CaseAlternative}
 use Rattle.profile_machine.specs.declared.statements.Piece.{Piece}
 use Rattle.profile_machine.specs.declared.values.Value.{Value}
-use Rattle.profile_machine.specs.World.{World, Variable}
+use Rattle.profile_machine.specs.World.{World, Variable, a_delay, for_moment}
 use Rattle.profile_machine.specs.Program.{declaration_of, next_of}
-use Rattle.profile_machine.specs.Steps.{own}
+use Rattle.profile_machine.specs.Steps.{own, the_block, changes}
 use Rattle.profile_machine.specs.Frames.{goes}
+use Rattle.profile_machine.specs.Appointments.{appoint}
+use Rattle.profile_machine.specs.Dispatching.{block}
 use Rattle.profile_machine.specs.Operators.{Valued, ◌>>=◌}
 use Rattle.profile_machine.specs.Values.{Seen, seen_by, value, variable, object_cell}
 use Rattle.profile_machine.specs.CallEnds.{store}
 use Rattle.profile_machine.specs.Statements.{null, assign, cells_from, put_cells, copy_cells, array_copied, assign_array, if_statement, case_statement, while_turn, loop_cell, put, first_bound, last_bound, bounds_set, for_bounds, first_turn, advance, later_turn, exit_where, exit_statement, block_statement, raise_again, wait_until, delay_to, delay_until, put_line}
 use Rattle.machine_laws.proofs.Moves.{StepRelation, MoveRelation, Moves}
-use Rattle.machine_laws.proofs.Kept.Combinators.{Keeps, Alters, Gives, bind-gives, changes-keeps, looks-from, looks-keeps, nothing-keeps, ok-gives, says-keeps, sees-keeps, then-keeps}
+use Rattle.machine_laws.proofs.Kept.Combinators.{Keeps, From, Alters, Gives, bind-gives, changes-keeps, keeps-from, looks-from, looks-keeps, nothing-keeps, ok-gives, says-keeps, sees-keeps, then-from, then-keeps}
 use Rattle.machine_laws.proofs.Kept.Frames.{given_world-from, goes-keeps, raises-keeps, exit_loop-keeps, given-keeps, raise_if-keeps, with_room-keeps}
 use Rattle.machine_laws.proofs.Kept.Dispatching.{to_tail-keeps, block-keeps}
 use Rattle.machine_laws.proofs.Kept.Scopes.{write_cell-alters, open_scope-alters}
-use Rattle.machine_laws.proofs.Kept.Appointments.{appoint-alters}
+use Rattle.machine_laws.proofs.Kept.Appointments.{appoint-from}
 use Rattle.machine_laws.proofs.Kept.CallEnds.{store-gives}
 
 module _ {R : StepRelation} {Q : MoveRelation} (moves : Moves R Q) where
@@ -116,13 +119,14 @@ module _ {R : StepRelation} {Q : MoveRelation} (moves : Moves R Q) where
   pub raise_again-keeps : (p : Image) (name : Who) (scope : ScopeNo) → Keeps R (raise_again p name scope)
   raise_again-keeps p name scope = search (sees-keeps, given-keeps, raises-keeps) depth 6
 
-  pub wait_until-keeps : (p : Image) (name : Who) (until : ℤ) (test : Bool) → Keeps R (wait_until p name until test)
-  wait_until-keeps p (who.Task t) until true = search (changes-keeps, appoint-alters, then-keeps, block-keeps)
-  wait_until-keeps p (who.Task t) until false = search (to_tail-keeps)
-  wait_until-keeps p who.Agent until future = search (nothing-keeps)
+  wait_until-from : (p : Image) (name : Who) (until : ℤ) (test : Bool) (w : World) → int_lt (pos w.now) until ≡ test → From R w (wait_until p name until test)
+  wait_until-from p (who.Task t) until true w is =
+      then-from moves (changes (appoint (a_delay t) until)) (block the_block (who.Task t) for_moment) w (appoint-from moves (a_delay t) until w is) (search (block-keeps))
+  wait_until-from p (who.Task t) until false w is = keeps-from moves _ w (search (to_tail-keeps))
+  wait_until-from p who.Agent until future w is = keeps-from moves _ w (search (nothing-keeps))
 
   pub delay_to-keeps : (p : Image) (name : Who) (until : ℤ) → Keeps R (delay_to p name until)
-  delay_to-keeps p name until = search (looks-keeps, wait_until-keeps)
+  delay_to-keeps p name until = looks-from moves _ (λ w. wait_until-from p name until (int_lt (pos w.now) until) w refl)
 
   pub delay_until-keeps : (p : Image) (name : Who) (s : StatementNo) (until : Valued ℤ) → Keeps R (delay_until p name s until)
   delay_until-keeps p name s until = search (looks-keeps, raise_if-keeps, given-keeps, goes-keeps, then-keeps, delay_to-keeps) depth 7

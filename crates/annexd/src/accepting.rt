@@ -19,8 +19,8 @@ use ada_static::{Checked, Refusal, check};
 use ada_tree::Unit;
 use std::alloc::Global;
 
-#[tactic(auto, unfolding(crate::specs::Accepted::judged))]
 /// The checked image of a source, or why it is refused: the first stage that refuses decides.
+#[tactic(auto, unfolding(crate::specs::Accepted::judged))]
 pub fn accept(alloc: Global, source: &[u8]) -> Result<Checked, Refused>
     // The answer is the stated one.
     ensures exact { Judges result (judged source.now) }

@@ -22,6 +22,3 @@ pub use laws::built_is_readable;
 pub use parts::Parts;
 pub use syntax::{Expression, Name, ObjectDeclaration, Statement, Unit};
 pub use units::built;
-
-#[cfg(test)]
-mod tests;

@@ -21,6 +21,3 @@ mod visible;
 pub use faults::NameFault;
 pub use image::{Denoted, Image, Use};
 pub use numbering::number;
-
-#[cfg(test)]
-mod tests;

@@ -13,6 +13,3 @@ mod refusals;
 
 pub use checked::{Checked, check};
 pub use refusals::Refusal;
-
-#[cfg(test)]
-mod tests;

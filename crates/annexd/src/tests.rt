@@ -11,6 +11,148 @@ const HELLO: &[u8] =
 const TRACE: &[u8] =
     b"0 t0 new main 15\n0 t0 ready 15 tail\n0 t0 run\n7 t0 put hi\n9 t0 done\n9 end completed\n";
 
+/// Sources with the trace of their run.
+const RUNS: [(&[u8], &[u8]); 6] = [
+    (
+        b"procedure Main is X : Integer := 5; begin X := 7; end Main;",
+        b"0 t0 new main 15\n0 t0 ready 15 tail\n0 t0 run\n6 t0 done\n6 end completed\n",
+    ),
+    (
+        b"procedure Main is X, Y : Integer := 5; Z : Integer; begin Z := X; Y := Z; null; end;",
+        b"0 t0 new main 15\n0 t0 ready 15 tail\n0 t0 run\n10 t0 done\n10 end completed\n",
+    ),
+    (
+        b"with Ada.Text_IO; use Ada.Text_IO; procedure Main is Count : Integer; begin Put_Line (\"a \"\"b\"\"\"); COUNT := 2_147_483_647; Put_Line (\"\"); end Main;",
+        b"0 t0 new main 15\n0 t0 ready 15 tail\n0 t0 run\n7 t0 put a \"b\"\n12 t0 put \n14 t0 done\n14 end completed\n",
+    ),
+    (
+        b"procedure Main is True : Integer := 1; X : Integer := True; begin True := X; end Main;",
+        b"0 t0 new main 15\n0 t0 ready 15 tail\n0 t0 run\n7 t0 done\n7 end completed\n",
+    ),
+    (
+        b"with Ada.Text_IO; use Ada.Text_IO; procedure Main is Main : Integer; begin Main := 3; Put_Line (\"done\"); end Main;",
+        b"0 t0 new main 15\n0 t0 ready 15 tail\n0 t0 run\n8 t0 put done\n10 t0 done\n10 end completed\n",
+    ),
+    (
+        b"procedure Main is Put_Line : Integer := 1; begin Put_Line := 2; end;",
+        b"0 t0 new main 15\n0 t0 ready 15 tail\n0 t0 run\n6 t0 done\n6 end completed\n",
+    ),
+];
+
+/// Sources that are not accepted, with the note on each.
+const REFUSALS: [(&[u8], &[u8]); 29] = [
+    (
+        b"procedure Main is X : Integer; begin X := True; end Main;",
+        b"source refused 1:43 L9\n",
+    ),
+    (
+        b"procedure Main is begin X := 1; end Main;",
+        b"source refused 1:25 F7\n",
+    ),
+    (
+        b"procedure Main is X : Integer := X; begin null; end Main;",
+        b"source refused 1:34 F7\n",
+    ),
+    (
+        b"procedure Main is X, X : Integer; begin null; end Main;",
+        b"source refused 1:22 F8\n",
+    ),
+    (
+        b"procedure Main is X, Integer : Integer; begin null; end Main;",
+        b"source refused 1:32 F7\n",
+    ),
+    (
+        b"procedure Main is X : Integer := 2147483648; begin null; end Main;",
+        b"source refused 1:34 L7\n",
+    ),
+    (
+        b"procedure Main is X : Integer := 340282366920938463463374607431768211456; begin null; end Main;",
+        b"source refused 1:34 F2\n",
+    ),
+    (
+        b"procedure Main is X : Integer := 5.0; begin null; end Main;",
+        b"source refused 1:34 L8\n",
+    ),
+    (
+        b"procedure Main is X : Integer := Ada; begin null; end Main;",
+        b"source refused 1:34 L1\n",
+    ),
+    (
+        b"with Ada.Text_IO; use Ada.Text_IO; procedure Main is X : Integer := Ada; begin null; end Main;",
+        b"source refused 1:69 L5\n",
+    ),
+    (
+        b"procedure Main is X : Integer; begin Main := X; end Main;",
+        b"source refused 1:38 L5\n",
+    ),
+    (
+        b"procedure Main is X : Integer; begin X = 1; end Main;",
+        b"source refused 1:40 F5\n",
+    ),
+    (
+        b"procedure Main is X : Integer := ; begin null; end Main;",
+        b"source refused 1:34 F5\n",
+    ),
+    (
+        b"procedure Main is X Integer; begin null; end Main;",
+        b"source refused 1:21 F5\n",
+    ),
+    (
+        b"procedure Main is X : Integer; begin end Main;",
+        b"source refused 1:38 F5\n",
+    ),
+    (
+        b"procedure Main is begin null; end Main; null;",
+        b"source refused 1:41 F5\n",
+    ),
+    (
+        b"with Ada.Text_IO; use Ada.Text_IO; procedure Main is Put_Line : Integer := 1; begin Put_Line (\"x\"); end Main;",
+        b"source refused 1:85 L5\n",
+    ),
+    (
+        b"procedure Main is X : Integer; Y : Integer := X; X : Integer; begin null; end Main;",
+        b"source refused 1:50 F8\n",
+    ),
+    (b"", b"source refused 1:1 F5\n"),
+    (b"-- x\n", b"source refused 2:1 F5\n"),
+    (
+        b"procedure Main is begin null; end Mian;",
+        b"source refused 1:35 F5\n",
+    ),
+    (
+        b"procedure Main is begin null;",
+        b"source refused 1:30 F5\n",
+    ),
+    (
+        b"procedure Main is begin Put_Line (\"hi); end Main;",
+        b"source refused 1:35 F3\n",
+    ),
+    (
+        b"procedure Main is begin Put_Line (\"x\"); end Main;",
+        b"source refused 1:25 F7\n",
+    ),
+    (
+        b"procedure Integer is begin null; end;",
+        b"source refused 1:11 F8\n",
+    ),
+    (
+        b"with Ada.Text_IO; use Ada.Text_IO; procedure Put_Line is begin Put_Line (\"x\"); end Put_Line;",
+        b"source refused 1:74 L12\n",
+    ),
+    (
+        b"procedure Main is begin raise; end Main;",
+        b"source refused 1:25 L40\n",
+    ),
+    (
+        b"procedure Main is X : Integer; begin if X = 1 then null; end if; end Main;",
+        b"source refused 1:38 L40\n",
+    ),
+    (
+        b"pragma Queuing_Policy (FIFO_Queuing); procedure Main is begin null; end Main;",
+        b"source refused 1:1 L40\n",
+    ),
+];
+
 /// What the program answers and writes.
 #[derive(Drop)]
 struct Answered {
@@ -122,33 +264,7 @@ fn words_and_files_that_are_not_there(rt: HostRuntime) -> Result<(), Fail> {
 
 #[test]
 fn programs_with_variables_run(rt: HostRuntime) -> Result<(), Fail> {
-    let table: [(&[u8], &[u8]); 6] = [
-        (
-            b"procedure Main is X : Integer := 5; begin X := 7; end Main;",
-            b"0 t0 new main 15\n0 t0 ready 15 tail\n0 t0 run\n6 t0 done\n6 end completed\n",
-        ),
-        (
-            b"procedure Main is X, Y : Integer := 5; Z : Integer; begin Z := X; Y := Z; null; end;",
-            b"0 t0 new main 15\n0 t0 ready 15 tail\n0 t0 run\n10 t0 done\n10 end completed\n",
-        ),
-        (
-            b"with Ada.Text_IO; use Ada.Text_IO; procedure Main is Count : Integer; begin Put_Line (\"a \"\"b\"\"\"); COUNT := 2_147_483_647; Put_Line (\"\"); end Main;",
-            b"0 t0 new main 15\n0 t0 ready 15 tail\n0 t0 run\n7 t0 put a \"b\"\n12 t0 put \n14 t0 done\n14 end completed\n",
-        ),
-        (
-            b"procedure Main is True : Integer := 1; X : Integer := True; begin True := X; end Main;",
-            b"0 t0 new main 15\n0 t0 ready 15 tail\n0 t0 run\n7 t0 done\n7 end completed\n",
-        ),
-        (
-            b"with Ada.Text_IO; use Ada.Text_IO; procedure Main is Main : Integer; begin Main := 3; Put_Line (\"done\"); end Main;",
-            b"0 t0 new main 15\n0 t0 ready 15 tail\n0 t0 run\n8 t0 put done\n10 t0 done\n10 end completed\n",
-        ),
-        (
-            b"procedure Main is Put_Line : Integer := 1; begin Put_Line := 2; end;",
-            b"0 t0 new main 15\n0 t0 ready 15 tail\n0 t0 run\n6 t0 done\n6 end completed\n",
-        ),
-    ];
-    for (source, trace) in table {
+    for (source, trace) in RUNS {
         let got = answer(rt.alloc(), &[b"run", b"source"], source, 100, &[], &[])?;
         assert_eq!(rt; got.status, 0);
         assert_eq!(rt; got.out.held(), trace);
@@ -159,107 +275,7 @@ fn programs_with_variables_run(rt: HostRuntime) -> Result<(), Fail> {
 
 #[test]
 fn what_is_not_accepted_is_refused_with_its_place(rt: HostRuntime) -> Result<(), Fail> {
-    let table: [(&[u8], &[u8]); 26] = [
-        (
-            b"procedure Main is X : Integer; begin X := True; end Main;",
-            b"source refused 1:43 L9\n",
-        ),
-        (
-            b"procedure Main is begin X := 1; end Main;",
-            b"source refused 1:25 F7\n",
-        ),
-        (
-            b"procedure Main is X : Integer := X; begin null; end Main;",
-            b"source refused 1:34 F7\n",
-        ),
-        (
-            b"procedure Main is X, X : Integer; begin null; end Main;",
-            b"source refused 1:22 F8\n",
-        ),
-        (
-            b"procedure Main is X, Integer : Integer; begin null; end Main;",
-            b"source refused 1:32 F7\n",
-        ),
-        (
-            b"procedure Main is X : Integer := 2147483648; begin null; end Main;",
-            b"source refused 1:34 L7\n",
-        ),
-        (
-            b"procedure Main is X : Integer := 340282366920938463463374607431768211456; begin null; end Main;",
-            b"source refused 1:34 F2\n",
-        ),
-        (
-            b"procedure Main is X : Integer := 5.0; begin null; end Main;",
-            b"source refused 1:34 L8\n",
-        ),
-        (
-            b"procedure Main is X : Integer := Ada; begin null; end Main;",
-            b"source refused 1:34 L1\n",
-        ),
-        (
-            b"with Ada.Text_IO; use Ada.Text_IO; procedure Main is X : Integer := Ada; begin null; end Main;",
-            b"source refused 1:69 L5\n",
-        ),
-        (
-            b"procedure Main is X : Integer; begin Main := X; end Main;",
-            b"source refused 1:38 L5\n",
-        ),
-        (
-            b"procedure Main is X : Integer; begin X = 1; end Main;",
-            b"source refused 1:40 F5\n",
-        ),
-        (
-            b"procedure Main is X : Integer := ; begin null; end Main;",
-            b"source refused 1:34 F5\n",
-        ),
-        (
-            b"procedure Main is X Integer; begin null; end Main;",
-            b"source refused 1:21 F5\n",
-        ),
-        (
-            b"procedure Main is X : Integer; begin end Main;",
-            b"source refused 1:38 F5\n",
-        ),
-        (
-            b"procedure Main is begin null; end Main; null;",
-            b"source refused 1:41 F5\n",
-        ),
-        (
-            b"with Ada.Text_IO; use Ada.Text_IO; procedure Main is Put_Line : Integer := 1; begin Put_Line (\"x\"); end Main;",
-            b"source refused 1:85 L5\n",
-        ),
-        (
-            b"procedure Main is X : Integer; Y : Integer := X; X : Integer; begin null; end Main;",
-            b"source refused 1:50 F8\n",
-        ),
-        (b"", b"source refused 1:1 F5\n"),
-        (b"-- x\n", b"source refused 2:1 F5\n"),
-        (
-            b"procedure Main is begin null; end Mian;",
-            b"source refused 1:35 F5\n",
-        ),
-        (
-            b"procedure Main is begin null;",
-            b"source refused 1:30 F5\n",
-        ),
-        (
-            b"procedure Main is begin Put_Line (\"hi); end Main;",
-            b"source refused 1:35 F3\n",
-        ),
-        (
-            b"procedure Main is begin Put_Line (\"x\"); end Main;",
-            b"source refused 1:25 F7\n",
-        ),
-        (
-            b"procedure Integer is begin null; end;",
-            b"source refused 1:11 F8\n",
-        ),
-        (
-            b"with Ada.Text_IO; use Ada.Text_IO; procedure Put_Line is begin Put_Line (\"x\"); end Put_Line;",
-            b"source refused 1:74 L12\n",
-        ),
-    ];
-    for (source, note) in table {
+    for (source, note) in REFUSALS {
         let got = answer(rt.alloc(), &[b"run", b"source"], source, 100, &[], &[])?;
         assert_eq!(rt; got.status, 4);
         assert_eq!(rt; got.notes.held(), note);

@@ -1,3 +1,4 @@
+pub mod Answers
 pub mod Outside
 pub mod MemoryState
 pub mod Files

@@ -13,7 +13,7 @@ mod outside;
 mod places;
 
 pub use exceptions::Raised;
-pub use faults::{Failed, Full, NoMemory};
+pub use faults::{Failed, Full, NoMemory, OrMemory};
 pub use host::{HostShelf, HostSink};
 pub use identities::{CallNo, Level, Moment, ObjectNo, RegionNo, Slot, TaskNo};
 pub use memory::{MemShelf, MemSink};

@@ -1,9 +1,8 @@
 with Ada.Text_IO; use Ada.Text_IO;
 procedure Main is
-   First, Second : Integer := 5;
-   Count : Integer;
+   Total : Integer := 10;
+   Copy  : Integer;
 begin
-   Count := First;
-   Second := Count;
+   Copy := Totl;
    Put_Line ("copied");
 end Main;

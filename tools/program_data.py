@@ -12,7 +12,7 @@ FOLDER holds a front end in Python with the modules `front` (accept), `tree`, `n
 `script`. The output is a file of definitions in antt: the program, its script, the bound, the trace that FILE
 holds, and the law that the machine's run is this trace. The same input gives the same output, byte by byte.
 
-Behind the second form run `rt tidy` in the crate, which lays the files out and drops imports that a row does not need.
+After the second form run `rt tidy` in the crate, which lays the files out and drops imports that a row does not need.
 
 Nothing is proved of this script. What it writes is checked in, and stands beside the source from which it came.
 """

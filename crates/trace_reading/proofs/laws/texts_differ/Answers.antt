@@ -1,5 +1,5 @@
-use Rattle.trace_text.proofs.TextsDiffer.{line-same, text-same}
-use Rattle.trace_text.proofs.laws.texts_differ.Goals as goal
+use Rattle.trace_reading.proofs.TextsDiffer.{line-same, text-same}
+use Rattle.trace_reading.proofs.laws.texts_differ.Goals as goal
 
 pub returns-clause-lines : goal.returns-clause-lines
 returns-clause-lines c = line-same

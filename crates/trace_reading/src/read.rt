@@ -2,18 +2,18 @@
 ghost use Rattle.std.specs.Prelude.{◌≡◌, ℕ, ◌<◌, ◌^◌, [], ◌∷◌, ◌++◌, IfSome, IfOk, Ok, codes, decimal};
 ghost use Rattle.trace_text.specs.Text.{IsPrintable, IsPrintableLine, words_of, spaced, line_text, task_text, object_text, who_text, created_text};
 ghost use Rattle.trace_text.specs.Words.{word_text};
-ghost use Rattle.trace_text.specs.Reading.{ReadsAs, field};
-ghost use Rattle.trace_text.specs.Lines.{lead_text, lead_in, created_in, ready_in, call_in, finish_in, enter_in, held_in, leave_in, init_in, release_in, port_in, end_in, who_in, task_line_in, agent_line_in, object_line_in, bare_in, led_in, event_in, moment_and_event_in, line_in};
+ghost use Rattle.trace_reading.specs.Reading.{ReadsAs, field};
+ghost use Rattle.trace_reading.specs.Lines.{lead_text, lead_in, created_in, ready_in, call_in, finish_in, enter_in, held_in, leave_in, init_in, release_in, port_in, end_in, who_in, task_line_in, agent_line_in, object_line_in, bare_in, led_in, event_in, moment_and_event_in, line_in};
 ghost use Rattle.trace_text.specs.declared.events.Event.{Event};
 
-use crate::events::{Created, Ended, Event, Who};
 use crate::fields::{
     deadline_of, ended, entry_at, event_word_at, exception_of, finished_of, handler_of, last,
     long_at, long_of, moment_of, name_at, name_of, number_of, object_at, object_of, queue_end_at,
     short_at, short_of, split_at_mark, task_of, text_of, value_of, word_at,
 };
-use crate::words::{Word, leaves_of, mode_of, waits_of, word_of};
+use crate::words::{leaves_of, mode_of, waits_of, word_of};
 use ann_base::{CallNo, ObjectNo, RegionNo, TaskNo};
+use trace_text::{Created, Ended, Event, Who, Word};
 
 /// No moment and printable event have this line.
 #[derive(Clone, Copy, Debug, PartialEq, Eq)]

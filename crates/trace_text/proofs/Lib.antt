@@ -1,5 +1,1 @@
-pub mod FieldsAgain
 pub mod LawsFollowed
-pub mod LinesAgain
-pub mod Numbers
-pub mod TextsDiffer

@@ -1,7 +1,5 @@
 pub mod Laws
-pub mod Lines
 pub mod Queue
-pub mod Reading
 pub mod Summary
 pub mod Text
 pub mod Words

@@ -1,5 +1,6 @@
 //! The buffer that lines are written to.
 ghost use Rattle.std.specs.Prelude.{◌≡◌, ◌+◌, ◌≤◌, [], ◌++◌, length, IfOk};
+ghost use Rattle.trace_text.specs.declared.buffer.TheConstants.{BUFFER_BYTES};
 
 use ann_base::NoMemory;
 use std::alloc::Global;
@@ -16,12 +17,13 @@ pub struct LineBuffer {
 
 impl Model for LineBuffer {
     ghost use Rattle.std.specs.Prelude.{List, ℕ, ◌≤◌, vec_len, vec_capacity};
+    ghost use Rattle.trace_text.specs.declared.buffer.TheConstants.{BUFFER_BYTES};
 
     ghost Value = { List ℕ };
 
     ghost view = { λ buffer. buffer.bytes.items };
 
-    ghost invariant = { λ buffer. (65536 ≤ vec_capacity buffer.bytes) × (vec_len buffer.bytes ≤ 65536) };
+    ghost invariant = { λ buffer. (BUFFER_BYTES ≤ vec_capacity buffer.bytes) × (vec_len buffer.bytes ≤ BUFFER_BYTES) };
 }
 
 impl LineBuffer {
@@ -37,7 +39,7 @@ impl LineBuffer {
     /// The bytes written since the buffer was made or cleared, at most 65,536.
     pub fn bytes(&self) -> &[u8]
         ensures bytes { result.now ≡ self.now }
-        ensures bounded { length self.now ≤ 65536 }
+        ensures bounded { length self.now ≤ BUFFER_BYTES }
     {
         self.bytes.as_slice()
     }
@@ -51,7 +53,7 @@ impl LineBuffer {
 
     /// Appends a piece that is no longer than the bytes that are free.
     pub fn append(&mut self, piece: &[u8])
-        requires { length self.old + length piece.now ≤ 65536 }
+        requires { length self.old + length piece.now ≤ BUFFER_BYTES }
         ensures { self.new ≡ self.old ++ piece.now }
     {
         self.bytes.extend_from_slice(piece).unwrap();

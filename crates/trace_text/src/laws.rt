@@ -1,7 +1,5 @@
 //! The laws on lists of lines, as calls that do nothing: their contracts are theorems on the definitions.
-ghost use Rattle.std.specs.Prelude.{◌≡◌, ◌↔◌, ℕ, IsTrue, List};
-ghost use Rattle.trace_text.specs.declared.events.Event.{Event};
-ghost use Rattle.trace_text.specs.Text.{IsPrintableLine, ArePrintable, line_text, text_of};
+ghost use Rattle.std.specs.Prelude.{◌↔◌, IsTrue, List};
 ghost use Rattle.trace_text.specs.Queue.{Line, RisesFrom};
 ghost use Rattle.trace_text.specs.Laws.{DispatchOk, CeilingOk, ExclusiveOk, HandlersOk, LeftOk, Formed, follows_dispatch, follows_ceilings, follows_exclusion, follows_handlers, follows_leaving, follows_form, follows_laws, KeepsLaws};
 
@@ -14,10 +12,4 @@ pub fn tests_tell()
     ensures leaving { (lines : List Line) → (IsTrue (follows_leaving lines) ↔ LeftOk lines) }
     ensures laws { (lines : List Line) → RisesFrom 0 lines → IsTrue (follows_laws lines) → KeepsLaws lines }
     ensures formed { (lines : List Line) → (IsTrue (follows_form lines) ↔ Formed lines) }
-{}
-
-/// Different printable lines have different texts, and different lists of them have different texts.
-pub fn texts_differ()
-    ensures lines { (t u : ℕ) (e f : Event) → IsPrintableLine t e → IsPrintableLine u f → line_text t e ≡ line_text u f → (t ≡ u) × (e ≡ f) }
-    ensures texts { (a b : List Line) → ArePrintable a → ArePrintable b → text_of a ≡ text_of b → a ≡ b }
 {}

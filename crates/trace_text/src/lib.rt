@@ -3,9 +3,7 @@
 
 mod buffer;
 mod events;
-mod fields;
 mod laws;
-mod read;
 #[cfg(test)]
 mod tests;
 mod words;
@@ -13,7 +11,8 @@ mod write;
 
 pub use buffer::{BUFFER_BYTES, LineBuffer};
 pub use events::{Created, Ended, EntryName, Event, Finished, Leaves, Mode, QueueEnd, Waits, Who};
-pub use laws::{tests_tell, texts_differ};
-pub use read::{BadLine, read_line};
-pub use words::{Word, event_word, word_bytes};
+pub use laws::tests_tell;
+pub use words::{
+    Word, event_word, leaves_bytes, mode_bytes, queue_end_bytes, waits_bytes, word_bytes,
+};
 pub use write::{LINE_BYTES, write_line};

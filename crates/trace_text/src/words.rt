@@ -1,8 +1,8 @@
 //! The words of lines: the event words in the order in which summaries count them, and the words of their arguments.
-ghost use Rattle.std.specs.Prelude.{◌≡◌, ◌≤◌, IfSome, length};
+ghost use Rattle.std.specs.Prelude.{◌≡◌, ◌≤◌, length};
 ghost use Rattle.trace_text.specs.Text.{queue_end_text, waits_text, mode_text, leaves_text};
 ghost use Rattle.trace_text.specs.Summary.{word_of};
-ghost use Rattle.trace_text.specs.Words.{word_text, word_in, waits_in, mode_in, leaves_in, queue_end_in};
+ghost use Rattle.trace_text.specs.Words.{word_text};
 
 use crate::events::{Event, Leaves, Mode, QueueEnd, Waits};
 
@@ -81,64 +81,6 @@ pub enum Word {
     End,
 }
 
-const WORDS: [Word; 35] = [
-    Word::New,
-    Word::Ready,
-    Word::Block,
-    Word::Run,
-    Word::Idle,
-    Word::Base,
-    Word::Deadline,
-    Word::Quantum,
-    Word::Done,
-    Word::Raise,
-    Word::Put,
-    Word::Call,
-    Word::Start,
-    Word::Finish,
-    Word::Cancel,
-    Word::Gone,
-    Word::Enter,
-    Word::Exit,
-    Word::Held,
-    Word::Abort,
-    Word::Trigger,
-    Word::Leave,
-    Word::Init,
-    Word::Final,
-    Word::Left,
-    Word::Replace,
-    Word::Release,
-    Word::Serve,
-    Word::Served,
-    Word::Interrupt,
-    Word::Port,
-    Word::Mask,
-    Word::Unmask,
-    Word::Masked,
-    Word::End,
-];
-
-const WAITS: [Waits; 8] = [
-    Waits::Activation,
-    Waits::Delay,
-    Waits::Entry,
-    Waits::Accept,
-    Waits::Select,
-    Waits::Dependents,
-    Waits::Call,
-    Waits::Release,
-];
-
-const LEAVES: [Leaves; 6] = [
-    Leaves::End,
-    Leaves::Return,
-    Leaves::Exit,
-    Leaves::Exception,
-    Leaves::Abort,
-    Leaves::Terminate,
-];
-
 /// The spelling of a word.
 pub fn word_bytes(word: Word) -> &'static [u8]
     ensures word { result.now ≡ word_text word }
@@ -183,57 +125,7 @@ pub fn word_bytes(word: Word) -> &'static [u8]
     }
 }
 
-/// The word that is spelt so.
-pub fn word_of(bytes: &[u8]) -> Option<Word>
-    ensures read { result ≡ word_in bytes.now }
-    ensures spelt { IfSome result (λ word. bytes.now ≡ word_text word) }
-{
-    WORDS
-        .iter()
-        .copied()
-        .find(|word| word_bytes(*word) == bytes)
-}
-
-pub fn waits_of(bytes: &[u8]) -> Option<Waits>
-    ensures read { result ≡ waits_in bytes.now }
-    ensures spelt { IfSome result (λ waits. bytes.now ≡ waits_text waits) }
-{
-    WAITS
-        .iter()
-        .copied()
-        .find(|waits| waits_bytes(*waits) == bytes)
-}
-
-pub fn leaves_of(bytes: &[u8]) -> Option<Leaves>
-    ensures read { result ≡ leaves_in bytes.now }
-    ensures spelt { IfSome result (λ how. bytes.now ≡ leaves_text how) }
-{
-    LEAVES
-        .iter()
-        .copied()
-        .find(|how| leaves_bytes(*how) == bytes)
-}
-
-pub fn mode_of(bytes: &[u8]) -> Option<Mode>
-    ensures read { result ≡ mode_in bytes.now }
-    ensures spelt { IfSome result (λ mode. bytes.now ≡ mode_text mode) }
-{
-    [Mode::Read, Mode::Write]
-        .iter()
-        .copied()
-        .find(|mode| mode_bytes(*mode) == bytes)
-}
-
-pub fn queue_end_of(bytes: &[u8]) -> Option<QueueEnd>
-    ensures read { result ≡ queue_end_in bytes.now }
-    ensures spelt { IfSome result (λ end. bytes.now ≡ queue_end_text end) }
-{
-    [QueueEnd::Head, QueueEnd::Tail]
-        .iter()
-        .copied()
-        .find(|end| queue_end_bytes(*end) == bytes)
-}
-
+/// The word of an end of a queue.
 pub fn queue_end_bytes(end: QueueEnd) -> &'static [u8]
     ensures word { result.now ≡ queue_end_text end }
     ensures short { length result.now ≤ 4 }
@@ -244,6 +136,7 @@ pub fn queue_end_bytes(end: QueueEnd) -> &'static [u8]
     }
 }
 
+/// The word of what is waited for.
 pub fn waits_bytes(waits: Waits) -> &'static [u8]
     ensures word { result.now ≡ waits_text waits }
     ensures short { length result.now ≤ 10 }
@@ -260,6 +153,7 @@ pub fn waits_bytes(waits: Waits) -> &'static [u8]
     }
 }
 
+/// The word of a mode.
 pub fn mode_bytes(mode: Mode) -> &'static [u8]
     ensures word { result.now ≡ mode_text mode }
     ensures short { length result.now ≤ 5 }
@@ -270,6 +164,7 @@ pub fn mode_bytes(mode: Mode) -> &'static [u8]
     }
 }
 
+/// The word of how a scope is left.
 pub fn leaves_bytes(how: Leaves) -> &'static [u8]
     ensures word { result.now ≡ leaves_text how }
     ensures short { length result.now ≤ 9 }

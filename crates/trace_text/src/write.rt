@@ -3,6 +3,8 @@ ghost use Rattle.std.specs.Prelude.{◌≡◌, ◌+◌, ◌≤◌, ◌∷◌, []
 ghost use Rattle.std.specs.Int.{w32, w64};
 ghost use Rattle.std.specs.Fmt.{signed_decimal};
 ghost use Rattle.trace_text.specs.Text.{task_text, object_text, who_text, created_text, queue_end_text, waits_text, mode_text, leaves_text, entry_text, finished_text, ended_words, deadline_words, words_of, spaced, line_text, IsPrintable, IsWithin, IsWhoWithin, IsCreatedWithin, IsEntryWithin, IsFinishedWithin, IsEndedWithin, IsDeadlineWithin};
+ghost use Rattle.trace_text.specs.declared.buffer.TheConstants.{BUFFER_BYTES};
+ghost use Rattle.trace_text.specs.declared.write.TheConstants.{LINE_BYTES, WORDS_BYTES};
 
 use crate::buffer::LineBuffer;
 use crate::events::{
@@ -15,13 +17,16 @@ use itoa::Buffer;
 /// The most bytes that a line has, its line feed too.
 pub const LINE_BYTES: usize = 1_100;
 
+// The most bytes that its words have, each behind a space: a line without its tick and its line feed.
+const WORDS_BYTES: usize = 1_079;
+
 /// Appends the line of a printable event at a tick: the tick, the words with single spaces between, a line feed.
-/// A line has at most 1,100 bytes, and so many must be free.
+/// A line has at most LINE_BYTES bytes, and so many must be free.
 pub fn write_line(now: u64, event: &Event, buffer: &mut LineBuffer)
-    requires room { length buffer.old + 1100 ≤ 65536 }
+    requires room { length buffer.old + LINE_BYTES ≤ BUFFER_BYTES }
     requires printable { IsPrintable event.now }
     ensures line { buffer.new ≡ buffer.old ++ line_text now event.now }
-    ensures short { length (line_text now event.now) ≤ 1100 }
+    ensures short { length (line_text now event.now) ≤ LINE_BYTES }
     ensures within { IsWithin event.now }
 {
     let mut digits = Buffer::new();
@@ -32,9 +37,9 @@ pub fn write_line(now: u64, event: &Event, buffer: &mut LineBuffer)
 
 // The words of the event, each behind a space.
 fn push_event(event: &Event, buffer: &mut LineBuffer)
-    requires { length buffer.old + 1079 ≤ 65536 }
+    requires { length buffer.old + WORDS_BYTES ≤ BUFFER_BYTES }
     ensures words { buffer.new ≡ buffer.old ++ spaced (words_of event.now) }
-    ensures longer { length buffer.new ≤ length buffer.old + 1079 }
+    ensures longer { length buffer.new ≤ length buffer.old + WORDS_BYTES }
     ensures within { IsWithin event.now }
 {
     match event {
@@ -236,7 +241,7 @@ fn push_event(event: &Event, buffer: &mut LineBuffer)
 
 // A word behind a space.
 fn push_word(word: &[u8], buffer: &mut LineBuffer)
-    requires { length buffer.old + length word.now + 1 ≤ 65536 }
+    requires { length buffer.old + length word.now + 1 ≤ BUFFER_BYTES }
     ensures word { buffer.new ≡ buffer.old ++ 32 ∷ word.now }
     ensures longer { length buffer.new ≡ length buffer.old + length word.now + 1 }
 {
@@ -246,7 +251,7 @@ fn push_word(word: &[u8], buffer: &mut LineBuffer)
 
 // A number of a byte.
 fn push_short(number: u8, buffer: &mut LineBuffer)
-    requires { length buffer.old + 4 ≤ 65536 }
+    requires { length buffer.old + 4 ≤ BUFFER_BYTES }
     ensures number { buffer.new ≡ buffer.old ++ 32 ∷ decimal number }
     ensures longer { length buffer.new ≤ length buffer.old + 4 }
     ensures within { number < 2 ^ 8 }
@@ -256,7 +261,7 @@ fn push_short(number: u8, buffer: &mut LineBuffer)
 }
 
 fn push_number(number: u32, buffer: &mut LineBuffer)
-    requires { length buffer.old + 11 ≤ 65536 }
+    requires { length buffer.old + 11 ≤ BUFFER_BYTES }
     ensures number { buffer.new ≡ buffer.old ++ 32 ∷ decimal number }
     ensures longer { length buffer.new ≤ length buffer.old + 11 }
     ensures within { number < 2 ^ 32 }
@@ -266,7 +271,7 @@ fn push_number(number: u32, buffer: &mut LineBuffer)
 }
 
 fn push_moment(moment: Moment, buffer: &mut LineBuffer)
-    requires { length buffer.old + 21 ≤ 65536 }
+    requires { length buffer.old + 21 ≤ BUFFER_BYTES }
     ensures moment { buffer.new ≡ buffer.old ++ 32 ∷ signed_decimal moment }
     ensures longer { length buffer.new ≤ length buffer.old + 21 }
     ensures within { FitsSigned w64 moment }
@@ -276,7 +281,7 @@ fn push_moment(moment: Moment, buffer: &mut LineBuffer)
 }
 
 fn push_deadline(deadline: Option<Moment>, buffer: &mut LineBuffer)
-    requires { length buffer.old + 21 ≤ 65536 }
+    requires { length buffer.old + 21 ≤ BUFFER_BYTES }
     ensures deadline { buffer.new ≡ buffer.old ++ spaced (deadline_words deadline) }
     ensures longer { length buffer.new ≤ length buffer.old + 21 }
     ensures within { IsDeadlineWithin deadline }
@@ -290,7 +295,7 @@ fn push_deadline(deadline: Option<Moment>, buffer: &mut LineBuffer)
 // A letter and a number behind a space.
 fn push_numbered(letter: &[u8], number: u32, buffer: &mut LineBuffer)
     requires letter { length letter.now ≡ 1 }
-    requires room { length buffer.old + 12 ≤ 65536 }
+    requires room { length buffer.old + 12 ≤ BUFFER_BYTES }
     ensures numbered { buffer.new ≡ buffer.old ++ 32 ∷ (letter.now ++ decimal number) }
     ensures longer { length buffer.new ≤ length buffer.old + 12 }
     ensures within { number < 2 ^ 32 }
@@ -301,7 +306,7 @@ fn push_numbered(letter: &[u8], number: u32, buffer: &mut LineBuffer)
 }
 
 fn push_task(task: TaskNo, buffer: &mut LineBuffer)
-    requires { length buffer.old + 12 ≤ 65536 }
+    requires { length buffer.old + 12 ≤ BUFFER_BYTES }
     ensures task { buffer.new ≡ buffer.old ++ 32 ∷ task_text task }
     ensures longer { length buffer.new ≤ length buffer.old + 12 }
     ensures within { task.0 < 2 ^ 32 }
@@ -310,7 +315,7 @@ fn push_task(task: TaskNo, buffer: &mut LineBuffer)
 }
 
 fn push_object(object: ObjectNo, buffer: &mut LineBuffer)
-    requires { length buffer.old + 12 ≤ 65536 }
+    requires { length buffer.old + 12 ≤ BUFFER_BYTES }
     ensures object { buffer.new ≡ buffer.old ++ 32 ∷ object_text object }
     ensures longer { length buffer.new ≤ length buffer.old + 12 }
     ensures within { object.0 < 2 ^ 32 }
@@ -319,7 +324,7 @@ fn push_object(object: ObjectNo, buffer: &mut LineBuffer)
 }
 
 fn push_who(who: Who, buffer: &mut LineBuffer)
-    requires { length buffer.old + 12 ≤ 65536 }
+    requires { length buffer.old + 12 ≤ BUFFER_BYTES }
     ensures who { buffer.new ≡ buffer.old ++ 32 ∷ who_text who }
     ensures longer { length buffer.new ≤ length buffer.old + 12 }
     ensures within { IsWhoWithin who }
@@ -331,7 +336,7 @@ fn push_who(who: Who, buffer: &mut LineBuffer)
 }
 
 fn push_created(what: Created, buffer: &mut LineBuffer)
-    requires { length buffer.old + 12 ≤ 65536 }
+    requires { length buffer.old + 12 ≤ BUFFER_BYTES }
     ensures created { buffer.new ≡ buffer.old ++ 32 ∷ created_text what }
     ensures longer { length buffer.new ≤ length buffer.old + 12 }
     ensures within { IsCreatedWithin what }
@@ -344,7 +349,7 @@ fn push_created(what: Created, buffer: &mut LineBuffer)
 
 // The value of a port.
 fn push_value(value: i32, buffer: &mut LineBuffer)
-    requires { length buffer.old + 12 ≤ 65536 }
+    requires { length buffer.old + 12 ≤ BUFFER_BYTES }
     ensures value { buffer.new ≡ buffer.old ++ 32 ∷ signed_decimal value }
     ensures longer { length buffer.new ≤ length buffer.old + 12 }
     ensures within { FitsSigned w32 value }
@@ -355,7 +360,7 @@ fn push_value(value: i32, buffer: &mut LineBuffer)
 
 // A point and a name.
 fn push_part(name: &[u8], buffer: &mut LineBuffer)
-    requires { length buffer.old + length name.now + 1 ≤ 65536 }
+    requires { length buffer.old + length name.now + 1 ≤ BUFFER_BYTES }
     ensures part { buffer.new ≡ buffer.old ++ 46 ∷ name.now }
     ensures longer { length buffer.new ≡ length buffer.old + length name.now + 1 }
 {
@@ -364,7 +369,7 @@ fn push_part(name: &[u8], buffer: &mut LineBuffer)
 }
 
 fn push_entry(entry: &EntryName, buffer: &mut LineBuffer)
-    requires { length buffer.old + 1013 ≤ 65536 }
+    requires { length buffer.old + 1013 ≤ BUFFER_BYTES }
     ensures entry { buffer.new ≡ buffer.old ++ 32 ∷ entry_text entry.now }
     ensures longer { length buffer.new ≤ length buffer.old + 1013 }
     ensures within { IsEntryWithin entry.now }
@@ -382,7 +387,7 @@ fn push_entry(entry: &EntryName, buffer: &mut LineBuffer)
 }
 
 fn push_ended(why: &Ended, buffer: &mut LineBuffer)
-    requires { length buffer.old + 1011 ≤ 65536 }
+    requires { length buffer.old + 1011 ≤ BUFFER_BYTES }
     ensures ended { buffer.new ≡ buffer.old ++ spaced (ended_words why.now) }
     ensures longer { length buffer.new ≤ length buffer.old + 1011 }
     ensures within { IsEndedWithin why.now }

@@ -1,0 +1,4 @@
+pub mod FieldsAgain
+pub mod LinesAgain
+pub mod Numbers
+pub mod TextsDiffer

@@ -1,0 +1,12 @@
+//! How a line of a trace is read: exactly the lines that `trace_text` writes are read, each as what it was written from.
+#![tactic(auto)]
+
+mod fields;
+mod laws;
+mod read;
+#[cfg(test)]
+mod tests;
+mod words;
+
+pub use laws::texts_differ;
+pub use read::{BadLine, read_line};

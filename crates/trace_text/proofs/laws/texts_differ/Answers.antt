@@ -1,8 +1,0 @@
-use Rattle.trace_text.proofs.TextsDiffer.{line-same, text-same}
-use Rattle.trace_text.proofs.laws.texts_differ.Goals as goal
-
-pub returns-clause-lines : goal.returns-clause-lines
-returns-clause-lines c = line-same
-
-pub returns-clause-texts : goal.returns-clause-texts
-returns-clause-texts c = text-same

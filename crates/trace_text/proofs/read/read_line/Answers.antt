@@ -1,7 +1,0 @@
--- A printable line is read as its tick and event.
-use Rattle.std.proofs.Common.{refl}
-use Rattle.trace_text.proofs.LinesAgain.{line_again}
-use Rattle.trace_text.proofs.read.read_line.Goals as goal
-
-pub returns-clause-only : goal.returns-clause-only
-returns-clause-only c = λ tick event h e. rw (c.ok_or.ensures.value, c.line_of.ensures.read, e, line_again tick event h) refl

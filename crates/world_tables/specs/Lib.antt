@@ -1,0 +1,4 @@
+pub mod Lends
+pub mod Lists
+pub mod Rising
+pub mod Tables

@@ -2,13 +2,15 @@
 use Rattle.std.specs.Prelude.{◌≡◌, ℕ, ◌+◌, Bool, true, false, not, ◌&&◌, ◌||◌, ◌==◌, if◌then◌else◌, nat_lt, nat_le, IsTrue, List, [], ◌∷◌, ◌++◌, Option, Some, None, length, ℤ}
 use Rattle.std.specs.List.{list_all, list_any}
 use Rattle.trace_text.specs.declared.events.Who.{Who}
+use Rattle.trace_text.specs.declared.events.Entry.{Entry}
+use Rattle.trace_text.specs.declared.events.Action.{Action}
 use Rattle.trace_text.specs.declared.events.Who.TheVariants as subject
 use Rattle.trace_text.specs.declared.events.Created.TheVariants as created
 use Rattle.trace_text.specs.declared.events.Mode.{Mode}
 use Rattle.trace_text.specs.declared.events.Mode.TheVariants as mode
 use Rattle.trace_text.specs.declared.events.Event.{Event}
 use Rattle.trace_text.specs.declared.events.Event.TheVariants.{New, Ready, Block, Run, Idle, Base, Deadline, Quantum, Done, Raise, Put, Call, Start, Finish, Cancel, Gone, Enter, Exit, Held, Abort, Trigger, Leave, Init, Final, Left, Replace, Release, Serve, Served, Interrupt, Port, Mask, Unmask, Masked, End}
-use Rattle.trace_text.specs.Queue.{Line, Entry, Sight, see, nothing_seen, follows_ticks, follows_lines, AtEachTick, AtEachLine, RisesFrom, queue_after, entry_of, head_of, who_of, who_eq, somebody_eq}
+use Rattle.trace_text.specs.Queue.{Line, Sight, see, nothing_seen, follows_ticks, follows_lines, AtEachTick, AtEachLine, RisesFrom, queue_after, entry_of, head_of, who_of, who_eq, somebody_eq}
 
 -- DISPATCHING. At each tick the runner is the one in the queue of the highest level, then of the earliest deadline,
 -- then of the smallest place, and nobody exactly where the queue is empty (D.2.1, D.2.3, D.2.6).
@@ -74,11 +76,6 @@ follows_ceilings = follows_lines see_levels is_below_ceiling no_levels
 
 -- EXCLUSION. `enter` opens an action, `exit` closes one of the same subject that is open. No write is open beside
 -- another action on its object. `held` stands only where another subject has the object open and one of both writes (9.5.1).
-pub record Action : Type 0 where
-  pub object : ℕ
-  pub who : Who
-  pub mode : Mode
-
 abbrev pub is_write : Mode → Bool
 is_write mode.Read = false
 is_write mode.Write = true

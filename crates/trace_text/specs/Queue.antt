@@ -2,6 +2,7 @@
 use Rattle.std.specs.Prelude.{◌≡◌, ℕ, ℤ, pos, negsuc, ◌<◌, ◌≤◌, Bool, true, false, ◌&&◌, ◌||◌, ◌==◌, if◌then◌else◌, nat_lt, nat_le, List, [], ◌∷◌, ◌++◌, Option, Some, None}
 use Rattle.trace_text.specs.declared.events.Who.{Who}
 use Rattle.trace_text.specs.declared.events.Who.TheVariants as subject
+use Rattle.trace_text.specs.declared.events.Entry.{Entry}
 use Rattle.trace_text.specs.declared.events.QueueEnd.{QueueEnd}
 use Rattle.trace_text.specs.declared.events.QueueEnd.TheVariants.{Head, Tail}
 use Rattle.trace_text.specs.declared.events.Event.{Event}
@@ -61,12 +62,7 @@ somebody_eq None (Some b) = false
 somebody_eq (Some a) None = false
 somebody_eq (Some a) (Some b) = who_eq a b
 
--- The last `ready` line of a subject. In a queue an entry with a smaller place stands before one with a greater.
-pub record Entry : Type 0 where
-  pub who : Who
-  pub level : ℕ
-  pub deadline : Option ℤ
-
+-- a subject is taken out of a queue, in which an entry with a smaller place stands before one with a greater
 abbrev pub without : Who → List Entry → List Entry
 without who [] = []
 without who (entry ∷ queue) = if who_eq who entry.who then without who queue else entry ∷ without who queue

@@ -58,6 +58,28 @@ pub enum Mode {
     Write,
 }
 
+/// What the last `ready` line of a subject says, while the subject is in a ready queue.
+#[derive(Clone, Copy, Debug, PartialEq, Eq)]
+pub struct Entry {
+    /// The subject.
+    pub who: Who,
+    /// The level at which it is placed.
+    pub level: Level,
+    /// Its deadline on an EDF level (D.2.6).
+    pub deadline: Option<Moment>,
+}
+
+/// A protected action that is open: it was entered and not left.
+#[derive(Clone, Copy, Debug, PartialEq, Eq)]
+pub struct Action {
+    /// The number of the protected object.
+    pub object: u32,
+    /// The subject.
+    pub who: Who,
+    /// Whether it reads or writes.
+    pub mode: Mode,
+}
+
 /// How a kept scope is left (7.6.1).
 #[derive(Clone, Copy, Debug, PartialEq, Eq)]
 pub enum Leaves {

@@ -10,7 +10,9 @@ mod words;
 mod write;
 
 pub use buffer::{BUFFER_BYTES, LineBuffer};
-pub use events::{Created, Ended, EntryName, Event, Finished, Leaves, Mode, QueueEnd, Waits, Who};
+pub use events::{
+    Action, Created, Ended, Entry, EntryName, Event, Finished, Leaves, Mode, QueueEnd, Waits, Who,
+};
 pub use laws::tests_tell;
 pub use words::{
     Word, event_word, leaves_bytes, mode_bytes, queue_end_bytes, waits_bytes, word_bytes,

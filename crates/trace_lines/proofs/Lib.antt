@@ -1,0 +1,4 @@
+pub mod Facts
+pub mod Formed
+pub mod LevelLookups
+pub mod QueueParts

@@ -10,3 +10,4 @@ mod tests;
 
 pub use laws::facts_tell;
 pub use lines::{Lines, Malformed};
+pub use queue::is_same;

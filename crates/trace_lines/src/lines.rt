@@ -83,15 +83,15 @@ impl Lines {
         ensures unchanged { OnErr result (self.new ≡ self.old) }
     {
         facts_tell();
-        if !self.is_formed_after(now, event) {
+        if !self.keeps_form(now, event) {
             return Err(OrMemory::Fault(Malformed));
         }
-        self.note(now, event)?;
+        self.add(now, event)?;
         Ok(())
     }
 
-    // Whether a formed list stays formed with this line.
-    fn is_formed_after(&self, now: u64, event: &Event) -> bool
+    /// Whether the list, which is formed, stays formed with this line.
+    pub fn keeps_form(&self, now: u64, event: &Event) -> bool
         ensures { result ≡ is_formed_after self.now now event.now }
     {
         self.tick <= now && now <= 1_000_000_000 && !self.is_ended && self.is_subject_formed(event)
@@ -164,9 +164,9 @@ impl Lines {
         }
     }
 
-    // One line more, of a formed list.
-    fn note(&mut self, now: u64, event: &Event) -> Result<(), NoMemory>
-        ensures noted { OnOk result (self.new ≡ see_line self.old (now, event.now)) }
+    /// Adds a line with which the list stays formed.
+    pub fn add(&mut self, now: u64, event: &Event) -> Result<(), NoMemory>
+        ensures added { OnOk result (self.new ≡ see_line self.old (now, event.now)) }
         ensures unchanged { OnErr result (self.new ≡ self.old) }
     {
         self.keep(event)?;

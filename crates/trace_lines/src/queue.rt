@@ -5,7 +5,7 @@ ghost use Rattle.trace_text.specs.Queue.{who_eq, without, entry_of, placed, int_
 use ann_base::{Moment, NoMemory};
 use trace_text::{Entry, QueueEnd, Who};
 
-// The same subject.
+/// Whether both are the same subject.
 pub fn is_same(a: Who, b: Who) -> bool
     ensures { result ≡ who_eq a b }
 {

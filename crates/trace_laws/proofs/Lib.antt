@@ -1,0 +1,4 @@
+pub mod ActionClosed
+pub mod FrontOf
+pub mod GoingOn
+pub mod RegionsKept

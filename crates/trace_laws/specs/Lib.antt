@@ -1,0 +1,5 @@
+pub mod Actions
+pub mod Regions
+pub mod Room
+pub mod Verdicts
+pub mod Watched

@@ -3,12 +3,12 @@
 #![tactic(auto)]
 
 mod declarations;
-mod marks;
+mod subtypes;
 mod simple;
 mod specifications;
 
 pub use declarations::{named_declaration, subtype_declaration, type_declaration, use_clause};
-pub use marks::{bounds, parameters, subtype_mark};
+pub use subtypes::{bounds, parameters, subtype_indication};
 pub use simple::{
     abort_statement, call, choice, delay, exit_statement, handled_exceptions, iteration, label_end,
     null_statement, raise_statement, requeue_statement, return_statement, simple_statement,

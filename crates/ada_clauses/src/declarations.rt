@@ -90,7 +90,11 @@ pub fn named_declaration(
 
 /// `NAME {, NAME} : SUBTYPE [:= EXPRESSION];` (3.8)
 #[tactic(auto, unfolding(ada_grammar::specs::ReadingDeclarations::component_of))]
-fn component(alloc: Global, cursor: &mut Cursor<'_>, left: usize) -> Result<Component, OrMemory<Stuck>>
+fn component(
+    alloc: Global,
+    cursor: &mut Cursor<'_>,
+    left: usize,
+) -> Result<Component, OrMemory<Stuck>>
     ensures { Reads result cursor.new (component_of left cursor.old) }
 {
     let names = identifiers(alloc, cursor)?;
@@ -125,7 +129,11 @@ pub(crate) fn add_components(
 
 /// `(NAME {, NAME})` (3.5.1)
 #[tactic(auto, unfolding(ada_grammar::specs::ReadingDeclarations::enumeration_of))]
-fn enumeration(alloc: Global, cursor: &mut Cursor<'_>, left: usize) -> Result<TypeDefinition, OrMemory<Stuck>>
+fn enumeration(
+    alloc: Global,
+    cursor: &mut Cursor<'_>,
+    left: usize,
+) -> Result<TypeDefinition, OrMemory<Stuck>>
     ensures { Reads result cursor.new (enumeration_of left cursor.old) }
 {
     cursor.open(left)?;
@@ -136,7 +144,11 @@ fn enumeration(alloc: Global, cursor: &mut Cursor<'_>, left: usize) -> Result<Ty
 
 /// `array (LOW .. HIGH) of SUBTYPE` (3.6)
 #[tactic(auto, unfolding(ada_grammar::specs::ReadingDeclarations::array_of))]
-fn array(alloc: Global, cursor: &mut Cursor<'_>, left: usize) -> Result<TypeDefinition, OrMemory<Stuck>>
+fn array(
+    alloc: Global,
+    cursor: &mut Cursor<'_>,
+    left: usize,
+) -> Result<TypeDefinition, OrMemory<Stuck>>
     ensures { Reads result cursor.new (array_of left cursor.old) }
 {
     cursor.word(b"array")?;
@@ -197,7 +209,11 @@ fn extension(
 
 /// `new NAME with RECORD` (3.4, 3.9.1)
 #[tactic(auto, unfolding(ada_grammar::specs::ReadingDeclarations::derived_of))]
-fn derived(alloc: Global, cursor: &mut Cursor<'_>, left: usize) -> Result<TypeDefinition, OrMemory<Stuck>>
+fn derived(
+    alloc: Global,
+    cursor: &mut Cursor<'_>,
+    left: usize,
+) -> Result<TypeDefinition, OrMemory<Stuck>>
     ensures { Reads result cursor.new (derived_of left cursor.old) }
 {
     cursor.word(b"new")?;
@@ -260,12 +276,19 @@ pub fn subtype_declaration(
     cursor.word(b"is")?;
     let subtype = subtype_indication(alloc, cursor, left)?;
     cursor.delimiter(b";")?;
-    Ok(Declaration::Subtype(SubtypeDeclaration { place, name, subtype }))
+    Ok(Declaration::Subtype(SubtypeDeclaration {
+        place,
+        name,
+        subtype,
+    }))
 }
 
 /// `use NAME;` (8.4)
 #[tactic(auto, unfolding(ada_grammar::specs::ReadingDeclarations::use_of))]
-pub fn use_clause(alloc: Global, cursor: &mut Cursor<'_>) -> Result<Declaration<Sequence>, OrMemory<Stuck>>
+pub fn use_clause(
+    alloc: Global,
+    cursor: &mut Cursor<'_>,
+) -> Result<Declaration<Sequence>, OrMemory<Stuck>>
     ensures { Reads result cursor.new (use_of cursor.old) }
 {
     let place = cursor.word(b"use")?;

@@ -116,7 +116,11 @@ pub fn delay(alloc: Global, cursor: &mut Cursor<'_>, left: usize) -> Result<Dela
 
 /// `EXPRESSION [.. EXPRESSION]` (3.8.1)
 #[tactic(auto, unfolding(ada_grammar::specs::ReadingSimple::value_choice_of))]
-fn value_choice(alloc: Global, cursor: &mut Cursor<'_>, left: usize) -> Result<Choice, OrMemory<Stuck>>
+fn value_choice(
+    alloc: Global,
+    cursor: &mut Cursor<'_>,
+    left: usize,
+) -> Result<Choice, OrMemory<Stuck>>
     ensures { Reads result cursor.new (value_choice_of left cursor.old) }
 {
     let low = expression(alloc, cursor, left)?;
@@ -131,7 +135,11 @@ fn value_choice(alloc: Global, cursor: &mut Cursor<'_>, left: usize) -> Result<C
 
 /// A discrete choice (3.8.1).
 #[tactic(auto, unfolding(ada_grammar::specs::ReadingSimple::choice_of))]
-pub fn choice(alloc: Global, cursor: &mut Cursor<'_>, left: usize) -> Result<Choice, OrMemory<Stuck>>
+pub fn choice(
+    alloc: Global,
+    cursor: &mut Cursor<'_>,
+    left: usize,
+) -> Result<Choice, OrMemory<Stuck>>
     ensures { Reads result cursor.new (choice_of left cursor.old) }
 {
     if cursor.is_word(b"others") {
@@ -144,7 +152,11 @@ pub fn choice(alloc: Global, cursor: &mut Cursor<'_>, left: usize) -> Result<Cho
 
 /// `while EXPRESSION` (5.5)
 #[tactic(auto, unfolding(ada_grammar::specs::ReadingSimple::while_of))]
-fn while_iteration(alloc: Global, cursor: &mut Cursor<'_>, left: usize) -> Result<Iteration, OrMemory<Stuck>>
+fn while_iteration(
+    alloc: Global,
+    cursor: &mut Cursor<'_>,
+    left: usize,
+) -> Result<Iteration, OrMemory<Stuck>>
     ensures { Reads result cursor.new (while_of left cursor.old) }
 {
     let place = cursor.word(b"while")?;
@@ -154,7 +166,11 @@ fn while_iteration(alloc: Global, cursor: &mut Cursor<'_>, left: usize) -> Resul
 
 /// `for NAME in [reverse] LOW .. HIGH` (5.5)
 #[tactic(auto, unfolding(ada_grammar::specs::ReadingSimple::for_of))]
-fn for_iteration(alloc: Global, cursor: &mut Cursor<'_>, left: usize) -> Result<Iteration, OrMemory<Stuck>>
+fn for_iteration(
+    alloc: Global,
+    cursor: &mut Cursor<'_>,
+    left: usize,
+) -> Result<Iteration, OrMemory<Stuck>>
     ensures { Reads result cursor.new (for_of left cursor.old) }
 {
     let place = cursor.word(b"for")?;
@@ -173,7 +189,11 @@ fn for_iteration(alloc: Global, cursor: &mut Cursor<'_>, left: usize) -> Result<
 
 /// How a loop goes on (5.5).
 #[tactic(auto, unfolding(ada_grammar::specs::ReadingSimple::iteration_of))]
-pub fn iteration(alloc: Global, cursor: &mut Cursor<'_>, left: usize) -> Result<Iteration, OrMemory<Stuck>>
+pub fn iteration(
+    alloc: Global,
+    cursor: &mut Cursor<'_>,
+    left: usize,
+) -> Result<Iteration, OrMemory<Stuck>>
     ensures { Reads result cursor.new (iteration_of left cursor.old) }
 {
     if cursor.is_word(b"while") {
@@ -187,7 +207,10 @@ pub fn iteration(alloc: Global, cursor: &mut Cursor<'_>, left: usize) -> Result<
 
 /// `[NAME]`, behind the `end` of a loop or a block that has this name (5.5, 5.6).
 #[tactic(auto, unfolding(ada_grammar::specs::Reading::end_name_of))]
-pub fn label_end(cursor: &mut Cursor<'_>, label: Option<Identifier>) -> Result<Option<Label>, OrMemory<Stuck>>
+pub fn label_end(
+    cursor: &mut Cursor<'_>,
+    label: Option<Identifier>,
+) -> Result<Option<Label>, OrMemory<Stuck>>
     requires lower { IfSome label (λ name. map to_ascii_lowercase name.text ≡ name.text) }
     ensures { Reads result cursor.new (label_end_of label cursor.old) }
 {
@@ -304,7 +327,10 @@ fn exception_name(alloc: Global, cursor: &mut Cursor<'_>) -> Result<Option<Name>
 
 /// `raise [NAME];` (11.3)
 #[tactic(auto, unfolding(ada_grammar::specs::ReadingSimple::raise_of))]
-pub fn raise_statement(alloc: Global, cursor: &mut Cursor<'_>) -> Result<Statement<Sequence>, OrMemory<Stuck>>
+pub fn raise_statement(
+    alloc: Global,
+    cursor: &mut Cursor<'_>,
+) -> Result<Statement<Sequence>, OrMemory<Stuck>>
     ensures { Reads result cursor.new (raise_of cursor.old) }
 {
     let place = cursor.word(b"raise")?;
@@ -315,7 +341,10 @@ pub fn raise_statement(alloc: Global, cursor: &mut Cursor<'_>) -> Result<Stateme
 
 /// `abort NAME {, NAME};` (9.8)
 #[tactic(auto, unfolding(ada_grammar::specs::ReadingSimple::abort_of))]
-pub fn abort_statement(alloc: Global, cursor: &mut Cursor<'_>) -> Result<Statement<Sequence>, OrMemory<Stuck>>
+pub fn abort_statement(
+    alloc: Global,
+    cursor: &mut Cursor<'_>,
+) -> Result<Statement<Sequence>, OrMemory<Stuck>>
     ensures { Reads result cursor.new (abort_of cursor.old) }
 {
     let place = cursor.word(b"abort")?;

@@ -47,7 +47,11 @@ fn aspect(alloc: Global, cursor: &mut Cursor<'_>, left: usize) -> Result<Aspect,
 
 /// An aspect behind a comma.
 #[tactic(auto, unfolding(ada_grammar::specs::Reading::behind_delimiter_of))]
-fn next_aspect(alloc: Global, cursor: &mut Cursor<'_>, left: usize) -> Result<Aspect, OrMemory<Stuck>>
+fn next_aspect(
+    alloc: Global,
+    cursor: &mut Cursor<'_>,
+    left: usize,
+) -> Result<Aspect, OrMemory<Stuck>>
     ensures { Reads result cursor.new (behind_delimiter_of (codes ",") (aspect_of left) cursor.old) }
 {
     cursor.delimiter(b",")?;
@@ -89,7 +93,11 @@ fn given_aspects(
 
 /// `[with ASPECT {, ASPECT}]`, empty where no `with` stands (13.1.1).
 #[tactic(auto, unfolding(ada_grammar::specs::ReadingDeclarations::aspects_of))]
-pub fn aspects(alloc: Global, cursor: &mut Cursor<'_>, left: usize) -> Result<Items<Aspect>, OrMemory<Stuck>>
+pub fn aspects(
+    alloc: Global,
+    cursor: &mut Cursor<'_>,
+    left: usize,
+) -> Result<Items<Aspect>, OrMemory<Stuck>>
     ensures { Reads result cursor.new (aspects_of left cursor.old) }
 {
     if cursor.is_word(b"with") {
@@ -379,7 +387,11 @@ pub fn protected_declaration(
 
 /// `entry NAME [PARAMETERS] when EXPRESSION`; the name is in lower case (9.5.2)
 #[tactic(auto, unfolding(ada_grammar::specs::ReadingDeclarations::entry_head_of))]
-pub fn entry_head(alloc: Global, cursor: &mut Cursor<'_>, left: usize) -> Result<EntryHead, OrMemory<Stuck>>
+pub fn entry_head(
+    alloc: Global,
+    cursor: &mut Cursor<'_>,
+    left: usize,
+) -> Result<EntryHead, OrMemory<Stuck>>
     ensures reads { Reads result cursor.new (entry_head_of left cursor.old) }
     ensures lower { IfOk result (λ head. map to_ascii_lowercase head.name.text ≡ head.name.text) }
 {

@@ -6,7 +6,7 @@ ghost use Rattle.ada_grammar.specs.Reads.{Reads};
 
 use ada_expressions::{expression, identifiers, name};
 use ada_grammar::{Cursor, Stuck};
-use ada_tree::{Constraint, Expression, SubtypeIndication, Parameter};
+use ada_tree::{Constraint, Expression, Parameter, SubtypeIndication};
 use ann_base::OrMemory;
 use sqlite_items::Items;
 use std::alloc::{AllocError, Global};
@@ -34,7 +34,11 @@ pub(crate) fn first_before<T: Drop>(
 
 /// `(NAME'Access)`, the discriminant of a timer (D.14.1)
 #[tactic(auto, unfolding(ada_grammar::specs::ReadingSimple::access_of))]
-fn access(alloc: Global, cursor: &mut Cursor<'_>, left: usize) -> Result<Option<Constraint>, OrMemory<Stuck>>
+fn access(
+    alloc: Global,
+    cursor: &mut Cursor<'_>,
+    left: usize,
+) -> Result<Option<Constraint>, OrMemory<Stuck>>
     ensures { Reads result cursor.new (access_of left cursor.old) }
 {
     cursor.open(left)?;
@@ -62,7 +66,11 @@ pub fn bounds(
 
 /// `range LOW .. HIGH` (3.5)
 #[tactic(auto, unfolding(ada_grammar::specs::ReadingSimple::range_of))]
-fn range(alloc: Global, cursor: &mut Cursor<'_>, left: usize) -> Result<Option<Constraint>, OrMemory<Stuck>>
+fn range(
+    alloc: Global,
+    cursor: &mut Cursor<'_>,
+    left: usize,
+) -> Result<Option<Constraint>, OrMemory<Stuck>>
     ensures { Reads result cursor.new (range_of left cursor.old) }
 {
     cursor.word(b"range")?;
@@ -90,7 +98,11 @@ fn constraint(
 
 /// A subtype indication: a subtype mark and what restricts it (3.2.2, 3.6.1).
 #[tactic(auto, unfolding(ada_grammar::specs::ReadingSimple::subtype_indication_of))]
-pub fn subtype_indication(alloc: Global, cursor: &mut Cursor<'_>, left: usize) -> Result<SubtypeIndication, OrMemory<Stuck>>
+pub fn subtype_indication(
+    alloc: Global,
+    cursor: &mut Cursor<'_>,
+    left: usize,
+) -> Result<SubtypeIndication, OrMemory<Stuck>>
     ensures { Reads result cursor.new (subtype_indication_of left cursor.old) }
 {
     let name = name(alloc, cursor)?;
@@ -100,7 +112,11 @@ pub fn subtype_indication(alloc: Global, cursor: &mut Cursor<'_>, left: usize) -
 
 /// `NAME {, NAME} : [in] [out] SUBTYPE` (6.1)
 #[tactic(auto, unfolding(ada_grammar::specs::ReadingSimple::parameter_of))]
-fn parameter(alloc: Global, cursor: &mut Cursor<'_>, left: usize) -> Result<Parameter, OrMemory<Stuck>>
+fn parameter(
+    alloc: Global,
+    cursor: &mut Cursor<'_>,
+    left: usize,
+) -> Result<Parameter, OrMemory<Stuck>>
     ensures { Reads result cursor.new (parameter_of left cursor.old) }
 {
     let names = identifiers(alloc, cursor)?;
@@ -118,7 +134,11 @@ fn parameter(alloc: Global, cursor: &mut Cursor<'_>, left: usize) -> Result<Para
 
 /// A parameter behind a semicolon.
 #[tactic(auto, unfolding(ada_grammar::specs::Reading::behind_delimiter_of))]
-fn next_parameter(alloc: Global, cursor: &mut Cursor<'_>, left: usize) -> Result<Parameter, OrMemory<Stuck>>
+fn next_parameter(
+    alloc: Global,
+    cursor: &mut Cursor<'_>,
+    left: usize,
+) -> Result<Parameter, OrMemory<Stuck>>
     ensures { Reads result cursor.new (behind_delimiter_of (codes ";") (parameter_of left) cursor.old) }
 {
     cursor.delimiter(b";")?;

@@ -18,8 +18,8 @@ use ada_grammar::{Cursor, ParseFault, Stuck};
 use ada_lex::{MAX_SOURCE, Token};
 use ada_sequences::{below, body, declarations, end_name, sequence};
 use ada_tree::{
-    Argument, ContextClause, Declaration, Expression, LibraryPackage, MAX_NESTING, MainProcedure, OneOrMore,
-    Package, PackageBody, PackageDeclaration, Pragma, Sequence, SequenceRole, Unit,
+    Argument, ContextClause, Declaration, Expression, LibraryPackage, MAX_NESTING, MainProcedure,
+    OneOrMore, Package, PackageBody, PackageDeclaration, Pragma, Sequence, SequenceRole, Unit,
 };
 use ann_base::{OrMemory, Place};
 use fault_places::{no_tree_goes_deeper, no_tree_goes_on};
@@ -29,11 +29,7 @@ use std::alloc::Global;
 
 /// The tree that the tokens of a source spell (10.1), or the first token with which reading cannot go on, or the one
 /// that opens nesting 101. `tokens` are those that `lex` answers for the source.
-pub fn parse(
-    alloc: Global,
-    source: &[u8],
-    tokens: &[Token],
-) -> Result<Unit, OrMemory<ParseFault>>
+pub fn parse(alloc: Global, source: &[u8], tokens: &[Token]) -> Result<Unit, OrMemory<ParseFault>>
     requires tokens { AreTokensOf source.now tokens.now }
     requires count { length tokens.now ≤ MAX_SOURCE }
     // The tree spells the tokens, and is shaped.
@@ -162,7 +158,11 @@ fn pragma_arguments(
 
 /// A pragma (2.8).
 #[tactic(auto, unfolding(ada_grammar::specs::ReadingUnits::pragma_of))]
-fn pragma_line(alloc: Global, cursor: &mut Cursor<'_>, left: usize) -> Result<Pragma, OrMemory<Stuck>>
+fn pragma_line(
+    alloc: Global,
+    cursor: &mut Cursor<'_>,
+    left: usize,
+) -> Result<Pragma, OrMemory<Stuck>>
     ensures { Reads result cursor.new (pragma_of left cursor.old) }
 {
     let place = cursor.word(b"pragma")?;
@@ -180,7 +180,11 @@ fn pragma_line(alloc: Global, cursor: &mut Cursor<'_>, left: usize) -> Result<Pr
 
 /// The pragmas before the first unit (10.1.5).
 #[tactic(auto, unfolding(ada_grammar::specs::Reading::items_of))]
-fn pragmas(alloc: Global, cursor: &mut Cursor<'_>, left: usize) -> Result<Items<Pragma>, OrMemory<Stuck>>
+fn pragmas(
+    alloc: Global,
+    cursor: &mut Cursor<'_>,
+    left: usize,
+) -> Result<Items<Pragma>, OrMemory<Stuck>>
     ensures { Reads result cursor.new (items_of (sees_word (codes "pragma")) (pragma_of left) cursor.old) }
 {
     let mut found = Items::new(alloc);
@@ -244,7 +248,10 @@ fn clause(alloc: Global, cursor: &mut Cursor<'_>) -> Result<ContextClause, OrMem
 
 /// The context of a library unit (10.1.2).
 #[tactic(auto, unfolding(ada_grammar::specs::Reading::items_of, ada_grammar::specs::ReadingUnits::context_of))]
-fn context_clauses(alloc: Global, cursor: &mut Cursor<'_>) -> Result<Items<ContextClause>, OrMemory<Stuck>>
+fn context_clauses(
+    alloc: Global,
+    cursor: &mut Cursor<'_>,
+) -> Result<Items<ContextClause>, OrMemory<Stuck>>
     ensures { Reads result cursor.new (context_of cursor.old) }
 {
     let mut found = Items::new(alloc);

@@ -59,7 +59,11 @@ impl<
 > SequenceReader<F> {
     /// `is BODY end [NAME];` (3.11)
     #[tactic(auto, unfolding(ada_grammar::specs::ReadingBodies::body_of))]
-    pub fn body(&self, cursor: &mut Cursor<'_>, name: &Identifier) -> Result<Body<Sequence>, OrMemory<Stuck>>
+    pub fn body(
+        &self,
+        cursor: &mut Cursor<'_>,
+        name: &Identifier,
+    ) -> Result<Body<Sequence>, OrMemory<Stuck>>
         requires reads { ReadsInside self.now.left (F.pre self.now.read) (F.post self.now.read) }
         requires lower { map to_ascii_lowercase name.now.text ≡ name.now.text }
         ensures { Reads result cursor.new (body_of self.now.left (inside_of self.now.left) name.now.text cursor.old) }
@@ -94,7 +98,10 @@ impl<
 
     /// An entry body (9.5.2).
     #[tactic(auto, unfolding(ada_grammar::specs::ReadingBodies::entry_operation_of))]
-    fn entry_operation(&self, cursor: &mut Cursor<'_>) -> Result<OperationBody<Sequence>, OrMemory<Stuck>>
+    fn entry_operation(
+        &self,
+        cursor: &mut Cursor<'_>,
+    ) -> Result<OperationBody<Sequence>, OrMemory<Stuck>>
         requires reads { ReadsInside self.now.left (F.pre self.now.read) (F.post self.now.read) }
         ensures { Reads result cursor.new (entry_operation_of self.now.left (inside_of self.now.left) cursor.old) }
     {
@@ -105,7 +112,10 @@ impl<
 
     /// A body in a protected body (9.4).
     #[tactic(auto, unfolding(ada_grammar::specs::ReadingBodies::operation_body_of))]
-    fn operation_body(&self, cursor: &mut Cursor<'_>) -> Result<OperationBody<Sequence>, OrMemory<Stuck>>
+    fn operation_body(
+        &self,
+        cursor: &mut Cursor<'_>,
+    ) -> Result<OperationBody<Sequence>, OrMemory<Stuck>>
         requires reads { ReadsInside self.now.left (F.pre self.now.read) (F.post self.now.read) }
         ensures { Reads result cursor.new (operation_body_of self.now.left (inside_of self.now.left) cursor.old) }
     {
@@ -241,7 +251,10 @@ impl<
 
     /// A protected declaration or a protected body (9.4).
     #[tactic(auto, unfolding(ada_grammar::specs::ReadingBodies::any_protected_of))]
-    fn any_protected(&self, cursor: &mut Cursor<'_>) -> Result<Declaration<Sequence>, OrMemory<Stuck>>
+    fn any_protected(
+        &self,
+        cursor: &mut Cursor<'_>,
+    ) -> Result<Declaration<Sequence>, OrMemory<Stuck>>
         requires reads { ReadsInside self.now.left (F.pre self.now.read) (F.post self.now.read) }
         ensures { Reads result cursor.new (any_protected_of self.now.left (inside_of self.now.left) (inside_of (below self.now.left)) cursor.old) }
     {
@@ -255,7 +268,10 @@ impl<
 
     /// A declaration (3.1).
     #[tactic(auto, unfolding(ada_grammar::specs::ReadingBodies::declaration_of))]
-    pub fn declaration(&self, cursor: &mut Cursor<'_>) -> Result<Declaration<Sequence>, OrMemory<Stuck>>
+    pub fn declaration(
+        &self,
+        cursor: &mut Cursor<'_>,
+    ) -> Result<Declaration<Sequence>, OrMemory<Stuck>>
         requires reads { ReadsInside self.now.left (F.pre self.now.read) (F.post self.now.read) }
         ensures { Reads result cursor.new (declaration_of self.now.left (inside_of self.now.left) (inside_of (below self.now.left)) cursor.old) }
     {

@@ -80,7 +80,10 @@ impl<
 
     /// An accept alternative (9.7.1).
     #[tactic(auto, unfolding(ada_grammar::specs::ReadingStatements::accept_alternative_of))]
-    fn accept_alternative(&self, cursor: &mut Cursor<'_>) -> Result<Alternative<Sequence>, OrMemory<Stuck>>
+    fn accept_alternative(
+        &self,
+        cursor: &mut Cursor<'_>,
+    ) -> Result<Alternative<Sequence>, OrMemory<Stuck>>
         requires reads { ReadsInside (suc self.now.left) (F.pre self.now.read) (F.post self.now.read) }
         ensures { Reads result cursor.new (accept_alternative_of self.now.left (sequence_of self.now.left) (inside_of self.now.left) cursor.old) }
     {
@@ -91,7 +94,10 @@ impl<
 
     /// A delay alternative (9.7.1).
     #[tactic(auto, unfolding(ada_grammar::specs::ReadingStatements::delay_alternative_of))]
-    fn delay_alternative(&self, cursor: &mut Cursor<'_>) -> Result<Alternative<Sequence>, OrMemory<Stuck>>
+    fn delay_alternative(
+        &self,
+        cursor: &mut Cursor<'_>,
+    ) -> Result<Alternative<Sequence>, OrMemory<Stuck>>
         requires reads { ReadsInside (suc self.now.left) (F.pre self.now.read) (F.post self.now.read) }
         ensures { Reads result cursor.new (delay_alternative_of self.now.left (sequence_of self.now.left) (inside_of self.now.left) cursor.old) }
     {
@@ -102,7 +108,10 @@ impl<
 
     /// `terminate;` (9.7.1)
     #[tactic(auto, unfolding(ada_grammar::specs::ReadingStatements::terminate_of))]
-    fn terminate_alternative(&self, cursor: &mut Cursor<'_>) -> Result<Alternative<Sequence>, OrMemory<Stuck>>
+    fn terminate_alternative(
+        &self,
+        cursor: &mut Cursor<'_>,
+    ) -> Result<Alternative<Sequence>, OrMemory<Stuck>>
         ensures { Reads result cursor.new (terminate_of self.now.left (sequence_of self.now.left) (inside_of self.now.left) cursor.old) }
     {
         let place = cursor.word(b"terminate")?;

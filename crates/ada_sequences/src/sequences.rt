@@ -63,7 +63,11 @@ impl<
     F: Fn(Global, &mut Cursor<'_>, usize, SequenceRole) -> Result<Sequence, OrMemory<Stuck>> + Copy,
 > SequenceReader<F> {
     /// A sequence one level further in.
-    pub fn inner(&self, cursor: &mut Cursor<'_>, role: SequenceRole) -> Result<Sequence, OrMemory<Stuck>>
+    pub fn inner(
+        &self,
+        cursor: &mut Cursor<'_>,
+        role: SequenceRole,
+    ) -> Result<Sequence, OrMemory<Stuck>>
         requires reads { ReadsInside self.now.left (F.pre self.now.read) (F.post self.now.read) }
         ensures { Reads result cursor.new (inside_of self.now.left role cursor.old) }
     {
@@ -98,7 +102,10 @@ impl<
 
     /// The statements behind the first one (5.1).
     #[tactic(auto, unfolding(ada_grammar::specs::Reading::items_of))]
-    fn next_statements(&self, cursor: &mut Cursor<'_>) -> Result<Items<Statement<Sequence>>, OrMemory<Stuck>>
+    fn next_statements(
+        &self,
+        cursor: &mut Cursor<'_>,
+    ) -> Result<Items<Statement<Sequence>>, OrMemory<Stuck>>
         requires reads { ReadsInside self.now.left (F.pre self.now.read) (F.post self.now.read) }
         ensures { Reads result cursor.new (items_of begins_statement (statement_of self.now.left (inside_of self.now.left) (inside_of (below self.now.left))) cursor.old) }
     {
@@ -114,7 +121,10 @@ impl<
 
     /// `STATEMENT {STATEMENT}` (5.1)
     #[tactic(auto, unfolding(ada_grammar::specs::ReadingSequences::statements_of))]
-    fn statements(&self, cursor: &mut Cursor<'_>) -> Result<OneOrMore<Statement<Sequence>>, OrMemory<Stuck>>
+    fn statements(
+        &self,
+        cursor: &mut Cursor<'_>,
+    ) -> Result<OneOrMore<Statement<Sequence>>, OrMemory<Stuck>>
         requires reads { ReadsInside self.now.left (F.pre self.now.read) (F.post self.now.read) }
         ensures { Reads result cursor.new (statements_of self.now.left (inside_of self.now.left) (inside_of (below self.now.left)) cursor.old) }
     {
@@ -152,7 +162,10 @@ impl<
 
     /// The handlers behind the first one (11.2).
     #[tactic(auto, unfolding(ada_grammar::specs::Reading::items_of))]
-    fn next_handlers(&self, cursor: &mut Cursor<'_>) -> Result<Items<Handler<Sequence>>, OrMemory<Stuck>>
+    fn next_handlers(
+        &self,
+        cursor: &mut Cursor<'_>,
+    ) -> Result<Items<Handler<Sequence>>, OrMemory<Stuck>>
         requires reads { ReadsInside self.now.left (F.pre self.now.read) (F.post self.now.read) }
         ensures { Reads result cursor.new (items_of (sees_word (codes "when")) (handler_of self.now.left (inside_of self.now.left) (inside_of (below self.now.left))) cursor.old) }
     {
@@ -168,7 +181,10 @@ impl<
 
     /// `exception HANDLER {HANDLER}` (11.2)
     #[tactic(auto, unfolding(ada_grammar::specs::ReadingSequences::given_handlers_of))]
-    fn given_handlers(&self, cursor: &mut Cursor<'_>) -> Result<Items<Handler<Sequence>>, OrMemory<Stuck>>
+    fn given_handlers(
+        &self,
+        cursor: &mut Cursor<'_>,
+    ) -> Result<Items<Handler<Sequence>>, OrMemory<Stuck>>
         requires reads { ReadsInside self.now.left (F.pre self.now.read) (F.post self.now.read) }
         ensures { Reads result cursor.new (given_handlers_of self.now.left (inside_of self.now.left) (inside_of (below self.now.left)) cursor.old) }
     {
@@ -240,7 +256,11 @@ impl<
     }
 
     /// What may stand in a sequence of this role.
-    pub fn parts(&self, cursor: &mut Cursor<'_>, role: SequenceRole) -> Result<Sequence, OrMemory<Stuck>>
+    pub fn parts(
+        &self,
+        cursor: &mut Cursor<'_>,
+        role: SequenceRole,
+    ) -> Result<Sequence, OrMemory<Stuck>>
         requires reads { ReadsInside self.now.left (F.pre self.now.read) (F.post self.now.read) }
         ensures { Reads result cursor.new (parts_of self.now.left (inside_of self.now.left) (inside_of (below self.now.left)) role cursor.old) }
     {

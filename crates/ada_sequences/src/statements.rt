@@ -95,7 +95,11 @@ impl<
     F: Fn(Global, &mut Cursor<'_>, usize, SequenceRole) -> Result<Sequence, OrMemory<Stuck>> + Copy,
 > StatementReader<F> {
     /// The sequence inside a statement.
-    pub fn sequence(&self, cursor: &mut Cursor<'_>, role: SequenceRole) -> Result<Sequence, OrMemory<Stuck>>
+    pub fn sequence(
+        &self,
+        cursor: &mut Cursor<'_>,
+        role: SequenceRole,
+    ) -> Result<Sequence, OrMemory<Stuck>>
         requires reads { ReadsInside (suc self.now.left) (F.pre self.now.read) (F.post self.now.read) }
         ensures { Reads result cursor.new (sequence_of self.now.left role cursor.old) }
     {
@@ -210,7 +214,10 @@ impl<
 
     /// `when CHOICE {| CHOICE} => STATEMENTS` (5.4)
     #[tactic(auto, unfolding(ada_grammar::specs::ReadingStatements::case_alternative_of))]
-    fn case_alternative(&self, cursor: &mut Cursor<'_>) -> Result<CaseAlternative<Sequence>, OrMemory<Stuck>>
+    fn case_alternative(
+        &self,
+        cursor: &mut Cursor<'_>,
+    ) -> Result<CaseAlternative<Sequence>, OrMemory<Stuck>>
         requires reads { ReadsInside (suc self.now.left) (F.pre self.now.read) (F.post self.now.read) }
         ensures { Reads result cursor.new (case_alternative_of self.now.left (sequence_of self.now.left) cursor.old) }
     {
@@ -260,7 +267,10 @@ impl<
 
     /// A case statement (5.4).
     #[tactic(auto, unfolding(ada_grammar::specs::ReadingStatements::case_of))]
-    fn case_statement(&self, cursor: &mut Cursor<'_>) -> Result<Statement<Sequence>, OrMemory<Stuck>>
+    fn case_statement(
+        &self,
+        cursor: &mut Cursor<'_>,
+    ) -> Result<Statement<Sequence>, OrMemory<Stuck>>
         requires reads { ReadsInside (suc self.now.left) (F.pre self.now.read) (F.post self.now.read) }
         ensures { Reads result cursor.new (case_of self.now.left (sequence_of self.now.left) cursor.old) }
     {
@@ -439,7 +449,10 @@ impl<
 
     /// Statements, where some stand there.
     #[tactic(auto, unfolding(ada_grammar::specs::ReadingStatements::optional_statements_of))]
-    pub fn optional_statements(&self, cursor: &mut Cursor<'_>) -> Result<Option<Sequence>, OrMemory<Stuck>>
+    pub fn optional_statements(
+        &self,
+        cursor: &mut Cursor<'_>,
+    ) -> Result<Option<Sequence>, OrMemory<Stuck>>
         requires reads { ReadsInside (suc self.now.left) (F.pre self.now.read) (F.post self.now.read) }
         ensures { Reads result cursor.new (optional_statements_of self.now.left (sequence_of self.now.left) cursor.old) }
     {
@@ -453,7 +466,10 @@ impl<
 
     /// A statement that begins with a name.
     #[tactic(auto, unfolding(ada_grammar::specs::ReadingStatements::named_statement_of))]
-    fn named_statement(&self, cursor: &mut Cursor<'_>) -> Result<Statement<Sequence>, OrMemory<Stuck>>
+    fn named_statement(
+        &self,
+        cursor: &mut Cursor<'_>,
+    ) -> Result<Statement<Sequence>, OrMemory<Stuck>>
         requires reads { ReadsInside (suc self.now.left) (F.pre self.now.read) (F.post self.now.read) }
         ensures { Reads result cursor.new (named_statement_of self.now.left (sequence_of self.now.left) (inside_of self.now.left) cursor.old) }
     {

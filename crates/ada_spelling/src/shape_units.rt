@@ -6,8 +6,8 @@ ghost use Rattle.ada_tree.specs.Shape.{is_shaped, is_empty, handled_fits, packag
 use crate::shape::Fit;
 use crate::shape_statements::FitSequence;
 use ada_tree::{
-    LibraryPackage, MAX_NESTING, MainProcedure, Package, PackageBody, PackageDeclaration, Pragma, Sequence,
-    SequenceParts, SequenceRole, Unit,
+    LibraryPackage, MAX_NESTING, MainProcedure, Package, PackageBody, PackageDeclaration, Pragma,
+    Sequence, SequenceParts, SequenceRole, Unit,
 };
 
 /// Whether precedence is kept, each part stands where it may, and nesting is at most 100.

@@ -3,8 +3,8 @@ ghost use Rattle.std.specs.Prelude.{◌≡◌, ◌++◌, ◌∷◌, [], List, Op
 ghost use Rattle.ada_tree.specs.Written.{Written, word, delimiter, behind, each_written, separated, all_written, optional, enclosed, one_identifier, name_written, end_name_written, flag};
 ghost use Rattle.ada_spelling.specs.Spelt.{spelt};
 
-use ada_tree::{Bytes, Identifier, Name, OneOrMore};
 use ada_lex::Kind;
+use ada_tree::{Bytes, Identifier, Name, OneOrMore};
 use ann_base::NoMemory;
 use sqlite_items::Items;
 use std::alloc::Global;

@@ -10,13 +10,13 @@ use crate::spelling::{
     spell_separated,
 };
 use crate::spelling_statements::{SpellSequence, spell_word_alone};
+use ada_lex::Kind;
 use ada_tree::{
     Aspect, Body, Component, Declaration, EntryDeclaration, EntryHead, Expression, Identifier,
     ObjectDeclaration, OneOrMore, OperationBody, ProtectedBody, ProtectedDeclaration,
     ProtectedOperation, SequenceRole, SubprogramSpecification, SubtypeDeclaration,
     SubtypeIndication, TaskDeclaration, TaskDefinition, TypeDeclaration, TypeDefinition,
 };
-use ada_lex::Kind;
 use ann_base::{NoMemory, Place};
 
 /// `SUBTYPE [:= EXPRESSION];` (3.3.1)

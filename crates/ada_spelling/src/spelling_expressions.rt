@@ -5,12 +5,12 @@ ghost use Rattle.ada_spelling.specs.Spelt.{spelt};
 ghost use Rattle.ada_tree.specs.SpellingExpressions.{logical_written, operand_written, relational_text, adding_text, sign_text, multiplying_written, highest_text, attribute_text, formal_written};
 
 use crate::spelling::{Spell, Tokens, spell_bracketed};
+use ada_lex::Kind;
 use ada_tree::{
     Addend, AddingOperator, Argument, Attribute, AttributeDesignator, Expression, ExpressionForm,
     HighestOperator, Identifier, LogicalOperator, Multiplied, MultiplyingOperator, OneOrMore,
     Operand, RelationalOperator, Sign,
 };
-use ada_lex::Kind;
 use ann_base::{NoMemory, Place};
 
 fn spell_logical(

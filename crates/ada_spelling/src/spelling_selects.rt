@@ -3,10 +3,10 @@ use crate::spelling::{Spell, Tokens, spell_behind};
 use crate::spelling_statements::{
     SpellSequence, spell_else, spell_end, spell_statements, spell_word_alone,
 };
+use ada_lex::Kind;
 use ada_tree::{
     Alternative, Guard, SelectAlternative, SelectForm, SelectStatement, SequenceRole, Trigger,
 };
-use ada_lex::Kind;
 use ann_base::NoMemory;
 
 impl Spell for Guard {

@@ -7,12 +7,12 @@ ghost use Rattle.ada_tree.specs.SpellingStatements.{semicolon, index_written, la
 use crate::spelling::{
     Spell, Tokens, spell_bracketed, spell_end_name, spell_flag, spell_led, spell_separated,
 };
+use ada_lex::Kind;
 use ada_tree::{
     Accept, AcceptBody, Assignment, Block, Call, Case, CaseAlternative, Choice, Constraint, Delay,
     Elsif, Exit, Expression, HandledExceptions, Handler, Identifier, If, Iteration, Label, Loop,
     Parameter, SequenceRole, Statement, SubtypeIndication,
 };
-use ada_lex::Kind;
 use ann_base::{NoMemory, Place};
 
 /// What is a sequence.

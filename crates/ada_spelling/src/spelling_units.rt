@@ -11,11 +11,11 @@ use crate::spelling_declarations::{
     spell_body, spell_body_name, spell_name_and_aspects, spell_named_end,
 };
 use crate::spelling_statements::SpellSequence;
+use ada_lex::Kind;
 use ada_tree::{
     ContextClause, Handler, LibraryPackage, MainProcedure, Package, PackageBody,
     PackageDeclaration, Pragma, Sequence, SequenceParts, SequenceRole, Unit,
 };
-use ada_lex::Kind;
 use ann_base::NoMemory;
 use std::alloc::Global;
 
@@ -66,7 +66,7 @@ fn spell_handled<Q: SpellSequence>(
 
 impl<Q: SpellSequence> SpellSequence for SequenceParts<Q> {
     ghost use Rattle.ada_spelling.specs.Spelt.{spelt};
-ghost use Rattle.ada_tree.specs.Spelling.{parts_written};
+    ghost use Rattle.ada_tree.specs.Spelling.{parts_written};
 
     ghost written = { parts_written Q.written };
 
@@ -85,7 +85,7 @@ ghost use Rattle.ada_tree.specs.Spelling.{parts_written};
 
 impl SpellSequence for Sequence {
     ghost use Rattle.ada_spelling.specs.Spelt.{spelt};
-ghost use Rattle.ada_tree.specs.Spelling.{sequence_written};
+    ghost use Rattle.ada_tree.specs.Spelling.{sequence_written};
 
     ghost written = { sequence_written };
 
@@ -98,7 +98,7 @@ ghost use Rattle.ada_tree.specs.Spelling.{sequence_written};
 /// A pragma (2.8).
 impl Spell for Pragma {
     ghost use Rattle.ada_spelling.specs.Spelt.{spelt};
-ghost use Rattle.ada_tree.specs.Spelling.{pragma_written};
+    ghost use Rattle.ada_tree.specs.Spelling.{pragma_written};
 
     ghost written = { pragma_written };
 
@@ -121,7 +121,7 @@ fn clause_text(is_use: bool) -> &'static [u8]
 /// A clause of a context (10.1.2, 8.4).
 impl Spell for ContextClause {
     ghost use Rattle.ada_spelling.specs.Spelt.{spelt};
-ghost use Rattle.ada_tree.specs.Spelling.{clause_written};
+    ghost use Rattle.ada_tree.specs.Spelling.{clause_written};
 
     ghost written = { clause_written };
 
@@ -135,7 +135,7 @@ ghost use Rattle.ada_tree.specs.Spelling.{clause_written};
 /// A package's declaration (7.1).
 impl Spell for PackageDeclaration {
     ghost use Rattle.ada_spelling.specs.Spelt.{spelt};
-ghost use Rattle.ada_tree.specs.Spelling.{package_declaration_written};
+    ghost use Rattle.ada_tree.specs.Spelling.{package_declaration_written};
 
     ghost written = { package_declaration_written };
 
@@ -168,7 +168,7 @@ fn spell_package_statements(
 /// A package's body (7.2).
 impl Spell for PackageBody {
     ghost use Rattle.ada_spelling.specs.Spelt.{spelt};
-ghost use Rattle.ada_tree.specs.Spelling.{package_body_written};
+    ghost use Rattle.ada_tree.specs.Spelling.{package_body_written};
 
     ghost written = { package_body_written };
 
@@ -183,7 +183,7 @@ ghost use Rattle.ada_tree.specs.Spelling.{package_body_written};
 
 impl Spell for Package {
     ghost use Rattle.ada_spelling.specs.Spelt.{spelt};
-ghost use Rattle.ada_tree.specs.Spelling.{package_written};
+    ghost use Rattle.ada_tree.specs.Spelling.{package_written};
 
     ghost written = { package_written };
 
@@ -198,7 +198,7 @@ ghost use Rattle.ada_tree.specs.Spelling.{package_written};
 /// A package with its context (10.1.1).
 impl Spell for LibraryPackage {
     ghost use Rattle.ada_spelling.specs.Spelt.{spelt};
-ghost use Rattle.ada_tree.specs.Spelling.{library_package_written};
+    ghost use Rattle.ada_tree.specs.Spelling.{library_package_written};
 
     ghost written = { library_package_written };
 
@@ -211,7 +211,7 @@ ghost use Rattle.ada_tree.specs.Spelling.{library_package_written};
 /// The main procedure (6.3, 10.2).
 impl Spell for MainProcedure {
     ghost use Rattle.ada_spelling.specs.Spelt.{spelt};
-ghost use Rattle.ada_tree.specs.Spelling.{main_written};
+    ghost use Rattle.ada_tree.specs.Spelling.{main_written};
 
     ghost written = { main_written };
 
@@ -225,7 +225,7 @@ ghost use Rattle.ada_tree.specs.Spelling.{main_written};
 /// A source (10.1).
 impl Spell for Unit {
     ghost use Rattle.ada_spelling.specs.Spelt.{spelt};
-ghost use Rattle.ada_tree.specs.Spelling.{unit_written};
+    ghost use Rattle.ada_tree.specs.Spelling.{unit_written};
 
     ghost written = { unit_written };
 

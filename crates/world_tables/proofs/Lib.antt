@@ -1,2 +1,3 @@
-pub mod PlaceLemmas
+pub mod ListLemmas
+mod PlaceLemmas
 pub mod TableLemmas

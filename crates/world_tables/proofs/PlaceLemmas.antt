@@ -62,18 +62,13 @@ module _ {X : Type 0} where
   item_at-stands n (e ∷ es) zero d up s = rw (equal e.0 n (s.number d))
   item_at-stands n (e ∷ es) (suc p) d up s = rw (unequal e.0 n (before n e es p up s)) (item_at-stands n es p d up.1 (stands-behind n e es p s))
 
-  -- a number that is not above the first is nowhere behind it
-  with_item-above : (n : ℕ) (x : X) (m : ℕ) (es : List (ℕ × X)) → n ≤ m → StartsAbove m es → IsRising es → with_item n x es ≡ es
-  unfolding with_item
-  with_item-above n x m [] le start up = refl
-  with_item-above n x m (e ∷ es) le start up = rw (past e.0 n (omega arith)) (ap (λ zs. e ∷ zs) (with_item-above n x e.0 es (omega arith) up.0 up.1))
-
   pub with_item-stands : (n : ℕ) (x : X) (es : List (ℕ × X)) (p : ℕ) → IsRising es → Stands n es p → with_item n x es ≡ slice_set es p (n, x)
   unfolding with_item
   with_item-stands n x [] p up s = let within = s.within in absurd (omega arith)
-  with_item-stands n x (e ∷ es) zero up s = let number = s.number e in rw (equal e.0 n number, with_item-above n x e.0 es (omega arith) up.0 up.1)
+  with_item-stands n x (e ∷ es) zero up s = let number = s.number e in rw (equal e.0 n number)
   with_item-stands n x (e ∷ es) (suc p) up s = rw (unequal e.0 n (before n e es p up s)) (ap (λ zs. e ∷ zs) (with_item-stands n x es p up.1 (stands-behind n e es p s)))
 
+  -- a number that is not above the first is nowhere behind it
   without-above : (n m : ℕ) (es : List (ℕ × X)) → n ≤ m → StartsAbove m es → IsRising es → without n es ≡ es
   unfolding without
   without-above n m [] le start up = refl
@@ -110,15 +105,6 @@ module _ {X : Type 0} where
   item_at-misses n [] p up m = refl
   item_at-misses n (e ∷ es) zero up m = let h = m.above e (omega arith) in rw (past e.0 n h) (item_at-above n e.0 es (omega arith) up.0 up.1)
   item_at-misses n (e ∷ es) (suc p) up m = rw (unequal e.0 n (m.below 0 e (omega arith))) (item_at-misses n es p up.1 (misses-behind n e es p m))
-
-  pub without-absent : (n : ℕ) (es : List (ℕ × X)) → item_at n es ≡ None → without n es ≡ es
-  unfolding item_at without
-  without-absent n [] absent = refl
-  without-absent n (e ∷ es) absent = go (e.0 == n) absent (without-absent n es)
-    where
-      go : (b : Bool) → cond b (Some e.1) (item_at n es) ≡ None → (item_at n es ≡ None → without n es ≡ es) → cond b (without n es) (e ∷ without n es) ≡ e ∷ es
-      go true absent more = cc
-      go false absent more = ap (λ zs. e ∷ zs) (more absent)
 
   pub put-misses : (n : ℕ) (x : X) (es : List (ℕ × X)) (p : ℕ) → IsRising es → Misses n es p → put n x es ≡ insert es p (n, x)
   unfolding put
@@ -187,7 +173,7 @@ module _ {X : Type 0} where
   StartsAbove-with_item m n x [] start = tt
   StartsAbove-with_item m n x (e ∷ es) start = go (e.0 == n) refl
     where
-      go : (b : Bool) → (e.0 == n) ≡ b → StartsAbove m (cond b ((n, x) ∷ with_item n x es) (e ∷ with_item n x es))
+      go : (b : Bool) → (e.0 == n) ≡ b → StartsAbove m (cond b ((n, x) ∷ es) (e ∷ with_item n x es))
       go true q = let same = eqb-true _ _ q in let h : m < e.0 = start in let k : m < n = omega arith in k
       go false q = start
 
@@ -196,9 +182,6 @@ module _ {X : Type 0} where
   IsRising-with_item n x [] up = tt
   IsRising-with_item n x (e ∷ es) up = go (e.0 == n) refl (IsRising-with_item n x es up.1)
     where
-      go : (b : Bool) → (e.0 == n) ≡ b → IsRising (with_item n x es) → IsRising (cond b ((n, x) ∷ with_item n x es) (e ∷ with_item n x es))
-      go true q more = (rw (← eqb-true _ _ q) (StartsAbove-with_item e.0 e.0 x es up.0), more)
+      go : (b : Bool) → (e.0 == n) ≡ b → IsRising (with_item n x es) → IsRising (cond b ((n, x) ∷ es) (e ∷ with_item n x es))
+      go true q more = (rw (← eqb-true _ _ q) up.0, up.1)
       go false q more = (StartsAbove-with_item e.0 n x es up.0, more)
-
--- what does not stand is not taken out
-pub ruleset absent_rules = (without-absent)

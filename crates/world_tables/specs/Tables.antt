@@ -1,5 +1,5 @@
 -- Items by number: a list of pairs, each a number with its item, in rising order of the numbers.
-use Rattle.std.specs.Prelude.{ℕ, Bool, ◌==◌, nat_lt, if◌then◌else◌, List, [], ◌∷◌, map, is_some, Option, Some, None}
+use Rattle.std.specs.Prelude.{ℕ, ◌<◌, Bool, ◌==◌, nat_lt, if◌then◌else◌, List, [], ◌∷◌, map, is_some, Option, Some, None}
 
 -- the item with this number, if it is there
 unfoldable pub item_at : {X : Type 0} → ℕ → List (ℕ × X) → Option X
@@ -13,7 +13,7 @@ has_number n es = is_some (item_at n es)
 -- x under this number, where the number is there
 unfoldable pub with_item : {X : Type 0} → ℕ → X → List (ℕ × X) → List (ℕ × X)
 with_item n x [] = []
-with_item n x (e ∷ es) = if e.0 == n then (n, x) ∷ with_item n x es else e ∷ with_item n x es
+with_item n x (e ∷ es) = if e.0 == n then (n, x) ∷ es else e ∷ with_item n x es
 
 -- f at the item that was found under this number
 abbrev pub edited_found : {X : Type 0} → Option X → ℕ → (X → X) → List (ℕ × X) → List (ℕ × X)
@@ -42,3 +42,18 @@ numbers_of = map (λ e. e.0)
 unfoldable pub first_from : ℕ → List ℕ → Option ℕ
 first_from n [] = None
 first_from n (m ∷ ms) = if nat_lt m n then first_from n ms else Some m
+
+-- the numbers with n among them, in its place
+unfoldable pub with_number : ℕ → List ℕ → List ℕ
+with_number n [] = n ∷ []
+with_number n (m ∷ ms) = if nat_lt m n then m ∷ with_number n ms else (if m == n then n ∷ ms else n ∷ m ∷ ms)
+
+-- the numbers other than n
+unfoldable pub without_number : ℕ → List ℕ → List ℕ
+without_number n [] = []
+without_number n (m ∷ ms) = if m == n then without_number n ms else m ∷ without_number n ms
+
+-- every number is below n
+abbrev pub AreBelow : {X : Type 0} → ℕ → List (ℕ × X) → Type 0
+AreBelow n [] = Unit {0}
+AreBelow n (e ∷ es) = (e.0 < n) × AreBelow n es

@@ -3,6 +3,8 @@
 
 mod lists;
 mod tables;
+#[cfg(test)]
+mod tests;
 
 pub use lists::List;
 pub use tables::Table;

@@ -1,11 +1,14 @@
 //! A list that grows and shrinks at both ends.
-ghost use Rattle.std.specs.Prelude.{◌≡◌, ◌==◌, ◌≤◌, ◌++◌, ◌∷◌, [], Some, None, length, IfOk, IfErr, OnOk, OnErr, IsSome, IfSome, OnSome, IfNone, slice_get, slice_set, option_copied, insert, remove};
+ghost use Rattle.std.specs.Prelude.{◌≡◌, ◌==◌, ◌≤◌, ◌++◌, ◌∷◌, [], length, IfErr, OnOk, OnErr, slice_get, option_copied, insert, remove};
 ghost use Rattle.std.specs.Option.{option_copied_mut};
 ghost use Rattle.std.specs.Borrow.{sem};
+ghost use Rattle.std.specs.Iterator.Runs.{YieldsRefsInOrder};
+ghost use Rattle.std.specs.VecDeque.Iter.{deque_iter_rest, deque_iter_steps};
 ghost use Rattle.world_tables.specs.Lists.{first_of, rest_of};
 
-use std::alloc::{AllocFailed, Global};
+use std::alloc::{AllocError, AllocFailed, Global};
 use std::collections::VecDeque;
+use std::collections::vec_deque::Iter;
 use std::marker::Model;
 
 /// A list of items; contracts see the list itself, its front the head.
@@ -41,6 +44,7 @@ impl<T> List<T> {
         self.items.len()
     }
 
+    /// Whether there is no item.
     pub fn is_empty(&self) -> bool
         ensures { result ≡ (length self.now == 0) }
     {
@@ -129,5 +133,25 @@ impl<T> List<T> {
         ensures { self.new ≡ [] }
     {
         self.items.clear();
+    }
+
+    /// The items in order, from the front.
+    pub fn iter(&self) -> Iter<'_, T>
+        ensures rest { deque_iter_rest result ≡ self.now }
+        ensures runs { YieldsRefsInOrder (deque_iter_steps {X = T}) deque_iter_rest }
+    {
+        self.items.iter()
+    }
+}
+
+impl<T: Copy> Clone for List<T> {
+    ghost is_clone = { λ list copy. copy ≡ list };
+
+    fn clone(&self) -> Result<Self, AllocError> {
+        let mut copy = List::new(*self.items.allocator());
+        for item in self.items.iter() {
+            copy.push_back(*item)?;
+        }
+        Ok(copy)
     }
 }

@@ -1,12 +1,16 @@
 //! Items by number.
-ghost use Rattle.std.specs.Prelude.{◌≡◌, ◌==◌, ◌<◌, [], Some, None, length, map, MatchResult, IfErr, OnOk, OnErr, slice_get, option_copied};
-ghost use Rattle.std.specs.Option.{option_copied_mut, option_map};
+ghost use Rattle.std.specs.Prelude.{◌≡◌, ◌==◌, ℕ, [], Some, None, length, MatchResult, IfOk, IfErr, OnOk, OnErr, slice_get, option_copied};
+ghost use Rattle.std.specs.Option.{option_copied_mut};
 ghost use Rattle.std.specs.Borrow.{sem};
+ghost use Rattle.std.specs.Iterator.Runs.{YieldsRefsInOrder};
+ghost use Rattle.std.specs.VecDeque.Iter.{deque_iter_rest, deque_iter_steps};
 ghost use Rattle.world_tables.specs.Tables.{item_at, has_number, put, without, numbers_of, first_from};
-ghost use Rattle.world_tables.specs.Rising.{Divides, Stands, Misses};
+ghost use Rattle.world_tables.specs.Rising.{IsRising, Divides, Stands, Misses};
 
-use std::alloc::{AllocFailed, Global};
+use crate::lists::List;
+use std::alloc::{AllocError, AllocFailed, Global};
 use std::collections::VecDeque;
+use std::collections::vec_deque::Iter;
 use std::marker::Model;
 
 /// Items by number; contracts see the list of the pairs of a number and its item, in rising order of the numbers.
@@ -45,6 +49,7 @@ impl<T> Table<T> {
         self.entries.len()
     }
 
+    /// Whether there is no item.
     pub fn is_empty(&self) -> bool
         ensures { result ≡ (length self.now == 0) }
     {
@@ -151,7 +156,7 @@ impl<T> Table<T> {
     }
 
     /// Takes the item with this number out, if it is there.
-    #[tactic(auto, using(crate::proofs::PlaceLemmas::absent_rules))]
+    #[tactic(auto, using(crate::proofs::TableLemmas::table_laws))]
     pub fn remove(&mut self, number: u32) -> Option<T>
         ensures value { result ≡ item_at number self.old }
         ensures rest { self.new ≡ without number self.old }
@@ -186,5 +191,25 @@ impl<T> Table<T> {
         ensures { result ≡ first_from least (numbers_of self.now) }
     {
         self.number_at(self.place(least))
+    }
+
+    /// The numbers in order, as a list of its own. A loop over them may change the table.
+    pub fn numbers(&self, alloc: Global) -> Result<List<u32>, AllocError>
+        ensures { IfOk result (λ numbers. numbers ≡ numbers_of self.now) }
+    {
+        let mut numbers = List::new(alloc);
+        for entry in self.entries.iter() {
+            numbers.push_back(entry.0)?;
+        }
+        Ok(numbers)
+    }
+
+    /// The numbers with their items, in order.
+    pub fn iter(&self) -> Iter<'_, (u32, T)>
+        ensures rest { deque_iter_rest result ≡ self.now }
+        ensures runs { YieldsRefsInOrder (deque_iter_steps {X = ℕ × T}) deque_iter_rest }
+        ensures rising { IsRising self.now }
+    {
+        self.entries.iter()
     }
 }

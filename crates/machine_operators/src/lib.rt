@@ -2,6 +2,7 @@
 //! Each function has the name of the machine's definition of which it is the counterpart.
 #![tactic(auto)]
 
+mod cells;
 mod items;
 mod levels;
 mod openings;
@@ -11,6 +12,7 @@ mod ranges;
 mod tests;
 mod texts;
 
+pub use cells::initial_cells;
 pub use items::{
     Program, controlled_of, declaration_of, entry_of, environment, expression_count, expression_of,
     form_of, literals_of, main_procedure, next_of, policies, protected_unit_of, scope_of,

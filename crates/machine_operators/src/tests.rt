@@ -1,7 +1,7 @@
 //! Operators by the tables of the standard, and the calls that take memory.
-use crate::{binary_value, text_of_whole, unary_value};
+use crate::{binary_value, initial_cells, text_of_whole, unary_value};
 use ann_base::Raised;
-use profile_machine::{BinaryOperator, UnaryOperator, Value};
+use profile_machine::{BinaryOperator, CellRun, Scope, Sequence, UnaryOperator, Value};
 use std::test::Fail;
 
 // ISO/IEC 8652:2012, 4.5.5 has the signs; the last rows are at the ends of Integer.
@@ -60,5 +60,40 @@ fn image_of_an_integer(rt: HostRuntime) -> Result<(), Fail> {
     let alloc = rt.alloc();
     assert!(rt; text_of_whole(alloc, Value::Whole(-40))?.as_slice() == b"-40".as_slice());
     assert!(rt; text_of_whole(alloc, Value::Whole(7))?.as_slice() == b" 7".as_slice());
+    Ok(())
+}
+
+#[test]
+fn cells_of_a_scope(rt: HostRuntime) -> Result<(), Fail> {
+    let alloc = rt.alloc();
+    let mut runs = Sequence::new(alloc);
+    runs.push(CellRun {
+        place: 1,
+        count: 5,
+        value: Value::Truth(false),
+    })?;
+    runs.push(CellRun {
+        place: 2,
+        count: 1,
+        value: Value::Whole(1),
+    })?;
+    let scope = Scope {
+        outer: None,
+        size: 4,
+        cells: runs,
+        kept: false,
+        first: None,
+    };
+    let cells = initial_cells(alloc, &scope)?;
+    assert!(rt;
+        cells.as_slice()
+            == [
+                Value::Whole(0),
+                Value::Truth(false),
+                Value::Whole(1),
+                Value::Truth(false)
+            ]
+            .as_slice()
+    );
     Ok(())
 }

@@ -1,0 +1,96 @@
+//! Ends of the numbers, and ranges (ISO/IEC 8652:2012, 3.5).
+ghost use Rattle.std.specs.Prelude.{◌≡◌, MatchOption, Ok, Err};
+ghost use Rattle.ann_base.specs.declared.exceptions.Raised.TheVariants as exception;
+ghost use Rattle.profile_machine.specs.declared.values.Value.TheVariants.{Whole};
+ghost use Rattle.profile_machine.specs.Operators.{whole, ticks, held_moment, is_in, checked, place_in, component_place};
+
+use ann_base::{Moment, Raised};
+use profile_machine::{Constraint, Value};
+
+/// The Integer of this value, where it has 32 bits (3.5.4).
+pub fn whole(n: i64) -> Result<Value, Raised>
+    ensures { result ≡ whole n }
+{
+    match i32::try_from(n) {
+        Ok(n) => Ok(Value::Whole(n)),
+        Err(_) => Err(Raised::Constraint),
+    }
+}
+
+/// The first moment of all times.
+const TIME_FIRST: Moment = -4_611_686_018_427_387_904;
+
+/// The last one.
+const TIME_LAST: Moment = 4_611_686_018_427_387_903;
+
+/// The time or span of this many ticks, where it lies between the ends of all times.
+pub fn ticks(n: Moment) -> Result<Value, Raised>
+    ensures { result ≡ ticks n }
+{
+    if TIME_FIRST <= n && n <= TIME_LAST {
+        Ok(Value::Ticks(n))
+    } else {
+        Err(Raised::Constraint)
+    }
+}
+
+/// A moment that would be set beyond an end is that end.
+pub fn held_moment(n: Moment) -> Moment
+    ensures { result ≡ held_moment n }
+{
+    if n < TIME_FIRST {
+        TIME_FIRST
+    } else if TIME_LAST < n {
+        TIME_LAST
+    } else {
+        n
+    }
+}
+
+/// Whether the value lies in the range.
+pub fn is_in(constraint: Constraint, value: Value) -> bool
+    ensures { result ≡ is_in constraint value }
+{
+    match (constraint, value) {
+        (Constraint::Free, _) => true,
+        (Constraint::Whole { low, high }, Value::Whole(n)) => low <= n && n <= high,
+        (Constraint::Truth { low, high }, Value::Truth(b)) => low <= b && b <= high,
+        (Constraint::Literal { low, high }, Value::Literal(n)) => low <= n && n <= high,
+        (Constraint::Ticks { low, high }, Value::Ticks(n)) => low <= n && n <= high,
+        _ => false,
+    }
+}
+
+/// A range check (4.6).
+pub fn checked(constraint: Constraint, value: Value) -> Result<Value, Raised>
+    ensures { result ≡ checked constraint value }
+{
+    if is_in(constraint, value) {
+        Ok(value)
+    } else {
+        Err(Raised::Constraint)
+    }
+}
+
+/// The place of a component in its array, by the value of the index (4.1.1).
+pub fn place_in(index: Constraint, value: Value) -> u32
+    ensures { result ≡ place_in index value }
+{
+    match (index, value) {
+        (Constraint::Whole { low, .. }, Value::Whole(n)) => n.abs_diff(low),
+        (Constraint::Truth { low, .. }, Value::Truth(b)) => u32::from(b).abs_diff(u32::from(low)),
+        (Constraint::Literal { low, .. }, Value::Literal(n)) => n.abs_diff(low),
+        _ => 0,
+    }
+}
+
+/// The same, where the value lies in the range of the index.
+pub fn component_place(index: Constraint, value: Value) -> Result<u32, Raised>
+    ensures { result ≡ component_place index value }
+{
+    if is_in(index, value) {
+        Ok(place_in(index, value))
+    } else {
+        Err(Raised::Constraint)
+    }
+}

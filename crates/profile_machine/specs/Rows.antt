@@ -34,12 +34,18 @@ pub mod RowAdjust_2
 pub mod RowBudgets_1
 pub mod RowBudgets_group
 pub mod RowCalls_gone
+pub mod RowCalls_inside
+pub mod RowCalls_results
 pub mod RowControlled_1
 pub mod RowControlled_assign
+pub mod RowControlled_dropped
 pub mod RowControlled_initialize
 pub mod RowDeferred_inside
+pub mod RowEdf_levels
 pub mod RowEdf_made
 pub mod RowEvents_order
+pub mod RowEvents_pending
+pub mod RowExceptions_raised
 pub mod RowInterrupts_end
 pub mod RowInterrupts_masked
 pub mod RowPolicies_1
@@ -57,6 +63,8 @@ pub mod RowRequeue_kinds
 pub mod RowRequeue_parameters
 pub mod RowRequeue_triggers
 pub mod RowRoom_activation
+pub mod RowRoom_bodies
+pub mod RowRoom_operations
 pub mod RowScopes_exits
 pub mod RowSelect_left
 pub mod RowSelect_raised

@@ -34,12 +34,18 @@ ghost use Rattle.profile_machine.specs.Rows.RowAdjust_2.{row_adjust_2_lines, row
 ghost use Rattle.profile_machine.specs.Rows.RowBudgets_1.{row_budgets_1_lines, row_budgets_1_trace, row_budgets_1_worlds, row_budgets_1_handlers};
 ghost use Rattle.profile_machine.specs.Rows.RowBudgets_group.{row_budgets_group_lines, row_budgets_group_trace, row_budgets_group_worlds, row_budgets_group_handlers};
 ghost use Rattle.profile_machine.specs.Rows.RowCalls_gone.{row_calls_gone_lines, row_calls_gone_trace, row_calls_gone_worlds, row_calls_gone_handlers};
+ghost use Rattle.profile_machine.specs.Rows.RowCalls_inside.{row_calls_inside_lines, row_calls_inside_trace, row_calls_inside_worlds, row_calls_inside_handlers};
+ghost use Rattle.profile_machine.specs.Rows.RowCalls_results.{row_calls_results_lines, row_calls_results_trace, row_calls_results_worlds, row_calls_results_handlers};
 ghost use Rattle.profile_machine.specs.Rows.RowControlled_1.{row_controlled_1_lines, row_controlled_1_trace, row_controlled_1_worlds, row_controlled_1_handlers};
 ghost use Rattle.profile_machine.specs.Rows.RowControlled_assign.{row_controlled_assign_lines, row_controlled_assign_trace, row_controlled_assign_worlds, row_controlled_assign_handlers};
+ghost use Rattle.profile_machine.specs.Rows.RowControlled_dropped.{row_controlled_dropped_lines, row_controlled_dropped_trace, row_controlled_dropped_worlds, row_controlled_dropped_handlers};
 ghost use Rattle.profile_machine.specs.Rows.RowControlled_initialize.{row_controlled_initialize_lines, row_controlled_initialize_trace, row_controlled_initialize_worlds, row_controlled_initialize_handlers};
 ghost use Rattle.profile_machine.specs.Rows.RowDeferred_inside.{row_deferred_inside_lines, row_deferred_inside_trace, row_deferred_inside_worlds, row_deferred_inside_handlers};
+ghost use Rattle.profile_machine.specs.Rows.RowEdf_levels.{row_edf_levels_lines, row_edf_levels_trace, row_edf_levels_worlds, row_edf_levels_handlers};
 ghost use Rattle.profile_machine.specs.Rows.RowEdf_made.{row_edf_made_lines, row_edf_made_trace, row_edf_made_worlds, row_edf_made_handlers};
 ghost use Rattle.profile_machine.specs.Rows.RowEvents_order.{row_events_order_lines, row_events_order_trace, row_events_order_worlds, row_events_order_handlers};
+ghost use Rattle.profile_machine.specs.Rows.RowEvents_pending.{row_events_pending_lines, row_events_pending_trace, row_events_pending_worlds, row_events_pending_handlers};
+ghost use Rattle.profile_machine.specs.Rows.RowExceptions_raised.{row_exceptions_raised_lines, row_exceptions_raised_trace, row_exceptions_raised_worlds, row_exceptions_raised_handlers};
 ghost use Rattle.profile_machine.specs.Rows.RowInterrupts_end.{row_interrupts_end_lines, row_interrupts_end_trace, row_interrupts_end_worlds, row_interrupts_end_handlers};
 ghost use Rattle.profile_machine.specs.Rows.RowInterrupts_masked.{row_interrupts_masked_lines, row_interrupts_masked_trace, row_interrupts_masked_worlds, row_interrupts_masked_handlers};
 ghost use Rattle.profile_machine.specs.Rows.RowPolicies_1.{row_policies_1_lines, row_policies_1_trace, row_policies_1_worlds, row_policies_1_handlers};
@@ -57,6 +63,8 @@ ghost use Rattle.profile_machine.specs.Rows.RowRequeue_kinds.{row_requeue_kinds_
 ghost use Rattle.profile_machine.specs.Rows.RowRequeue_parameters.{row_requeue_parameters_lines, row_requeue_parameters_trace, row_requeue_parameters_worlds, row_requeue_parameters_handlers};
 ghost use Rattle.profile_machine.specs.Rows.RowRequeue_triggers.{row_requeue_triggers_lines, row_requeue_triggers_trace, row_requeue_triggers_worlds, row_requeue_triggers_handlers};
 ghost use Rattle.profile_machine.specs.Rows.RowRoom_activation.{row_room_activation_lines, row_room_activation_trace, row_room_activation_worlds, row_room_activation_handlers};
+ghost use Rattle.profile_machine.specs.Rows.RowRoom_bodies.{row_room_bodies_lines, row_room_bodies_trace, row_room_bodies_worlds, row_room_bodies_handlers};
+ghost use Rattle.profile_machine.specs.Rows.RowRoom_operations.{row_room_operations_lines, row_room_operations_trace, row_room_operations_worlds, row_room_operations_handlers};
 ghost use Rattle.profile_machine.specs.Rows.RowScopes_exits.{row_scopes_exits_lines, row_scopes_exits_trace, row_scopes_exits_worlds, row_scopes_exits_handlers};
 ghost use Rattle.profile_machine.specs.Rows.RowSelect_left.{row_select_left_lines, row_select_left_trace, row_select_left_worlds, row_select_left_handlers};
 ghost use Rattle.profile_machine.specs.Rows.RowSelect_raised.{row_select_raised_lines, row_select_raised_trace, row_select_raised_worlds, row_select_raised_handlers};
@@ -337,6 +345,22 @@ pub fn row_calls_gone()
     ensures releases { IsTrue row_calls_gone_handlers }
 {}
 
+/// Row calls.inside, up to tick 54.
+#[tactic(auto, using(crate::specs::Rows::RowCalls_inside::row_calls_inside_runs, crate::specs::Rows::RowCalls_inside::row_calls_inside_keeps, crate::specs::Rows::RowCalls_inside::row_calls_inside_releases))]
+pub fn row_calls_inside()
+    ensures runs { row_calls_inside_lines ≡ row_calls_inside_trace }
+    ensures keeps { IsTrue row_calls_inside_worlds }
+    ensures releases { IsTrue row_calls_inside_handlers }
+{}
+
+/// Row calls.results, up to tick 39.
+#[tactic(auto, using(crate::specs::Rows::RowCalls_results::row_calls_results_runs, crate::specs::Rows::RowCalls_results::row_calls_results_keeps, crate::specs::Rows::RowCalls_results::row_calls_results_releases))]
+pub fn row_calls_results()
+    ensures runs { row_calls_results_lines ≡ row_calls_results_trace }
+    ensures keeps { IsTrue row_calls_results_worlds }
+    ensures releases { IsTrue row_calls_results_handlers }
+{}
+
 /// Row controlled.1, up to tick 23.
 #[tactic(auto, using(crate::specs::Rows::RowControlled_1::row_controlled_1_runs, crate::specs::Rows::RowControlled_1::row_controlled_1_keeps, crate::specs::Rows::RowControlled_1::row_controlled_1_releases))]
 pub fn row_controlled_1()
@@ -351,6 +375,14 @@ pub fn row_controlled_assign()
     ensures runs { row_controlled_assign_lines ≡ row_controlled_assign_trace }
     ensures keeps { IsTrue row_controlled_assign_worlds }
     ensures releases { IsTrue row_controlled_assign_handlers }
+{}
+
+/// Row controlled.dropped, up to tick 39.
+#[tactic(auto, using(crate::specs::Rows::RowControlled_dropped::row_controlled_dropped_runs, crate::specs::Rows::RowControlled_dropped::row_controlled_dropped_keeps, crate::specs::Rows::RowControlled_dropped::row_controlled_dropped_releases))]
+pub fn row_controlled_dropped()
+    ensures runs { row_controlled_dropped_lines ≡ row_controlled_dropped_trace }
+    ensures keeps { IsTrue row_controlled_dropped_worlds }
+    ensures releases { IsTrue row_controlled_dropped_handlers }
 {}
 
 /// Row controlled.initialize, up to tick 31.
@@ -369,6 +401,14 @@ pub fn row_deferred_inside()
     ensures releases { IsTrue row_deferred_inside_handlers }
 {}
 
+/// Row edf.levels, up to tick 40.
+#[tactic(auto, using(crate::specs::Rows::RowEdf_levels::row_edf_levels_runs, crate::specs::Rows::RowEdf_levels::row_edf_levels_keeps, crate::specs::Rows::RowEdf_levels::row_edf_levels_releases))]
+pub fn row_edf_levels()
+    ensures runs { row_edf_levels_lines ≡ row_edf_levels_trace }
+    ensures keeps { IsTrue row_edf_levels_worlds }
+    ensures releases { IsTrue row_edf_levels_handlers }
+{}
+
 /// Row edf.made, up to tick 42.
 #[tactic(auto, using(crate::specs::Rows::RowEdf_made::row_edf_made_runs, crate::specs::Rows::RowEdf_made::row_edf_made_keeps, crate::specs::Rows::RowEdf_made::row_edf_made_releases))]
 pub fn row_edf_made()
@@ -377,12 +417,28 @@ pub fn row_edf_made()
     ensures releases { IsTrue row_edf_made_handlers }
 {}
 
-/// Row events.order, up to tick 38.
+/// Row events.order, up to tick 42.
 #[tactic(auto, using(crate::specs::Rows::RowEvents_order::row_events_order_runs, crate::specs::Rows::RowEvents_order::row_events_order_keeps, crate::specs::Rows::RowEvents_order::row_events_order_releases))]
 pub fn row_events_order()
     ensures runs { row_events_order_lines ≡ row_events_order_trace }
     ensures keeps { IsTrue row_events_order_worlds }
     ensures releases { IsTrue row_events_order_handlers }
+{}
+
+/// Row events.pending, up to tick 48.
+#[tactic(auto, using(crate::specs::Rows::RowEvents_pending::row_events_pending_runs, crate::specs::Rows::RowEvents_pending::row_events_pending_keeps, crate::specs::Rows::RowEvents_pending::row_events_pending_releases))]
+pub fn row_events_pending()
+    ensures runs { row_events_pending_lines ≡ row_events_pending_trace }
+    ensures keeps { IsTrue row_events_pending_worlds }
+    ensures releases { IsTrue row_events_pending_handlers }
+{}
+
+/// Row exceptions.raised, up to tick 33.
+#[tactic(auto, using(crate::specs::Rows::RowExceptions_raised::row_exceptions_raised_runs, crate::specs::Rows::RowExceptions_raised::row_exceptions_raised_keeps, crate::specs::Rows::RowExceptions_raised::row_exceptions_raised_releases))]
+pub fn row_exceptions_raised()
+    ensures runs { row_exceptions_raised_lines ≡ row_exceptions_raised_trace }
+    ensures keeps { IsTrue row_exceptions_raised_worlds }
+    ensures releases { IsTrue row_exceptions_raised_handlers }
 {}
 
 /// Row interrupts.end, up to tick 10.
@@ -519,6 +575,22 @@ pub fn row_room_activation()
     ensures runs { row_room_activation_lines ≡ row_room_activation_trace }
     ensures keeps { IsTrue row_room_activation_worlds }
     ensures releases { IsTrue row_room_activation_handlers }
+{}
+
+/// Row room.bodies, up to tick 32.
+#[tactic(auto, using(crate::specs::Rows::RowRoom_bodies::row_room_bodies_runs, crate::specs::Rows::RowRoom_bodies::row_room_bodies_keeps, crate::specs::Rows::RowRoom_bodies::row_room_bodies_releases))]
+pub fn row_room_bodies()
+    ensures runs { row_room_bodies_lines ≡ row_room_bodies_trace }
+    ensures keeps { IsTrue row_room_bodies_worlds }
+    ensures releases { IsTrue row_room_bodies_handlers }
+{}
+
+/// Row room.operations, up to tick 33.
+#[tactic(auto, using(crate::specs::Rows::RowRoom_operations::row_room_operations_runs, crate::specs::Rows::RowRoom_operations::row_room_operations_keeps, crate::specs::Rows::RowRoom_operations::row_room_operations_releases))]
+pub fn row_room_operations()
+    ensures runs { row_room_operations_lines ≡ row_room_operations_trace }
+    ensures keeps { IsTrue row_room_operations_worlds }
+    ensures releases { IsTrue row_room_operations_handlers }
 {}
 
 /// Row scopes.exits, up to tick 94.

@@ -1,39 +1,25 @@
-use Rattle.std.specs.Prelude.{◌≡◌, ℕ, ℤ, pos, negsuc, List, [], ◌∷◌, Some, None, true, false, codes, refl}
+use Rattle.std.specs.Prelude.{◌≡◌, ℕ, ℤ, pos, List, [], ◌∷◌, Some, None, true, false, codes, refl}
 use Rattle.ann_base.specs.declared.exceptions.Raised.TheVariants as exception
 use Rattle.trace_text.specs.declared.events.Event.{Event}
 use Rattle.trace_text.specs.declared.events.Event.TheVariants as line
 use Rattle.trace_text.specs.declared.events.Created.TheVariants as created
 use Rattle.trace_text.specs.declared.events.Ended.TheVariants as end
-use Rattle.trace_text.specs.declared.events.Finished.TheVariants as finished
-use Rattle.trace_text.specs.declared.events.Leaves.TheVariants as leaves
-use Rattle.trace_text.specs.declared.events.Mode.TheVariants.{Read, Write}
-use Rattle.trace_text.specs.declared.events.QueueEnd.TheVariants.{Head, Tail}
+use Rattle.trace_text.specs.declared.events.Mode.TheVariants.{Write}
+use Rattle.trace_text.specs.declared.events.QueueEnd.TheVariants.{Tail}
 use Rattle.trace_text.specs.declared.events.Waits.TheVariants as waits
 use Rattle.profile_machine.specs.declared.run_data.Item.{Item}
-use Rattle.profile_machine.specs.declared.run_data.Item.TheVariants as item
 use Rattle.profile_machine.specs.declared.image.Image.{Image}
-use Rattle.profile_machine.specs.declared.image.Dispatching.TheVariants.{FifoWithinPriorities, RoundRobinWithinPriorities, EdfAcrossPriorities}
 use Rattle.profile_machine.specs.declared.image.Queuing.TheVariants as queuing
-use Rattle.profile_machine.specs.declared.values.Value.TheVariants.{Whole, Truth, Literal, Ticks, Task, Thing}
-use Rattle.profile_machine.specs.declared.values.Constraint.TheVariants.{Free, Whole, Truth, Literal, Ticks}
-use Rattle.profile_machine.specs.declared.expressions.Expression.TheVariants.{Known, Variable, Thing, Unary, Binary, Count, Clock, Span, SameTicks, CurrentTask, ExecutionTime, Priority, Deadline, TimeOfEvent, TimeRemaining, BudgetHasExpired, BudgetRemaining, PortValue}
-use Rattle.profile_machine.specs.declared.expressions.ObjectName.TheVariants.{Declared, OwnComponent, Component}
-use Rattle.profile_machine.specs.declared.expressions.UnaryOperator.TheVariants as unary
-use Rattle.profile_machine.specs.declared.expressions.BinaryOperator.TheVariants as binary
+use Rattle.profile_machine.specs.declared.values.Value.TheVariants.{Whole, Truth}
+use Rattle.profile_machine.specs.declared.values.Constraint.TheVariants.{Free, Whole, Truth}
+use Rattle.profile_machine.specs.declared.expressions.Expression.TheVariants.{Known, Variable, Span, CurrentTask, BudgetHasExpired}
+use Rattle.profile_machine.specs.declared.expressions.ObjectName.TheVariants.{Declared}
 use Rattle.profile_machine.specs.declared.declarations.DeclarationKind.TheVariants as kind
 use Rattle.profile_machine.specs.declared.declarations.Initial.TheVariants as initial
-use Rattle.profile_machine.specs.declared.declarations.EntryUnit.TheVariants as unit
 use Rattle.profile_machine.specs.declared.declarations.ExceptionChoice.TheVariants as exception_choice
 use Rattle.profile_machine.specs.declared.statements.StatementForm.TheVariants as form
-use Rattle.profile_machine.specs.declared.statements.Choice.TheVariants as choice
-use Rattle.profile_machine.specs.declared.statements.Actual.TheVariants as actual
-use Rattle.profile_machine.specs.declared.statements.Callee.TheVariants as callee
-use Rattle.profile_machine.specs.declared.statements.Destination.TheVariants as destination
-use Rattle.profile_machine.specs.declared.statements.EntryOwner.TheVariants as owner
-use Rattle.profile_machine.specs.declared.statements.SelectKind.TheVariants as select
 use Rattle.profile_machine.specs.declared.statements.Piece.TheVariants as piece
-use Rattle.profile_machine.specs.declared.statements.Setting.TheVariants as setting
-use Rattle.profile_machine.specs.Rows.Notation.{decl, expr, stmt, scope, subprogram, task_unit, protected_unit, entry, controlled_type, enumeration, task, call, p, region, t, agent, of_task, of_object, declaration, variable, statement, alternative, select_alternative, handler, handler_name, cell_run, scope_text, formal, subprogram_text, task_unit_text, attachment, protected_unit_text, entry_body, entry_text, controlled_text, enumeration_text, dispatching_range, policies, main_procedure}
+use Rattle.profile_machine.specs.Rows.Notation.{decl, expr, stmt, scope, subprogram, protected_unit, task, p, t, agent, declaration, variable, statement, handler, handler_name, cell_run, scope_text, formal, subprogram_text, protected_unit_text, policies, main_procedure}
 use Rattle.profile_machine.specs.Run.{run_of}
 use Rattle.std.specs.Fmt.{digits}
 use Rattle.std.specs.Prelude.{Bool}
@@ -43,75 +29,76 @@ use Rattle.profile_machine.specs.Releases.{releases_ok}
 -- Row budgets.group: its run stops before tick 53, so every greater bound gives the same trace.
 abbrev pub row_budgets_group_program : Image
 row_budgets_group_program =
-  record {
-    declarations =
-      declaration (codes "b") (codes "pk.b") kind.Budget (scope 0) 0 1 Free None
-      ∷ declaration (codes "h") (codes "pk.h") (kind.Protected (protected_unit 0)) (scope 0) 1 16 Free None
-      ∷ declaration (codes "l") (codes "pk.l") (kind.Protected (protected_unit 1)) (scope 0) 17 16 Free None
-      ∷ declaration (codes "g") (codes "pk.h.g") kind.Parameter (scope 1) 0 1 Free None
-      ∷ declaration (codes "g") (codes "pk.l.g") kind.Parameter (scope 2) 0 1 Free None
-      ∷ declaration (codes "c") (codes "main.c") (kind.Object initial.Default) (scope 3) 0 1 (Truth false true) None
-      ∷ [];
-    expressions =
-      CurrentTask
-      ∷ Known (Whole (pos 1))
-      ∷ Span (pos 1) (expr 1)
-      ∷ CurrentTask
-      ∷ Variable (variable (Declared (decl 5)) None)
-      ∷ Known (Whole (pos 3))
-      ∷ Span (pos 1) (expr 5)
-      ∷ BudgetHasExpired (decl 0)
-      ∷ Known (Whole (pos 4))
-      ∷ Span (pos 1) (expr 8)
-      ∷ CurrentTask
-      ∷ [];
-    statements =
-      statement (form.CallMain) 0 None
-      ∷ statement (form.Handled (handler (exception_choice.Named exception.GroupBudget ∷ []) (stmt 17) ∷ []) (stmt 16)) 0 None
-      ∷ statement (form.RemoveTask (decl 0) (expr 0)) 1 None
-      ∷ statement (form.Null) 0 (Some (stmt 2))
-      ∷ statement (form.Replenish (decl 0) (expr 2)) 1 (Some (stmt 3))
-      ∷ statement (form.RemoveTask (decl 0) (expr 3)) 1 (Some (stmt 4))
-      ∷ statement (form.PutLine (piece.Truth (expr 4) ∷ [])) 0 (Some (stmt 5))
-      ∷ statement (form.Null) 0 (Some (stmt 6))
-      ∷ statement (form.CancelBudget (decl 0) (variable (Declared (decl 5)) None)) 0 (Some (stmt 7))
-      ∷ statement (form.AddToBudget (decl 0) (expr 6)) 1 (Some (stmt 8))
-      ∷ statement (form.PutLine (piece.Text (codes "spent") ∷ [])) 0 (Some (stmt 9))
-      ∷ statement (form.If (expr 7) (stmt 10) (Some (stmt 9))) 1 (Some (stmt 9))
-      ∷ statement (form.Null) 0 (Some (stmt 11))
-      ∷ statement (form.Null) 0 (Some (stmt 12))
-      ∷ statement (form.SetBudget (decl 0) (Some (handler_name (decl 1) (subprogram 0)))) 0 (Some (stmt 13))
-      ∷ statement (form.Replenish (decl 0) (expr 9)) 1 (Some (stmt 14))
-      ∷ statement (form.AddTask (decl 0) (expr 10)) 1 (Some (stmt 15))
-      ∷ statement (form.SetBudget (decl 0) (Some (handler_name (decl 2) (subprogram 1)))) 0 None
-      ∷ statement (form.Declare (decl 5)) 0 (Some (stmt 1))
-      ∷ statement (form.Null) 0 None
-      ∷ statement (form.Null) 0 None
-      ∷ statement (form.Declare (decl 2)) 0 (Some (stmt 0))
-      ∷ statement (form.Declare (decl 1)) 0 (Some (stmt 21))
-      ∷ statement (form.Declare (decl 0)) 0 (Some (stmt 22))
-      ∷ [];
-    scopes =
-      scope_text None 33 [] false (Some (stmt 23))
-      ∷ scope_text (Some (scope 0)) 1 [] false (Some (stmt 19))
-      ∷ scope_text (Some (scope 0)) 1 [] false (Some (stmt 20))
-      ∷ scope_text (Some (scope 0)) 1 (cell_run 0 1 (Truth false) ∷ []) false (Some (stmt 18))
-      ∷ [];
-    subprograms =
-      subprogram_text (codes "spent") (scope 1) (formal Free (Whole (pos 0)) ∷ []) None (Some (protected_unit 0))
-      ∷ subprogram_text (codes "spent") (scope 2) (formal Free (Whole (pos 0)) ∷ []) None (Some (protected_unit 1))
-      ∷ [];
-    task_units = [];
-    protected_units =
-      protected_unit_text 31 [] [] []
-      ∷ protected_unit_text 20 [] [] []
-      ∷ [];
-    entries = [];
-    controlled_types = [];
-    enumerations = [];
-    policies = (policies [] queuing.Fifo None 30);
-    environment = (scope 0);
-    main = (main_procedure (codes "main") 15 (scope 3)) }
+    record {
+      declarations =
+          declaration (codes "b") (codes "pk.b") kind.Budget (scope 0) 0 1 Free None
+          ∷ declaration (codes "h") (codes "pk.h") (kind.Protected (protected_unit 0)) (scope 0) 1 16 Free None
+          ∷ declaration (codes "l") (codes "pk.l") (kind.Protected (protected_unit 1)) (scope 0) 17 16 Free None
+          ∷ declaration (codes "g") (codes "pk.h.g") kind.Parameter (scope 1) 0 1 Free None
+          ∷ declaration (codes "g") (codes "pk.l.g") kind.Parameter (scope 2) 0 1 Free None
+          ∷ declaration (codes "c") (codes "main.c") (kind.Object initial.Default) (scope 3) 0 1 (Truth false true) None
+          ∷ [];
+      expressions =
+          CurrentTask
+          ∷ Known (Whole (pos 1))
+          ∷ Span (pos 1) (expr 1)
+          ∷ CurrentTask
+          ∷ Variable (variable (Declared (decl 5)) None)
+          ∷ Known (Whole (pos 3))
+          ∷ Span (pos 1) (expr 5)
+          ∷ BudgetHasExpired (decl 0)
+          ∷ Known (Whole (pos 4))
+          ∷ Span (pos 1) (expr 8)
+          ∷ CurrentTask
+          ∷ [];
+      statements =
+          statement (form.CallMain) 0 None
+          ∷ statement (form.Handled (handler (exception_choice.Named exception.GroupBudget ∷ []) (stmt 17) ∷ []) (stmt 16)) 0 None
+          ∷ statement (form.RemoveTask (decl 0) (expr 0)) 1 None
+          ∷ statement (form.Null) 0 (Some (stmt 2))
+          ∷ statement (form.Replenish (decl 0) (expr 2)) 1 (Some (stmt 3))
+          ∷ statement (form.RemoveTask (decl 0) (expr 3)) 1 (Some (stmt 4))
+          ∷ statement (form.PutLine (piece.Truth (expr 4) ∷ [])) 0 (Some (stmt 5))
+          ∷ statement (form.Null) 0 (Some (stmt 6))
+          ∷ statement (form.CancelBudget (decl 0) (variable (Declared (decl 5)) None)) 0 (Some (stmt 7))
+          ∷ statement (form.AddToBudget (decl 0) (expr 6)) 1 (Some (stmt 8))
+          ∷ statement (form.PutLine (piece.Text (codes "spent") ∷ [])) 0 (Some (stmt 9))
+          ∷ statement (form.If (expr 7) (stmt 10) (Some (stmt 9))) 1 (Some (stmt 9))
+          ∷ statement (form.Null) 0 (Some (stmt 11))
+          ∷ statement (form.Null) 0 (Some (stmt 12))
+          ∷ statement (form.SetBudget (decl 0) (Some (handler_name (decl 1) (subprogram 0)))) 0 (Some (stmt 13))
+          ∷ statement (form.Replenish (decl 0) (expr 9)) 1 (Some (stmt 14))
+          ∷ statement (form.AddTask (decl 0) (expr 10)) 1 (Some (stmt 15))
+          ∷ statement (form.SetBudget (decl 0) (Some (handler_name (decl 2) (subprogram 1)))) 0 None
+          ∷ statement (form.Declare (decl 5)) 0 (Some (stmt 1))
+          ∷ statement (form.Null) 0 None
+          ∷ statement (form.Null) 0 None
+          ∷ statement (form.Declare (decl 2)) 0 (Some (stmt 0))
+          ∷ statement (form.Declare (decl 1)) 0 (Some (stmt 21))
+          ∷ statement (form.Declare (decl 0)) 0 (Some (stmt 22))
+          ∷ [];
+      scopes =
+          scope_text None 33 [] false (Some (stmt 23))
+          ∷ scope_text (Some (scope 0)) 1 [] false (Some (stmt 19))
+          ∷ scope_text (Some (scope 0)) 1 [] false (Some (stmt 20))
+          ∷ scope_text (Some (scope 0)) 1 (cell_run 0 1 (Truth false) ∷ []) false (Some (stmt 18))
+          ∷ [];
+      subprograms =
+          subprogram_text (codes "spent") (scope 1) (formal Free (Whole (pos 0)) ∷ []) None (Some (protected_unit 0))
+          ∷ subprogram_text (codes "spent") (scope 2) (formal Free (Whole (pos 0)) ∷ []) None (Some (protected_unit 1))
+          ∷ [];
+      task_units = [];
+      protected_units =
+          protected_unit_text 31 [] [] []
+          ∷ protected_unit_text 20 [] [] []
+          ∷ [];
+      entries = [];
+      controlled_types = [];
+      enumerations = [];
+      policies = (policies [] queuing.Fifo None 30);
+      environment = (scope 0);
+      main = (main_procedure (codes "main") 15 (scope 3));
+    }
 
 abbrev pub row_budgets_group_script : List (ℤ × Item)
 row_budgets_group_script = []

@@ -1,5 +1,4 @@
 use Rattle.std.specs.Prelude.{◌≡◌, ℕ, ℤ, pos, negsuc, List, [], ◌∷◌, Some, None, true, false, codes, refl}
-use Rattle.ann_base.specs.declared.exceptions.Raised.TheVariants as exception
 use Rattle.trace_text.specs.declared.events.Event.{Event}
 use Rattle.trace_text.specs.declared.events.Event.TheVariants as line
 use Rattle.trace_text.specs.declared.events.Created.TheVariants as created
@@ -10,30 +9,20 @@ use Rattle.trace_text.specs.declared.events.Mode.TheVariants.{Read, Write}
 use Rattle.trace_text.specs.declared.events.QueueEnd.TheVariants.{Head, Tail}
 use Rattle.trace_text.specs.declared.events.Waits.TheVariants as waits
 use Rattle.profile_machine.specs.declared.run_data.Item.{Item}
-use Rattle.profile_machine.specs.declared.run_data.Item.TheVariants as item
 use Rattle.profile_machine.specs.declared.image.Image.{Image}
-use Rattle.profile_machine.specs.declared.image.Dispatching.TheVariants.{FifoWithinPriorities, RoundRobinWithinPriorities, EdfAcrossPriorities}
 use Rattle.profile_machine.specs.declared.image.Queuing.TheVariants as queuing
-use Rattle.profile_machine.specs.declared.values.Value.TheVariants.{Whole, Truth, Literal, Ticks, Task, Thing}
-use Rattle.profile_machine.specs.declared.values.Constraint.TheVariants.{Free, Whole, Truth, Literal, Ticks}
-use Rattle.profile_machine.specs.declared.expressions.Expression.TheVariants.{Known, Variable, Thing, Unary, Binary, Count, Clock, Span, SameTicks, CurrentTask, ExecutionTime, Priority, Deadline, TimeOfEvent, TimeRemaining, BudgetHasExpired, BudgetRemaining, PortValue}
-use Rattle.profile_machine.specs.declared.expressions.ObjectName.TheVariants.{Declared, OwnComponent, Component}
-use Rattle.profile_machine.specs.declared.expressions.UnaryOperator.TheVariants as unary
-use Rattle.profile_machine.specs.declared.expressions.BinaryOperator.TheVariants as binary
+use Rattle.profile_machine.specs.declared.values.Value.TheVariants.{Whole, Ticks}
+use Rattle.profile_machine.specs.declared.values.Constraint.TheVariants.{Free, Whole, Ticks}
+use Rattle.profile_machine.specs.declared.expressions.Expression.TheVariants.{Known}
+use Rattle.profile_machine.specs.declared.expressions.ObjectName.TheVariants.{Declared}
 use Rattle.profile_machine.specs.declared.declarations.DeclarationKind.TheVariants as kind
 use Rattle.profile_machine.specs.declared.declarations.Initial.TheVariants as initial
 use Rattle.profile_machine.specs.declared.declarations.EntryUnit.TheVariants as unit
-use Rattle.profile_machine.specs.declared.declarations.ExceptionChoice.TheVariants as exception_choice
 use Rattle.profile_machine.specs.declared.statements.StatementForm.TheVariants as form
-use Rattle.profile_machine.specs.declared.statements.Choice.TheVariants as choice
-use Rattle.profile_machine.specs.declared.statements.Actual.TheVariants as actual
 use Rattle.profile_machine.specs.declared.statements.Callee.TheVariants as callee
 use Rattle.profile_machine.specs.declared.statements.Destination.TheVariants as destination
 use Rattle.profile_machine.specs.declared.statements.EntryOwner.TheVariants as owner
-use Rattle.profile_machine.specs.declared.statements.SelectKind.TheVariants as select
-use Rattle.profile_machine.specs.declared.statements.Piece.TheVariants as piece
-use Rattle.profile_machine.specs.declared.statements.Setting.TheVariants as setting
-use Rattle.profile_machine.specs.Rows.Notation.{decl, expr, stmt, scope, subprogram, task_unit, protected_unit, entry, controlled_type, enumeration, task, call, p, region, t, agent, of_task, of_object, declaration, variable, statement, alternative, select_alternative, handler, handler_name, cell_run, scope_text, formal, subprogram_text, task_unit_text, attachment, protected_unit_text, entry_body, entry_text, controlled_text, enumeration_text, dispatching_range, policies, main_procedure}
+use Rattle.profile_machine.specs.Rows.Notation.{decl, expr, stmt, scope, subprogram, task_unit, protected_unit, entry, task, call, p, region, t, of_task, declaration, variable, statement, scope_text, subprogram_text, task_unit_text, protected_unit_text, entry_text, policies, main_procedure}
 use Rattle.profile_machine.specs.Run.{run_of}
 use Rattle.std.specs.Fmt.{digits}
 use Rattle.std.specs.Prelude.{Bool}
@@ -43,73 +32,74 @@ use Rattle.profile_machine.specs.Releases.{releases_ok}
 -- Row protected.readers: its run stops before tick 52, so every greater bound gives the same trace.
 abbrev pub row_protected_readers_program : Image
 row_protected_readers_program =
-  record {
-    declarations =
-      declaration (codes "p") (codes "main.p") (kind.Protected (protected_unit 0)) (scope 1) 0 16 Free None
-      ∷ declaration (codes "h") (codes "main.h") (kind.Task (task_unit 0)) (scope 1) 16 1 Free None
-      ∷ declaration (codes "a") (codes "main.a") (kind.Task (task_unit 1)) (scope 1) 17 1 Free None
-      ∷ declaration (codes "c") (codes "main.c") (kind.Task (task_unit 2)) (scope 1) 18 1 Free None
-      ∷ declaration (codes "n") (codes "main.h.n") (kind.Object initial.Default) (scope 4) 0 1 (Whole (negsuc 2147483647) (pos 2147483647)) None
-      ∷ declaration (codes "n") (codes "main.a.n") (kind.Object initial.Default) (scope 5) 0 1 (Whole (negsuc 2147483647) (pos 2147483647)) None
-      ∷ [];
-    expressions =
-      Known (Whole (pos 1))
-      ∷ Known (Ticks (pos 10))
-      ∷ [];
-    statements =
-      statement (form.CallMain) 0 None
-      ∷ statement (form.ReturnValue (subprogram 0) (expr 0)) 0 None
-      ∷ statement (form.Null) 0 (Some (stmt 1))
-      ∷ statement (form.Null) 0 (Some (stmt 2))
-      ∷ statement (form.Null) 0 None
-      ∷ statement (form.Call (callee.Operation (decl 0) (subprogram 0)) [] (destination.Variable (variable (Declared (decl 4)) None))) 0 None
-      ∷ statement (form.EndActivation) 0 (Some (stmt 5))
-      ∷ statement (form.Declare (decl 4)) 0 (Some (stmt 6))
-      ∷ statement (form.Call (callee.Operation (decl 0) (subprogram 1)) [] destination.Nowhere) 0 None
-      ∷ statement (form.Call (callee.Operation (decl 0) (subprogram 0)) [] (destination.Variable (variable (Declared (decl 5)) None))) 0 (Some (stmt 8))
-      ∷ statement (form.Accept (entry 0) (scope 6)) 0 (Some (stmt 9))
-      ∷ statement (form.EndActivation) 0 (Some (stmt 10))
-      ∷ statement (form.Declare (decl 5)) 0 (Some (stmt 11))
-      ∷ statement (form.EntryCall (entry 0) (owner.Object (decl 2)) []) 0 None
-      ∷ statement (form.Delay (expr 1)) 0 (Some (stmt 13))
-      ∷ statement (form.EndActivation) 0 (Some (stmt 14))
-      ∷ statement (form.Null) 0 None
-      ∷ statement (form.Activate 0) 0 (Some (stmt 16))
-      ∷ statement (form.CreateTask (decl 3) 0) 0 (Some (stmt 17))
-      ∷ statement (form.CreateTask (decl 2) 0) 0 (Some (stmt 18))
-      ∷ statement (form.CreateTask (decl 1) 0) 0 (Some (stmt 19))
-      ∷ statement (form.Declare (decl 0)) 0 (Some (stmt 20))
-      ∷ [];
-    scopes =
-      scope_text None 0 [] false (Some (stmt 0))
-      ∷ scope_text (Some (scope 0)) 19 [] true (Some (stmt 21))
-      ∷ scope_text (Some (scope 1)) 1 [] false (Some (stmt 3))
-      ∷ scope_text (Some (scope 1)) 0 [] false (Some (stmt 4))
-      ∷ scope_text (Some (scope 1)) 1 [] false (Some (stmt 7))
-      ∷ scope_text (Some (scope 1)) 1 [] false (Some (stmt 12))
-      ∷ scope_text (Some (scope 5)) 0 [] false None
-      ∷ scope_text (Some (scope 1)) 0 [] false (Some (stmt 15))
-      ∷ [];
-    subprograms =
-      subprogram_text (codes "f") (scope 2) [] (Some (Whole (negsuc 2147483647) (pos 2147483647))) (Some (protected_unit 0))
-      ∷ subprogram_text (codes "go") (scope 3) [] None (Some (protected_unit 0))
-      ∷ [];
-    task_units =
-      task_unit_text (scope 4) (Some 10) None []
-      ∷ task_unit_text (scope 5) (Some 10) None ((entry 0) ∷ [])
-      ∷ task_unit_text (scope 7) (Some 20) None []
-      ∷ [];
-    protected_units =
-      protected_unit_text 10 [] [] []
-      ∷ [];
-    entries =
-      entry_text (codes "e") (unit.Task (task_unit 1)) 0 [] None
-      ∷ [];
-    controlled_types = [];
-    enumerations = [];
-    policies = (policies [] queuing.Fifo None 30);
-    environment = (scope 0);
-    main = (main_procedure (codes "main") 15 (scope 1)) }
+    record {
+      declarations =
+          declaration (codes "p") (codes "main.p") (kind.Protected (protected_unit 0)) (scope 1) 0 16 Free None
+          ∷ declaration (codes "h") (codes "main.h") (kind.Task (task_unit 0)) (scope 1) 16 1 Free None
+          ∷ declaration (codes "a") (codes "main.a") (kind.Task (task_unit 1)) (scope 1) 17 1 Free None
+          ∷ declaration (codes "c") (codes "main.c") (kind.Task (task_unit 2)) (scope 1) 18 1 Free None
+          ∷ declaration (codes "n") (codes "main.h.n") (kind.Object initial.Default) (scope 4) 0 1 (Whole (negsuc 2147483647) (pos 2147483647)) None
+          ∷ declaration (codes "n") (codes "main.a.n") (kind.Object initial.Default) (scope 5) 0 1 (Whole (negsuc 2147483647) (pos 2147483647)) None
+          ∷ [];
+      expressions =
+          Known (Whole (pos 1))
+          ∷ Known (Ticks (pos 10))
+          ∷ [];
+      statements =
+          statement (form.CallMain) 0 None
+          ∷ statement (form.ReturnValue (subprogram 0) (expr 0)) 0 None
+          ∷ statement (form.Null) 0 (Some (stmt 1))
+          ∷ statement (form.Null) 0 (Some (stmt 2))
+          ∷ statement (form.Null) 0 None
+          ∷ statement (form.Call (callee.Operation (decl 0) (subprogram 0)) [] (destination.Variable (variable (Declared (decl 4)) None))) 0 None
+          ∷ statement (form.EndActivation) 0 (Some (stmt 5))
+          ∷ statement (form.Declare (decl 4)) 0 (Some (stmt 6))
+          ∷ statement (form.Call (callee.Operation (decl 0) (subprogram 1)) [] destination.Nowhere) 0 None
+          ∷ statement (form.Call (callee.Operation (decl 0) (subprogram 0)) [] (destination.Variable (variable (Declared (decl 5)) None))) 0 (Some (stmt 8))
+          ∷ statement (form.Accept (entry 0) (scope 6)) 0 (Some (stmt 9))
+          ∷ statement (form.EndActivation) 0 (Some (stmt 10))
+          ∷ statement (form.Declare (decl 5)) 0 (Some (stmt 11))
+          ∷ statement (form.EntryCall (entry 0) (owner.Object (decl 2)) []) 0 None
+          ∷ statement (form.Delay (expr 1)) 0 (Some (stmt 13))
+          ∷ statement (form.EndActivation) 0 (Some (stmt 14))
+          ∷ statement (form.Null) 0 None
+          ∷ statement (form.Activate 0) 0 (Some (stmt 16))
+          ∷ statement (form.CreateTask (decl 3) 0) 0 (Some (stmt 17))
+          ∷ statement (form.CreateTask (decl 2) 0) 0 (Some (stmt 18))
+          ∷ statement (form.CreateTask (decl 1) 0) 0 (Some (stmt 19))
+          ∷ statement (form.Declare (decl 0)) 0 (Some (stmt 20))
+          ∷ [];
+      scopes =
+          scope_text None 0 [] false (Some (stmt 0))
+          ∷ scope_text (Some (scope 0)) 19 [] true (Some (stmt 21))
+          ∷ scope_text (Some (scope 1)) 1 [] false (Some (stmt 3))
+          ∷ scope_text (Some (scope 1)) 0 [] false (Some (stmt 4))
+          ∷ scope_text (Some (scope 1)) 1 [] false (Some (stmt 7))
+          ∷ scope_text (Some (scope 1)) 1 [] false (Some (stmt 12))
+          ∷ scope_text (Some (scope 5)) 0 [] false None
+          ∷ scope_text (Some (scope 1)) 0 [] false (Some (stmt 15))
+          ∷ [];
+      subprograms =
+          subprogram_text (codes "f") (scope 2) [] (Some (Whole (negsuc 2147483647) (pos 2147483647))) (Some (protected_unit 0))
+          ∷ subprogram_text (codes "go") (scope 3) [] None (Some (protected_unit 0))
+          ∷ [];
+      task_units =
+          task_unit_text (scope 4) (Some 10) None []
+          ∷ task_unit_text (scope 5) (Some 10) None ((entry 0) ∷ [])
+          ∷ task_unit_text (scope 7) (Some 20) None []
+          ∷ [];
+      protected_units =
+          protected_unit_text 10 [] [] []
+          ∷ [];
+      entries =
+          entry_text (codes "e") (unit.Task (task_unit 1)) 0 [] None
+          ∷ [];
+      controlled_types = [];
+      enumerations = [];
+      policies = (policies [] queuing.Fifo None 30);
+      environment = (scope 0);
+      main = (main_procedure (codes "main") 15 (scope 1));
+    }
 
 abbrev pub row_protected_readers_script : List (ℤ × Item)
 row_protected_readers_script = []

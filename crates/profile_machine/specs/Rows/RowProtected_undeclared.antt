@@ -4,36 +4,21 @@ use Rattle.trace_text.specs.declared.events.Event.{Event}
 use Rattle.trace_text.specs.declared.events.Event.TheVariants as line
 use Rattle.trace_text.specs.declared.events.Created.TheVariants as created
 use Rattle.trace_text.specs.declared.events.Ended.TheVariants as end
-use Rattle.trace_text.specs.declared.events.Finished.TheVariants as finished
-use Rattle.trace_text.specs.declared.events.Leaves.TheVariants as leaves
-use Rattle.trace_text.specs.declared.events.Mode.TheVariants.{Read, Write}
+use Rattle.trace_text.specs.declared.events.Mode.TheVariants.{Write}
 use Rattle.trace_text.specs.declared.events.QueueEnd.TheVariants.{Head, Tail}
-use Rattle.trace_text.specs.declared.events.Waits.TheVariants as waits
 use Rattle.profile_machine.specs.declared.run_data.Item.{Item}
-use Rattle.profile_machine.specs.declared.run_data.Item.TheVariants as item
 use Rattle.profile_machine.specs.declared.image.Image.{Image}
-use Rattle.profile_machine.specs.declared.image.Dispatching.TheVariants.{FifoWithinPriorities, RoundRobinWithinPriorities, EdfAcrossPriorities}
 use Rattle.profile_machine.specs.declared.image.Queuing.TheVariants as queuing
-use Rattle.profile_machine.specs.declared.values.Value.TheVariants.{Whole, Truth, Literal, Ticks, Task, Thing}
-use Rattle.profile_machine.specs.declared.values.Constraint.TheVariants.{Free, Whole, Truth, Literal, Ticks}
-use Rattle.profile_machine.specs.declared.expressions.Expression.TheVariants.{Known, Variable, Thing, Unary, Binary, Count, Clock, Span, SameTicks, CurrentTask, ExecutionTime, Priority, Deadline, TimeOfEvent, TimeRemaining, BudgetHasExpired, BudgetRemaining, PortValue}
-use Rattle.profile_machine.specs.declared.expressions.ObjectName.TheVariants.{Declared, OwnComponent, Component}
-use Rattle.profile_machine.specs.declared.expressions.UnaryOperator.TheVariants as unary
-use Rattle.profile_machine.specs.declared.expressions.BinaryOperator.TheVariants as binary
+use Rattle.profile_machine.specs.declared.values.Value.TheVariants.{Whole, Ticks}
+use Rattle.profile_machine.specs.declared.values.Constraint.TheVariants.{Free, Whole, Ticks}
+use Rattle.profile_machine.specs.declared.expressions.Expression.TheVariants.{Known}
 use Rattle.profile_machine.specs.declared.declarations.DeclarationKind.TheVariants as kind
 use Rattle.profile_machine.specs.declared.declarations.Initial.TheVariants as initial
-use Rattle.profile_machine.specs.declared.declarations.EntryUnit.TheVariants as unit
 use Rattle.profile_machine.specs.declared.declarations.ExceptionChoice.TheVariants as exception_choice
 use Rattle.profile_machine.specs.declared.statements.StatementForm.TheVariants as form
-use Rattle.profile_machine.specs.declared.statements.Choice.TheVariants as choice
-use Rattle.profile_machine.specs.declared.statements.Actual.TheVariants as actual
 use Rattle.profile_machine.specs.declared.statements.Callee.TheVariants as callee
 use Rattle.profile_machine.specs.declared.statements.Destination.TheVariants as destination
-use Rattle.profile_machine.specs.declared.statements.EntryOwner.TheVariants as owner
-use Rattle.profile_machine.specs.declared.statements.SelectKind.TheVariants as select
-use Rattle.profile_machine.specs.declared.statements.Piece.TheVariants as piece
-use Rattle.profile_machine.specs.declared.statements.Setting.TheVariants as setting
-use Rattle.profile_machine.specs.Rows.Notation.{decl, expr, stmt, scope, subprogram, task_unit, protected_unit, entry, controlled_type, enumeration, task, call, p, region, t, agent, of_task, of_object, declaration, variable, statement, alternative, select_alternative, handler, handler_name, cell_run, scope_text, formal, subprogram_text, task_unit_text, attachment, protected_unit_text, entry_body, entry_text, controlled_text, enumeration_text, dispatching_range, policies, main_procedure}
+use Rattle.profile_machine.specs.Rows.Notation.{decl, expr, stmt, scope, subprogram, protected_unit, task, p, t, declaration, statement, handler, scope_text, subprogram_text, protected_unit_text, policies, main_procedure}
 use Rattle.profile_machine.specs.Run.{run_of}
 use Rattle.std.specs.Fmt.{digits}
 use Rattle.std.specs.Prelude.{Bool}
@@ -43,49 +28,50 @@ use Rattle.profile_machine.specs.Releases.{releases_ok}
 -- Row protected.undeclared: its run stops before tick 21, so every greater bound gives the same trace.
 abbrev pub row_protected_undeclared_program : Image
 row_protected_undeclared_program =
-  record {
-    declarations =
-      declaration (codes "x") (codes "main.x") (kind.Object initial.Default) (scope 1) 0 1 (Whole (negsuc 2147483647) (pos 2147483647)) None
-      ∷ declaration (codes "p") (codes "main.p") (kind.Protected (protected_unit 0)) (scope 1) 1 16 Free None
-      ∷ [];
-    expressions =
-      Known (Ticks (pos 0))
-      ∷ Known (Whole (pos 1))
-      ∷ Known (Whole (pos 2))
-      ∷ [];
-    statements =
-      statement (form.CallMain) 0 None
-      ∷ statement (form.Delay (expr 0)) 0 None
-      ∷ statement (form.Handled (handler (exception_choice.Named exception.Program ∷ []) (stmt 5) ∷ []) (stmt 4)) 0 None
-      ∷ statement (form.ReturnValue (subprogram 0) (expr 1)) 0 None
-      ∷ statement (form.Call (callee.Operation (decl 1) (subprogram 1)) [] destination.Nowhere) 0 (Some (stmt 3))
-      ∷ statement (form.ReturnValue (subprogram 0) (expr 2)) 0 None
-      ∷ statement (form.Handled (handler (exception_choice.Named exception.Program ∷ []) (stmt 8) ∷ []) (stmt 7)) 0 None
-      ∷ statement (form.Call (callee.Operation (decl 1) (subprogram 1)) [] destination.Nowhere) 0 None
-      ∷ statement (form.Null) 0 None
-      ∷ statement (form.Declare (decl 1)) 0 (Some (stmt 6))
-      ∷ statement (form.Call (callee.Subprogram (subprogram 0)) [] (destination.Declaration (decl 0))) 0 (Some (stmt 9))
-      ∷ [];
-    scopes =
-      scope_text None 0 [] false (Some (stmt 0))
-      ∷ scope_text (Some (scope 0)) 17 [] false (Some (stmt 10))
-      ∷ scope_text (Some (scope 1)) 0 [] false (Some (stmt 1))
-      ∷ scope_text (Some (scope 1)) 1 [] false (Some (stmt 2))
-      ∷ [];
-    subprograms =
-      subprogram_text (codes "f") (scope 3) [] (Some (Whole (negsuc 2147483647) (pos 2147483647))) None
-      ∷ subprogram_text (codes "go") (scope 2) [] None (Some (protected_unit 0))
-      ∷ [];
-    task_units = [];
-    protected_units =
-      protected_unit_text 30 [] [] []
-      ∷ [];
-    entries = [];
-    controlled_types = [];
-    enumerations = [];
-    policies = (policies [] queuing.Fifo None 30);
-    environment = (scope 0);
-    main = (main_procedure (codes "main") 15 (scope 1)) }
+    record {
+      declarations =
+          declaration (codes "x") (codes "main.x") (kind.Object initial.Default) (scope 1) 0 1 (Whole (negsuc 2147483647) (pos 2147483647)) None
+          ∷ declaration (codes "p") (codes "main.p") (kind.Protected (protected_unit 0)) (scope 1) 1 16 Free None
+          ∷ [];
+      expressions =
+          Known (Ticks (pos 0))
+          ∷ Known (Whole (pos 1))
+          ∷ Known (Whole (pos 2))
+          ∷ [];
+      statements =
+          statement (form.CallMain) 0 None
+          ∷ statement (form.Delay (expr 0)) 0 None
+          ∷ statement (form.Handled (handler (exception_choice.Named exception.Program ∷ []) (stmt 5) ∷ []) (stmt 4)) 0 None
+          ∷ statement (form.ReturnValue (subprogram 0) (expr 1)) 0 None
+          ∷ statement (form.Call (callee.Operation (decl 1) (subprogram 1)) [] destination.Nowhere) 0 (Some (stmt 3))
+          ∷ statement (form.ReturnValue (subprogram 0) (expr 2)) 0 None
+          ∷ statement (form.Handled (handler (exception_choice.Named exception.Program ∷ []) (stmt 8) ∷ []) (stmt 7)) 0 None
+          ∷ statement (form.Call (callee.Operation (decl 1) (subprogram 1)) [] destination.Nowhere) 0 None
+          ∷ statement (form.Null) 0 None
+          ∷ statement (form.Declare (decl 1)) 0 (Some (stmt 6))
+          ∷ statement (form.Call (callee.Subprogram (subprogram 0)) [] (destination.Declaration (decl 0))) 0 (Some (stmt 9))
+          ∷ [];
+      scopes =
+          scope_text None 0 [] false (Some (stmt 0))
+          ∷ scope_text (Some (scope 0)) 17 [] false (Some (stmt 10))
+          ∷ scope_text (Some (scope 1)) 0 [] false (Some (stmt 1))
+          ∷ scope_text (Some (scope 1)) 1 [] false (Some (stmt 2))
+          ∷ [];
+      subprograms =
+          subprogram_text (codes "f") (scope 3) [] (Some (Whole (negsuc 2147483647) (pos 2147483647))) None
+          ∷ subprogram_text (codes "go") (scope 2) [] None (Some (protected_unit 0))
+          ∷ [];
+      task_units = [];
+      protected_units =
+          protected_unit_text 30 [] [] []
+          ∷ [];
+      entries = [];
+      controlled_types = [];
+      enumerations = [];
+      policies = (policies [] queuing.Fifo None 30);
+      environment = (scope 0);
+      main = (main_procedure (codes "main") 15 (scope 1));
+    }
 
 abbrev pub row_protected_undeclared_script : List (ℤ × Item)
 row_protected_undeclared_script = []

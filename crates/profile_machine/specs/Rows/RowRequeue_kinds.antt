@@ -1,39 +1,23 @@
-use Rattle.std.specs.Prelude.{◌≡◌, ℕ, ℤ, pos, negsuc, List, [], ◌∷◌, Some, None, true, false, codes, refl}
-use Rattle.ann_base.specs.declared.exceptions.Raised.TheVariants as exception
+use Rattle.std.specs.Prelude.{◌≡◌, ℕ, ℤ, pos, List, [], ◌∷◌, Some, None, true, false, codes, refl}
 use Rattle.trace_text.specs.declared.events.Event.{Event}
 use Rattle.trace_text.specs.declared.events.Event.TheVariants as line
 use Rattle.trace_text.specs.declared.events.Created.TheVariants as created
 use Rattle.trace_text.specs.declared.events.Ended.TheVariants as end
 use Rattle.trace_text.specs.declared.events.Finished.TheVariants as finished
 use Rattle.trace_text.specs.declared.events.Leaves.TheVariants as leaves
-use Rattle.trace_text.specs.declared.events.Mode.TheVariants.{Read, Write}
-use Rattle.trace_text.specs.declared.events.QueueEnd.TheVariants.{Head, Tail}
+use Rattle.trace_text.specs.declared.events.QueueEnd.TheVariants.{Tail}
 use Rattle.trace_text.specs.declared.events.Waits.TheVariants as waits
 use Rattle.profile_machine.specs.declared.run_data.Item.{Item}
-use Rattle.profile_machine.specs.declared.run_data.Item.TheVariants as item
 use Rattle.profile_machine.specs.declared.image.Image.{Image}
-use Rattle.profile_machine.specs.declared.image.Dispatching.TheVariants.{FifoWithinPriorities, RoundRobinWithinPriorities, EdfAcrossPriorities}
 use Rattle.profile_machine.specs.declared.image.Queuing.TheVariants as queuing
-use Rattle.profile_machine.specs.declared.values.Value.TheVariants.{Whole, Truth, Literal, Ticks, Task, Thing}
-use Rattle.profile_machine.specs.declared.values.Constraint.TheVariants.{Free, Whole, Truth, Literal, Ticks}
-use Rattle.profile_machine.specs.declared.expressions.Expression.TheVariants.{Known, Variable, Thing, Unary, Binary, Count, Clock, Span, SameTicks, CurrentTask, ExecutionTime, Priority, Deadline, TimeOfEvent, TimeRemaining, BudgetHasExpired, BudgetRemaining, PortValue}
-use Rattle.profile_machine.specs.declared.expressions.ObjectName.TheVariants.{Declared, OwnComponent, Component}
-use Rattle.profile_machine.specs.declared.expressions.UnaryOperator.TheVariants as unary
-use Rattle.profile_machine.specs.declared.expressions.BinaryOperator.TheVariants as binary
+use Rattle.profile_machine.specs.declared.values.Value.TheVariants.{Whole, Ticks}
+use Rattle.profile_machine.specs.declared.values.Constraint.TheVariants.{Free, Whole, Ticks}
+use Rattle.profile_machine.specs.declared.expressions.Expression.TheVariants.{Known}
 use Rattle.profile_machine.specs.declared.declarations.DeclarationKind.TheVariants as kind
-use Rattle.profile_machine.specs.declared.declarations.Initial.TheVariants as initial
 use Rattle.profile_machine.specs.declared.declarations.EntryUnit.TheVariants as unit
-use Rattle.profile_machine.specs.declared.declarations.ExceptionChoice.TheVariants as exception_choice
 use Rattle.profile_machine.specs.declared.statements.StatementForm.TheVariants as form
-use Rattle.profile_machine.specs.declared.statements.Choice.TheVariants as choice
-use Rattle.profile_machine.specs.declared.statements.Actual.TheVariants as actual
-use Rattle.profile_machine.specs.declared.statements.Callee.TheVariants as callee
-use Rattle.profile_machine.specs.declared.statements.Destination.TheVariants as destination
 use Rattle.profile_machine.specs.declared.statements.EntryOwner.TheVariants as owner
-use Rattle.profile_machine.specs.declared.statements.SelectKind.TheVariants as select
-use Rattle.profile_machine.specs.declared.statements.Piece.TheVariants as piece
-use Rattle.profile_machine.specs.declared.statements.Setting.TheVariants as setting
-use Rattle.profile_machine.specs.Rows.Notation.{decl, expr, stmt, scope, subprogram, task_unit, protected_unit, entry, controlled_type, enumeration, task, call, p, region, t, agent, of_task, of_object, declaration, variable, statement, alternative, select_alternative, handler, handler_name, cell_run, scope_text, formal, subprogram_text, task_unit_text, attachment, protected_unit_text, entry_body, entry_text, controlled_text, enumeration_text, dispatching_range, policies, main_procedure}
+use Rattle.profile_machine.specs.Rows.Notation.{decl, expr, stmt, scope, task_unit, entry, task, call, region, t, of_task, declaration, statement, scope_text, task_unit_text, entry_text, policies, main_procedure}
 use Rattle.profile_machine.specs.Run.{run_of}
 use Rattle.std.specs.Fmt.{digits}
 use Rattle.std.specs.Prelude.{Bool}
@@ -43,57 +27,58 @@ use Rattle.profile_machine.specs.Releases.{releases_ok}
 -- Row requeue.kinds: its run stops before tick 45, so every greater bound gives the same trace.
 abbrev pub row_requeue_kinds_program : Image
 row_requeue_kinds_program =
-  record {
-    declarations =
-      declaration (codes "t") (codes "main.t") (kind.Task (task_unit 0)) (scope 1) 0 1 Free None
-      ∷ declaration (codes "i") (codes "main.t.i") kind.Parameter (scope 2) 0 2 Free None
-      ∷ [];
-    expressions =
-      Known (Whole (pos 1))
-      ∷ Known (Whole (pos 3))
-      ∷ Known (Ticks (pos 1))
-      ∷ [];
-    statements =
-      statement (form.CallMain) 0 None
-      ∷ statement (form.Accept (entry 1) (scope 4)) 0 None
-      ∷ statement (form.For (decl 1) false (expr 0) (expr 1) (stmt 3) None) 0 (Some (stmt 1))
-      ∷ statement (form.FirstTurn (decl 1) false (stmt 5)) 0 (Some (stmt 1))
-      ∷ statement (form.LaterTurn (decl 1) false (stmt 5)) 0 (Some (stmt 1))
-      ∷ statement (form.Accept (entry 0) (scope 3)) 0 (Some (stmt 4))
-      ∷ statement (form.Requeue (entry 1) owner.Own true) 0 None
-      ∷ statement (form.Null) 0 (Some (stmt 6))
-      ∷ statement (form.EndActivation) 0 (Some (stmt 2))
-      ∷ statement (form.EntryCall (entry 0) (owner.Object (decl 0)) []) 0 None
-      ∷ statement (form.EntryCall (entry 0) (owner.Object (decl 0)) []) 0 (Some (stmt 9))
-      ∷ statement (form.Delay (expr 2)) 0 (Some (stmt 9))
-      ∷ statement (form.TimedCall (stmt 10) (stmt 11)) 0 (Some (stmt 9))
-      ∷ statement (form.EntryCall (entry 0) (owner.Object (decl 0)) []) 0 (Some (stmt 12))
-      ∷ statement (form.Null) 0 (Some (stmt 12))
-      ∷ statement (form.ConditionalCall (stmt 13) (stmt 14)) 0 (Some (stmt 12))
-      ∷ statement (form.Activate 0) 0 (Some (stmt 15))
-      ∷ statement (form.CreateTask (decl 0) 0) 0 (Some (stmt 16))
-      ∷ [];
-    scopes =
-      scope_text None 0 [] false (Some (stmt 0))
-      ∷ scope_text (Some (scope 0)) 1 [] true (Some (stmt 17))
-      ∷ scope_text (Some (scope 1)) 2 [] false (Some (stmt 8))
-      ∷ scope_text (Some (scope 2)) 0 [] false (Some (stmt 7))
-      ∷ scope_text (Some (scope 2)) 0 [] false None
-      ∷ [];
-    subprograms = [];
-    task_units =
-      task_unit_text (scope 2) (Some 20) None ((entry 0) ∷ (entry 1) ∷ [])
-      ∷ [];
-    protected_units = [];
-    entries =
-      entry_text (codes "e") (unit.Task (task_unit 0)) 0 [] None
-      ∷ entry_text (codes "f") (unit.Task (task_unit 0)) 1 [] None
-      ∷ [];
-    controlled_types = [];
-    enumerations = [];
-    policies = (policies [] queuing.Fifo None 30);
-    environment = (scope 0);
-    main = (main_procedure (codes "main") 15 (scope 1)) }
+    record {
+      declarations =
+          declaration (codes "t") (codes "main.t") (kind.Task (task_unit 0)) (scope 1) 0 1 Free None
+          ∷ declaration (codes "i") (codes "main.t.i") kind.Parameter (scope 2) 0 2 Free None
+          ∷ [];
+      expressions =
+          Known (Whole (pos 1))
+          ∷ Known (Whole (pos 3))
+          ∷ Known (Ticks (pos 1))
+          ∷ [];
+      statements =
+          statement (form.CallMain) 0 None
+          ∷ statement (form.Accept (entry 1) (scope 4)) 0 None
+          ∷ statement (form.For (decl 1) false (expr 0) (expr 1) (stmt 3) None) 0 (Some (stmt 1))
+          ∷ statement (form.FirstTurn (decl 1) false (stmt 5)) 0 (Some (stmt 1))
+          ∷ statement (form.LaterTurn (decl 1) false (stmt 5)) 0 (Some (stmt 1))
+          ∷ statement (form.Accept (entry 0) (scope 3)) 0 (Some (stmt 4))
+          ∷ statement (form.Requeue (entry 1) owner.Own true) 0 None
+          ∷ statement (form.Null) 0 (Some (stmt 6))
+          ∷ statement (form.EndActivation) 0 (Some (stmt 2))
+          ∷ statement (form.EntryCall (entry 0) (owner.Object (decl 0)) []) 0 None
+          ∷ statement (form.EntryCall (entry 0) (owner.Object (decl 0)) []) 0 (Some (stmt 9))
+          ∷ statement (form.Delay (expr 2)) 0 (Some (stmt 9))
+          ∷ statement (form.TimedCall (stmt 10) (stmt 11)) 0 (Some (stmt 9))
+          ∷ statement (form.EntryCall (entry 0) (owner.Object (decl 0)) []) 0 (Some (stmt 12))
+          ∷ statement (form.Null) 0 (Some (stmt 12))
+          ∷ statement (form.ConditionalCall (stmt 13) (stmt 14)) 0 (Some (stmt 12))
+          ∷ statement (form.Activate 0) 0 (Some (stmt 15))
+          ∷ statement (form.CreateTask (decl 0) 0) 0 (Some (stmt 16))
+          ∷ [];
+      scopes =
+          scope_text None 0 [] false (Some (stmt 0))
+          ∷ scope_text (Some (scope 0)) 1 [] true (Some (stmt 17))
+          ∷ scope_text (Some (scope 1)) 2 [] false (Some (stmt 8))
+          ∷ scope_text (Some (scope 2)) 0 [] false (Some (stmt 7))
+          ∷ scope_text (Some (scope 2)) 0 [] false None
+          ∷ [];
+      subprograms = [];
+      task_units =
+          task_unit_text (scope 2) (Some 20) None ((entry 0) ∷ (entry 1) ∷ [])
+          ∷ [];
+      protected_units = [];
+      entries =
+          entry_text (codes "e") (unit.Task (task_unit 0)) 0 [] None
+          ∷ entry_text (codes "f") (unit.Task (task_unit 0)) 1 [] None
+          ∷ [];
+      controlled_types = [];
+      enumerations = [];
+      policies = (policies [] queuing.Fifo None 30);
+      environment = (scope 0);
+      main = (main_procedure (codes "main") 15 (scope 1));
+    }
 
 abbrev pub row_requeue_kinds_script : List (ℤ × Item)
 row_requeue_kinds_script = []

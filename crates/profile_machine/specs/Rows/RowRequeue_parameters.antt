@@ -1,39 +1,26 @@
 use Rattle.std.specs.Prelude.{◌≡◌, ℕ, ℤ, pos, negsuc, List, [], ◌∷◌, Some, None, true, false, codes, refl}
-use Rattle.ann_base.specs.declared.exceptions.Raised.TheVariants as exception
 use Rattle.trace_text.specs.declared.events.Event.{Event}
 use Rattle.trace_text.specs.declared.events.Event.TheVariants as line
 use Rattle.trace_text.specs.declared.events.Created.TheVariants as created
 use Rattle.trace_text.specs.declared.events.Ended.TheVariants as end
 use Rattle.trace_text.specs.declared.events.Finished.TheVariants as finished
-use Rattle.trace_text.specs.declared.events.Leaves.TheVariants as leaves
-use Rattle.trace_text.specs.declared.events.Mode.TheVariants.{Read, Write}
+use Rattle.trace_text.specs.declared.events.Mode.TheVariants.{Write}
 use Rattle.trace_text.specs.declared.events.QueueEnd.TheVariants.{Head, Tail}
-use Rattle.trace_text.specs.declared.events.Waits.TheVariants as waits
 use Rattle.profile_machine.specs.declared.run_data.Item.{Item}
-use Rattle.profile_machine.specs.declared.run_data.Item.TheVariants as item
 use Rattle.profile_machine.specs.declared.image.Image.{Image}
-use Rattle.profile_machine.specs.declared.image.Dispatching.TheVariants.{FifoWithinPriorities, RoundRobinWithinPriorities, EdfAcrossPriorities}
 use Rattle.profile_machine.specs.declared.image.Queuing.TheVariants as queuing
-use Rattle.profile_machine.specs.declared.values.Value.TheVariants.{Whole, Truth, Literal, Ticks, Task, Thing}
-use Rattle.profile_machine.specs.declared.values.Constraint.TheVariants.{Free, Whole, Truth, Literal, Ticks}
-use Rattle.profile_machine.specs.declared.expressions.Expression.TheVariants.{Known, Variable, Thing, Unary, Binary, Count, Clock, Span, SameTicks, CurrentTask, ExecutionTime, Priority, Deadline, TimeOfEvent, TimeRemaining, BudgetHasExpired, BudgetRemaining, PortValue}
-use Rattle.profile_machine.specs.declared.expressions.ObjectName.TheVariants.{Declared, OwnComponent, Component}
-use Rattle.profile_machine.specs.declared.expressions.UnaryOperator.TheVariants as unary
-use Rattle.profile_machine.specs.declared.expressions.BinaryOperator.TheVariants as binary
+use Rattle.profile_machine.specs.declared.values.Value.TheVariants.{Whole, Truth}
+use Rattle.profile_machine.specs.declared.values.Constraint.TheVariants.{Free, Whole, Truth}
+use Rattle.profile_machine.specs.declared.expressions.Expression.TheVariants.{Known, Variable}
+use Rattle.profile_machine.specs.declared.expressions.ObjectName.TheVariants.{Declared}
 use Rattle.profile_machine.specs.declared.declarations.DeclarationKind.TheVariants as kind
 use Rattle.profile_machine.specs.declared.declarations.Initial.TheVariants as initial
 use Rattle.profile_machine.specs.declared.declarations.EntryUnit.TheVariants as unit
-use Rattle.profile_machine.specs.declared.declarations.ExceptionChoice.TheVariants as exception_choice
 use Rattle.profile_machine.specs.declared.statements.StatementForm.TheVariants as form
-use Rattle.profile_machine.specs.declared.statements.Choice.TheVariants as choice
 use Rattle.profile_machine.specs.declared.statements.Actual.TheVariants as actual
-use Rattle.profile_machine.specs.declared.statements.Callee.TheVariants as callee
-use Rattle.profile_machine.specs.declared.statements.Destination.TheVariants as destination
 use Rattle.profile_machine.specs.declared.statements.EntryOwner.TheVariants as owner
-use Rattle.profile_machine.specs.declared.statements.SelectKind.TheVariants as select
 use Rattle.profile_machine.specs.declared.statements.Piece.TheVariants as piece
-use Rattle.profile_machine.specs.declared.statements.Setting.TheVariants as setting
-use Rattle.profile_machine.specs.Rows.Notation.{decl, expr, stmt, scope, subprogram, task_unit, protected_unit, entry, controlled_type, enumeration, task, call, p, region, t, agent, of_task, of_object, declaration, variable, statement, alternative, select_alternative, handler, handler_name, cell_run, scope_text, formal, subprogram_text, task_unit_text, attachment, protected_unit_text, entry_body, entry_text, controlled_text, enumeration_text, dispatching_range, policies, main_procedure}
+use Rattle.profile_machine.specs.Rows.Notation.{decl, expr, stmt, scope, protected_unit, entry, task, call, p, t, of_object, declaration, variable, statement, scope_text, formal, protected_unit_text, entry_body, entry_text, policies, main_procedure}
 use Rattle.profile_machine.specs.Run.{run_of}
 use Rattle.std.specs.Fmt.{digits}
 use Rattle.std.specs.Prelude.{Bool}
@@ -43,46 +30,47 @@ use Rattle.profile_machine.specs.Releases.{releases_ok}
 -- Row requeue.parameters: its run stops before tick 19, so every greater bound gives the same trace.
 abbrev pub row_requeue_parameters_program : Image
 row_requeue_parameters_program =
-  record {
-    declarations =
-      declaration (codes "p") (codes "main.p") (kind.Protected (protected_unit 0)) (scope 1) 0 16 Free None
-      ∷ declaration (codes "n") (codes "main.p.n") kind.Parameter (scope 2) 0 1 (Whole (negsuc 2147483647) (pos 2147483647)) None
-      ∷ declaration (codes "x") (codes "main.p.b.x") (kind.Object initial.Default) (scope 3) 0 1 (Whole (negsuc 2147483647) (pos 2147483647)) None
-      ∷ [];
-    expressions =
-      Variable (variable (Declared (decl 2)) None)
-      ∷ Known (Whole (pos 7))
-      ∷ Known (Truth true)
-      ∷ Known (Truth true)
-      ∷ [];
-    statements =
-      statement (form.CallMain) 0 None
-      ∷ statement (form.Requeue (entry 1) owner.Own false) 0 None
-      ∷ statement (form.PutLine (piece.Whole (expr 0) ∷ [])) 0 None
-      ∷ statement (form.Declare (decl 2)) 0 (Some (stmt 2))
-      ∷ statement (form.EntryCall (entry 0) (owner.Object (decl 0)) (actual.In (expr 1) ∷ [])) 0 None
-      ∷ statement (form.Declare (decl 0)) 0 (Some (stmt 4))
-      ∷ [];
-    scopes =
-      scope_text None 0 [] false (Some (stmt 0))
-      ∷ scope_text (Some (scope 0)) 16 [] false (Some (stmt 5))
-      ∷ scope_text (Some (scope 1)) 1 [] false (Some (stmt 1))
-      ∷ scope_text (Some (scope 1)) 1 [] false (Some (stmt 3))
-      ∷ [];
-    subprograms = [];
-    task_units = [];
-    protected_units =
-      protected_unit_text 30 ((entry 0) ∷ (entry 1) ∷ []) [] []
-      ∷ [];
-    entries =
-      entry_text (codes "a") (unit.Protected (protected_unit 0)) 0 (formal (Whole (negsuc 2147483647) (pos 2147483647)) (Whole (pos 0)) ∷ []) (Some (entry_body (expr 2) (scope 2)))
-      ∷ entry_text (codes "b") (unit.Protected (protected_unit 0)) 1 [] (Some (entry_body (expr 3) (scope 3)))
-      ∷ [];
-    controlled_types = [];
-    enumerations = [];
-    policies = (policies [] queuing.Fifo None 30);
-    environment = (scope 0);
-    main = (main_procedure (codes "main") 15 (scope 1)) }
+    record {
+      declarations =
+          declaration (codes "p") (codes "main.p") (kind.Protected (protected_unit 0)) (scope 1) 0 16 Free None
+          ∷ declaration (codes "n") (codes "main.p.n") kind.Parameter (scope 2) 0 1 (Whole (negsuc 2147483647) (pos 2147483647)) None
+          ∷ declaration (codes "x") (codes "main.p.b.x") (kind.Object initial.Default) (scope 3) 0 1 (Whole (negsuc 2147483647) (pos 2147483647)) None
+          ∷ [];
+      expressions =
+          Variable (variable (Declared (decl 2)) None)
+          ∷ Known (Whole (pos 7))
+          ∷ Known (Truth true)
+          ∷ Known (Truth true)
+          ∷ [];
+      statements =
+          statement (form.CallMain) 0 None
+          ∷ statement (form.Requeue (entry 1) owner.Own false) 0 None
+          ∷ statement (form.PutLine (piece.Whole (expr 0) ∷ [])) 0 None
+          ∷ statement (form.Declare (decl 2)) 0 (Some (stmt 2))
+          ∷ statement (form.EntryCall (entry 0) (owner.Object (decl 0)) (actual.In (expr 1) ∷ [])) 0 None
+          ∷ statement (form.Declare (decl 0)) 0 (Some (stmt 4))
+          ∷ [];
+      scopes =
+          scope_text None 0 [] false (Some (stmt 0))
+          ∷ scope_text (Some (scope 0)) 16 [] false (Some (stmt 5))
+          ∷ scope_text (Some (scope 1)) 1 [] false (Some (stmt 1))
+          ∷ scope_text (Some (scope 1)) 1 [] false (Some (stmt 3))
+          ∷ [];
+      subprograms = [];
+      task_units = [];
+      protected_units =
+          protected_unit_text 30 ((entry 0) ∷ (entry 1) ∷ []) [] []
+          ∷ [];
+      entries =
+          entry_text (codes "a") (unit.Protected (protected_unit 0)) 0 (formal (Whole (negsuc 2147483647) (pos 2147483647)) (Whole (pos 0)) ∷ []) (Some (entry_body (expr 2) (scope 2)))
+          ∷ entry_text (codes "b") (unit.Protected (protected_unit 0)) 1 [] (Some (entry_body (expr 3) (scope 3)))
+          ∷ [];
+      controlled_types = [];
+      enumerations = [];
+      policies = (policies [] queuing.Fifo None 30);
+      environment = (scope 0);
+      main = (main_procedure (codes "main") 15 (scope 1));
+    }
 
 abbrev pub row_requeue_parameters_script : List (ℤ × Item)
 row_requeue_parameters_script = []

@@ -4,36 +4,18 @@ use Rattle.trace_text.specs.declared.events.Event.{Event}
 use Rattle.trace_text.specs.declared.events.Event.TheVariants as line
 use Rattle.trace_text.specs.declared.events.Created.TheVariants as created
 use Rattle.trace_text.specs.declared.events.Ended.TheVariants as end
-use Rattle.trace_text.specs.declared.events.Finished.TheVariants as finished
 use Rattle.trace_text.specs.declared.events.Leaves.TheVariants as leaves
-use Rattle.trace_text.specs.declared.events.Mode.TheVariants.{Read, Write}
-use Rattle.trace_text.specs.declared.events.QueueEnd.TheVariants.{Head, Tail}
-use Rattle.trace_text.specs.declared.events.Waits.TheVariants as waits
+use Rattle.trace_text.specs.declared.events.QueueEnd.TheVariants.{Tail}
 use Rattle.profile_machine.specs.declared.run_data.Item.{Item}
-use Rattle.profile_machine.specs.declared.run_data.Item.TheVariants as item
 use Rattle.profile_machine.specs.declared.image.Image.{Image}
-use Rattle.profile_machine.specs.declared.image.Dispatching.TheVariants.{FifoWithinPriorities, RoundRobinWithinPriorities, EdfAcrossPriorities}
 use Rattle.profile_machine.specs.declared.image.Queuing.TheVariants as queuing
-use Rattle.profile_machine.specs.declared.values.Value.TheVariants.{Whole, Truth, Literal, Ticks, Task, Thing}
-use Rattle.profile_machine.specs.declared.values.Constraint.TheVariants.{Free, Whole, Truth, Literal, Ticks}
-use Rattle.profile_machine.specs.declared.expressions.Expression.TheVariants.{Known, Variable, Thing, Unary, Binary, Count, Clock, Span, SameTicks, CurrentTask, ExecutionTime, Priority, Deadline, TimeOfEvent, TimeRemaining, BudgetHasExpired, BudgetRemaining, PortValue}
-use Rattle.profile_machine.specs.declared.expressions.ObjectName.TheVariants.{Declared, OwnComponent, Component}
-use Rattle.profile_machine.specs.declared.expressions.UnaryOperator.TheVariants as unary
-use Rattle.profile_machine.specs.declared.expressions.BinaryOperator.TheVariants as binary
+use Rattle.profile_machine.specs.declared.values.Value.TheVariants.{Whole}
+use Rattle.profile_machine.specs.declared.values.Constraint.TheVariants.{Free, Whole}
 use Rattle.profile_machine.specs.declared.declarations.DeclarationKind.TheVariants as kind
 use Rattle.profile_machine.specs.declared.declarations.Initial.TheVariants as initial
-use Rattle.profile_machine.specs.declared.declarations.EntryUnit.TheVariants as unit
 use Rattle.profile_machine.specs.declared.declarations.ExceptionChoice.TheVariants as exception_choice
 use Rattle.profile_machine.specs.declared.statements.StatementForm.TheVariants as form
-use Rattle.profile_machine.specs.declared.statements.Choice.TheVariants as choice
-use Rattle.profile_machine.specs.declared.statements.Actual.TheVariants as actual
-use Rattle.profile_machine.specs.declared.statements.Callee.TheVariants as callee
-use Rattle.profile_machine.specs.declared.statements.Destination.TheVariants as destination
-use Rattle.profile_machine.specs.declared.statements.EntryOwner.TheVariants as owner
-use Rattle.profile_machine.specs.declared.statements.SelectKind.TheVariants as select
-use Rattle.profile_machine.specs.declared.statements.Piece.TheVariants as piece
-use Rattle.profile_machine.specs.declared.statements.Setting.TheVariants as setting
-use Rattle.profile_machine.specs.Rows.Notation.{decl, expr, stmt, scope, subprogram, task_unit, protected_unit, entry, controlled_type, enumeration, task, call, p, region, t, agent, of_task, of_object, declaration, variable, statement, alternative, select_alternative, handler, handler_name, cell_run, scope_text, formal, subprogram_text, task_unit_text, attachment, protected_unit_text, entry_body, entry_text, controlled_text, enumeration_text, dispatching_range, policies, main_procedure}
+use Rattle.profile_machine.specs.Rows.Notation.{decl, stmt, scope, task_unit, task, region, t, declaration, statement, handler, scope_text, task_unit_text, policies, main_procedure}
 use Rattle.profile_machine.specs.Run.{run_of}
 use Rattle.std.specs.Fmt.{digits}
 use Rattle.std.specs.Prelude.{Bool}
@@ -43,69 +25,70 @@ use Rattle.profile_machine.specs.Releases.{releases_ok}
 -- Row room.activation: its run stops before tick 12, so every greater bound gives the same trace.
 abbrev pub row_room_activation_program : Image
 row_room_activation_program =
-  record {
-    declarations =
-      declaration (codes "t") (codes "main.t") (kind.Task (task_unit 0)) (scope 1) 0 1 Free None
-      ∷ declaration (codes "a") (codes "main.t.a") (kind.Object initial.Default) (scope 2) 0 4096 (Whole (negsuc 2147483647) (pos 2147483647)) (Some (Whole (pos 1) (pos 4096)))
-      ∷ declaration (codes "b") (codes "main.t.b") (kind.Object initial.Default) (scope 2) 4096 4096 (Whole (negsuc 2147483647) (pos 2147483647)) (Some (Whole (pos 1) (pos 4096)))
-      ∷ declaration (codes "c") (codes "main.t.c") (kind.Object initial.Default) (scope 2) 8192 4096 (Whole (negsuc 2147483647) (pos 2147483647)) (Some (Whole (pos 1) (pos 4096)))
-      ∷ declaration (codes "d") (codes "main.t.d") (kind.Object initial.Default) (scope 2) 12288 4096 (Whole (negsuc 2147483647) (pos 2147483647)) (Some (Whole (pos 1) (pos 4096)))
-      ∷ declaration (codes "e") (codes "main.t.e") (kind.Object initial.Default) (scope 2) 16384 4096 (Whole (negsuc 2147483647) (pos 2147483647)) (Some (Whole (pos 1) (pos 4096)))
-      ∷ declaration (codes "f") (codes "main.t.f") (kind.Object initial.Default) (scope 2) 20480 4096 (Whole (negsuc 2147483647) (pos 2147483647)) (Some (Whole (pos 1) (pos 4096)))
-      ∷ declaration (codes "g") (codes "main.t.g") (kind.Object initial.Default) (scope 2) 24576 4096 (Whole (negsuc 2147483647) (pos 2147483647)) (Some (Whole (pos 1) (pos 4096)))
-      ∷ declaration (codes "h") (codes "main.t.h") (kind.Object initial.Default) (scope 2) 28672 4096 (Whole (negsuc 2147483647) (pos 2147483647)) (Some (Whole (pos 1) (pos 4096)))
-      ∷ declaration (codes "i") (codes "main.t.i") (kind.Object initial.Default) (scope 2) 32768 4096 (Whole (negsuc 2147483647) (pos 2147483647)) (Some (Whole (pos 1) (pos 4096)))
-      ∷ declaration (codes "j") (codes "main.t.j") (kind.Object initial.Default) (scope 2) 36864 4096 (Whole (negsuc 2147483647) (pos 2147483647)) (Some (Whole (pos 1) (pos 4096)))
-      ∷ declaration (codes "k") (codes "main.t.k") (kind.Object initial.Default) (scope 2) 40960 4096 (Whole (negsuc 2147483647) (pos 2147483647)) (Some (Whole (pos 1) (pos 4096)))
-      ∷ declaration (codes "l") (codes "main.t.l") (kind.Object initial.Default) (scope 2) 45056 4096 (Whole (negsuc 2147483647) (pos 2147483647)) (Some (Whole (pos 1) (pos 4096)))
-      ∷ declaration (codes "m") (codes "main.t.m") (kind.Object initial.Default) (scope 2) 49152 4096 (Whole (negsuc 2147483647) (pos 2147483647)) (Some (Whole (pos 1) (pos 4096)))
-      ∷ declaration (codes "n") (codes "main.t.n") (kind.Object initial.Default) (scope 2) 53248 4096 (Whole (negsuc 2147483647) (pos 2147483647)) (Some (Whole (pos 1) (pos 4096)))
-      ∷ declaration (codes "o") (codes "main.t.o") (kind.Object initial.Default) (scope 2) 57344 4096 (Whole (negsuc 2147483647) (pos 2147483647)) (Some (Whole (pos 1) (pos 4096)))
-      ∷ declaration (codes "p") (codes "main.t.p") (kind.Object initial.Default) (scope 2) 61440 4096 (Whole (negsuc 2147483647) (pos 2147483647)) (Some (Whole (pos 1) (pos 4096)))
-      ∷ [];
-    expressions = [];
-    statements =
-      statement (form.CallMain) 0 None
-      ∷ statement (form.Null) 0 None
-      ∷ statement (form.EndActivation) 0 (Some (stmt 1))
-      ∷ statement (form.Declare (decl 16)) 0 (Some (stmt 2))
-      ∷ statement (form.Declare (decl 15)) 0 (Some (stmt 3))
-      ∷ statement (form.Declare (decl 14)) 0 (Some (stmt 4))
-      ∷ statement (form.Declare (decl 13)) 0 (Some (stmt 5))
-      ∷ statement (form.Declare (decl 12)) 0 (Some (stmt 6))
-      ∷ statement (form.Declare (decl 11)) 0 (Some (stmt 7))
-      ∷ statement (form.Declare (decl 10)) 0 (Some (stmt 8))
-      ∷ statement (form.Declare (decl 9)) 0 (Some (stmt 9))
-      ∷ statement (form.Declare (decl 8)) 0 (Some (stmt 10))
-      ∷ statement (form.Declare (decl 7)) 0 (Some (stmt 11))
-      ∷ statement (form.Declare (decl 6)) 0 (Some (stmt 12))
-      ∷ statement (form.Declare (decl 5)) 0 (Some (stmt 13))
-      ∷ statement (form.Declare (decl 4)) 0 (Some (stmt 14))
-      ∷ statement (form.Declare (decl 3)) 0 (Some (stmt 15))
-      ∷ statement (form.Declare (decl 2)) 0 (Some (stmt 16))
-      ∷ statement (form.Declare (decl 1)) 0 (Some (stmt 17))
-      ∷ statement (form.Handled (handler (exception_choice.Named exception.Tasking ∷ []) (stmt 22) ∷ []) (stmt 21)) 0 None
-      ∷ statement (form.Null) 0 None
-      ∷ statement (form.Activate 0) 0 (Some (stmt 20))
-      ∷ statement (form.Null) 0 None
-      ∷ statement (form.CreateTask (decl 0) 0) 0 (Some (stmt 19))
-      ∷ [];
-    scopes =
-      scope_text None 0 [] false (Some (stmt 0))
-      ∷ scope_text (Some (scope 0)) 1 [] true (Some (stmt 23))
-      ∷ scope_text (Some (scope 1)) 65536 [] false (Some (stmt 18))
-      ∷ [];
-    subprograms = [];
-    task_units =
-      task_unit_text (scope 2) None None []
-      ∷ [];
-    protected_units = [];
-    entries = [];
-    controlled_types = [];
-    enumerations = [];
-    policies = (policies [] queuing.Fifo None 30);
-    environment = (scope 0);
-    main = (main_procedure (codes "main") 15 (scope 1)) }
+    record {
+      declarations =
+          declaration (codes "t") (codes "main.t") (kind.Task (task_unit 0)) (scope 1) 0 1 Free None
+          ∷ declaration (codes "a") (codes "main.t.a") (kind.Object initial.Default) (scope 2) 0 4096 (Whole (negsuc 2147483647) (pos 2147483647)) (Some (Whole (pos 1) (pos 4096)))
+          ∷ declaration (codes "b") (codes "main.t.b") (kind.Object initial.Default) (scope 2) 4096 4096 (Whole (negsuc 2147483647) (pos 2147483647)) (Some (Whole (pos 1) (pos 4096)))
+          ∷ declaration (codes "c") (codes "main.t.c") (kind.Object initial.Default) (scope 2) 8192 4096 (Whole (negsuc 2147483647) (pos 2147483647)) (Some (Whole (pos 1) (pos 4096)))
+          ∷ declaration (codes "d") (codes "main.t.d") (kind.Object initial.Default) (scope 2) 12288 4096 (Whole (negsuc 2147483647) (pos 2147483647)) (Some (Whole (pos 1) (pos 4096)))
+          ∷ declaration (codes "e") (codes "main.t.e") (kind.Object initial.Default) (scope 2) 16384 4096 (Whole (negsuc 2147483647) (pos 2147483647)) (Some (Whole (pos 1) (pos 4096)))
+          ∷ declaration (codes "f") (codes "main.t.f") (kind.Object initial.Default) (scope 2) 20480 4096 (Whole (negsuc 2147483647) (pos 2147483647)) (Some (Whole (pos 1) (pos 4096)))
+          ∷ declaration (codes "g") (codes "main.t.g") (kind.Object initial.Default) (scope 2) 24576 4096 (Whole (negsuc 2147483647) (pos 2147483647)) (Some (Whole (pos 1) (pos 4096)))
+          ∷ declaration (codes "h") (codes "main.t.h") (kind.Object initial.Default) (scope 2) 28672 4096 (Whole (negsuc 2147483647) (pos 2147483647)) (Some (Whole (pos 1) (pos 4096)))
+          ∷ declaration (codes "i") (codes "main.t.i") (kind.Object initial.Default) (scope 2) 32768 4096 (Whole (negsuc 2147483647) (pos 2147483647)) (Some (Whole (pos 1) (pos 4096)))
+          ∷ declaration (codes "j") (codes "main.t.j") (kind.Object initial.Default) (scope 2) 36864 4096 (Whole (negsuc 2147483647) (pos 2147483647)) (Some (Whole (pos 1) (pos 4096)))
+          ∷ declaration (codes "k") (codes "main.t.k") (kind.Object initial.Default) (scope 2) 40960 4096 (Whole (negsuc 2147483647) (pos 2147483647)) (Some (Whole (pos 1) (pos 4096)))
+          ∷ declaration (codes "l") (codes "main.t.l") (kind.Object initial.Default) (scope 2) 45056 4096 (Whole (negsuc 2147483647) (pos 2147483647)) (Some (Whole (pos 1) (pos 4096)))
+          ∷ declaration (codes "m") (codes "main.t.m") (kind.Object initial.Default) (scope 2) 49152 4096 (Whole (negsuc 2147483647) (pos 2147483647)) (Some (Whole (pos 1) (pos 4096)))
+          ∷ declaration (codes "n") (codes "main.t.n") (kind.Object initial.Default) (scope 2) 53248 4096 (Whole (negsuc 2147483647) (pos 2147483647)) (Some (Whole (pos 1) (pos 4096)))
+          ∷ declaration (codes "o") (codes "main.t.o") (kind.Object initial.Default) (scope 2) 57344 4096 (Whole (negsuc 2147483647) (pos 2147483647)) (Some (Whole (pos 1) (pos 4096)))
+          ∷ declaration (codes "p") (codes "main.t.p") (kind.Object initial.Default) (scope 2) 61440 4096 (Whole (negsuc 2147483647) (pos 2147483647)) (Some (Whole (pos 1) (pos 4096)))
+          ∷ [];
+      expressions = [];
+      statements =
+          statement (form.CallMain) 0 None
+          ∷ statement (form.Null) 0 None
+          ∷ statement (form.EndActivation) 0 (Some (stmt 1))
+          ∷ statement (form.Declare (decl 16)) 0 (Some (stmt 2))
+          ∷ statement (form.Declare (decl 15)) 0 (Some (stmt 3))
+          ∷ statement (form.Declare (decl 14)) 0 (Some (stmt 4))
+          ∷ statement (form.Declare (decl 13)) 0 (Some (stmt 5))
+          ∷ statement (form.Declare (decl 12)) 0 (Some (stmt 6))
+          ∷ statement (form.Declare (decl 11)) 0 (Some (stmt 7))
+          ∷ statement (form.Declare (decl 10)) 0 (Some (stmt 8))
+          ∷ statement (form.Declare (decl 9)) 0 (Some (stmt 9))
+          ∷ statement (form.Declare (decl 8)) 0 (Some (stmt 10))
+          ∷ statement (form.Declare (decl 7)) 0 (Some (stmt 11))
+          ∷ statement (form.Declare (decl 6)) 0 (Some (stmt 12))
+          ∷ statement (form.Declare (decl 5)) 0 (Some (stmt 13))
+          ∷ statement (form.Declare (decl 4)) 0 (Some (stmt 14))
+          ∷ statement (form.Declare (decl 3)) 0 (Some (stmt 15))
+          ∷ statement (form.Declare (decl 2)) 0 (Some (stmt 16))
+          ∷ statement (form.Declare (decl 1)) 0 (Some (stmt 17))
+          ∷ statement (form.Handled (handler (exception_choice.Named exception.Tasking ∷ []) (stmt 22) ∷ []) (stmt 21)) 0 None
+          ∷ statement (form.Null) 0 None
+          ∷ statement (form.Activate 0) 0 (Some (stmt 20))
+          ∷ statement (form.Null) 0 None
+          ∷ statement (form.CreateTask (decl 0) 0) 0 (Some (stmt 19))
+          ∷ [];
+      scopes =
+          scope_text None 0 [] false (Some (stmt 0))
+          ∷ scope_text (Some (scope 0)) 1 [] true (Some (stmt 23))
+          ∷ scope_text (Some (scope 1)) 65536 [] false (Some (stmt 18))
+          ∷ [];
+      subprograms = [];
+      task_units =
+          task_unit_text (scope 2) None None []
+          ∷ [];
+      protected_units = [];
+      entries = [];
+      controlled_types = [];
+      enumerations = [];
+      policies = (policies [] queuing.Fifo None 30);
+      environment = (scope 0);
+      main = (main_procedure (codes "main") 15 (scope 1));
+    }
 
 abbrev pub row_room_activation_script : List (ℤ × Item)
 row_room_activation_script = []

@@ -31,7 +31,7 @@ use Rattle.profile_machine.specs.Serving.{serves_nothing}
 use Rattle.profile_machine.specs.Handlers.{add_release, clear_timer, with_timer_set, edit_budget}
 use Rattle.profile_machine.specs.Run.{with_serving}
 use Rattle.machine_laws.specs.LineKinds.{is_of_effect, is_of_tock}
-use Rattle.profile_machine.specs.Instant.{with_port, with_masked, with_kept, with_script}
+use Rattle.profile_machine.specs.Instant.{with_port, with_masked, with_kept_interrupt, with_script}
 
 -- of the steps of an effect, whose lines are not yet in order, and of the moves of an instant or a tock
 abbrev pub StepRelation : Type 1
@@ -92,7 +92,7 @@ pub record Moves (R : StepRelation) (Q : MoveRelation) : Type 0 where
   -- the outside
   pub sets_port : (n : ℕ) (value : ℤ) (w : World) → R w [] (with_port n value w)
   pub masks : (n : ℕ) (flag : Bool) (w : World) → R w [] (with_masked n flag w)
-  pub keeps_interrupt : (n : ℕ) (flag : Bool) (w : World) → R w [] (with_kept n flag w)
+  pub keeps_interrupt : (n : ℕ) (flag : Bool) (w : World) → R w [] (with_kept_interrupt n flag w)
   pub cuts_script : (script : List (ℤ × Item)) (w : World) → R w [] (with_script script w)
 
 -- what a tock does besides, up to its tick: it says its lines, and the agent takes up the first release that is pending

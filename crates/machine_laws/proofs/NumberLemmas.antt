@@ -7,9 +7,8 @@ use Rattle.trace_text.specs.declared.events.Who.TheVariants as who
 use Rattle.profile_machine.specs.declared.image.Image.{Image}
 use Rattle.profile_machine.specs.declared.run_data.Item.{Item}
 use Rattle.profile_machine.specs.World.{World, Task, Call, Registered, ScopeInUse, ScopeId, scope_id, Object, Release}
-use Rattle.profile_machine.specs.Words.{same_id}
 use Rattle.profile_machine.specs.Tasks.{is_who, edit_task}
-use Rattle.profile_machine.specs.Scopes.{is_id, with_cells}
+use Rattle.profile_machine.specs.Scopes.{goes_with, is_id, with_cells}
 use Rattle.profile_machine.specs.Calls.{is_call}
 use Rattle.profile_machine.specs.Values.{is_object}
 use Rattle.profile_machine.specs.Controlled.{is_number}
@@ -91,7 +90,7 @@ stays_numbered = record {
   begins_scope = λ p name scope b w h. (h.0, h.1, h.2, (omega arith, h.3), h.4, h.5, h.6);
   draws_region = λ w h. h;
   edits_cells = λ id f w h. (h.0, h.1, h.2, Falls-edit_where scope_number (is_id id) (with_cells f) (λ s. refl) w.drawn.scopes w.scopes h.3, h.4, h.5, h.6);
-  ends_scope = λ id w h. (h.0, h.1, h.2, Falls-without scope_number (is_id id) w.drawn.scopes w.scopes h.3, Falls-without object_number (λ o. same_id o.located.within id) (suc w.drawn.objects) w.objects h.4, h.5, h.6);
+  ends_scope = λ id w h. (h.0, h.1, h.2, Falls-without scope_number (is_id id) w.drawn.scopes w.scopes h.3, Falls-without object_number (goes_with id) (suc w.drawn.objects) w.objects h.4, h.5, h.6);
   edits_call = λ c f w k h. (h.0, Falls-edit_where call_number (is_call c) f (λ d. ap (λ n. n.0) (k d)) (suc w.drawn.calls) w.calls h.1, h.2, h.3, h.4, h.5, h.6);
   adds_call = λ c w h. (h.0, (omega arith, h.1), h.2, h.3, h.4, h.5, h.6);
   forgets_call = λ c w h. (h.0, Falls-without call_number (is_call c) (suc w.drawn.calls) w.calls h.1, h.2, h.3, h.4, h.5, h.6);

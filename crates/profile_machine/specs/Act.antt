@@ -136,8 +136,8 @@ end_in_abortable p name m leaving = cond m.triggered (end_top p name) (end_abort
 abbrev pub act_statement : Image → Who → StatementNo → StatementForm → Step
 act_statement p name s (form.Declare object) = declare p name s object
 act_statement p name s (form.Initialize object) = initialize p name s object
-act_statement p name s (form.CreateTask object part) = create p name s object part
-act_statement p name s (form.Activate part) = activate p name s part
+act_statement p name s (form.CreateTask object declarative_part) = create p name s object declarative_part
+act_statement p name s (form.Activate declarative_part) = activate p name s declarative_part
 act_statement p name s form.EndActivation = end_own_activation p name s
 act_statement p name s form.CallMain = call_main p name s
 act_statement p name s (form.Handled handlers first) = nothing

@@ -19,7 +19,7 @@ use Rattle.profile_machine.specs.Program.{declaration_of, form_of, next_of}
 use Rattle.profile_machine.specs.Steps.{Step, Part, says, changes, looks, when, nothing, ◌▷◌}
 use Rattle.profile_machine.specs.Tasks.{edit_task, waiting_of, with_frames}
 use Rattle.profile_machine.specs.Dispatching.{ready}
-use Rattle.profile_machine.specs.Frames.{frames_of, goes, leaves, raises, pop, pass_on, leaving_of, with_mark}
+use Rattle.profile_machine.specs.Frames.{frames_of, goes, leaves, raises, pop, pass_on, leaving_of, with_mark, open_sequence}
 use Rattle.profile_machine.specs.Scopes.{write_cell}
 use Rattle.profile_machine.specs.Operators.{Valued, ◌>>=◌, checked}
 use Rattle.profile_machine.specs.Calls.{call_of, edit_call, forget_call, with_call, unqueued}
@@ -213,6 +213,7 @@ end_wait p part c depth outcome =
     ready p part (who.Task c.caller)
     ▷ changes (edit_abortable_at (who.Task c.caller) depth (waited_mark (not (is_cancelled outcome))))
     ▷ looks (λ w. end_top_abortable p part (who.Task c.caller) (frames_of w (who.Task c.caller)))
+    ▷ open_sequence p part (who.Task c.caller)
 
 -- ---- a call ends
 
@@ -237,7 +238,7 @@ end_for_abortable p part c depth outcome =
 abbrev pub end_for_caller : Image → Part → Call → Outcome → Step
 end_for_caller p part c outcome =
     looks (λ w. when (waits_for_call c.number (waiting_of w (who.Task c.caller)))
-    (ready p part (who.Task c.caller) ▷ resume p part c outcome))
+    (ready p part (who.Task c.caller) ▷ resume p part c outcome ▷ open_sequence p part (who.Task c.caller)))
 
 abbrev pub end_for : Image → Part → Call → Outcome → Option ℕ → Step
 end_for p part c outcome (Some depth) = end_for_abortable p part c depth outcome

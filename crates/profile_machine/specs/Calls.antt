@@ -1,5 +1,5 @@
 -- Entry calls and the queues in which they stand (9.5.3, D.4).
-use Rattle.std.specs.Prelude.{ℕ, suc, Bool, true, false, cond, not, ◌&&◌, List, [], ◌∷◌, ◌++◌, Option, Some, None, ltb, leb, find, length, is_none}
+use Rattle.std.specs.Prelude.{ℕ, suc, Bool, true, false, cond, not, ◌&&◌, List, [], ◌∷◌, ◌++◌, Option, Some, None, ltb, leb, find, length, take, is_none}
 use Rattle.ann_base.specs.declared.identities.CallNo.{CallNo}
 use Rattle.ann_base.specs.declared.identities.ObjectNo.{ObjectNo}
 use Rattle.trace_text.specs.declared.events.Event.TheVariants as line
@@ -10,6 +10,7 @@ use Rattle.profile_machine.specs.declared.image.Image.{Image}
 use Rattle.profile_machine.specs.declared.image.Queuing.{Queuing}
 use Rattle.profile_machine.specs.declared.image.Queuing.TheVariants as queuing
 use Rattle.profile_machine.specs.declared.numbers.EntryNo.{EntryNo}
+use Rattle.profile_machine.specs.declared.values.Value.{Value}
 use Rattle.profile_machine.specs.World.{World, Object, Call, Owner, a_task, an_object, Drawn}
 use Rattle.profile_machine.specs.Words.{same_call, without, edit_where, edit_at}
 use Rattle.profile_machine.specs.Program.{entry_of}
@@ -48,6 +49,15 @@ name_of_entry p (an_object o) e = called.OfObject o (entry_of p e).name
 
 abbrev pub says_call : Image → Part → Call → Step
 says_call p part c = says part (line.Call c.caller c.number (name_of_entry p c.owner c.entry) c.priority)
+
+-- ---- parameters: a body that takes a call has those of its own entry alone, also where the call was sent on to an
+-- entry without any; the call keeps its values (9.5.4)
+
+abbrev pub formals_count : Image → Call → ℕ
+formals_count p c = length (entry_of p c.entry).formals
+
+abbrev pub parameters_of : Image → Call → List Value
+parameters_of p c = take (formals_count p c) c.values
 
 -- ---- queues
 

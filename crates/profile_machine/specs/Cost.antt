@@ -16,8 +16,8 @@ use Rattle.profile_machine.specs.Frames.{top_of}
 abbrev pub cost_of_form : StatementForm → ℕ → ℕ
 cost_of_form (form.Declare object) n = 1 + n
 cost_of_form (form.Initialize object) n = 2
-cost_of_form (form.CreateTask object part) n = 2
-cost_of_form (form.Activate part) n = 2
+cost_of_form (form.CreateTask object declarative_part) n = 2
+cost_of_form (form.Activate declarative_part) n = 2
 cost_of_form form.EndActivation n = 1
 cost_of_form form.CallMain n = 2
 cost_of_form (form.Handled handlers first) n = 1

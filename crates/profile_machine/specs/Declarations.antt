@@ -1,5 +1,5 @@
 -- The declaration of an object (3.3.1, 7.6, 9.4, D.14, D.15).
-use Rattle.std.specs.Prelude.{ℕ, suc, not, List, [], ◌∷◌, ◌++◌, Option, Some, None, Ok, Err, leb, length}
+use Rattle.std.specs.Prelude.{ℕ, suc, not, List, [], ◌∷◌, ◌++◌, Option, Some, None, Ok, Err, leb, length, take, drop}
 use Rattle.ann_base.specs.declared.identities.TaskNo.{TaskNo}
 use Rattle.ann_base.specs.declared.exceptions.Raised.TheVariants as exception
 use Rattle.trace_text.specs.declared.events.Event.TheVariants as line
@@ -17,21 +17,33 @@ use Rattle.profile_machine.specs.declared.declarations.Initial.TheVariants as in
 use Rattle.profile_machine.specs.declared.expressions.ObjectName.TheVariants.{Declared}
 use Rattle.profile_machine.specs.declared.values.Value.{Value}
 use Rattle.profile_machine.specs.declared.values.Value.TheVariants.{Thing}
-use Rattle.profile_machine.specs.World.{World, Located, Variable, Object, Drawn}
-use Rattle.profile_machine.specs.Program.{declaration_of, next_of, protected_unit_of, controlled_of}
+use Rattle.profile_machine.specs.World.{World, ScopeInUse, Located, Variable, Object, Drawn}
+use Rattle.profile_machine.specs.Program.{declaration_of, next_of, scope_of, protected_unit_of, controlled_of, initial_cells}
 use Rattle.profile_machine.specs.Steps.{Step, own, says, changes, ◌▷◌}
 use Rattle.profile_machine.specs.Frames.{goes, given}
-use Rattle.profile_machine.specs.Scopes.{write_cell}
+use Rattle.profile_machine.specs.Scopes.{write_cell, edit_cells, scope_in_use}
 use Rattle.profile_machine.specs.Operators.{Valued, ◌>>=◌, unless}
 use Rattle.profile_machine.specs.Values.{Seen, value, object_cell, home_of, component_at, protected_cells, controlled_cells, no_budget, first_cell, task_in}
-use Rattle.profile_machine.specs.Statements.{sees, copy_cells}
+use Rattle.profile_machine.specs.Statements.{sees, copy_cells, put_cells}
 use Rattle.profile_machine.specs.CallEnds.{store}
 
 -- ---- initial values
 
+-- without an initial value the cells get those with which their scope began, whatever they hold by now (own)
+abbrev pub first_cells : Image → Option ScopeInUse → List Value
+first_cells p None = []
+first_cells p (Some s) = initial_cells (scope_of p s.scope)
+
+abbrev pub default_cells : Image → World → Variable → List Value
+default_cells p w v =
+    take (declaration_of p v.declared).cells (drop v.place (first_cells p (scope_in_use w v.within)))
+
+abbrev pub set_defaults : Image → Variable → World → World
+set_defaults p v w = edit_cells v.within (put_cells v.place (default_cells p w v)) w
+
 -- the cells of an object or component get its initial value; a failed range raises Constraint_Error
 abbrev pub initialized : Seen → Variable → Initial → World → Valued World
-initialized q v initial.Default w = Ok w
+initialized q v initial.Default w = Ok (set_defaults q.program v w)
 initialized q v (initial.Scalar e) w = value q e >>= λ x. store q.program v x w
 initialized q v (initial.Array source) w = object_cell q source >>= λ f. Ok (copy_cells q.program v f w)
 

@@ -15,14 +15,14 @@ use Rattle.profile_machine.specs.Tasks.{task_of, edit_task, with_state, is_runna
 
 -- ---- active priorities (D.1, D.2.6)
 
--- the level that stands for a task whose base lies in an EDF range: the kept one, while it has one
-abbrev pub kept_or_base : Option ℕ → Option ℕ → ℕ → ℕ
-kept_or_base (Some low) (Some kept) base = kept
-kept_or_base (Some low) None base = base
-kept_or_base None kept base = base
+-- the level that stands for a task whose base lies in an EDF range: the kept level, while it has one
+abbrev pub kept_level_or_base : Option ℕ → Option ℕ → ℕ → ℕ
+kept_level_or_base (Some low) (Some kept_level) base = kept_level
+kept_level_or_base (Some low) None base = base
+kept_level_or_base None kept_level base = base
 
 abbrev pub own_level : Image → Task → ℕ
-own_level p t = kept_or_base (edf_low p t.base) t.kept_level t.base
+own_level p t = kept_level_or_base (edf_low p t.base) t.kept_level t.base
 
 abbrev pub levels_inherited : Task → List ℕ
 levels_inherited t = map (λ i. i.level) t.inherited

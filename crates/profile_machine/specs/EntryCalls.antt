@@ -90,7 +90,7 @@ results_in (x ∷ xs) = x.1 ∷ results_in xs
 -- ---- what a call names, and its moment
 
 -- the entry call in a statement
-pub record Named : Type 0 where
+pub record NamedCall : Type 0 where
   pub entry : EntryNo
   pub owner : EntryOwner
   pub actuals : List Actual
@@ -98,12 +98,12 @@ pub record Named : Type 0 where
 abbrev pub no_entry_no : EntryNo
 no_entry_no = record { 0 = 0 }
 
-abbrev pub named_in : StatementForm → Named
-named_in (form.EntryCall entry owner actuals) = record { entry = entry; owner = owner; actuals = actuals }
-named_in _ = record { entry = no_entry_no; owner = owner.Own; actuals = [] }
+abbrev pub named_call_in : StatementForm → NamedCall
+named_call_in (form.EntryCall entry owner actuals) = record { entry = entry; owner = owner; actuals = actuals }
+named_call_in _ = record { entry = no_entry_no; owner = owner.Own; actuals = [] }
 
-abbrev pub named : Image → StatementNo → Named
-named p s = named_in (form_of p (call_in (form_of p s) s))
+abbrev pub named_call : Image → StatementNo → NamedCall
+named_call p s = named_call_in (form_of p (call_in (form_of p s) s))
 
 abbrev pub timed_moment : Seen → StatementForm → Valued (Option ℤ)
 timed_moment q (form.TimedCall call delay) = delay_moment q delay >>= λ m. Ok (Some m)
@@ -111,7 +111,7 @@ timed_moment q _ = Ok None
 
 -- ---- a call is made: it draws its number, and `call` comes first of all
 
-abbrev pub new_call : TaskNo → CallKind → StatementNo → Named → Owner → ℕ → List (Value × Option Variable) → Option ℤ → Call
+abbrev pub new_call : TaskNo → CallKind → StatementNo → NamedCall → Owner → ℕ → List (Value × Option Variable) → Option ℤ → Call
 new_call t kind s n o priority parameters moment = record { number = record { 0 = 0 }; caller = t; kind = kind; statement = s; owner = o; entry = n.entry; priority = priority; begun = false; firm = false; sent_with_abort = false; attempted = false; moment = moment; values = values_in parameters; results = results_in parameters; sending = None; outcome = None }
 
 abbrev pub numbered : ℕ → Call → Call
@@ -120,7 +120,8 @@ numbered n c = record c { number = record { 0 = n } }
 abbrev pub add_call : Call → World → World
 add_call c w = record w { calls = numbered (suc w.drawn.calls) c ∷ w.calls; drawn = call_drawn w.drawn }
 
--- a step with the call that was made
+-- A step with the call that was made. The caller goes on behind its statement first, so that where it blocks or has the
+-- object open its frame names what it does once the call has ended; the end of the call may say otherwise (`resume`).
 abbrev pub make_call : Image → Call → (Call → Step) → Step
 make_call p c step =
     goes (who.Task c.caller) (next_of p c.statement)
@@ -218,7 +219,7 @@ call_owner p c (an_object o) = call_object p o c
 
 -- ---- the entry call of a statement
 
-abbrev pub call_named : Image → TaskNo → CallKind → StatementNo → Named → Step
+abbrev pub call_named : Image → TaskNo → CallKind → StatementNo → NamedCall → Step
 call_named p t kind s n =
     sees p (who.Task t) (λ q. given p own (who.Task t) (owner_of_entry q n.entry n.owner) (λ o.
     given p own (who.Task t) (entry_parameters q (entry_of p n.entry).formals n.actuals) (λ parameters.
@@ -231,7 +232,7 @@ is_forbidden w name kind = in_protected w name || (is_triggering kind && is_defe
 
 abbrev pub entry_call : Image → Who → CallKind → StatementNo → Step
 entry_call p (who.Task t) kind s =
-    looks (λ w. raise_if p (who.Task t) (is_forbidden w (who.Task t) kind) exception.Program (call_named p t kind s (named p s)))
+    looks (λ w. raise_if p (who.Task t) (is_forbidden w (who.Task t) kind) exception.Program (call_named p t kind s (named_call p s)))
 entry_call p who.Agent kind s = raises p own who.Agent exception.Program
 
 -- ---- the asynchronous select (9.7.4): the trigger is issued first

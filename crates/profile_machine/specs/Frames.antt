@@ -14,8 +14,8 @@ use Rattle.profile_machine.specs.declared.declarations.Handler.{Handler}
 use Rattle.profile_machine.specs.World.{World, Frame, Mark, Scope, Handled, InProtected, InAccept, Abortable, InInitialize, InFinalize, InAssign, Purpose, of_block, of_subprogram, of_entry_body, of_task}
 use Rattle.profile_machine.specs.Words.{same_statement, same_option, first_of_list, option_or_else}
 use Rattle.profile_machine.specs.Program.{declaration_of, form_of, next_of}
-use Rattle.profile_machine.specs.Steps.{Part, own, Step, says, changes, looks, nothing, ◌▷◌}
-use Rattle.profile_machine.specs.Tasks.{task_of, edit_task, with_frames}
+use Rattle.profile_machine.specs.Steps.{Part, own, Step, says, changes, looks, when, nothing, ◌▷◌}
+use Rattle.profile_machine.specs.Tasks.{task_of, edit_task, with_frames, is_runnable}
 
 -- ---- the top of a rest
 
@@ -38,7 +38,8 @@ edit_top name f = edit_task name (λ t. with_frames (edit_first f t.frames) t)
 abbrev pub goes_on : Option StatementNo → Frame → Frame
 goes_on onward f = record f { onward = onward }
 
--- the task goes on with this action, or with the end of what is open
+-- The task goes on with this action, or with the end of what is open. Who blocks goes on first: what its frame then
+-- names is what it does once its wait is over, unless the wait's end says otherwise.
 abbrev pub goes : Who → Option StatementNo → Step
 goes name onward = changes (edit_top name (goes_on onward))
 
@@ -104,23 +105,29 @@ handlers_in (form.Handled handlers first) = handlers
 handlers_in _ = []
 
 -- the sequence with handlers that begins here, if one does: it is opened at no cost
-abbrev pub open_handled : Image → Who → StatementNo → StatementForm → Step
-open_handled p name s (form.Handled handlers first) =
+abbrev pub open_handled : Image → Part → Who → StatementNo → StatementForm → Step
+open_handled p part name s (form.Handled handlers first) =
     looks (λ w. elim (has_room w name 1 0) [
       | true ↦ goes name (next_of p s) ▷ changes (push name (new_frame (Handled s) (Some first)))
-      | false ↦ raises p own name exception.Storage
+      | false ↦ raises p part name exception.Storage
     ])
-open_handled p name s _ = nothing
+open_handled p part name s _ = nothing
 
-abbrev pub open_at : Image → Who → Option StatementNo → Step
-open_at p name None = nothing
-open_at p name (Some s) = open_handled p name s (form_of p s)
+abbrev pub open_at : Image → Part → Who → Option StatementNo → Step
+open_at p part name None = nothing
+open_at p part name (Some s) = open_handled p part name s (form_of p s)
 
 abbrev pub onward_of : World → Who → Option StatementNo
 onward_of w name = option_and_then (λ f. f.onward) (top_of w name)
 
-abbrev pub open_sequence : Image → Who → Step
-open_sequence p name = looks (λ w. open_at p name (onward_of w name))
+-- A task that is ready opens the sequence to which it has come: behind the effect of its action, or, where it has
+-- waited, in the effect that ends the wait. With an exception it has come to the end of a mark, and opens nothing.
+abbrev pub open_sequence : Image → Part → Who → Step
+open_sequence p part name = looks (λ w. open_at p part name (onward_of w name))
+
+-- behind the effect of an action: who has blocked opens nothing
+abbrev pub open_if_ready : Image → Who → Step
+open_if_ready p name = looks (λ w. when (is_runnable (task_of w name)) (open_sequence p own name))
 
 -- ---- going on behind a mark that has ended
 

@@ -131,8 +131,8 @@ is_given (Some x) = true
 
 -- with the handler, and the value once there is room for a release
 abbrev pub setting_of : Image → Who → Seen → ℤ → Setting → Option HandlerName → (Option HandlerOf → ℤ → Step) → Step
-setting_of p name q base set named step =
-    given p own name (handler_named q named) (λ h. with_room_for_release p name (is_given h)
+setting_of p name q base set handler step =
+    given p own name (handler_named q handler) (λ h. with_room_for_release p name (is_given h)
     (given p own name (set_value q base set) (λ v. raise_if p name (not (is_interrupt_handler p q.world h)) exception.Program (step h v))))
 
 -- a variable gets whether something was set
@@ -154,8 +154,8 @@ event_set_to p e None m = nothing
 event_set_to p e (Some h) m = looks (λ w. appoint_event p e h m (int_lt (pos w.now) m))
 
 abbrev pub set_event : Image → Who → StatementNo → DeclNo → Setting → Option HandlerName → Step
-set_event p name s d set named =
-    sees p name (λ q. given p own name (number_of_thing q d) (λ e. setting_of p name q (pos q.world.now) set named
+set_event p name s d set handler =
+    sees p name (λ q. given p own name (number_of_thing q d) (λ e. setting_of p name q (pos q.world.now) set handler
     (λ h m. goes name (next_of p s) ▷ changes (cancel_event_setting e) ▷ event_set_to p e h m)))
 
 abbrev pub cancel_event : Image → Who → StatementNo → DeclNo → VariableName → Step
@@ -191,9 +191,9 @@ abbrev pub clock_of_timer : Seen → ℕ → Valued ℕ
 clock_of_timer q k = live_task q.world (Some (timer_of q.world k).task) >>= λ t. Ok t.cpu_ticks
 
 abbrev pub set_timer : Image → Who → StatementNo → DeclNo → Setting → Option HandlerName → Step
-set_timer p name s d set named =
+set_timer p name s d set handler =
     sees p name (λ q. given p own name (number_of_thing q d) (λ k. given p own name (clock_of_timer q k) (λ clock.
-    setting_of p name q (pos clock) set named
+    setting_of p name q (pos clock) set handler
     (λ h v. goes name (next_of p s) ▷ changes (clear_timer k) ▷ timer_set_to p k clock h v))))
 
 abbrev pub is_set_timer : World → ℕ → Bool
@@ -255,20 +255,20 @@ replenish p name s d e = fill_budget p name s d e loaded
 abbrev pub add_to_budget : Image → Who → StatementNo → DeclNo → ExprNo → Step
 add_to_budget p name s d e = fill_budget p name s d e raised_by
 
-abbrev pub handled_by : Option HandlerOf → Budget → Budget
-handled_by h b = record b { handler = h }
+abbrev pub with_handler : Option HandlerOf → Budget → Budget
+with_handler h b = record b { handler = h }
 
 abbrev pub set_budget : Image → Who → StatementNo → DeclNo → Option HandlerName → Step
-set_budget p name s d named =
-    sees p name (λ q. given p own name (number_of_thing q d) (λ b. given p own name (handler_named q named) (λ h.
+set_budget p name s d handler =
+    sees p name (λ q. given p own name (number_of_thing q d) (λ b. given p own name (handler_named q handler) (λ h.
     with_room_for_release p name (is_given h)
     (raise_if p name (not (is_interrupt_handler p q.world h)) exception.Program
-    (goes name (next_of p s) ▷ changes (edit_budget b (handled_by h)))))))
+    (goes name (next_of p s) ▷ changes (edit_budget b (with_handler h)))))))
 
 abbrev pub cancel_budget : Image → Who → StatementNo → DeclNo → VariableName → Step
 cancel_budget p name s d target =
     sees p name (λ q. given p own name (number_of_thing q d) (λ b. given p own name (variable q target) (λ v.
-    goes name (next_of p s) ▷ changes (edit_budget b (handled_by None)) ▷ answer p name v (is_given (budget_of q.world b).handler))))
+    goes name (next_of p s) ▷ changes (edit_budget b (with_handler None)) ▷ answer p name v (is_given (budget_of q.world b).handler))))
 
 -- ---- one tick is charged (D.14, D.2.5)
 
@@ -280,11 +280,11 @@ abbrev pub is_positive : ℤ → Bool
 is_positive n = int_lt (pos 0) n
 
 -- a positive budget of the group falls by one
-abbrev pub one_less : ℤ → ℤ
-one_less n = cond (is_positive n) (n +ℤ negsuc 0) n
+abbrev pub one_off_if_positive : ℤ → ℤ
+one_off_if_positive n = cond (is_positive n) (n +ℤ negsuc 0) n
 
 abbrev pub charged_budget : Budget → Budget
-charged_budget b = record b { remaining = one_less b.remaining }
+charged_budget b = record b { remaining = one_off_if_positive b.remaining }
 
 abbrev pub has_run_out : Budget → Budget → Bool
 has_run_out before after = is_positive before.remaining && not (is_positive after.remaining)

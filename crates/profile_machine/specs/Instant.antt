@@ -13,7 +13,7 @@ use Rattle.profile_machine.specs.Program.{next_of, is_robin_level}
 use Rattle.profile_machine.specs.Steps.{own, Step, Move, says, changes, looks, when, nothing, for_some, for_each, settles, ◌▷◌}
 use Rattle.profile_machine.specs.Tasks.{task_of, edit_task, with_ticks, is_runnable, waiting_of}
 use Rattle.profile_machine.specs.Dispatching.{active, ready, to_tail}
-use Rattle.profile_machine.specs.Frames.{open_sequence, goes, any_protected}
+use Rattle.profile_machine.specs.Frames.{open_if_ready, open_sequence, goes, any_protected}
 use Rattle.profile_machine.specs.Values.{timer_of, budget_of, is_event}
 use Rattle.profile_machine.specs.Appointments.{first_due, drop_appointment, is_delay_of, is_timeout_of, is_trigger_of}
 use Rattle.profile_machine.specs.Calls.{with_call, unqueued}
@@ -27,7 +27,7 @@ use Rattle.profile_machine.specs.Act.{act}
 
 abbrev pub effect : Image → Who → Step
 effect p name =
-    changes (edit_task name (with_ticks None)) ▷ act p name ▷ open_sequence p name ▷ take_terminates p name ▷ unwind_all p name
+    changes (edit_task name (with_ticks None)) ▷ act p name ▷ open_if_ready p name ▷ take_terminates p name ▷ unwind_all p name
 
 abbrev pub is_over : Option ℕ → Bool
 is_over None = false
@@ -51,25 +51,25 @@ with_port n value w = record w { ports = edit_at n (λ _. value) w.ports }
 abbrev pub with_masked : ℕ → Bool → World → World
 with_masked n flag w = record w { masked = edit_at n (λ _. flag) w.masked }
 
-abbrev pub with_kept : ℕ → Bool → World → World
-with_kept n flag w = record w { kept_interrupts = edit_at n (λ _. flag) w.kept_interrupts }
+abbrev pub with_kept_interrupt : ℕ → Bool → World → World
+with_kept_interrupt n flag w = record w { kept_interrupts = edit_at n (λ _. flag) w.kept_interrupts }
 
 -- an interrupt that is masked is kept; one at most is kept
 abbrev pub interrupt_comes : Image → ℕ → Bool → Step
-interrupt_comes p n true = says own (line.Masked n) ▷ changes (with_kept n true)
+interrupt_comes p n true = says own (line.Masked n) ▷ changes (with_kept_interrupt n true)
 interrupt_comes p n false = interrupt p n
 
 -- one that was kept is delivered at once
-abbrev pub deliver_kept : Image → ℕ → Bool → Step
-deliver_kept p n true = changes (with_kept n false) ▷ interrupt p n
-deliver_kept p n false = nothing
+abbrev pub deliver_kept_interrupt : Image → ℕ → Bool → Step
+deliver_kept_interrupt p n true = changes (with_kept_interrupt n false) ▷ interrupt p n
+deliver_kept_interrupt p n false = nothing
 
 abbrev pub script_item : Image → Item → Step
 script_item p (item.Interrupt n) = looks (λ w. interrupt_comes p n (is_flag w.masked n))
 script_item p (item.Port n value) = changes (with_port n value) ▷ says own (line.Port n value)
 script_item p (item.Mask n) = changes (with_masked n true) ▷ says own (line.Mask n)
 script_item p (item.Unmask n) =
-    changes (with_masked n false) ▷ says own (line.Unmask n) ▷ looks (λ w. deliver_kept p n (is_flag w.kept_interrupts n))
+    changes (with_masked n false) ▷ says own (line.Unmask n) ▷ looks (λ w. deliver_kept_interrupt p n (is_flag w.kept_interrupts n))
 
 abbrev pub with_script : List (ℤ × Item) → World → World
 with_script script w = record w { script = script }
@@ -92,7 +92,7 @@ take_delay p name (Some (for_select accepts (Some delay) terminate)) = goes name
 take_delay p name _ = nothing
 
 abbrev pub end_delay : Image → Who → Step
-end_delay p name = looks (λ w. take_delay p name (waiting_of w name)) ▷ ready p own name
+end_delay p name = looks (λ w. take_delay p name (waiting_of w name)) ▷ ready p own name ▷ open_sequence p own name
 
 -- a timed call that has not begun is cancelled
 abbrev pub time_out : Image → CallNo → Step

@@ -14,7 +14,7 @@ use Rattle.profile_machine.specs.Words.{same_who, same_region, is_the, has, with
 use Rattle.profile_machine.specs.Steps.{Step, Part, own, of_other, changes, looks, when, nothing, for_some, for_each, ◌▷◌}
 use Rattle.profile_machine.specs.Tasks.{task_of, edit_task, with_state, is_who, waiting_in, waiting_of}
 use Rattle.profile_machine.specs.Dispatching.{ready}
-use Rattle.profile_machine.specs.Frames.{raises, leaves}
+use Rattle.profile_machine.specs.Frames.{raises, leaves, open_sequence}
 use Rattle.profile_machine.specs.Inheritance.{lose}
 use Rattle.profile_machine.specs.Appointments.{drop_delay}
 use Rattle.profile_machine.specs.Calls.{call_of}
@@ -45,17 +45,17 @@ owns r t = list_any (has_region r) t.frames
 abbrev pub owner_of : World → RegionNo → Option Task
 owner_of w r = find (owns r) w.tasks
 
-abbrev pub is_left_mark : Mark → Bool
-is_left_mark (Scope m) = m.being_left
-is_left_mark _ = false
+abbrev pub is_scope_being_left : Mark → Bool
+is_scope_being_left (Scope m) = m.being_left
+is_scope_being_left _ = false
 
-abbrev pub leaves_region : RegionNo → List Frame → Bool
-leaves_region r [] = false
-leaves_region r (f ∷ fs) = cond (has_region r f) (is_left_mark f.mark) (leaves_region r fs)
+abbrev pub is_being_left_in : RegionNo → List Frame → Bool
+is_being_left_in r [] = false
+is_being_left_in r (f ∷ fs) = cond (has_region r f) (is_scope_being_left f.mark) (is_being_left_in r fs)
 
 -- a region is being left, from its `leave` to its `left`
-abbrev pub is_being_left : World → RegionNo → Bool
-is_being_left w r = list_any (λ t. leaves_region r t.frames) w.tasks
+abbrev pub is_region_being_left : World → RegionNo → Bool
+is_region_being_left w r = list_any (λ t. is_being_left_in r t.frames) w.tasks
 
 -- the regions on which a task depends: its master, the master of that region's owner, and so on
 abbrev pub masters_beyond : (Option RegionNo → List RegionNo) → RegionNo → Option Task → List RegionNo
@@ -129,7 +129,7 @@ waits_for_activation _ = false
 -- Tasking_Error is raised once in the activator where a task of the group failed
 abbrev pub wake_activator : Image → Part → Who → Step
 wake_activator p part name =
-    looks (λ w. ready p part name ▷ when (task_of w name).group_failed (raises p part name exception.Tasking))
+    looks (λ w. ready p part name ▷ when (task_of w name).group_failed (raises p part name exception.Tasking) ▷ open_sequence p part name)
 
 -- behind the last of the group the activator is ready, if it still waits for this activation
 abbrev pub end_group : Image → Who → Who → Step
@@ -213,7 +213,7 @@ abbrev pub all_at_terminate : World → RegionNo → Bool
 all_at_terminate w r = list_all is_at_terminate (filter (depends_on_region w r) w.tasks)
 
 abbrev pub may_terminate : World → Task → Bool
-may_terminate w t = is_at_terminate t && list_any (λ r. is_being_left w r && all_at_terminate w r) (masters_of w t)
+may_terminate w t = is_at_terminate t && list_any (λ r. is_region_being_left w r && all_at_terminate w r) (masters_of w t)
 
 -- one that waits becomes ready; who comes to its select in this effect does not even block
 abbrev pub leave_by_terminate : Image → Who → Task → Step

@@ -99,7 +99,7 @@ literals_of p e = (slice_index_or p.enumerations e.0 (record { literals = [] }))
 
 -- these cells begin with this value
 abbrev pub with_run : CellRun → List Value → List Value
-with_run run cells = take run.place cells ++ take run.count (drop run.place (replicate run.place run.value ++ replicate run.count run.value)) ++ drop (run.place + run.count) cells
+with_run run cells = take run.place cells ++ replicate run.count run.value ++ drop (run.place + run.count) cells
 
 abbrev pub with_runs : List CellRun → List Value → List Value
 with_runs [] cells = cells

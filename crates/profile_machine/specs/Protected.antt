@@ -33,7 +33,7 @@ use Rattle.profile_machine.specs.Scopes.{home, open_scope, Beginning}
 use Rattle.profile_machine.specs.Operators.{Valued}
 use Rattle.profile_machine.specs.Values.{Seen, condition, object_of, object_number, own_object, queue_at}
 use Rattle.profile_machine.specs.Inheritance.{inherit_running}
-use Rattle.profile_machine.specs.Calls.{edit_call, edit_object, unqueued, next_call, place_of_entry}
+use Rattle.profile_machine.specs.Calls.{edit_call, edit_object, unqueued, next_call, place_of_entry, parameters_of}
 use Rattle.profile_machine.specs.Statements.{sees}
 use Rattle.profile_machine.specs.Subprograms.{Handed, handing, begin_body}
 
@@ -212,7 +212,7 @@ begin_call p part name c =
 abbrev pub body_opens : Image → Who → ObjectNo → Call → Step
 body_opens p name o c =
     changes (edit_top_protected name (λ m. record m { serves = Some c.number }))
-    ▷ looks (λ w. changes (open_scope p name (body_scope_of p c.entry) (body_of_object p w (body_scope_of p c.entry) o None c.values) (of_entry_body c.number)))
+    ▷ looks (λ w. changes (open_scope p name (body_scope_of p c.entry) (body_of_object p w (body_scope_of p c.entry) o None (parameters_of p c)) (of_entry_body c.number)))
 
 abbrev pub has_room_for_body : Image → World → Who → EntryNo → Bool
 has_room_for_body p w name e = has_room w name (marks_of p (body_scope_of p e)) (scope_of p (body_scope_of p e)).size

@@ -24,12 +24,12 @@ use Rattle.profile_machine.specs.Run.{opening, stop, tock}
 
 -- ---- what a release line names: an object, and its procedure by name
 
-pub record Named : Type 0 where
+pub record NamedHandler : Type 0 where
   pub object : ObjectNo
   pub procedure : List ℕ
 
-abbrev pub named : Image → HandlerOf → Named
-named p h = record { object = h.object; procedure = (subprogram_of p h.procedure).name }
+abbrev pub named_handler : Image → HandlerOf → NamedHandler
+named_handler p h = record { object = h.object; procedure = (subprogram_of p h.procedure).name }
 
 abbrev pub same_bytes : List ℕ → List ℕ → Bool
 same_bytes [] [] = true
@@ -37,29 +37,29 @@ same_bytes [] (y ∷ ys) = false
 same_bytes (x ∷ xs) [] = false
 same_bytes (x ∷ xs) (y ∷ ys) = eqb x y && same_bytes xs ys
 
-abbrev pub same_named : Named → Named → Bool
-same_named a b = eqb a.object.0 b.object.0 && same_bytes a.procedure b.procedure
+abbrev pub same_handler : NamedHandler → NamedHandler → Bool
+same_handler a b = eqb a.object.0 b.object.0 && same_bytes a.procedure b.procedure
 
-abbrev pub all_same_named : List Named → List Named → Bool
-all_same_named [] [] = true
-all_same_named [] (y ∷ ys) = false
-all_same_named (x ∷ xs) [] = false
-all_same_named (x ∷ xs) (y ∷ ys) = same_named x y && all_same_named xs ys
+abbrev pub same_handlers : List NamedHandler → List NamedHandler → Bool
+same_handlers [] [] = true
+same_handlers [] (y ∷ ys) = false
+same_handlers (x ∷ xs) [] = false
+same_handlers (x ∷ xs) (y ∷ ys) = same_handler x y && same_handlers xs ys
 
 -- the handlers that the lines release, in order
-abbrev pub released : List Event → List Named
+abbrev pub released : List Event → List NamedHandler
 released [] = []
 released (line.Release n object handler ∷ lines) = record { object = object; procedure = handler } ∷ released lines
 released (_ ∷ lines) = released lines
 
 -- ---- what is due behind the first step of an instant
 
-abbrev pub handler_list : Image → Option HandlerOf → List Named
+abbrev pub handler_list : Image → Option HandlerOf → List NamedHandler
 handler_list p None = []
-handler_list p (Some h) = named p h ∷ []
+handler_list p (Some h) = named_handler p h ∷ []
 
 -- an attached interrupt at its script moment where it is not masked, and at the `unmask` where it was kept
-abbrev pub attached_to : Image → World → ℕ → Bool → List Named
+abbrev pub attached_to : Image → World → ℕ → Bool → List NamedHandler
 attached_to p w n true = handler_list p (handler_attached p n w.objects)
 attached_to p w n false = []
 
@@ -69,40 +69,40 @@ is_set flags n = slice_index_or flags n false
 abbrev pub marked : ℕ → Bool → List Bool → List Bool
 marked n flag = edit_at n (λ _. flag)
 
-abbrev pub kept_by : Bool → ℕ → List Bool → List Bool
-kept_by true n kept = marked n true kept
-kept_by false n kept = kept
+abbrev pub kept_where : Bool → ℕ → List Bool → List Bool
+kept_where true n flags = marked n true flags
+kept_where false n flags = flags
 
 -- what an item releases, and the flags behind it
 pub record Flags : Type 0 where
   pub masked : List Bool
-  pub kept : List Bool
+  pub kept_interrupts : List Bool
 
 abbrev pub flags_after : Item → Flags → Flags
-flags_after (item.Interrupt n) f = record f { kept = kept_by (is_set f.masked n) n f.kept }
+flags_after (item.Interrupt n) f = record f { kept_interrupts = kept_where (is_set f.masked n) n f.kept_interrupts }
 flags_after (item.Port n value) f = f
 flags_after (item.Mask n) f = record f { masked = marked n true f.masked }
-flags_after (item.Unmask n) f = record { masked = marked n false f.masked; kept = marked n false f.kept }
+flags_after (item.Unmask n) f = record { masked = marked n false f.masked; kept_interrupts = marked n false f.kept_interrupts }
 
-abbrev pub due_by_item : Image → World → Item → Flags → List Named
+abbrev pub due_by_item : Image → World → Item → Flags → List NamedHandler
 due_by_item p w (item.Interrupt n) f = attached_to p w n (not (is_set f.masked n))
 due_by_item p w (item.Port n value) f = []
 due_by_item p w (item.Mask n) f = []
-due_by_item p w (item.Unmask n) f = attached_to p w n (is_set f.kept n)
+due_by_item p w (item.Unmask n) f = attached_to p w n (is_set f.kept_interrupts n)
 
-abbrev pub due_interrupts : Image → World → List (ℤ × Item) → Flags → List Named
+abbrev pub due_interrupts : Image → World → List (ℤ × Item) → Flags → List NamedHandler
 due_interrupts p w [] f = []
 due_interrupts p w (x ∷ script) f =
     elim (int_le x.0 (pos w.now)) [ true ↦ due_by_item p w x.1 f ++ due_interrupts p w script (flags_after x.1 f) | false ↦ [] ]
 
 -- an event whose moment has come, in the order of setting
-abbrev pub due_event : Image → ℕ → Appointment → Due → List Named
-due_event p now a (an_event n h) = cond (int_le a.moment (pos now)) (named p h ∷ []) []
+abbrev pub due_event : Image → ℕ → Appointment → Due → List NamedHandler
+due_event p now a (an_event n h) = cond (int_le a.moment (pos now)) (named_handler p h ∷ []) []
 due_event p now a (a_delay t) = []
 due_event p now a (a_timeout c) = []
 due_event p now a (a_trigger t depth) = []
 
-abbrev pub due_events : Image → ℕ → List Appointment → List Named
+abbrev pub due_events : Image → ℕ → List Appointment → List NamedHandler
 due_events p now [] = []
 due_events p now (a ∷ rest) = due_event p now a a.due ++ due_events p now rest
 
@@ -111,19 +111,19 @@ abbrev pub handler_of_setting : Option TimerSetting → Option HandlerOf
 handler_of_setting None = None
 handler_of_setting (Some s) = Some s.handler
 
-abbrev pub due_timers : Image → World → List ℕ → List Named
+abbrev pub due_timers : Image → World → List ℕ → List NamedHandler
 due_timers p w [] = []
 due_timers p w (k ∷ ks) = handler_list p (handler_of_setting (timer_of w k).setting) ++ due_timers p w ks
 
 -- the budget that the last tick brought to zero, while it has a handler
-abbrev pub due_budget : Image → World → Option ℕ → List Named
+abbrev pub due_budget : Image → World → Option ℕ → List NamedHandler
 due_budget p w None = []
 due_budget p w (Some b) = handler_list p (budget_of w b).handler
 
 -- all that is to be released behind the first step, in the order of the steps
-abbrev pub due_in : Image → World → List Named
+abbrev pub due_in : Image → World → List NamedHandler
 due_in p w =
-    due_interrupts p w w.script (record { masked = w.masked; kept = w.kept_interrupts }) ++ due_events p w.now w.appointments
+    due_interrupts p w w.script (record { masked = w.masked; kept_interrupts = w.kept_interrupts }) ++ due_events p w.now w.appointments
     ++ due_timers p w w.timers_due ++ due_budget p w w.budget_due
 
 abbrev pub later_steps : Image → Move
@@ -166,7 +166,7 @@ later_events_stay before after = list_all (λ a. int_le a.moment (pos before.now
 
 abbrev pub instant_releases_ok : Image → World → World × List Event → World × List Event → Bool
 instant_releases_ok p w first later =
-    leb (length (released first.1)) (most_by_effect p w w.ran) && all_same_named (released later.1) (due_in p first.0)
+    leb (length (released first.1)) (most_by_effect p w w.ran) && same_handlers (released later.1) (due_in p first.0)
     && later_events_stay first.0 later.0
 
 abbrev pub releases_ok_from : ℕ → Image → ℕ → World → Bool

@@ -33,11 +33,11 @@ use Rattle.profile_machine.specs.Operators.{Valued, ◌>>=◌}
 use Rattle.profile_machine.specs.Values.{Seen, condition, moment}
 use Rattle.profile_machine.specs.Inheritance.{inherit, lose_running, inherit_running}
 use Rattle.profile_machine.specs.Appointments.{appoint, drop_delay}
-use Rattle.profile_machine.specs.Calls.{edit_call, with_call, queue_of, place_of_entry, next_call, enqueue}
+use Rattle.profile_machine.specs.Calls.{edit_call, with_call, queue_of, place_of_entry, next_call, enqueue, formals_count, parameters_of}
 use Rattle.profile_machine.specs.CallEnds.{deliver, gone}
 use Rattle.profile_machine.specs.Protected.{begin_call}
 use Rattle.profile_machine.specs.Sending.{send_on, sent_not_begun, begin_abortable}
-use Rattle.profile_machine.specs.Serving.{with_values, formals_count, keeps_sending}
+use Rattle.profile_machine.specs.Serving.{with_values, keeps_sending}
 use Rattle.profile_machine.specs.Statements.{sees, relative_moment}
 
 -- ---- accepts
@@ -68,39 +68,42 @@ abbrev pub open_accept : Image → Who → StatementNo → Call → World → Wo
 open_accept p name s c w =
     let scope = accept_scope (form_of p s) in
     let mark : Mark = InAccept (record { call = c.number; accept = s; within = next_id w; handles = None }) in
-    push name (new_frame mark (scope_of p scope).first) (begin_scope p name scope (record (plainly (innermost w name)) { values = c.values }) w)
+    push name (new_frame mark (scope_of p scope).first) (begin_scope p name scope (record (plainly (innermost w name)) { values = parameters_of p c }) w)
 
 abbrev pub has_room_for_accept : Image → World → Who → StatementNo → Bool
 has_room_for_accept p w name s =
     has_room w name (marks_of p (accept_scope (form_of p s))) (scope_of p (accept_scope (form_of p s))).size
 
--- the accept body opens; without room it starts and finishes at once with Storage_Error, and `otherwise` is done
-abbrev pub begin_rendezvous : Image → Part → Who → StatementNo → Call → Step → Step → Step
-begin_rendezvous p part name s c then_ otherwise =
-    looks (λ w. begin_call p part name c ▷ goes name (next_of p s)
-    ▷ elim (has_room_for_accept p w name s) [
-      | true ↦ changes (open_accept p name s c) ▷ open_sequence p name ▷ then_
-      | false ↦ says part (line.Finish name c.number (finished.Raised (exception_name p exception.Storage))) ▷ otherwise
-    ])
+-- the call begins, and the acceptor will go on behind its accept
+abbrev pub begin_accept : Image → Part → Who → StatementNo → Call → Step
+begin_accept p part name s c = begin_call p part name c ▷ goes name (next_of p s)
+
+-- without room for the accept body it finishes at once with Storage_Error
+abbrev pub finish_without_room : Image → Part → Who → Call → Step
+finish_without_room p part name c =
+    says part (line.Finish name c.number (finished.Raised (exception_name p exception.Storage)))
 
 -- the acceptor acts: it goes to the head where its active priority rises
+abbrev pub accept_with_room : Image → Who → StatementNo → Call → Bool → Step
+accept_with_room p name s c true =
+    changes (open_accept p name s c) ▷ inherit_running p name (by_rendezvous c.number) c.priority
+accept_with_room p name s c false =
+    finish_without_room p own name c ▷ deliver p own c.number (to_raise exception.Storage) ▷ raises p own name exception.Storage
+
 abbrev pub accept_call : Image → Who → StatementNo → CallNo → Step
 accept_call p name s c =
-    with_call c (λ d. begin_rendezvous p own name s d
-    (inherit_running p name (by_rendezvous c) d.priority)
-    (deliver p own c (to_raise exception.Storage) ▷ raises p own name exception.Storage))
+    with_call c (λ d. begin_accept p own name s d ▷ looks (λ w. accept_with_room p name s d (has_room_for_accept p w name s)))
 
 -- the acceptor waited: it becomes ready, behind the `start`
 abbrev pub meet_with_room : Image → Part → Who → StatementNo → Call → Step → Step
 meet_with_room p part name s c then_ =
-    begin_rendezvous p part name s c
-    (changes (inherit name (by_rendezvous c.number) c.priority) ▷ ready p part name ▷ then_) nothing
+    begin_accept p part name s c ▷ changes (open_accept p name s c)
+    ▷ changes (inherit name (by_rendezvous c.number) c.priority) ▷ ready p part name ▷ open_sequence p part name ▷ then_
 
 -- without room the call has ended at once: its lines and its caller's come first, then those of the acceptor
 abbrev pub meet_without_room : Image → Part → Who → StatementNo → Call → Step → Step
 meet_without_room p part name s c otherwise =
-    begin_call p the_finish name c ▷ goes name (next_of p s)
-    ▷ says the_finish (line.Finish name c.number (finished.Raised (exception_name p exception.Storage)))
+    begin_accept p the_finish name s c ▷ finish_without_room p the_finish name c
     ▷ otherwise ▷ ready p part name ▷ raises p part name exception.Storage
 
 abbrev pub meet : Image → Part → Who → StatementNo → Call → Step → Step → Step

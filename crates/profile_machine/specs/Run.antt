@@ -47,7 +47,7 @@ opens p =
     changes (open_scope p environment p.environment (plainly None) of_task)
     ▷ says own (line.New (created.Task (record { 0 = 0 })) p.main.name p.main.priority)
     ▷ to_tail p own environment
-    ▷ open_sequence p environment
+    ▷ open_sequence p own environment
 
 abbrev pub opening : Image → List (ℤ × Item) → World × List Event
 opening p script = settles (opens p) (blank_world p script)
@@ -115,12 +115,12 @@ ticks_or (Some ticks) n = ticks
 abbrev pub begin_action : Image → Who → World → World
 begin_action p name w = edit_task name (with_ticks (Some (ticks_or (task_of w name).ticks_left (cost p w name)))) w
 
-abbrev pub one_less : Option ℕ → Option ℕ
-one_less None = None
-one_less (Some n) = Some (n - 1)
+abbrev pub one_tick_less : Option ℕ → Option ℕ
+one_tick_less None = None
+one_tick_less (Some n) = Some (n - 1)
 
 abbrev pub spend_tick : Who → World → World
-spend_tick name = edit_task name (λ t. with_ticks (one_less t.ticks_left) t)
+spend_tick name = edit_task name (λ t. with_ticks (one_tick_less t.ticks_left) t)
 
 abbrev pub next_tick : Option Who → World → World
 next_tick ran w = record w { now = suc w.now; ran = ran }

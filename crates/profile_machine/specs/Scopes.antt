@@ -1,5 +1,5 @@
 -- Scopes in use: where a name's cells are, how a scope begins and ends (3.1, 7.6.1, 8.2).
-use Rattle.std.specs.Prelude.{ℕ, suc, zero, pos, Bool, true, false, List, [], ◌∷◌, ◌++◌, Option, Some, None, length, find, drop, option_map, slice_index_or, slice_set}
+use Rattle.std.specs.Prelude.{ℕ, suc, zero, pos, Bool, true, false, not, ◌&&◌, List, [], ◌∷◌, ◌++◌, Option, Some, None, eqb, length, find, drop, option_map, slice_index_or, slice_set}
 use Rattle.ann_base.specs.declared.identities.ObjectNo.{ObjectNo}
 use Rattle.ann_base.specs.declared.identities.RegionNo.{RegionNo}
 use Rattle.trace_text.specs.declared.events.Who.{Who}
@@ -7,7 +7,7 @@ use Rattle.profile_machine.specs.declared.image.Image.{Image}
 use Rattle.profile_machine.specs.declared.numbers.ScopeNo.{ScopeNo}
 use Rattle.profile_machine.specs.declared.values.Value.{Value}
 use Rattle.profile_machine.specs.declared.values.Value.TheVariants.{Whole}
-use Rattle.profile_machine.specs.World.{World, Frame, Mark, Scope, Handled, InProtected, InAccept, Abortable, InInitialize, InFinalize, InAssign, Purpose, ScopeId, scope_id, ScopeInUse, Located, Drawn}
+use Rattle.profile_machine.specs.World.{World, Frame, Mark, Scope, Handled, InProtected, InAccept, Abortable, InInitialize, InFinalize, InAssign, Purpose, ScopeId, scope_id, ScopeInUse, Object, Located, Drawn}
 use Rattle.profile_machine.specs.Words.{same_id, same_scope, without, edit_where, some_where}
 use Rattle.profile_machine.specs.Program.{scope_of, initial_cells}
 use Rattle.profile_machine.specs.Frames.{push, new_frame, frames_of}
@@ -122,7 +122,14 @@ open_scope p name scope b purpose w =
 
 -- ---- a scope ends
 
--- the protected objects that its declarations made are no longer there
+-- library objects are there to the end of the run: at the instant at which the environment task ends an interrupt, as
+-- a timing event, still releases its handler (own)
+abbrev pub is_library : ScopeId → Bool
+is_library (scope_id n) = eqb n 0
+
+abbrev pub goes_with : ScopeId → Object → Bool
+goes_with id o = same_id id o.located.within && not (is_library id)
+
+-- the other protected objects that its declarations made are no longer there
 abbrev pub end_scope : ScopeId → World → World
-end_scope id w =
-    record w { scopes = without (is_id id) w.scopes; objects = without (λ o. same_id o.located.within id) w.objects }
+end_scope id w = record w { scopes = without (is_id id) w.scopes; objects = without (goes_with id) w.objects }

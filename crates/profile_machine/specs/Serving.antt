@@ -16,12 +16,11 @@ use Rattle.profile_machine.specs.declared.run_data.Leaving.TheVariants as how
 use Rattle.profile_machine.specs.declared.values.Value.{Value}
 use Rattle.profile_machine.specs.World.{World, Frame, ProtectedMark, Call, Outcome, finished_ok, to_raise, was_raised, Sending, for_release, by_ceiling}
 use Rattle.profile_machine.specs.Words.{same_call, same_who, is_the, without, is_empty}
-use Rattle.profile_machine.specs.Program.{entry_of}
 use Rattle.profile_machine.specs.Steps.{Step, Part, own, the_finish, the_block, says, changes, looks, when, nothing, ◌▷◌}
 use Rattle.profile_machine.specs.Dispatching.{block}
 use Rattle.profile_machine.specs.Frames.{frames_of, edit_top, pop, leaves, pass_on, exception_name, has_room}
 use Rattle.profile_machine.specs.Inheritance.{lose_running}
-use Rattle.profile_machine.specs.Calls.{edit_call, with_call, edit_object, enqueue, attempt_with, forget_call}
+use Rattle.profile_machine.specs.Calls.{edit_call, with_call, edit_object, enqueue, attempt_with, forget_call, formals_count}
 use Rattle.profile_machine.specs.Unwinding.{may_unwind}
 use Rattle.profile_machine.specs.CallEnds.{deliver, resume}
 use Rattle.profile_machine.specs.Protected.{edit_top_protected, serve_call, served_next, is_action_of}
@@ -181,9 +180,6 @@ end_in_protected p name m leaving = end_in_protected_by p name m leaving m.serve
 
 abbrev pub with_values : List Value → ℕ → Call → Call
 with_values cells count c = record c { values = take count cells ++ drop count c.values }
-
-abbrev pub formals_count : Image → Call → ℕ
-formals_count p c = length (entry_of p c.entry).formals
 
 abbrev pub keep_values : Image → CallNo → List Value → Step
 keep_values p c cells = with_call c (λ d. changes (edit_call c (with_values cells (formals_count p d))))

@@ -1,5 +1,5 @@
 -- Simple and compound statements (clauses 5, 6.5, 9.6, 11.3, A.10.7).
-use Rattle.std.specs.Prelude.{ℕ, ◌+◌, ◌-◌, ℤ, pos, negsuc, ◌+ℤ◌, int_lt, Bool, true, false, cond, not, ◌&&◌, List, [], ◌∷◌, ◌++◌, Option, Some, None, Ok, Err, length, take, drop}
+use Rattle.std.specs.Prelude.{ℕ, suc, ◌+◌, ◌-◌, ℤ, pos, negsuc, ◌+ℤ◌, int_lt, Bool, true, false, cond, not, ◌&&◌, List, [], ◌∷◌, ◌++◌, Option, Some, None, Ok, Err, take, drop, slice_set}
 use Rattle.ann_base.specs.declared.exceptions.Raised.{Raised}
 use Rattle.ann_base.specs.declared.exceptions.Raised.TheVariants as exception
 use Rattle.trace_text.specs.declared.events.Event.TheVariants as line
@@ -53,8 +53,10 @@ assign p name s target e =
 abbrev pub cells_from : World → Variable → ℕ → List Value
 cells_from w v count = take count (drop v.place (cells_of (scope_in_use w v.within)))
 
+-- the cells from this place on get these values
 abbrev pub put_cells : ℕ → List Value → List Value → List Value
-put_cells place new cells = take place cells ++ new ++ drop (place + length new) cells
+put_cells place [] cells = cells
+put_cells place (v ∷ vs) cells = put_cells (suc place) vs (slice_set cells place v)
 
 abbrev pub copy_cells : Image → Variable → Variable → World → World
 copy_cells p target source w =
@@ -94,9 +96,14 @@ abbrev pub chosen_alternative : Value → List CaseAlternative → Option Statem
 chosen_alternative v [] = None
 chosen_alternative v (a ∷ as') = cond (any_chosen v a.choices) (Some a.first) (chosen_alternative v as')
 
+-- a value that no choice covers raises Constraint_Error
+abbrev pub go_to_alternative : Image → Who → Option StatementNo → Step
+go_to_alternative p name None = raises p own name exception.Constraint
+go_to_alternative p name (Some first) = goes name (Some first)
+
 abbrev pub case_statement : Image → Who → ExprNo → List CaseAlternative → Step
 case_statement p name e alternatives =
-    sees p name (λ q. given p own name (value q e) (λ v. goes name (chosen_alternative v alternatives)))
+    sees p name (λ q. given p own name (value q e) (λ v. go_to_alternative p name (chosen_alternative v alternatives)))
 
 -- ---- loops (5.5): into the body, or past the loop
 

@@ -61,10 +61,10 @@ abbrev pub outer_of_task : Seen → TaskUnit → Option ScopeId
 outer_of_task q u = option_and_then (λ outer. home q.world outer q.within) (scope_of q.program u.scope).outer
 
 abbrev pub created_task : Seen → DeclNo → TaskUnitNo → ℕ → Option ℤ → ℕ → world.Task
-created_task q d u part span n =
+created_task q d u declarative_part span n =
     let unit = task_unit_of q.program u in
     record (new_task (who.Task (record { 0 = n })) (option_or_else unit.priority (task_of q.world q.who).base) Made)
-    { declared = Some d; unit = Some u; outer = outer_of_task q unit; relative_deadline = span; master = Some (top_region q.world q.who); part = part; queues = no_calls unit.entries }
+    { declared = Some d; unit = Some u; outer = outer_of_task q unit; relative_deadline = span; master = Some (top_region q.world q.who); declarative_part = declarative_part; queues = no_calls unit.entries }
 
 abbrev pub task_drawn : Drawn → Drawn
 task_drawn d = record d { tasks = suc d.tasks }
@@ -83,11 +83,11 @@ create_task p name s d id t =
 
 -- Program_Error inside a protected action and wherever abort is deferred; Storage_Error while 256 tasks are live (own)
 abbrev pub create : Image → Who → StatementNo → DeclNo → ℕ → Step
-create p name s d part =
+create p name s d declarative_part =
     sees p name (λ q. raise_if p name (in_protected q.world name || is_deferred q.world name) exception.Program
     (raise_if p name (leb 256 (length q.world.tasks)) exception.Storage
     (given p own name (optional_span q (task_unit_of p (unit_of_declaration p d)).relative_deadline) (λ span.
-    create_task p name s d (home q.world (declaration_of p d).scope q.within) (created_task q d (unit_of_declaration p d) part span q.world.drawn.tasks)))))
+    create_task p name s d (home q.world (declaration_of p d).scope q.within) (created_task q d (unit_of_declaration p d) declarative_part span q.world.drawn.tasks)))))
 
 -- the region of the scope on top; a sequence with handlers may stand above it
 abbrev pub region_of_frames : List Frame → Option RegionNo
@@ -104,7 +104,7 @@ fall_from p name before = looks (λ w. when (falls p name before w) (to_head p t
 -- ---- activation (9.2): the tasks that the declarative part made become ready in order
 
 abbrev pub is_to_activate : RegionNo → ℕ → world.Task → Bool
-is_to_activate r part t = is_made t && is_the same_region t.master r && eqb t.part part
+is_to_activate r declarative_part t = is_made t && is_the same_region t.master r && eqb t.declarative_part declarative_part
 
 abbrev pub unit_of_task : Image → world.Task → TaskUnit
 unit_of_task p t = task_unit_of p (option_or_else t.unit (record { 0 = 0 }))
@@ -150,9 +150,9 @@ abbrev pub no_failure : world.Task → world.Task
 no_failure t = record t { group_failed = false }
 
 abbrev pub activate : Image → Who → StatementNo → ℕ → Step
-activate p name s part =
+activate p name s declarative_part =
     looks (λ w. goes name (next_of p s) ▷ changes (edit_task name no_failure)
-    ▷ for_each (filter (is_to_activate (top_region_of_scope w name) part) w.tasks) (activate_one p name (active_of p w name)))
+    ▷ for_each (filter (is_to_activate (top_region_of_scope w name) declarative_part) w.tasks) (activate_one p name (active_of p w name)))
     ▷ looks (λ w. await_group p name (has_activating w name) (task_of w name).group_failed)
 
 -- the end of a task's own activation: it goes to the head where its active priority falls
@@ -296,7 +296,7 @@ named_tasks q [] = Ok []
 named_tasks q (d ∷ ds) = thing q d >>= λ v. named_tasks q ds >>= λ rest. Ok (task_list (task_in v) rest)
 
 abbrev pub is_to_abort : World → List TaskNo → world.Task → Bool
-is_to_abort w named t = not t.abnormal && list_any (λ n. same_who (who.Task n) t.who || depends_on_task w (who.Task n) t) named
+is_to_abort w aborted t = not t.abnormal && list_any (λ n. same_who (who.Task n) t.who || depends_on_task w (who.Task n) t) aborted
 
 abbrev pub abnormal_task : world.Task → world.Task
 abnormal_task t = record t { abnormal = true }
@@ -321,7 +321,7 @@ abort_all p actor tasks =
 abbrev pub abort_statement : Image → Who → StatementNo → List DeclNo → Step
 abort_statement p name s tasks =
     sees p name (λ q. raise_if p name (in_protected q.world name) exception.Program
-    (given p own name (named_tasks q tasks) (λ named. goes name (next_of p s) ▷ looks (λ w. abort_all p name (filter (is_to_abort w named) w.tasks)))))
+    (given p own name (named_tasks q tasks) (λ aborted. goes name (next_of p s) ▷ looks (λ w. abort_all p name (filter (is_to_abort w aborted) w.tasks)))))
 
 -- ---- what an effect brings about elsewhere
 

@@ -1,5 +1,5 @@
 -- The tasks of a world and the agent: looking at one, and changing one.
-use Rattle.std.specs.Prelude.{ℕ, ℤ, pos, Bool, true, false, List, [], Option, Some, None, find, is_some}
+use Rattle.std.specs.Prelude.{ℕ, ℤ, pos, Bool, true, false, List, [], Option, Some, None, find}
 use Rattle.ann_base.specs.declared.identities.TaskNo.{TaskNo}
 use Rattle.trace_text.specs.declared.events.Who.{Who}
 use Rattle.trace_text.specs.declared.events.Who.TheVariants as who
@@ -12,7 +12,7 @@ time_last = pos 4611686018427387903
 
 -- a task, or the agent, as it begins
 abbrev pub new_task : Who → ℕ → State → Task
-new_task name base state = record { who = name; declared = None; unit = None; outer = None; state = state; frames = []; ticks_left = None; base = base; inherited = []; kept_level = None; deadline = time_last; relative_deadline = None; quantum = 0; cpu_ticks = 0; master = None; part = 0; activator = None; group_failed = false; completed = false; abnormal = false; deferred_base = None; deferred_deadline = None; budget = None; queues = [] }
+new_task name base state = record { who = name; declared = None; unit = None; outer = None; state = state; frames = []; ticks_left = None; base = base; inherited = []; kept_level = None; deadline = time_last; relative_deadline = None; quantum = 0; cpu_ticks = 0; master = None; declarative_part = 0; activator = None; group_failed = false; completed = false; abnormal = false; deferred_base = None; deferred_deadline = None; budget = None; queues = [] }
 
 -- ---- looking
 
@@ -30,17 +30,9 @@ abbrev pub task_of : World → Who → Task
 task_of w (who.Task t) = option_or_else (found_task (who.Task t) w.tasks) nobody
 task_of w who.Agent = w.agent
 
--- a task that has not terminated is there
-abbrev pub is_there : World → TaskNo → Bool
-is_there w t = is_some (found_task (who.Task t) w.tasks)
-
 abbrev pub number_of : Who → Option TaskNo
 number_of (who.Task t) = Some t
 number_of who.Agent = None
-
-abbrev pub is_agent : Who → Bool
-is_agent (who.Task t) = false
-is_agent who.Agent = true
 
 abbrev pub is_runnable_state : State → Bool
 is_runnable_state Made = false

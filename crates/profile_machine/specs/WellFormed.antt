@@ -1,19 +1,24 @@
 -- What every world that a run reaches keeps, as tests that compute. A run is looked at before and behind each instant.
-use Rattle.std.specs.Prelude.{ℕ, zero, suc, ◌+◌, ℤ, pos, int_le, Bool, true, false, cond, not, ◌&&◌, List, [], ◌∷◌, ◌++◌, Option, Some, None, eqb, ltb, leb, length, filter, is_some, is_none}
+use Rattle.std.specs.Prelude.{ℕ, zero, suc, ◌+◌, ℤ, pos, int_le, Bool, true, false, cond, not, ◌&&◌, ◌||◌, List, [], ◌∷◌, ◌++◌, Option, Some, None, eqb, ltb, leb, length, filter, is_some, is_none}
 use Rattle.std.specs.List.{list_any, list_all}
 use Rattle.ann_base.specs.declared.identities.CallNo.{CallNo}
 use Rattle.ann_base.specs.declared.identities.ObjectNo.{ObjectNo}
 use Rattle.trace_text.specs.declared.events.Who.{Who}
 use Rattle.trace_text.specs.declared.events.Who.TheVariants as who
 use Rattle.profile_machine.specs.declared.image.Image.{Image}
+use Rattle.profile_machine.specs.declared.numbers.StatementNo.{StatementNo}
 use Rattle.profile_machine.specs.declared.run_data.Item.{Item}
-use Rattle.profile_machine.specs.World.{World, Task, Placed, Frame, Mark, Scope, Handled, InProtected, InAccept, Abortable, InInitialize, InFinalize, InAssign, ScopeId, scope_id, Object, Action, Call, Owner, a_task, an_object}
-use Rattle.profile_machine.specs.Words.{same_who, same_object, same_moment, same_option, is_empty}
+use Rattle.profile_machine.specs.World.{World, Task, Placed, Frame, Mark, Scope, Handled, InProtected, InAccept, Abortable, InInitialize, InFinalize, InAssign, ScopeId, scope_id, ScopeInUse, Object, Action, Call, Owner, a_task, an_object, Waiting, for_activation, for_moment, for_call, for_end_of_call, for_accept, for_select, for_dependents, for_release, Due, an_event, a_delay, a_timeout, a_trigger}
+use Rattle.profile_machine.specs.Words.{same_who, same_call, same_object, same_moment, same_option, has, is_empty}
+use Rattle.profile_machine.specs.Program.{form_of, scope_of, opens_handled}
 use Rattle.profile_machine.specs.Steps.{is_above}
-use Rattle.profile_machine.specs.Tasks.{task_of, is_runnable}
+use Rattle.profile_machine.specs.Tasks.{task_of, is_runnable, waiting_of}
 use Rattle.profile_machine.specs.Dispatching.{active, deadline_shown}
+use Rattle.profile_machine.specs.Frames.{frames_of, onward_of}
 use Rattle.profile_machine.specs.Scopes.{id_in, scope_in_use}
-use Rattle.profile_machine.specs.Calls.{call_of}
+use Rattle.profile_machine.specs.Calls.{call_of, queue_of, place_of_entry}
+use Rattle.profile_machine.specs.Priorities.{is_queued}
+use Rattle.profile_machine.specs.Controlled.{registered_object}
 use Rattle.profile_machine.specs.Protected.{has_open}
 use Rattle.profile_machine.specs.Instant.{instant}
 use Rattle.profile_machine.specs.Run.{opening, stop, tock}
@@ -88,6 +93,13 @@ scopes_are_right w =
     all_adjacent (λ a b. is_older b.id a.id) w.scopes && list_all (λ t. list_all (has_scope w t.who) t.frames) (everybody w)
     && eqb (length w.scopes) (scopes_counted (everybody w))
 
+-- a scope in use has as many cells as its text, so a cell that a name leads to is there
+abbrev pub has_its_cells : Image → ScopeInUse → Bool
+has_its_cells p s = eqb (length s.cells) (scope_of p s.scope).size
+
+abbrev pub cells_are_right : Image → World → Bool
+cells_are_right p w = list_all (has_its_cells p) w.scopes
+
 -- ---- protected objects: open actions are InProtected marks; whoever has one open is not blocked and has at least the
 -- ceiling as active priority; no write stands beside another action (9.5.1, D.3)
 
@@ -123,34 +135,146 @@ same_owner (a_task t) (an_object o) = false
 same_owner (an_object o) (a_task t) = false
 same_owner (an_object o) (an_object q) = same_object o q
 
-abbrev pub is_queued_call : Owner → Option Call → Bool
-is_queued_call o None = false
-is_queued_call o (Some c) = not c.begun && is_none c.outcome && same_owner o c.owner
+abbrev pub is_queued_call : Image → Owner → ℕ → Option Call → Bool
+is_queued_call p o place None = false
+is_queued_call p o place (Some c) = is_queued c && same_owner o c.owner && eqb (place_of_entry p c.entry) place
 
-abbrev pub queue_is_right : World → Owner → List (List CallNo) → Bool
-queue_is_right w o queues = list_all (λ q. list_all (λ c. is_queued_call o (call_of w c)) q) queues
+abbrev pub queue_is_right : Image → World → Owner → ℕ → List CallNo → Bool
+queue_is_right p w o place queue = list_all (λ c. is_queued_call p o place (call_of w c)) queue
 
-abbrev pub task_queue_is_right : World → Who → List (List CallNo) → Bool
-task_queue_is_right w (who.Task t) queues = queue_is_right w (a_task t) queues
-task_queue_is_right w who.Agent queues = is_empty queues
+-- the queues of an owner's entries, from this place on
+abbrev pub queues_from : Image → World → Owner → ℕ → List (List CallNo) → Bool
+queues_from p w o place [] = true
+queues_from p w o place (queue ∷ queues) = queue_is_right p w o place queue && queues_from p w o (suc place) queues
 
-abbrev pub queues_are_right : World → Bool
-queues_are_right w =
-    list_all (λ t. task_queue_is_right w t.who t.queues) w.tasks && list_all (λ o. queue_is_right w (an_object o.number) o.queues) w.objects
+abbrev pub task_queues_are_right : Image → World → Who → List (List CallNo) → Bool
+task_queues_are_right p w (who.Task t) queues = queues_from p w (a_task t) 0 queues
+task_queues_are_right p w who.Agent queues = is_empty queues
+
+abbrev pub queues_are_right : Image → World → Bool
+queues_are_right p w =
+    list_all (λ t. task_queues_are_right p w t.who t.queues) w.tasks
+    && list_all (λ o. queues_from p w (an_object o.number) 0 o.queues) w.objects
     && all_adjacent (λ a b. ltb b.number.0 a.number.0) w.calls
 
--- ---- appointments: by moment, and none of them before now
+-- ---- appointments: by moment, and none of them before now; whatever one is for waits for it, so none comes for nothing
 
-abbrev pub appointments_are_right : World → Bool
-appointments_are_right w =
+-- a delay's task is blocked for that delay: it waits for the moment, or at a select whose delay alternative is to be taken
+abbrev pub waits_for_delay : Option Waiting → Bool
+waits_for_delay None = false
+waits_for_delay (Some for_activation) = false
+waits_for_delay (Some for_moment) = true
+waits_for_delay (Some (for_call c)) = false
+waits_for_delay (Some (for_end_of_call c)) = false
+waits_for_delay (Some (for_accept s)) = false
+waits_for_delay (Some (for_select accepts delay terminate)) = is_some delay
+waits_for_delay (Some (for_dependents r)) = false
+waits_for_delay (Some for_release) = false
+
+-- a time-out's call stands in its queue and is not firm, so it may be cancelled
+abbrev pub stands_in_queue : Image → World → Call → Bool
+stands_in_queue p w c = has same_call (queue_of w c.owner (place_of_entry p c.entry)) c.number
+
+abbrev pub may_time_out : Image → World → Option Call → Bool
+may_time_out p w None = false
+may_time_out p w (Some c) = stands_in_queue p w c && not c.firm
+
+-- a trigger's depth names an open abortable part that a delay triggers and that has not been triggered, so one that
+-- stands there later is not struck
+abbrev pub awaits_trigger : Mark → Bool
+awaits_trigger (Scope m) = false
+awaits_trigger (Handled s) = false
+awaits_trigger (InProtected m) = false
+awaits_trigger (InAccept m) = false
+awaits_trigger (Abortable m) = is_none m.call && not m.triggered
+awaits_trigger (InInitialize l) = false
+awaits_trigger (InFinalize n) = false
+awaits_trigger (InAssign m) = false
+
+abbrev pub awaits_trigger_at : ℕ → List Frame → Bool
+awaits_trigger_at depth [] = false
+awaits_trigger_at depth (f ∷ fs) = cond (eqb (length fs) depth) (awaits_trigger f.mark) (awaits_trigger_at depth fs)
+
+abbrev pub is_awaited : Image → World → Due → Bool
+is_awaited p w (an_event n h) = true
+is_awaited p w (a_delay t) = waits_for_delay (waiting_of w (who.Task t))
+is_awaited p w (a_timeout c) = may_time_out p w (call_of w c)
+is_awaited p w (a_trigger t depth) = awaits_trigger_at depth (frames_of w (who.Task t))
+
+abbrev pub appointments_are_right : Image → World → Bool
+appointments_are_right p w =
     all_adjacent (λ a b. int_le a.moment b.moment) w.appointments && list_all (λ a. int_le (pos w.now) a.moment) w.appointments
+    && list_all (λ a. is_awaited p w a.due) w.appointments
+
+-- ---- marks: each is struck for a cause of its own task, and each Finalize stands where its end leads on (7.6.1, 9.7.4, 9.8)
+
+-- a struck mark is the outermost one of an abnormal task, or an abortable part of it whose trigger has completed, so what
+-- is left by abort is what was struck
+abbrev pub is_triggered : Mark → Bool
+is_triggered (Scope m) = false
+is_triggered (Handled s) = false
+is_triggered (InProtected m) = false
+is_triggered (InAccept m) = false
+is_triggered (Abortable m) = m.triggered
+is_triggered (InInitialize l) = false
+is_triggered (InFinalize n) = false
+is_triggered (InAssign m) = false
+
+abbrev pub is_struck_rightly : Task → Frame → List Frame → Bool
+is_struck_rightly t f below = cond f.struck (is_triggered f.mark || (is_empty below && t.abnormal)) true
+
+-- an InFinalize mark stands on the scope that is being left, and its object has been taken out of the register; or on the
+-- assignment to its object, which stays registered. So an exception of it has a scope or an assignment to go to.
+abbrev pub finalizes_on : World → ℕ → Mark → Bool
+finalizes_on w n (Scope m) = m.being_left && is_some m.region && is_none (registered_object w n) && leb n w.drawn.controlled
+finalizes_on w n (Handled s) = false
+finalizes_on w n (InProtected m) = false
+finalizes_on w n (InAccept m) = false
+finalizes_on w n (Abortable m) = false
+finalizes_on w n (InInitialize l) = false
+finalizes_on w n (InFinalize o) = false
+finalizes_on w n (InAssign m) = eqb n m.target && is_some (registered_object w n)
+
+abbrev pub finalizes_above : World → ℕ → List Frame → Bool
+finalizes_above w n [] = false
+finalizes_above w n (f ∷ fs) = finalizes_on w n f.mark
+
+abbrev pub finalizes_rightly : World → Mark → List Frame → Bool
+finalizes_rightly w (Scope m) below = true
+finalizes_rightly w (Handled s) below = true
+finalizes_rightly w (InProtected m) below = true
+finalizes_rightly w (InAccept m) below = true
+finalizes_rightly w (Abortable m) below = true
+finalizes_rightly w (InInitialize l) below = true
+finalizes_rightly w (InFinalize n) below = finalizes_above w n below
+finalizes_rightly w (InAssign m) below = true
+
+abbrev pub frames_are_right : World → Task → List Frame → Bool
+frames_are_right w t [] = true
+frames_are_right w t (f ∷ fs) = is_struck_rightly t f fs && finalizes_rightly w f.mark fs && frames_are_right w t fs
+
+abbrev pub marks_are_right : World → Bool
+marks_are_right w = list_all (λ t. frames_are_right w t t.frames) (everybody w)
+
+-- ---- sequences with handlers: who is ready has opened the one to which it has come, so none is an action of its own
+
+abbrev pub begins_sequence : Image → Option StatementNo → Bool
+begins_sequence p None = false
+begins_sequence p (Some s) = opens_handled (form_of p s)
+
+abbrev pub has_opened : Image → World → Task → Bool
+has_opened p w t = not (is_runnable t && begins_sequence p (onward_of w t.who))
+
+abbrev pub sequences_are_open : Image → World → Bool
+sequences_are_open p w = list_all (has_opened p w) (everybody w)
 
 -- ---- a world that a run reaches
 
 abbrev pub is_well_formed : Image → World → Bool
 is_well_formed p w =
     places_are_right p w && tasks_are_numbered w && registered_are_numbered w && releases_are_numbered w && scopes_are_right w
-    && actions_are_right p w && queues_are_right w && appointments_are_right w
+    && cells_are_right p w && actions_are_right p w && queues_are_right p w && appointments_are_right p w && marks_are_right w
+    && sequences_are_open p w
 
 -- now never passes the bound
 abbrev pub is_right : Image → ℕ → World → Bool

@@ -1,5 +1,5 @@
 -- Small words on numbers, options and lists that the definitions share.
-use Rattle.std.specs.Prelude.{ℕ, zero, suc, max, cond, ℤ, pos, Bool, true, false, not, ◌&&◌, ◌||◌, List, [], ◌∷◌, Option, Some, None, eqb, int_le, filter}
+use Rattle.std.specs.Prelude.{ℕ, zero, suc, max, cond, ℤ, Bool, true, false, not, ◌&&◌, ◌||◌, List, [], ◌∷◌, Option, Some, None, eqb, int_le, filter}
 use Rattle.ann_base.specs.declared.identities.TaskNo.{TaskNo}
 use Rattle.ann_base.specs.declared.identities.CallNo.{CallNo}
 use Rattle.ann_base.specs.declared.identities.ObjectNo.{ObjectNo}

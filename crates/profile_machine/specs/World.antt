@@ -212,7 +212,7 @@ pub record Task : Type 0 where
   pub cpu_ticks : ℕ
   -- the region on which it depends, and the declarative part that made it
   pub master : Option RegionNo
-  pub part : ℕ
+  pub declarative_part : ℕ
   -- who activates it, while it is activated
   pub activator : Option Who
   -- whether a task of the group that it activates has failed

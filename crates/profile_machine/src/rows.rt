@@ -28,19 +28,55 @@ ghost use Rattle.profile_machine.specs.Rows.Row20b.{row_20b_lines, row_20b_trace
 ghost use Rattle.profile_machine.specs.Rows.Row20c.{row_20c_lines, row_20c_trace, row_20c_worlds, row_20c_handlers};
 ghost use Rattle.profile_machine.specs.Rows.Row23.{row_23_lines, row_23_trace};
 ghost use Rattle.profile_machine.specs.Rows.Row23_interrupt.{row_23_interrupt_lines, row_23_interrupt_trace};
+ghost use Rattle.profile_machine.specs.Rows.RowAbort_action.{row_abort_action_lines, row_abort_action_trace, row_abort_action_worlds, row_abort_action_handlers};
 ghost use Rattle.profile_machine.specs.Rows.RowAdjust_1.{row_adjust_1_lines, row_adjust_1_trace, row_adjust_1_worlds, row_adjust_1_handlers};
 ghost use Rattle.profile_machine.specs.Rows.RowAdjust_2.{row_adjust_2_lines, row_adjust_2_trace, row_adjust_2_worlds, row_adjust_2_handlers};
 ghost use Rattle.profile_machine.specs.Rows.RowBudgets_1.{row_budgets_1_lines, row_budgets_1_trace, row_budgets_1_worlds, row_budgets_1_handlers};
+ghost use Rattle.profile_machine.specs.Rows.RowBudgets_group.{row_budgets_group_lines, row_budgets_group_trace, row_budgets_group_worlds, row_budgets_group_handlers};
+ghost use Rattle.profile_machine.specs.Rows.RowCalls_gone.{row_calls_gone_lines, row_calls_gone_trace, row_calls_gone_worlds, row_calls_gone_handlers};
+ghost use Rattle.profile_machine.specs.Rows.RowCalls_inside.{row_calls_inside_lines, row_calls_inside_trace, row_calls_inside_worlds, row_calls_inside_handlers};
+ghost use Rattle.profile_machine.specs.Rows.RowCalls_results.{row_calls_results_lines, row_calls_results_trace, row_calls_results_worlds, row_calls_results_handlers};
 ghost use Rattle.profile_machine.specs.Rows.RowControlled_1.{row_controlled_1_lines, row_controlled_1_trace, row_controlled_1_worlds, row_controlled_1_handlers};
+ghost use Rattle.profile_machine.specs.Rows.RowControlled_assign.{row_controlled_assign_lines, row_controlled_assign_trace, row_controlled_assign_worlds, row_controlled_assign_handlers};
+ghost use Rattle.profile_machine.specs.Rows.RowControlled_dropped.{row_controlled_dropped_lines, row_controlled_dropped_trace, row_controlled_dropped_worlds, row_controlled_dropped_handlers};
+ghost use Rattle.profile_machine.specs.Rows.RowControlled_initialize.{row_controlled_initialize_lines, row_controlled_initialize_trace, row_controlled_initialize_worlds, row_controlled_initialize_handlers};
+ghost use Rattle.profile_machine.specs.Rows.RowDeferred_inside.{row_deferred_inside_lines, row_deferred_inside_trace, row_deferred_inside_worlds, row_deferred_inside_handlers};
+ghost use Rattle.profile_machine.specs.Rows.RowEdf_levels.{row_edf_levels_lines, row_edf_levels_trace, row_edf_levels_worlds, row_edf_levels_handlers};
+ghost use Rattle.profile_machine.specs.Rows.RowEdf_made.{row_edf_made_lines, row_edf_made_trace, row_edf_made_worlds, row_edf_made_handlers};
+ghost use Rattle.profile_machine.specs.Rows.RowEvents_order.{row_events_order_lines, row_events_order_trace, row_events_order_worlds, row_events_order_handlers};
+ghost use Rattle.profile_machine.specs.Rows.RowEvents_pending.{row_events_pending_lines, row_events_pending_trace, row_events_pending_worlds, row_events_pending_handlers};
+ghost use Rattle.profile_machine.specs.Rows.RowExceptions_raised.{row_exceptions_raised_lines, row_exceptions_raised_trace, row_exceptions_raised_worlds, row_exceptions_raised_handlers};
+ghost use Rattle.profile_machine.specs.Rows.RowInterrupts_end.{row_interrupts_end_lines, row_interrupts_end_trace, row_interrupts_end_worlds, row_interrupts_end_handlers};
+ghost use Rattle.profile_machine.specs.Rows.RowInterrupts_masked.{row_interrupts_masked_lines, row_interrupts_masked_trace, row_interrupts_masked_worlds, row_interrupts_masked_handlers};
 ghost use Rattle.profile_machine.specs.Rows.RowPolicies_1.{row_policies_1_lines, row_policies_1_trace, row_policies_1_worlds, row_policies_1_handlers};
 ghost use Rattle.profile_machine.specs.Rows.RowPolicies_deadlines.{row_policies_deadlines_lines, row_policies_deadlines_trace, row_policies_deadlines_worlds, row_policies_deadlines_handlers};
 ghost use Rattle.profile_machine.specs.Rows.RowPolicies_priorities.{row_policies_priorities_lines, row_policies_priorities_trace, row_policies_priorities_worlds, row_policies_priorities_handlers};
+ghost use Rattle.profile_machine.specs.Rows.RowProtected_readers.{row_protected_readers_lines, row_protected_readers_trace, row_protected_readers_worlds, row_protected_readers_handlers};
+ghost use Rattle.profile_machine.specs.Rows.RowProtected_undeclared.{row_protected_undeclared_lines, row_protected_undeclared_trace, row_protected_undeclared_worlds, row_protected_undeclared_handlers};
+ghost use Rattle.profile_machine.specs.Rows.RowProtected_writer.{row_protected_writer_lines, row_protected_writer_trace, row_protected_writer_worlds, row_protected_writer_handlers};
 ghost use Rattle.profile_machine.specs.Rows.RowRequeue_1.{row_requeue_1_lines, row_requeue_1_trace, row_requeue_1_worlds, row_requeue_1_handlers};
 ghost use Rattle.profile_machine.specs.Rows.RowRequeue_2.{row_requeue_2_lines, row_requeue_2_trace, row_requeue_2_worlds, row_requeue_2_handlers};
 ghost use Rattle.profile_machine.specs.Rows.RowRequeue_3.{row_requeue_3_lines, row_requeue_3_trace, row_requeue_3_worlds, row_requeue_3_handlers};
 ghost use Rattle.profile_machine.specs.Rows.RowRequeue_dropped.{row_requeue_dropped_lines, row_requeue_dropped_trace, row_requeue_dropped_worlds, row_requeue_dropped_handlers};
+ghost use Rattle.profile_machine.specs.Rows.RowRequeue_firm.{row_requeue_firm_lines, row_requeue_firm_trace, row_requeue_firm_worlds, row_requeue_firm_handlers};
+ghost use Rattle.profile_machine.specs.Rows.RowRequeue_kinds.{row_requeue_kinds_lines, row_requeue_kinds_trace, row_requeue_kinds_worlds, row_requeue_kinds_handlers};
+ghost use Rattle.profile_machine.specs.Rows.RowRequeue_parameters.{row_requeue_parameters_lines, row_requeue_parameters_trace, row_requeue_parameters_worlds, row_requeue_parameters_handlers};
 ghost use Rattle.profile_machine.specs.Rows.RowRequeue_triggers.{row_requeue_triggers_lines, row_requeue_triggers_trace, row_requeue_triggers_worlds, row_requeue_triggers_handlers};
+ghost use Rattle.profile_machine.specs.Rows.RowRoom_activation.{row_room_activation_lines, row_room_activation_trace, row_room_activation_worlds, row_room_activation_handlers};
+ghost use Rattle.profile_machine.specs.Rows.RowRoom_bodies.{row_room_bodies_lines, row_room_bodies_trace, row_room_bodies_worlds, row_room_bodies_handlers};
+ghost use Rattle.profile_machine.specs.Rows.RowRoom_operations.{row_room_operations_lines, row_room_operations_trace, row_room_operations_worlds, row_room_operations_handlers};
 ghost use Rattle.profile_machine.specs.Rows.RowScopes_exits.{row_scopes_exits_lines, row_scopes_exits_trace, row_scopes_exits_worlds, row_scopes_exits_handlers};
+ghost use Rattle.profile_machine.specs.Rows.RowSelect_left.{row_select_left_lines, row_select_left_trace, row_select_left_worlds, row_select_left_handlers};
+ghost use Rattle.profile_machine.specs.Rows.RowSelect_raised.{row_select_raised_lines, row_select_raised_trace, row_select_raised_worlds, row_select_raised_handlers};
+ghost use Rattle.profile_machine.specs.Rows.RowSelect_wait.{row_select_wait_lines, row_select_wait_trace, row_select_wait_worlds, row_select_wait_handlers};
+ghost use Rattle.profile_machine.specs.Rows.RowSequences_activation.{row_sequences_activation_lines, row_sequences_activation_trace, row_sequences_activation_worlds, row_sequences_activation_handlers};
+ghost use Rattle.profile_machine.specs.Rows.RowSequences_call.{row_sequences_call_lines, row_sequences_call_trace, row_sequences_call_worlds, row_sequences_call_handlers};
+ghost use Rattle.profile_machine.specs.Rows.RowSequences_trigger.{row_sequences_trigger_lines, row_sequences_trigger_trace, row_sequences_trigger_worlds, row_sequences_trigger_handlers};
+ghost use Rattle.profile_machine.specs.Rows.RowTimers_set.{row_timers_set_lines, row_timers_set_trace, row_timers_set_worlds, row_timers_set_handlers};
+ghost use Rattle.profile_machine.specs.Rows.RowValues_bounds.{row_values_bounds_lines, row_values_bounds_trace, row_values_bounds_worlds, row_values_bounds_handlers};
+ghost use Rattle.profile_machine.specs.Rows.RowValues_case.{row_values_case_lines, row_values_case_trace, row_values_case_worlds, row_values_case_handlers};
+ghost use Rattle.profile_machine.specs.Rows.RowValues_defaults.{row_values_defaults_lines, row_values_defaults_trace, row_values_defaults_worlds, row_values_defaults_handlers};
+ghost use Rattle.profile_machine.specs.Rows.RowValues_fall_through.{row_values_fall_through_lines, row_values_fall_through_trace, row_values_fall_through_worlds, row_values_fall_through_handlers};
 ghost use Rattle.profile_machine.specs.Rows.RowValues_functions.{row_values_functions_lines, row_values_functions_trace, row_values_functions_worlds, row_values_functions_handlers};
 ghost use Rattle.profile_machine.specs.Rows.RowWide_1.{row_wide_1_lines, row_wide_1_trace, row_wide_1_worlds, row_wide_1_handlers};
 ghost use Rattle.profile_machine.specs.Rows.RowWide_2.{row_wide_2_lines, row_wide_2_trace, row_wide_2_worlds, row_wide_2_handlers};
@@ -261,6 +297,14 @@ pub fn row_23_interrupt()
     ensures { row_23_interrupt_lines ≡ row_23_interrupt_trace }
 {}
 
+/// Row abort.action, up to tick 41.
+#[tactic(auto, using(crate::specs::Rows::RowAbort_action::row_abort_action_runs, crate::specs::Rows::RowAbort_action::row_abort_action_keeps, crate::specs::Rows::RowAbort_action::row_abort_action_releases))]
+pub fn row_abort_action()
+    ensures runs { row_abort_action_lines ≡ row_abort_action_trace }
+    ensures keeps { IsTrue row_abort_action_worlds }
+    ensures releases { IsTrue row_abort_action_handlers }
+{}
+
 /// Row adjust.1, up to tick 41.
 #[tactic(auto, using(crate::specs::Rows::RowAdjust_1::row_adjust_1_runs, crate::specs::Rows::RowAdjust_1::row_adjust_1_keeps, crate::specs::Rows::RowAdjust_1::row_adjust_1_releases))]
 pub fn row_adjust_1()
@@ -285,12 +329,132 @@ pub fn row_budgets_1()
     ensures releases { IsTrue row_budgets_1_handlers }
 {}
 
+/// Row budgets.group, up to tick 53.
+#[tactic(auto, using(crate::specs::Rows::RowBudgets_group::row_budgets_group_runs, crate::specs::Rows::RowBudgets_group::row_budgets_group_keeps, crate::specs::Rows::RowBudgets_group::row_budgets_group_releases))]
+pub fn row_budgets_group()
+    ensures runs { row_budgets_group_lines ≡ row_budgets_group_trace }
+    ensures keeps { IsTrue row_budgets_group_worlds }
+    ensures releases { IsTrue row_budgets_group_handlers }
+{}
+
+/// Row calls.gone, up to tick 40.
+#[tactic(auto, using(crate::specs::Rows::RowCalls_gone::row_calls_gone_runs, crate::specs::Rows::RowCalls_gone::row_calls_gone_keeps, crate::specs::Rows::RowCalls_gone::row_calls_gone_releases))]
+pub fn row_calls_gone()
+    ensures runs { row_calls_gone_lines ≡ row_calls_gone_trace }
+    ensures keeps { IsTrue row_calls_gone_worlds }
+    ensures releases { IsTrue row_calls_gone_handlers }
+{}
+
+/// Row calls.inside, up to tick 54.
+#[tactic(auto, using(crate::specs::Rows::RowCalls_inside::row_calls_inside_runs, crate::specs::Rows::RowCalls_inside::row_calls_inside_keeps, crate::specs::Rows::RowCalls_inside::row_calls_inside_releases))]
+pub fn row_calls_inside()
+    ensures runs { row_calls_inside_lines ≡ row_calls_inside_trace }
+    ensures keeps { IsTrue row_calls_inside_worlds }
+    ensures releases { IsTrue row_calls_inside_handlers }
+{}
+
+/// Row calls.results, up to tick 39.
+#[tactic(auto, using(crate::specs::Rows::RowCalls_results::row_calls_results_runs, crate::specs::Rows::RowCalls_results::row_calls_results_keeps, crate::specs::Rows::RowCalls_results::row_calls_results_releases))]
+pub fn row_calls_results()
+    ensures runs { row_calls_results_lines ≡ row_calls_results_trace }
+    ensures keeps { IsTrue row_calls_results_worlds }
+    ensures releases { IsTrue row_calls_results_handlers }
+{}
+
 /// Row controlled.1, up to tick 23.
 #[tactic(auto, using(crate::specs::Rows::RowControlled_1::row_controlled_1_runs, crate::specs::Rows::RowControlled_1::row_controlled_1_keeps, crate::specs::Rows::RowControlled_1::row_controlled_1_releases))]
 pub fn row_controlled_1()
     ensures runs { row_controlled_1_lines ≡ row_controlled_1_trace }
     ensures keeps { IsTrue row_controlled_1_worlds }
     ensures releases { IsTrue row_controlled_1_handlers }
+{}
+
+/// Row controlled.assign, up to tick 57.
+#[tactic(auto, using(crate::specs::Rows::RowControlled_assign::row_controlled_assign_runs, crate::specs::Rows::RowControlled_assign::row_controlled_assign_keeps, crate::specs::Rows::RowControlled_assign::row_controlled_assign_releases))]
+pub fn row_controlled_assign()
+    ensures runs { row_controlled_assign_lines ≡ row_controlled_assign_trace }
+    ensures keeps { IsTrue row_controlled_assign_worlds }
+    ensures releases { IsTrue row_controlled_assign_handlers }
+{}
+
+/// Row controlled.dropped, up to tick 39.
+#[tactic(auto, using(crate::specs::Rows::RowControlled_dropped::row_controlled_dropped_runs, crate::specs::Rows::RowControlled_dropped::row_controlled_dropped_keeps, crate::specs::Rows::RowControlled_dropped::row_controlled_dropped_releases))]
+pub fn row_controlled_dropped()
+    ensures runs { row_controlled_dropped_lines ≡ row_controlled_dropped_trace }
+    ensures keeps { IsTrue row_controlled_dropped_worlds }
+    ensures releases { IsTrue row_controlled_dropped_handlers }
+{}
+
+/// Row controlled.initialize, up to tick 31.
+#[tactic(auto, using(crate::specs::Rows::RowControlled_initialize::row_controlled_initialize_runs, crate::specs::Rows::RowControlled_initialize::row_controlled_initialize_keeps, crate::specs::Rows::RowControlled_initialize::row_controlled_initialize_releases))]
+pub fn row_controlled_initialize()
+    ensures runs { row_controlled_initialize_lines ≡ row_controlled_initialize_trace }
+    ensures keeps { IsTrue row_controlled_initialize_worlds }
+    ensures releases { IsTrue row_controlled_initialize_handlers }
+{}
+
+/// Row deferred.inside, up to tick 38.
+#[tactic(auto, using(crate::specs::Rows::RowDeferred_inside::row_deferred_inside_runs, crate::specs::Rows::RowDeferred_inside::row_deferred_inside_keeps, crate::specs::Rows::RowDeferred_inside::row_deferred_inside_releases))]
+pub fn row_deferred_inside()
+    ensures runs { row_deferred_inside_lines ≡ row_deferred_inside_trace }
+    ensures keeps { IsTrue row_deferred_inside_worlds }
+    ensures releases { IsTrue row_deferred_inside_handlers }
+{}
+
+/// Row edf.levels, up to tick 40.
+#[tactic(auto, using(crate::specs::Rows::RowEdf_levels::row_edf_levels_runs, crate::specs::Rows::RowEdf_levels::row_edf_levels_keeps, crate::specs::Rows::RowEdf_levels::row_edf_levels_releases))]
+pub fn row_edf_levels()
+    ensures runs { row_edf_levels_lines ≡ row_edf_levels_trace }
+    ensures keeps { IsTrue row_edf_levels_worlds }
+    ensures releases { IsTrue row_edf_levels_handlers }
+{}
+
+/// Row edf.made, up to tick 42.
+#[tactic(auto, using(crate::specs::Rows::RowEdf_made::row_edf_made_runs, crate::specs::Rows::RowEdf_made::row_edf_made_keeps, crate::specs::Rows::RowEdf_made::row_edf_made_releases))]
+pub fn row_edf_made()
+    ensures runs { row_edf_made_lines ≡ row_edf_made_trace }
+    ensures keeps { IsTrue row_edf_made_worlds }
+    ensures releases { IsTrue row_edf_made_handlers }
+{}
+
+/// Row events.order, up to tick 42.
+#[tactic(auto, using(crate::specs::Rows::RowEvents_order::row_events_order_runs, crate::specs::Rows::RowEvents_order::row_events_order_keeps, crate::specs::Rows::RowEvents_order::row_events_order_releases))]
+pub fn row_events_order()
+    ensures runs { row_events_order_lines ≡ row_events_order_trace }
+    ensures keeps { IsTrue row_events_order_worlds }
+    ensures releases { IsTrue row_events_order_handlers }
+{}
+
+/// Row events.pending, up to tick 48.
+#[tactic(auto, using(crate::specs::Rows::RowEvents_pending::row_events_pending_runs, crate::specs::Rows::RowEvents_pending::row_events_pending_keeps, crate::specs::Rows::RowEvents_pending::row_events_pending_releases))]
+pub fn row_events_pending()
+    ensures runs { row_events_pending_lines ≡ row_events_pending_trace }
+    ensures keeps { IsTrue row_events_pending_worlds }
+    ensures releases { IsTrue row_events_pending_handlers }
+{}
+
+/// Row exceptions.raised, up to tick 33.
+#[tactic(auto, using(crate::specs::Rows::RowExceptions_raised::row_exceptions_raised_runs, crate::specs::Rows::RowExceptions_raised::row_exceptions_raised_keeps, crate::specs::Rows::RowExceptions_raised::row_exceptions_raised_releases))]
+pub fn row_exceptions_raised()
+    ensures runs { row_exceptions_raised_lines ≡ row_exceptions_raised_trace }
+    ensures keeps { IsTrue row_exceptions_raised_worlds }
+    ensures releases { IsTrue row_exceptions_raised_handlers }
+{}
+
+/// Row interrupts.end, up to tick 10.
+#[tactic(auto, using(crate::specs::Rows::RowInterrupts_end::row_interrupts_end_runs, crate::specs::Rows::RowInterrupts_end::row_interrupts_end_keeps, crate::specs::Rows::RowInterrupts_end::row_interrupts_end_releases))]
+pub fn row_interrupts_end()
+    ensures runs { row_interrupts_end_lines ≡ row_interrupts_end_trace }
+    ensures keeps { IsTrue row_interrupts_end_worlds }
+    ensures releases { IsTrue row_interrupts_end_handlers }
+{}
+
+/// Row interrupts.masked, up to tick 43.
+#[tactic(auto, using(crate::specs::Rows::RowInterrupts_masked::row_interrupts_masked_runs, crate::specs::Rows::RowInterrupts_masked::row_interrupts_masked_keeps, crate::specs::Rows::RowInterrupts_masked::row_interrupts_masked_releases))]
+pub fn row_interrupts_masked()
+    ensures runs { row_interrupts_masked_lines ≡ row_interrupts_masked_trace }
+    ensures keeps { IsTrue row_interrupts_masked_worlds }
+    ensures releases { IsTrue row_interrupts_masked_handlers }
 {}
 
 /// Row policies.1, up to tick 29.
@@ -315,6 +479,30 @@ pub fn row_policies_priorities()
     ensures runs { row_policies_priorities_lines ≡ row_policies_priorities_trace }
     ensures keeps { IsTrue row_policies_priorities_worlds }
     ensures releases { IsTrue row_policies_priorities_handlers }
+{}
+
+/// Row protected.readers, up to tick 52.
+#[tactic(auto, using(crate::specs::Rows::RowProtected_readers::row_protected_readers_runs, crate::specs::Rows::RowProtected_readers::row_protected_readers_keeps, crate::specs::Rows::RowProtected_readers::row_protected_readers_releases))]
+pub fn row_protected_readers()
+    ensures runs { row_protected_readers_lines ≡ row_protected_readers_trace }
+    ensures keeps { IsTrue row_protected_readers_worlds }
+    ensures releases { IsTrue row_protected_readers_handlers }
+{}
+
+/// Row protected.undeclared, up to tick 21.
+#[tactic(auto, using(crate::specs::Rows::RowProtected_undeclared::row_protected_undeclared_runs, crate::specs::Rows::RowProtected_undeclared::row_protected_undeclared_keeps, crate::specs::Rows::RowProtected_undeclared::row_protected_undeclared_releases))]
+pub fn row_protected_undeclared()
+    ensures runs { row_protected_undeclared_lines ≡ row_protected_undeclared_trace }
+    ensures keeps { IsTrue row_protected_undeclared_worlds }
+    ensures releases { IsTrue row_protected_undeclared_handlers }
+{}
+
+/// Row protected.writer, up to tick 43.
+#[tactic(auto, using(crate::specs::Rows::RowProtected_writer::row_protected_writer_runs, crate::specs::Rows::RowProtected_writer::row_protected_writer_keeps, crate::specs::Rows::RowProtected_writer::row_protected_writer_releases))]
+pub fn row_protected_writer()
+    ensures runs { row_protected_writer_lines ≡ row_protected_writer_trace }
+    ensures keeps { IsTrue row_protected_writer_worlds }
+    ensures releases { IsTrue row_protected_writer_handlers }
 {}
 
 /// Row requeue.1, up to tick 27.
@@ -349,6 +537,30 @@ pub fn row_requeue_dropped()
     ensures releases { IsTrue row_requeue_dropped_handlers }
 {}
 
+/// Row requeue.firm, up to tick 39.
+#[tactic(auto, using(crate::specs::Rows::RowRequeue_firm::row_requeue_firm_runs, crate::specs::Rows::RowRequeue_firm::row_requeue_firm_keeps, crate::specs::Rows::RowRequeue_firm::row_requeue_firm_releases))]
+pub fn row_requeue_firm()
+    ensures runs { row_requeue_firm_lines ≡ row_requeue_firm_trace }
+    ensures keeps { IsTrue row_requeue_firm_worlds }
+    ensures releases { IsTrue row_requeue_firm_handlers }
+{}
+
+/// Row requeue.kinds, up to tick 45.
+#[tactic(auto, using(crate::specs::Rows::RowRequeue_kinds::row_requeue_kinds_runs, crate::specs::Rows::RowRequeue_kinds::row_requeue_kinds_keeps, crate::specs::Rows::RowRequeue_kinds::row_requeue_kinds_releases))]
+pub fn row_requeue_kinds()
+    ensures runs { row_requeue_kinds_lines ≡ row_requeue_kinds_trace }
+    ensures keeps { IsTrue row_requeue_kinds_worlds }
+    ensures releases { IsTrue row_requeue_kinds_handlers }
+{}
+
+/// Row requeue.parameters, up to tick 19.
+#[tactic(auto, using(crate::specs::Rows::RowRequeue_parameters::row_requeue_parameters_runs, crate::specs::Rows::RowRequeue_parameters::row_requeue_parameters_keeps, crate::specs::Rows::RowRequeue_parameters::row_requeue_parameters_releases))]
+pub fn row_requeue_parameters()
+    ensures runs { row_requeue_parameters_lines ≡ row_requeue_parameters_trace }
+    ensures keeps { IsTrue row_requeue_parameters_worlds }
+    ensures releases { IsTrue row_requeue_parameters_handlers }
+{}
+
 /// Row requeue.triggers, up to tick 172.
 #[tactic(auto, using(crate::specs::Rows::RowRequeue_triggers::row_requeue_triggers_runs, crate::specs::Rows::RowRequeue_triggers::row_requeue_triggers_keeps, crate::specs::Rows::RowRequeue_triggers::row_requeue_triggers_releases))]
 pub fn row_requeue_triggers()
@@ -357,12 +569,124 @@ pub fn row_requeue_triggers()
     ensures releases { IsTrue row_requeue_triggers_handlers }
 {}
 
+/// Row room.activation, up to tick 12.
+#[tactic(auto, using(crate::specs::Rows::RowRoom_activation::row_room_activation_runs, crate::specs::Rows::RowRoom_activation::row_room_activation_keeps, crate::specs::Rows::RowRoom_activation::row_room_activation_releases))]
+pub fn row_room_activation()
+    ensures runs { row_room_activation_lines ≡ row_room_activation_trace }
+    ensures keeps { IsTrue row_room_activation_worlds }
+    ensures releases { IsTrue row_room_activation_handlers }
+{}
+
+/// Row room.bodies, up to tick 32.
+#[tactic(auto, using(crate::specs::Rows::RowRoom_bodies::row_room_bodies_runs, crate::specs::Rows::RowRoom_bodies::row_room_bodies_keeps, crate::specs::Rows::RowRoom_bodies::row_room_bodies_releases))]
+pub fn row_room_bodies()
+    ensures runs { row_room_bodies_lines ≡ row_room_bodies_trace }
+    ensures keeps { IsTrue row_room_bodies_worlds }
+    ensures releases { IsTrue row_room_bodies_handlers }
+{}
+
+/// Row room.operations, up to tick 33.
+#[tactic(auto, using(crate::specs::Rows::RowRoom_operations::row_room_operations_runs, crate::specs::Rows::RowRoom_operations::row_room_operations_keeps, crate::specs::Rows::RowRoom_operations::row_room_operations_releases))]
+pub fn row_room_operations()
+    ensures runs { row_room_operations_lines ≡ row_room_operations_trace }
+    ensures keeps { IsTrue row_room_operations_worlds }
+    ensures releases { IsTrue row_room_operations_handlers }
+{}
+
 /// Row scopes.exits, up to tick 94.
 #[tactic(auto, using(crate::specs::Rows::RowScopes_exits::row_scopes_exits_runs, crate::specs::Rows::RowScopes_exits::row_scopes_exits_keeps, crate::specs::Rows::RowScopes_exits::row_scopes_exits_releases))]
 pub fn row_scopes_exits()
     ensures runs { row_scopes_exits_lines ≡ row_scopes_exits_trace }
     ensures keeps { IsTrue row_scopes_exits_worlds }
     ensures releases { IsTrue row_scopes_exits_handlers }
+{}
+
+/// Row select.left, up to tick 43.
+#[tactic(auto, using(crate::specs::Rows::RowSelect_left::row_select_left_runs, crate::specs::Rows::RowSelect_left::row_select_left_keeps, crate::specs::Rows::RowSelect_left::row_select_left_releases))]
+pub fn row_select_left()
+    ensures runs { row_select_left_lines ≡ row_select_left_trace }
+    ensures keeps { IsTrue row_select_left_worlds }
+    ensures releases { IsTrue row_select_left_handlers }
+{}
+
+/// Row select.raised, up to tick 36.
+#[tactic(auto, using(crate::specs::Rows::RowSelect_raised::row_select_raised_runs, crate::specs::Rows::RowSelect_raised::row_select_raised_keeps, crate::specs::Rows::RowSelect_raised::row_select_raised_releases))]
+pub fn row_select_raised()
+    ensures runs { row_select_raised_lines ≡ row_select_raised_trace }
+    ensures keeps { IsTrue row_select_raised_worlds }
+    ensures releases { IsTrue row_select_raised_handlers }
+{}
+
+/// Row select.wait, up to tick 37.
+#[tactic(auto, using(crate::specs::Rows::RowSelect_wait::row_select_wait_runs, crate::specs::Rows::RowSelect_wait::row_select_wait_keeps, crate::specs::Rows::RowSelect_wait::row_select_wait_releases))]
+pub fn row_select_wait()
+    ensures runs { row_select_wait_lines ≡ row_select_wait_trace }
+    ensures keeps { IsTrue row_select_wait_worlds }
+    ensures releases { IsTrue row_select_wait_handlers }
+{}
+
+/// Row sequences.activation, up to tick 9.
+#[tactic(auto, using(crate::specs::Rows::RowSequences_activation::row_sequences_activation_runs, crate::specs::Rows::RowSequences_activation::row_sequences_activation_keeps, crate::specs::Rows::RowSequences_activation::row_sequences_activation_releases))]
+pub fn row_sequences_activation()
+    ensures runs { row_sequences_activation_lines ≡ row_sequences_activation_trace }
+    ensures keeps { IsTrue row_sequences_activation_worlds }
+    ensures releases { IsTrue row_sequences_activation_handlers }
+{}
+
+/// Row sequences.call, up to tick 23.
+#[tactic(auto, using(crate::specs::Rows::RowSequences_call::row_sequences_call_runs, crate::specs::Rows::RowSequences_call::row_sequences_call_keeps, crate::specs::Rows::RowSequences_call::row_sequences_call_releases))]
+pub fn row_sequences_call()
+    ensures runs { row_sequences_call_lines ≡ row_sequences_call_trace }
+    ensures keeps { IsTrue row_sequences_call_worlds }
+    ensures releases { IsTrue row_sequences_call_handlers }
+{}
+
+/// Row sequences.trigger, up to tick 45.
+#[tactic(auto, using(crate::specs::Rows::RowSequences_trigger::row_sequences_trigger_runs, crate::specs::Rows::RowSequences_trigger::row_sequences_trigger_keeps, crate::specs::Rows::RowSequences_trigger::row_sequences_trigger_releases))]
+pub fn row_sequences_trigger()
+    ensures runs { row_sequences_trigger_lines ≡ row_sequences_trigger_trace }
+    ensures keeps { IsTrue row_sequences_trigger_worlds }
+    ensures releases { IsTrue row_sequences_trigger_handlers }
+{}
+
+/// Row timers.set, up to tick 50.
+#[tactic(auto, using(crate::specs::Rows::RowTimers_set::row_timers_set_runs, crate::specs::Rows::RowTimers_set::row_timers_set_keeps, crate::specs::Rows::RowTimers_set::row_timers_set_releases))]
+pub fn row_timers_set()
+    ensures runs { row_timers_set_lines ≡ row_timers_set_trace }
+    ensures keeps { IsTrue row_timers_set_worlds }
+    ensures releases { IsTrue row_timers_set_handlers }
+{}
+
+/// Row values.bounds, up to tick 21.
+#[tactic(auto, using(crate::specs::Rows::RowValues_bounds::row_values_bounds_runs, crate::specs::Rows::RowValues_bounds::row_values_bounds_keeps, crate::specs::Rows::RowValues_bounds::row_values_bounds_releases))]
+pub fn row_values_bounds()
+    ensures runs { row_values_bounds_lines ≡ row_values_bounds_trace }
+    ensures keeps { IsTrue row_values_bounds_worlds }
+    ensures releases { IsTrue row_values_bounds_handlers }
+{}
+
+/// Row values.case, up to tick 23.
+#[tactic(auto, using(crate::specs::Rows::RowValues_case::row_values_case_runs, crate::specs::Rows::RowValues_case::row_values_case_keeps, crate::specs::Rows::RowValues_case::row_values_case_releases))]
+pub fn row_values_case()
+    ensures runs { row_values_case_lines ≡ row_values_case_trace }
+    ensures keeps { IsTrue row_values_case_worlds }
+    ensures releases { IsTrue row_values_case_handlers }
+{}
+
+/// Row values.defaults, up to tick 15.
+#[tactic(auto, using(crate::specs::Rows::RowValues_defaults::row_values_defaults_runs, crate::specs::Rows::RowValues_defaults::row_values_defaults_keeps, crate::specs::Rows::RowValues_defaults::row_values_defaults_releases))]
+pub fn row_values_defaults()
+    ensures runs { row_values_defaults_lines ≡ row_values_defaults_trace }
+    ensures keeps { IsTrue row_values_defaults_worlds }
+    ensures releases { IsTrue row_values_defaults_handlers }
+{}
+
+/// Row values.fall_through, up to tick 34.
+#[tactic(auto, using(crate::specs::Rows::RowValues_fall_through::row_values_fall_through_runs, crate::specs::Rows::RowValues_fall_through::row_values_fall_through_keeps, crate::specs::Rows::RowValues_fall_through::row_values_fall_through_releases))]
+pub fn row_values_fall_through()
+    ensures runs { row_values_fall_through_lines ≡ row_values_fall_through_trace }
+    ensures keeps { IsTrue row_values_fall_through_worlds }
+    ensures releases { IsTrue row_values_fall_through_handlers }
 {}
 
 /// Row values.functions, up to tick 243.

@@ -20,7 +20,7 @@ use Rattle.machine_laws.proofs.Moves.{StepRelation, MoveRelation, Moves}
 use Rattle.machine_laws.proofs.Kept.Combinators.{Keeps, Alters, Gives, bind-gives, branch-keeps, changes-keeps, looks-keeps, nothing-keeps, ok-gives, says-keeps, then-keeps, unchanged-alters, when-keeps}
 use Rattle.machine_laws.proofs.Kept.Tasks.{edit_task-alters}
 use Rattle.machine_laws.proofs.Kept.Dispatching.{ready-keeps}
-use Rattle.machine_laws.proofs.Kept.Frames.{goes-keeps, pop-alters, leaves-keeps, raises-keeps, pass_on-keeps}
+use Rattle.machine_laws.proofs.Kept.Frames.{goes-keeps, pop-alters, leaves-keeps, raises-keeps, pass_on-keeps, open_sequence-keeps}
 use Rattle.machine_laws.proofs.Kept.Calls.{edit_call-alters, forget_call-alters, with_call-keeps, unqueued-alters}
 use Rattle.machine_laws.proofs.Kept.Unwinding.{unwind-keeps}
 
@@ -90,13 +90,13 @@ module _ {R : StepRelation} {Q : MoveRelation} (moves : Moves R Q) where
   end_top_abortable-keeps p part name (f ∷ below) = search (end_abortable_in-keeps)
 
   pub end_wait-keeps : (p : Image) (part : Part) (c : Call) (depth : ℕ) (outcome : Outcome) → Keeps R (end_wait p part c depth outcome)
-  end_wait-keeps p part c depth outcome = search (ready-keeps, then-keeps, changes-keeps, edit_abortable_at-alters, looks-keeps, end_top_abortable-keeps) depth 6
+  end_wait-keeps p part c depth outcome = search (ready-keeps, then-keeps, changes-keeps, edit_abortable_at-alters, looks-keeps, end_top_abortable-keeps, open_sequence-keeps) depth 7
 
   pub end_for_abortable-keeps : (p : Image) (part : Part) (c : Call) (depth : ℕ) (outcome : Outcome) → Keeps R (end_for_abortable p part c depth outcome)
   end_for_abortable-keeps p part c depth outcome = looks-keeps moves _ (λ w. branch-keeps moves (waits_for_end c.number (waiting_of w (who.Task c.caller))) (end_wait p part c depth outcome) (trigger_at p part c.caller depth) (search (end_wait-keeps)) (search (trigger_at-keeps)))
 
   pub end_for_caller-keeps : (p : Image) (part : Part) (c : Call) (outcome : Outcome) → Keeps R (end_for_caller p part c outcome)
-  end_for_caller-keeps p part c outcome = search (looks-keeps, when-keeps, ready-keeps, then-keeps, resume-keeps)
+  end_for_caller-keeps p part c outcome = search (looks-keeps, when-keeps, ready-keeps, then-keeps, resume-keeps, open_sequence-keeps) depth 6
 
   pub end_for-keeps : (p : Image) (part : Part) (c : Call) (outcome : Outcome) (n : Option ℕ) → Keeps R (end_for p part c outcome n)
   end_for-keeps p part c outcome (Some depth) = search (end_for_abortable-keeps)

@@ -22,9 +22,9 @@ use Rattle.profile_machine.specs.Steps.{own, changes, ◌▷◌}
 use Rattle.profile_machine.specs.Frames.{goes}
 use Rattle.profile_machine.specs.Operators.{◌>>=◌, unless}
 use Rattle.profile_machine.specs.Values.{Seen, value, object_cell, component_at, protected_cells, controlled_cells}
-use Rattle.profile_machine.specs.Statements.{copy_cells}
+use Rattle.profile_machine.specs.Statements.{copy_cells, put_cells}
 use Rattle.profile_machine.specs.CallEnds.{store}
-use Rattle.profile_machine.specs.Declarations.{initialized, initial_of, components_initialized, located_here, set_thing, object_declared, object_drawn, new_object, with_object, says_object, declare_protected, controlled_declared, event_drawn, event_declared, with_budget, budget_declared, timed_task, with_timer, timer_declared, declared, declare_quietly, declare_by, declare}
+use Rattle.profile_machine.specs.Declarations.{default_cells, set_defaults, initialized, initial_of, components_initialized, located_here, set_thing, object_declared, object_drawn, new_object, with_object, says_object, declare_protected, controlled_declared, event_drawn, event_declared, with_budget, budget_declared, timed_task, with_timer, timer_declared, declared, declare_quietly, declare_by, declare}
 use Rattle.std.proofs.Common.{refl}
 use Rattle.profile_machine.specs.Values.{seen_by}
 use Rattle.machine_laws.proofs.Moves.{StepRelation, MoveRelation, Moves}
@@ -35,9 +35,13 @@ use Rattle.machine_laws.proofs.Kept.CallEnds.{store-gives}
 use Rattle.machine_laws.proofs.Kept.Statements.{copy_cells-alters}
 
 module _ {R : StepRelation} {Q : MoveRelation} (moves : Moves R Q) where
+  set_defaults-alters : (p : Image) (v : Variable) → Alters R (set_defaults p v)
+  unfolding Alters
+  set_defaults-alters p v w = moves.edits_cells v.within (put_cells v.place (default_cells p w v)) w
+
   initialized-gives : (q : Seen) (v : Variable) (i : Initial) (w : World) → Gives R w (initialized q v i w)
   unfolding Alters
-  initialized-gives q v initial.Default w = ok-gives moves w w (moves.stays w)
+  initialized-gives q v initial.Default w = ok-gives moves w (set_defaults q.program v w) (set_defaults-alters q.program v w)
   initialized-gives q v (initial.Scalar e) w = bind-gives moves (value q e) (λ x. store q.program v x w) w (λ x. store-gives moves q.program v x w)
   initialized-gives q v (initial.Array source) w =
       bind-gives moves (object_cell q source) (λ f. Ok (copy_cells q.program v f w)) w (λ f. ok-gives moves w (copy_cells q.program v f w) (copy_cells-alters moves q.program v f w))

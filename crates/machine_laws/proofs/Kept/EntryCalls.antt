@@ -18,7 +18,7 @@ use Rattle.profile_machine.specs.Steps.{Step, Part, own, changes, looks, ◌▷�
 use Rattle.profile_machine.specs.Program.{next_of}
 use Rattle.profile_machine.specs.Frames.{frames_of, goes}
 use Rattle.profile_machine.specs.Sending.{open_abortable}
-use Rattle.profile_machine.specs.EntryCalls.{add_call, make_call, end_at_once, call_gone, call_meets, call_queues, call_not_met, call_accepted_by, call_callable, call_task, call_runs, call_without_room, has_room_for_action, call_runs_if_room, call_passes, call_refused, call_closed, call_by_barrier, call_object, call_owner, call_named, entry_call, appoint_trigger, trigger_delay, async_delay, async_by_trigger, asynchronous_select, mark_sending, requeue, Named}
+use Rattle.profile_machine.specs.EntryCalls.{add_call, make_call, end_at_once, call_gone, call_meets, call_queues, call_not_met, call_accepted_by, call_callable, call_task, call_runs, call_without_room, has_room_for_action, call_runs_if_room, call_passes, call_refused, call_closed, call_by_barrier, call_object, call_owner, call_named, entry_call, appoint_trigger, trigger_delay, async_delay, async_by_trigger, asynchronous_select, mark_sending, requeue, NamedCall}
 use Rattle.machine_laws.proofs.Moves.{StepRelation, MoveRelation, Moves}
 use Rattle.machine_laws.proofs.Kept.Combinators.{Keeps, From, Alters, branch-keeps, changes-keeps, keeps-from, looks-from, looks-keeps, looks_at-from, nothing-keeps, says-keeps, sees-keeps, then-keeps, then_on-from, unchanged-alters}
 use Rattle.machine_laws.proofs.AtOnce.{at_once, later_behind}
@@ -96,7 +96,7 @@ module _ {R : StepRelation} {Q : MoveRelation} (moves : Moves R Q) where
   call_owner-keeps p c (a_task t) = search (call_task-keeps)
   call_owner-keeps p c (an_object o) = search (call_object-keeps)
 
-  pub call_named-keeps : (p : Image) (t : TaskNo) (kind : CallKind) (s : StatementNo) (n : Named) → Keeps R (call_named p t kind s n)
+  pub call_named-keeps : (p : Image) (t : TaskNo) (kind : CallKind) (s : StatementNo) (n : NamedCall) → Keeps R (call_named p t kind s n)
   call_named-keeps p t kind s n = search (sees-keeps, given-keeps, call_owner-keeps) depth 6
 
   pub entry_call-keeps : (p : Image) (name : Who) (kind : CallKind) (s : StatementNo) → Keeps R (entry_call p name kind s)

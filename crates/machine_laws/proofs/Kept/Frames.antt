@@ -12,10 +12,10 @@ use Rattle.profile_machine.specs.declared.statements.StatementForm.TheVariants a
 use Rattle.profile_machine.specs.World.{World, Frame, Handled}
 use Rattle.profile_machine.specs.Program.{next_of}
 use Rattle.profile_machine.specs.Steps.{Part, own, Step, changes, ◌▷◌}
-use Rattle.profile_machine.specs.Frames.{top_of, new_frame, edit_top, goes, push, pop, leaves, raises, has_room, open_handled, open_at, open_sequence, stands_in, exit_loop, pass_on, given, raise_if, with_room}
+use Rattle.profile_machine.specs.Frames.{top_of, new_frame, edit_top, goes, push, pop, leaves, raises, has_room, open_handled, open_at, open_sequence, open_if_ready, stands_in, exit_loop, pass_on, given, raise_if, with_room}
 use Rattle.profile_machine.specs.Operators.{Valued}
 use Rattle.machine_laws.proofs.Moves.{StepRelation, MoveRelation, Moves}
-use Rattle.machine_laws.proofs.Kept.Combinators.{Keeps, From, Alters, Gives, branch-keeps, changes-keeps, keeps-from, looks-keeps, looks_at-from, nothing-keeps, says-keeps, then-keeps}
+use Rattle.machine_laws.proofs.Kept.Combinators.{Keeps, From, Alters, Gives, branch-keeps, changes-keeps, keeps-from, looks-keeps, looks_at-from, nothing-keeps, says-keeps, then-keeps, when-keeps}
 use Rattle.machine_laws.proofs.Kept.Tasks.{edit_task-alters}
 
 module _ {R : StepRelation} {Q : MoveRelation} (moves : Moves R Q) where
@@ -37,16 +37,19 @@ module _ {R : StepRelation} {Q : MoveRelation} (moves : Moves R Q) where
   pub raises-keeps : (p : Image) (part : Part) (name : Who) (e : Raised) → Keeps R (raises p part name e)
   raises-keeps p part name e = search (says-keeps, then-keeps, leaves-keeps)
 
-  pub open_handled-keeps : (p : Image) (name : Who) (s : StatementNo) (form : StatementForm) → Keeps R (open_handled p name s form)
-  open_handled-keeps p name s (form.Handled handlers first) = looks-keeps moves _ (λ w. branch-keeps moves (has_room w name 1 0) (goes name (next_of p s) ▷ changes (push name (new_frame (Handled s) (Some first)))) (raises p own name exception.Storage) (search (goes-keeps, then-keeps, changes-keeps, push-alters)) (search (raises-keeps)))
-  open_handled-keeps p name s _ = search (nothing-keeps)
+  pub open_handled-keeps : (p : Image) (part : Part) (name : Who) (s : StatementNo) (form : StatementForm) → Keeps R (open_handled p part name s form)
+  open_handled-keeps p part name s (form.Handled handlers first) = looks-keeps moves _ (λ w. branch-keeps moves (has_room w name 1 0) (goes name (next_of p s) ▷ changes (push name (new_frame (Handled s) (Some first)))) (raises p part name exception.Storage) (search (goes-keeps, then-keeps, changes-keeps, push-alters)) (search (raises-keeps)))
+  open_handled-keeps p part name s _ = search (nothing-keeps)
 
-  pub open_at-keeps : (p : Image) (name : Who) (next : Option StatementNo) → Keeps R (open_at p name next)
-  open_at-keeps p name None = search (nothing-keeps)
-  open_at-keeps p name (Some s) = search (open_handled-keeps)
+  pub open_at-keeps : (p : Image) (part : Part) (name : Who) (next : Option StatementNo) → Keeps R (open_at p part name next)
+  open_at-keeps p part name None = search (nothing-keeps)
+  open_at-keeps p part name (Some s) = search (open_handled-keeps)
 
-  pub open_sequence-keeps : (p : Image) (name : Who) → Keeps R (open_sequence p name)
-  open_sequence-keeps p name = search (looks-keeps, open_at-keeps)
+  pub open_sequence-keeps : (p : Image) (part : Part) (name : Who) → Keeps R (open_sequence p part name)
+  open_sequence-keeps p part name = search (looks-keeps, open_at-keeps)
+
+  pub open_if_ready-keeps : (p : Image) (name : Who) → Keeps R (open_if_ready p name)
+  open_if_ready-keeps p name = search (looks-keeps, when-keeps, open_sequence-keeps)
 
   pub exit_loop-keeps : (p : Image) (name : Who) (loop : StatementNo) → Keeps R (exit_loop p name loop)
   exit_loop-keeps p name loop = looks-keeps moves _ (λ w. branch-keeps moves (stands_in p loop (top_of w name)) (goes name (next_of p loop)) (leaves name (how.Exit loop)) (search (goes-keeps)) (search (leaves-keeps)))

@@ -10,12 +10,12 @@ use Rattle.profile_machine.specs.World.{Waiting, for_select, Due, an_event, a_de
 use Rattle.profile_machine.specs.Steps.{Step, changes, nothing, settles, ◌▷◌}
 use Rattle.profile_machine.specs.Tasks.{task_of}
 use Rattle.profile_machine.specs.Appointments.{first_due}
-use Rattle.profile_machine.specs.Instant.{effect, is_over, effect_of_runner, finish_action, with_port, with_masked, with_kept, interrupt_comes, deliver_kept, script_item, with_script, items_due, script_items, take_delay, end_delay, time_out, come_due, take_due, all_due, appointments_due, events_due, moments_due, expire, expire_timer, no_timers_due, timers_due, run_out, no_budget_due, budgets_due, spend_quantum, quantum_spent, instant}
+use Rattle.profile_machine.specs.Instant.{effect, is_over, effect_of_runner, finish_action, with_port, with_masked, with_kept_interrupt, interrupt_comes, deliver_kept_interrupt, script_item, with_script, items_due, script_items, take_delay, end_delay, time_out, come_due, take_due, all_due, appointments_due, events_due, moments_due, expire, expire_timer, no_timers_due, timers_due, run_out, no_budget_due, budgets_due, spend_quantum, quantum_spent, instant}
 use Rattle.machine_laws.proofs.Moves.{StepRelation, MoveRelation, Moves}
 use Rattle.machine_laws.proofs.Kept.Combinators.{Keeps, Leads, Alters, branch-keeps, branch-leads, changes-keeps, for_each-keeps, for_some-keeps, looks-keeps, looks-leads, nothing-keeps, nothing-leads, says-keeps, settles-leads, then-keeps, then-leads, when-keeps}
 use Rattle.machine_laws.proofs.Kept.Tasks.{edit_task-alters}
 use Rattle.machine_laws.proofs.Kept.Dispatching.{to_tail-keeps, ready-keeps}
-use Rattle.machine_laws.proofs.Kept.Frames.{goes-keeps, open_sequence-keeps}
+use Rattle.machine_laws.proofs.Kept.Frames.{goes-keeps, open_sequence-keeps, open_if_ready-keeps}
 use Rattle.machine_laws.proofs.Kept.Appointments.{drop_appointment-alters}
 use Rattle.machine_laws.proofs.Kept.Calls.{with_call-keeps, unqueued-alters}
 use Rattle.machine_laws.proofs.Kept.Unwinding.{unwind-keeps}
@@ -26,7 +26,7 @@ use Rattle.machine_laws.proofs.Kept.Act.{act-keeps}
 
 module _ {R : StepRelation} {Q : MoveRelation} (moves : Moves R Q) where
   pub effect-keeps : (p : Image) (name : Who) → Keeps R (effect p name)
-  effect-keeps p name = search (changes-keeps, edit_task-alters, then-keeps, act-keeps, open_sequence-keeps, take_terminates-keeps, unwind_all-keeps) depth 7
+  effect-keeps p name = search (changes-keeps, edit_task-alters, then-keeps, act-keeps, open_if_ready-keeps, take_terminates-keeps, unwind_all-keeps) depth 7
 
   effect_of_runner-leads : (p : Image) (by : Option Who) → Leads Q (effect_of_runner p by)
   effect_of_runner-leads p None = nothing-leads moves
@@ -44,23 +44,23 @@ module _ {R : StepRelation} {Q : MoveRelation} (moves : Moves R Q) where
   unfolding Alters
   with_masked-alters n flag w = moves.masks n flag w
 
-  with_kept-alters : (n : ℕ) (flag : Bool) → Alters R (with_kept n flag)
+  with_kept_interrupt-alters : (n : ℕ) (flag : Bool) → Alters R (with_kept_interrupt n flag)
   unfolding Alters
-  with_kept-alters n flag w = moves.keeps_interrupt n flag w
+  with_kept_interrupt-alters n flag w = moves.keeps_interrupt n flag w
 
   pub interrupt_comes-keeps : (p : Image) (n : ℕ) (test : Bool) → Keeps R (interrupt_comes p n test)
-  interrupt_comes-keeps p n true = search (says-keeps, then-keeps, changes-keeps, with_kept-alters)
+  interrupt_comes-keeps p n true = search (says-keeps, then-keeps, changes-keeps, with_kept_interrupt-alters)
   interrupt_comes-keeps p n false = search (interrupt-keeps)
 
-  pub deliver_kept-keeps : (p : Image) (n : ℕ) (test : Bool) → Keeps R (deliver_kept p n test)
-  deliver_kept-keeps p n true = search (changes-keeps, with_kept-alters, then-keeps, interrupt-keeps)
-  deliver_kept-keeps p n false = search (nothing-keeps)
+  pub deliver_kept_interrupt-keeps : (p : Image) (n : ℕ) (test : Bool) → Keeps R (deliver_kept_interrupt p n test)
+  deliver_kept_interrupt-keeps p n true = search (changes-keeps, with_kept_interrupt-alters, then-keeps, interrupt-keeps)
+  deliver_kept_interrupt-keeps p n false = search (nothing-keeps)
 
   pub script_item-keeps : (p : Image) (it : Item) → Keeps R (script_item p it)
   script_item-keeps p (item.Interrupt n) = search (looks-keeps, interrupt_comes-keeps)
   script_item-keeps p (item.Port n value) = search (changes-keeps, with_port-alters, then-keeps, says-keeps)
   script_item-keeps p (item.Mask n) = search (changes-keeps, with_masked-alters, then-keeps, says-keeps)
-  script_item-keeps p (item.Unmask n) = search (changes-keeps, with_masked-alters, then-keeps, says-keeps, looks-keeps, deliver_kept-keeps) depth 7
+  script_item-keeps p (item.Unmask n) = search (changes-keeps, with_masked-alters, then-keeps, says-keeps, looks-keeps, deliver_kept_interrupt-keeps) depth 7
 
   with_script-alters : (script : List (ℤ × Item)) → Alters R (with_script script)
   unfolding Alters
@@ -80,7 +80,7 @@ module _ {R : StepRelation} {Q : MoveRelation} (moves : Moves R Q) where
   take_delay-keeps p name _ = search (nothing-keeps)
 
   pub end_delay-keeps : (p : Image) (name : Who) → Keeps R (end_delay p name)
-  end_delay-keeps p name = search (looks-keeps, take_delay-keeps, then-keeps, ready-keeps)
+  end_delay-keeps p name = search (looks-keeps, take_delay-keeps, then-keeps, ready-keeps, open_sequence-keeps)
 
   pub time_out-keeps : (p : Image) (c : CallNo) → Keeps R (time_out p c)
   time_out-keeps p c = search (with_call-keeps, changes-keeps, unqueued-alters, then-keeps, says-keeps, deliver-keeps) depth 6

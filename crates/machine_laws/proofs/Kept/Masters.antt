@@ -10,7 +10,7 @@ use Rattle.machine_laws.proofs.Moves.{StepRelation, MoveRelation, Moves}
 use Rattle.machine_laws.proofs.Kept.Combinators.{Keeps, Alters, changes-keeps, cond-keeps, for_each-keeps, for_some-keeps, looks-keeps, nothing-keeps, then-keeps, when-keeps}
 use Rattle.machine_laws.proofs.Kept.Tasks.{edit_task-alters}
 use Rattle.machine_laws.proofs.Kept.Dispatching.{ready-keeps}
-use Rattle.machine_laws.proofs.Kept.Frames.{leaves-keeps, raises-keeps}
+use Rattle.machine_laws.proofs.Kept.Frames.{leaves-keeps, raises-keeps, open_sequence-keeps}
 use Rattle.machine_laws.proofs.Kept.Inheritance.{lose-alters}
 use Rattle.machine_laws.proofs.Kept.Appointments.{drop_delay-alters}
 use Rattle.machine_laws.proofs.Kept.CallEnds.{end_call-keeps, gone-keeps}
@@ -20,7 +20,7 @@ module _ {R : StepRelation} {Q : MoveRelation} (moves : Moves R Q) where
   gone_by_completion-keeps p actor c = search (gone-keeps, then-keeps, end_call-keeps)
 
   pub wake_activator-keeps : (p : Image) (part : Part) (name : Who) → Keeps R (wake_activator p part name)
-  wake_activator-keeps p part name = search (looks-keeps, ready-keeps, then-keeps, when-keeps, raises-keeps)
+  wake_activator-keeps p part name = search (looks-keeps, ready-keeps, then-keeps, when-keeps, raises-keeps, open_sequence-keeps) depth 6
 
   pub end_group-keeps : (p : Image) (actor activator : Who) → Keeps R (end_group p actor activator)
   end_group-keeps p actor activator = search (looks-keeps, when-keeps, wake_activator-keeps)

@@ -21,9 +21,10 @@ use Rattle.profile_machine.specs.Steps.{Step, Part, says, changes, ◌▷◌}
 use Rattle.profile_machine.specs.Frames.{new_frame, goes, exception_name, open_sequence}
 use Rattle.profile_machine.specs.Scopes.{begin_scope, next_id, plainly, innermost}
 use Rattle.profile_machine.specs.Appointments.{drop_delay}
+use Rattle.profile_machine.specs.Calls.{formals_count, parameters_of}
 use Rattle.profile_machine.specs.Protected.{begin_call}
-use Rattle.profile_machine.specs.Serving.{with_values, formals_count}
-use Rattle.profile_machine.specs.Rendezvous.{accept_scope, open_accept, has_room_for_accept, begin_rendezvous, accept_call, meet_with_room, meet_without_room, meet, accept_or_wait, accept, accept_chosen, wait_at_select, appoint_delay, select_delay, select_wait, select_otherwise, select_by_call, select_open, selective_accept, gone_sent, meet_sent, arrive_at, arrive, finish_accept, finish_rendezvous, behind_accept, finished_call, end_in_accept, Moment}
+use Rattle.profile_machine.specs.Serving.{with_values}
+use Rattle.profile_machine.specs.Rendezvous.{accept_scope, open_accept, has_room_for_accept, begin_accept, finish_without_room, accept_with_room, accept_call, meet_with_room, meet_without_room, meet, accept_or_wait, accept, accept_chosen, wait_at_select, appoint_delay, select_delay, select_wait, select_otherwise, select_by_call, select_open, selective_accept, gone_sent, meet_sent, arrive_at, arrive, finish_accept, finish_rendezvous, behind_accept, finished_call, end_in_accept, Moment}
 use Rattle.std.proofs.Common.{◌≡◌, refl}
 use Rattle.machine_laws.proofs.Moves.{StepRelation, MoveRelation, Moves}
 use Rattle.machine_laws.proofs.Kept.Combinators.{Keeps, From, Alters, branch-keeps, changes-keeps, for_some-keeps, keeps-from, looks-from, looks-keeps, nothing-keeps, says-keeps, sees-keeps, then-from, then-keeps, then_on-from, unchanged-alters}
@@ -45,22 +46,29 @@ module _ {R : StepRelation} {Q : MoveRelation} (moves : Moves R Q) where
   unfolding Alters
   open_accept-alters p name s c w =
       let scope = accept_scope (form_of p s) in
-      let b = record (plainly (innermost w name)) { values = c.values } in
+      let b = record (plainly (innermost w name)) { values = parameters_of p c } in
       let begun = begin_scope p name scope b w in
       let mark : Mark = InAccept (record { call = c.number; accept = s; within = next_id w; handles = None }) in
       moves.goes_on w begun (open_accept p name s c w) (moves.begins_scope p name scope b w) (push-alters moves name (new_frame mark (scope_of p scope).first) begun)
 
-  pub begin_rendezvous-keeps : (p : Image) (part : Part) (name : Who) (s : StatementNo) (c : Call) (then_ otherwise : Step) → Keeps R then_ → Keeps R otherwise → Keeps R (begin_rendezvous p part name s c then_ otherwise)
-  begin_rendezvous-keeps p part name s c then_ otherwise kept also_kept = looks-keeps moves _ (λ w. then-keeps moves (begin_call p part name c) _ (search (begin_call-keeps)) (then-keeps moves (goes name (next_of p s)) _ (search (goes-keeps)) (branch-keeps moves (has_room_for_accept p w name s) (changes (open_accept p name s c) ▷ open_sequence p name ▷ then_) (says part (line.Finish name c.number (finished.Raised (exception_name p exception.Storage))) ▷ otherwise) (search (changes-keeps, open_accept-alters, then-keeps, open_sequence-keeps)) (search (says-keeps, then-keeps)))))
+  begin_accept-keeps : (p : Image) (part : Part) (name : Who) (s : StatementNo) (c : Call) → Keeps R (begin_accept p part name s c)
+  begin_accept-keeps p part name s c = search (begin_call-keeps, then-keeps, goes-keeps)
+
+  finish_without_room-keeps : (p : Image) (part : Part) (name : Who) (c : Call) → Keeps R (finish_without_room p part name c)
+  finish_without_room-keeps p part name c = search (says-keeps)
+
+  accept_with_room-keeps : (p : Image) (name : Who) (s : StatementNo) (c : Call) (has_room : Bool) → Keeps R (accept_with_room p name s c has_room)
+  accept_with_room-keeps p name s c true = search (changes-keeps, open_accept-alters, then-keeps, inherit_running-keeps)
+  accept_with_room-keeps p name s c false = search (finish_without_room-keeps, then-keeps, deliver-keeps, raises-keeps)
 
   pub accept_call-keeps : (p : Image) (name : Who) (s : StatementNo) (c : CallNo) → Keeps R (accept_call p name s c)
-  accept_call-keeps p name s c = search (with_call-keeps, begin_rendezvous-keeps, inherit_running-keeps, deliver-keeps, then-keeps, raises-keeps)
+  accept_call-keeps p name s c = search (with_call-keeps, begin_accept-keeps, then-keeps, looks-keeps, accept_with_room-keeps) depth 6
 
   pub meet_with_room-keeps : (p : Image) (part : Part) (name : Who) (s : StatementNo) (c : Call) (then_ : Step) → Keeps R then_ → Keeps R (meet_with_room p part name s c then_)
-  meet_with_room-keeps p part name s c then_ kept = search (begin_rendezvous-keeps, changes-keeps, inherit-alters, then-keeps, ready-keeps, nothing-keeps) depth 6
+  meet_with_room-keeps p part name s c then_ kept = search (begin_accept-keeps, changes-keeps, open_accept-alters, inherit-alters, then-keeps, ready-keeps, open_sequence-keeps) depth 8
 
   pub meet_without_room-keeps : (p : Image) (part : Part) (name : Who) (s : StatementNo) (c : Call) (otherwise : Step) → Keeps R otherwise → Keeps R (meet_without_room p part name s c otherwise)
-  meet_without_room-keeps p part name s c otherwise kept = search (begin_call-keeps, then-keeps, goes-keeps, says-keeps, ready-keeps, raises-keeps) depth 8
+  meet_without_room-keeps p part name s c otherwise kept = search (begin_accept-keeps, then-keeps, finish_without_room-keeps, ready-keeps, raises-keeps) depth 8
 
   pub meet-keeps : (p : Image) (part : Part) (name : Who) (s : StatementNo) (c : Call) (then_ otherwise : Step) → Keeps R then_ → Keeps R otherwise → Keeps R (meet p part name s c then_ otherwise)
   meet-keeps p part name s c then_ otherwise kept also_kept = then-keeps moves (changes (drop_delay name)) _ (search (changes-keeps, drop_delay-alters)) (looks-keeps moves _ (λ w. branch-keeps moves (has_room_for_accept p w name s) (meet_with_room p part name s c then_) (meet_without_room p part name s c otherwise) (search (meet_with_room-keeps)) (search (meet_without_room-keeps))))

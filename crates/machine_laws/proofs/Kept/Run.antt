@@ -13,7 +13,7 @@ use Rattle.profile_machine.specs.Dispatching.{choose}
 use Rattle.profile_machine.specs.Tasks.{task_of, with_ticks}
 use Rattle.profile_machine.specs.Cost.{cost}
 use Rattle.profile_machine.specs.Handlers.{charge}
-use Rattle.profile_machine.specs.Run.{opens, say, silently, says_run, with_serving, serve_if_free, serve, ticks_or, begin_action, one_less, spend_tick, next_tick, says_idle, tock_of, tock}
+use Rattle.profile_machine.specs.Run.{opens, say, silently, says_run, with_serving, serve_if_free, serve, ticks_or, begin_action, one_tick_less, spend_tick, next_tick, says_idle, tock_of, tock}
 use Rattle.machine_laws.proofs.Moves.{StepRelation, MoveRelation, Moves, TockMoves}
 use Rattle.machine_laws.specs.LineKinds.{is_of_tock}
 use Rattle.machine_laws.proofs.Kept.Combinators.{Keeps, Leads, Alters, then-keeps, changes-keeps, says-keeps, then-leads, nothing-leads, looks-leads}
@@ -52,7 +52,7 @@ module _ {R : StepRelation} {Q : MoveRelation} (moves : Moves R Q) where
 
   spend_tick-alters : (name : Who) → Alters R (spend_tick name)
   unfolding Alters
-  spend_tick-alters name w = moves.edits_task name (λ t. with_ticks (one_less t.ticks_left) t) w (λ t. refl)
+  spend_tick-alters name w = moves.edits_task name (λ t. with_ticks (one_tick_less t.ticks_left) t) w (λ t. refl)
 
   silently-leads : (f : World → World) → Alters R f → Leads Q (silently f)
   unfolding Leads Alters

@@ -22,7 +22,7 @@ use Rattle.profile_machine.specs.Dispatching.{block}
 use Rattle.profile_machine.specs.Operators.{Valued, ◌>>=◌}
 use Rattle.profile_machine.specs.Values.{Seen, seen_by, value, variable, object_cell}
 use Rattle.profile_machine.specs.CallEnds.{store}
-use Rattle.profile_machine.specs.Statements.{null, assign, cells_from, put_cells, copy_cells, array_copied, assign_array, if_statement, case_statement, while_turn, loop_cell, put, first_bound, last_bound, bounds_set, for_bounds, first_turn, advance, later_turn, exit_where, exit_statement, block_statement, raise_again, wait_until, delay_to, delay_until, put_line}
+use Rattle.profile_machine.specs.Statements.{null, assign, cells_from, put_cells, copy_cells, array_copied, assign_array, if_statement, go_to_alternative, case_statement, while_turn, loop_cell, put, first_bound, last_bound, bounds_set, for_bounds, first_turn, advance, later_turn, exit_where, exit_statement, block_statement, raise_again, wait_until, delay_to, delay_until, put_line}
 use Rattle.machine_laws.proofs.Moves.{StepRelation, MoveRelation, Moves}
 use Rattle.machine_laws.proofs.Kept.Combinators.{Keeps, From, Alters, Gives, bind-gives, changes-keeps, keeps-from, looks-from, looks-keeps, nothing-keeps, ok-gives, says-keeps, sees-keeps, then-from, then-keeps}
 use Rattle.machine_laws.proofs.Kept.Frames.{given_world-from, goes-keeps, raises-keeps, exit_loop-keeps, given-keeps, raise_if-keeps, with_room-keeps}
@@ -62,8 +62,12 @@ module _ {R : StepRelation} {Q : MoveRelation} (moves : Moves R Q) where
   pub if_statement-keeps : (p : Image) (name : Who) (e : ExprNo) (first : StatementNo) (otherwise : Option StatementNo) → Keeps R (if_statement p name e first otherwise)
   if_statement-keeps p name e first otherwise = search (sees-keeps, given-keeps, goes-keeps) depth 6
 
+  go_to_alternative-keeps : (p : Image) (name : Who) (first : Option StatementNo) → Keeps R (go_to_alternative p name first)
+  go_to_alternative-keeps p name None = search (raises-keeps)
+  go_to_alternative-keeps p name (Some s) = search (goes-keeps)
+
   pub case_statement-keeps : (p : Image) (name : Who) (e : ExprNo) (alternatives : List CaseAlternative) → Keeps R (case_statement p name e alternatives)
-  case_statement-keeps p name e alternatives = search (sees-keeps, given-keeps, goes-keeps) depth 6
+  case_statement-keeps p name e alternatives = search (sees-keeps, given-keeps, go_to_alternative-keeps) depth 6
 
   pub while_turn-keeps : (p : Image) (name : Who) (s : StatementNo) (e : ExprNo) (body : StatementNo) → Keeps R (while_turn p name s e body)
   while_turn-keeps p name s e body = search (sees-keeps, given-keeps, goes-keeps) depth 6

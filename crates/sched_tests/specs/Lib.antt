@@ -1,0 +1,9 @@
+pub mod Least
+pub mod Tables
+pub mod Lines
+pub mod Reading
+pub mod Response
+pub mod Demand
+pub mod Chunks
+pub mod Reports
+pub mod Floors

@@ -8,7 +8,8 @@ use Rattle.profile_machine.specs.declared.values.Value.TheVariants.{Whole}
 use Rattle.profile_machine.specs.declared.expressions.ObjectName.{ObjectName}
 use Rattle.profile_machine.specs.declared.expressions.ObjectName.TheVariants as object
 use Rattle.profile_machine.specs.declared.expressions.VariableName.{VariableName}
-use Rattle.profile_machine.specs.World.{World, scope_id}
+use Rattle.profile_machine.specs.declared.world.World.{World}
+use Rattle.profile_machine.specs.Words.{scope_id}
 use Rattle.profile_machine.specs.Program.{next_of}
 use Rattle.profile_machine.specs.Steps.{own, changes, ◌▷◌}
 use Rattle.profile_machine.specs.Frames.{edit_top, goes, goes_on, given}

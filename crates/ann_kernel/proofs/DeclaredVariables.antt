@@ -9,7 +9,8 @@ use Rattle.profile_machine.specs.declared.declarations.DeclarationKind.{Declarat
 use Rattle.profile_machine.specs.declared.declarations.DeclarationKind.TheVariants as kind
 use Rattle.profile_machine.specs.declared.declarations.Initial.TheVariants as initial
 use Rattle.profile_machine.specs.declared.expressions.ObjectName.TheVariants as object
-use Rattle.profile_machine.specs.World.{World, scope_id}
+use Rattle.profile_machine.specs.declared.world.World.{World}
+use Rattle.profile_machine.specs.Words.{scope_id}
 use Rattle.profile_machine.specs.Program.{declaration_of, next_of}
 use Rattle.profile_machine.specs.Steps.{own, changes, ◌▷◌}
 use Rattle.profile_machine.specs.Frames.{edit_top, goes, goes_on, given}

@@ -4,7 +4,7 @@ use Rattle.trace_text.specs.declared.events.Event.{Event}
 use Rattle.trace_text.specs.declared.events.Event.TheVariants as line
 use Rattle.trace_text.specs.declared.events.Ended.{Ended}
 use Rattle.profile_machine.specs.declared.image.Image.{Image}
-use Rattle.profile_machine.specs.World.{World}
+use Rattle.profile_machine.specs.declared.world.World.{World}
 use Rattle.profile_machine.specs.Instant.{instant}
 use Rattle.profile_machine.specs.Run.{tock, stop, opening, run_from, at_tick}
 use Rattle.ann_kernel.specs.Future.{Shown, advanced, advanced_by, future_of, first_line, lines_from, lines_unless, after_instant, goes_by, unless_stopped, end_lines, stop_of, stop_from, stop_unless, opened, lines_of_run, stop_of_run, left_of, flag}
@@ -15,10 +15,10 @@ at_tick-append now (x ∷ xs) ys = ap (λ zs. (now, x) ∷ zs) (at_tick-append n
 
 -- the run from an instant on, by the stop that is found there
 lines_by : Option Ended → Image → ℕ → ℕ → World → World × List Event → List (ℕ × Event)
-lines_by (Some reason) p bound fuel w i = at_tick w.now (i.1 ++ line.End reason ∷ [])
+lines_by (Some reason) p bound fuel w i = at_tick w.time (i.1 ++ line.End reason ∷ [])
 lines_by None p bound fuel w i =
     let t = tock p i.0 in
-    at_tick w.now (i.1 ++ t.1) ++ (run_from fuel p bound t.0).lines
+    at_tick w.time (i.1 ++ t.1) ++ (run_from fuel p bound t.0).lines
 
 stop_by : Option Ended → ℕ → Image → ℕ → World → Ended
 stop_by (Some reason) fuel p bound w = reason
@@ -31,20 +31,20 @@ from-instant fuel p bound w (Some reason) e = rw (e, run_from) refl
 
 -- what a kernel shows goes on in time: an instant stands, and a tock passes one tick below the bound
 pub record Moves (s : Shown) : Type 0 where
-  pub stands : (instant s.program s.world).0.now ≡ s.world.now
-  pub passes : (tock s.program s.world).0.now ≡ suc s.world.now
-  pub in_time : s.world.now ≤ s.bound
-  pub before : s.at_instant ≡ false → s.stop ≡ None → s.world.now < s.bound
+  pub stands : (instant s.program s.world).0.time ≡ s.world.time
+  pub passes : (tock s.program s.world).0.time ≡ suc s.world.time
+  pub in_time : s.world.time ≤ s.bound
+  pub before : s.at_instant ≡ false → s.stop ≡ None → s.world.time < s.bound
 
 -- behind an instant
-instant-future : (s : Shown) (found : Option Ended) → stop s.program s.bound (instant s.program s.world).0 ≡ found → (instant s.program s.world).0.now ≡ s.world.now →
-    at_tick s.world.now ((instant s.program s.world).1 ++ end_lines found) ++ lines_unless found (after_instant s (instant s.program s.world))
-    ≡ (run_from (suc (s.bound - s.world.now)) s.program s.bound s.world).lines
+instant-future : (s : Shown) (found : Option Ended) → stop s.program s.bound (instant s.program s.world).0 ≡ found → (instant s.program s.world).0.time ≡ s.world.time →
+    at_tick s.world.time ((instant s.program s.world).1 ++ end_lines found) ++ lines_unless found (after_instant s (instant s.program s.world))
+    ≡ (run_from (suc (s.bound - s.world.time)) s.program s.bound s.world).lines
 unfolding lines_by
-instant-future s (Some reason) e stands = append-nil _ ∙ sym (from-instant (s.bound - s.world.now) s.program s.bound s.world (Some reason) e)
+instant-future s (Some reason) e stands = append-nil _ ∙ sym (from-instant (s.bound - s.world.time) s.program s.bound s.world (Some reason) e)
 instant-future s None e stands =
     let p = s.program in
-    let now = s.world.now in
+    let now = s.world.time in
     let i = instant p s.world in
     let t = tock p i.0 in
     let rest = (run_from (s.bound - now) p s.bound t.0).lines in
@@ -54,10 +54,10 @@ instant-future s None e stands =
     ∙ ap (λ xs. xs ++ rest) (sym (at_tick-append now i.1 t.1))
     ∙ sym (from-instant (s.bound - now) p s.bound s.world None e)
 
-tock-future : (s : Shown) → (tock s.program s.world).0.now ≡ suc s.world.now → s.world.now < s.bound →
-    at_tick s.world.now (tock s.program s.world).1 ++ (run_from (suc (s.bound - (tock s.program s.world).0.now)) s.program s.bound (tock s.program s.world).0).lines
+tock-future : (s : Shown) → (tock s.program s.world).0.time ≡ suc s.world.time → s.world.time < s.bound →
+    at_tick s.world.time (tock s.program s.world).1 ++ (run_from (suc (s.bound - (tock s.program s.world).0.time)) s.program s.bound (tock s.program s.world).0).lines
     ≡ lines_from false s.program s.bound s.world
-tock-future s passes before = ap (λ n. at_tick s.world.now (tock s.program s.world).1 ++ (run_from n s.program s.bound (tock s.program s.world).0).lines) (let e : suc (s.bound - (tock s.program s.world).0.now) ≡ s.bound - s.world.now = omega arith in e)
+tock-future s passes before = ap (λ n. at_tick s.world.time (tock s.program s.world).1 ++ (run_from n s.program s.bound (tock s.program s.world).0).lines) (let e : suc (s.bound - (tock s.program s.world).0.time) ≡ s.bound - s.world.time = omega arith in e)
 
 goes-future : (at_instant : Bool) (s : Shown) → s.at_instant ≡ at_instant → s.stop ≡ None → Moves s → future_of (goes_by at_instant s) ≡ lines_from at_instant s.program s.bound s.world
 goes-future true s at e m = instant-future s (stop s.program s.bound (instant s.program s.world).0) refl m.stands
@@ -86,20 +86,20 @@ unfolding stop_by
 stop-from-instant fuel p bound w None e = rw (e, run_from) refl
 stop-from-instant fuel p bound w (Some reason) e = rw (e, run_from) refl
 
-instant-stop : (s : Shown) (found : Option Ended) → stop s.program s.bound (instant s.program s.world).0 ≡ found → (instant s.program s.world).0.now ≡ s.world.now →
-    stop_unless found (record (after_instant s (instant s.program s.world)) { stop = found }) ≡ (run_from (suc (s.bound - s.world.now)) s.program s.bound s.world).stop
+instant-stop : (s : Shown) (found : Option Ended) → stop s.program s.bound (instant s.program s.world).0 ≡ found → (instant s.program s.world).0.time ≡ s.world.time →
+    stop_unless found (record (after_instant s (instant s.program s.world)) { stop = found }) ≡ (run_from (suc (s.bound - s.world.time)) s.program s.bound s.world).stop
 unfolding stop_by
-instant-stop s (Some reason) e stands = sym (stop-from-instant (s.bound - s.world.now) s.program s.bound s.world (Some reason) e)
+instant-stop s (Some reason) e stands = sym (stop-from-instant (s.bound - s.world.time) s.program s.bound s.world (Some reason) e)
 instant-stop s None e stands =
     ap (λ n. (run_from (s.bound - n) s.program s.bound (tock s.program (instant s.program s.world).0).0).stop) stands
-    ∙ sym (stop-from-instant (s.bound - s.world.now) s.program s.bound s.world None e)
+    ∙ sym (stop-from-instant (s.bound - s.world.time) s.program s.bound s.world None e)
 
 goes-stop : (at_instant : Bool) (s : Shown) → s.at_instant ≡ at_instant → s.stop ≡ None → Moves s → stop_of (goes_by at_instant s) ≡ stop_from at_instant s.program s.bound s.world
 goes-stop true s at e m = instant-stop s (stop s.program s.bound (instant s.program s.world).0) refl m.stands
 goes-stop false s at e m =
-    rw e (let before : s.world.now < s.bound = m.before at e in
+    rw e (let before : s.world.time < s.bound = m.before at e in
     let passes = m.passes in
-    let count : suc (s.bound - (tock s.program s.world).0.now) ≡ s.bound - s.world.now = omega (arith, m.passes) in
+    let count : suc (s.bound - (tock s.program s.world).0.time) ≡ s.bound - s.world.time = omega (arith, m.passes) in
     ap (λ n. (run_from n s.program s.bound (tock s.program s.world).0).stop) count)
 
 unstopped-stop : (found : Option Ended) (s : Shown) → s.stop ≡ found → Moves s → stop_of (unless_stopped found s) ≡ stop_unless found s
@@ -120,11 +120,11 @@ advanced-stop s m = advanced-by-stop s.owed s refl m
 
 -- ---- at the opening
 
-pub opened-future : (p : Image) (bound : ℕ) → (opening p []).0.now ≡ 0 → future_of (opened p bound) ≡ lines_of_run p bound
+pub opened-future : (p : Image) (bound : ℕ) → (opening p []).0.time ≡ 0 → future_of (opened p bound) ≡ lines_of_run p bound
 unfolding lines_of_run
 opened-future p bound e = ap (λ n. at_tick 0 (opening p []).1 ++ (run_from (suc (bound - n)) p bound (opening p []).0).lines) e ∙ ap (λ n. at_tick 0 (opening p []).1 ++ (run_from (suc n) p bound (opening p []).0).lines) (let m : bound - 0 ≡ bound = omega arith in m)
 
-pub opened-stop : (p : Image) (bound : ℕ) → (opening p []).0.now ≡ 0 → stop_of (opened p bound) ≡ stop_of_run p bound
+pub opened-stop : (p : Image) (bound : ℕ) → (opening p []).0.time ≡ 0 → stop_of (opened p bound) ≡ stop_of_run p bound
 unfolding stop_of_run
 opened-stop p bound e = ap (λ n. (run_from (suc (bound - n)) p bound (opening p []).0).stop) e ∙ ap (λ n. (run_from (suc n) p bound (opening p []).0).stop) (let m : bound - 0 ≡ bound = omega arith in m)
 
@@ -132,13 +132,13 @@ opened-stop p bound e = ap (λ n. (run_from (suc (bound - n)) p bound (opening p
 
 goes-left : (at_instant : Bool) (s : Shown) → s.at_instant ≡ at_instant → s.stop ≡ None → Moves s → length (future_of (goes_by at_instant s)) ≡ length (future_of s) → left_of (goes_by at_instant s) < left_of s
 goes-left true s at e m same =
-    let stands : (instant s.program s.world).0.now ≡ s.world.now = m.stands in
+    let stands : (instant s.program s.world).0.time ≡ s.world.time = m.stands in
     let here : flag s.at_instant ≡ 1 = ap flag at in
-    let f : 2 * (s.bound - (instant s.program s.world).0.now) ≡ 2 * (s.bound - s.world.now) = ap (λ n. 2 * (s.bound - n)) stands in
+    let f : 2 * (s.bound - (instant s.program s.world).0.time) ≡ 2 * (s.bound - s.world.time) = ap (λ n. 2 * (s.bound - n)) stands in
     omega arith
 goes-left false s at e m same =
-    let passes : (tock s.program s.world).0.now ≡ suc s.world.now = m.passes in
-    let before : s.world.now < s.bound = m.before at e in
+    let passes : (tock s.program s.world).0.time ≡ suc s.world.time = m.passes in
+    let before : s.world.time < s.bound = m.before at e in
     let here : flag s.at_instant ≡ 0 = ap flag at in
     omega arith
 

@@ -23,7 +23,7 @@ use Rattle.ann_kernel.specs.Lines.{event_of, lines_of, stamped, stop_line}
 use Rattle.ann_kernel.specs.declared.values.Store.{Store}
 use Rattle.ann_kernel.specs.Cells.{with_store}
 use Rattle.ann_kernel.specs.Worlds.{world_at, stop_at}
-use Rattle.profile_machine.specs.World.{World}
+use Rattle.profile_machine.specs.declared.world.World.{World}
 use Rattle.profile_machine.specs.Instant.{instant}
 use Rattle.profile_machine.specs.Run.{stop, at_tick}
 use Rattle.ann_kernel.proofs.MachineSteps.{instant-now, tock-now, opening-shown, stop-at}
@@ -91,12 +91,12 @@ next-ended j (Err e) h = tt
 
 pub open-future : (p : Image) (bound : ℕ) → IsLegal p → (r : Result Kernel NoMemory) → IfOk r (λ k. shown k ≡ opened p bound) → IfOk r (λ k. future k ≡ lines_of_run p bound)
 unfolding future
-open-future p bound legal (Ok k) e = ap future_of e ∙ opened-future p bound (ap (λ o. o.0.now) (opening-shown p [] legal.simple))
+open-future p bound legal (Ok k) e = ap future_of e ∙ opened-future p bound (ap (λ o. o.0.time) (opening-shown p [] legal.simple))
 open-future p bound legal (Err fault) e = tt
 
 pub open-stop : (p : Image) (bound : ℕ) → IsLegal p → (r : Result Kernel NoMemory) → IfOk r (λ k. shown k ≡ opened p bound) → IfOk r (λ k. stop_to_come k ≡ stop_of_run p bound)
 unfolding stop_to_come
-open-stop p bound legal (Ok k) e = ap stop_of e ∙ opened-stop p bound (ap (λ o. o.0.now) (opening-shown p [] legal.simple))
+open-stop p bound legal (Ok k) e = ap stop_of e ∙ opened-stop p bound (ap (λ o. o.0.time) (opening-shown p [] legal.simple))
 open-stop p bound legal (Err fault) e = tt
 
 -- ---- an instant of the kernel

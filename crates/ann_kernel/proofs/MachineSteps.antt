@@ -9,7 +9,7 @@ use Rattle.profile_machine.specs.declared.expressions.Expression.{Expression}
 use Rattle.profile_machine.specs.declared.statements.Statement.{Statement as Action}
 use Rattle.profile_machine.specs.declared.statements.StatementForm.{StatementForm}
 use Rattle.profile_machine.specs.declared.statements.StatementForm.TheVariants as form
-use Rattle.profile_machine.specs.World.{World}
+use Rattle.profile_machine.specs.declared.world.World.{World}
 use Rattle.profile_machine.specs.Instant.{instant, effect}
 use Rattle.profile_machine.specs.Run.{tock, stop, opening, environment}
 use Rattle.profile_machine.specs.Steps.{settles, nothing}
@@ -181,22 +181,22 @@ stop-at p bound now ran ticks Over cells = refl
 
 -- ---- time at instants and tocks
 
-instant-now-done : (p : Image) (now : ℕ) (ticks : Option ℕ) (progress : Progress) (cells : List ℤ) → IsSimple p → is_inside progress ≡ true → AreCells (length p.declarations) progress cells → (done : Bool) → is_done ticks ≡ done → (instant p (world_at p now true ticks progress cells)).0.now ≡ now
-instant-now-done p now ticks progress cells s h c true e = let t = done-is ticks e in rw t (ap (λ i. i.0.now) (instant-acts p now progress cells s h c))
-instant-now-done p now ticks progress cells s h c false e = ap (λ i. i.0.now) (instant-waits p now ticks progress cells s e)
+instant-now-done : (p : Image) (now : ℕ) (ticks : Option ℕ) (progress : Progress) (cells : List ℤ) → IsSimple p → is_inside progress ≡ true → AreCells (length p.declarations) progress cells → (done : Bool) → is_done ticks ≡ done → (instant p (world_at p now true ticks progress cells)).0.time ≡ now
+instant-now-done p now ticks progress cells s h c true e = let t = done-is ticks e in rw t (ap (λ i. i.0.time) (instant-acts p now progress cells s h c))
+instant-now-done p now ticks progress cells s h c false e = ap (λ i. i.0.time) (instant-waits p now ticks progress cells s e)
 
 -- now stands at an instant
-pub instant-now : (p : Image) (now : ℕ) (ran : Bool) (ticks : Option ℕ) (progress : Progress) (cells : List ℤ) → IsSimple p → is_inside progress ≡ true → AreCells (length p.declarations) progress cells → (instant p (world_at p now ran ticks progress cells)).0.now ≡ now
+pub instant-now : (p : Image) (now : ℕ) (ran : Bool) (ticks : Option ℕ) (progress : Progress) (cells : List ℤ) → IsSimple p → is_inside progress ≡ true → AreCells (length p.declarations) progress cells → (instant p (world_at p now ran ticks progress cells)).0.time ≡ now
 instant-now p now false ticks progress cells s h c = refl
 instant-now p now true ticks progress cells s h c = instant-now-done p now ticks progress cells s h c (is_done ticks) refl
 
-tock-now-over : (p : Image) (now : ℕ) (ran : Bool) (ticks : Option ℕ) (progress : Progress) (cells : List ℤ) → IsSimple p → is_inside progress ≡ true → (over : Bool) → is_over_progress progress ≡ over → (tock p (world_at p now ran ticks progress cells)).0.now ≡ suc now
-tock-now-over p now ran ticks progress cells s h false e = ap (λ t. t.0.now) (tock-runs p now ran ticks progress cells s h e)
-tock-now-over p now ran ticks Over cells s h true e = ap (λ t. t.0.now) (tock-over p now ran ticks cells)
+tock-now-over : (p : Image) (now : ℕ) (ran : Bool) (ticks : Option ℕ) (progress : Progress) (cells : List ℤ) → IsSimple p → is_inside progress ≡ true → (over : Bool) → is_over_progress progress ≡ over → (tock p (world_at p now ran ticks progress cells)).0.time ≡ suc now
+tock-now-over p now ran ticks progress cells s h false e = ap (λ t. t.0.time) (tock-runs p now ran ticks progress cells s h e)
+tock-now-over p now ran ticks Over cells s h true e = ap (λ t. t.0.time) (tock-over p now ran ticks cells)
 tock-now-over p now ran ticks Calling cells s h true e = absurd (false≢true e)
 tock-now-over p now ran ticks (Inside onward) cells s h true e = absurd (false≢true e)
 tock-now-over p now ran ticks Behind cells s h true e = absurd (false≢true e)
 
 -- a tock passes one tick
-pub tock-now : (p : Image) (now : ℕ) (ran : Bool) (ticks : Option ℕ) (progress : Progress) (cells : List ℤ) → IsSimple p → is_inside progress ≡ true → (tock p (world_at p now ran ticks progress cells)).0.now ≡ suc now
+pub tock-now : (p : Image) (now : ℕ) (ran : Bool) (ticks : Option ℕ) (progress : Progress) (cells : List ℤ) → IsSimple p → is_inside progress ≡ true → (tock p (world_at p now ran ticks progress cells)).0.time ≡ suc now
 tock-now p now ran ticks progress cells s h = tock-now-over p now ran ticks progress cells s h (is_over_progress progress) refl

@@ -14,7 +14,8 @@ use Rattle.profile_machine.specs.declared.statements.StatementForm.{StatementFor
 use Rattle.profile_machine.specs.declared.statements.StatementForm.TheVariants as form
 use Rattle.profile_machine.specs.declared.statements.Piece.{Piece}
 use Rattle.profile_machine.specs.declared.statements.Piece.TheVariants as piece
-use Rattle.profile_machine.specs.World.{World, scope_id}
+use Rattle.profile_machine.specs.declared.world.World.{World}
+use Rattle.profile_machine.specs.Words.{scope_id}
 use Rattle.profile_machine.specs.Instant.{instant, script_items, events_due, moments_due, timers_due, budgets_due, quantum_spent}
 use Rattle.profile_machine.specs.Run.{environment}
 use Rattle.profile_machine.specs.Steps.{Said, own, in_order, placed_by, ◌▷◌}

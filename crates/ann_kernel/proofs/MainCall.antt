@@ -10,7 +10,9 @@ use Rattle.profile_machine.specs.declared.statements.Statement.{Statement as Act
 use Rattle.profile_machine.specs.declared.statements.StatementForm.{StatementForm}
 use Rattle.profile_machine.specs.declared.statements.StatementForm.TheVariants as form
 use Rattle.ann_base.specs.declared.exceptions.Raised.TheVariants as exception
-use Rattle.profile_machine.specs.World.{World, of_subprogram, to_nowhere}
+use Rattle.profile_machine.specs.declared.world.World.{World}
+use Rattle.profile_machine.specs.declared.world.marks.Purpose.TheVariants as opened_for
+use Rattle.profile_machine.specs.declared.world.marks.ResultTo.TheVariants as bound_for
 use Rattle.profile_machine.specs.Instant.{instant}
 use Rattle.profile_machine.specs.Run.{environment}
 use Rattle.profile_machine.specs.Steps.{Said, Step, own, changes, looks, ◌▷◌}
@@ -42,7 +44,7 @@ calling p now cells = world_at p now true None Calling cells
 by_room : Image → World → Bool → World × List Said
 by_room p w found =
     let step : Step = elim found [
-      | true ↦ goes environment (next_of p (statement_no 0)) ▷ looks (λ v. changes (open_scope p environment p.main.scope (plainly (innermost v environment)) (of_subprogram [] to_nowhere)))
+      | true ↦ goes environment (next_of p (statement_no 0)) ▷ looks (λ v. changes (open_scope p environment p.main.scope (plainly (innermost v environment)) (opened_for.Subprogram [] bound_for.Nowhere)))
       | false ↦ raises p own environment exception.Storage
     ] in
     step w

@@ -12,7 +12,9 @@ use Rattle.profile_machine.specs.declared.expressions.Expression.TheVariants as 
 use Rattle.profile_machine.specs.declared.expressions.ObjectName.{ObjectName}
 use Rattle.profile_machine.specs.declared.expressions.ObjectName.TheVariants as object
 use Rattle.profile_machine.specs.declared.expressions.VariableName.{VariableName}
-use Rattle.profile_machine.specs.World.{World, Variable, scope_id}
+use Rattle.profile_machine.specs.declared.world.World.{World}
+use Rattle.profile_machine.specs.declared.world.scopes.Variable.{Variable}
+use Rattle.profile_machine.specs.Words.{scope_id}
 use Rattle.profile_machine.specs.Program.{declaration_of, expression_of}
 use Rattle.profile_machine.specs.Scopes.{home, innermost, read_cell, write_cell}
 use Rattle.profile_machine.specs.Operators.{Valued, ◌>>=◌, unless, checked}

@@ -5,7 +5,7 @@ use Rattle.trace_text.specs.declared.events.Event.TheVariants as line
 use Rattle.trace_text.specs.declared.events.Ended.{Ended}
 use Rattle.trace_text.specs.Text.{line_text}
 use Rattle.profile_machine.specs.declared.image.Image.{Image}
-use Rattle.profile_machine.specs.World.{World}
+use Rattle.profile_machine.specs.declared.world.World.{World}
 use Rattle.profile_machine.specs.Instant.{instant}
 use Rattle.profile_machine.specs.Run.{tock, stop, run_from, at_tick, opening, run}
 
@@ -29,11 +29,11 @@ after_instant s i = record s {
   world = i.0;
   at_instant = false;
   stop = stop s.program s.bound i.0;
-  owed = at_tick s.world.now (i.1 ++ end_lines (stop s.program s.bound i.0));
+  owed = at_tick s.world.time (i.1 ++ end_lines (stop s.program s.bound i.0));
 }
 
 abbrev pub after_tock : Shown → World × List Event → Shown
-after_tock s t = record s { world = t.0; at_instant = true; owed = at_tick s.world.now t.1 }
+after_tock s t = record s { world = t.0; at_instant = true; owed = at_tick s.world.time t.1 }
 
 abbrev pub goes_by : Bool → Shown → Shown
 goes_by true s = after_instant s (instant s.program s.world)
@@ -63,10 +63,10 @@ first_line (x ∷ xs) = x ∷ []
 -- ---- what is still to come
 
 abbrev pub lines_from : Bool → Image → ℕ → World → List (ℕ × Event)
-lines_from true p bound w = (run_from (suc (bound - w.now)) p bound w).lines
+lines_from true p bound w = (run_from (suc (bound - w.time)) p bound w).lines
 lines_from false p bound w =
     let t = tock p w in
-    at_tick w.now t.1 ++ (run_from (bound - w.now) p bound t.0).lines
+    at_tick w.time t.1 ++ (run_from (bound - w.time) p bound t.0).lines
 
 abbrev pub lines_unless : Option Ended → Shown → List (ℕ × Event)
 lines_unless None s = lines_from s.at_instant s.program s.bound s.world
@@ -76,8 +76,8 @@ abbrev pub future_of : Shown → List (ℕ × Event)
 future_of s = s.owed ++ lines_unless s.stop s
 
 abbrev pub stop_from : Bool → Image → ℕ → World → Ended
-stop_from true p bound w = (run_from (suc (bound - w.now)) p bound w).stop
-stop_from false p bound w = (run_from (bound - w.now) p bound (tock p w).0).stop
+stop_from true p bound w = (run_from (suc (bound - w.time)) p bound w).stop
+stop_from false p bound w = (run_from (bound - w.time) p bound (tock p w).0).stop
 
 abbrev pub stop_unless : Option Ended → Shown → Ended
 stop_unless None s = stop_from s.at_instant s.program s.bound s.world
@@ -93,7 +93,7 @@ flag true = 1
 flag false = 0
 
 abbrev pub left_of : Shown → ℕ
-left_of s = length (future_of s) + (2 * (s.bound - s.world.now) + flag s.at_instant)
+left_of s = length (future_of s) + (2 * (s.bound - s.world.time) + flag s.at_instant)
 
 -- a run that is opened
 abbrev pub opened : Image → ℕ → Shown

@@ -5,7 +5,16 @@ use Rattle.trace_text.specs.declared.events.Who.{Who}
 use Rattle.profile_machine.specs.declared.image.Image.{Image}
 use Rattle.profile_machine.specs.declared.numbers.StatementNo.{StatementNo}
 use Rattle.profile_machine.specs.declared.numbers.ScopeNo.{ScopeNo}
-use Rattle.profile_machine.specs.World.{World, Task, Frame, Purpose, of_task, of_subprogram, to_nowhere, ScopeId, scope_id, ScopeInUse, Placed}
+use Rattle.profile_machine.specs.declared.world.World.{World}
+use Rattle.profile_machine.specs.declared.world.tasks.Task.{Task}
+use Rattle.profile_machine.specs.declared.world.marks.Frame.{Frame}
+use Rattle.profile_machine.specs.declared.world.marks.Purpose.{Purpose}
+use Rattle.profile_machine.specs.declared.world.scopes.ScopeId.{ScopeId}
+use Rattle.profile_machine.specs.Words.{scope_id}
+use Rattle.profile_machine.specs.declared.world.scopes.ScopeInUse.{ScopeInUse}
+use Rattle.profile_machine.specs.declared.world.tasks.Placed.{Placed}
+use Rattle.profile_machine.specs.declared.world.marks.Purpose.TheVariants as opened_for
+use Rattle.profile_machine.specs.declared.world.marks.ResultTo.TheVariants as bound_for
 use Rattle.profile_machine.specs.Program.{scope_of, form_of, next_of, statement_of, interrupt_priority}
 use Rattle.profile_machine.specs.Frames.{new_frame}
 use Rattle.profile_machine.specs.Scopes.{new_scope_mark}
@@ -27,9 +36,9 @@ abbrev pub frame_in : ℕ → Purpose → Option StatementNo → Frame
 frame_in id purpose onward = new_frame (new_scope_mark (scope_id id) None purpose) onward
 
 abbrev pub frames_at : Image → Progress → List Frame
-frames_at p Calling = frame_in 0 of_task (scope_of p p.environment).first ∷ []
-frames_at p (Inside onward) = frame_in 1 (of_subprogram [] to_nowhere) onward ∷ frame_in 0 of_task None ∷ []
-frames_at p Behind = frame_in 0 of_task None ∷ []
+frames_at p Calling = frame_in 0 opened_for.Task (scope_of p p.environment).first ∷ []
+frames_at p (Inside onward) = frame_in 1 (opened_for.Subprogram [] bound_for.Nowhere) onward ∷ frame_in 0 opened_for.Task None ∷ []
+frames_at p Behind = frame_in 0 opened_for.Task None ∷ []
 frames_at p Over = []
 
 abbrev pub scope_used : ℕ → ScopeNo → Option ScopeId → List Value → ScopeInUse
@@ -79,7 +88,7 @@ runner false = None
 
 abbrev pub world_at : Image → ℕ → Bool → Option ℕ → Progress → List ℤ → World
 world_at p now ran ticks progress cells = record {
-  now = now;
+  time = now;
   ran = runner ran;
   script = [];
   ports = replicate 16 (pos 0);

@@ -3,7 +3,8 @@ use Rattle.std.proofs.Common.{◌≡◌, ℕ, ℤ, true, List, Option, ap, refl,
 use Rattle.std.specs.Prelude.{int_lt, pos}
 use Rattle.trace_text.specs.declared.events.Who.{Who}
 use Rattle.trace_text.specs.declared.events.Who.TheVariants as who
-use Rattle.profile_machine.specs.World.{World, Task}
+use Rattle.profile_machine.specs.declared.world.World.{World}
+use Rattle.profile_machine.specs.declared.world.tasks.Task.{Task}
 use Rattle.profile_machine.specs.Steps.{Step}
 use Rattle.profile_machine.specs.Tasks.{edit_task}
 use Rattle.machine_laws.proofs.Moves.{Moves}
@@ -11,7 +12,7 @@ use Rattle.machine_laws.proofs.Kept.Combinators.{Keeps}
 
 -- the time, and who ran the tick before
 abbrev pub clock_of : World → ℕ × Option Who
-clock_of w = (w.now, w.ran)
+clock_of w = (w.time, w.ran)
 
 -- both are the same in both worlds
 abbrev pub AtOnce : {X : Type 0} → World → List X → World → Type 0
@@ -65,6 +66,6 @@ at_once = record {
 }
 
 -- so what was later before a step is later behind it
-pub later_behind : (step : Step) (w : World) (moment : ℤ) → Keeps AtOnce step → int_lt (pos w.now) moment ≡ true → int_lt (pos (step w).0.now) moment ≡ true
+pub later_behind : (step : Step) (w : World) (moment : ℤ) → Keeps AtOnce step → int_lt (pos w.time) moment ≡ true → int_lt (pos (step w).0.time) moment ≡ true
 unfolding Keeps
 later_behind step w moment kept later = subst (λ n. int_lt (pos n) moment ≡ true) (sym (ap (λ x. x.0) (kept w))) later

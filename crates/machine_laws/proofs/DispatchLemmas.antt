@@ -11,7 +11,9 @@ use Rattle.trace_text.specs.Queue.{Line, RisesFrom, seen_from, up_to, last_from,
 use Rattle.trace_text.specs.Laws.{DispatchOk}
 use Rattle.profile_machine.specs.declared.image.Image.{Image}
 use Rattle.profile_machine.specs.declared.run_data.Item.{Item}
-use Rattle.profile_machine.specs.World.{World, Frame, Release}
+use Rattle.profile_machine.specs.declared.world.World.{World}
+use Rattle.profile_machine.specs.declared.world.marks.Frame.{Frame}
+use Rattle.profile_machine.specs.declared.world.appointments.Release.{Release}
 use Rattle.profile_machine.specs.Words.{same_who, same_option}
 use Rattle.profile_machine.specs.Steps.{nothing, places_after_all}
 use Rattle.profile_machine.specs.Dispatching as dispatching
@@ -218,17 +220,17 @@ unfolding turn
 turn-held s now i t rest (Some reason) rises first later = Held-stopped s now (i.1 ++ line.End reason ∷ [])
 turn-held s now i t rest None rises first later = Held-turn s now (i.1 ++ t.1) rest.lines rises first later
 
-run_from-held : (fuel : ℕ) (p : Image) (bound : ℕ) (w : World) (s : Sight) → Shows s w → Held s w.now (run_from fuel p bound w).lines
+run_from-held : (fuel : ℕ) (p : Image) (bound : ℕ) (w : World) (s : Sight) → Shows s w → Held s w.time (run_from fuel p bound w).lines
 unfolding turn
-run_from-held zero p bound w s h = Held-stopped s w.now (line.End why.Bound ∷ [])
+run_from-held zero p bound w s h = Held-stopped s w.time (line.End why.Bound ∷ [])
 run_from-held (suc fuel) p bound w s h =
     let i = instant p w in
     let t = tock p i.0 in
     let behind : Shows (after_all s i.1) i.0 = instant-shows p s w h in
     let joined : after_all s (i.1 ++ t.1) ≡ after_all (after_all s i.1) t.1 = after_all-append s i.1 t.1 in
-    let later : t.0.now ≡ suc w.now = tocks_take_one_tick p i.0 ∙ ap (λ n. suc n) (instants_take_no_time p w) in
+    let later : t.0.time ≡ suc w.time = tocks_take_one_tick p i.0 ∙ ap (λ n. suc n) (instants_take_no_time p w) in
     let shown : Shows (after_all s (i.1 ++ t.1)) t.0 = subst (λ q. Shows q t.0) (sym joined) (tock-shows p (after_all s i.1) i.0 behind) in
-    turn-held s w.now i t (run_from fuel p bound t.0) (stop p bound i.0)
+    turn-held s w.time i t (run_from fuel p bound t.0) (stop p bound i.0)
     (subst (λ n. RisesFrom n (run_from fuel p bound t.0).lines) later (run_from-rises fuel p bound t.0))
     (subst Runs_first (sym joined) (tock-first p (after_all s i.1) i.0 behind))
     (subst (λ n. Held (after_all s (i.1 ++ t.1)) n (run_from fuel p bound t.0).lines) later (run_from-held fuel p bound t.0 (after_all s (i.1 ++ t.1)) shown))

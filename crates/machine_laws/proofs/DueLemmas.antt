@@ -9,7 +9,11 @@ use Rattle.trace_text.specs.declared.events.Who.{Who}
 use Rattle.trace_text.specs.declared.events.Who.TheVariants as who
 use Rattle.profile_machine.specs.declared.image.Image.{Image}
 use Rattle.profile_machine.specs.declared.run_data.Item.{Item}
-use Rattle.profile_machine.specs.World.{World, Task, Due, an_event, a_delay, a_timeout, a_trigger, Appointment}
+use Rattle.profile_machine.specs.declared.world.World.{World}
+use Rattle.profile_machine.specs.declared.world.tasks.Task.{Task}
+use Rattle.profile_machine.specs.declared.world.appointments.Due.{Due}
+use Rattle.profile_machine.specs.declared.world.appointments.Appointment.{Appointment}
+use Rattle.profile_machine.specs.declared.world.appointments.Due.TheVariants as due_for
 use Rattle.profile_machine.specs.Words.{same_bool, without}
 use Rattle.profile_machine.specs.Steps.{Move, ◌▷◌}
 use Rattle.profile_machine.specs.Tasks.{edit_task}
@@ -96,15 +100,15 @@ without-count events now test (x ∷ xs) =
 
 module _ (events : Bool) where
   abbrev due_in : World → ℕ
-  due_in w = count_due events w.now w.appointments
+  due_in w = count_due events w.time w.appointments
 
   abbrev NeverMore : {X : Type 0} → World → List X → World → Type 0
-  NeverMore earlier lines later = (later.now ≡ earlier.now) × (due_in later ≤ due_in earlier)
+  NeverMore earlier lines later = (later.time ≡ earlier.time) × (due_in later ≤ due_in earlier)
 
-  still : (w : World) → (w.now ≡ w.now) × (due_in w ≤ due_in w)
+  still : (w : World) → (w.time ≡ w.time) × (due_in w ≤ due_in w)
   still w = (refl, omega arith)
 
-  edit_task-still : (name : Who) (f : Task → Task) (w : World) → ((edit_task name f w).now ≡ w.now) × (due_in (edit_task name f w) ≤ due_in w)
+  edit_task-still : (name : Who) (f : Task → Task) (w : World) → ((edit_task name f w).time ≡ w.time) × (due_in (edit_task name f w) ≤ due_in w)
   edit_task-still (who.Task t) f w = still w
   edit_task-still who.Agent f w = still w
 
@@ -133,9 +137,9 @@ module _ (events : Bool) where
     adds_object = λ p l u w. still w;
     appoints = λ due moment w later.
         let new : Appointment = record { due = due; moment = moment } in
-        let same = put-count events w.now new w.appointments (later-is_due events w.now new later) in
+        let same = put-count events w.time new w.appointments (later-is_due events w.time new later) in
         (refl, omega (arith, same));
-    drops_appointment = λ test w. (refl, without-count events w.now (λ a. test a.due) w.appointments);
+    drops_appointment = λ test w. (refl, without-count events w.time (λ a. test a.due) w.appointments);
     registers = λ r l w. still w;
     unregisters = λ n w. still w;
     draws_event = λ w. still w;
@@ -183,10 +187,10 @@ same_number : (n : ℕ) → eqb n n ≡ true
 same_number n = grind arith
 
 is_itself : (due : Due) → is_the_same_due due due ≡ true
-is_itself (an_event n h) = same_number n
-is_itself (a_delay t) = same_number t.0
-is_itself (a_timeout c) = same_number c.0
-is_itself (a_trigger t depth) = both (eqb t.0 t.0) (eqb depth depth) (same_number t.0) (same_number depth)
+is_itself (due_for.Event n h) = same_number n
+is_itself (due_for.Delay t) = same_number t.0
+is_itself (due_for.Timeout c) = same_number c.0
+is_itself (due_for.Trigger t depth) = both (eqb t.0 t.0) (eqb depth depth) (same_number t.0) (same_number depth)
 
 counted-one : (b : Bool) (n : ℕ) → b ≡ true → cond b (suc n) n ≡ suc n
 counted-one true n h = refl
@@ -217,23 +221,23 @@ module _ (events : Bool) (now : ℕ) (same : Appointment → Bool) (a : Appointm
   fewer (x ∷ xs) h = fewer_at x xs (is_due events now x) refl h (fewer xs)
 
 module _ (p : Image) (events : Bool) where
-  taken_if : (fuel : ℕ) (found : Option Appointment) (w : World) → first_due events w.now w.appointments ≡ found → due_in events w ≤ suc fuel
+  taken_if : (fuel : ℕ) (found : Option Appointment) (w : World) → first_due events w.time w.appointments ≡ found → due_in events w ≤ suc fuel
       → ((v : World) → due_in events v ≤ fuel → due_in events (all_due fuel p events v).0 ≤ 0)
       → due_in events (take_due p (all_due fuel p events) found w).0 ≤ 0
   unfolding Keeps
-  taken_if fuel None w is most others = none_found events w.now w.appointments is
+  taken_if fuel None w is most others = none_found events w.time w.appointments is
   taken_if fuel (Some a) w is most others =
       let dropped = drop_appointment (is_the_same_due a.due) w in
-      let less = fewer events w.now (λ x. is_the_same_due a.due x.due) a (is_itself a.due) w.appointments is in
+      let less = fewer events w.time (λ x. is_the_same_due a.due x.due) a (is_itself a.due) w.appointments is in
       let kept = (come_due-keeps (never_more events) p a.due dropped).1 in
       others (come_due p a.due dropped).0 (omega (arith, less, kept, most))
 
   taken : (fuel : ℕ) (w : World) → due_in events w ≤ fuel → due_in events (all_due fuel p events w).0 ≤ 0
   taken zero w most = most
-  taken (suc fuel) w most = taken_if fuel (first_due events w.now w.appointments) w refl most (taken fuel)
+  taken (suc fuel) w most = taken_if fuel (first_due events w.time w.appointments) w refl most (taken fuel)
 
   appointments_due-none : (w : World) → due_in events (appointments_due p events w).0 ≤ 0
-  appointments_due-none w = taken (length w.appointments) w (count_due-length events w.now w.appointments)
+  appointments_due-none w = taken (length w.appointments) w (count_due-length events w.time w.appointments)
 
 -- ---- instants
 
@@ -277,7 +281,7 @@ all_are_later now (a ∷ rest) h k =
     both (int_lt (pos now) a.moment) (list_all (λ b. int_lt (pos now) b.moment) rest) (is_later now a.moment parts.0) (all_are_later now rest parts.1 parts.2)
 
 pub instants_leave_none_due : (p : Image) (w : World) → all_later (instant p w).0 ≡ true
-instants_leave_none_due p w = all_are_later (instant p w).0.now (instant p w).0.appointments (instant-none true p w) (instant-none false p w)
+instants_leave_none_due p w = all_are_later (instant p w).0.time (instant p w).0.appointments (instant-none true p w) (instant-none false p w)
 
 -- ---- what is later than now is not before it, nor before the next tick
 
@@ -300,7 +304,7 @@ not_before_next : (now : ℕ) (moment : ℤ) → int_lt (pos now) moment ≡ tru
 not_before_next now moment h = grind (arith, ints)
 
 later-none_before : (w : World) → all_later w ≡ true → none_before w ≡ true
-later-none_before w h = all_too (λ a. int_lt (pos w.now) a.moment) (λ a. int_le (pos w.now) a.moment) (λ a k. not_before w.now a.moment k) w.appointments h
+later-none_before w h = all_too (λ a. int_lt (pos w.time) a.moment) (λ a. int_le (pos w.time) a.moment) (λ a k. not_before w.time a.moment k) w.appointments h
 
 -- ---- of reached worlds
 
@@ -310,7 +314,7 @@ opening-none p script =
     let o = (opening p script).0 in
     let events = (opens-keeps (never_more true) p (blank_world p script)).1 in
     let others = (opens-keeps (never_more false) p (blank_world p script)).1 in
-    later-none_before o (all_are_later o.now o.appointments events others)
+    later-none_before o (all_are_later o.time o.appointments events others)
 
 tock-none : (p : Image) (w : World) → due_in true w ≤ 0 → due_in false w ≤ 0 → none_before (tock p w).0 ≡ true
 unfolding Leads
@@ -318,9 +322,9 @@ tock-none p w h k =
     let ready = (before_tick p (choose w) w).0 in
     let events = (before_tick-leads (never_more true) (never_more-tocks true) p (choose w) w).1 in
     let others = (before_tick-leads (never_more false) (never_more-tocks false) p (choose w) w).1 in
-    let later = all_are_later ready.now ready.appointments (omega (arith, events, h)) (omega (arith, others, k)) in
+    let later = all_are_later ready.time ready.appointments (omega (arith, events, h)) (omega (arith, others, k)) in
     subst (λ t. none_before t.0 ≡ true) (sym (tock-parts p w))
-    (all_too (λ a. int_lt (pos ready.now) a.moment) (λ a. int_le (pos (suc ready.now)) a.moment) (λ a e. not_before_next ready.now a.moment e) ready.appointments later)
+    (all_too (λ a. int_lt (pos ready.time) a.moment) (λ a. int_le (pos (suc ready.time)) a.moment) (λ a e. not_before_next ready.time a.moment e) ready.appointments later)
 
 comes-none : (p : Image) (script : List (ℤ × Item)) (bound : ℕ) (w : World) → Comes p script bound w → none_before w ≡ true
 comes-none p script bound _ opened = opening-none p script

@@ -6,7 +6,8 @@ use Rattle.trace_text.specs.declared.events.Event.{Event}
 use Rattle.trace_text.specs.declared.events.Ended.{Ended}
 use Rattle.trace_text.specs.declared.events.Ended.TheVariants as why
 use Rattle.profile_machine.specs.declared.image.Image.{Image}
-use Rattle.profile_machine.specs.World.{World, Appointment}
+use Rattle.profile_machine.specs.declared.world.World.{World}
+use Rattle.profile_machine.specs.declared.world.appointments.Appointment.{Appointment}
 use Rattle.profile_machine.specs.Words.{is_empty, same_bool}
 use Rattle.profile_machine.specs.Steps.{Said, placed_by, ◌▷◌}
 use Rattle.profile_machine.specs.Appointments.{first_due, is_an_event}
@@ -29,7 +30,7 @@ first_due-none events n m [] a h = refl
 first_due-none events n m (x ∷ xs) a h =
     found-none (int_le x.moment (pos n)) (same_bool (is_an_event x.due) events) x (first_due events n xs) (not_due x.moment n m a h.0) (first_due-none events n m xs a h.1)
 
-all_due-none : (fuel : ℕ) (p : Image) (events : Bool) (w : World) → first_due events w.now w.appointments ≡ None → all_due fuel p events w ≡ (w, [])
+all_due-none : (fuel : ℕ) (p : Image) (events : Bool) (w : World) → first_due events w.time w.appointments ≡ None → all_due fuel p events w ≡ (w, [])
 all_due-none zero p events w e = refl
 all_due-none (suc fuel) p events w e = ap (λ a. take_due p (all_due fuel p events) a w) e
 
@@ -81,7 +82,7 @@ stop-idle p bound w n a h =
 chosen : ℕ → ℕ → Image → ℕ → World × List Event → Option Ended → Ran
 chosen now fuel p bound i reason = elim reason [ Some r ↦ stopped now i.1 r | None ↦ then_runs now (i.1 ++ (tock p i.0).1) (run_from fuel p bound (tock p i.0).0) ]
 
-turn-parts : (fuel : ℕ) (p : Image) (bound : ℕ) (w : World) → run_from (suc fuel) p bound w ≡ chosen w.now fuel p bound (instant p w) (stop p bound (instant p w).0)
+turn-parts : (fuel : ℕ) (p : Image) (bound : ℕ) (w : World) → run_from (suc fuel) p bound w ≡ chosen w.time fuel p bound (instant p w) (stop p bound (instant p w).0)
 unfolding chosen
 turn-parts fuel p bound w = refl
 

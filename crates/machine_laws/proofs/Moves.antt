@@ -15,7 +15,16 @@ use Rattle.profile_machine.specs.declared.numbers.ScopeNo.{ScopeNo}
 use Rattle.profile_machine.specs.declared.run_data.Item.{Item}
 use Rattle.profile_machine.specs.declared.run_data.Leaving.{Leaving}
 use Rattle.profile_machine.specs.declared.values.Value.{Value}
-use Rattle.profile_machine.specs.World.{World, Task, ScopeId, Located, Call, Object, Due, Budget, HandlerOf, Release}
+use Rattle.profile_machine.specs.declared.world.World.{World}
+use Rattle.profile_machine.specs.declared.world.tasks.Task.{Task}
+use Rattle.profile_machine.specs.declared.world.scopes.ScopeId.{ScopeId}
+use Rattle.profile_machine.specs.declared.world.scopes.Located.{Located}
+use Rattle.profile_machine.specs.declared.world.calls.Call.{Call}
+use Rattle.profile_machine.specs.declared.world.objects.Object.{Object}
+use Rattle.profile_machine.specs.declared.world.appointments.Due.{Due}
+use Rattle.profile_machine.specs.declared.world.appointments.Budget.{Budget}
+use Rattle.profile_machine.specs.declared.world.appointments.HandlerOf.{HandlerOf}
+use Rattle.profile_machine.specs.declared.world.appointments.Release.{Release}
 use Rattle.profile_machine.specs.Words.{edit_at}
 use Rattle.profile_machine.specs.Steps.{Part, Said, in_order, placed_by}
 use Rattle.profile_machine.specs.Tasks.{edit_task}
@@ -73,7 +82,7 @@ pub record Moves (R : StepRelation) (Q : MoveRelation) : Type 0 where
   pub edits_object : (o : ObjectNo) (f : Object → Object) (w : World) → ((x : Object) → (f x).number ≡ x.number) → R w [] (edit_object o f w)
   pub adds_object : (p : Image) (l : Located) (u : ProtectedUnitNo) (w : World) → R w [] (record w { objects = new_object p l u (suc w.drawn.objects) ∷ w.objects; drawn = object_drawn w.drawn })
   -- appointments: one that is set is later than now
-  pub appoints : (due : Due) (moment : ℤ) (w : World) → int_lt (pos w.now) moment ≡ true → R w [] (appoint due moment w)
+  pub appoints : (due : Due) (moment : ℤ) (w : World) → int_lt (pos w.time) moment ≡ true → R w [] (appoint due moment w)
   pub drops_appointment : (test : Due → Bool) (w : World) → R w [] (drop_appointment test w)
   -- controlled objects: a new one has the next number
   pub registers : (r : RegionNo) (l : Located) (w : World) → R w [] (registered_as (suc w.drawn.controlled) r l w)

@@ -6,7 +6,14 @@ use Rattle.trace_text.specs.declared.events.Who.{Who}
 use Rattle.trace_text.specs.declared.events.Who.TheVariants as who
 use Rattle.profile_machine.specs.declared.image.Image.{Image}
 use Rattle.profile_machine.specs.declared.run_data.Item.{Item}
-use Rattle.profile_machine.specs.World.{World, Task, Call, Registered, ScopeInUse, ScopeId, scope_id, Object, Release}
+use Rattle.profile_machine.specs.declared.world.World.{World}
+use Rattle.profile_machine.specs.declared.world.tasks.Task.{Task}
+use Rattle.profile_machine.specs.declared.world.calls.Call.{Call}
+use Rattle.profile_machine.specs.declared.world.appointments.Registered.{Registered}
+use Rattle.profile_machine.specs.declared.world.scopes.ScopeInUse.{ScopeInUse}
+use Rattle.profile_machine.specs.declared.world.scopes.ScopeId.{ScopeId}
+use Rattle.profile_machine.specs.declared.world.objects.Object.{Object}
+use Rattle.profile_machine.specs.declared.world.appointments.Release.{Release}
 use Rattle.profile_machine.specs.Tasks.{is_who, edit_task}
 use Rattle.profile_machine.specs.Scopes.{goes_with, is_id, with_cells}
 use Rattle.profile_machine.specs.Calls.{is_call}
@@ -37,7 +44,7 @@ abbrev registered_number : Registered → ℕ
 registered_number r = r.object
 
 abbrev number_of_id : ScopeId → ℕ
-number_of_id (scope_id n) = n
+number_of_id id = id.0
 
 abbrev scope_number : ScopeInUse → ℕ
 scope_number s = number_of_id s.id
@@ -140,7 +147,7 @@ numbered-lasts = record {
 -- ---- as the tests have it
 
 older-test : (a b : ScopeId) → is_older a b ≡ ltb (number_of_id a) (number_of_id b)
-older-test (scope_id a) (scope_id b) = refl
+older-test a b = refl
 
 older-is : (xs : List ScopeInUse) → all_adjacent (λ a b. ltb (scope_number b) (scope_number a)) xs ≡ all_adjacent (λ a b. is_older b.id a.id) xs
 older-is [] = refl

@@ -9,7 +9,7 @@ use Rattle.trace_text.specs.declared.events.Ended.TheVariants as why
 use Rattle.trace_text.specs.Queue.{Line, RisesFrom}
 use Rattle.profile_machine.specs.declared.image.Image.{Image}
 use Rattle.profile_machine.specs.declared.run_data.Item.{Item}
-use Rattle.profile_machine.specs.World.{World}
+use Rattle.profile_machine.specs.declared.world.World.{World}
 use Rattle.profile_machine.specs.Words.{is_empty}
 use Rattle.profile_machine.specs.Instant.{instant}
 use Rattle.profile_machine.specs.Run.{Ran, opening, tock, stop, or_else, stop_by_end, stop_by_stuck, stop_by_bound, at_tick, stopped, then_runs, run_from, run, run_of}
@@ -30,16 +30,16 @@ later-none : (a b : Option Ended) → or_else a b ≡ None → b ≡ None
 later-none (Some reason) b e = cc
 later-none None b e = e
 
-going_on-below : (p : Image) (bound : ℕ) (w : World) → stop p bound w ≡ None → eqb w.now bound ≡ false
+going_on-below : (p : Image) (bound : ℕ) (w : World) → stop p bound w ≡ None → eqb w.time bound ≡ false
 going_on-below p bound w e =
-    bound-reached (eqb w.now bound) (later-none (stop_by_stuck w) (stop_by_bound bound w) (later-none (stop_by_end p w.ended) (or_else (stop_by_stuck w) (stop_by_bound bound w)) e))
+    bound-reached (eqb w.time bound) (later-none (stop_by_stuck w) (stop_by_bound bound w) (later-none (stop_by_end p w.ended) (or_else (stop_by_stuck w) (stop_by_bound bound w)) e))
 
 eqb-self : (n : ℕ) → eqb n n ≡ true
 eqb-self n = grind arith
 
 -- a run that goes on stands below the bound
-pub below_bound : (p : Image) (bound : ℕ) (w : World) → stop p bound w ≡ None → w.now ≤ bound → suc w.now ≤ bound
-below_bound p bound w e a = let test : eqb w.now bound ≡ false = going_on-below p bound w e in grind arith
+pub below_bound : (p : Image) (bound : ℕ) (w : World) → stop p bound w ≡ None → w.time ≤ bound → suc w.time ≤ bound
+below_bound p bound w e a = let test : eqb w.time bound ≡ false = going_on-below p bound w e in grind arith
 
 -- only the test of the bound gives the bound as the reason
 by_end-other : (p : Image) (ended : Option (Option Raised)) → stop_by_end p ended ≡ Some why.Bound → ⊥
@@ -59,9 +59,9 @@ or_else-later : (a b : Option Ended) (reason : Ended) → (a ≡ Some reason →
 or_else-later (Some other) b reason f e = absurd (f e)
 or_else-later None b reason f e = e
 
-pub stop-bound : (p : Image) (bound : ℕ) (w : World) → stop p bound w ≡ Some why.Bound → w.now ≡ bound
+pub stop-bound : (p : Image) (bound : ℕ) (w : World) → stop p bound w ≡ Some why.Bound → w.time ≡ bound
 stop-bound p bound w e =
-    eqb-true w.now bound (by_bound-test (eqb w.now bound)
+    eqb-true w.time bound (by_bound-test (eqb w.time bound)
     (or_else-later (stop_by_stuck w) (stop_by_bound bound w) why.Bound (by_stuck-other (is_empty w.places && is_empty w.appointments && is_empty w.script))
     (or_else-later (stop_by_end p w.ended) (or_else (stop_by_stuck w) (stop_by_bound bound w)) why.Bound (by_end-other p w.ended) e)))
 
@@ -146,33 +146,33 @@ turn-rises now next i t rest (Some reason) a h = RisesFrom-at_tick now now (i.1 
 turn-rises now next i t rest None a h = RisesFrom-then now now (i.1 ++ t.1) rest.lines (omega arith) (RisesFrom-less now next rest.lines a h)
 
 -- the ticks of what is left do not fall, with any fuel
-pub run_from-rises : (fuel : ℕ) (p : Image) (bound : ℕ) (w : World) → RisesFrom w.now (run_from fuel p bound w).lines
+pub run_from-rises : (fuel : ℕ) (p : Image) (bound : ℕ) (w : World) → RisesFrom w.time (run_from fuel p bound w).lines
 unfolding turn
-run_from-rises zero p bound w = RisesFrom-at_tick w.now w.now (line.End why.Bound ∷ []) (omega arith)
+run_from-rises zero p bound w = RisesFrom-at_tick w.time w.time (line.End why.Bound ∷ []) (omega arith)
 run_from-rises (suc fuel) p bound w =
     let i = instant p w in
     let t = tock p i.0 in
-    let later : t.0.now ≡ suc w.now = tocks_take_one_tick p i.0 ∙ ap (λ n. suc n) (instants_take_no_time p w) in
-    turn-rises w.now (suc w.now) i t (run_from fuel p bound t.0) (stop p bound i.0) (omega arith)
+    let later : t.0.time ≡ suc w.time = tocks_take_one_tick p i.0 ∙ ap (λ n. suc n) (instants_take_no_time p w) in
+    turn-rises w.time (suc w.time) i t (run_from fuel p bound t.0) (stop p bound i.0) (omega arith)
     (subst (λ n. RisesFrom n (run_from fuel p bound t.0).lines) later (run_from-rises fuel p bound t.0))
 
-run_from-goes : (fuel : ℕ) (p : Image) (bound : ℕ) (w : World) → w.now ≤ bound → fuel + w.now ≡ suc bound → Goes bound w.now (run_from fuel p bound w)
+run_from-goes : (fuel : ℕ) (p : Image) (bound : ℕ) (w : World) → w.time ≤ bound → fuel + w.time ≡ suc bound → Goes bound w.time (run_from fuel p bound w)
 unfolding turn
 run_from-goes zero p bound w a b = absurd (omega arith)
 run_from-goes (suc fuel) p bound w a b =
     let i = instant p w in
     let t = tock p i.0 in
-    let same : i.0.now ≡ w.now = instants_take_no_time p w in
-    let later : t.0.now ≡ suc w.now = tocks_take_one_tick p i.0 ∙ ap (λ n. suc n) same in
-    turn-goes bound w.now (suc w.now) i t (run_from fuel p bound t.0) (stop p bound i.0) (instant-no_end p w) (tock-no_end-lines p i.0) a (omega arith)
+    let same : i.0.time ≡ w.time = instants_take_no_time p w in
+    let later : t.0.time ≡ suc w.time = tocks_take_one_tick p i.0 ∙ ap (λ n. suc n) same in
+    turn-goes bound w.time (suc w.time) i t (run_from fuel p bound t.0) (stop p bound i.0) (instant-no_end p w) (tock-no_end-lines p i.0) a (omega arith)
     (λ e. sym same ∙ stop-bound p bound i.0 e)
-    (λ e. let below : suc i.0.now ≤ bound = below_bound p bound i.0 e (omega arith) in
+    (λ e. let below : suc i.0.time ≤ bound = below_bound p bound i.0 e (omega arith) in
     subst (λ n. Goes bound n (run_from fuel p bound t.0)) later (run_from-goes fuel p bound t.0 (omega arith) (omega arith)))
 
 run-goes : (p : Image) (script : List (ℤ × Item)) (bound : ℕ) → Goes bound 0 (run p script bound)
 run-goes p script bound =
     let o = opening p script in
-    let start : o.0.now ≡ 0 = opening-now p script in
+    let start : o.0.time ≡ 0 = opening-now p script in
     then_runs-goes bound 0 0 o.1 (run_from (suc bound) p bound o.0) (opening-no_end p script) (omega arith) (omega arith)
     (subst (λ n. Goes bound n (run_from (suc bound) p bound o.0)) start (run_from-goes (suc bound) p bound o.0 (omega arith) (omega arith)))
 
@@ -187,14 +187,14 @@ ticks_never_fall p script bound = (run-goes p script bound).rises
 pub runs_end : (p : Image) (script : List (ℤ × Item)) (bound : ℕ) → EndsAt bound (run p script bound)
 runs_end p script bound = (run-goes p script bound).ends
 
-comes-within : (p : Image) (script : List (ℤ × Item)) (bound : ℕ) (w : World) → Comes p script bound w → w.now ≤ bound
-comes-within p script bound _ opened = let start : (opening p script).0.now ≡ 0 = opening-now p script in omega arith
+comes-within : (p : Image) (script : List (ℤ × Item)) (bound : ℕ) (w : World) → Comes p script bound w → w.time ≤ bound
+comes-within p script bound _ opened = let start : (opening p script).0.time ≡ 0 = opening-now p script in omega arith
 comes-within p script bound _ (ticked w c e) =
     let i = instant p w in
-    let below : suc i.0.now ≤ bound = below_bound p bound i.0 e (subst (λ n. n ≤ bound) (sym (instants_take_no_time p w)) (comes-within p script bound w c)) in
-    let later : (tock p i.0).0.now ≡ suc i.0.now = tocks_take_one_tick p i.0 in
+    let below : suc i.0.time ≤ bound = below_bound p bound i.0 e (subst (λ n. n ≤ bound) (sym (instants_take_no_time p w)) (comes-within p script bound w c)) in
+    let later : (tock p i.0).0.time ≡ suc i.0.time = tocks_take_one_tick p i.0 in
     omega arith
 
-pub worlds_stay_within : (p : Image) (script : List (ℤ × Item)) (bound : ℕ) (w : World) → Reached p script bound w → w.now ≤ bound
+pub worlds_stay_within : (p : Image) (script : List (ℤ × Item)) (bound : ℕ) (w : World) → Reached p script bound w → w.time ≤ bound
 worlds_stay_within p script bound _ (before w c) = comes-within p script bound w c
 worlds_stay_within p script bound _ (behind w c) = subst (λ n. n ≤ bound) (sym (instants_take_no_time p w)) (comes-within p script bound w c)

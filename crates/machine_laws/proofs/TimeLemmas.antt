@@ -1,7 +1,7 @@
 -- No instant changes the time, and a tock takes one tick.
 use Rattle.std.proofs.Common.{◌≡◌, suc, List, None, ap, refl, ℤ, ◌∙◌}
 use Rattle.profile_machine.specs.declared.image.Image.{Image}
-use Rattle.profile_machine.specs.World.{World}
+use Rattle.profile_machine.specs.declared.world.World.{World}
 use Rattle.profile_machine.specs.Instant.{instant}
 use Rattle.profile_machine.specs.Run.{tock, opening, blank_world}
 use Rattle.profile_machine.specs.declared.run_data.Item.{Item}
@@ -11,7 +11,7 @@ use Rattle.machine_laws.proofs.AtOnce.{at_once}
 use Rattle.machine_laws.proofs.Kept.Combinators.{Keeps, Leads}
 use Rattle.machine_laws.proofs.Kept.Instant.{instant-leads}
 
-pub instants_take_no_time : (p : Image) (w : World) → (instant p w).0.now ≡ w.now
+pub instants_take_no_time : (p : Image) (w : World) → (instant p w).0.time ≡ w.time
 unfolding Leads
 instants_take_no_time p w = ap (λ x. x.0) (instant-leads at_once p w)
 
@@ -19,12 +19,12 @@ pub instants_keep_runner : (p : Image) (w : World) → (instant p w).0.ran ≡ w
 unfolding Leads
 instants_keep_runner p w = ap (λ x. x.1) (instant-leads at_once p w)
 
-pub tocks_take_one_tick : (p : Image) (w : World) → (tock p w).0.now ≡ suc w.now
+pub tocks_take_one_tick : (p : Image) (w : World) → (tock p w).0.time ≡ suc w.time
 unfolding Leads
 tocks_take_one_tick p w =
-    ap (λ a. a.0.now) (tock-parts p w) ∙ ap (λ x. suc x.0) (before_tick-leads at_once (record { tells = λ event v k. refl; serves = λ r rest v k. refl }) p (choose w) w)
+    ap (λ a. a.0.time) (tock-parts p w) ∙ ap (λ x. suc x.0) (before_tick-leads at_once (record { tells = λ event v k. refl; serves = λ r rest v k. refl }) p (choose w) w)
 
-pub opening-now : (p : Image) (script : List (ℤ × Item)) → (opening p script).0.now ≡ 0
+pub opening-now : (p : Image) (script : List (ℤ × Item)) → (opening p script).0.time ≡ 0
 unfolding Keeps
 opening-now p script = ap (λ x. x.0) (opens-keeps at_once p (blank_world p script))
 

@@ -1,13 +1,14 @@
 -- Idle stretches: while nobody is ready and nothing is due, only the time goes on.
 use Rattle.std.specs.Prelude.{◌≡◌, ℕ, ◌+◌, ◌≤◌, pos, ◌≤ℤ◌, false, List, [], ◌∷◌, None}
 use Rattle.profile_machine.specs.declared.image.Image.{Image}
-use Rattle.profile_machine.specs.World.{World, Appointment}
+use Rattle.profile_machine.specs.declared.world.World.{World}
+use Rattle.profile_machine.specs.declared.world.appointments.Appointment.{Appointment}
 use Rattle.profile_machine.specs.Words.{is_empty}
 use Rattle.profile_machine.specs.Run.{run_from}
 
 -- the world at this tick, with nobody ready, nobody who ran, and an empty script
 abbrev pub idle_at : World → ℕ → World
-idle_at w n = record w { now = n; ran = None; script = []; places = []; ended = None; timers_due = []; budget_due = None }
+idle_at w n = record w { time = n; ran = None; script = []; places = []; ended = None; timers_due = []; budget_due = None }
 
 -- no appointment is before this tick
 abbrev pub NoneBefore : ℕ → List Appointment → Type 0

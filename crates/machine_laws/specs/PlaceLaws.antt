@@ -3,7 +3,7 @@
 use Rattle.std.specs.Prelude.{◌≡◌, ℤ, Bool, not, List, [], IsTrue}
 use Rattle.profile_machine.specs.declared.image.Image.{Image}
 use Rattle.profile_machine.specs.declared.run_data.Item.{Item}
-use Rattle.profile_machine.specs.World.{World}
+use Rattle.profile_machine.specs.declared.world.World.{World}
 use Rattle.profile_machine.specs.Words.{same_who}
 use Rattle.profile_machine.specs.Steps.{places_after_all, is_above}
 use Rattle.profile_machine.specs.Instant.{instant}

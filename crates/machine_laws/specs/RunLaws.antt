@@ -6,7 +6,7 @@ use Rattle.trace_text.specs.declared.events.Ended.TheVariants as why
 use Rattle.trace_text.specs.Queue.{Line, RisesFrom}
 use Rattle.profile_machine.specs.declared.image.Image.{Image}
 use Rattle.profile_machine.specs.declared.run_data.Item.{Item}
-use Rattle.profile_machine.specs.World.{World}
+use Rattle.profile_machine.specs.declared.world.World.{World}
 use Rattle.profile_machine.specs.Run.{Ran, run, run_of}
 use Rattle.machine_laws.specs.Reached.{Reached}
 use Rattle.machine_laws.specs.LineKinds.{is_no_end}
@@ -17,7 +17,7 @@ AllUpTo bound (x ∷ xs) = (x.0 ≤ bound) × AllUpTo bound xs
 
 -- no run goes on past its bound, neither a world of it nor a line
 abbrev pub WorldsStayWithin : Type 0
-WorldsStayWithin = (p : Image) (script : List (ℤ × Item)) (bound : ℕ) (w : World) → Reached p script bound w → w.now ≤ bound
+WorldsStayWithin = (p : Image) (script : List (ℤ × Item)) (bound : ℕ) (w : World) → Reached p script bound w → w.time ≤ bound
 
 abbrev pub LinesStayWithin : Type 0
 LinesStayWithin = (p : Image) (script : List (ℤ × Item)) (bound : ℕ) → AllUpTo bound (run_of p script bound)

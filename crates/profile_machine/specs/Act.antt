@@ -18,7 +18,17 @@ use Rattle.profile_machine.specs.declared.statements.Callee.TheVariants as calle
 use Rattle.profile_machine.specs.declared.statements.Destination.{Destination}
 use Rattle.profile_machine.specs.declared.statements.StatementForm.{StatementForm}
 use Rattle.profile_machine.specs.declared.statements.StatementForm.TheVariants as form
-use Rattle.profile_machine.specs.World.{World, Frame, Mark, Scope, Handled, InProtected, InAccept, Abortable, InInitialize, InFinalize, InAssign, AbortableMark, of_subprogram, to_nowhere, plain, conditional, timed, Release, for_end_of_call, Call}
+use Rattle.profile_machine.specs.declared.world.World.{World}
+use Rattle.profile_machine.specs.declared.world.marks.Frame.{Frame}
+use Rattle.profile_machine.specs.declared.world.marks.Mark.{Mark}
+use Rattle.profile_machine.specs.declared.world.marks.AbortableMark.{AbortableMark}
+use Rattle.profile_machine.specs.declared.world.appointments.Release.{Release}
+use Rattle.profile_machine.specs.declared.world.calls.Call.{Call}
+use Rattle.profile_machine.specs.declared.world.calls.CallKind.TheVariants as call_kind
+use Rattle.profile_machine.specs.declared.world.marks.Purpose.TheVariants as opened_for
+use Rattle.profile_machine.specs.declared.world.marks.ResultTo.TheVariants as bound_for
+use Rattle.profile_machine.specs.declared.world.tasks.Waiting.TheVariants as waits_for
+use Rattle.profile_machine.specs.declared.world.marks.Mark.TheVariants.{Scope, Handled, InProtected, InAccept, Abortable, InInitialize, InFinalize, InAssign}
 use Rattle.profile_machine.specs.Program.{form_of, next_of, scope_of, marks_of}
 use Rattle.profile_machine.specs.Steps.{Step, own, the_block, changes, looks, nothing, ◌▷◌}
 use Rattle.profile_machine.specs.Dispatching.{block}
@@ -45,7 +55,7 @@ use Rattle.profile_machine.specs.Handlers.{call_handler, set_event, cancel_event
 abbrev pub call_main : Image → Who → StatementNo → Step
 call_main p name s =
     with_room p name (marks_of p p.main.scope) (scope_of p p.main.scope).size
-    (goes name (next_of p s) ▷ looks (λ w. changes (open_scope p name p.main.scope (plainly (innermost w name)) (of_subprogram [] to_nowhere))))
+    (goes name (next_of p s) ▷ looks (λ w. changes (open_scope p name p.main.scope (plainly (innermost w name)) (opened_for.Subprogram [] bound_for.Nowhere))))
 
 -- ---- calls of subprograms and protected operations (6.4, 9.5.1)
 
@@ -112,7 +122,7 @@ waiting_mark m = record m { waits = true }
 abbrev pub wait_for_trigger : Image → Who → Call → Leaving → Step
 wait_for_trigger p name c leaving =
     changes (edit_top name (λ f. with_mark (edit_abortable waiting_mark f.mark) (record f { left_as = Some leaving })))
-    ▷ block the_block name (for_end_of_call c.number)
+    ▷ block the_block name (waits_for.EndOfCall c.number)
 
 -- a call that is no longer there needs no wait
 abbrev pub drop_trigger : Who → ℕ → World → World
@@ -162,9 +172,9 @@ act_statement p name s (form.Delay e) = sees p name (λ q. delay_until p name s 
 act_statement p name s (form.DelayUntil e) = sees p name (λ q. delay_until p name s (moment q e))
 act_statement p name s (form.Call callee actuals to) = call p name s callee actuals to
 act_statement p name s (form.PutLine pieces) = put_line p name s pieces
-act_statement p name s (form.EntryCall entry owner actuals) = entry_call p name plain s
-act_statement p name s (form.ConditionalCall call otherwise) = entry_call p name conditional s
-act_statement p name s (form.TimedCall call delay) = entry_call p name timed s
+act_statement p name s (form.EntryCall entry owner actuals) = entry_call p name call_kind.Plain s
+act_statement p name s (form.ConditionalCall call otherwise) = entry_call p name call_kind.Conditional s
+act_statement p name s (form.TimedCall call delay) = entry_call p name call_kind.Timed s
 act_statement p name s (form.AsynchronousSelect trigger abortable) = asynchronous_select p name s trigger
 act_statement p name s (form.Accept entry scope) = accept p name s entry
 act_statement p name s (form.SelectiveAccept alternatives otherwise) = selective_accept p name s alternatives otherwise

@@ -13,7 +13,17 @@ use Rattle.profile_machine.specs.declared.run_data.Leaving.TheVariants as how
 use Rattle.profile_machine.specs.declared.statements.StatementForm.{StatementForm}
 use Rattle.profile_machine.specs.declared.statements.StatementForm.TheVariants as form
 use Rattle.profile_machine.specs.declared.values.Value.{Value}
-use Rattle.profile_machine.specs.World.{World, Frame, Mark, Scope, Handled, InProtected, InAccept, Abortable, InInitialize, InFinalize, InAssign, AbortableMark, Call, Outcome, finished_ok, cancelled, to_raise, was_raised, Variable, Waiting, for_call, for_end_of_call}
+use Rattle.profile_machine.specs.declared.world.World.{World}
+use Rattle.profile_machine.specs.declared.world.marks.Frame.{Frame}
+use Rattle.profile_machine.specs.declared.world.marks.Mark.{Mark}
+use Rattle.profile_machine.specs.declared.world.marks.AbortableMark.{AbortableMark}
+use Rattle.profile_machine.specs.declared.world.calls.Call.{Call}
+use Rattle.profile_machine.specs.declared.world.calls.Outcome.{Outcome}
+use Rattle.profile_machine.specs.declared.world.scopes.Variable.{Variable}
+use Rattle.profile_machine.specs.declared.world.tasks.Waiting.{Waiting}
+use Rattle.profile_machine.specs.declared.world.calls.Outcome.TheVariants as call_ended
+use Rattle.profile_machine.specs.declared.world.tasks.Waiting.TheVariants as waits_for
+use Rattle.profile_machine.specs.declared.world.marks.Mark.TheVariants.{Scope, Handled, InProtected, InAccept, Abortable, InInitialize, InFinalize, InAssign}
 use Rattle.profile_machine.specs.Words.{same_call, is_the, option_or_else}
 use Rattle.profile_machine.specs.Program.{declaration_of, form_of, next_of}
 use Rattle.profile_machine.specs.Steps.{Step, Part, says, changes, looks, when, nothing, ◌▷◌}
@@ -48,10 +58,10 @@ abbrev pub onward_when_cancelled : Image → StatementNo → Option StatementNo
 onward_when_cancelled p s = otherwise_in p (form_of p s) (next_of p s)
 
 abbrev pub go_by_outcome : Image → Part → Who → StatementNo → Outcome → Step
-go_by_outcome p part name s finished_ok = goes name (onward_when_done p s)
-go_by_outcome p part name s cancelled = goes name (onward_when_cancelled p s)
-go_by_outcome p part name s (to_raise e) = raises p part name e
-go_by_outcome p part name s (was_raised e) = leaves name (how.Exception e)
+go_by_outcome p part name s call_ended.Finished = goes name (onward_when_done p s)
+go_by_outcome p part name s call_ended.Cancelled = goes name (onward_when_cancelled p s)
+go_by_outcome p part name s (call_ended.ToRaise e) = raises p part name e
+go_by_outcome p part name s (call_ended.WasRaised e) = leaves name (how.Exception e)
 
 -- the caller goes on behind its call, which is no longer among the calls
 abbrev pub resume : Image → Part → Call → Outcome → Step
@@ -76,17 +86,17 @@ copy_back p (Some target ∷ results) [] w = (w, true)
 copy_back p (Some target ∷ results) (v ∷ values) w = or_stored w (store p target v w) (copy_back p results values)
 
 abbrev pub outcome_of : Bool → Outcome
-outcome_of true = finished_ok
-outcome_of false = to_raise exception.Constraint
+outcome_of true = call_ended.Finished
+outcome_of false = call_ended.ToRaise exception.Constraint
 
 -- a call that ended well gives its results; where one fails, Constraint_Error is to be raised
 abbrev pub with_results : Image → Call → Outcome → World → World × Outcome
-with_results p c finished_ok w =
+with_results p c call_ended.Finished w =
     let r = copy_back p c.results c.values w in
     (r.0, outcome_of r.1)
-with_results p c cancelled w = (w, cancelled)
-with_results p c (to_raise e) w = (w, to_raise e)
-with_results p c (was_raised e) w = (w, was_raised e)
+with_results p c call_ended.Cancelled w = (w, call_ended.Cancelled)
+with_results p c (call_ended.ToRaise e) w = (w, call_ended.ToRaise e)
+with_results p c (call_ended.WasRaised e) w = (w, call_ended.WasRaised e)
 
 -- ---- abortable parts (9.7.4)
 
@@ -141,8 +151,8 @@ trigger_at p part t depth =
 
 -- the outcome of an abortable part's trigger; a delay ends well
 abbrev pub outcome_in : Option Call → Outcome
-outcome_in None = finished_ok
-outcome_in (Some c) = option_or_else c.outcome finished_ok
+outcome_in None = call_ended.Finished
+outcome_in (Some c) = option_or_else c.outcome call_ended.Finished
 
 abbrev pub trigger_outcome : World → Option CallNo → Outcome
 trigger_outcome w c = outcome_in (option_and_then (call_of w) c)
@@ -153,10 +163,10 @@ forget_trigger (Some c) = forget_call c
 
 -- the triggering statements, or the trigger's exception in their place
 abbrev pub run_triggered : Image → Part → Who → StatementNo → Outcome → Step
-run_triggered p part name select finished_ok = goes name (onward_when_done p select)
-run_triggered p part name select cancelled = nothing
-run_triggered p part name select (to_raise e) = raises p part name e
-run_triggered p part name select (was_raised e) = leaves name (how.Exception e)
+run_triggered p part name select call_ended.Finished = goes name (onward_when_done p select)
+run_triggered p part name select call_ended.Cancelled = nothing
+run_triggered p part name select (call_ended.ToRaise e) = raises p part name e
+run_triggered p part name select (call_ended.WasRaised e) = leaves name (how.Exception e)
 
 -- left by its end, or by the abort that its own trigger brought about, and none that struck an outer mark
 abbrev pub is_end : Leaving → Bool
@@ -203,10 +213,10 @@ abbrev pub waited_mark : Bool → AbortableMark → AbortableMark
 waited_mark triggered m = record m { waits = false; triggered = triggered }
 
 abbrev pub is_cancelled : Outcome → Bool
-is_cancelled finished_ok = false
-is_cancelled cancelled = true
-is_cancelled (to_raise e) = false
-is_cancelled (was_raised e) = false
+is_cancelled call_ended.Finished = false
+is_cancelled call_ended.Cancelled = true
+is_cancelled (call_ended.ToRaise e) = false
+is_cancelled (call_ended.WasRaised e) = false
 
 abbrev pub end_wait : Image → Part → Call → ℕ → Outcome → Step
 end_wait p part c depth outcome =
@@ -219,11 +229,11 @@ end_wait p part c depth outcome =
 
 -- whether a caller waits for this call, and whether for the end after an attempt to cancel it
 abbrev pub waits_for_call : CallNo → Option Waiting → Bool
-waits_for_call c (Some (for_call d)) = same_call c d
+waits_for_call c (Some (waits_for.Call d)) = same_call c d
 waits_for_call c _ = false
 
 abbrev pub waits_for_end : CallNo → Option Waiting → Bool
-waits_for_end c (Some (for_end_of_call d)) = same_call c d
+waits_for_end c (Some (waits_for.EndOfCall d)) = same_call c d
 waits_for_end c _ = false
 
 -- its abortable part is open: it is triggered, or its wait ends

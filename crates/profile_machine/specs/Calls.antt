@@ -11,7 +11,12 @@ use Rattle.profile_machine.specs.declared.image.Queuing.{Queuing}
 use Rattle.profile_machine.specs.declared.image.Queuing.TheVariants as queuing
 use Rattle.profile_machine.specs.declared.numbers.EntryNo.{EntryNo}
 use Rattle.profile_machine.specs.declared.values.Value.{Value}
-use Rattle.profile_machine.specs.World.{World, Object, Call, Owner, a_task, an_object, Drawn}
+use Rattle.profile_machine.specs.declared.world.World.{World}
+use Rattle.profile_machine.specs.declared.world.objects.Object.{Object}
+use Rattle.profile_machine.specs.declared.world.calls.Call.{Call}
+use Rattle.profile_machine.specs.declared.world.calls.Owner.{Owner}
+use Rattle.profile_machine.specs.declared.world.Drawn.{Drawn}
+use Rattle.profile_machine.specs.declared.world.calls.Owner.TheVariants as owned_by
 use Rattle.profile_machine.specs.Words.{same_call, without, edit_where, edit_at}
 use Rattle.profile_machine.specs.Program.{entry_of}
 use Rattle.profile_machine.specs.Steps.{Step, Part, says, changes, looks, for_some, ◌▷◌}
@@ -44,8 +49,8 @@ call_drawn d = record d { calls = suc d.calls }
 -- ---- names in lines
 
 abbrev pub name_of_entry : Image → Owner → EntryNo → EntryName
-name_of_entry p (a_task t) e = called.OfTask t (entry_of p e).name
-name_of_entry p (an_object o) e = called.OfObject o (entry_of p e).name
+name_of_entry p (owned_by.Task t) e = called.OfTask t (entry_of p e).name
+name_of_entry p (owned_by.Object o) e = called.OfObject o (entry_of p e).name
 
 abbrev pub says_call : Image → Part → Call → Step
 says_call p part c = says part (line.Call c.caller c.number (name_of_entry p c.owner c.entry) c.priority)
@@ -65,12 +70,12 @@ abbrev pub edit_object : ObjectNo → (Object → Object) → World → World
 edit_object number f w = record w { objects = edit_where (is_object number) f w.objects }
 
 abbrev pub queue_of : World → Owner → ℕ → List CallNo
-queue_of w (a_task t) place = queue_at (task_of w (who.Task t)).queues place
-queue_of w (an_object o) place = queue_at (queues_of (object_of w o)) place
+queue_of w (owned_by.Task t) place = queue_at (task_of w (who.Task t)).queues place
+queue_of w (owned_by.Object o) place = queue_at (queues_of (object_of w o)) place
 
 abbrev pub edit_queue : Owner → ℕ → (List CallNo → List CallNo) → World → World
-edit_queue (a_task t) place f = edit_task (who.Task t) (λ u. record u { queues = edit_at place f u.queues })
-edit_queue (an_object o) place f = edit_object o (λ u. record u { queues = edit_at place f u.queues })
+edit_queue (owned_by.Task t) place f = edit_task (who.Task t) (λ u. record u { queues = edit_at place f u.queues })
+edit_queue (owned_by.Object o) place f = edit_object o (λ u. record u { queues = edit_at place f u.queues })
 
 abbrev pub place_of_entry : Image → EntryNo → ℕ
 place_of_entry p e = (entry_of p e).place

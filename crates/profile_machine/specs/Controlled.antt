@@ -14,7 +14,20 @@ use Rattle.profile_machine.specs.declared.declarations.DeclarationKind.TheVarian
 use Rattle.profile_machine.specs.declared.run_data.Leaving.{Leaving}
 use Rattle.profile_machine.specs.declared.run_data.Leaving.TheVariants as how
 use Rattle.profile_machine.specs.declared.values.Value.TheVariants.{Thing}
-use Rattle.profile_machine.specs.World.{World, Located, Variable, Registered, Drawn, Frame, Mark, Scope, Handled, InProtected, InAccept, Abortable, InInitialize, InFinalize, InAssign, ScopeMark, AssignMark, AssignStep, finalize_target, copy_components, adjust_target, assigned, of_subprogram, to_nowhere}
+use Rattle.profile_machine.specs.declared.world.World.{World}
+use Rattle.profile_machine.specs.declared.world.scopes.Located.{Located}
+use Rattle.profile_machine.specs.declared.world.scopes.Variable.{Variable}
+use Rattle.profile_machine.specs.declared.world.appointments.Registered.{Registered}
+use Rattle.profile_machine.specs.declared.world.Drawn.{Drawn}
+use Rattle.profile_machine.specs.declared.world.marks.Frame.{Frame}
+use Rattle.profile_machine.specs.declared.world.marks.Mark.{Mark}
+use Rattle.profile_machine.specs.declared.world.marks.ScopeMark.{ScopeMark}
+use Rattle.profile_machine.specs.declared.world.marks.AssignMark.{AssignMark}
+use Rattle.profile_machine.specs.declared.world.marks.AssignStep.{AssignStep}
+use Rattle.profile_machine.specs.declared.world.marks.AssignStep.TheVariants as assigning
+use Rattle.profile_machine.specs.declared.world.marks.Purpose.TheVariants as opened_for
+use Rattle.profile_machine.specs.declared.world.marks.ResultTo.TheVariants as bound_for
+use Rattle.profile_machine.specs.declared.world.marks.Mark.TheVariants.{Scope, Handled, InProtected, InAccept, Abortable, InInitialize, InFinalize, InAssign}
 use Rattle.profile_machine.specs.Words.{same_id, without}
 use Rattle.profile_machine.specs.Program.{declaration_of, next_of, scope_of, marks_of, subprogram_of, controlled_of, no_controlled}
 use Rattle.profile_machine.specs.Steps.{Step, own, says, changes, looks, nothing, ◌▷◌}
@@ -43,7 +56,7 @@ operation_beginning p w name f l = record { outer = option_and_then (λ outer. h
 
 abbrev pub open_operation : Image → Who → SubprogramNo → Located → Step
 open_operation p name f l =
-    looks (λ w. changes (open_scope p name (subprogram_of p f).scope (operation_beginning p w name f l) (of_subprogram [] to_nowhere)))
+    looks (λ w. changes (open_scope p name (subprogram_of p f).scope (operation_beginning p w name f l) (opened_for.Subprogram [] bound_for.Nowhere)))
 
 abbrev pub marks_of_operation : Image → SubprogramNo → ℕ
 marks_of_operation p f = marks_of p (subprogram_of p f).scope
@@ -186,7 +199,7 @@ abbrev pub registered_at : Image → World → Located → Option Registered
 registered_at p w l = find (is_located l) w.registered
 
 abbrev pub new_assign_mark : ℕ → ℕ → Mark
-new_assign_mark target source = InAssign (record { target = target; source = source; step = finalize_target })
+new_assign_mark target source = InAssign (record { target = target; source = source; step = assigning.FinalizeTarget })
 
 abbrev pub begin_assignment : Image → Who → StatementNo → ℕ → ℕ → Step
 begin_assignment p name s target source =
@@ -262,13 +275,13 @@ abbrev pub copy_object : Image → Located → Located → World → World
 copy_object p target source = copy_components_of (components_at p target) (components_at p source) (cells_of_components p target)
 
 abbrev pub do_step : Image → Who → AssignStep → Registered → Registered → Step
-do_step p name finalize_target target source =
-    changes (edit_top_assign name (at_step copy_components)) ▷ finalize_target_by p name target (type_of p target.located).finalize
-do_step p name copy_components target source =
-    changes (edit_top_assign name (at_step adjust_target)) ▷ changes (copy_object p target.located source.located)
-do_step p name adjust_target target source =
-    changes (edit_top_assign name (at_step assigned)) ▷ adjust_by p name target (type_of p target.located).adjust
-do_step p name assigned target source = changes (pop name)
+do_step p name assigning.FinalizeTarget target source =
+    changes (edit_top_assign name (at_step assigning.CopyComponents)) ▷ finalize_target_by p name target (type_of p target.located).finalize
+do_step p name assigning.CopyComponents target source =
+    changes (edit_top_assign name (at_step assigning.AdjustTarget)) ▷ changes (copy_object p target.located source.located)
+do_step p name assigning.AdjustTarget target source =
+    changes (edit_top_assign name (at_step assigning.Assigned)) ▷ adjust_by p name target (type_of p target.located).adjust
+do_step p name assigning.Assigned target source = changes (pop name)
 
 abbrev pub step_with : Image → Who → AssignStep → Option Registered → Option Registered → Step
 step_with p name step (Some target) (Some source) = do_step p name step target source

@@ -7,7 +7,13 @@ use Rattle.profile_machine.specs.declared.numbers.StatementNo.{StatementNo}
 use Rattle.profile_machine.specs.declared.statements.Statement.{Statement}
 use Rattle.profile_machine.specs.declared.statements.StatementForm.{StatementForm}
 use Rattle.profile_machine.specs.declared.statements.StatementForm.TheVariants as form
-use Rattle.profile_machine.specs.World.{World, Frame, Mark, Scope, Handled, InProtected, InAccept, Abortable, InInitialize, InFinalize, InAssign, AssignStep, finalize_target, copy_components, adjust_target, assigned, Registered}
+use Rattle.profile_machine.specs.declared.world.World.{World}
+use Rattle.profile_machine.specs.declared.world.marks.Frame.{Frame}
+use Rattle.profile_machine.specs.declared.world.marks.Mark.{Mark}
+use Rattle.profile_machine.specs.declared.world.marks.AssignStep.{AssignStep}
+use Rattle.profile_machine.specs.declared.world.appointments.Registered.{Registered}
+use Rattle.profile_machine.specs.declared.world.marks.AssignStep.TheVariants as assigning
+use Rattle.profile_machine.specs.declared.world.marks.Mark.TheVariants.{Scope, Handled, InProtected, InAccept, Abortable, InInitialize, InFinalize, InAssign}
 use Rattle.profile_machine.specs.Words.{same_region}
 use Rattle.profile_machine.specs.Program.{statement_of}
 use Rattle.profile_machine.specs.Frames.{top_of}
@@ -79,10 +85,10 @@ cost_of_leaving objects true None = 1
 cost_of_leaving objects false region = 1
 
 abbrev pub cost_of_step : AssignStep → ℕ
-cost_of_step finalize_target = 2
-cost_of_step copy_components = 1
-cost_of_step adjust_target = 2
-cost_of_step assigned = 1
+cost_of_step assigning.FinalizeTarget = 2
+cost_of_step assigning.CopyComponents = 1
+cost_of_step assigning.AdjustTarget = 2
+cost_of_step assigning.Assigned = 1
 
 abbrev pub cost_of_mark : List Registered → Mark → ℕ
 cost_of_mark objects (Scope m) = cost_of_leaving objects m.being_left m.region

@@ -17,7 +17,12 @@ use Rattle.profile_machine.specs.declared.declarations.Initial.TheVariants as in
 use Rattle.profile_machine.specs.declared.expressions.ObjectName.TheVariants.{Declared}
 use Rattle.profile_machine.specs.declared.values.Value.{Value}
 use Rattle.profile_machine.specs.declared.values.Value.TheVariants.{Thing}
-use Rattle.profile_machine.specs.World.{World, ScopeInUse, Located, Variable, Object, Drawn}
+use Rattle.profile_machine.specs.declared.world.World.{World}
+use Rattle.profile_machine.specs.declared.world.scopes.ScopeInUse.{ScopeInUse}
+use Rattle.profile_machine.specs.declared.world.scopes.Located.{Located}
+use Rattle.profile_machine.specs.declared.world.scopes.Variable.{Variable}
+use Rattle.profile_machine.specs.declared.world.objects.Object.{Object}
+use Rattle.profile_machine.specs.declared.world.Drawn.{Drawn}
 use Rattle.profile_machine.specs.Program.{declaration_of, next_of, scope_of, protected_unit_of, controlled_of, initial_cells}
 use Rattle.profile_machine.specs.Steps.{Step, own, says, changes, ◌▷◌}
 use Rattle.profile_machine.specs.Frames.{goes, given}

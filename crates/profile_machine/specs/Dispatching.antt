@@ -7,7 +7,14 @@ use Rattle.trace_text.specs.declared.events.QueueEnd.TheVariants.{Head, Tail}
 use Rattle.trace_text.specs.declared.events.Waits.{Waits}
 use Rattle.trace_text.specs.declared.events.Waits.TheVariants as word
 use Rattle.profile_machine.specs.declared.image.Image.{Image}
-use Rattle.profile_machine.specs.World.{World, Task, Runnable, Blocked, Waiting, for_activation, for_moment, for_call, for_end_of_call, for_accept, for_select, for_dependents, for_release, Object, Action, Placed}
+use Rattle.profile_machine.specs.declared.world.World.{World}
+use Rattle.profile_machine.specs.declared.world.tasks.Task.{Task}
+use Rattle.profile_machine.specs.declared.world.tasks.Waiting.{Waiting}
+use Rattle.profile_machine.specs.declared.world.objects.Object.{Object}
+use Rattle.profile_machine.specs.declared.world.objects.Action.{Action}
+use Rattle.profile_machine.specs.declared.world.tasks.Placed.{Placed}
+use Rattle.profile_machine.specs.declared.world.tasks.Waiting.TheVariants as waits_for
+use Rattle.profile_machine.specs.declared.world.tasks.State.TheVariants.{Runnable, Blocked}
 use Rattle.profile_machine.specs.Words.{greatest_of, some_where}
 use Rattle.profile_machine.specs.Program.{is_edf_level, is_robin_level, edf_low}
 use Rattle.profile_machine.specs.Steps.{Part, Step, says, changes, ◌▷◌}
@@ -118,14 +125,14 @@ ready p part name =
 -- ---- blocking
 
 abbrev pub word_of : Waiting → Waits
-word_of for_activation = word.Activation
-word_of for_moment = word.Delay
-word_of (for_call c) = word.Entry
-word_of (for_end_of_call c) = word.Call
-word_of (for_accept s) = word.Accept
-word_of (for_select accepts delay terminate) = word.Select
-word_of (for_dependents r) = word.Dependents
-word_of for_release = word.Release
+word_of waits_for.Activation = word.Activation
+word_of waits_for.Moment = word.Delay
+word_of (waits_for.Call c) = word.Entry
+word_of (waits_for.EndOfCall c) = word.Call
+word_of (waits_for.Accept s) = word.Accept
+word_of (waits_for.Select accepts delay terminate) = word.Select
+word_of (waits_for.Dependents r) = word.Dependents
+word_of waits_for.Release = word.Release
 
 abbrev pub without_kept_level : Task → Task
 without_kept_level t = record t { kept_level = None }

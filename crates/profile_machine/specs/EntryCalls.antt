@@ -23,7 +23,16 @@ use Rattle.profile_machine.specs.declared.statements.EntryOwner.TheVariants as o
 use Rattle.profile_machine.specs.declared.statements.StatementForm.{StatementForm}
 use Rattle.profile_machine.specs.declared.statements.StatementForm.TheVariants as form
 use Rattle.profile_machine.specs.declared.values.Value.{Value}
-use Rattle.profile_machine.specs.World.{World, ScopeInUse, Variable, Call, CallKind, plain, conditional, timed, triggering, Owner, a_task, an_object, for_call, a_trigger}
+use Rattle.profile_machine.specs.declared.world.World.{World}
+use Rattle.profile_machine.specs.declared.world.scopes.ScopeInUse.{ScopeInUse}
+use Rattle.profile_machine.specs.declared.world.scopes.Variable.{Variable}
+use Rattle.profile_machine.specs.declared.world.calls.Call.{Call}
+use Rattle.profile_machine.specs.declared.world.calls.CallKind.{CallKind}
+use Rattle.profile_machine.specs.declared.world.calls.Owner.{Owner}
+use Rattle.profile_machine.specs.declared.world.calls.CallKind.TheVariants as call_kind
+use Rattle.profile_machine.specs.declared.world.appointments.Due.TheVariants as due_for
+use Rattle.profile_machine.specs.declared.world.calls.Owner.TheVariants as owned_by
+use Rattle.profile_machine.specs.declared.world.tasks.Waiting.TheVariants as waits_for
 use Rattle.profile_machine.specs.Program.{form_of, next_of, scope_of, marks_of, entry_of, task_unit_of}
 use Rattle.profile_machine.specs.Steps.{Step, Part, the_call, the_finish, own, of_other, the_block, says, changes, looks, nothing, ◌▷◌}
 use Rattle.profile_machine.specs.Tasks.{waiting_of, number_of}
@@ -46,11 +55,11 @@ use Rattle.profile_machine.specs.declared.run_data.Leaving.TheVariants as how
 
 abbrev pub owner_task : Option TaskNo → Valued Owner
 owner_task None = Err exception.Program
-owner_task (Some t) = Ok (a_task t)
+owner_task (Some t) = Ok (owned_by.Task t)
 
 abbrev pub owner_by_unit : EntryUnit → Value → Valued Owner
 owner_by_unit (unit.Task u) v = owner_task (task_in v)
-owner_by_unit (unit.Protected u) v = Ok (an_object (record { 0 = thing_number v }))
+owner_by_unit (unit.Protected u) v = Ok (owned_by.Object (record { 0 = thing_number v }))
 
 -- an entry by its own name is that of the task, or the object, in whose body the name stands
 abbrev pub owner_in_scope : Option ScopeInUse → Option TaskNo
@@ -59,7 +68,7 @@ owner_in_scope (Some s) = number_of s.owner
 
 abbrev pub own_unit : Seen → EntryUnit → Valued Owner
 own_unit q (unit.Task u) = owner_task (owner_in_scope (option_and_then (scope_in_use q.world) (home q.world (task_unit_of q.program u).scope q.within)))
-own_unit q (unit.Protected u) = or_misfit (own_object q u) >>= λ o. Ok (an_object o)
+own_unit q (unit.Protected u) = or_misfit (own_object q u) >>= λ o. Ok (owned_by.Object o)
 
 abbrev pub owner_of_entry : Seen → EntryNo → EntryOwner → Valued Owner
 owner_of_entry q e (owner.Object d) = thing q d >>= owner_by_unit (entry_of q.program e).unit
@@ -140,7 +149,7 @@ call_gone p c = gone p own c ▷ end_at_once p own c exception.Tasking
 abbrev pub call_meets : Image → TaskNo → StatementNo → Call → Step
 call_meets p t s c =
     meet p (of_other (who.Task t)) (who.Task t) s c
-    (block the_block (who.Task c.caller) (for_call c.number))
+    (block the_block (who.Task c.caller) (waits_for.Call c.number))
     (end_at_once p the_finish c exception.Storage)
 
 abbrev pub call_queues : Image → Call → Step
@@ -148,10 +157,10 @@ call_queues p c = enqueue p c.number ▷ not_accepted p own c c.kind
 
 -- a triggering call needs a mark where it is queued
 abbrev pub marks_if_queued : CallKind → ℕ
-marks_if_queued plain = 0
-marks_if_queued conditional = 0
-marks_if_queued timed = 0
-marks_if_queued triggering = 1
+marks_if_queued call_kind.Plain = 0
+marks_if_queued call_kind.Conditional = 0
+marks_if_queued call_kind.Timed = 0
+marks_if_queued call_kind.Triggering = 1
 
 abbrev pub call_not_met : Image → Call → Bool → Step
 call_not_met p c true = make_call p c (λ d. end_at_once p own d exception.Program)
@@ -214,8 +223,8 @@ call_object p o c =
     (looks (λ w. call_by_barrier p o c (is_barrier_open p w (who.Task c.caller) o c.entry)))
 
 abbrev pub call_owner : Image → Call → Owner → Step
-call_owner p c (a_task t) = call_task p t c
-call_owner p c (an_object o) = call_object p o c
+call_owner p c (owned_by.Task t) = call_task p t c
+call_owner p c (owned_by.Object o) = call_object p o c
 
 -- ---- the entry call of a statement
 
@@ -238,7 +247,7 @@ entry_call p who.Agent kind s = raises p own who.Agent exception.Program
 -- ---- the asynchronous select (9.7.4): the trigger is issued first
 
 abbrev pub appoint_trigger : Who → ℕ → ℤ → World → World
-appoint_trigger (who.Task t) depth m = appoint (a_trigger t depth) m
+appoint_trigger (who.Task t) depth m = appoint (due_for.Trigger t depth) m
 appoint_trigger who.Agent depth m = λ w. w
 
 -- a delay that is not in the future completes at once
@@ -250,11 +259,11 @@ trigger_delay p name s trigger m true =
 
 abbrev pub async_delay : Image → Who → StatementNo → StatementNo → Step
 async_delay p name s trigger =
-    sees p name (λ q. raise_if p name (is_forbidden q.world name triggering) exception.Program
-    (given p own name (delay_moment q trigger) (λ m. trigger_delay p name s trigger m (int_lt (pos q.world.now) m))))
+    sees p name (λ q. raise_if p name (is_forbidden q.world name call_kind.Triggering) exception.Program
+    (given p own name (delay_moment q trigger) (λ m. trigger_delay p name s trigger m (int_lt (pos q.world.time) m))))
 
 abbrev pub async_by_trigger : Image → Who → StatementNo → StatementNo → StatementForm → Step
-async_by_trigger p name s trigger (form.EntryCall entry owner actuals) = entry_call p name triggering s
+async_by_trigger p name s trigger (form.EntryCall entry owner actuals) = entry_call p name call_kind.Triggering s
 async_by_trigger p name s trigger _ = async_delay p name s trigger
 
 abbrev pub asynchronous_select : Image → Who → StatementNo → StatementNo → Step

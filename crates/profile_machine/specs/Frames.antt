@@ -11,7 +11,12 @@ use Rattle.profile_machine.specs.declared.run_data.Leaving.TheVariants as how
 use Rattle.profile_machine.specs.declared.statements.StatementForm.{StatementForm}
 use Rattle.profile_machine.specs.declared.statements.StatementForm.TheVariants as form
 use Rattle.profile_machine.specs.declared.declarations.Handler.{Handler}
-use Rattle.profile_machine.specs.World.{World, Frame, Mark, Scope, Handled, InProtected, InAccept, Abortable, InInitialize, InFinalize, InAssign, Purpose, of_block, of_subprogram, of_entry_body, of_task}
+use Rattle.profile_machine.specs.declared.world.World.{World}
+use Rattle.profile_machine.specs.declared.world.marks.Frame.{Frame}
+use Rattle.profile_machine.specs.declared.world.marks.Mark.{Mark}
+use Rattle.profile_machine.specs.declared.world.marks.Purpose.{Purpose}
+use Rattle.profile_machine.specs.declared.world.marks.Purpose.TheVariants as opened_for
+use Rattle.profile_machine.specs.declared.world.marks.Mark.TheVariants.{Scope, Handled, InProtected, InAccept, Abortable, InInitialize, InFinalize, InAssign}
 use Rattle.profile_machine.specs.Words.{same_statement, same_option, first_of_list, option_or_else}
 use Rattle.profile_machine.specs.Program.{declaration_of, form_of, next_of}
 use Rattle.profile_machine.specs.Steps.{Part, own, Step, says, changes, looks, when, nothing, ◌▷◌}
@@ -133,10 +138,10 @@ open_if_ready p name = looks (λ w. when (is_runnable (task_of w name)) (open_se
 
 -- the statement whose construct a mark is; the mark of a body has none
 abbrev pub statement_of_purpose : Purpose → Option StatementNo
-statement_of_purpose (of_block s) = Some s
-statement_of_purpose (of_subprogram results to) = None
-statement_of_purpose (of_entry_body c) = None
-statement_of_purpose of_task = None
+statement_of_purpose (opened_for.Block s) = Some s
+statement_of_purpose (opened_for.Subprogram results to) = None
+statement_of_purpose (opened_for.EntryBody c) = None
+statement_of_purpose opened_for.Task = None
 
 abbrev pub statement_of_mark : Mark → Option StatementNo
 statement_of_mark (Scope m) = statement_of_purpose m.purpose

@@ -18,8 +18,24 @@ use Rattle.profile_machine.specs.declared.statements.Setting.{Setting}
 use Rattle.profile_machine.specs.declared.statements.Setting.TheVariants as setting
 use Rattle.profile_machine.specs.declared.values.Value.{Value}
 use Rattle.profile_machine.specs.declared.values.Value.TheVariants.{Truth, Thing}
-use Rattle.profile_machine.specs.World.{World, HandlerOf, Release, Drawn, Object, Timer, TimerSetting, Budget, Variable, State, Made, Runnable, Blocked, Waiting, Appointment, Due, an_event, a_delay, a_timeout, a_trigger, of_subprogram, to_nowhere}
-use Rattle.profile_machine.specs.World as world
+use Rattle.profile_machine.specs.declared.world.World.{World}
+use Rattle.profile_machine.specs.declared.world.appointments.HandlerOf.{HandlerOf}
+use Rattle.profile_machine.specs.declared.world.appointments.Release.{Release}
+use Rattle.profile_machine.specs.declared.world.Drawn.{Drawn}
+use Rattle.profile_machine.specs.declared.world.objects.Object.{Object}
+use Rattle.profile_machine.specs.declared.world.appointments.Timer.{Timer}
+use Rattle.profile_machine.specs.declared.world.appointments.TimerSetting.{TimerSetting}
+use Rattle.profile_machine.specs.declared.world.appointments.Budget.{Budget}
+use Rattle.profile_machine.specs.declared.world.scopes.Variable.{Variable}
+use Rattle.profile_machine.specs.declared.world.tasks.State.{State}
+use Rattle.profile_machine.specs.declared.world.tasks.Waiting.{Waiting}
+use Rattle.profile_machine.specs.declared.world.appointments.Appointment.{Appointment}
+use Rattle.profile_machine.specs.declared.world.appointments.Due.{Due}
+use Rattle.profile_machine.specs.declared.world.appointments.Due.TheVariants as due_for
+use Rattle.profile_machine.specs.declared.world.marks.Purpose.TheVariants as opened_for
+use Rattle.profile_machine.specs.declared.world.marks.ResultTo.TheVariants as bound_for
+use Rattle.profile_machine.specs.declared.world.tasks.State.TheVariants.{Made, Runnable, Blocked}
+use Rattle.profile_machine.specs.declared.world.tasks.Task as world
 use Rattle.profile_machine.specs.Words.{same_task, edit_at, without}
 use Rattle.profile_machine.specs.Program.{is_robin_level, next_of, scope_of, marks_of, subprogram_of, protected_unit_of, interrupt_priority}
 use Rattle.profile_machine.specs.Steps.{Step, Part, own, says, changes, looks, nothing, for_some, ◌▷◌}
@@ -75,7 +91,7 @@ scope_size_of p f = (scope_of p (subprogram_of p f).scope).size
 abbrev pub begin_handler : Image → Release → Step
 begin_handler p r =
     begin_action_on p who.Agent r.handler.object Write None (Some r.number)
-    ▷ looks (λ w. changes (open_scope p who.Agent (subprogram_of p r.handler.procedure).scope (body_of_object p w (subprogram_of p r.handler.procedure).scope r.handler.object None (argument_values r.argument)) (of_subprogram [] to_nowhere)))
+    ▷ looks (λ w. changes (open_scope p who.Agent (subprogram_of p r.handler.procedure).scope (body_of_object p w (subprogram_of p r.handler.procedure).scope r.handler.object None (argument_values r.argument)) (opened_for.Subprogram [] bound_for.Nowhere)))
 
 -- without room it is served at once
 abbrev pub begin_handler_if_room : Image → Release → Step
@@ -146,16 +162,16 @@ cancel_event_setting e = drop_appointment (is_event e)
 
 -- setting replaces; a moment that is not in the future releases at once, and no handler clears
 abbrev pub appoint_event : Image → ℕ → HandlerOf → ℤ → Bool → Step
-appoint_event p e h m true = changes (appoint (an_event e h) m)
+appoint_event p e h m true = changes (appoint (due_for.Event e h) m)
 appoint_event p e h m false = release p own h (Some e)
 
 abbrev pub event_set_to : Image → ℕ → Option HandlerOf → ℤ → Step
 event_set_to p e None m = nothing
-event_set_to p e (Some h) m = looks (λ w. appoint_event p e h m (int_lt (pos w.now) m))
+event_set_to p e (Some h) m = looks (λ w. appoint_event p e h m (int_lt (pos w.time) m))
 
 abbrev pub set_event : Image → Who → StatementNo → DeclNo → Setting → Option HandlerName → Step
 set_event p name s d set handler =
-    sees p name (λ q. given p own name (number_of_thing q d) (λ e. setting_of p name q (pos q.world.now) set handler
+    sees p name (λ q. given p own name (number_of_thing q d) (λ e. setting_of p name q (pos q.world.time) set handler
     (λ h m. goes name (next_of p s) ▷ changes (cancel_event_setting e) ▷ event_set_to p e h m)))
 
 abbrev pub cancel_event : Image → Who → StatementNo → DeclNo → VariableName → Step

@@ -2,22 +2,24 @@
 use Rattle.std.specs.Prelude.{ℕ, Bool, true, false, ◌∷◌, ltb}
 use Rattle.trace_text.specs.declared.events.Who.{Who}
 use Rattle.profile_machine.specs.declared.image.Image.{Image}
-use Rattle.profile_machine.specs.World.{World, Cause, by_activation, by_rendezvous, by_ceiling}
+use Rattle.profile_machine.specs.declared.world.World.{World}
+use Rattle.profile_machine.specs.declared.world.tasks.Cause.{Cause}
+use Rattle.profile_machine.specs.declared.world.tasks.Cause.TheVariants as inherited_by
 use Rattle.profile_machine.specs.Words.{same_call, same_object, without}
 use Rattle.profile_machine.specs.Steps.{Step, the_placing, changes, looks, when, ◌▷◌}
 use Rattle.profile_machine.specs.Tasks.{edit_task}
 use Rattle.profile_machine.specs.Dispatching.{active_of, to_head}
 
 abbrev pub same_cause : Cause → Cause → Bool
-same_cause by_activation by_activation = true
-same_cause by_activation (by_rendezvous d) = false
-same_cause by_activation (by_ceiling q) = false
-same_cause (by_rendezvous c) by_activation = false
-same_cause (by_rendezvous c) (by_rendezvous d) = same_call c d
-same_cause (by_rendezvous c) (by_ceiling q) = false
-same_cause (by_ceiling o) by_activation = false
-same_cause (by_ceiling o) (by_rendezvous d) = false
-same_cause (by_ceiling o) (by_ceiling q) = same_object o q
+same_cause inherited_by.Activation inherited_by.Activation = true
+same_cause inherited_by.Activation (inherited_by.Rendezvous d) = false
+same_cause inherited_by.Activation (inherited_by.Ceiling q) = false
+same_cause (inherited_by.Rendezvous c) inherited_by.Activation = false
+same_cause (inherited_by.Rendezvous c) (inherited_by.Rendezvous d) = same_call c d
+same_cause (inherited_by.Rendezvous c) (inherited_by.Ceiling q) = false
+same_cause (inherited_by.Ceiling o) inherited_by.Activation = false
+same_cause (inherited_by.Ceiling o) (inherited_by.Rendezvous d) = false
+same_cause (inherited_by.Ceiling o) (inherited_by.Ceiling q) = same_object o q
 
 abbrev pub inherit : Who → Cause → ℕ → World → World
 inherit name cause level = edit_task name (λ t. record t { inherited = record { cause = cause; level = level } ∷ t.inherited })

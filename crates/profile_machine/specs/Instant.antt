@@ -7,7 +7,15 @@ use Rattle.trace_text.specs.declared.events.Who.TheVariants as who
 use Rattle.profile_machine.specs.declared.image.Image.{Image}
 use Rattle.profile_machine.specs.declared.run_data.Item.{Item}
 use Rattle.profile_machine.specs.declared.run_data.Item.TheVariants as item
-use Rattle.profile_machine.specs.World.{World, Task, Waiting, for_select, Due, an_event, a_delay, a_timeout, a_trigger, Appointment, TimerSetting, cancelled}
+use Rattle.profile_machine.specs.declared.world.World.{World}
+use Rattle.profile_machine.specs.declared.world.tasks.Task.{Task}
+use Rattle.profile_machine.specs.declared.world.tasks.Waiting.{Waiting}
+use Rattle.profile_machine.specs.declared.world.appointments.Due.{Due}
+use Rattle.profile_machine.specs.declared.world.appointments.Appointment.{Appointment}
+use Rattle.profile_machine.specs.declared.world.appointments.TimerSetting.{TimerSetting}
+use Rattle.profile_machine.specs.declared.world.appointments.Due.TheVariants as due_for
+use Rattle.profile_machine.specs.declared.world.calls.Outcome.TheVariants as call_ended
+use Rattle.profile_machine.specs.declared.world.tasks.Waiting.TheVariants as waits_for
 use Rattle.profile_machine.specs.Words.{edit_at, is_empty}
 use Rattle.profile_machine.specs.Program.{next_of, is_robin_level}
 use Rattle.profile_machine.specs.Steps.{own, Step, Move, says, changes, looks, when, nothing, for_some, for_each, settles, ◌▷◌}
@@ -81,14 +89,14 @@ items_due p now (x ∷ xs) =
     elim (int_le x.0 (pos now)) [ true ↦ changes (with_script xs) ▷ script_item p x.1 ▷ items_due p now xs | false ↦ nothing ]
 
 abbrev pub script_items : Image → Move
-script_items p = settles (looks (λ w. items_due p w.now w.script))
+script_items p = settles (looks (λ w. items_due p w.time w.script))
 
 -- ---- 3 and 4: appointments whose moment is now: timing events, then delays, time-outs and triggers, each in the
 -- order in which they were set
 
 -- a task's moment has come; at a select the delay alternative is taken
 abbrev pub take_delay : Image → Who → Option Waiting → Step
-take_delay p name (Some (for_select accepts (Some delay) terminate)) = goes name (next_of p delay)
+take_delay p name (Some (waits_for.Select accepts (Some delay) terminate)) = goes name (next_of p delay)
 take_delay p name _ = nothing
 
 abbrev pub end_delay : Image → Who → Step
@@ -97,19 +105,19 @@ end_delay p name = looks (λ w. take_delay p name (waiting_of w name)) ▷ ready
 -- a timed call that has not begun is cancelled
 abbrev pub time_out : Image → CallNo → Step
 time_out p c =
-    with_call c (λ d. changes (unqueued p d) ▷ says own (line.Cancel d.caller c) ▷ deliver p own c cancelled)
+    with_call c (λ d. changes (unqueued p d) ▷ says own (line.Cancel d.caller c) ▷ deliver p own c call_ended.Cancelled)
 
 abbrev pub is_the_same_due : Due → Due → Bool
-is_the_same_due (an_event n h) d = is_event n d
-is_the_same_due (a_delay t) d = is_delay_of t d
-is_the_same_due (a_timeout c) d = is_timeout_of c d
-is_the_same_due (a_trigger t depth) d = is_trigger_of t depth d
+is_the_same_due (due_for.Event n h) d = is_event n d
+is_the_same_due (due_for.Delay t) d = is_delay_of t d
+is_the_same_due (due_for.Timeout c) d = is_timeout_of c d
+is_the_same_due (due_for.Trigger t depth) d = is_trigger_of t depth d
 
 abbrev pub come_due : Image → Due → Step
-come_due p (an_event n h) = release p own h (Some n)
-come_due p (a_delay t) = end_delay p (who.Task t)
-come_due p (a_timeout c) = time_out p c
-come_due p (a_trigger t depth) = trigger_at p own t depth ▷ unwind p own (who.Task t)
+come_due p (due_for.Event n h) = release p own h (Some n)
+come_due p (due_for.Delay t) = end_delay p (who.Task t)
+come_due p (due_for.Timeout c) = time_out p c
+come_due p (due_for.Trigger t depth) = trigger_at p own t depth ▷ unwind p own (who.Task t)
 
 abbrev pub take_due : Image → Step → Option Appointment → Step
 take_due p again None = nothing
@@ -118,7 +126,7 @@ take_due p again (Some a) = changes (drop_appointment (is_the_same_due a.due)) �
 -- the fuel is the number of appointments
 abbrev pub all_due : ℕ → Image → Bool → Step
 all_due zero p events = nothing
-all_due (suc fuel) p events = looks (λ w. take_due p (all_due fuel p events) (first_due events w.now w.appointments))
+all_due (suc fuel) p events = looks (λ w. take_due p (all_due fuel p events) (first_due events w.time w.appointments))
 
 abbrev pub appointments_due : Image → Bool → Move
 appointments_due p events = settles (looks (λ w. all_due (length w.appointments) p events))

@@ -1,4 +1,3 @@
-pub mod World
 pub mod Words
 pub mod Program
 pub mod Steps

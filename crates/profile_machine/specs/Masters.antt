@@ -9,7 +9,17 @@ use Rattle.trace_text.specs.declared.events.Who.TheVariants as who
 use Rattle.profile_machine.specs.declared.image.Image.{Image}
 use Rattle.profile_machine.specs.declared.run_data.Leaving.{Leaving}
 use Rattle.profile_machine.specs.declared.run_data.Leaving.TheVariants as how
-use Rattle.profile_machine.specs.World.{World, Task, Frame, Mark, Scope, Handled, InProtected, InAccept, Abortable, InInitialize, InFinalize, InAssign, Call, Runnable, Waiting, for_activation, for_select, for_dependents, to_raise, by_activation}
+use Rattle.profile_machine.specs.declared.world.World.{World}
+use Rattle.profile_machine.specs.declared.world.tasks.Task.{Task}
+use Rattle.profile_machine.specs.declared.world.marks.Frame.{Frame}
+use Rattle.profile_machine.specs.declared.world.marks.Mark.{Mark}
+use Rattle.profile_machine.specs.declared.world.calls.Call.{Call}
+use Rattle.profile_machine.specs.declared.world.tasks.Waiting.{Waiting}
+use Rattle.profile_machine.specs.declared.world.tasks.Cause.TheVariants as inherited_by
+use Rattle.profile_machine.specs.declared.world.calls.Outcome.TheVariants as call_ended
+use Rattle.profile_machine.specs.declared.world.tasks.Waiting.TheVariants as waits_for
+use Rattle.profile_machine.specs.declared.world.marks.Mark.TheVariants.{Scope, Handled, InProtected, InAccept, Abortable, InInitialize, InFinalize, InAssign}
+use Rattle.profile_machine.specs.declared.world.tasks.State.TheVariants.{Runnable}
 use Rattle.profile_machine.specs.Words.{same_who, same_region, is_the, has, without}
 use Rattle.profile_machine.specs.Steps.{Step, Part, own, of_other, changes, looks, when, nothing, for_some, for_each, ◌▷◌}
 use Rattle.profile_machine.specs.Tasks.{task_of, edit_task, with_state, is_who, waiting_in, waiting_of}
@@ -108,7 +118,7 @@ queued_calls w t = calls_in_order (calls_there w (flat_map (λ q. q) t.queues))
 -- only when all have got it is it asked who is unwound
 abbrev pub gone_by_completion : Image → Who → Call → Step
 gone_by_completion p actor c =
-    gone p (part_of actor (who.Task c.caller)) c ▷ end_call p (part_of actor (who.Task c.caller)) c (to_raise exception.Tasking)
+    gone p (part_of actor (who.Task c.caller)) c ▷ end_call p (part_of actor (who.Task c.caller)) c (call_ended.ToRaise exception.Tasking)
 
 -- ---- the end of an activation (9.2)
 
@@ -123,7 +133,7 @@ abbrev pub with_failure : Bool → Task → Task
 with_failure failed t = record t { group_failed = t.group_failed || failed }
 
 abbrev pub waits_for_activation : Option Waiting → Bool
-waits_for_activation (Some for_activation) = true
+waits_for_activation (Some waits_for.Activation) = true
 waits_for_activation _ = false
 
 -- Tasking_Error is raised once in the activator where a task of the group failed
@@ -143,7 +153,7 @@ not_activating t = record t { activator = None }
 abbrev pub end_activation_by : Image → Who → Who → Bool → Option Who → Step
 end_activation_by p actor name failed None = nothing
 end_activation_by p actor name failed (Some activator) =
-    changes (edit_task name not_activating) ▷ changes (lose name by_activation)
+    changes (edit_task name not_activating) ▷ changes (lose name inherited_by.Activation)
     ▷ changes (edit_task activator (with_failure failed)) ▷ end_group p actor activator
 
 abbrev pub end_activation : Image → Who → Who → Bool → Step
@@ -180,7 +190,7 @@ complete p actor name =
     looks (λ w. when (not (task_of w name).completed) (complete_with p actor name (queued_calls w (task_of w name)) (has_failed (task_of w name))))
 
 abbrev pub waits_in : RegionNo → Option Waiting → Bool
-waits_in r (Some (for_dependents s)) = same_region r s
+waits_in r (Some (waits_for.Dependents s)) = same_region r s
 waits_in r _ = false
 
 abbrev pub waits_for_dependents : RegionNo → Task → Bool
@@ -202,7 +212,7 @@ terminate p actor name =
 -- ---- terminate alternatives (9.7.1, 9.3)
 
 abbrev pub waits_at_terminate : Option Waiting → Bool
-waits_at_terminate (Some (for_select accepts delay terminate)) = terminate
+waits_at_terminate (Some (waits_for.Select accepts delay terminate)) = terminate
 waits_at_terminate _ = false
 
 abbrev pub is_at_terminate : Task → Bool

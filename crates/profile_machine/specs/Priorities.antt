@@ -11,8 +11,13 @@ use Rattle.profile_machine.specs.declared.image.Queuing.{Queuing}
 use Rattle.profile_machine.specs.declared.image.Queuing.TheVariants as queuing
 use Rattle.profile_machine.specs.declared.numbers.ExprNo.{ExprNo}
 use Rattle.profile_machine.specs.declared.numbers.StatementNo.{StatementNo}
-use Rattle.profile_machine.specs.World.{World, Call, State, Made, Runnable, Blocked, Waiting, for_activation, for_moment, for_call, for_end_of_call, for_accept, for_select, for_dependents, for_release}
-use Rattle.profile_machine.specs.World as world
+use Rattle.profile_machine.specs.declared.world.World.{World}
+use Rattle.profile_machine.specs.declared.world.calls.Call.{Call}
+use Rattle.profile_machine.specs.declared.world.tasks.State.{State}
+use Rattle.profile_machine.specs.declared.world.tasks.Waiting.{Waiting}
+use Rattle.profile_machine.specs.declared.world.tasks.Waiting.TheVariants as waits_for
+use Rattle.profile_machine.specs.declared.world.tasks.State.TheVariants.{Made, Runnable, Blocked}
+use Rattle.profile_machine.specs.declared.world.tasks.Task as world
 use Rattle.profile_machine.specs.Words.{same_who, edit_at}
 use Rattle.profile_machine.specs.Program.{next_of, edf_low, has_edf, interrupt_priority, is_edf_level, is_robin_level}
 use Rattle.profile_machine.specs.Steps.{Step, Part, own, the_placing, says, changes, looks, when, nothing, for_some, ◌▷◌}
@@ -44,14 +49,14 @@ reprioritize p level c =
     when (is_queued c) (changes (edit_call c.number (with_priority level)) ▷ changes (placed_anew p.policies.queuing p c level))
 
 abbrev pub call_waited_for : Waiting → Option CallNo
-call_waited_for for_activation = None
-call_waited_for for_moment = None
-call_waited_for (for_call c) = Some c
-call_waited_for (for_end_of_call c) = Some c
-call_waited_for (for_accept s) = None
-call_waited_for (for_select accepts delay terminate) = None
-call_waited_for (for_dependents r) = None
-call_waited_for for_release = None
+call_waited_for waits_for.Activation = None
+call_waited_for waits_for.Moment = None
+call_waited_for (waits_for.Call c) = Some c
+call_waited_for (waits_for.EndOfCall c) = Some c
+call_waited_for (waits_for.Accept s) = None
+call_waited_for (waits_for.Select accepts delay terminate) = None
+call_waited_for (waits_for.Dependents r) = None
+call_waited_for waits_for.Release = None
 
 abbrev pub reprioritize_own : Image → Who → Waiting → Step
 reprioritize_own p name waiting =

@@ -22,7 +22,18 @@ use Rattle.profile_machine.specs.declared.declarations.Subprogram.{Subprogram}
 use Rattle.profile_machine.specs.declared.statements.Actual.{Actual}
 use Rattle.profile_machine.specs.declared.statements.Destination.{Destination}
 use Rattle.profile_machine.specs.declared.values.Value.{Value}
-use Rattle.profile_machine.specs.World.{World, Object, Action, Located, ResultTo, of_subprogram, of_entry_body, ScopeId, Mark, Scope, Handled, InProtected, InAccept, Abortable, InInitialize, InFinalize, InAssign, ProtectedMark, Call, by_ceiling}
+use Rattle.profile_machine.specs.declared.world.World.{World}
+use Rattle.profile_machine.specs.declared.world.objects.Object.{Object}
+use Rattle.profile_machine.specs.declared.world.objects.Action.{Action}
+use Rattle.profile_machine.specs.declared.world.scopes.Located.{Located}
+use Rattle.profile_machine.specs.declared.world.marks.ResultTo.{ResultTo}
+use Rattle.profile_machine.specs.declared.world.scopes.ScopeId.{ScopeId}
+use Rattle.profile_machine.specs.declared.world.marks.Mark.{Mark}
+use Rattle.profile_machine.specs.declared.world.marks.ProtectedMark.{ProtectedMark}
+use Rattle.profile_machine.specs.declared.world.calls.Call.{Call}
+use Rattle.profile_machine.specs.declared.world.tasks.Cause.TheVariants as inherited_by
+use Rattle.profile_machine.specs.declared.world.marks.Purpose.TheVariants as opened_for
+use Rattle.profile_machine.specs.declared.world.marks.Mark.TheVariants.{Scope, Handled, InProtected, InAccept, Abortable, InInitialize, InFinalize, InAssign}
 use Rattle.profile_machine.specs.Words.{same_who, without, option_or_else, is_empty}
 use Rattle.profile_machine.specs.Program.{next_of, scope_of, marks_of, subprogram_of, protected_unit_of, entry_of, has_edf}
 use Rattle.profile_machine.specs.Steps.{Step, Part, own, the_placing, says, changes, looks, ◌▷◌}
@@ -106,7 +117,7 @@ ceiling_of (Some o) = o.ceiling
 abbrev pub begin_action_on : Image → Who → ObjectNo → Mode → Option CallNo → Option ℕ → Step
 begin_action_on p name o mode call release =
     says own (line.Enter name o mode) ▷ changes (open_action name o mode)
-    ▷ looks (λ w. inherit_running p name (by_ceiling o) (ceiling_of (object_of w o)))
+    ▷ looks (λ w. inherit_running p name (inherited_by.Ceiling o) (ceiling_of (object_of w o)))
     ▷ changes (push name (new_frame (new_protected_mark o mode call release) None))
 
 -- a body of an object's unit: what stands round it is found from the object
@@ -125,7 +136,7 @@ mode_of s = elim s.result [ None ↦ Write | Some range ↦ Read ]
 abbrev pub begin_operation : Image → Who → StatementNo → SubprogramNo → ObjectNo → Handed → ResultTo → Step
 begin_operation p name s f o h to =
     goes name (next_of p s) ▷ begin_action_on p name o (mode_of (subprogram_of p f)) None None
-    ▷ looks (λ w. changes (open_scope p name (subprogram_of p f).scope (body_of_object p w (subprogram_of p f).scope o h.subject h.values) (of_subprogram h.back to)))
+    ▷ looks (λ w. changes (open_scope p name (subprogram_of p f).scope (body_of_object p w (subprogram_of p f).scope o h.subject h.values) (opened_for.Subprogram h.back to)))
 
 abbrev pub has_object_open : World → Who → ObjectNo → Bool
 has_object_open w name o = elim (object_of w o) [ None ↦ false | Some x ↦ has_open name x.actions ]
@@ -212,7 +223,7 @@ begin_call p part name c =
 abbrev pub body_opens : Image → Who → ObjectNo → Call → Step
 body_opens p name o c =
     changes (edit_top_protected name (λ m. record m { serves = Some c.number }))
-    ▷ looks (λ w. changes (open_scope p name (body_scope_of p c.entry) (body_of_object p w (body_scope_of p c.entry) o None (parameters_of p c)) (of_entry_body c.number)))
+    ▷ looks (λ w. changes (open_scope p name (body_scope_of p c.entry) (body_of_object p w (body_scope_of p c.entry) o None (parameters_of p c)) (opened_for.EntryBody c.number)))
 
 abbrev pub has_room_for_body : Image → World → Who → EntryNo → Bool
 has_room_for_body p w name e = has_room w name (marks_of p (body_scope_of p e)) (scope_of p (body_scope_of p e)).size

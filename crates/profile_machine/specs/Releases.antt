@@ -12,7 +12,12 @@ use Rattle.profile_machine.specs.declared.run_data.Item.{Item}
 use Rattle.profile_machine.specs.declared.run_data.Item.TheVariants as item
 use Rattle.profile_machine.specs.declared.statements.StatementForm.{StatementForm}
 use Rattle.profile_machine.specs.declared.statements.StatementForm.TheVariants as form
-use Rattle.profile_machine.specs.World.{World, HandlerOf, Appointment, Due, an_event, a_delay, a_timeout, a_trigger, TimerSetting}
+use Rattle.profile_machine.specs.declared.world.World.{World}
+use Rattle.profile_machine.specs.declared.world.appointments.HandlerOf.{HandlerOf}
+use Rattle.profile_machine.specs.declared.world.appointments.Appointment.{Appointment}
+use Rattle.profile_machine.specs.declared.world.appointments.Due.{Due}
+use Rattle.profile_machine.specs.declared.world.appointments.TimerSetting.{TimerSetting}
+use Rattle.profile_machine.specs.declared.world.appointments.Due.TheVariants as due_for
 use Rattle.profile_machine.specs.Words.{same_moment, edit_at}
 use Rattle.profile_machine.specs.Program.{subprogram_of, form_of}
 use Rattle.profile_machine.specs.Steps.{Move, ◌▷◌}
@@ -93,14 +98,14 @@ due_by_item p w (item.Unmask n) f = attached_to p w n (is_set f.kept_interrupts 
 abbrev pub due_interrupts : Image → World → List (ℤ × Item) → Flags → List NamedHandler
 due_interrupts p w [] f = []
 due_interrupts p w (x ∷ script) f =
-    elim (int_le x.0 (pos w.now)) [ true ↦ due_by_item p w x.1 f ++ due_interrupts p w script (flags_after x.1 f) | false ↦ [] ]
+    elim (int_le x.0 (pos w.time)) [ true ↦ due_by_item p w x.1 f ++ due_interrupts p w script (flags_after x.1 f) | false ↦ [] ]
 
 -- an event whose moment has come, in the order of setting
 abbrev pub due_event : Image → ℕ → Appointment → Due → List NamedHandler
-due_event p now a (an_event n h) = cond (int_le a.moment (pos now)) (named_handler p h ∷ []) []
-due_event p now a (a_delay t) = []
-due_event p now a (a_timeout c) = []
-due_event p now a (a_trigger t depth) = []
+due_event p now a (due_for.Event n h) = cond (int_le a.moment (pos now)) (named_handler p h ∷ []) []
+due_event p now a (due_for.Delay t) = []
+due_event p now a (due_for.Timeout c) = []
+due_event p now a (due_for.Trigger t depth) = []
 
 abbrev pub due_events : Image → ℕ → List Appointment → List NamedHandler
 due_events p now [] = []
@@ -123,7 +128,7 @@ due_budget p w (Some b) = handler_list p (budget_of w b).handler
 -- all that is to be released behind the first step, in the order of the steps
 abbrev pub due_in : Image → World → List NamedHandler
 due_in p w =
-    due_interrupts p w w.script (record { masked = w.masked; kept_interrupts = w.kept_interrupts }) ++ due_events p w.now w.appointments
+    due_interrupts p w w.script (record { masked = w.masked; kept_interrupts = w.kept_interrupts }) ++ due_events p w.time w.appointments
     ++ due_timers p w w.timers_due ++ due_budget p w w.budget_due
 
 abbrev pub later_steps : Image → Move
@@ -148,19 +153,19 @@ most_by_effect p w (Some name) = may_release p (onward_of w name)
 -- ---- a setting stays until an effect cancels it or sets it again, or its moment comes
 
 abbrev pub is_set_for : ℕ → ℤ → Due → ℤ → Bool
-is_set_for e m (an_event n h) moment = eqb e n && same_moment m moment
-is_set_for e m (a_delay t) moment = false
-is_set_for e m (a_timeout c) moment = false
-is_set_for e m (a_trigger t depth) moment = false
+is_set_for e m (due_for.Event n h) moment = eqb e n && same_moment m moment
+is_set_for e m (due_for.Delay t) moment = false
+is_set_for e m (due_for.Timeout c) moment = false
+is_set_for e m (due_for.Trigger t depth) moment = false
 
 abbrev pub stays : World → Appointment → Due → Bool
-stays w a (an_event e h) = list_any (λ b. is_set_for e a.moment b.due b.moment) w.appointments
-stays w a (a_delay t) = true
-stays w a (a_timeout c) = true
-stays w a (a_trigger t depth) = true
+stays w a (due_for.Event e h) = list_any (λ b. is_set_for e a.moment b.due b.moment) w.appointments
+stays w a (due_for.Delay t) = true
+stays w a (due_for.Timeout c) = true
+stays w a (due_for.Trigger t depth) = true
 
 abbrev pub later_events_stay : World → World → Bool
-later_events_stay before after = list_all (λ a. int_le a.moment (pos before.now) || stays after a a.due) before.appointments
+later_events_stay before after = list_all (λ a. int_le a.moment (pos before.time) || stays after a a.due) before.appointments
 
 -- ---- the law
 

@@ -20,8 +20,25 @@ use Rattle.profile_machine.specs.declared.statements.SelectAlternative.{SelectAl
 use Rattle.profile_machine.specs.declared.statements.SelectKind.{SelectKind}
 use Rattle.profile_machine.specs.declared.statements.SelectKind.TheVariants as select
 use Rattle.profile_machine.specs.declared.values.Value.{Value}
-use Rattle.profile_machine.specs.World.{World, Frame, Mark, InAccept, AcceptMark, Call, Owner, a_task, an_object, Outcome, finished_ok, cancelled, to_raise, was_raised, Sending, State, Made, Runnable, Blocked, Waiting, for_activation, for_moment, for_call, for_end_of_call, for_accept, for_select, for_dependents, for_release, by_rendezvous, ScopeId, a_delay}
-use Rattle.profile_machine.specs.World as world
+use Rattle.profile_machine.specs.declared.world.World.{World}
+use Rattle.profile_machine.specs.declared.world.marks.Frame.{Frame}
+use Rattle.profile_machine.specs.declared.world.marks.Mark.{Mark}
+use Rattle.profile_machine.specs.declared.world.marks.AcceptMark.{AcceptMark}
+use Rattle.profile_machine.specs.declared.world.calls.Call.{Call}
+use Rattle.profile_machine.specs.declared.world.calls.Owner.{Owner}
+use Rattle.profile_machine.specs.declared.world.calls.Outcome.{Outcome}
+use Rattle.profile_machine.specs.declared.world.calls.Sending.{Sending}
+use Rattle.profile_machine.specs.declared.world.tasks.State.{State}
+use Rattle.profile_machine.specs.declared.world.tasks.Waiting.{Waiting}
+use Rattle.profile_machine.specs.declared.world.scopes.ScopeId.{ScopeId}
+use Rattle.profile_machine.specs.declared.world.tasks.Cause.TheVariants as inherited_by
+use Rattle.profile_machine.specs.declared.world.appointments.Due.TheVariants as due_for
+use Rattle.profile_machine.specs.declared.world.calls.Outcome.TheVariants as call_ended
+use Rattle.profile_machine.specs.declared.world.calls.Owner.TheVariants as owned_by
+use Rattle.profile_machine.specs.declared.world.tasks.Waiting.TheVariants as waits_for
+use Rattle.profile_machine.specs.declared.world.marks.Mark.TheVariants.{InAccept}
+use Rattle.profile_machine.specs.declared.world.tasks.State.TheVariants.{Made, Runnable, Blocked}
+use Rattle.profile_machine.specs.declared.world.tasks.Task as world
 use Rattle.profile_machine.specs.Words.{same_entry}
 use Rattle.profile_machine.specs.Program.{form_of, next_of, scope_of, marks_of}
 use Rattle.profile_machine.specs.Steps.{Step, Part, own, the_finish, the_block, says, changes, looks, nothing, for_some, ◌▷◌}
@@ -58,8 +75,8 @@ abbrev pub first_accept : Image → EntryNo → List StatementNo → Option Stat
 first_accept p e = find (λ s. accepts_entry (form_of p s) e)
 
 abbrev pub accept_for : Image → EntryNo → Option Waiting → Option StatementNo
-accept_for p e (Some (for_accept s)) = first_accept p e (s ∷ [])
-accept_for p e (Some (for_select accepts delay terminate)) = first_accept p e accepts
+accept_for p e (Some (waits_for.Accept s)) = first_accept p e (s ∷ [])
+accept_for p e (Some (waits_for.Select accepts delay terminate)) = first_accept p e accepts
 accept_for p e _ = None
 
 -- ---- a rendezvous begins (9.5.2): `start`, InAccept is opened, and the call's priority is inherited (D.1)
@@ -86,9 +103,9 @@ finish_without_room p part name c =
 -- the acceptor acts: it goes to the head where its active priority rises
 abbrev pub accept_with_room : Image → Who → StatementNo → Call → Bool → Step
 accept_with_room p name s c true =
-    changes (open_accept p name s c) ▷ inherit_running p name (by_rendezvous c.number) c.priority
+    changes (open_accept p name s c) ▷ inherit_running p name (inherited_by.Rendezvous c.number) c.priority
 accept_with_room p name s c false =
-    finish_without_room p own name c ▷ deliver p own c.number (to_raise exception.Storage) ▷ raises p own name exception.Storage
+    finish_without_room p own name c ▷ deliver p own c.number (call_ended.ToRaise exception.Storage) ▷ raises p own name exception.Storage
 
 abbrev pub accept_call : Image → Who → StatementNo → CallNo → Step
 accept_call p name s c =
@@ -98,7 +115,7 @@ accept_call p name s c =
 abbrev pub meet_with_room : Image → Part → Who → StatementNo → Call → Step → Step
 meet_with_room p part name s c then_ =
     begin_accept p part name s c ▷ changes (open_accept p name s c)
-    ▷ changes (inherit name (by_rendezvous c.number) c.priority) ▷ ready p part name ▷ open_sequence p part name ▷ then_
+    ▷ changes (inherit name (inherited_by.Rendezvous c.number) c.priority) ▷ ready p part name ▷ open_sequence p part name ▷ then_
 
 -- without room the call has ended at once: its lines and its caller's come first, then those of the acceptor
 abbrev pub meet_without_room : Image → Part → Who → StatementNo → Call → Step → Step
@@ -114,12 +131,12 @@ meet p part name s c then_ otherwise =
 -- ---- the accept statement (9.5.2): it begins with the next call, or waits
 
 abbrev pub own_queue : World → Who → ℕ → List CallNo
-own_queue w (who.Task t) place = queue_of w (a_task t) place
+own_queue w (who.Task t) place = queue_of w (owned_by.Task t) place
 own_queue w who.Agent place = []
 
 abbrev pub accept_or_wait : Image → Who → StatementNo → Option CallNo → Step
 accept_or_wait p name s (Some c) = accept_call p name s c
-accept_or_wait p name s None = goes name (next_of p s) ▷ block the_block name (for_accept s)
+accept_or_wait p name s None = goes name (next_of p s) ▷ block the_block name (waits_for.Accept s)
 
 abbrev pub accept : Image → Who → StatementNo → EntryNo → Step
 accept p name s e =
@@ -196,11 +213,11 @@ accept_chosen p name accepts c =
 
 -- a task at an open terminate alternative says that it blocks when it is sure that it need not end at once
 abbrev pub wait_at_select : Who → List StatementNo → Option StatementNo → Bool → Step
-wait_at_select name accepts delay true = changes (edit_task name (with_state (Blocked (for_select accepts delay true))))
-wait_at_select name accepts delay false = block the_block name (for_select accepts delay false)
+wait_at_select name accepts delay true = changes (edit_task name (with_state (Blocked (waits_for.Select accepts delay true))))
+wait_at_select name accepts delay false = block the_block name (waits_for.Select accepts delay false)
 
 abbrev pub appoint_delay : Who → ℤ → World → World
-appoint_delay (who.Task t) m = appoint (a_delay t) m
+appoint_delay (who.Task t) m = appoint (due_for.Delay t) m
 appoint_delay who.Agent m = λ w. w
 
 -- without a call: the else part, the delay that has come, or a wait
@@ -212,7 +229,7 @@ select_delay p name s accepts m terminate false =
 abbrev pub select_wait : Image → Who → StatementNo → List StatementNo → Bool → Option Moment → Step
 select_wait p name s accepts terminate None = goes name (next_of p s) ▷ wait_at_select name accepts None terminate
 select_wait p name s accepts terminate (Some m) =
-    looks (λ w. select_delay p name s accepts m terminate (int_le m.at (pos w.now)))
+    looks (λ w. select_delay p name s accepts m terminate (int_le m.at (pos w.time)))
 
 abbrev pub select_otherwise : Image → Who → StatementNo → List SelectKind → Option Moment → Option StatementNo → Step
 select_otherwise p name s kinds m (Some otherwise) = goes name (Some otherwise)
@@ -250,11 +267,11 @@ is_callable w t = is_callable_task (found_task (who.Task t) w.tasks)
 
 -- the call is sent on to an entry of a task: it is gone, begins, or is queued
 abbrev pub gone_sent : Image → Call → Step
-gone_sent p c = gone p the_finish c ▷ deliver p the_finish c.number (to_raise exception.Tasking)
+gone_sent p c = gone p the_finish c ▷ deliver p the_finish c.number (call_ended.ToRaise exception.Tasking)
 
 abbrev pub meet_sent : Image → TaskNo → Call → Option StatementNo → Step
 meet_sent p t c (Some s) =
-    meet p the_finish (who.Task t) s c (begin_abortable p c.number) (deliver p the_finish c.number (to_raise exception.Storage))
+    meet p the_finish (who.Task t) s c (begin_abortable p c.number) (deliver p the_finish c.number (call_ended.ToRaise exception.Storage))
 meet_sent p t c None = enqueue p c.number ▷ sent_not_begun p c.number
 
 abbrev pub arrive_at : Image → TaskNo → Call → Bool → Step
@@ -263,21 +280,21 @@ arrive_at p t c true = looks (λ w. meet_sent p t c (accept_for p c.entry (waiti
 
 -- a requeue from an accept names an entry of a task
 abbrev pub arrive : Image → Call → Owner → Step
-arrive p c (a_task t) = looks (λ w. arrive_at p t c (is_callable w t))
-arrive p c (an_object o) = gone_sent p c
+arrive p c (owned_by.Task t) = looks (λ w. arrive_at p t c (is_callable w t))
+arrive p c (owned_by.Object o) = gone_sent p c
 
 abbrev pub finish_accept : Image → Who → Call → Option Sending → Step
 finish_accept p name c None =
-    says the_finish (line.Finish name c.number finished.Ok) ▷ deliver p the_finish c.number finished_ok
+    says the_finish (line.Finish name c.number finished.Ok) ▷ deliver p the_finish c.number call_ended.Finished
 finish_accept p name c (Some s) =
     says the_finish (line.Finish name c.number finished.Requeue) ▷ send_on p c.number s ▷ with_call c.number (λ d. arrive p d d.owner)
 
 -- an exception is raised in the caller too; where the acceptor is aborted the caller gets Tasking_Error
 abbrev pub finish_rendezvous : Image → Who → Call → Leaving → Step
 finish_rendezvous p name c (how.Exception e) =
-    says the_finish (line.Finish name c.number (finished.Raised (exception_name p e))) ▷ deliver p the_finish c.number (to_raise e)
+    says the_finish (line.Finish name c.number (finished.Raised (exception_name p e))) ▷ deliver p the_finish c.number (call_ended.ToRaise e)
 finish_rendezvous p name c how.Abort =
-    says the_finish (line.Gone c.caller c.number) ▷ deliver p the_finish c.number (to_raise exception.Tasking)
+    says the_finish (line.Gone c.caller c.number) ▷ deliver p the_finish c.number (call_ended.ToRaise exception.Tasking)
 finish_rendezvous p name c how.End = finish_accept p name c c.sending
 finish_rendezvous p name c how.Return = finish_accept p name c c.sending
 finish_rendezvous p name c (how.Exit loop) = finish_accept p name c c.sending
@@ -301,4 +318,4 @@ end_in_accept p name m leaving =
     looks (λ w. changes (pop name) ▷ changes (end_scope m.within)
     ▷ changes (edit_call m.call (finished_call p (cells_of (scope_in_use w m.within)) leaving))
     ▷ with_call m.call (λ c. finish_rendezvous p name c leaving))
-    ▷ lose_running p name (by_rendezvous m.call) ▷ behind_accept p name leaving
+    ▷ lose_running p name (inherited_by.Rendezvous m.call) ▷ behind_accept p name leaving

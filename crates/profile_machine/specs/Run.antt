@@ -10,7 +10,14 @@ use Rattle.trace_text.specs.declared.events.Who.{Who}
 use Rattle.trace_text.specs.declared.events.Who.TheVariants as who
 use Rattle.profile_machine.specs.declared.image.Image.{Image}
 use Rattle.profile_machine.specs.declared.run_data.Item.{Item}
-use Rattle.profile_machine.specs.World.{World, Task, Frame, Runnable, Blocked, for_release, of_task, Drawn, Release}
+use Rattle.profile_machine.specs.declared.world.World.{World}
+use Rattle.profile_machine.specs.declared.world.tasks.Task.{Task}
+use Rattle.profile_machine.specs.declared.world.marks.Frame.{Frame}
+use Rattle.profile_machine.specs.declared.world.Drawn.{Drawn}
+use Rattle.profile_machine.specs.declared.world.appointments.Release.{Release}
+use Rattle.profile_machine.specs.declared.world.marks.Purpose.TheVariants as opened_for
+use Rattle.profile_machine.specs.declared.world.tasks.Waiting.TheVariants as waits_for
+use Rattle.profile_machine.specs.declared.world.tasks.State.TheVariants.{Runnable, Blocked}
 use Rattle.profile_machine.specs.Words.{same_who, same_option, is_empty}
 use Rattle.profile_machine.specs.Program.{interrupt_priority}
 use Rattle.profile_machine.specs.Steps.{own, Step, Move, says, changes, looks, nothing, settles, ◌▷◌}
@@ -29,14 +36,14 @@ environment_task p = new_task (who.Task (record { 0 = 0 })) p.main.priority Runn
 
 -- handlers run on one agent at the priority of interrupts (own)
 abbrev pub agent_at_first : Image → Task
-agent_at_first p = new_task who.Agent (interrupt_priority p) (Blocked for_release)
+agent_at_first p = new_task who.Agent (interrupt_priority p) (Blocked waits_for.Release)
 
 abbrev pub nothing_drawn : Drawn
 nothing_drawn = record { tasks = 1; objects = 0; calls = 0; regions = 0; controlled = 0; releases = 0; scopes = 0; events = 0 }
 
 -- the world before the environment task is ready: a level's quantum is 1,000 ticks until it is set (own)
 abbrev pub blank_world : Image → List (ℤ × Item) → World
-blank_world p script = record { now = 0; ran = None; script = script; ports = replicate 16 (pos 0); masked = replicate 16 false; kept_interrupts = replicate 16 false; tasks = environment_task p ∷ []; agent = agent_at_first p; places = []; quanta = replicate (interrupt_priority p + 1) 1000; ended = None; scopes = []; objects = []; calls = []; appointments = []; timers = []; timers_set = []; timers_due = []; budgets = []; budget_due = None; registered = []; releases = []; serving = None; drawn = nothing_drawn }
+blank_world p script = record { time = 0; ran = None; script = script; ports = replicate 16 (pos 0); masked = replicate 16 false; kept_interrupts = replicate 16 false; tasks = environment_task p ∷ []; agent = agent_at_first p; places = []; quanta = replicate (interrupt_priority p + 1) 1000; ended = None; scopes = []; objects = []; calls = []; appointments = []; timers = []; timers_set = []; timers_due = []; budgets = []; budget_due = None; registered = []; releases = []; serving = None; drawn = nothing_drawn }
 
 abbrev pub environment : Who
 environment = who.Task (record { 0 = 0 })
@@ -44,7 +51,7 @@ environment = who.Task (record { 0 = 0 })
 -- the environment task is created and ready, and the program's elaboration is its rest (10.2)
 abbrev pub opens : Image → Step
 opens p =
-    changes (open_scope p environment p.environment (plainly None) of_task)
+    changes (open_scope p environment p.environment (plainly None) opened_for.Task)
     ▷ says own (line.New (created.Task (record { 0 = 0 })) p.main.name p.main.priority)
     ▷ to_tail p own environment
     ▷ open_sequence p own environment
@@ -66,7 +73,7 @@ stop_by_stuck w = cond (is_empty w.places && is_empty w.appointments && is_empty
 
 -- now is the bound
 abbrev pub stop_by_bound : ℕ → World → Option Ended
-stop_by_bound bound w = cond (eqb w.now bound) (Some why.Bound) None
+stop_by_bound bound w = cond (eqb w.time bound) (Some why.Bound) None
 
 abbrev pub or_else : Option Ended → Option Ended → Option Ended
 or_else (Some stop) later = Some stop
@@ -123,7 +130,7 @@ abbrev pub spend_tick : Who → World → World
 spend_tick name = edit_task name (λ t. with_ticks (one_tick_less t.ticks_left) t)
 
 abbrev pub next_tick : Option Who → World → World
-next_tick ran w = record w { now = suc w.now; ran = ran }
+next_tick ran w = record w { time = suc w.time; ran = ran }
 
 -- one tick of who is chosen
 abbrev pub tick_of : Image → Who → Move
@@ -164,13 +171,13 @@ then_runs now lines rest = record { lines = at_tick now lines ++ rest.lines; sto
 
 -- what is left of a run, from an instant on: the fuel is one more than the ticks that are left
 abbrev pub run_from : ℕ → Image → ℕ → World → Ran
-run_from zero p bound w = stopped w.now [] why.Bound
+run_from zero p bound w = stopped w.time [] why.Bound
 run_from (suc fuel) p bound w =
     let i = instant p w in
     let t = tock p i.0 in
     elim (stop p bound i.0) [
-      | Some reason ↦ stopped w.now i.1 reason
-      | None ↦ then_runs w.now (i.1 ++ t.1) (run_from fuel p bound t.0)
+      | Some reason ↦ stopped w.time i.1 reason
+      | None ↦ then_runs w.time (i.1 ++ t.1) (run_from fuel p bound t.0)
     ]
 
 abbrev pub run : Image → List (ℤ × Item) → ℕ → Ran

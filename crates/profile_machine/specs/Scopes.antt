@@ -7,7 +7,17 @@ use Rattle.profile_machine.specs.declared.image.Image.{Image}
 use Rattle.profile_machine.specs.declared.numbers.ScopeNo.{ScopeNo}
 use Rattle.profile_machine.specs.declared.values.Value.{Value}
 use Rattle.profile_machine.specs.declared.values.Value.TheVariants.{Whole}
-use Rattle.profile_machine.specs.World.{World, Frame, Mark, Scope, Handled, InProtected, InAccept, Abortable, InInitialize, InFinalize, InAssign, Purpose, ScopeId, scope_id, ScopeInUse, Object, Located, Drawn}
+use Rattle.profile_machine.specs.declared.world.World.{World}
+use Rattle.profile_machine.specs.declared.world.marks.Frame.{Frame}
+use Rattle.profile_machine.specs.declared.world.marks.Mark.{Mark}
+use Rattle.profile_machine.specs.declared.world.marks.Purpose.{Purpose}
+use Rattle.profile_machine.specs.declared.world.scopes.ScopeId.{ScopeId}
+use Rattle.profile_machine.specs.Words.{scope_id}
+use Rattle.profile_machine.specs.declared.world.scopes.ScopeInUse.{ScopeInUse}
+use Rattle.profile_machine.specs.declared.world.objects.Object.{Object}
+use Rattle.profile_machine.specs.declared.world.scopes.Located.{Located}
+use Rattle.profile_machine.specs.declared.world.Drawn.{Drawn}
+use Rattle.profile_machine.specs.declared.world.marks.Mark.TheVariants.{Scope, Handled, InProtected, InAccept, Abortable, InInitialize, InFinalize, InAssign}
 use Rattle.profile_machine.specs.Words.{same_id, same_scope, without, edit_where, some_where}
 use Rattle.profile_machine.specs.Program.{scope_of, initial_cells}
 use Rattle.profile_machine.specs.Frames.{push, new_frame, frames_of}
@@ -125,7 +135,7 @@ open_scope p name scope b purpose w =
 -- library objects are there to the end of the run: at the instant at which the environment task ends an interrupt, as
 -- a timing event, still releases its handler (own)
 abbrev pub is_library : ScopeId → Bool
-is_library (scope_id n) = eqb n 0
+is_library id = eqb id.0 0
 
 abbrev pub goes_with : ScopeId → Object → Bool
 goes_with id o = same_id id o.located.within && not (is_library id)

@@ -8,7 +8,16 @@ use Rattle.profile_machine.specs.declared.image.Image.{Image}
 use Rattle.profile_machine.specs.declared.numbers.StatementNo.{StatementNo}
 use Rattle.profile_machine.specs.declared.statements.StatementForm.{StatementForm}
 use Rattle.profile_machine.specs.declared.statements.StatementForm.TheVariants as form
-use Rattle.profile_machine.specs.World.{World, Mark, Abortable, Call, CallKind, plain, conditional, timed, triggering, cancelled, Sending, a_timeout, for_call}
+use Rattle.profile_machine.specs.declared.world.World.{World}
+use Rattle.profile_machine.specs.declared.world.marks.Mark.{Mark}
+use Rattle.profile_machine.specs.declared.world.calls.Call.{Call}
+use Rattle.profile_machine.specs.declared.world.calls.CallKind.{CallKind}
+use Rattle.profile_machine.specs.declared.world.calls.Sending.{Sending}
+use Rattle.profile_machine.specs.declared.world.calls.CallKind.TheVariants as call_kind
+use Rattle.profile_machine.specs.declared.world.appointments.Due.TheVariants as due_for
+use Rattle.profile_machine.specs.declared.world.calls.Outcome.TheVariants as call_ended
+use Rattle.profile_machine.specs.declared.world.tasks.Waiting.TheVariants as waits_for
+use Rattle.profile_machine.specs.declared.world.marks.Mark.TheVariants.{Abortable}
 use Rattle.profile_machine.specs.Program.{form_of}
 use Rattle.profile_machine.specs.Steps.{Step, Part, the_finish, the_block, says, changes, looks, when, nothing, ◌▷◌}
 use Rattle.profile_machine.specs.Tasks.{waiting_of}
@@ -38,24 +47,24 @@ is_not_future now (Some moment) = int_le moment (pos now)
 
 -- a conditional call, and a timed one whose moment has come, is cancelled
 abbrev pub cancel_at_once : Image → Part → Call → Step
-cancel_at_once p part c = attempt_with p part c (resume p part c cancelled) nothing
+cancel_at_once p part c = attempt_with p part c (resume p part c call_ended.Cancelled) nothing
 
 abbrev pub appoint_timeout : CallNo → Option ℤ → World → World
 appoint_timeout c None = λ w. w
-appoint_timeout c (Some moment) = appoint (a_timeout c) moment
+appoint_timeout c (Some moment) = appoint (due_for.Timeout c) moment
 
 abbrev pub wait_for_call : Image → Call → Step
-wait_for_call p c = block the_block (who.Task c.caller) (for_call c.number)
+wait_for_call p c = block the_block (who.Task c.caller) (waits_for.Call c.number)
 
 abbrev pub wait_or_cancel : Image → Part → Call → Bool → Step
 wait_or_cancel p part c true = cancel_at_once p part c
 wait_or_cancel p part c false = changes (appoint_timeout c.number c.moment) ▷ wait_for_call p c
 
 abbrev pub not_accepted : Image → Part → Call → CallKind → Step
-not_accepted p part c plain = wait_for_call p c
-not_accepted p part c conditional = cancel_at_once p part c
-not_accepted p part c timed = looks (λ w. wait_or_cancel p part c (is_not_future w.now c.moment))
-not_accepted p part c triggering = changes (open_abortable p (who.Task c.caller) c.statement (Some c.number))
+not_accepted p part c call_kind.Plain = wait_for_call p c
+not_accepted p part c call_kind.Conditional = cancel_at_once p part c
+not_accepted p part c call_kind.Timed = looks (λ w. wait_or_cancel p part c (is_not_future w.time c.moment))
+not_accepted p part c call_kind.Triggering = changes (open_abortable p (who.Task c.caller) c.statement (Some c.number))
 
 -- ---- a call is sent on (9.5.4)
 
@@ -69,24 +78,24 @@ send_on p c s = changes (edit_call c (sent_call s)) ▷ with_call c (says_call p
 -- sent on with abort and not begun at once: a conditional call, one whose cancellation was attempted, and a timed one
 -- whose moment has come
 abbrev pub is_conditional : CallKind → Bool
-is_conditional plain = false
-is_conditional conditional = true
-is_conditional timed = false
-is_conditional triggering = false
+is_conditional call_kind.Plain = false
+is_conditional call_kind.Conditional = true
+is_conditional call_kind.Timed = false
+is_conditional call_kind.Triggering = false
 
 abbrev pub is_to_be_cancelled : ℕ → Call → Bool
 is_to_be_cancelled now c = not c.firm && (is_conditional c.kind || c.attempted || is_not_future now c.moment)
 
 abbrev pub cancel_sent : Image → Call → Step
 cancel_sent p c =
-    changes (unqueued p c) ▷ says the_finish (line.Cancel c.caller c.number) ▷ deliver p the_finish c.number cancelled
+    changes (unqueued p c) ▷ says the_finish (line.Cancel c.caller c.number) ▷ deliver p the_finish c.number call_ended.Cancelled
 
 -- a triggering call whose abortable part has not begun, and whose cancellation was not attempted
 abbrev pub is_triggering : CallKind → Bool
-is_triggering plain = false
-is_triggering conditional = false
-is_triggering timed = false
-is_triggering triggering = true
+is_triggering call_kind.Plain = false
+is_triggering call_kind.Conditional = false
+is_triggering call_kind.Timed = false
+is_triggering call_kind.Triggering = true
 
 abbrev pub may_begin_abortable : World → Call → Bool
 may_begin_abortable w c =
@@ -108,4 +117,4 @@ sent_not_begun_by p c true = cancel_sent p c
 sent_not_begun_by p c false = changes (timeout_again c) ▷ begin_abortable p c.number
 
 abbrev pub sent_not_begun : Image → CallNo → Step
-sent_not_begun p c = with_call c (λ d. looks (λ w. sent_not_begun_by p d (is_to_be_cancelled w.now d)))
+sent_not_begun p c = with_call c (λ d. looks (λ w. sent_not_begun_by p d (is_to_be_cancelled w.time d)))

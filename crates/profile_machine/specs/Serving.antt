@@ -14,7 +14,15 @@ use Rattle.profile_machine.specs.declared.image.Image.{Image}
 use Rattle.profile_machine.specs.declared.run_data.Leaving.{Leaving}
 use Rattle.profile_machine.specs.declared.run_data.Leaving.TheVariants as how
 use Rattle.profile_machine.specs.declared.values.Value.{Value}
-use Rattle.profile_machine.specs.World.{World, Frame, ProtectedMark, Call, Outcome, finished_ok, to_raise, was_raised, Sending, for_release, by_ceiling}
+use Rattle.profile_machine.specs.declared.world.World.{World}
+use Rattle.profile_machine.specs.declared.world.marks.Frame.{Frame}
+use Rattle.profile_machine.specs.declared.world.marks.ProtectedMark.{ProtectedMark}
+use Rattle.profile_machine.specs.declared.world.calls.Call.{Call}
+use Rattle.profile_machine.specs.declared.world.calls.Outcome.{Outcome}
+use Rattle.profile_machine.specs.declared.world.calls.Sending.{Sending}
+use Rattle.profile_machine.specs.declared.world.tasks.Cause.TheVariants as inherited_by
+use Rattle.profile_machine.specs.declared.world.calls.Outcome.TheVariants as call_ended
+use Rattle.profile_machine.specs.declared.world.tasks.Waiting.TheVariants as waits_for
 use Rattle.profile_machine.specs.Words.{same_call, same_who, is_the, without, is_empty}
 use Rattle.profile_machine.specs.Steps.{Step, Part, own, the_finish, the_block, says, changes, looks, when, nothing, ◌▷◌}
 use Rattle.profile_machine.specs.Dispatching.{block}
@@ -38,7 +46,7 @@ serves_nothing w = record w { serving = None }
 abbrev pub end_release : Image → ℕ → Step
 end_release p n =
     says own (line.Served n) ▷ changes serves_nothing
-    ▷ looks (λ w. when (is_empty w.releases) (block the_block who.Agent for_release))
+    ▷ looks (λ w. when (is_empty w.releases) (block the_block who.Agent waits_for.Release))
 
 -- ---- the release of an object
 
@@ -71,7 +79,7 @@ behind_action p name m None (Some c) = with_call c (λ d. resume_own p name d d.
 abbrev pub release_object : Image → Who → ProtectedMark → Step
 release_object p name m =
     says own (line.Exit name m.object) ▷ changes (pop name) ▷ changes (close_action name m.object)
-    ▷ lose_running p name (by_ceiling m.object) ▷ set_deferred p name ▷ behind_action p name m m.release m.own_call
+    ▷ lose_running p name (inherited_by.Ceiling m.object) ▷ set_deferred p name ▷ behind_action p name m m.release m.own_call
 
 -- ---- the next call is served, or the object is released (9.5.3)
 
@@ -101,7 +109,7 @@ abbrev pub serve_chosen : Image → Who → ProtectedMark → Bool → Step → 
 serve_chosen p name m is_sent again None = release_object p name m
 serve_chosen p name m is_sent again (Some c) =
     with_call c (λ d. serve_call p (part_of_start is_sent) name m.object d (begins_part p is_sent c)
-    (deliver p (part_of_start is_sent) c (to_raise exception.Storage) ▷ again))
+    (deliver p (part_of_start is_sent) c (call_ended.ToRaise exception.Storage) ▷ again))
 
 -- the choice is made with the call that was sent on in its queue; each turn without room ends a call
 abbrev pub serve_next : ℕ → Image → Who → ProtectedMark → Option CallNo → Step
@@ -138,8 +146,8 @@ abbrev pub is_own_call : Who → Option CallNo → Call → Bool
 is_own_call name own_call c = is_the same_call own_call c.number && same_who name (who.Task c.caller)
 
 abbrev pub outcome_by : Bool → Raised → Outcome
-outcome_by true e = was_raised e
-outcome_by false e = to_raise e
+outcome_by true e = call_ended.WasRaised e
+outcome_by false e = call_ended.ToRaise e
 
 abbrev pub finish_raised : Image → Who → ProtectedMark → Call → Raised → Step
 finish_raised p name m c e =
@@ -148,7 +156,7 @@ finish_raised p name m c e =
 
 abbrev pub finish_well : Image → Who → ProtectedMark → Call → Option Sending → Step
 finish_well p name m c None =
-    says the_finish (line.Finish name c.number finished.Ok) ▷ deliver p the_finish c.number finished_ok ▷ serve_calls p name m None
+    says the_finish (line.Finish name c.number finished.Ok) ▷ deliver p the_finish c.number call_ended.Finished ▷ serve_calls p name m None
 finish_well p name m c (Some s) =
     says the_finish (line.Finish name c.number finished.Requeue) ▷ send_on p c.number s ▷ enqueue p c.number ▷ serve_calls p name m (Some c.number)
 

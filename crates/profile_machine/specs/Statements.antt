@@ -19,7 +19,15 @@ use Rattle.profile_machine.specs.declared.statements.Piece.{Piece}
 use Rattle.profile_machine.specs.declared.statements.Piece.TheVariants as piece
 use Rattle.profile_machine.specs.declared.values.Value.{Value}
 use Rattle.profile_machine.specs.declared.values.Value.TheVariants.{Whole, Truth, Literal, Ticks, Task, Thing}
-use Rattle.profile_machine.specs.World.{World, Variable, Frame, Mark, Scope, Handled, InProtected, InAccept, Abortable, InInitialize, InFinalize, InAssign, ScopeId, a_delay, for_moment, of_block}
+use Rattle.profile_machine.specs.declared.world.World.{World}
+use Rattle.profile_machine.specs.declared.world.scopes.Variable.{Variable}
+use Rattle.profile_machine.specs.declared.world.marks.Frame.{Frame}
+use Rattle.profile_machine.specs.declared.world.marks.Mark.{Mark}
+use Rattle.profile_machine.specs.declared.world.scopes.ScopeId.{ScopeId}
+use Rattle.profile_machine.specs.declared.world.appointments.Due.TheVariants as due_for
+use Rattle.profile_machine.specs.declared.world.marks.Purpose.TheVariants as opened_for
+use Rattle.profile_machine.specs.declared.world.tasks.Waiting.TheVariants as waits_for
+use Rattle.profile_machine.specs.declared.world.marks.Mark.TheVariants.{Scope, Handled, InProtected, InAccept, Abortable, InInitialize, InFinalize, InAssign}
 use Rattle.profile_machine.specs.Words.{same_id}
 use Rattle.profile_machine.specs.Program.{declaration_of, next_of, scope_of, marks_of, literals_of}
 use Rattle.profile_machine.specs.Steps.{Step, Part, own, the_placing, the_block, says, changes, looks, nothing, ◌▷◌}
@@ -183,7 +191,7 @@ exit_statement p name s loop (Some e) = sees p name (λ q. given p own name (con
 abbrev pub block_statement : Image → Who → StatementNo → ScopeNo → Step
 block_statement p name s scope =
     with_room p name (marks_of p scope) (scope_of p scope).size
-    (goes name (next_of p s) ▷ looks (λ w. changes (open_scope p name scope (plainly (innermost w name)) (of_block s))))
+    (goes name (next_of p s) ▷ looks (λ w. changes (open_scope p name scope (plainly (innermost w name)) (opened_for.Block s))))
 
 -- ---- raise (11.3)
 
@@ -213,12 +221,12 @@ raise_again p name scope = sees p name (λ q. given p own name (exception_handle
 
 -- a task that waits for a moment blocks; where the moment is not in the future it goes to the tail (D.2.1)
 abbrev pub wait_until : Image → Who → ℤ → Bool → Step
-wait_until p (who.Task t) until true = changes (appoint (a_delay t) until) ▷ block the_block (who.Task t) for_moment
+wait_until p (who.Task t) until true = changes (appoint (due_for.Delay t) until) ▷ block the_block (who.Task t) waits_for.Moment
 wait_until p (who.Task t) until false = to_tail p the_placing (who.Task t)
 wait_until p who.Agent until future = nothing
 
 abbrev pub delay_to : Image → Who → ℤ → Step
-delay_to p name until = looks (λ w. wait_until p name until (int_lt (pos w.now) until))
+delay_to p name until = looks (λ w. wait_until p name until (int_lt (pos w.time) until))
 
 abbrev pub delay_until : Image → Who → StatementNo → Valued ℤ → Step
 delay_until p name s until =
@@ -226,7 +234,7 @@ delay_until p name s until =
 
 -- a relative delay's moment
 abbrev pub from_now : World → ℤ → ℤ
-from_now w span = held_moment (pos w.now +ℤ span)
+from_now w span = held_moment (pos w.time +ℤ span)
 
 abbrev pub relative_moment : Seen → ExprNo → Valued ℤ
 relative_moment q e = moment q e >>= λ span. Ok (from_now q.world span)

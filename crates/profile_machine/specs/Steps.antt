@@ -7,7 +7,8 @@ use Rattle.trace_text.specs.declared.events.Who.{Who}
 use Rattle.trace_text.specs.declared.events.Who.TheVariants.{Task, Agent}
 use Rattle.trace_text.specs.declared.events.QueueEnd.{QueueEnd}
 use Rattle.trace_text.specs.declared.events.QueueEnd.TheVariants.{Head, Tail}
-use Rattle.profile_machine.specs.World.{World, Placed}
+use Rattle.profile_machine.specs.declared.world.World.{World}
+use Rattle.profile_machine.specs.declared.world.tasks.Placed.{Placed}
 use Rattle.profile_machine.specs.Words.{same_who, without}
 
 -- ---- lines of an effect

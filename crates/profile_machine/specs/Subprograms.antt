@@ -17,7 +17,18 @@ use Rattle.profile_machine.specs.declared.statements.Destination.{Destination}
 use Rattle.profile_machine.specs.declared.statements.Destination.TheVariants as destination
 use Rattle.profile_machine.specs.declared.values.Value.{Value}
 use Rattle.profile_machine.specs.declared.values.Value.TheVariants.{Whole}
-use Rattle.profile_machine.specs.World.{World, Variable, Located, ResultTo, to_nowhere, to_variable, to_return, CopyBack, Purpose, of_subprogram, Frame, Mark, Scope, Handled, InProtected, InAccept, Abortable, InInitialize, InFinalize, InAssign, of_block, of_entry_body, of_task, Call}
+use Rattle.profile_machine.specs.declared.world.World.{World}
+use Rattle.profile_machine.specs.declared.world.scopes.Variable.{Variable}
+use Rattle.profile_machine.specs.declared.world.scopes.Located.{Located}
+use Rattle.profile_machine.specs.declared.world.marks.ResultTo.{ResultTo}
+use Rattle.profile_machine.specs.declared.world.marks.CopyBack.{CopyBack}
+use Rattle.profile_machine.specs.declared.world.marks.Purpose.{Purpose}
+use Rattle.profile_machine.specs.declared.world.marks.Frame.{Frame}
+use Rattle.profile_machine.specs.declared.world.marks.Mark.{Mark}
+use Rattle.profile_machine.specs.declared.world.calls.Call.{Call}
+use Rattle.profile_machine.specs.declared.world.marks.Purpose.TheVariants as opened_for
+use Rattle.profile_machine.specs.declared.world.marks.ResultTo.TheVariants as bound_for
+use Rattle.profile_machine.specs.declared.world.marks.Mark.TheVariants.{Scope, Handled, InProtected, InAccept, Abortable, InInitialize, InFinalize, InAssign}
 use Rattle.profile_machine.specs.Program.{next_of, scope_of, marks_of, subprogram_of}
 use Rattle.profile_machine.specs.Steps.{Step, own, changes, looks, nothing, ◌▷◌}
 use Rattle.profile_machine.specs.Frames.{frames_of, goes, leaves, given, raise_if, with_room}
@@ -63,10 +74,10 @@ handed q place (f ∷ fs) (a ∷ as') = hand_over q place f a (handed q (suc pla
 -- ---- where the result goes: the variable is found before the parameters are evaluated
 
 abbrev pub result_to : Seen → Destination → Valued ResultTo
-result_to q destination.Nowhere = Ok to_nowhere
-result_to q (destination.Variable name) = variable q name >>= λ v. Ok (to_variable v)
-result_to q (destination.Declaration d) = object_cell q (Declared d) >>= λ v. Ok (to_variable v)
-result_to q (destination.Return f) = Ok (to_return f)
+result_to q destination.Nowhere = Ok bound_for.Nowhere
+result_to q (destination.Variable name) = variable q name >>= λ v. Ok (bound_for.Variable v)
+result_to q (destination.Declaration d) = object_cell q (Declared d) >>= λ v. Ok (bound_for.Variable v)
+result_to q (destination.Return f) = Ok (bound_for.Return f)
 
 -- ---- the call of a subprogram that is no protected operation
 
@@ -75,7 +86,7 @@ beginning_of q s h = record { outer = option_and_then (λ outer. home q.world ou
 
 abbrev pub begin_body : Image → Who → StatementNo → SubprogramNo → Beginning → Handed → ResultTo → Step
 begin_body p name s f b h to =
-    goes name (next_of p s) ▷ changes (open_scope p name (subprogram_of p f).scope b (of_subprogram h.back to))
+    goes name (next_of p s) ▷ changes (open_scope p name (subprogram_of p f).scope b (opened_for.Subprogram h.back to))
 
 -- a step with what a call hands over, and where its result goes
 abbrev pub handing : Image → Who → SubprogramNo → List Actual → Destination → (Handed → ResultTo → Step) → Step
@@ -114,10 +125,10 @@ pub data Ended : Type 0 where
   serves_call : CallNo → Ended
 
 abbrev pub ended_by_purpose : Purpose → Ended
-ended_by_purpose (of_block s) = goes_further
-ended_by_purpose (of_subprogram back to) = serves_none
-ended_by_purpose (of_entry_body c) = serves_call c
-ended_by_purpose of_task = serves_none
+ended_by_purpose (opened_for.Block s) = goes_further
+ended_by_purpose (opened_for.Subprogram back to) = serves_none
+ended_by_purpose (opened_for.EntryBody c) = serves_call c
+ended_by_purpose opened_for.Task = serves_none
 
 abbrev pub ended_by_mark : Mark → Ended
 ended_by_mark (Scope m) = ended_by_purpose m.purpose
@@ -162,18 +173,18 @@ last_cell cells = cell_in cells (length cells - 1)
 -- a function that falls through raises Program_Error
 abbrev pub falls_through : Leaving → ResultTo → Bool
 falls_through how.Return to = false
-falls_through how.End to_nowhere = false
-falls_through how.End (to_variable v) = true
-falls_through how.End (to_return f) = true
+falls_through how.End bound_for.Nowhere = false
+falls_through how.End (bound_for.Variable v) = true
+falls_through how.End (bound_for.Return f) = true
 falls_through (how.Exit loop) to = false
 falls_through (how.Exception e) to = false
 falls_through how.Abort to = false
 falls_through how.Terminate to = false
 
 abbrev pub store_result : Image → Who → List Value → ResultTo → Step
-store_result p name cells to_nowhere = nothing
-store_result p name cells (to_variable v) = looks (λ w. becomes p own name (store p v (last_cell cells) w))
-store_result p name cells (to_return f) = return_result p name f (last_cell cells)
+store_result p name cells bound_for.Nowhere = nothing
+store_result p name cells (bound_for.Variable v) = looks (λ w. becomes p own name (store p v (last_cell cells) w))
+store_result p name cells (bound_for.Return f) = return_result p name f (last_cell cells)
 
 -- `cells` are those of the scope that has ended
 abbrev pub end_subprogram : Image → Who → List Value → List CopyBack → ResultTo → Leaving → Step

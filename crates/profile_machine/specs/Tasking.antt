@@ -23,8 +23,24 @@ use Rattle.profile_machine.specs.declared.run_data.Leaving.{Leaving}
 use Rattle.profile_machine.specs.declared.run_data.Leaving.TheVariants as how
 use Rattle.profile_machine.specs.declared.values.Value.{Value}
 use Rattle.profile_machine.specs.declared.values.Value.TheVariants as value_of
-use Rattle.profile_machine.specs.World.{World, State, Made, Runnable, Blocked, Frame, Mark, Scope, ScopeMark, ScopeId, Purpose, of_block, of_subprogram, of_entry_body, of_task, to_nowhere, Located, Drawn, Inherited, by_activation, for_activation, for_dependents, Waiting}
-use Rattle.profile_machine.specs.World as world
+use Rattle.profile_machine.specs.declared.world.World.{World}
+use Rattle.profile_machine.specs.declared.world.tasks.State.{State}
+use Rattle.profile_machine.specs.declared.world.marks.Frame.{Frame}
+use Rattle.profile_machine.specs.declared.world.marks.Mark.{Mark}
+use Rattle.profile_machine.specs.declared.world.marks.ScopeMark.{ScopeMark}
+use Rattle.profile_machine.specs.declared.world.scopes.ScopeId.{ScopeId}
+use Rattle.profile_machine.specs.declared.world.marks.Purpose.{Purpose}
+use Rattle.profile_machine.specs.declared.world.scopes.Located.{Located}
+use Rattle.profile_machine.specs.declared.world.Drawn.{Drawn}
+use Rattle.profile_machine.specs.declared.world.tasks.Inherited.{Inherited}
+use Rattle.profile_machine.specs.declared.world.tasks.Waiting.{Waiting}
+use Rattle.profile_machine.specs.declared.world.tasks.Cause.TheVariants as inherited_by
+use Rattle.profile_machine.specs.declared.world.marks.Purpose.TheVariants as opened_for
+use Rattle.profile_machine.specs.declared.world.marks.ResultTo.TheVariants as bound_for
+use Rattle.profile_machine.specs.declared.world.tasks.Waiting.TheVariants as waits_for
+use Rattle.profile_machine.specs.declared.world.marks.Mark.TheVariants.{Scope}
+use Rattle.profile_machine.specs.declared.world.tasks.State.TheVariants.{Made, Runnable, Blocked}
+use Rattle.profile_machine.specs.declared.world.tasks.Task as world
 use Rattle.profile_machine.specs.Words.{same_who, same_region, is_the, option_or_else}
 use Rattle.profile_machine.specs.Program.{declaration_of, next_of, scope_of, task_unit_of}
 use Rattle.profile_machine.specs.Steps.{Step, Part, own, of_other, the_placing, the_block, says, changes, looks, when, nothing, for_some, for_each, ◌▷◌}
@@ -119,8 +135,8 @@ activated_task activator now t = record t { activator = Some activator; deadline
 
 abbrev pub begin_task : Image → Who → ℕ → world.Task → Step
 begin_task p activator level t =
-    looks (λ w. changes (open_scope p t.who (unit_of_task p t).scope (plainly t.outer) of_task)
-    ▷ changes (edit_task t.who (activated_task activator w.now)) ▷ changes (inherit t.who by_activation level) ▷ ready p (of_other t.who) t.who)
+    looks (λ w. changes (open_scope p t.who (unit_of_task p t).scope (plainly t.outer) opened_for.Task)
+    ▷ changes (edit_task t.who (activated_task activator w.time)) ▷ changes (inherit t.who inherited_by.Activation level) ▷ ready p (of_other t.who) t.who)
 
 -- a task without room prints `raise` and `done`, and counts as failed
 abbrev pub says_done : Part → Who → Step
@@ -142,7 +158,7 @@ activate_one p activator level t =
 
 -- the activator blocks where some task begins; else Tasking_Error is raised in it at once, if one failed
 abbrev pub await_group : Image → Who → Bool → Bool → Step
-await_group p name true failed = block the_block name for_activation
+await_group p name true failed = block the_block name waits_for.Activation
 await_group p name false true = raises p the_block name exception.Tasking
 await_group p name false false = nothing
 
@@ -184,10 +200,10 @@ abbrev pub left_so_frame : Leaving → Frame → Frame
 left_so_frame leaving f = record f { left_as = Some leaving }
 
 abbrev pub is_task_scope : Purpose → Bool
-is_task_scope (of_block s) = false
-is_task_scope (of_subprogram back to) = false
-is_task_scope (of_entry_body c) = false
-is_task_scope of_task = true
+is_task_scope (opened_for.Block s) = false
+is_task_scope (opened_for.Subprogram back to) = false
+is_task_scope (opened_for.EntryBody c) = false
+is_task_scope opened_for.Task = true
 
 -- a task whose outermost scope is kept is completed here
 abbrev pub complete_if_task : Image → Who → Purpose → Step
@@ -195,7 +211,7 @@ complete_if_task p name purpose =
     looks (λ w. when (is_task_scope purpose) (complete p name name ▷ fall_from p name w))
 
 abbrev pub wait_for_dependents : Who → RegionNo → Step
-wait_for_dependents name r = looks (λ w. when (has_dependents w r) (block the_block name (for_dependents r)))
+wait_for_dependents name r = looks (λ w. when (has_dependents w r) (block the_block name (waits_for.Dependents r)))
 
 abbrev pub leave_region : Image → Who → ScopeMark → Leaving → RegionNo → Step
 leave_region p name m leaving r =
@@ -243,10 +259,10 @@ abbrev pub end_body : Image → Who → Leaving → Step → Step
 end_body p name leaving normally = elim (is_normal leaving) [ true ↦ normally | false ↦ pass_on p name leaving ]
 
 abbrev pub behind_scope : Image → Who → Purpose → List Value → Leaving → Step
-behind_scope p name (of_block s) cells leaving = pass_on p name leaving
-behind_scope p name (of_subprogram back to) cells leaving = end_body p name leaving (end_subprogram p name cells back to leaving)
-behind_scope p name (of_entry_body c) cells leaving = end_body p name leaving (end_body_of_entry p c cells leaving)
-behind_scope p name of_task cells leaving = end_task p name leaving
+behind_scope p name (opened_for.Block s) cells leaving = pass_on p name leaving
+behind_scope p name (opened_for.Subprogram back to) cells leaving = end_body p name leaving (end_subprogram p name cells back to leaving)
+behind_scope p name (opened_for.EntryBody c) cells leaving = end_body p name leaving (end_body_of_entry p c cells leaving)
+behind_scope p name opened_for.Task cells leaving = end_task p name leaving
 
 -- Program_Error where a Finalize raised, unless the scope was left by abort or a terminate alternative (7.6.1)
 abbrev pub is_dropped : Leaving → Bool

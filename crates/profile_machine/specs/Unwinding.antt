@@ -5,7 +5,14 @@ use Rattle.trace_text.specs.declared.events.Who.{Who}
 use Rattle.profile_machine.specs.declared.image.Image.{Image}
 use Rattle.profile_machine.specs.declared.run_data.Leaving.{Leaving}
 use Rattle.profile_machine.specs.declared.run_data.Leaving.TheVariants as how
-use Rattle.profile_machine.specs.World.{World, Frame, Mark, Scope, Handled, InProtected, InAccept, Abortable, InInitialize, InFinalize, InAssign, State, Made, Runnable, Blocked, Waiting, for_activation, for_moment, for_call, for_end_of_call, for_accept, for_select, for_dependents, for_release}
+use Rattle.profile_machine.specs.declared.world.World.{World}
+use Rattle.profile_machine.specs.declared.world.marks.Frame.{Frame}
+use Rattle.profile_machine.specs.declared.world.marks.Mark.{Mark}
+use Rattle.profile_machine.specs.declared.world.tasks.State.{State}
+use Rattle.profile_machine.specs.declared.world.tasks.Waiting.{Waiting}
+use Rattle.profile_machine.specs.declared.world.tasks.Waiting.TheVariants as waits_for
+use Rattle.profile_machine.specs.declared.world.marks.Mark.TheVariants.{Scope, Handled, InProtected, InAccept, Abortable, InInitialize, InFinalize, InAssign}
+use Rattle.profile_machine.specs.declared.world.tasks.State.TheVariants.{Made, Runnable, Blocked}
 use Rattle.profile_machine.specs.Steps.{Step, Part, changes, looks, when, nothing, ◌▷◌}
 use Rattle.profile_machine.specs.Tasks.{task_of, edit_task, with_ticks, with_frames}
 use Rattle.profile_machine.specs.Dispatching.{ready}
@@ -77,14 +84,14 @@ wake_and_leave p part name = stop_waiting p part name ▷ leave_by_abort name
 
 -- who waits for a call tries to cancel it, and waits on where that fails
 abbrev pub unwind_blocked : Image → Part → Who → Waiting → Step
-unwind_blocked p part name (for_call c) = attempt p part c (changes (forget_call c) ▷ wake_and_leave p part name) nothing
-unwind_blocked p part name (for_end_of_call c) = nothing
-unwind_blocked p part name for_activation = wake_and_leave p part name
-unwind_blocked p part name for_moment = wake_and_leave p part name
-unwind_blocked p part name (for_accept s) = wake_and_leave p part name
-unwind_blocked p part name (for_select accepts delay terminate) = wake_and_leave p part name
-unwind_blocked p part name (for_dependents r) = wake_and_leave p part name
-unwind_blocked p part name for_release = nothing
+unwind_blocked p part name (waits_for.Call c) = attempt p part c (changes (forget_call c) ▷ wake_and_leave p part name) nothing
+unwind_blocked p part name (waits_for.EndOfCall c) = nothing
+unwind_blocked p part name waits_for.Activation = wake_and_leave p part name
+unwind_blocked p part name waits_for.Moment = wake_and_leave p part name
+unwind_blocked p part name (waits_for.Accept s) = wake_and_leave p part name
+unwind_blocked p part name (waits_for.Select accepts delay terminate) = wake_and_leave p part name
+unwind_blocked p part name (waits_for.Dependents r) = wake_and_leave p part name
+unwind_blocked p part name waits_for.Release = nothing
 
 abbrev pub unwind_in : Image → Part → Who → State → Step
 unwind_in p part name Made = nothing

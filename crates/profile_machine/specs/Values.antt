@@ -23,8 +23,19 @@ use Rattle.profile_machine.specs.declared.expressions.VariableName.{VariableName
 use Rattle.profile_machine.specs.declared.expressions.BinaryOperator.{BinaryOperator}
 use Rattle.profile_machine.specs.declared.values.Value.{Value}
 use Rattle.profile_machine.specs.declared.values.Value.TheVariants.{Whole, Truth, Literal, Ticks, Task, Thing}
-use Rattle.profile_machine.specs.World.{World, ScopeId, ScopeInUse, Located, Variable, Object, Appointment, Due, an_event, a_delay, a_timeout, a_trigger, Timer, TimerSetting, Budget}
-use Rattle.profile_machine.specs.World as world
+use Rattle.profile_machine.specs.declared.world.World.{World}
+use Rattle.profile_machine.specs.declared.world.scopes.ScopeId.{ScopeId}
+use Rattle.profile_machine.specs.declared.world.scopes.ScopeInUse.{ScopeInUse}
+use Rattle.profile_machine.specs.declared.world.scopes.Located.{Located}
+use Rattle.profile_machine.specs.declared.world.scopes.Variable.{Variable}
+use Rattle.profile_machine.specs.declared.world.objects.Object.{Object}
+use Rattle.profile_machine.specs.declared.world.appointments.Appointment.{Appointment}
+use Rattle.profile_machine.specs.declared.world.appointments.Due.{Due}
+use Rattle.profile_machine.specs.declared.world.appointments.Timer.{Timer}
+use Rattle.profile_machine.specs.declared.world.appointments.TimerSetting.{TimerSetting}
+use Rattle.profile_machine.specs.declared.world.appointments.Budget.{Budget}
+use Rattle.profile_machine.specs.declared.world.appointments.Due.TheVariants as due_for
+use Rattle.profile_machine.specs.declared.world.tasks.Task as world
 use Rattle.profile_machine.specs.Words.{same_object}
 use Rattle.profile_machine.specs.Program.{declaration_of, expression_of, entry_of}
 use Rattle.profile_machine.specs.Tasks.{task_of, found_task, number_of}
@@ -185,10 +196,10 @@ of_task_by f value q task = named_task value q task >>= λ t. live_task q.world 
 -- ---- events, timers, budgets and ports
 
 abbrev pub is_event : ℕ → Due → Bool
-is_event e (an_event n handler) = eqb e n
-is_event e (a_delay t) = false
-is_event e (a_timeout c) = false
-is_event e (a_trigger t depth) = false
+is_event e (due_for.Event n handler) = eqb e n
+is_event e (due_for.Delay t) = false
+is_event e (due_for.Timeout c) = false
+is_event e (due_for.Trigger t depth) = false
 
 abbrev pub moment_of : Option Appointment → ℤ
 moment_of None = pos 0
@@ -253,7 +264,7 @@ form_value value q (of.Thing d) = thing q d
 form_value value q (of.Unary operator operand) = value operand >>= unary_value operator
 form_value value q (of.Binary operator left right) = value left >>= both_values value operator right
 form_value value q (of.Count e) = Ok (count_of_entry q (entry_of q.program e))
-form_value value q of.Clock = Ok (Ticks (pos q.world.now))
+form_value value q of.Clock = Ok (Ticks (pos q.world.time))
 form_value value q (of.Span factor count) = value count >>= span factor
 form_value value q (of.SameTicks e) = value e
 form_value value q of.CurrentTask = Ok (Task (number_of q.who))

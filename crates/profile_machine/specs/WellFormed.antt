@@ -8,7 +8,23 @@ use Rattle.trace_text.specs.declared.events.Who.TheVariants as who
 use Rattle.profile_machine.specs.declared.image.Image.{Image}
 use Rattle.profile_machine.specs.declared.numbers.StatementNo.{StatementNo}
 use Rattle.profile_machine.specs.declared.run_data.Item.{Item}
-use Rattle.profile_machine.specs.World.{World, Task, Placed, Frame, Mark, Scope, Handled, InProtected, InAccept, Abortable, InInitialize, InFinalize, InAssign, ScopeId, scope_id, ScopeInUse, Object, Action, Call, Owner, a_task, an_object, Waiting, for_activation, for_moment, for_call, for_end_of_call, for_accept, for_select, for_dependents, for_release, Due, an_event, a_delay, a_timeout, a_trigger}
+use Rattle.profile_machine.specs.declared.world.World.{World}
+use Rattle.profile_machine.specs.declared.world.tasks.Task.{Task}
+use Rattle.profile_machine.specs.declared.world.tasks.Placed.{Placed}
+use Rattle.profile_machine.specs.declared.world.marks.Frame.{Frame}
+use Rattle.profile_machine.specs.declared.world.marks.Mark.{Mark}
+use Rattle.profile_machine.specs.declared.world.scopes.ScopeId.{ScopeId}
+use Rattle.profile_machine.specs.declared.world.scopes.ScopeInUse.{ScopeInUse}
+use Rattle.profile_machine.specs.declared.world.objects.Object.{Object}
+use Rattle.profile_machine.specs.declared.world.objects.Action.{Action}
+use Rattle.profile_machine.specs.declared.world.calls.Call.{Call}
+use Rattle.profile_machine.specs.declared.world.calls.Owner.{Owner}
+use Rattle.profile_machine.specs.declared.world.tasks.Waiting.{Waiting}
+use Rattle.profile_machine.specs.declared.world.appointments.Due.{Due}
+use Rattle.profile_machine.specs.declared.world.appointments.Due.TheVariants as due_for
+use Rattle.profile_machine.specs.declared.world.calls.Owner.TheVariants as owned_by
+use Rattle.profile_machine.specs.declared.world.tasks.Waiting.TheVariants as waits_for
+use Rattle.profile_machine.specs.declared.world.marks.Mark.TheVariants.{Scope, Handled, InProtected, InAccept, Abortable, InInitialize, InFinalize, InAssign}
 use Rattle.profile_machine.specs.Words.{same_who, same_call, same_object, same_moment, same_option, has, is_empty}
 use Rattle.profile_machine.specs.Program.{form_of, scope_of, opens_handled}
 use Rattle.profile_machine.specs.Steps.{is_above}
@@ -76,7 +92,7 @@ releases_are_numbered w = all_adjacent (λ a b. eqb (suc a.number) b.number) w.r
 -- ---- scopes: those in use are the scopes of the marks, the newest first (3.1)
 
 abbrev pub is_older : ScopeId → ScopeId → Bool
-is_older (scope_id a) (scope_id b) = ltb a b
+is_older a b = ltb a.0 b.0
 
 abbrev pub has_scope : World → Who → Frame → Bool
 has_scope w name f = elim (id_in f.mark) [ None ↦ true | Some id ↦ elim (scope_in_use w id) [ None ↦ false | Some s ↦ same_who s.owner name ] ]
@@ -130,10 +146,10 @@ actions_are_right p w =
 -- ---- calls: what stands in a queue is a call on that entry which has not begun; a task that is not there has none
 
 abbrev pub same_owner : Owner → Owner → Bool
-same_owner (a_task t) (a_task u) = eqb t.0 u.0
-same_owner (a_task t) (an_object o) = false
-same_owner (an_object o) (a_task t) = false
-same_owner (an_object o) (an_object q) = same_object o q
+same_owner (owned_by.Task t) (owned_by.Task u) = eqb t.0 u.0
+same_owner (owned_by.Task t) (owned_by.Object o) = false
+same_owner (owned_by.Object o) (owned_by.Task t) = false
+same_owner (owned_by.Object o) (owned_by.Object q) = same_object o q
 
 abbrev pub is_queued_call : Image → Owner → ℕ → Option Call → Bool
 is_queued_call p o place None = false
@@ -148,13 +164,13 @@ queues_from p w o place [] = true
 queues_from p w o place (queue ∷ queues) = queue_is_right p w o place queue && queues_from p w o (suc place) queues
 
 abbrev pub task_queues_are_right : Image → World → Who → List (List CallNo) → Bool
-task_queues_are_right p w (who.Task t) queues = queues_from p w (a_task t) 0 queues
+task_queues_are_right p w (who.Task t) queues = queues_from p w (owned_by.Task t) 0 queues
 task_queues_are_right p w who.Agent queues = is_empty queues
 
 abbrev pub queues_are_right : Image → World → Bool
 queues_are_right p w =
     list_all (λ t. task_queues_are_right p w t.who t.queues) w.tasks
-    && list_all (λ o. queues_from p w (an_object o.number) 0 o.queues) w.objects
+    && list_all (λ o. queues_from p w (owned_by.Object o.number) 0 o.queues) w.objects
     && all_adjacent (λ a b. ltb b.number.0 a.number.0) w.calls
 
 -- ---- appointments: by moment, and none of them before now; whatever one is for waits for it, so none comes for nothing
@@ -162,14 +178,14 @@ queues_are_right p w =
 -- a delay's task is blocked for that delay: it waits for the moment, or at a select whose delay alternative is to be taken
 abbrev pub waits_for_delay : Option Waiting → Bool
 waits_for_delay None = false
-waits_for_delay (Some for_activation) = false
-waits_for_delay (Some for_moment) = true
-waits_for_delay (Some (for_call c)) = false
-waits_for_delay (Some (for_end_of_call c)) = false
-waits_for_delay (Some (for_accept s)) = false
-waits_for_delay (Some (for_select accepts delay terminate)) = is_some delay
-waits_for_delay (Some (for_dependents r)) = false
-waits_for_delay (Some for_release) = false
+waits_for_delay (Some waits_for.Activation) = false
+waits_for_delay (Some waits_for.Moment) = true
+waits_for_delay (Some (waits_for.Call c)) = false
+waits_for_delay (Some (waits_for.EndOfCall c)) = false
+waits_for_delay (Some (waits_for.Accept s)) = false
+waits_for_delay (Some (waits_for.Select accepts delay terminate)) = is_some delay
+waits_for_delay (Some (waits_for.Dependents r)) = false
+waits_for_delay (Some waits_for.Release) = false
 
 -- a time-out's call stands in its queue and is not firm, so it may be cancelled
 abbrev pub stands_in_queue : Image → World → Call → Bool
@@ -196,14 +212,14 @@ awaits_trigger_at depth [] = false
 awaits_trigger_at depth (f ∷ fs) = cond (eqb (length fs) depth) (awaits_trigger f.mark) (awaits_trigger_at depth fs)
 
 abbrev pub is_awaited : Image → World → Due → Bool
-is_awaited p w (an_event n h) = true
-is_awaited p w (a_delay t) = waits_for_delay (waiting_of w (who.Task t))
-is_awaited p w (a_timeout c) = may_time_out p w (call_of w c)
-is_awaited p w (a_trigger t depth) = awaits_trigger_at depth (frames_of w (who.Task t))
+is_awaited p w (due_for.Event n h) = true
+is_awaited p w (due_for.Delay t) = waits_for_delay (waiting_of w (who.Task t))
+is_awaited p w (due_for.Timeout c) = may_time_out p w (call_of w c)
+is_awaited p w (due_for.Trigger t depth) = awaits_trigger_at depth (frames_of w (who.Task t))
 
 abbrev pub appointments_are_right : Image → World → Bool
 appointments_are_right p w =
-    all_adjacent (λ a b. int_le a.moment b.moment) w.appointments && list_all (λ a. int_le (pos w.now) a.moment) w.appointments
+    all_adjacent (λ a b. int_le a.moment b.moment) w.appointments && list_all (λ a. int_le (pos w.time) a.moment) w.appointments
     && list_all (λ a. is_awaited p w a.due) w.appointments
 
 -- ---- marks: each is struck for a cause of its own task, and each Finalize stands where its end leads on (7.6.1, 9.7.4, 9.8)
@@ -278,7 +294,7 @@ is_well_formed p w =
 
 -- now never passes the bound
 abbrev pub is_right : Image → ℕ → World → Bool
-is_right p bound w = leb w.now bound && is_well_formed p w
+is_right p bound w = leb w.time bound && is_well_formed p w
 
 -- every world of a run: before each instant, and behind it
 abbrev pub all_well_formed : ℕ → Image → ℕ → World → Bool

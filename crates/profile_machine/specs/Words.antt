@@ -9,7 +9,7 @@ use Rattle.trace_text.specs.declared.events.Who.TheVariants.{Task, Agent}
 use Rattle.profile_machine.specs.declared.numbers.StatementNo.{StatementNo}
 use Rattle.profile_machine.specs.declared.numbers.ScopeNo.{ScopeNo}
 use Rattle.profile_machine.specs.declared.numbers.EntryNo.{EntryNo}
-use Rattle.profile_machine.specs.World.{ScopeId, scope_id}
+use Rattle.profile_machine.specs.declared.world.scopes.ScopeId.{ScopeId}
 
 -- ---- the same thing, by number
 
@@ -40,8 +40,11 @@ same_who (Task a) Agent = false
 same_who Agent (Task b) = false
 same_who Agent Agent = true
 
+abbrev pub scope_id : ℕ → ScopeId
+scope_id n = record { 0 = n }
+
 abbrev pub same_id : ScopeId → ScopeId → Bool
-same_id (scope_id a) (scope_id b) = eqb a b
+same_id a b = eqb a.0 b.0
 
 abbrev pub same_bool : Bool → Bool → Bool
 same_bool true b = b

@@ -12,6 +12,7 @@ mod statements;
 #[cfg(test)]
 mod tests;
 mod values;
+pub mod world;
 
 pub use declarations::{
     Attachment, ControlledType, Declaration, DeclarationKind, Entry, EntryBody, EntryUnit,

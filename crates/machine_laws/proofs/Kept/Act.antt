@@ -13,7 +13,12 @@ use Rattle.profile_machine.specs.declared.statements.Callee.TheVariants as calle
 use Rattle.profile_machine.specs.declared.statements.Destination.{Destination}
 use Rattle.profile_machine.specs.declared.statements.StatementForm.{StatementForm}
 use Rattle.profile_machine.specs.declared.statements.StatementForm.TheVariants as form
-use Rattle.profile_machine.specs.World.{Frame, Mark, Scope, Handled, InProtected, InAccept, Abortable, InInitialize, InFinalize, InAssign, AbortableMark, Release, Call}
+use Rattle.profile_machine.specs.declared.world.marks.Frame.{Frame}
+use Rattle.profile_machine.specs.declared.world.marks.Mark.{Mark}
+use Rattle.profile_machine.specs.declared.world.marks.AbortableMark.{AbortableMark}
+use Rattle.profile_machine.specs.declared.world.appointments.Release.{Release}
+use Rattle.profile_machine.specs.declared.world.calls.Call.{Call}
+use Rattle.profile_machine.specs.declared.world.marks.Mark.TheVariants.{Scope, Handled, InProtected, InAccept, Abortable, InInitialize, InFinalize, InAssign}
 use Rattle.profile_machine.specs.Steps.{own, changes, looks, ◌▷◌}
 use Rattle.profile_machine.specs.Frames.{frames_of}
 use Rattle.profile_machine.specs.Calls.{with_call, attempt_with}

@@ -4,7 +4,8 @@ use Rattle.std.specs.Prelude.{int_le, int_lt, pos}
 use Rattle.std.proofs.lemmas.Int.{ints}
 use Rattle.trace_text.specs.declared.events.Who.{Who}
 use Rattle.trace_text.specs.declared.events.Who.TheVariants as who
-use Rattle.profile_machine.specs.World.{World, Due}
+use Rattle.profile_machine.specs.declared.world.World.{World}
+use Rattle.profile_machine.specs.declared.world.appointments.Due.{Due}
 use Rattle.profile_machine.specs.Steps.{changes}
 use Rattle.profile_machine.specs.Appointments.{appoint, drop_appointment, drop_delay}
 use Rattle.machine_laws.proofs.Moves.{StepRelation, MoveRelation, Moves}
@@ -15,7 +16,7 @@ pub is_later : (now : ℕ) (moment : ℤ) → int_le moment (pos now) ≡ false 
 is_later now moment h = grind (arith, ints)
 
 module _ {R : StepRelation} {Q : MoveRelation} (moves : Moves R Q) where
-  pub appoint-from : (due : Due) (moment : ℤ) (w : World) → int_lt (pos w.now) moment ≡ true → From R w (changes (appoint due moment))
+  pub appoint-from : (due : Due) (moment : ℤ) (w : World) → int_lt (pos w.time) moment ≡ true → From R w (changes (appoint due moment))
   appoint-from due moment w later = changes-from moves (appoint due moment) w (moves.appoints due moment w later)
 
   pub drop_appointment-alters : (test : Due → Bool) → Alters R (drop_appointment test)

@@ -7,7 +7,15 @@ use Rattle.trace_text.specs.declared.events.Who.TheVariants as who
 use Rattle.profile_machine.specs.declared.image.Image.{Image}
 use Rattle.profile_machine.specs.declared.numbers.StatementNo.{StatementNo}
 use Rattle.profile_machine.specs.declared.values.Value.{Value}
-use Rattle.profile_machine.specs.World.{World, Frame, Mark, Abortable, AbortableMark, Call, Outcome, finished_ok, cancelled, to_raise, was_raised, Variable}
+use Rattle.profile_machine.specs.declared.world.World.{World}
+use Rattle.profile_machine.specs.declared.world.marks.Frame.{Frame}
+use Rattle.profile_machine.specs.declared.world.marks.Mark.{Mark}
+use Rattle.profile_machine.specs.declared.world.marks.AbortableMark.{AbortableMark}
+use Rattle.profile_machine.specs.declared.world.calls.Call.{Call}
+use Rattle.profile_machine.specs.declared.world.calls.Outcome.{Outcome}
+use Rattle.profile_machine.specs.declared.world.scopes.Variable.{Variable}
+use Rattle.profile_machine.specs.declared.world.calls.Outcome.TheVariants as call_ended
+use Rattle.profile_machine.specs.declared.world.marks.Mark.TheVariants.{Abortable}
 use Rattle.profile_machine.specs.Program.{declaration_of}
 use Rattle.profile_machine.specs.Steps.{Part, changes}
 use Rattle.profile_machine.specs.Tasks.{waiting_of}
@@ -26,10 +34,10 @@ use Rattle.machine_laws.proofs.Kept.Unwinding.{unwind-keeps}
 
 module _ {R : StepRelation} {Q : MoveRelation} (moves : Moves R Q) where
   pub go_by_outcome-keeps : (p : Image) (part : Part) (name : Who) (s : StatementNo) (outcome : Outcome) → Keeps R (go_by_outcome p part name s outcome)
-  go_by_outcome-keeps p part name s finished_ok = search (goes-keeps)
-  go_by_outcome-keeps p part name s cancelled = search (goes-keeps)
-  go_by_outcome-keeps p part name s (to_raise e) = search (raises-keeps)
-  go_by_outcome-keeps p part name s (was_raised e) = search (leaves-keeps)
+  go_by_outcome-keeps p part name s call_ended.Finished = search (goes-keeps)
+  go_by_outcome-keeps p part name s call_ended.Cancelled = search (goes-keeps)
+  go_by_outcome-keeps p part name s (call_ended.ToRaise e) = search (raises-keeps)
+  go_by_outcome-keeps p part name s (call_ended.WasRaised e) = search (leaves-keeps)
 
   pub resume-keeps : (p : Image) (part : Part) (c : Call) (outcome : Outcome) → Keeps R (resume p part c outcome)
   resume-keeps p part c outcome = search (changes-keeps, forget_call-alters, then-keeps, go_by_outcome-keeps)
@@ -51,10 +59,10 @@ module _ {R : StepRelation} {Q : MoveRelation} (moves : Moves R Q) where
   copy_back-world p (Some target ∷ results) (v ∷ values) w = or_stored-world (store p target v w) (copy_back p results values) w (store-gives p target v w) (copy_back-world p results values)
 
   with_results-world : (p : Image) (c : Call) (outcome : Outcome) (w : World) → R w [] (with_results p c outcome w).0
-  with_results-world p c finished_ok w = copy_back-world p c.results c.values w
-  with_results-world p c cancelled w = moves.stays w
-  with_results-world p c (to_raise e) w = moves.stays w
-  with_results-world p c (was_raised e) w = moves.stays w
+  with_results-world p c call_ended.Finished w = copy_back-world p c.results c.values w
+  with_results-world p c call_ended.Cancelled w = moves.stays w
+  with_results-world p c (call_ended.ToRaise e) w = moves.stays w
+  with_results-world p c (call_ended.WasRaised e) w = moves.stays w
 
   pub edit_frame-alters : (name : Who) (depth : ℕ) (f : Frame → Frame) → Alters R (edit_frame name depth f)
   edit_frame-alters name depth f = search (edit_task-alters)
@@ -70,10 +78,10 @@ module _ {R : StepRelation} {Q : MoveRelation} (moves : Moves R Q) where
   forget_trigger-alters (Some c) = search (forget_call-alters)
 
   pub run_triggered-keeps : (p : Image) (part : Part) (name : Who) (select : StatementNo) (outcome : Outcome) → Keeps R (run_triggered p part name select outcome)
-  run_triggered-keeps p part name select finished_ok = search (goes-keeps)
-  run_triggered-keeps p part name select cancelled = search (nothing-keeps)
-  run_triggered-keeps p part name select (to_raise e) = search (raises-keeps)
-  run_triggered-keeps p part name select (was_raised e) = search (leaves-keeps)
+  run_triggered-keeps p part name select call_ended.Finished = search (goes-keeps)
+  run_triggered-keeps p part name select call_ended.Cancelled = search (nothing-keeps)
+  run_triggered-keeps p part name select (call_ended.ToRaise e) = search (raises-keeps)
+  run_triggered-keeps p part name select (call_ended.WasRaised e) = search (leaves-keeps)
 
   pub behind_abortable-keeps : (p : Image) (part : Part) (name : Who) (m : AbortableMark) (outcome : Outcome) → Keeps R (behind_abortable p part name m outcome)
   behind_abortable-keeps p part name m outcome = search (when-keeps, run_triggered-keeps)

@@ -4,7 +4,10 @@ use Rattle.ann_base.specs.declared.identities.CallNo.{CallNo}
 use Rattle.ann_base.specs.declared.identities.ObjectNo.{ObjectNo}
 use Rattle.trace_text.specs.declared.events.Event.TheVariants as line
 use Rattle.profile_machine.specs.declared.image.Image.{Image}
-use Rattle.profile_machine.specs.World.{Object, Call, Owner, a_task, an_object}
+use Rattle.profile_machine.specs.declared.world.objects.Object.{Object}
+use Rattle.profile_machine.specs.declared.world.calls.Call.{Call}
+use Rattle.profile_machine.specs.declared.world.calls.Owner.{Owner}
+use Rattle.profile_machine.specs.declared.world.calls.Owner.TheVariants as owned_by
 use Rattle.profile_machine.specs.Steps.{Step, Part, says, changes, ◌▷◌}
 use Rattle.profile_machine.specs.Appointments.{is_timeout_of}
 use Rattle.profile_machine.specs.Calls.{edit_call, forget_call, with_call, says_call, edit_object, edit_queue, place_of_entry, put_call, take_call, enqueued, enqueue, unqueued, is_cancellable, attempt_on, attempt_with, attempt}
@@ -33,8 +36,8 @@ module _ {R : StepRelation} {Q : MoveRelation} (moves : Moves R Q) where
   edit_object-alters o f a w = moves.edits_object o f w a
 
   pub edit_queue-alters : (owner : Owner) (place : ℕ) (f : List CallNo → List CallNo) → Alters R (edit_queue owner place f)
-  edit_queue-alters (a_task t) place f = search (edit_task-alters)
-  edit_queue-alters (an_object o) place f = search (edit_object-alters)
+  edit_queue-alters (owned_by.Task t) place f = search (edit_task-alters)
+  edit_queue-alters (owned_by.Object o) place f = search (edit_object-alters)
 
   pub enqueued-alters : (p : Image) (c : Call) → Alters R (enqueued p c)
   unfolding Alters

@@ -9,7 +9,13 @@ use Rattle.profile_machine.specs.declared.numbers.SubprogramNo.{SubprogramNo}
 use Rattle.profile_machine.specs.declared.run_data.Leaving.{Leaving}
 use Rattle.profile_machine.specs.declared.run_data.Leaving.TheVariants as how
 use Rattle.profile_machine.specs.declared.values.Value.TheVariants.{Thing}
-use Rattle.profile_machine.specs.World.{Located, Variable, Registered, ScopeMark, AssignMark, AssignStep, finalize_target, copy_components, adjust_target, assigned}
+use Rattle.profile_machine.specs.declared.world.scopes.Located.{Located}
+use Rattle.profile_machine.specs.declared.world.scopes.Variable.{Variable}
+use Rattle.profile_machine.specs.declared.world.appointments.Registered.{Registered}
+use Rattle.profile_machine.specs.declared.world.marks.ScopeMark.{ScopeMark}
+use Rattle.profile_machine.specs.declared.world.marks.AssignMark.{AssignMark}
+use Rattle.profile_machine.specs.declared.world.marks.AssignStep.{AssignStep}
+use Rattle.profile_machine.specs.declared.world.marks.AssignStep.TheVariants as assigning
 use Rattle.profile_machine.specs.Program.{declaration_of}
 use Rattle.profile_machine.specs.Steps.{own, says, changes, ◌▷◌}
 use Rattle.profile_machine.specs.Scopes.{write_cell}
@@ -106,10 +112,10 @@ module _ {R : StepRelation} {Q : MoveRelation} (moves : Moves R Q) where
   copy_object-alters p target source = search (copy_components_of-alters)
 
   pub do_step-keeps : (p : Image) (name : Who) (step : AssignStep) (target source : Registered) → Keeps R (do_step p name step target source)
-  do_step-keeps p name finalize_target target source = search (changes-keeps, edit_top_assign-alters, then-keeps, finalize_target_by-keeps)
-  do_step-keeps p name copy_components target source = search (changes-keeps, edit_top_assign-alters, then-keeps, copy_object-alters)
-  do_step-keeps p name adjust_target target source = search (changes-keeps, edit_top_assign-alters, then-keeps, adjust_by-keeps)
-  do_step-keeps p name assigned target source = search (changes-keeps, pop-alters)
+  do_step-keeps p name assigning.FinalizeTarget target source = search (changes-keeps, edit_top_assign-alters, then-keeps, finalize_target_by-keeps)
+  do_step-keeps p name assigning.CopyComponents target source = search (changes-keeps, edit_top_assign-alters, then-keeps, copy_object-alters)
+  do_step-keeps p name assigning.AdjustTarget target source = search (changes-keeps, edit_top_assign-alters, then-keeps, adjust_by-keeps)
+  do_step-keeps p name assigning.Assigned target source = search (changes-keeps, pop-alters)
 
   pub step_with-keeps : (p : Image) (name : Who) (step : AssignStep) (target source : Option Registered) → Keeps R (step_with p name step target source)
   step_with-keeps p name step (Some target) (Some source) = search (do_step-keeps)

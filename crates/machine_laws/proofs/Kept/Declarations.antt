@@ -16,7 +16,9 @@ use Rattle.profile_machine.specs.declared.declarations.Initial.TheVariants as in
 use Rattle.profile_machine.specs.declared.expressions.ObjectName.TheVariants.{Declared}
 use Rattle.profile_machine.specs.declared.values.Value.{Value}
 use Rattle.profile_machine.specs.declared.values.Value.TheVariants.{Thing}
-use Rattle.profile_machine.specs.World.{World, Located, Variable}
+use Rattle.profile_machine.specs.declared.world.World.{World}
+use Rattle.profile_machine.specs.declared.world.scopes.Located.{Located}
+use Rattle.profile_machine.specs.declared.world.scopes.Variable.{Variable}
 use Rattle.profile_machine.specs.Program.{declaration_of, next_of, protected_unit_of, controlled_of}
 use Rattle.profile_machine.specs.Steps.{own, changes, ◌▷◌}
 use Rattle.profile_machine.specs.Frames.{goes}

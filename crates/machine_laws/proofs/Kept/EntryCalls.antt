@@ -13,7 +13,12 @@ use Rattle.profile_machine.specs.declared.numbers.StatementNo.{StatementNo}
 use Rattle.profile_machine.specs.declared.statements.EntryOwner.{EntryOwner}
 use Rattle.profile_machine.specs.declared.statements.StatementForm.{StatementForm}
 use Rattle.profile_machine.specs.declared.statements.StatementForm.TheVariants as form
-use Rattle.profile_machine.specs.World.{World, Call, CallKind, Owner, a_task, an_object, a_trigger}
+use Rattle.profile_machine.specs.declared.world.World.{World}
+use Rattle.profile_machine.specs.declared.world.calls.Call.{Call}
+use Rattle.profile_machine.specs.declared.world.calls.CallKind.{CallKind}
+use Rattle.profile_machine.specs.declared.world.calls.Owner.{Owner}
+use Rattle.profile_machine.specs.declared.world.appointments.Due.TheVariants as due_for
+use Rattle.profile_machine.specs.declared.world.calls.Owner.TheVariants as owned_by
 use Rattle.profile_machine.specs.Steps.{Step, Part, own, changes, looks, ◌▷◌}
 use Rattle.profile_machine.specs.Program.{next_of}
 use Rattle.profile_machine.specs.Frames.{frames_of, goes}
@@ -93,8 +98,8 @@ module _ {R : StepRelation} {Q : MoveRelation} (moves : Moves R Q) where
   call_object-keeps p o c = search (where_let_inside-keeps, looks-keeps, call_by_barrier-keeps)
 
   pub call_owner-keeps : (p : Image) (c : Call) (owner : Owner) → Keeps R (call_owner p c owner)
-  call_owner-keeps p c (a_task t) = search (call_task-keeps)
-  call_owner-keeps p c (an_object o) = search (call_object-keeps)
+  call_owner-keeps p c (owned_by.Task t) = search (call_task-keeps)
+  call_owner-keeps p c (owned_by.Object o) = search (call_object-keeps)
 
   pub call_named-keeps : (p : Image) (t : TaskNo) (kind : CallKind) (s : StatementNo) (n : NamedCall) → Keeps R (call_named p t kind s n)
   call_named-keeps p t kind s n = search (sees-keeps, given-keeps, call_owner-keeps) depth 6
@@ -103,18 +108,18 @@ module _ {R : StepRelation} {Q : MoveRelation} (moves : Moves R Q) where
   entry_call-keeps p (who.Task t) kind s = search (looks-keeps, raise_if-keeps, call_named-keeps)
   entry_call-keeps p who.Agent kind s = search (raises-keeps)
 
-  appoint_trigger-from : (name : Who) (depth : ℕ) (m : ℤ) (w : World) → int_lt (pos w.now) m ≡ true → From R w (changes (appoint_trigger name depth m))
-  appoint_trigger-from (who.Task t) depth m w later = appoint-from moves (a_trigger t depth) m w later
+  appoint_trigger-from : (name : Who) (depth : ℕ) (m : ℤ) (w : World) → int_lt (pos w.time) m ≡ true → From R w (changes (appoint_trigger name depth m))
+  appoint_trigger-from (who.Task t) depth m w later = appoint-from moves (due_for.Trigger t depth) m w later
   appoint_trigger-from who.Agent depth m w later = keeps-from moves (changes (λ v. v)) w (changes-keeps moves (λ v. v) (unchanged-alters moves))
 
   -- the abortable part opens, and the moment is set
-  opens_until : (p : Image) (name : Who) (s : StatementNo) (m : ℤ) (w : World) → int_lt (pos w.now) m ≡ true → From R w (looks (λ v. changes (open_abortable p name s None) ▷ changes (appoint_trigger name (length (frames_of v name)) m)))
+  opens_until : (p : Image) (name : Who) (s : StatementNo) (m : ℤ) (w : World) → int_lt (pos w.time) m ≡ true → From R w (looks (λ v. changes (open_abortable p name s None) ▷ changes (appoint_trigger name (length (frames_of v name)) m)))
   opens_until p name s m w later =
       looks_at-from moves (λ v. changes (open_abortable p name s None) ▷ changes (appoint_trigger name (length (frames_of v name)) m)) w
       (then_on-from moves (changes (open_abortable p name s None)) _ w (keeps-from moves _ w (search (changes-keeps, open_abortable-alters)))
       (appoint_trigger-from name (length (frames_of w name)) m _ (later_behind (changes (open_abortable p name s None)) w m (changes-keeps at_once _ (open_abortable-alters at_once p name s None)) later)))
 
-  trigger_delay-from : (p : Image) (name : Who) (s trigger : StatementNo) (m : ℤ) (test : Bool) (w : World) → int_lt (pos w.now) m ≡ test → From R w (trigger_delay p name s trigger m test)
+  trigger_delay-from : (p : Image) (name : Who) (s trigger : StatementNo) (m : ℤ) (test : Bool) (w : World) → int_lt (pos w.time) m ≡ test → From R w (trigger_delay p name s trigger m test)
   trigger_delay-from p name s trigger m false w is = keeps-from moves _ w (search (goes-keeps))
   trigger_delay-from p name s trigger m true w is =
       with_room-from moves p name 1 0 _ w
@@ -123,7 +128,7 @@ module _ {R : StepRelation} {Q : MoveRelation} (moves : Moves R Q) where
 
   pub async_delay-keeps : (p : Image) (name : Who) (s trigger : StatementNo) → Keeps R (async_delay p name s trigger)
   async_delay-keeps p name s trigger =
-      looks-from moves _ (λ w. raise_if-from moves p name _ _ _ w (given-from moves p own name _ _ w (λ m. trigger_delay-from p name s trigger m (int_lt (pos w.now) m) w refl)))
+      looks-from moves _ (λ w. raise_if-from moves p name _ _ _ w (given-from moves p own name _ _ w (λ m. trigger_delay-from p name s trigger m (int_lt (pos w.time) m) w refl)))
 
   pub async_by_trigger-keeps : (p : Image) (name : Who) (s trigger : StatementNo) (form : StatementForm) → Keeps R (async_by_trigger p name s trigger form)
   async_by_trigger-keeps p name s trigger (form.EntryCall entry owner actuals) = search (entry_call-keeps)

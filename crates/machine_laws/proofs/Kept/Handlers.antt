@@ -12,8 +12,24 @@ use Rattle.profile_machine.specs.declared.expressions.VariableName.{VariableName
 use Rattle.profile_machine.specs.declared.statements.HandlerName.{HandlerName}
 use Rattle.profile_machine.specs.declared.statements.Setting.{Setting}
 use Rattle.profile_machine.specs.declared.values.Value.TheVariants.{Truth}
-use Rattle.profile_machine.specs.World.{World, HandlerOf, Release, Drawn, Object, Timer, TimerSetting, Budget, Variable, State, Made, Runnable, Blocked, Waiting, Appointment, Due, an_event, a_delay, a_timeout, a_trigger, of_subprogram, to_nowhere}
-use Rattle.profile_machine.specs.World as world
+use Rattle.profile_machine.specs.declared.world.World.{World}
+use Rattle.profile_machine.specs.declared.world.appointments.HandlerOf.{HandlerOf}
+use Rattle.profile_machine.specs.declared.world.appointments.Release.{Release}
+use Rattle.profile_machine.specs.declared.world.Drawn.{Drawn}
+use Rattle.profile_machine.specs.declared.world.objects.Object.{Object}
+use Rattle.profile_machine.specs.declared.world.appointments.Timer.{Timer}
+use Rattle.profile_machine.specs.declared.world.appointments.TimerSetting.{TimerSetting}
+use Rattle.profile_machine.specs.declared.world.appointments.Budget.{Budget}
+use Rattle.profile_machine.specs.declared.world.scopes.Variable.{Variable}
+use Rattle.profile_machine.specs.declared.world.tasks.State.{State}
+use Rattle.profile_machine.specs.declared.world.tasks.Waiting.{Waiting}
+use Rattle.profile_machine.specs.declared.world.appointments.Appointment.{Appointment}
+use Rattle.profile_machine.specs.declared.world.appointments.Due.{Due}
+use Rattle.profile_machine.specs.declared.world.appointments.Due.TheVariants as due_for
+use Rattle.profile_machine.specs.declared.world.marks.Purpose.TheVariants as opened_for
+use Rattle.profile_machine.specs.declared.world.marks.ResultTo.TheVariants as bound_for
+use Rattle.profile_machine.specs.declared.world.tasks.State.TheVariants.{Made, Runnable, Blocked}
+use Rattle.profile_machine.specs.declared.world.tasks.Task as world
 use Rattle.profile_machine.specs.Program.{is_robin_level, marks_of, subprogram_of}
 use Rattle.profile_machine.specs.Steps.{Step, Part, own}
 use Rattle.profile_machine.specs.Tasks.{task_of, edit_task}
@@ -83,13 +99,13 @@ module _ {R : StepRelation} {Q : MoveRelation} (moves : Moves R Q) where
   pub cancel_event_setting-alters : (e : ℕ) → Alters R (cancel_event_setting e)
   cancel_event_setting-alters e = search (drop_appointment-alters)
 
-  appoint_event-from : (p : Image) (e : ℕ) (h : HandlerOf) (m : ℤ) (test : Bool) (w : World) → int_lt (pos w.now) m ≡ test → From R w (appoint_event p e h m test)
-  appoint_event-from p e h m true w is = appoint-from moves (an_event e h) m w is
+  appoint_event-from : (p : Image) (e : ℕ) (h : HandlerOf) (m : ℤ) (test : Bool) (w : World) → int_lt (pos w.time) m ≡ test → From R w (appoint_event p e h m test)
+  appoint_event-from p e h m true w is = appoint-from moves (due_for.Event e h) m w is
   appoint_event-from p e h m false w is = keeps-from moves (release p own h (Some e)) w (release-keeps p own h (Some e))
 
   pub event_set_to-keeps : (p : Image) (e : ℕ) (h : Option HandlerOf) (m : ℤ) → Keeps R (event_set_to p e h m)
   event_set_to-keeps p e None m = search (nothing-keeps)
-  event_set_to-keeps p e (Some h) m = looks-from moves _ (λ w. appoint_event-from p e h m (int_lt (pos w.now) m) w refl)
+  event_set_to-keeps p e (Some h) m = looks-from moves _ (λ w. appoint_event-from p e h m (int_lt (pos w.time) m) w refl)
 
   pub set_event-keeps : (p : Image) (name : Who) (s : StatementNo) (d : DeclNo) (set : Setting) (named : Option HandlerName) → Keeps R (set_event p name s d set named)
   set_event-keeps p name s d set named = search (sees-keeps, given-keeps, setting_of-keeps, goes-keeps, then-keeps, changes-keeps, cancel_event_setting-alters, event_set_to-keeps) depth 9

@@ -6,7 +6,12 @@ use Rattle.trace_text.specs.declared.events.Who.TheVariants as who
 use Rattle.profile_machine.specs.declared.image.Image.{Image}
 use Rattle.profile_machine.specs.declared.run_data.Item.{Item}
 use Rattle.profile_machine.specs.declared.run_data.Item.TheVariants as item
-use Rattle.profile_machine.specs.World.{Waiting, for_select, Due, an_event, a_delay, a_timeout, a_trigger, Appointment, TimerSetting}
+use Rattle.profile_machine.specs.declared.world.tasks.Waiting.{Waiting}
+use Rattle.profile_machine.specs.declared.world.appointments.Due.{Due}
+use Rattle.profile_machine.specs.declared.world.appointments.Appointment.{Appointment}
+use Rattle.profile_machine.specs.declared.world.appointments.TimerSetting.{TimerSetting}
+use Rattle.profile_machine.specs.declared.world.appointments.Due.TheVariants as due_for
+use Rattle.profile_machine.specs.declared.world.tasks.Waiting.TheVariants as waits_for
 use Rattle.profile_machine.specs.Steps.{Step, changes, nothing, settles, ◌▷◌}
 use Rattle.profile_machine.specs.Tasks.{task_of}
 use Rattle.profile_machine.specs.Appointments.{first_due}
@@ -76,7 +81,7 @@ module _ {R : StepRelation} {Q : MoveRelation} (moves : Moves R Q) where
   script_items-leads p = search (settles-leads, looks-keeps, items_due-keeps)
 
   pub take_delay-keeps : (p : Image) (name : Who) (waiting : Option Waiting) → Keeps R (take_delay p name waiting)
-  take_delay-keeps p name (Some (for_select accepts (Some delay) terminate)) = search (goes-keeps)
+  take_delay-keeps p name (Some (waits_for.Select accepts (Some delay) terminate)) = search (goes-keeps)
   take_delay-keeps p name _ = search (nothing-keeps)
 
   pub end_delay-keeps : (p : Image) (name : Who) → Keeps R (end_delay p name)
@@ -86,10 +91,10 @@ module _ {R : StepRelation} {Q : MoveRelation} (moves : Moves R Q) where
   time_out-keeps p c = search (with_call-keeps, changes-keeps, unqueued-alters, then-keeps, says-keeps, deliver-keeps) depth 6
 
   pub come_due-keeps : (p : Image) (due : Due) → Keeps R (come_due p due)
-  come_due-keeps p (an_event n h) = search (release-keeps)
-  come_due-keeps p (a_delay t) = search (end_delay-keeps)
-  come_due-keeps p (a_timeout c) = search (time_out-keeps)
-  come_due-keeps p (a_trigger t depth) = search (trigger_at-keeps, then-keeps, unwind-keeps)
+  come_due-keeps p (due_for.Event n h) = search (release-keeps)
+  come_due-keeps p (due_for.Delay t) = search (end_delay-keeps)
+  come_due-keeps p (due_for.Timeout c) = search (time_out-keeps)
+  come_due-keeps p (due_for.Trigger t depth) = search (trigger_at-keeps, then-keeps, unwind-keeps)
 
   pub take_due-keeps : (p : Image) (again : Step) (a : Option Appointment) → Keeps R again → Keeps R (take_due p again a)
   take_due-keeps p again None kept = search (nothing-keeps)
@@ -98,7 +103,7 @@ module _ {R : StepRelation} {Q : MoveRelation} (moves : Moves R Q) where
   all_due-keeps : (fuel : ℕ) (p : Image) (events : Bool) → Keeps R (all_due fuel p events)
   all_due-keeps zero p events = search (nothing-keeps)
   all_due-keeps (suc fuel) p events =
-      looks-keeps moves _ (λ w. take_due-keeps p (all_due fuel p events) (first_due events w.now w.appointments) (all_due-keeps fuel p events))
+      looks-keeps moves _ (λ w. take_due-keeps p (all_due fuel p events) (first_due events w.time w.appointments) (all_due-keeps fuel p events))
 
   pub appointments_due-leads : (p : Image) (events : Bool) → Leads Q (appointments_due p events)
   appointments_due-leads p events = search (settles-leads, looks-keeps, all_due-keeps)

@@ -7,8 +7,13 @@ use Rattle.profile_machine.specs.declared.image.Queuing.{Queuing}
 use Rattle.profile_machine.specs.declared.image.Queuing.TheVariants as queuing
 use Rattle.profile_machine.specs.declared.numbers.ExprNo.{ExprNo}
 use Rattle.profile_machine.specs.declared.numbers.StatementNo.{StatementNo}
-use Rattle.profile_machine.specs.World.{World, Call, State, Made, Runnable, Blocked, Waiting, for_activation, for_moment, for_call, for_end_of_call, for_accept, for_select, for_dependents, for_release}
-use Rattle.profile_machine.specs.World as world
+use Rattle.profile_machine.specs.declared.world.World.{World}
+use Rattle.profile_machine.specs.declared.world.calls.Call.{Call}
+use Rattle.profile_machine.specs.declared.world.tasks.State.{State}
+use Rattle.profile_machine.specs.declared.world.tasks.Waiting.{Waiting}
+use Rattle.profile_machine.specs.declared.world.tasks.Waiting.TheVariants as waits_for
+use Rattle.profile_machine.specs.declared.world.tasks.State.TheVariants.{Made, Runnable, Blocked}
+use Rattle.profile_machine.specs.declared.world.tasks.Task as world
 use Rattle.profile_machine.specs.Words.{edit_at}
 use Rattle.profile_machine.specs.Program.{next_of, has_edf}
 use Rattle.profile_machine.specs.Steps.{Part, own, changes}

@@ -13,7 +13,9 @@ use Rattle.profile_machine.specs.declared.numbers.StatementNo.{StatementNo}
 use Rattle.profile_machine.specs.declared.numbers.SubprogramNo.{SubprogramNo}
 use Rattle.profile_machine.specs.declared.statements.Actual.{Actual}
 use Rattle.profile_machine.specs.declared.statements.Destination.{Destination}
-use Rattle.profile_machine.specs.World.{ResultTo, ProtectedMark, Call}
+use Rattle.profile_machine.specs.declared.world.marks.ResultTo.{ResultTo}
+use Rattle.profile_machine.specs.declared.world.marks.ProtectedMark.{ProtectedMark}
+use Rattle.profile_machine.specs.declared.world.calls.Call.{Call}
 use Rattle.profile_machine.specs.Steps.{Step, Part, says, ◌▷◌}
 use Rattle.profile_machine.specs.Frames.{exception_name}
 use Rattle.profile_machine.specs.Subprograms.{Handed}

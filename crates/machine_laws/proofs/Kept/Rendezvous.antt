@@ -15,7 +15,15 @@ use Rattle.profile_machine.specs.declared.run_data.Leaving.TheVariants as how
 use Rattle.profile_machine.specs.declared.statements.SelectAlternative.{SelectAlternative}
 use Rattle.profile_machine.specs.declared.statements.SelectKind.{SelectKind}
 use Rattle.profile_machine.specs.declared.values.Value.{Value}
-use Rattle.profile_machine.specs.World.{World, Mark, InAccept, AcceptMark, Call, Owner, a_task, an_object, Sending, a_delay}
+use Rattle.profile_machine.specs.declared.world.World.{World}
+use Rattle.profile_machine.specs.declared.world.marks.Mark.{Mark}
+use Rattle.profile_machine.specs.declared.world.marks.AcceptMark.{AcceptMark}
+use Rattle.profile_machine.specs.declared.world.calls.Call.{Call}
+use Rattle.profile_machine.specs.declared.world.calls.Owner.{Owner}
+use Rattle.profile_machine.specs.declared.world.calls.Sending.{Sending}
+use Rattle.profile_machine.specs.declared.world.appointments.Due.TheVariants as due_for
+use Rattle.profile_machine.specs.declared.world.calls.Owner.TheVariants as owned_by
+use Rattle.profile_machine.specs.declared.world.marks.Mark.TheVariants.{InAccept}
 use Rattle.profile_machine.specs.Program.{form_of, next_of, scope_of}
 use Rattle.profile_machine.specs.Steps.{Step, Part, says, changes, ◌▷◌}
 use Rattle.profile_machine.specs.Frames.{new_frame, goes, exception_name, open_sequence}
@@ -87,21 +95,21 @@ module _ {R : StepRelation} {Q : MoveRelation} (moves : Moves R Q) where
   wait_at_select-keeps name accepts delay true = search (changes-keeps, edit_task-alters)
   wait_at_select-keeps name accepts delay false = search (block-keeps)
 
-  appoint_delay-from : (name : Who) (m : ℤ) (w : World) → int_lt (pos w.now) m ≡ true → From R w (changes (appoint_delay name m))
-  appoint_delay-from (who.Task t) m w later = appoint-from moves (a_delay t) m w later
+  appoint_delay-from : (name : Who) (m : ℤ) (w : World) → int_lt (pos w.time) m ≡ true → From R w (changes (appoint_delay name m))
+  appoint_delay-from (who.Task t) m w later = appoint-from moves (due_for.Delay t) m w later
   appoint_delay-from who.Agent m w later = keeps-from moves (changes (λ v. v)) w (changes-keeps moves (λ v. v) (unchanged-alters moves))
 
-  select_delay-from : (p : Image) (name : Who) (s : StatementNo) (accepts : List StatementNo) (m : Moment) (terminate test : Bool) (w : World) → int_le m.at (pos w.now) ≡ test → From R w (select_delay p name s accepts m terminate test)
+  select_delay-from : (p : Image) (name : Who) (s : StatementNo) (accepts : List StatementNo) (m : Moment) (terminate test : Bool) (w : World) → int_le m.at (pos w.time) ≡ test → From R w (select_delay p name s accepts m terminate test)
   select_delay-from p name s accepts m terminate true w is = keeps-from moves _ w (search (goes-keeps))
   select_delay-from p name s accepts m terminate false w is =
       then_on-from moves (goes name (next_of p s)) _ w (keeps-from moves (goes name (next_of p s)) w (goes-keeps moves name (next_of p s)))
       (then-from moves (changes (appoint_delay name m.at)) _ _
-      (appoint_delay-from name m.at _ (later_behind (goes name (next_of p s)) w m.at (goes-keeps at_once name (next_of p s)) (is_later w.now m.at is)))
+      (appoint_delay-from name m.at _ (later_behind (goes name (next_of p s)) w m.at (goes-keeps at_once name (next_of p s)) (is_later w.time m.at is)))
       (wait_at_select-keeps name accepts (Some m.delay) terminate))
 
   pub select_wait-keeps : (p : Image) (name : Who) (s : StatementNo) (accepts : List StatementNo) (terminate : Bool) (moment : Option Moment) → Keeps R (select_wait p name s accepts terminate moment)
   select_wait-keeps p name s accepts terminate None = search (goes-keeps, then-keeps, wait_at_select-keeps)
-  select_wait-keeps p name s accepts terminate (Some m) = looks-from moves _ (λ w. select_delay-from p name s accepts m terminate (int_le m.at (pos w.now)) w refl)
+  select_wait-keeps p name s accepts terminate (Some m) = looks-from moves _ (λ w. select_delay-from p name s accepts m terminate (int_le m.at (pos w.time)) w refl)
 
   pub select_otherwise-keeps : (p : Image) (name : Who) (s : StatementNo) (kinds : List SelectKind) (m : Option Moment) (next : Option StatementNo) → Keeps R (select_otherwise p name s kinds m next)
   select_otherwise-keeps p name s kinds m (Some otherwise) = search (goes-keeps)
@@ -129,8 +137,8 @@ module _ {R : StepRelation} {Q : MoveRelation} (moves : Moves R Q) where
   arrive_at-keeps p t c true = search (looks-keeps, meet_sent-keeps)
 
   pub arrive-keeps : (p : Image) (c : Call) (owner : Owner) → Keeps R (arrive p c owner)
-  arrive-keeps p c (a_task t) = search (looks-keeps, arrive_at-keeps)
-  arrive-keeps p c (an_object o) = search (gone_sent-keeps)
+  arrive-keeps p c (owned_by.Task t) = search (looks-keeps, arrive_at-keeps)
+  arrive-keeps p c (owned_by.Object o) = search (gone_sent-keeps)
 
   pub finish_accept-keeps : (p : Image) (name : Who) (c : Call) (sending : Option Sending) → Keeps R (finish_accept p name c sending)
   finish_accept-keeps p name c None = search (says-keeps, then-keeps, deliver-keeps)

@@ -6,7 +6,12 @@ use Rattle.ann_base.specs.declared.identities.CallNo.{CallNo}
 use Rattle.trace_text.specs.declared.events.Who.{Who}
 use Rattle.profile_machine.specs.declared.image.Image.{Image}
 use Rattle.profile_machine.specs.declared.numbers.StatementNo.{StatementNo}
-use Rattle.profile_machine.specs.World.{World, a_timeout, Call, CallKind, plain, conditional, timed, triggering, Sending}
+use Rattle.profile_machine.specs.declared.world.World.{World}
+use Rattle.profile_machine.specs.declared.world.calls.Call.{Call}
+use Rattle.profile_machine.specs.declared.world.calls.CallKind.{CallKind}
+use Rattle.profile_machine.specs.declared.world.calls.Sending.{Sending}
+use Rattle.profile_machine.specs.declared.world.calls.CallKind.TheVariants as call_kind
+use Rattle.profile_machine.specs.declared.world.appointments.Due.TheVariants as due_for
 use Rattle.profile_machine.specs.Steps.{Part, changes}
 use Rattle.profile_machine.specs.Sending.{open_abortable, is_not_future, is_conditional, is_to_be_cancelled, cancel_at_once, appoint_timeout, wait_for_call, wait_or_cancel, not_accepted, send_on, cancel_sent, begin_abortable, timeout_again, sent_not_begun_by, sent_not_begun}
 use Rattle.machine_laws.proofs.Moves.{StepRelation, MoveRelation, Moves}
@@ -31,23 +36,23 @@ module _ {R : StepRelation} {Q : MoveRelation} (moves : Moves R Q) where
   pub cancel_at_once-keeps : (p : Image) (part : Part) (c : Call) → Keeps R (cancel_at_once p part c)
   cancel_at_once-keeps p part c = search (attempt_with-keeps, resume-keeps, nothing-keeps)
 
-  appoint_timeout-from : (c : CallNo) (moment : Option ℤ) (w : World) → is_not_future w.now moment ≡ false → From R w (changes (appoint_timeout c moment))
+  appoint_timeout-from : (c : CallNo) (moment : Option ℤ) (w : World) → is_not_future w.time moment ≡ false → From R w (changes (appoint_timeout c moment))
   appoint_timeout-from c None w later = keeps-from moves (changes (λ v. v)) w (changes-keeps moves (λ v. v) (unchanged-alters moves))
-  appoint_timeout-from c (Some moment) w later = appoint-from moves (a_timeout c) moment w (is_later w.now moment later)
+  appoint_timeout-from c (Some moment) w later = appoint-from moves (due_for.Timeout c) moment w (is_later w.time moment later)
 
   pub wait_for_call-keeps : (p : Image) (c : Call) → Keeps R (wait_for_call p c)
   wait_for_call-keeps p c = search (block-keeps)
 
-  wait_or_cancel-from : (p : Image) (part : Part) (c : Call) (test : Bool) (w : World) → is_not_future w.now c.moment ≡ test → From R w (wait_or_cancel p part c test)
+  wait_or_cancel-from : (p : Image) (part : Part) (c : Call) (test : Bool) (w : World) → is_not_future w.time c.moment ≡ test → From R w (wait_or_cancel p part c test)
   wait_or_cancel-from p part c true w is = keeps-from moves (cancel_at_once p part c) w (cancel_at_once-keeps p part c)
   wait_or_cancel-from p part c false w is =
       then-from moves (changes (appoint_timeout c.number c.moment)) (wait_for_call p c) w (appoint_timeout-from c.number c.moment w is) (wait_for_call-keeps p c)
 
   pub not_accepted-keeps : (p : Image) (part : Part) (c : Call) (kind : CallKind) → Keeps R (not_accepted p part c kind)
-  not_accepted-keeps p part c plain = search (wait_for_call-keeps)
-  not_accepted-keeps p part c conditional = search (cancel_at_once-keeps)
-  not_accepted-keeps p part c timed = looks-from moves _ (λ w. wait_or_cancel-from p part c (is_not_future w.now c.moment) w refl)
-  not_accepted-keeps p part c triggering = search (changes-keeps, open_abortable-alters)
+  not_accepted-keeps p part c call_kind.Plain = search (wait_for_call-keeps)
+  not_accepted-keeps p part c call_kind.Conditional = search (cancel_at_once-keeps)
+  not_accepted-keeps p part c call_kind.Timed = looks-from moves _ (λ w. wait_or_cancel-from p part c (is_not_future w.time c.moment) w refl)
+  not_accepted-keeps p part c call_kind.Triggering = search (changes-keeps, open_abortable-alters)
 
   pub send_on-keeps : (p : Image) (c : CallNo) (s : Sending) → Keeps R (send_on p c s)
   send_on-keeps p c s = search (changes-keeps, edit_call-alters, then-keeps, with_call-keeps, says_call-keeps)
@@ -58,16 +63,16 @@ module _ {R : StepRelation} {Q : MoveRelation} (moves : Moves R Q) where
   pub begin_abortable-keeps : (p : Image) (c : CallNo) → Keeps R (begin_abortable p c)
   begin_abortable-keeps p c = search (with_call-keeps, looks-keeps, when-keeps, changes-keeps, open_abortable-alters, then-keeps, ready-keeps) depth 6
 
-  unless_firm-from : (firm : Bool) (c : Call) (w : World) → (firm ≡ false → is_not_future w.now c.moment ≡ false) → From R w (changes (cond firm (λ v. v) (appoint_timeout c.number c.moment)))
+  unless_firm-from : (firm : Bool) (c : Call) (w : World) → (firm ≡ false → is_not_future w.time c.moment ≡ false) → From R w (changes (cond firm (λ v. v) (appoint_timeout c.number c.moment)))
   unless_firm-from true c w later = keeps-from moves (changes (λ v. v)) w (changes-keeps moves (λ v. v) (unchanged-alters moves))
   unless_firm-from false c w later = appoint_timeout-from c.number c.moment w (later refl)
 
-  sent_not_begun_by-from : (p : Image) (c : Call) (test : Bool) (w : World) → is_to_be_cancelled w.now c ≡ test → From R w (sent_not_begun_by p c test)
+  sent_not_begun_by-from : (p : Image) (c : Call) (test : Bool) (w : World) → is_to_be_cancelled w.time c ≡ test → From R w (sent_not_begun_by p c test)
   sent_not_begun_by-from p c true w is = keeps-from moves (cancel_sent p c) w (cancel_sent-keeps p c)
   sent_not_begun_by-from p c false w is =
       then-from moves (changes (timeout_again c)) (begin_abortable p c.number) w
-      (unless_firm-from c.firm c w (last_is_false c.firm (is_conditional c.kind) c.attempted (is_not_future w.now c.moment) is))
+      (unless_firm-from c.firm c w (last_is_false c.firm (is_conditional c.kind) c.attempted (is_not_future w.time c.moment) is))
       (begin_abortable-keeps p c.number)
 
   pub sent_not_begun-keeps : (p : Image) (c : CallNo) → Keeps R (sent_not_begun p c)
-  sent_not_begun-keeps p c = with_call-keeps moves c _ (λ d. looks-from moves _ (λ w. sent_not_begun_by-from p d (is_to_be_cancelled w.now d) w refl))
+  sent_not_begun-keeps p c = with_call-keeps moves c _ (λ d. looks-from moves _ (λ w. sent_not_begun_by-from p d (is_to_be_cancelled w.time d) w refl))

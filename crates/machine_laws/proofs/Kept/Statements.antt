@@ -13,7 +13,10 @@ use Rattle.profile_machine.specs.declared.expressions.VariableName.{VariableName
 use Rattle.profile_machine.specs.declared.statements.CaseAlternative.{CaseAlternative}
 use Rattle.profile_machine.specs.declared.statements.Piece.{Piece}
 use Rattle.profile_machine.specs.declared.values.Value.{Value}
-use Rattle.profile_machine.specs.World.{World, Variable, a_delay, for_moment}
+use Rattle.profile_machine.specs.declared.world.World.{World}
+use Rattle.profile_machine.specs.declared.world.scopes.Variable.{Variable}
+use Rattle.profile_machine.specs.declared.world.appointments.Due.TheVariants as due_for
+use Rattle.profile_machine.specs.declared.world.tasks.Waiting.TheVariants as waits_for
 use Rattle.profile_machine.specs.Program.{declaration_of, next_of}
 use Rattle.profile_machine.specs.Steps.{own, the_block, changes}
 use Rattle.profile_machine.specs.Frames.{goes}
@@ -123,14 +126,14 @@ module _ {R : StepRelation} {Q : MoveRelation} (moves : Moves R Q) where
   pub raise_again-keeps : (p : Image) (name : Who) (scope : ScopeNo) → Keeps R (raise_again p name scope)
   raise_again-keeps p name scope = search (sees-keeps, given-keeps, raises-keeps) depth 6
 
-  wait_until-from : (p : Image) (name : Who) (until : ℤ) (test : Bool) (w : World) → int_lt (pos w.now) until ≡ test → From R w (wait_until p name until test)
+  wait_until-from : (p : Image) (name : Who) (until : ℤ) (test : Bool) (w : World) → int_lt (pos w.time) until ≡ test → From R w (wait_until p name until test)
   wait_until-from p (who.Task t) until true w is =
-      then-from moves (changes (appoint (a_delay t) until)) (block the_block (who.Task t) for_moment) w (appoint-from moves (a_delay t) until w is) (search (block-keeps))
+      then-from moves (changes (appoint (due_for.Delay t) until)) (block the_block (who.Task t) waits_for.Moment) w (appoint-from moves (due_for.Delay t) until w is) (search (block-keeps))
   wait_until-from p (who.Task t) until false w is = keeps-from moves _ w (search (to_tail-keeps))
   wait_until-from p who.Agent until future w is = keeps-from moves _ w (search (nothing-keeps))
 
   pub delay_to-keeps : (p : Image) (name : Who) (until : ℤ) → Keeps R (delay_to p name until)
-  delay_to-keeps p name until = looks-from moves _ (λ w. wait_until-from p name until (int_lt (pos w.now) until) w refl)
+  delay_to-keeps p name until = looks-from moves _ (λ w. wait_until-from p name until (int_lt (pos w.time) until) w refl)
 
   pub delay_until-keeps : (p : Image) (name : Who) (s : StatementNo) (until : Valued ℤ) → Keeps R (delay_until p name s until)
   delay_until-keeps p name s until = search (looks-keeps, raise_if-keeps, given-keeps, goes-keeps, then-keeps, delay_to-keeps) depth 7

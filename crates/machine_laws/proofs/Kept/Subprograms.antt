@@ -11,7 +11,9 @@ use Rattle.profile_machine.specs.declared.run_data.Leaving.TheVariants as how
 use Rattle.profile_machine.specs.declared.statements.Actual.{Actual}
 use Rattle.profile_machine.specs.declared.statements.Destination.{Destination}
 use Rattle.profile_machine.specs.declared.values.Value.{Value}
-use Rattle.profile_machine.specs.World.{ResultTo, to_nowhere, to_variable, to_return, CopyBack}
+use Rattle.profile_machine.specs.declared.world.marks.ResultTo.{ResultTo}
+use Rattle.profile_machine.specs.declared.world.marks.CopyBack.{CopyBack}
+use Rattle.profile_machine.specs.declared.world.marks.ResultTo.TheVariants as bound_for
 use Rattle.profile_machine.specs.Program.{subprogram_of}
 use Rattle.profile_machine.specs.Steps.{Step, own}
 use Rattle.profile_machine.specs.Frames.{leaves}
@@ -72,10 +74,10 @@ module _ {R : StepRelation} {Q : MoveRelation} (moves : Moves R Q) where
       (store-gives moves p b.target (cell_in cells b.place) w) (λ _. copy_parameters-keeps p name cells bs step k))
 
   pub store_result-keeps : (p : Image) (name : Who) (cells : List Value) (to : ResultTo) → Keeps R (store_result p name cells to)
-  store_result-keeps p name cells to_nowhere = search (nothing-keeps)
-  store_result-keeps p name cells (to_variable v) =
+  store_result-keeps p name cells bound_for.Nowhere = search (nothing-keeps)
+  store_result-keeps p name cells (bound_for.Variable v) =
       looks-from moves _ (λ w. becomes-from moves p own name (store p v (last_cell cells) w) w (store-gives moves p v (last_cell cells) w))
-  store_result-keeps p name cells (to_return f) = search (return_result-keeps)
+  store_result-keeps p name cells (bound_for.Return f) = search (return_result-keeps)
 
   pub end_subprogram-keeps : (p : Image) (name : Who) (cells : List Value) (back : List CopyBack) (to : ResultTo) (leaving : Leaving) → Keeps R (end_subprogram p name cells back to leaving)
   end_subprogram-keeps p name cells back to leaving = search (raise_if-keeps, copy_parameters-keeps, store_result-keeps)

@@ -12,8 +12,24 @@ use Rattle.profile_machine.specs.declared.numbers.StatementNo.{StatementNo}
 use Rattle.profile_machine.specs.declared.run_data.Leaving.{Leaving}
 use Rattle.profile_machine.specs.declared.values.Value.{Value}
 use Rattle.profile_machine.specs.declared.values.Value.TheVariants as value_of
-use Rattle.profile_machine.specs.World.{World, State, Made, Runnable, Blocked, Frame, Mark, Scope, ScopeMark, ScopeId, Purpose, of_block, of_subprogram, of_entry_body, of_task, to_nowhere, Located, Drawn, Inherited, by_activation, for_activation, for_dependents, Waiting}
-use Rattle.profile_machine.specs.World as world
+use Rattle.profile_machine.specs.declared.world.World.{World}
+use Rattle.profile_machine.specs.declared.world.tasks.State.{State}
+use Rattle.profile_machine.specs.declared.world.marks.Frame.{Frame}
+use Rattle.profile_machine.specs.declared.world.marks.Mark.{Mark}
+use Rattle.profile_machine.specs.declared.world.marks.ScopeMark.{ScopeMark}
+use Rattle.profile_machine.specs.declared.world.scopes.ScopeId.{ScopeId}
+use Rattle.profile_machine.specs.declared.world.marks.Purpose.{Purpose}
+use Rattle.profile_machine.specs.declared.world.scopes.Located.{Located}
+use Rattle.profile_machine.specs.declared.world.Drawn.{Drawn}
+use Rattle.profile_machine.specs.declared.world.tasks.Inherited.{Inherited}
+use Rattle.profile_machine.specs.declared.world.tasks.Waiting.{Waiting}
+use Rattle.profile_machine.specs.declared.world.tasks.Cause.TheVariants as inherited_by
+use Rattle.profile_machine.specs.declared.world.marks.Purpose.TheVariants as opened_for
+use Rattle.profile_machine.specs.declared.world.marks.ResultTo.TheVariants as bound_for
+use Rattle.profile_machine.specs.declared.world.tasks.Waiting.TheVariants as waits_for
+use Rattle.profile_machine.specs.declared.world.marks.Mark.TheVariants.{Scope}
+use Rattle.profile_machine.specs.declared.world.tasks.State.TheVariants.{Made, Runnable, Blocked}
+use Rattle.profile_machine.specs.declared.world.tasks.Task as world
 use Rattle.profile_machine.specs.Program.{declaration_of, next_of, scope_of, task_unit_of}
 use Rattle.profile_machine.specs.Steps.{Step, Part, own, changes, looks, for_some, ◌▷◌}
 use Rattle.profile_machine.specs.Frames.{goes, has_room, pass_on, in_protected, is_deferred}
@@ -116,10 +132,10 @@ module _ {R : StepRelation} {Q : MoveRelation} (moves : Moves R Q) where
   end_body-keeps p name leaving normally kept = branch-keeps moves (is_normal leaving) normally (pass_on p name leaving) (search) (search (pass_on-keeps))
 
   pub behind_scope-keeps : (p : Image) (name : Who) (purpose : Purpose) (cells : List Value) (leaving : Leaving) → Keeps R (behind_scope p name purpose cells leaving)
-  behind_scope-keeps p name (of_block s) cells leaving = search (pass_on-keeps)
-  behind_scope-keeps p name (of_subprogram back to) cells leaving = search (end_body-keeps, end_subprogram-keeps)
-  behind_scope-keeps p name (of_entry_body c) cells leaving = search (end_body-keeps, end_body_of_entry-keeps)
-  behind_scope-keeps p name of_task cells leaving = search (end_task-keeps)
+  behind_scope-keeps p name (opened_for.Block s) cells leaving = search (pass_on-keeps)
+  behind_scope-keeps p name (opened_for.Subprogram back to) cells leaving = search (end_body-keeps, end_subprogram-keeps)
+  behind_scope-keeps p name (opened_for.EntryBody c) cells leaving = search (end_body-keeps, end_body_of_entry-keeps)
+  behind_scope-keeps p name opened_for.Task cells leaving = search (end_task-keeps)
 
   pub says_left-keeps : (p : Image) (name : Who) (m : ScopeMark) (leaving : Leaving) → Keeps R (says_left p name m leaving)
   says_left-keeps p name m leaving = search (for_some-keeps, says-keeps, then-keeps, when-keeps) depth 7

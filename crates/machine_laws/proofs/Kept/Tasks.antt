@@ -1,6 +1,6 @@
 -- Changes of tasks: each step keeps a relation that its parts keep.
 use Rattle.trace_text.specs.declared.events.Who.{Who}
-use Rattle.profile_machine.specs.World.{Task}
+use Rattle.profile_machine.specs.declared.world.tasks.Task.{Task}
 use Rattle.profile_machine.specs.Tasks.{edit_task}
 use Rattle.std.proofs.Common.{◌≡◌}
 use Rattle.machine_laws.proofs.Moves.{StepRelation, MoveRelation, Moves}

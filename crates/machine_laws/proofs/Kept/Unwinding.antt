@@ -1,7 +1,10 @@
 -- Constructs that are struck and left: each step keeps a relation that its parts keep.
 use Rattle.trace_text.specs.declared.events.Who.{Who}
 use Rattle.profile_machine.specs.declared.image.Image.{Image}
-use Rattle.profile_machine.specs.World.{State, Made, Runnable, Blocked, Waiting, for_activation, for_moment, for_call, for_end_of_call, for_accept, for_select, for_dependents, for_release}
+use Rattle.profile_machine.specs.declared.world.tasks.State.{State}
+use Rattle.profile_machine.specs.declared.world.tasks.Waiting.{Waiting}
+use Rattle.profile_machine.specs.declared.world.tasks.Waiting.TheVariants as waits_for
+use Rattle.profile_machine.specs.declared.world.tasks.State.TheVariants.{Made, Runnable, Blocked}
 use Rattle.profile_machine.specs.Steps.{Part}
 use Rattle.profile_machine.specs.Unwinding.{strike_outermost, leave_by_abort, stop_waiting, wake_and_leave, unwind_blocked, unwind_in, unwind}
 use Rattle.machine_laws.proofs.Moves.{StepRelation, MoveRelation, Moves}
@@ -26,14 +29,14 @@ module _ {R : StepRelation} {Q : MoveRelation} (moves : Moves R Q) where
   wake_and_leave-keeps p part name = search (stop_waiting-keeps, then-keeps, leave_by_abort-keeps)
 
   pub unwind_blocked-keeps : (p : Image) (part : Part) (name : Who) (waiting : Waiting) → Keeps R (unwind_blocked p part name waiting)
-  unwind_blocked-keeps p part name (for_call c) = search (attempt-keeps, changes-keeps, forget_call-alters, then-keeps, wake_and_leave-keeps, nothing-keeps)
-  unwind_blocked-keeps p part name (for_end_of_call c) = search (nothing-keeps)
-  unwind_blocked-keeps p part name for_activation = search (wake_and_leave-keeps)
-  unwind_blocked-keeps p part name for_moment = search (wake_and_leave-keeps)
-  unwind_blocked-keeps p part name (for_accept s) = search (wake_and_leave-keeps)
-  unwind_blocked-keeps p part name (for_select accepts delay terminate) = search (wake_and_leave-keeps)
-  unwind_blocked-keeps p part name (for_dependents r) = search (wake_and_leave-keeps)
-  unwind_blocked-keeps p part name for_release = search (nothing-keeps)
+  unwind_blocked-keeps p part name (waits_for.Call c) = search (attempt-keeps, changes-keeps, forget_call-alters, then-keeps, wake_and_leave-keeps, nothing-keeps)
+  unwind_blocked-keeps p part name (waits_for.EndOfCall c) = search (nothing-keeps)
+  unwind_blocked-keeps p part name waits_for.Activation = search (wake_and_leave-keeps)
+  unwind_blocked-keeps p part name waits_for.Moment = search (wake_and_leave-keeps)
+  unwind_blocked-keeps p part name (waits_for.Accept s) = search (wake_and_leave-keeps)
+  unwind_blocked-keeps p part name (waits_for.Select accepts delay terminate) = search (wake_and_leave-keeps)
+  unwind_blocked-keeps p part name (waits_for.Dependents r) = search (wake_and_leave-keeps)
+  unwind_blocked-keeps p part name waits_for.Release = search (nothing-keeps)
 
   pub unwind_in-keeps : (p : Image) (part : Part) (name : Who) (state : State) → Keeps R (unwind_in p part name state)
   unwind_in-keeps p part name Made = search (nothing-keeps)

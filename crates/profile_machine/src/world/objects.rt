@@ -1,0 +1,40 @@
+//! Protected objects and the actions that are open on them (9.4, 9.5.1).
+use crate::numbers::ProtectedUnitNo;
+use crate::world::scopes::Located;
+use ann_base::{CallNo, Level, ObjectNo};
+use trace_text::{Mode, Who};
+use world_tables::List;
+
+/// An open protected action: whose it is, and whether it reads or writes.
+#[derive(Clone, Copy)]
+pub struct Action {
+    pub who: Who,
+    pub mode: Mode,
+}
+
+/// A protected object (9.4).
+#[derive(Drop)]
+pub struct Object {
+    pub number: ObjectNo,
+    pub unit: ProtectedUnitNo,
+    pub located: Located,
+    /// The ceiling priority (D.3).
+    pub ceiling: Level,
+    /// The actions that are open, the newest first.
+    pub actions: List<Action>,
+    /// The calls that are queued on each of its entries.
+    pub queues: List<List<CallNo>>,
+}
+
+/// Whether a protected action may begin (9.5.1, D.3).
+#[derive(Clone, Copy)]
+pub enum Entering {
+    /// The caller has an action open on the object.
+    SameObject,
+    /// The priority of the caller is above the ceiling.
+    AboveCeiling,
+    /// Another has an action open that excludes it.
+    Held,
+    /// The action may begin.
+    Inside,
+}

@@ -3,7 +3,7 @@ use Rattle.std.proofs.Common.{◌≡◌, ℕ, ◌<◌, ◌≤◌, zero, suc, Boo
 use Rattle.std.proofs.lemmas.Bool.Decides.{nat_tests}
 use Rattle.std.specs.List.Sorted.{IsPartitionPoint}
 use borrow.Author.Tests.{ltb-true, ltb-false, eqb-true, eqb-false}
-use Rattle.world_tables.specs.Tables.{item_at, with_item, put, without, numbers_of, first_from}
+use Rattle.world_tables.specs.Tables.{item_at, with_item, put, without, numbers_of, first_from, before_unless}
 use Rattle.world_tables.specs.Rising.{StartsAbove, IsRising, Divides, Stands, Misses}
 
 -- tests of two numbers
@@ -155,7 +155,7 @@ module _ {X : Type 0} where
   StartsAbove-without m n [] start up = tt
   StartsAbove-without m n (e ∷ es) start up = go (e.0 == n) (StartsAbove-without m n es (StartsAbove-weaker m e.0 es (let h = start in omega arith) up.0) up.1)
     where
-      go : (b : Bool) → StartsAbove m (without n es) → StartsAbove m (cond b (without n es) (e ∷ without n es))
+      go : (b : Bool) → StartsAbove m (without n es) → StartsAbove m (before_unless b e (without n es))
       go true more = more
       go false more = start
 
@@ -164,7 +164,7 @@ module _ {X : Type 0} where
   IsRising-without n [] up = tt
   IsRising-without n (e ∷ es) up = go (e.0 == n) (IsRising-without n es up.1)
     where
-      go : (b : Bool) → IsRising (without n es) → IsRising (cond b (without n es) (e ∷ without n es))
+      go : (b : Bool) → IsRising (without n es) → IsRising (before_unless b e (without n es))
       go true more = more
       go false more = (StartsAbove-without e.0 n es up.0 up.1, more)
 

@@ -2,7 +2,7 @@
 use Rattle.std.proofs.Common.{◌≡◌, ◌≢◌, ℕ, ◌<◌, suc, Bool, true, false, cond, ◌==◌, nat_lt, List, [], ◌∷◌, ◌++◌, length, Option, Some, None, refl, sym, ap, ◌∙◌, arith, option_map}
 use Rattle.std.proofs.lemmas.Bool.Decides.{nat_tests}
 use borrow.Author.Tests.{ltb-true, eqb-true}
-use Rattle.world_tables.specs.Tables.{item_at, with_item, edited_found, edited, put, without, numbers_of, with_number, without_number, AreBelow}
+use Rattle.world_tables.specs.Tables.{item_at, with_item, edited_found, edited, put, without, numbers_of, with_number, without_number, AreBelow, before_unless}
 
 -- tests of two numbers
 same : (n : ℕ) → (n == n) ≡ true
@@ -188,7 +188,7 @@ module _ {X : Type 0} where
   item_at-without n [] = refl
   item_at-without n (e ∷ es) = go (e.0 == n) refl (item_at-without n es)
     where
-      go : (b : Bool) → (e.0 == n) ≡ b → item_at n (without n es) ≡ None → item_at n (cond b (without n es) (e ∷ without n es)) ≡ None
+      go : (b : Bool) → (e.0 == n) ≡ b → item_at n (without n es) ≡ None → item_at n (before_unless b e (without n es)) ≡ None
       go true q more = more
       go false q more = rw q more
 
@@ -197,7 +197,7 @@ module _ {X : Type 0} where
   item_at-without-other m n [] other = refl
   item_at-without-other m n (e ∷ es) other = go (e.0 == n) refl (item_at-without-other m n es other)
     where
-      go : (b : Bool) → (e.0 == n) ≡ b → item_at m (without n es) ≡ item_at m es → item_at m (cond b (without n es) (e ∷ without n es)) ≡ item_at m (e ∷ es)
+      go : (b : Bool) → (e.0 == n) ≡ b → item_at m (without n es) ≡ item_at m es → item_at m (before_unless b e (without n es)) ≡ item_at m (e ∷ es)
       go true q more = let kept : e.0 ≢ m = λ h. other (sym h ∙ eqb-true _ _ q) in rw (apart e.0 m kept) more
       go false q more = rw more
 
@@ -206,7 +206,7 @@ module _ {X : Type 0} where
   without-absent n [] absent = refl
   without-absent n (e ∷ es) absent = go (e.0 == n) absent (without-absent n es)
     where
-      go : (b : Bool) → cond b (Some e.1) (item_at n es) ≡ None → (item_at n es ≡ None → without n es ≡ es) → cond b (without n es) (e ∷ without n es) ≡ e ∷ es
+      go : (b : Bool) → cond b (Some e.1) (item_at n es) ≡ None → (item_at n es ≡ None → without n es ≡ es) → before_unless b e (without n es) ≡ e ∷ es
       go true absent more = cc
       go false absent more = ap (λ zs. e ∷ zs) (more absent)
 
@@ -215,7 +215,7 @@ module _ {X : Type 0} where
   numbers_of-without n [] = refl
   numbers_of-without n (e ∷ es) = go (e.0 == n) (numbers_of-without n es)
     where
-      go : (b : Bool) → numbers_of (without n es) ≡ without_number n (numbers_of es) → numbers_of (cond b (without n es) (e ∷ without n es)) ≡ cond b (without_number n (numbers_of es)) (e.0 ∷ without_number n (numbers_of es))
+      go : (b : Bool) → numbers_of (without n es) ≡ without_number n (numbers_of es) → numbers_of (before_unless b e (without n es)) ≡ before_unless b e.0 (without_number n (numbers_of es))
       go true more = more
       go false more = rw more
 

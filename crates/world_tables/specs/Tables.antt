@@ -1,5 +1,5 @@
 -- Items by number: a list of pairs, each a number with its item, in rising order of the numbers.
-use Rattle.std.specs.Prelude.{ℕ, ◌<◌, Bool, ◌==◌, nat_lt, if◌then◌else◌, List, [], ◌∷◌, map, is_some, Option, Some, None}
+use Rattle.std.specs.Prelude.{ℕ, ◌<◌, Bool, false, true, ◌==◌, nat_lt, if◌then◌else◌, List, [], ◌∷◌, map, is_some, Option, Some, None}
 
 -- the item with this number, if it is there
 unfoldable pub item_at : {X : Type 0} → ℕ → List (ℕ × X) → Option X
@@ -29,10 +29,15 @@ unfoldable pub put : {X : Type 0} → ℕ → X → List (ℕ × X) → List (�
 put n x [] = (n, x) ∷ []
 put n x (e ∷ es) = if nat_lt e.0 n then e ∷ put n x es else (if e.0 == n then (n, x) ∷ es else (n, x) ∷ e ∷ es)
 
+-- x before the others, or the others alone
+abbrev pub before_unless : {X : Type 0} → Bool → X → List X → List X
+before_unless true x xs = xs
+before_unless false x xs = x ∷ xs
+
 -- the items with another number
 unfoldable pub without : {X : Type 0} → ℕ → List (ℕ × X) → List (ℕ × X)
 without n [] = []
-without n (e ∷ es) = if e.0 == n then without n es else e ∷ without n es
+without n (e ∷ es) = before_unless (e.0 == n) e (without n es)
 
 -- the numbers in order
 abbrev pub numbers_of : {X : Type 0} → List (ℕ × X) → List ℕ
@@ -51,7 +56,7 @@ with_number n (m ∷ ms) = if nat_lt m n then m ∷ with_number n ms else (if m 
 -- the numbers other than n
 unfoldable pub without_number : ℕ → List ℕ → List ℕ
 without_number n [] = []
-without_number n (m ∷ ms) = if m == n then without_number n ms else m ∷ without_number n ms
+without_number n (m ∷ ms) = before_unless (m == n) m (without_number n ms)
 
 -- every number is below n
 abbrev pub AreBelow : {X : Type 0} → ℕ → List (ℕ × X) → Type 0

@@ -1,5 +1,5 @@
 -- A loop that makes at most so many turns, by how many are left.
-use Rattle.std.proofs.Common.{◌≡◌, ℕ, zero, suc, ◌+◌, ◌-◌, ◌<◌, ◌≤◌, ap, sym, ◌∙◌, arith}
+use Rattle.std.proofs.Common.{◌≡◌, ℕ, suc, ◌+◌, ◌-◌, ◌<◌, ◌≤◌, ap, sym, ◌∙◌, arith}
 
 after_turn : (turn end : ℕ) → turn < end → suc (end - (turn + 1)) ≡ end - turn
 after_turn turn end p = omega arith

@@ -8,7 +8,7 @@ use Rattle.ann_base.specs.declared.faults.OrMemory.{OrMemory}
 use Rattle.ann_base.specs.declared.faults.OrMemory.TheVariants as answer
 use Rattle.ada_grammar.specs.declared.stuck.Stuck.{Stuck}
 use Rattle.ada_grammar.specs.Reading.{Read, sees_word}
-use Rattle.ada_grammar.specs.Reads.{Stops}
+use Rattle.ada_expressions.specs.Lists.{Stopped}
 use Rattle.ada_expressions.specs.Turns.{one_more, no_more}
 use Rattle.ada_grammar.specs.ReadingUnits.{context_of, package_of, packages_from}
 
@@ -21,8 +21,8 @@ module _ (left : ℕ) where
   context_stops_at zero found ls why e = rw e refl
   context_stops_at (suc fuel) found ls why e = rw e refl
 
-  pub context_stops : (fuel : ℕ) (found : List LibraryPackage) (ls : List Lexeme) (why : OrMemory Stuck) (whole : Read Packages) → Stops why (context_of ls)
-      → packages_from left fuel found ls ≡ whole → Stops why whole
+  pub context_stops : (fuel : ℕ) (found : List LibraryPackage) (ls : List Lexeme) (why : OrMemory Stuck) (whole : Read Packages) → Stopped why (context_of ls)
+      → packages_from left fuel found ls ≡ whole → Stopped why whole
   context_stops fuel found ls answer.Memory whole e is = tt
   context_stops fuel found ls (answer.Fault why) whole e is = sym is ∙ context_stops_at fuel found ls why e
 
@@ -63,7 +63,7 @@ module _ (left : ℕ) where
   package_stops_at fuel found context ls m why e f h = rw (e, f, h) refl
 
   pub package_stops : (turn end : ℕ) (found : List LibraryPackage) (context : List ContextClause) (ls m : List Lexeme) (why : OrMemory Stuck) (whole : Read Packages) → turn < end
-      → context_of ls ≡ Ok (context, m) → sees_word (codes "package") m ≡ true → Stops why (package_of left m) → packages_from left (end - turn) found ls ≡ whole → Stops why whole
+      → context_of ls ≡ Ok (context, m) → sees_word (codes "package") m ≡ true → Stopped why (package_of left m) → packages_from left (end - turn) found ls ≡ whole → Stopped why whole
   package_stops turn end found context ls m answer.Memory whole p e f h is = tt
   package_stops turn end found context ls m (answer.Fault why) whole p e f h is =
       sym (one_more (λ k. packages_from left k found ls) whole turn end p is) ∙ package_stops_at (end - (turn + 1)) found context ls m why e f h

@@ -4,5 +4,5 @@ use Rattle.ada_expressions.proofs.names.add_identifiers.Given as goal
 
 abbrev pub invariant-loop-turn : goal.invariant-loop-turn
 invariant-loop-turn l =
-    items_from (sees_delimiter l.subtype) (behind_delimiter_of l.subtype an_identifier) (l._turn-end - l._turn) l.identifiers l.cursor
-    ≡ items_from (sees_delimiter l.subtype) (behind_delimiter_of l.subtype an_identifier) (length l.fn.cursor) l.fn.identifiers l.fn.cursor
+    items_from (sees_delimiter l.delimiter) (behind_delimiter_of l.delimiter an_identifier) (l._turn-end - l._turn) l.identifiers l.cursor
+    ≡ items_from (sees_delimiter l.delimiter) (behind_delimiter_of l.delimiter an_identifier) (length l.fn.cursor) l.fn.identifiers l.fn.cursor

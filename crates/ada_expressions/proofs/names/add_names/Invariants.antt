@@ -4,5 +4,5 @@ use Rattle.ada_expressions.proofs.names.add_names.Given as goal
 
 abbrev pub invariant-loop-turn : goal.invariant-loop-turn
 invariant-loop-turn l =
-    items_from (sees_delimiter l.subtype) (behind_delimiter_of l.subtype name_of) (l._turn-end - l._turn) l.names l.cursor
-    ≡ items_from (sees_delimiter l.subtype) (behind_delimiter_of l.subtype name_of) (length l.fn.cursor) l.fn.names l.fn.cursor
+    items_from (sees_delimiter l.delimiter) (behind_delimiter_of l.delimiter name_of) (l._turn-end - l._turn) l.names l.cursor
+    ≡ items_from (sees_delimiter l.delimiter) (behind_delimiter_of l.delimiter name_of) (length l.fn.cursor) l.fn.names l.fn.cursor

@@ -7,6 +7,7 @@ use Rattle.sched_tests.specs.declared.duties.Duty.{Duty}
 use Rattle.sched_tests.specs.declared.duties.TableFault.{TableFault}
 use Rattle.sched_tests.specs.declared.duties.TableFaultKind.{TableFaultKind}
 use Rattle.sched_tests.specs.declared.duties.TableFaultKind.TheVariants.{BadLine, BadNumber, Twice, TooMany, Empty}
+use Rattle.sched_tests.specs.declared.lines.TextLine.{TextLine}
 use Rattle.sched_tests.specs.declared.reading.Words.{Words}
 use Rattle.sched_tests.specs.Lines.{Line, lines_of, words_of}
 
@@ -35,7 +36,10 @@ numeral_value word = fold (λ value digit. value * 10 + (digit - 48)) 0 word
 
 -- the number of a word, where it is one in a range
 abbrev pub number_in : ℕ → ℕ → List ℕ → Option ℕ
-number_in low high word = if is_numeral word && nat_le low (numeral_value word) && nat_le (numeral_value word) high then Some (numeral_value word) else None
+number_in low high word =
+    if is_numeral word && nat_le low (numeral_value word) && nat_le (numeral_value word) high
+    then Some (numeral_value word)
+    else None
 
 -- The six words of a duty: name, cost, period, deadline, blocking, priority.
 pub record Fields : Type 0 where
@@ -46,13 +50,29 @@ pub record Fields : Type 0 where
   pub blocking : List ℕ
   pub priority : List ℕ
 
--- the words as the program has them
+-- the words, and a line, as the program has them
 abbrev pub words_in : Words → Fields
-words_in words = record { name = words.name.now; cost = words.cost.now; period = words.period.now; deadline = words.deadline.now; blocking = words.blocking.now; priority = words.priority.now }
+words_in words = record {
+  name = words.name.now;
+  cost = words.cost.now;
+  period = words.period.now;
+  deadline = words.deadline.now;
+  blocking = words.blocking.now;
+  priority = words.priority.now;
+}
+
+abbrev pub line_in : TextLine → Line
+line_in line = record { number = line.number; stop = line.stop; text = line.text.now }
 
 -- no word is empty, and the first is a name
 abbrev pub are_fields : Fields → Bool
-are_fields words = is_name words.name && not (length words.cost == 0) && not (length words.period == 0) && not (length words.deadline == 0) && not (length words.blocking == 0) && not (length words.priority == 0)
+are_fields words =
+    is_name words.name
+    && not (length words.cost == 0)
+    && not (length words.period == 0)
+    && not (length words.deadline == 0)
+    && not (length words.blocking == 0)
+    && not (length words.priority == 0)
 
 -- six words and no others
 abbrev pub six_words : List (List ℕ) → Option Fields
@@ -67,7 +87,13 @@ duty_with name (Some cost) (Some period) (Some deadline) (Some blocking) (Some p
 duty_with _ _ _ _ _ _ = None
 
 abbrev pub duty_in : Fields → Option Duty
-duty_in words = duty_with words.name (number_in 1 LONGEST words.cost) (number_in 1 LONGEST words.period) (number_in 1 LONGEST words.deadline) (number_in 0 LONGEST words.blocking) (number_in 0 MOST_PRIORITY words.priority)
+duty_in words =
+    duty_with words.name
+    (number_in 1 LONGEST words.cost)
+    (number_in 1 LONGEST words.period)
+    (number_in 1 LONGEST words.deadline)
+    (number_in 0 LONGEST words.blocking)
+    (number_in 0 MOST_PRIORITY words.priority)
 
 -- what the words of a line say, or why they are refused
 abbrev pub duty_if_numbers : Option Duty → Result Duty TableFaultKind
@@ -88,7 +114,9 @@ is_taken duties name = list_any (λ duty. bytes_eq duty.name name) duties
 -- the duties with one more, or why it is refused: its name is taken, or there are 200 already
 abbrev pub with_duty : List Duty → Result Duty TableFaultKind → Result (List Duty) TableFaultKind
 with_duty duties (Err kind) = Err kind
-with_duty duties (Ok duty) = if is_taken duties duty.name then Err Twice else (if nat_lt (length duties) MOST_DUTIES then Ok (duties ++ duty ∷ []) else Err TooMany)
+with_duty duties (Ok duty) =
+    if is_taken duties duty.name then Err Twice
+    else (if nat_lt (length duties) MOST_DUTIES then Ok (duties ++ duty ∷ []) else Err TooMany)
 
 -- a line says nothing: it is empty, or a comment that begins with two hyphens
 abbrev pub is_silent : List ℕ → Bool
@@ -98,7 +126,9 @@ is_silent (first ∷ second ∷ rest) = (first == 45) && (second == 45)
 
 -- the duties after a line, or why it is refused; first of all it ends within 65,536 bytes
 abbrev pub after_line : List Duty → Line → Result (List Duty) TableFaultKind
-after_line duties line = if nat_lt TABLE_BYTES line.stop then Err TooMany else (if is_silent line.text then Ok duties else with_duty duties (duty_of line.text))
+after_line duties line =
+    if nat_lt TABLE_BYTES line.stop then Err TooMany
+    else (if is_silent line.text then Ok duties else with_duty duties (duty_of line.text))
 
 -- the line is named where it is refused
 abbrev pub at_line : ℕ → Result (List Duty) TableFaultKind → Result (List Duty) TableFault

@@ -85,8 +85,7 @@ pub struct TableFault {
     pub kind: TableFaultKind,
 }
 
-/// Duties in the order of their lines: at least one and at most 200, each within the limits. Contracts
-/// see the list.
+/// Duties in the order of their lines, at most 200, each within the limits. Contracts see the list.
 #[derive(Drop)]
 pub struct Table {
     pub(crate) duties: Vec<Duty>,

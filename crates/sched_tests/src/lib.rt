@@ -1,5 +1,6 @@
-//! Tests of schedulability over a table of duties, after Burns and Wellings: response times under fixed
-//! priorities, and the processor demand under earliest deadline first. `docs/SCHEDULING.md` explains both.
+//! Tests of schedulability over a table of duties, after Burns and Wellings: response times under
+//! fixed priorities, and the processor demand under earliest deadline first.
+//! `docs/SCHEDULING.md` explains both.
 #![tactic(auto)]
 
 mod demands;

@@ -1,7 +1,7 @@
 //! How the bytes of a table are cut into lines, and a line into words.
 ghost use Rattle.std.specs.Prelude.{◌≡◌, ◌<◌, ◌≤◌, ◌+◌, ◌∷◌, ◌==◌, [], drop, length, MatchOption, position};
 ghost use Rattle.std.specs.Str.Lines.{strip_carriage_return};
-ghost use Rattle.sched_tests.specs.Lines.{parts_at, lines_from, words_of};
+ghost use Rattle.sched_tests.specs.Lines.{IsLineAt, words_of};
 
 /// A line of a table: its number, its text without its end, and the offset behind its end.
 #[derive(Clone, Copy)]
@@ -41,7 +41,7 @@ pub fn line_at(bytes: &[u8], number: u32, start: usize) -> TextLine<'_>
     requires { start < length bytes.now }
     ensures number { result.number ≡ number }
     ensures stop { (start < result.stop) × (result.stop ≤ length bytes.now) }
-    ensures line { lines_from number start (parts_at 10 (drop start bytes.now)) ≡ record { number = number; stop = result.stop; text = result.text.now } ∷ lines_from (number + 1) result.stop (parts_at 10 (drop result.stop bytes.now)) }
+    ensures line { IsLineAt bytes.now number start result.stop result.text.now }
 {
     let rest = rest_from(bytes, start);
     match place_of(rest, b'\n') {
@@ -58,7 +58,7 @@ pub fn line_at(bytes: &[u8], number: u32, start: usize) -> TextLine<'_>
     }
 }
 
-/// The word before the first space, and what stands behind that space; none where there is no space.
+/// The word before the first space, and what stands behind it; none where there is no space.
 pub fn next_word(text: &[u8]) -> Option<(&[u8], &[u8])>
     ensures { MatchOption result (words_of text.now ≡ text.now ∷ []) (λ cut. words_of text.now ≡ cut.0.now ∷ words_of cut.1.now) }
 {

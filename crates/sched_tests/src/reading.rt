@@ -3,7 +3,7 @@ ghost use Rattle.std.specs.Prelude.{◌≡◌, ◌<◌, ◌≤◌, ◌+◌, ◌*
 ghost use Rattle.std.specs.List.{list_all};
 ghost use Rattle.ann_base.specs.Answers.{Answers, AnswersAs};
 ghost use Rattle.sched_tests.specs.Lines.{words_of};
-ghost use Rattle.sched_tests.specs.Reading.{is_name_byte, is_name, is_digit, is_numeral, numeral_value, number_in, words_in, are_fields, six_words, duty_in, duty_of, is_taken, is_silent, with_duty, at_line, read_line, table_of};
+ghost use Rattle.sched_tests.specs.Reading.{is_name_byte, is_name, is_digit, is_numeral, numeral_value, number_in, words_in, are_fields, six_words, line_in, duty_in, duty_of, is_taken, is_silent, with_duty, at_line, read_line, table_of};
 ghost use Rattle.sched_tests.specs.Tables.{IsDuty, IsTable};
 
 use crate::duties::{
@@ -212,7 +212,7 @@ fn add_duty(duties: &mut Vec<Duty>, number: u32, duty: Duty) -> Result<(), OrMem
 /// Adds what a line says; nothing is read past a line that is refused.
 fn read_line(duties: &mut Vec<Duty>, line: TextLine<'_>) -> Result<(), OrMemory<TableFault>>
     requires { IsTable duties.old.items }
-    ensures read { AnswersAs (λ _. duties.new.items) result (read_line (Ok duties.old.items) (record { number = line.entry.number; stop = line.entry.stop; text = line.entry.text.now })) }
+    ensures read { AnswersAs (λ _. duties.new.items) result (read_line (Ok duties.old.items) (line_in line.entry)) }
     ensures table { OnOk result (IsTable duties.new.items) }
     ensures short { OnOk result (line.entry.stop ≤ TABLE_BYTES) }
 {
@@ -234,9 +234,11 @@ fn read_line(duties: &mut Vec<Duty>, line: TextLine<'_>) -> Result<(), OrMemory<
     }
 }
 
-/// The table that these bytes say. A fault is that of the first line that is refused, or that there is no duty.
+/// The table that these bytes say. A fault is that of the first line that is refused, or that there is
+/// no duty.
 pub fn read_table(alloc: Global, bytes: &[u8]) -> Result<Table, OrMemory<TableFault>>
-    ensures { Answers result (table_of bytes.now) }
+    ensures exact { Answers result (table_of bytes.now) }
+    ensures limits { IfOk result IsTable }
 {
     let mut duties = Vec::new(alloc);
     let mut number = 0;

@@ -50,8 +50,8 @@ fn behind(duties: &[Duty], place: usize) -> &[Duty]
     &duties[place + 1..]
 }
 
-/// What is needed in a window: the cost and the blocking of the duty at this place, and what the others of at
-/// least its priority ask for.
+/// What is needed in a window: the cost and the blocking of the duty at this place, and what the
+/// others of at least its priority ask for.
 fn need(duties: &[Duty], place: usize, window: u32) -> u64
     requires table { IsTable duties.now }
     requires place { place < length duties.now }
@@ -64,16 +64,16 @@ fn need(duties: &[Duty], place: usize, window: u32) -> u64
     own.cost as u64 + own.blocking as u64 + above + below
 }
 
-/// What duties ask for at the least in any window from a given one on: a cost, and a share of the window in parts of
-/// `SCALE`.
+/// What duties ask for at the least in any window from a given one on: a cost, and a share of the
+/// window in parts of `SCALE`.
 #[derive(Clone, Copy)]
 struct Floor {
     once: u64,
     share: u64,
 }
 
-/// The least that these duties ask for, of those that have at least this priority: the ones whose period is as
-/// long as the window ask once, and the others for their share of it.
+/// The least that these duties ask for, of those that have at least this priority: the ones whose
+/// period is as long as the window ask once, and the others for their share of it.
 fn floor_of(duties: &[Duty], priority: u8, window: u32) -> Floor
     requires { IsTable duties.now }
     ensures once { result.once ≡ once_of window priority duties.now }
@@ -95,8 +95,8 @@ fn floor_of(duties: &[Duty], priority: u8, window: u32) -> Floor
     Floor { once, share }
 }
 
-/// A length below which no window from this one on is enough for the duty at this place. Where the duties above
-/// it take almost the whole processor, it lies far beyond what is needed in the window.
+/// A length below which no window from this one on is enough for the duty at this place. Where the
+/// duties above it take almost the whole processor, it lies far beyond what is needed in the window.
 fn shortest_from(duties: &[Duty], place: usize, window: u32) -> u64
     requires table { IsTable duties.now }
     requires place { place < length duties.now }
@@ -138,8 +138,8 @@ fn least_enough(duties: &[Duty], place: usize) -> Option<u32>
     None
 }
 
-/// The response time of the duty at this place: the least window, of at most its deadline, that is no shorter
-/// than what is needed in it. None exactly where there is none, so that it may miss its deadline.
+/// The response time of the duty at this place: the least window, of at most its deadline, that is no
+/// shorter than what is needed in it. None exactly where there is none: it may miss its deadline.
 pub fn response(table: &Table, place: u32) -> Option<u32>
     requires { place < length table.now }
     ensures least { IsResponse table.now place result }

@@ -4,8 +4,8 @@ use Rattle.sched_tests.specs.Lines.{parts_at, lines_from}
 use Rattle.sched_tests.proofs.Refusals.{refused}
 use Rattle.sched_tests.proofs.reading.read_table.Goals as goal
 
-pub returns-in_err-read_line : goal.returns-in_err-read_line
-returns-in_err-read_line c =
+pub returns-in_err-read_line-clause-exact : goal.returns-in_err-read_line-clause-exact
+returns-in_err-read_line-clause-exact c =
     let p = err_from_is_err_and c.from_residual.result c.from_residual.ensures.1 in
     let rest = rw c.line_at-line.ensures.line at c.loop-start.invariant.rest in
     let read = rw c.line_at-line.ensures.number at c.in_err-read_line.ensures.read in

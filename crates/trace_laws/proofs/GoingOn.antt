@@ -7,20 +7,17 @@ use Rattle.ann_base.specs.declared.faults.OrMemory.{OrMemory}
 use Rattle.ann_base.specs.Answers.{Answers}
 use Rattle.trace_text.specs.declared.events.Who.{Who}
 use Rattle.trace_text.specs.declared.events.Who.TheVariants as subject
-use Rattle.trace_text.specs.declared.events.Entry.{Entry}
-use Rattle.trace_text.specs.declared.events.Action.{Action}
 use Rattle.trace_text.specs.declared.events.Event.{Event}
 use Rattle.trace_text.specs.declared.events.Event.TheVariants.{Enter, Release, Serve, Served}
-use Rattle.trace_text.specs.Queue.{Line, Sight, see, nothing_seen, seen_from, last_from, follows_ticks, follows_lines, somebody_eq, who_of, head_of, entry_of}
-use Rattle.trace_text.specs.Laws.{Levels, no_levels, see_levels, level_of, base_of, is_entry_below, is_below_ceiling, actions_after, is_exclusive, Releases, no_releases, see_releases, count_release, one_off, is_in_order, is_agent_right, remember, is_rightly_left, follows_dispatch, follows_ceilings, follows_exclusion, follows_handlers, follows_leaving, follows_laws, follows_form}
-use Rattle.trace_lines.specs.Seen.{Seen, nothing_kept, see_line, seen_after, seen_of, with_line, is_formed_after}
+use Rattle.trace_text.specs.Queue.{Line, Sight, see, nothing_seen, seen_from, last_from, follows_ticks, follows_lines, somebody_eq, who_of, head_of}
+use Rattle.trace_text.specs.Laws.{Levels, no_levels, see_levels, level_of, base_of, is_below_ceiling, actions_after, is_exclusive, no_releases, see_releases, one_off, is_in_order, is_agent_right, remember, is_rightly_left, follows_dispatch, follows_ceilings, follows_exclusion, follows_handlers, follows_leaving, follows_laws, follows_form}
+use Rattle.trace_lines.specs.Seen.{Seen, see_line, seen_after, seen_of, with_line, is_formed_after}
 use Rattle.trace_laws.specs.declared.counts.Counts.{Counts}
 use Rattle.trace_laws.specs.declared.laws.Law.{Law}
 use Rattle.trace_laws.specs.declared.laws.Law.TheVariants.{Dispatch, Ceiling, Exclusive, Handlers, Left}
-use Rattle.trace_laws.specs.declared.laws.LawFault.{LawFault}
-use Rattle.trace_laws.specs.declared.laws.LawFault.TheVariants.{Malformed, Broken}
-use Rattle.trace_laws.specs.Regions.{Leavings, no_leavings, leavings_after, is_left_rightly}
-use Rattle.trace_laws.specs.Watched.{Watched, nothing_watched, nothing_counted, other_than, counts_after, watch_line, watched_after, watched_of, is_dispatch_kept, levels_in, releases_in, are_handlers_kept, broken_by, fault_of, answer_after, first_broken, answer_of}
+use Rattle.trace_laws.specs.declared.laws.LawFault.TheVariants.{Malformed}
+use Rattle.trace_laws.specs.Regions.{leavings_after, is_left_rightly}
+use Rattle.trace_laws.specs.Watched.{Watched, nothing_watched, other_than, counts_after, watch_line, watched_after, watched_of, is_dispatch_kept, levels_in, releases_in, are_handlers_kept, broken_by, fault_of, answer_after, first_broken, answer_of}
 use Rattle.trace_laws.proofs.RegionsKept.{leavings_of, left_rightly_kept}
 
 -- tests of two parts

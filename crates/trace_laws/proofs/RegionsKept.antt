@@ -1,12 +1,11 @@
 -- What is kept of the `init`, `final`, `leave` and `left` lines says what the law of leaving asks of all lines before.
-use Rattle.std.proofs.Common.{◌≡◌, ℕ, Bool, true, false, cond, not, ◌&&◌, ◌||◌, eqb, List, [], ◌∷◌, ◌++◌, length, refl, ap, sym, ◌∙◌}
+use Rattle.std.proofs.Common.{◌≡◌, ℕ, Bool, true, false, cond, not, ◌&&◌, ◌||◌, eqb, List, [], ◌∷◌, ◌++◌, length, refl, ap, ◌∙◌}
 use Rattle.std.proofs.Math.Dec.{eqb-suc-zero}
 use Rattle.std.specs.List.{list_all}
 use Rattle.trace_text.specs.declared.events.Event.{Event}
 use Rattle.trace_text.specs.declared.events.Event.TheVariants.{Leave, Init, Final, Left, Replace}
-use Rattle.trace_text.specs.Laws.{is_left_before, is_leaving, inits_of, regions_of, has, finals_among, is_final_before, is_front_of, is_next_final, is_rightly_left}
-use Rattle.trace_laws.specs.declared.regions.Registration.{Registration}
-use Rattle.trace_laws.specs.Regions.{Leavings, no_leavings, leavings_after, objects_in, finals_in, is_open, is_next_final_in, is_registered, is_next_final_of, is_left_rightly}
+use Rattle.trace_text.specs.Laws.{is_left_before, is_leaving, inits_of, regions_of, has, finals_among, is_final_before, is_next_final, is_rightly_left}
+use Rattle.trace_laws.specs.Regions.{Leavings, no_leavings, leavings_after, objects_in, finals_in, is_next_final_in, is_registered, is_next_final_of, is_left_rightly}
 
 -- what is kept of the events before, of which the last stands first
 abbrev pub leavings_of : List Event → Leavings

@@ -1,7 +1,9 @@
 -- What is answered of the bytes of a whole trace: the first line that is no line, does not keep the list formed or breaks a law.
-use Rattle.std.specs.Prelude.{ℕ, ◌+◌, Bool, ◌==◌, if◌then◌else◌, nat_lt, List, [], ◌∷◌, ◌++◌, Option, Some, None, Result, Ok, Err, length}
+use Rattle.std.specs.Prelude.{◌≡◌, ◌<◌, ◌⊎◌, ℕ, ◌+◌, ◌==◌, if◌then◌else◌, nat_lt, List, [], ◌∷◌, ◌++◌, Option, Some, None, Result, Ok, Err, length}
 use Rattle.trace_text.specs.Queue.{Line}
+use Rattle.trace_text.specs.Laws.{Formed, KeepsLaws}
 use Rattle.trace_reading.specs.Lines.{line_in}
+use Rattle.trace_laws.specs.declared.laws.Law.{Law}
 use Rattle.trace_laws.specs.declared.laws.LawFault.{LawFault}
 use Rattle.trace_laws.specs.declared.laws.LawFault.TheVariants.{Malformed, Broken}
 use Rattle.trace_laws.specs.declared.verdicts.Verdict.{Verdict}
@@ -37,3 +39,56 @@ verdict_from before lines (text ∷ texts) =
 
 abbrev pub laws_answer : List ℕ → Verdict
 laws_answer bytes = verdict_from 0 [] (texts_in bytes)
+
+-- each text is the line
+abbrev pub Reads : List (List ℕ) → List Line → Type 0
+Reads [] [] = Unit {0}
+Reads [] (line ∷ lines) = ⊥
+Reads (text ∷ texts) [] = ⊥
+Reads (text ∷ texts) (line ∷ lines) = (line_in text ≡ Some line) × Reads texts lines
+
+abbrev pub bytes_in : List (List ℕ) → ℕ
+bytes_in [] = 0
+bytes_in (text ∷ texts) = length text + bytes_in texts
+
+-- the texts are those of a formed list of so many lines that keeps the laws
+pub record IsLawful (texts : List (List ℕ)) (count : ℕ) : Type 0 where
+  pub lines : List Line
+  pub read : Reads texts lines
+  pub counted : length lines ≡ count
+  pub formed : Formed lines
+  pub lawful : KeepsLaws lines
+
+-- The texts before this one are those of a formed list that keeps the laws, and it is the text of this number.
+pub record Offends (texts : List (List ℕ)) (number : ℕ) : Type 0 where
+  pub before : List (List ℕ)
+  pub text : List ℕ
+  pub behind : List (List ℕ)
+  pub whole : texts ≡ before ++ text ∷ behind
+  pub lines : List Line
+  pub read : Reads before lines
+  pub formed : Formed lines
+  pub lawful : KeepsLaws lines
+  pub number_is : number ≡ length lines + 1
+
+-- it breaks this law
+pub record IsBroken (texts : List (List ℕ)) (number : ℕ) (law : Law) : Type 0 where
+  pub offends : Offends texts number
+  pub line : Line
+  pub line_is : line_in offends.text ≡ Some line
+  pub breaks : answer_of (offends.lines ++ line ∷ []) ≡ Err (Broken law)
+
+-- It goes on beyond the most bytes, is no line, or is one with which the list does not stay formed.
+abbrev pub IsRefusable : List (List ℕ) → List ℕ → List Line → Type 0
+IsRefusable before text lines =
+    (TRACE_BYTES < bytes_in before + length text) ⊎ ((line_in text ≡ None) ⊎ ((line : Line) × (line_in text ≡ Some line) × (answer_of (lines ++ line ∷ []) ≡ Err Malformed)))
+
+pub record IsRefused (texts : List (List ℕ)) (number : ℕ) : Type 0 where
+  pub offends : Offends texts number
+  pub refusable : IsRefusable offends.before offends.text offends.lines
+
+-- what a verdict on such texts says
+abbrev pub Says : List (List ℕ) → Verdict → Type 0
+Says texts (verdict.Lawful count) = IsLawful texts count
+Says texts (verdict.Broken number law) = IsBroken texts number law
+Says texts (verdict.Refused number) = IsRefused texts number

@@ -11,5 +11,5 @@ mod theorems;
 mod verdicts;
 
 pub use laws::{Law, LawFault, Laws};
-pub use theorems::answers_tell;
+pub use theorems::{answers_tell, rows_tell, verdicts_tell};
 pub use verdicts::{TRACE_BYTES, Verdict};

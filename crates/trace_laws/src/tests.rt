@@ -1,5 +1,5 @@
 //! Worked traces: one that is lawful, and others that break a law or are not formed.
-use super::{Law, LawFault, Laws, Verdict, answers_tell};
+use super::{Law, LawFault, Laws, Verdict, answers_tell, rows_tell, verdicts_tell};
 use ann_base::OrMemory;
 use std::alloc::Global;
 use trace_reading::read_line;
@@ -135,6 +135,8 @@ fn verdict(alloc: Global, lines: &[&str]) -> Verdict {
 #[test]
 fn verdicts_are_those_of_the_rows(rt: HostRuntime) {
     answers_tell();
+    verdicts_tell();
+    rows_tell();
     let alloc = rt.alloc();
     assert!(rt; verdict(alloc, &LAWFUL) == Verdict::Lawful(29));
     assert!(rt; verdict(alloc, &WRONG_RUNNER) == Verdict::Broken(14, Law::Dispatch));

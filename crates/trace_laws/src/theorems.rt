@@ -5,7 +5,11 @@ ghost use Rattle.trace_text.specs.Queue.{Line};
 ghost use Rattle.trace_text.specs.Laws.{Formed, KeepsLaws};
 ghost use Rattle.trace_lines.specs.Seen.{with_line};
 ghost use Rattle.trace_laws.specs.Watched.{watched_of, watch_line, answer_after, answer_of};
+ghost use Rattle.trace_laws.specs.Verdicts.{texts_in, laws_answer, Says};
+ghost use Rattle.trace_laws.specs.Rows.{lawful_row, wrong_runner, low_ceiling, not_finalized, new_twice};
 
+use crate::laws::Law;
+use crate::verdicts::Verdict;
 use trace_lines::facts_tell;
 use trace_text::tests_tell;
 
@@ -19,3 +23,21 @@ pub fn answers_tell()
     facts_tell();
     tests_tell();
 }
+
+/// What is answered of the bytes of a trace: that they are a formed list of lines that keeps the laws, or the first line that
+/// breaks a law or is refused, behind lines that are formed and keep the laws.
+pub fn verdicts_tell()
+    ensures { (bytes : List ℕ) → Says (texts_in bytes) (laws_answer bytes) }
+{
+    answers_tell();
+    tests_tell();
+}
+
+/// The verdicts on worked traces.
+pub fn rows_tell()
+    ensures lawful_row { laws_answer lawful_row ≡ Verdict.Lawful 29 }
+    ensures wrong_runner { laws_answer wrong_runner ≡ Verdict.Broken 14 Law.Dispatch }
+    ensures low_ceiling { laws_answer low_ceiling ≡ Verdict.Broken 5 Law.Ceiling }
+    ensures not_finalized { laws_answer not_finalized ≡ Verdict.Broken 23 Law.Left }
+    ensures new_twice { laws_answer new_twice ≡ Verdict.Refused 2 }
+{}

@@ -1,6 +1,5 @@
 -- Each test of a list with one line more is one question of the facts.
-use Rattle.std.proofs.Common.{refl, sym, ap, ◌∙◌}
-use Rattle.trace_text.specs.Laws.{Formed, KeepsLaws, follows_form}
+use Rattle.trace_text.specs.Laws.{follows_form}
 use Rattle.trace_lines.specs.Seen.{seen_of, with_line, is_formed_after}
 use Rattle.trace_laws.specs.Watched.{nothing_watched}
 use Rattle.trace_laws.proofs.GoingOn.{watched_after-append, answer_next, passed, same_tests}

@@ -1,6 +1,6 @@
 -- An instant at which an action of the main procedure ends.
-use Rattle.std.proofs.Common.{◌≡◌, ◌<◌, ℕ, zero, suc, ℤ, pos, true, List, [], ◌∷◌, ◌++◌, Option, Some, None, length, map, slice_index_or, slice_set, refl, sym, ap, ◌∙◌, arith}
-use Rattle.std.proofs.lemmas.List.{map-set}
+use Rattle.std.proofs.Common.{◌≡◌, ◌<◌, ℕ, zero, suc, ℤ, pos, true, List, [], ◌∷◌, ◌++◌, Option, Some, None, length, map, take, drop, replicate, slice_index_or, slice_set, refl, sym, ap, ◌∙◌, arith}
+use Rattle.std.proofs.lemmas.List.{map-set, take-replicate}
 use Rattle.trace_text.specs.declared.events.Event.{Event}
 use Rattle.trace_text.specs.declared.events.Event.TheVariants as line
 use Rattle.profile_machine.specs.declared.image.Image.{Image}
@@ -19,7 +19,7 @@ use Rattle.profile_machine.specs.Words.{scope_id}
 use Rattle.profile_machine.specs.Instant.{instant, script_items, events_due, moments_due, timers_due, budgets_due, quantum_spent}
 use Rattle.profile_machine.specs.Run.{environment}
 use Rattle.profile_machine.specs.Steps.{Said, own, in_order, placed_by, ◌▷◌}
-use Rattle.profile_machine.specs.Frames.{edit_top, goes_on, open_handled, open_sequence}
+use Rattle.profile_machine.specs.Frames.{edit_top, goes_on, open_handled, open_if_ready}
 use Rattle.profile_machine.specs.Scopes.{write_cell}
 use Rattle.profile_machine.specs.Tasking.{take_terminates, unwind_all}
 use Rattle.profile_machine.specs.Act.{act_statement}
@@ -30,9 +30,9 @@ use Rattle.ann_kernel.specs.declared.values.Store.{Store}
 use Rattle.ann_kernel.specs.Cells.{AreIntegers, cell, with_store, store_of_form}
 use Rattle.ann_kernel.specs.Worlds.{world_at, scope_used, put_lines, is_put_form}
 use Rattle.ann_kernel.specs.Lines.{event_of, text_of_form}
-use Rattle.ann_kernel.proofs.Variables.{StandsInMain}
+use Rattle.ann_kernel.proofs.Variables.{StandsInMain, HasVariables}
 use Rattle.ann_kernel.proofs.Assignments.{assign-is}
-use Rattle.ann_kernel.proofs.DeclaredVariables.{declare-is, world_stored}
+use Rattle.ann_kernel.proofs.DeclaredVariables.{HasDefaults, declare-is, world_stored}
 use Rattle.ann_kernel.proofs.SimpleShape.{AreSimple, has-variables}
 
 -- ---- the world inside the main procedure
@@ -54,6 +54,20 @@ cell-read (x ∷ xs) (suc n) = cell-read xs n
 
 stands-inside : (name : List ℕ) (vs : List Declaration) (es : List Expression) (body : List Action) (now : ℕ) (onward : Option StatementNo) (cells : List ℤ) → StandsInMain (inside (simple_program name vs es body) now onward cells) environment cells
 stands-inside name vs es body now onward cells = record { home = refl; reads = λ n. cell-read cells n }
+
+-- each variable begins with 0
+one-default : (count n : ℕ) → n < count → take 1 (drop n (replicate count (Whole (pos 0)))) ≡ Whole (pos 0) ∷ []
+one-default zero n h = absurd (omega arith)
+one-default (suc count) zero h = refl
+one-default (suc count) (suc n) h = one-default count n (omega arith)
+
+defaults-inside : (name : List ℕ) (vs : List Declaration) (es : List Expression) (body : List Action) (now : ℕ) (onward : Option StatementNo) (cells : List ℤ) → HasVariables (simple_program name vs es body) (length vs) → HasDefaults (simple_program name vs es body) (inside (simple_program name vs es body) now onward cells) (length vs)
+unfolding HasDefaults
+defaults-inside name vs es body now onward cells h n i =
+    let count = length vs in
+    ap (λ k. take k (drop n (take count (replicate count (Whole (pos 0)))))) (h.variables n i).cells
+    ∙ ap (λ values. take 1 (drop n values)) (take-replicate count count (Whole (pos 0)) (omega arith))
+    ∙ one-default count n i
 
 -- a value goes into its cell, and the task goes on
 stored-inside : (name : List ℕ) (vs : List Declaration) (es : List Expression) (body : List Action) (now : ℕ) (onward next : Option StatementNo) (cells : List ℤ) (n : ℕ) (x : ℤ) → let p = simple_program name vs es body in
@@ -93,7 +107,7 @@ form-does name vs es body now s cells form.Null a i h = null-does name vs es bod
 form-does name vs es body now s cells (form.PutLine pieces) a i h = text-does name vs es body now s cells pieces h
 form-does name vs es body now s cells (form.Declare d) a i h =
     let p = simple_program name vs es body in
-    declare-is p (inside p now (Some s) cells) environment cells (length vs) s d (stands-inside name vs es body now (Some s) cells) (has-variables name vs es body a) i h
+    declare-is p (inside p now (Some s) cells) environment cells (length vs) s d (stands-inside name vs es body now (Some s) cells) (has-variables name vs es body a) (defaults-inside name vs es body now (Some s) cells (has-variables name vs es body a)) i h
     ∙ ap (λ w. (w, [])) (store-inside name vs es body now (Some s) (next_of p s) cells (store_of_form p cells (form.Declare d)))
 form-does name vs es body now s cells (form.Assign target e) a i h =
     let p = simple_program name vs es body in
@@ -117,7 +131,7 @@ settled done =
 -- behind what an action did: a sequence that opens, and the rest of the effect
 unfoldable pub behind : Image → World × List Said → World × List Event
 behind p a =
-    let b = (open_sequence p environment ▷ take_terminates p environment ▷ unwind_all p environment) a.0 in
+    let b = (open_if_ready p environment ▷ take_terminates p environment ▷ unwind_all p environment) a.0 in
     others p (settled (b.0, a.1 ++ b.1))
 
 behind_opened : Image → List Said → World × List Said → World × List Event
@@ -126,7 +140,7 @@ behind_opened p said o =
     others p (settled (b.0, said ++ (o.1 ++ b.1)))
 
 -- no sequence with handlers begins at an action of the main procedure
-opens-nothing : (p : Image) (count : ℕ) (s : StatementNo) (f : StatementForm) (w : World) → IsBodyForm count f → open_handled p environment s f w ≡ (w, [])
+opens-nothing : (p : Image) (count : ℕ) (s : StatementNo) (f : StatementForm) (w : World) → IsBodyForm count f → open_handled p own environment s f w ≡ (w, [])
 opens-nothing p count s form.Null w h = refl
 opens-nothing p count s (form.Declare d) w h = refl
 opens-nothing p count s (form.Assign target e) w h = refl
@@ -156,7 +170,7 @@ goes-opened name vs es body now s cells count (form.Assign target e) h = refl
 goes-opened name vs es body now s cells count (form.PutLine pieces) h = refl
 goes-opened name vs es body now s cells count _ h = absurd h
 
-behind-some : (p : Image) (now : ℕ) (s : StatementNo) (cells : List ℤ) (said : List Said) → behind p (inside p now (Some s) cells, said) ≡ behind_opened p said (open_handled p environment s (form_of p s) (inside p now (Some s) cells))
+behind-some : (p : Image) (now : ℕ) (s : StatementNo) (cells : List ℤ) (said : List Said) → behind p (inside p now (Some s) cells, said) ≡ behind_opened p said (open_handled p own environment s (form_of p s) (inside p now (Some s) cells))
 unfolding behind behind_opened
 behind-some p now s cells said = refl
 

@@ -48,7 +48,7 @@ with_store None cells = cells
 with_store (Some s) cells = slice_set cells s.cell s.value
 
 abbrev pub store_of_initial : Image → List ℤ → DeclNo → Initial → Option Store
-store_of_initial p cells d initial.Default = None
+store_of_initial p cells d initial.Default = Some (record { cell = d.0; value = pos 0 })
 store_of_initial p cells d (initial.Scalar e) = Some (record { cell = d.0; value = value_at p cells e })
 store_of_initial p cells d (initial.Array source) = None
 

@@ -72,7 +72,7 @@ fn value_at(program: &Program, cells: &[i32], e: ExprNo) -> i32
     }
 }
 
-/// What the declaration of an object stores: its initial value, if it has one (3.3.1).
+/// What the declaration of an object stores: its initial value, or 0 where it has none (3.3.1).
 fn store_of_kind(
     program: &Program,
     cells: &[i32],
@@ -82,6 +82,10 @@ fn store_of_kind(
     ensures { result ≡ store_of_kind program.now cells.now d kind.now }
 {
     match kind {
+        DeclarationKind::Object(Initial::Default) => Some(Store {
+            cell: d.0 as usize,
+            value: 0,
+        }),
         DeclarationKind::Object(Initial::Scalar(e)) => Some(Store {
             cell: d.0 as usize,
             value: value_at(program, cells, *e),

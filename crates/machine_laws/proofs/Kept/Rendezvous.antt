@@ -2,9 +2,6 @@
 use Rattle.std.specs.Prelude.{ℤ, pos, int_le, int_lt, Bool, true, false, List, Option, Some, None}
 use Rattle.ann_base.specs.declared.identities.CallNo.{CallNo}
 use Rattle.ann_base.specs.declared.identities.TaskNo.{TaskNo}
-use Rattle.ann_base.specs.declared.exceptions.Raised.TheVariants as exception
-use Rattle.trace_text.specs.declared.events.Event.TheVariants as line
-use Rattle.trace_text.specs.declared.events.Finished.TheVariants as finished
 use Rattle.trace_text.specs.declared.events.Who.{Who}
 use Rattle.trace_text.specs.declared.events.Who.TheVariants as who
 use Rattle.profile_machine.specs.declared.image.Image.{Image}
@@ -25,12 +22,11 @@ use Rattle.profile_machine.specs.declared.world.appointments.Due.TheVariants as 
 use Rattle.profile_machine.specs.declared.world.calls.Owner.TheVariants as owned_by
 use Rattle.profile_machine.specs.declared.world.marks.Mark.TheVariants.{InAccept}
 use Rattle.profile_machine.specs.Program.{form_of, next_of, scope_of}
-use Rattle.profile_machine.specs.Steps.{Step, Part, says, changes, ◌▷◌}
-use Rattle.profile_machine.specs.Frames.{new_frame, goes, exception_name, open_sequence}
+use Rattle.profile_machine.specs.Steps.{Step, Part, changes}
+use Rattle.profile_machine.specs.Frames.{new_frame, goes}
 use Rattle.profile_machine.specs.Scopes.{begin_scope, next_id, plainly, innermost}
 use Rattle.profile_machine.specs.Appointments.{drop_delay}
 use Rattle.profile_machine.specs.Calls.{formals_count, parameters_of}
-use Rattle.profile_machine.specs.Protected.{begin_call}
 use Rattle.profile_machine.specs.Serving.{with_values}
 use Rattle.profile_machine.specs.Rendezvous.{accept_scope, open_accept, has_room_for_accept, begin_accept, finish_without_room, accept_with_room, accept_call, meet_with_room, meet_without_room, meet, accept_or_wait, accept, accept_chosen, wait_at_select, appoint_delay, select_delay, select_wait, select_otherwise, select_by_call, select_open, selective_accept, gone_sent, meet_sent, arrive_at, arrive, finish_accept, finish_rendezvous, behind_accept, finished_call, end_in_accept, Moment}
 use Rattle.std.proofs.Common.{◌≡◌, refl}

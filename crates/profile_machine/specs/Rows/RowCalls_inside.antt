@@ -20,7 +20,7 @@ use Rattle.profile_machine.specs.declared.declarations.Initial.TheVariants as in
 use Rattle.profile_machine.specs.declared.declarations.EntryUnit.TheVariants as unit
 use Rattle.profile_machine.specs.declared.statements.StatementForm.TheVariants as form
 use Rattle.profile_machine.specs.declared.statements.EntryOwner.TheVariants as owner
-use Rattle.profile_machine.specs.Rows.Notation.{decl, expr, stmt, scope, subprogram, task_unit, entry, controlled_type, task, call, region, t, of_task, declaration, variable, statement, handler, scope_text, formal, subprogram_text, task_unit_text, entry_text, controlled_text, policies, main_procedure}
+use Rattle.profile_machine.specs.Rows.Notation.{decl, expr, stmt, scope, subprogram, task_unit, entry, controlled_type, task, call, region, t, of_task, declaration, variable, statement, scope_text, formal, subprogram_text, task_unit_text, entry_text, controlled_text, policies, main_procedure}
 use Rattle.profile_machine.specs.Run.{run_of}
 use Rattle.std.specs.Fmt.{digits}
 use Rattle.std.specs.Prelude.{Bool}

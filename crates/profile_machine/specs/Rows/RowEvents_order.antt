@@ -17,7 +17,7 @@ use Rattle.profile_machine.specs.declared.expressions.BinaryOperator.TheVariants
 use Rattle.profile_machine.specs.declared.declarations.DeclarationKind.TheVariants as kind
 use Rattle.profile_machine.specs.declared.statements.StatementForm.TheVariants as form
 use Rattle.profile_machine.specs.declared.statements.Setting.TheVariants as setting
-use Rattle.profile_machine.specs.Rows.Notation.{decl, expr, stmt, scope, subprogram, task_unit, protected_unit, task, p, region, t, agent, declaration, statement, handler, handler_name, scope_text, formal, subprogram_text, task_unit_text, protected_unit_text, policies, main_procedure}
+use Rattle.profile_machine.specs.Rows.Notation.{decl, expr, stmt, scope, subprogram, task_unit, protected_unit, task, p, region, t, agent, declaration, statement, handler_name, scope_text, formal, subprogram_text, task_unit_text, protected_unit_text, policies, main_procedure}
 use Rattle.profile_machine.specs.Run.{run_of}
 use Rattle.std.specs.Fmt.{digits}
 use Rattle.std.specs.Prelude.{Bool}

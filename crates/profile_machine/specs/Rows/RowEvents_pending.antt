@@ -19,7 +19,7 @@ use Rattle.profile_machine.specs.declared.declarations.EntryUnit.TheVariants as 
 use Rattle.profile_machine.specs.declared.statements.StatementForm.TheVariants as form
 use Rattle.profile_machine.specs.declared.statements.EntryOwner.TheVariants as owner
 use Rattle.profile_machine.specs.declared.statements.Setting.TheVariants as setting
-use Rattle.profile_machine.specs.Rows.Notation.{decl, expr, stmt, scope, subprogram, task_unit, protected_unit, entry, task, call, p, region, t, of_task, declaration, variable, statement, handler, handler_name, cell_run, scope_text, formal, subprogram_text, task_unit_text, protected_unit_text, entry_text, policies, main_procedure}
+use Rattle.profile_machine.specs.Rows.Notation.{decl, expr, stmt, scope, subprogram, task_unit, protected_unit, entry, task, call, p, region, t, of_task, declaration, variable, statement, handler_name, cell_run, scope_text, formal, subprogram_text, task_unit_text, protected_unit_text, entry_text, policies, main_procedure}
 use Rattle.profile_machine.specs.Run.{run_of}
 use Rattle.std.specs.Fmt.{digits}
 use Rattle.std.specs.Prelude.{Bool}

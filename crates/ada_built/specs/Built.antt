@@ -14,7 +14,7 @@ use Rattle.ada_tree.specs.declared.expressions.Argument.{Argument}
 use Rattle.ada_tree.specs.declared.declarations.Declaration.{Declaration}
 use Rattle.ada_tree.specs.declared.declarations.Declaration.TheVariants as declaration
 use Rattle.ada_tree.specs.declared.declarations.ObjectDeclaration.{ObjectDeclaration as SourceObject}
-use Rattle.ada_tree.specs.declared.declarations.Mark.{Mark}
+use Rattle.ada_tree.specs.declared.declarations.SubtypeIndication.{SubtypeIndication}
 use Rattle.ada_tree.specs.declared.statements.Sequence.{Sequence}
 use Rattle.ada_tree.specs.declared.statements.Sequence.TheViews.{out-Sequence}
 use Rattle.ada_tree.specs.declared.statements.SequenceParts.{SequenceParts}
@@ -110,11 +110,11 @@ value_of e = value_in (opening (expression_written e)) (out-Expression e).form
 -- ---- declarations (3.3.1): variables of type Integer
 
 -- the place of the subtype mark, where it is Integer without a constraint
-abbrev pub is_integer : Mark → Bool
+abbrev pub is_integer : SubtypeIndication → Bool
 is_integer mark = not (is_some mark.constraint) && is_named (codes "integer") mark.name
 
 abbrev pub is_variable : SourceObject → Bool
-is_variable o = not o.aliased && (not o.constant && is_integer o.mark)
+is_variable o = not o.aliased && (not o.constant && is_integer o.subtype)
 
 abbrev pub initial_of : Option SourceExpression → Building (Option Expression)
 initial_of None = Ok None
@@ -124,7 +124,7 @@ abbrev pub names_of : OneOrMore Identifier → List Name
 names_of names = name_of names.first ∷ map name_of names.others
 
 abbrev pub object_with : SourceObject → Option Expression → ObjectDeclaration
-object_with o initial = record { names = names_of o.names; mark = opening (name_written o.mark.name); initial = initial }
+object_with o initial = record { names = names_of o.names; mark = opening (name_written o.subtype.name); initial = initial }
 
 abbrev pub object_of : SourceObject → Building ObjectDeclaration
 object_of o = if is_variable o then initial_of o.initial >>= (λ initial. Ok (object_with o initial)) else Err (opening (object_written o))

@@ -6,7 +6,7 @@ use crate::expressions::value_of;
 use crate::names::{is_named, names_of};
 use crate::places::Placed;
 use crate::{Expression, NotBuilt, ObjectDeclaration, Parts};
-use ada_tree::{Declaration, Mark, Sequence};
+use ada_tree::{Declaration, Sequence, SubtypeIndication};
 use std::alloc::Global;
 
 /// The declarations, which are all of variables.
@@ -48,7 +48,7 @@ fn object_of(
         let initial = initial_of(alloc, &object.initial)?;
         Ok(ObjectDeclaration {
             names: names_of(alloc, &object.names)?,
-            mark: object.mark.name.place(),
+            mark: object.subtype.name.place(),
             initial,
         })
     } else {
@@ -59,14 +59,14 @@ fn object_of(
 fn is_variable(object: &ada_tree::ObjectDeclaration) -> bool
     ensures { result ≡ is_variable object.now }
 {
-    !object.aliased && !object.constant && is_integer(&object.mark)
+    !object.aliased && !object.constant && is_integer(&object.subtype)
 }
 
 /// Whether it is `Integer`, without a constraint.
-fn is_integer(mark: &Mark) -> bool
-    ensures { result ≡ is_integer mark.now }
+fn is_integer(subtype: &SubtypeIndication) -> bool
+    ensures { result ≡ is_integer subtype.now }
 {
-    mark.constraint.is_none() && is_named(b"integer", &mark.name)
+    subtype.constraint.is_none() && is_named(b"integer", &subtype.name)
 }
 
 fn initial_of(

@@ -3,15 +3,16 @@
 ghost use Rattle.std.specs.Prelude.{◌≡◌, codes, length};
 ghost use Rattle.ada_grammar.specs.ReadingDeclarations.{array_of, component_of, components_record_of, definition_of, derived_of, enumeration_of, exception_of, extension_of, initial_of, named_declaration_of, null_record_of, object_of, subtype_of, type_of, use_of};
 ghost use Rattle.ada_grammar.specs.Reading.{items_from, sees_identifier};
-ghost use Rattle.ada_expressions.specs.Steps.{Reads};
+ghost use Rattle.ada_grammar.specs.Reads.{Reads};
 
-use crate::marks::{below, bounds, subtype_mark};
-use ada_expressions::{Cursor, expression, identifiers, name};
-use ada_grammar::Stuck;
+use crate::subtypes::{below, bounds, subtype_indication};
+use ada_expressions::{expression, identifiers, name};
+use ada_grammar::{Cursor, Stuck};
 use ada_tree::{
     Component, Declaration, Expression, Identifier, ObjectDeclaration, OneOrMore, Sequence,
     SubtypeDeclaration, TypeDeclaration, TypeDefinition,
 };
+use ann_base::OrMemory;
 use sqlite_items::Items;
 use std::alloc::Global;
 
@@ -21,37 +22,37 @@ fn initial_value(
     alloc: Global,
     cursor: &mut Cursor<'_>,
     left: usize,
-) -> Result<Option<Expression>, Stuck>
+) -> Result<Option<Expression>, OrMemory<Stuck>>
     ensures { Reads result cursor.new (initial_of left cursor.old) }
 {
-    if cursor.is_mark(b":=") {
-        cursor.mark(b":=")?;
+    if cursor.is_delimiter(b":=") {
+        cursor.delimiter(b":=")?;
         Ok(Some(expression(alloc, cursor, left)?))
     } else {
         Ok(None)
     }
 }
 
-/// `[aliased] [constant] MARK [:= EXPRESSION];`, behind the names and the colon (3.3.1)
+/// `[aliased] [constant] SUBTYPE [:= EXPRESSION];`, behind the names and the colon (3.3.1)
 #[tactic(auto, unfolding(ada_grammar::specs::ReadingDeclarations::object_of))]
 fn object_declaration(
     alloc: Global,
     cursor: &mut Cursor<'_>,
     left: usize,
     names: OneOrMore<Identifier>,
-) -> Result<Declaration<Sequence>, Stuck>
+) -> Result<Declaration<Sequence>, OrMemory<Stuck>>
     ensures { Reads result cursor.new (object_of left names cursor.old) }
 {
     let aliased = cursor.flag(b"aliased")?;
     let constant = cursor.flag(b"constant")?;
-    let mark = subtype_mark(alloc, cursor, left)?;
+    let subtype = subtype_indication(alloc, cursor, left)?;
     let initial = initial_value(alloc, cursor, left)?;
-    cursor.mark(b";")?;
+    cursor.delimiter(b";")?;
     Ok(Declaration::Object(ObjectDeclaration {
         names,
         aliased,
         constant,
-        mark,
+        subtype,
         initial,
     }))
 }
@@ -61,11 +62,11 @@ fn object_declaration(
 fn exception_declaration(
     cursor: &mut Cursor<'_>,
     names: OneOrMore<Identifier>,
-) -> Result<Declaration<Sequence>, Stuck>
+) -> Result<Declaration<Sequence>, OrMemory<Stuck>>
     ensures { Reads result cursor.new (exception_of names cursor.old) }
 {
     cursor.word(b"exception")?;
-    cursor.mark(b";")?;
+    cursor.delimiter(b";")?;
     Ok(Declaration::Exception { names })
 }
 
@@ -75,11 +76,11 @@ pub fn named_declaration(
     alloc: Global,
     cursor: &mut Cursor<'_>,
     left: usize,
-) -> Result<Declaration<Sequence>, Stuck>
+) -> Result<Declaration<Sequence>, OrMemory<Stuck>>
     ensures { Reads result cursor.new (named_declaration_of left cursor.old) }
 {
     let names = identifiers(alloc, cursor)?;
-    cursor.mark(b":")?;
+    cursor.delimiter(b":")?;
     if cursor.is_word(b"exception") {
         exception_declaration(cursor, names)
     } else {
@@ -87,19 +88,23 @@ pub fn named_declaration(
     }
 }
 
-/// `NAME {, NAME} : MARK [:= EXPRESSION];` (3.8)
+/// `NAME {, NAME} : SUBTYPE [:= EXPRESSION];` (3.8)
 #[tactic(auto, unfolding(ada_grammar::specs::ReadingDeclarations::component_of))]
-fn component(alloc: Global, cursor: &mut Cursor<'_>, left: usize) -> Result<Component, Stuck>
+fn component(
+    alloc: Global,
+    cursor: &mut Cursor<'_>,
+    left: usize,
+) -> Result<Component, OrMemory<Stuck>>
     ensures { Reads result cursor.new (component_of left cursor.old) }
 {
     let names = identifiers(alloc, cursor)?;
-    cursor.mark(b":")?;
-    let mark = subtype_mark(alloc, cursor, left)?;
+    cursor.delimiter(b":")?;
+    let subtype = subtype_indication(alloc, cursor, left)?;
     let initial = initial_value(alloc, cursor, left)?;
-    cursor.mark(b";")?;
+    cursor.delimiter(b";")?;
     Ok(Component {
         names,
-        mark,
+        subtype,
         initial,
     })
 }
@@ -110,10 +115,10 @@ pub(crate) fn add_components(
     cursor: &mut Cursor<'_>,
     left: usize,
     mut found: Items<Component>,
-) -> Result<Items<Component>, Stuck>
+) -> Result<Items<Component>, OrMemory<Stuck>>
     ensures { Reads result cursor.new (items_from sees_identifier (component_of left) (length cursor.old) found cursor.old) }
 {
-    for _turn in 0..cursor.left() {
+    for _turn in 0..cursor.remaining() {
         if !cursor.is_identifier() {
             return Ok(found);
         }
@@ -124,26 +129,34 @@ pub(crate) fn add_components(
 
 /// `(NAME {, NAME})` (3.5.1)
 #[tactic(auto, unfolding(ada_grammar::specs::ReadingDeclarations::enumeration_of))]
-fn enumeration(alloc: Global, cursor: &mut Cursor<'_>, left: usize) -> Result<TypeDefinition, Stuck>
+fn enumeration(
+    alloc: Global,
+    cursor: &mut Cursor<'_>,
+    left: usize,
+) -> Result<TypeDefinition, OrMemory<Stuck>>
     ensures { Reads result cursor.new (enumeration_of left cursor.old) }
 {
     cursor.open(left)?;
     let literals = identifiers(alloc, cursor)?;
-    cursor.mark(b")")?;
+    cursor.delimiter(b")")?;
     Ok(TypeDefinition::Enumeration { literals })
 }
 
-/// `array (LOW .. HIGH) of MARK` (3.6)
+/// `array (LOW .. HIGH) of SUBTYPE` (3.6)
 #[tactic(auto, unfolding(ada_grammar::specs::ReadingDeclarations::array_of))]
-fn array(alloc: Global, cursor: &mut Cursor<'_>, left: usize) -> Result<TypeDefinition, Stuck>
+fn array(
+    alloc: Global,
+    cursor: &mut Cursor<'_>,
+    left: usize,
+) -> Result<TypeDefinition, OrMemory<Stuck>>
     ensures { Reads result cursor.new (array_of left cursor.old) }
 {
     cursor.word(b"array")?;
     cursor.open(left)?;
     let (low, high) = bounds(alloc, cursor, below(left))?;
-    cursor.mark(b")")?;
+    cursor.delimiter(b")")?;
     cursor.word(b"of")?;
-    let component = subtype_mark(alloc, cursor, left)?;
+    let component = subtype_indication(alloc, cursor, left)?;
     Ok(TypeDefinition::Array {
         low,
         high,
@@ -153,7 +166,7 @@ fn array(alloc: Global, cursor: &mut Cursor<'_>, left: usize) -> Result<TypeDefi
 
 /// `null record` (3.8)
 #[tactic(auto, unfolding(ada_grammar::specs::ReadingDeclarations::null_record_of))]
-fn null_record(cursor: &mut Cursor<'_>) -> Result<Option<OneOrMore<Component>>, Stuck>
+fn null_record(cursor: &mut Cursor<'_>) -> Result<Option<OneOrMore<Component>>, OrMemory<Stuck>>
     ensures { Reads result cursor.new (null_record_of cursor.old) }
 {
     cursor.word(b"null")?;
@@ -167,7 +180,7 @@ fn components_record(
     alloc: Global,
     cursor: &mut Cursor<'_>,
     left: usize,
-) -> Result<Option<OneOrMore<Component>>, Stuck>
+) -> Result<Option<OneOrMore<Component>>, OrMemory<Stuck>>
     ensures { Reads result cursor.new (components_record_of left cursor.old) }
 {
     cursor.word(b"record")?;
@@ -184,7 +197,7 @@ fn extension(
     alloc: Global,
     cursor: &mut Cursor<'_>,
     left: usize,
-) -> Result<Option<OneOrMore<Component>>, Stuck>
+) -> Result<Option<OneOrMore<Component>>, OrMemory<Stuck>>
     ensures { Reads result cursor.new (extension_of left cursor.old) }
 {
     if cursor.is_word(b"null") {
@@ -196,7 +209,11 @@ fn extension(
 
 /// `new NAME with RECORD` (3.4, 3.9.1)
 #[tactic(auto, unfolding(ada_grammar::specs::ReadingDeclarations::derived_of))]
-fn derived(alloc: Global, cursor: &mut Cursor<'_>, left: usize) -> Result<TypeDefinition, Stuck>
+fn derived(
+    alloc: Global,
+    cursor: &mut Cursor<'_>,
+    left: usize,
+) -> Result<TypeDefinition, OrMemory<Stuck>>
     ensures { Reads result cursor.new (derived_of left cursor.old) }
 {
     cursor.word(b"new")?;
@@ -212,10 +229,10 @@ fn type_definition(
     alloc: Global,
     cursor: &mut Cursor<'_>,
     left: usize,
-) -> Result<TypeDefinition, Stuck>
+) -> Result<TypeDefinition, OrMemory<Stuck>>
     ensures { Reads result cursor.new (definition_of left cursor.old) }
 {
-    if cursor.is_mark(b"(") {
+    if cursor.is_delimiter(b"(") {
         enumeration(alloc, cursor, left)
     } else if cursor.is_word(b"array") {
         array(alloc, cursor, left)
@@ -230,14 +247,14 @@ pub fn type_declaration(
     alloc: Global,
     cursor: &mut Cursor<'_>,
     left: usize,
-) -> Result<Declaration<Sequence>, Stuck>
+) -> Result<Declaration<Sequence>, OrMemory<Stuck>>
     ensures { Reads result cursor.new (type_of left cursor.old) }
 {
     let place = cursor.word(b"type")?;
     let name = cursor.identifier(alloc)?;
     cursor.word(b"is")?;
     let definition = type_definition(alloc, cursor, left)?;
-    cursor.mark(b";")?;
+    cursor.delimiter(b";")?;
     Ok(Declaration::Type(TypeDeclaration {
         place,
         name,
@@ -245,30 +262,37 @@ pub fn type_declaration(
     }))
 }
 
-/// `subtype NAME is MARK;` (3.2.2)
+/// `subtype NAME is SUBTYPE;` (3.2.2)
 #[tactic(auto, unfolding(ada_grammar::specs::ReadingDeclarations::subtype_of))]
 pub fn subtype_declaration(
     alloc: Global,
     cursor: &mut Cursor<'_>,
     left: usize,
-) -> Result<Declaration<Sequence>, Stuck>
+) -> Result<Declaration<Sequence>, OrMemory<Stuck>>
     ensures { Reads result cursor.new (subtype_of left cursor.old) }
 {
     let place = cursor.word(b"subtype")?;
     let name = cursor.identifier(alloc)?;
     cursor.word(b"is")?;
-    let mark = subtype_mark(alloc, cursor, left)?;
-    cursor.mark(b";")?;
-    Ok(Declaration::Subtype(SubtypeDeclaration { place, name, mark }))
+    let subtype = subtype_indication(alloc, cursor, left)?;
+    cursor.delimiter(b";")?;
+    Ok(Declaration::Subtype(SubtypeDeclaration {
+        place,
+        name,
+        subtype,
+    }))
 }
 
 /// `use NAME;` (8.4)
 #[tactic(auto, unfolding(ada_grammar::specs::ReadingDeclarations::use_of))]
-pub fn use_clause(alloc: Global, cursor: &mut Cursor<'_>) -> Result<Declaration<Sequence>, Stuck>
+pub fn use_clause(
+    alloc: Global,
+    cursor: &mut Cursor<'_>,
+) -> Result<Declaration<Sequence>, OrMemory<Stuck>>
     ensures { Reads result cursor.new (use_of cursor.old) }
 {
     let place = cursor.word(b"use")?;
     let name = name(alloc, cursor)?;
-    cursor.mark(b";")?;
+    cursor.delimiter(b";")?;
     Ok(Declaration::Use { place, name })
 }

@@ -2,15 +2,16 @@
 ghost use Rattle.std.specs.Prelude.{◌≡◌, IfSome, map};
 ghost use Rattle.std.specs.Char.{to_ascii_lowercase};
 ghost use Rattle.ada_grammar.specs.ReadingSimple.{abort_of, all_arguments_of, assignment_behind_of, call_behind_of, call_of, choice_of, delay_of, exception_name_of, exceptions_of, exit_of, for_of, index_of, iteration_of, label_end_of, loop_name_of, null_of, raise_of, requeue_of, result_value_of, return_of, simple_of, value_choice_of, when_of, while_of, with_abort_of};
-ghost use Rattle.ada_expressions.specs.Steps.{Reads};
+ghost use Rattle.ada_grammar.specs.Reads.{Reads};
 
-use crate::marks::bounds;
-use ada_expressions::{Cursor, arguments, expression, name, name_list};
-use ada_grammar::Stuck;
+use crate::subtypes::bounds;
+use ada_expressions::{arguments, expression, name, name_list};
+use ada_grammar::{Cursor, Stuck};
 use ada_tree::{
     Argument, Assignment, Call, Choice, Delay, Exit, Expression, HandledExceptions, Identifier,
     Iteration, Label, Name, Sequence, Statement,
 };
+use ann_base::OrMemory;
 use sqlite_items::Items;
 use std::alloc::Global;
 
@@ -18,7 +19,7 @@ use std::alloc::Global;
 fn index(
     cursor: &Cursor<'_>,
     mut arguments: Items<Argument<Expression>>,
-) -> Result<Option<Expression>, Stuck>
+) -> Result<Option<Expression>, OrMemory<Stuck>>
     ensures { Reads result cursor.now (index_of arguments cursor.now) }
 {
     match arguments.pop() {
@@ -41,13 +42,13 @@ fn assignment_behind(
     left: usize,
     target: Name,
     arguments: Items<Argument<Expression>>,
-) -> Result<Statement<Sequence>, Stuck>
+) -> Result<Statement<Sequence>, OrMemory<Stuck>>
     ensures { Reads result cursor.new (assignment_behind_of left target arguments cursor.old) }
 {
     let index = index(cursor, arguments)?;
-    cursor.mark(b":=")?;
+    cursor.delimiter(b":=")?;
     let value = expression(alloc, cursor, left)?;
-    cursor.mark(b";")?;
+    cursor.delimiter(b";")?;
     Ok(Statement::Assignment(Assignment {
         target,
         index,
@@ -61,10 +62,10 @@ fn call_behind(
     cursor: &mut Cursor<'_>,
     name: Name,
     arguments: Items<Argument<Expression>>,
-) -> Result<Statement<Sequence>, Stuck>
+) -> Result<Statement<Sequence>, OrMemory<Stuck>>
     ensures { Reads result cursor.new (call_behind_of name arguments cursor.old) }
 {
-    cursor.mark(b";")?;
+    cursor.delimiter(b";")?;
     Ok(Statement::Call(Call { name, arguments }))
 }
 
@@ -74,12 +75,12 @@ pub fn simple_statement(
     alloc: Global,
     cursor: &mut Cursor<'_>,
     left: usize,
-) -> Result<Statement<Sequence>, Stuck>
+) -> Result<Statement<Sequence>, OrMemory<Stuck>>
     ensures { Reads result cursor.new (simple_of left cursor.old) }
 {
     let name = name(alloc, cursor)?;
     let arguments = arguments(alloc, cursor, left)?;
-    if cursor.is_mark(b":=") {
+    if cursor.is_delimiter(b":=") {
         assignment_behind(alloc, cursor, left, name, arguments)
     } else {
         call_behind(cursor, name, arguments)
@@ -88,24 +89,24 @@ pub fn simple_statement(
 
 /// `NAME [(ARGUMENT {, ARGUMENT})];` (6.4, 9.5.3)
 #[tactic(auto, unfolding(ada_grammar::specs::ReadingSimple::call_of))]
-pub fn call(alloc: Global, cursor: &mut Cursor<'_>, left: usize) -> Result<Call, Stuck>
+pub fn call(alloc: Global, cursor: &mut Cursor<'_>, left: usize) -> Result<Call, OrMemory<Stuck>>
     ensures { Reads result cursor.new (call_of left cursor.old) }
 {
     let name = name(alloc, cursor)?;
     let arguments = arguments(alloc, cursor, left)?;
-    cursor.mark(b";")?;
+    cursor.delimiter(b";")?;
     Ok(Call { name, arguments })
 }
 
 /// `delay [until] EXPRESSION;` (9.6)
 #[tactic(auto, unfolding(ada_grammar::specs::ReadingSimple::delay_of))]
-pub fn delay(alloc: Global, cursor: &mut Cursor<'_>, left: usize) -> Result<Delay, Stuck>
+pub fn delay(alloc: Global, cursor: &mut Cursor<'_>, left: usize) -> Result<Delay, OrMemory<Stuck>>
     ensures { Reads result cursor.new (delay_of left cursor.old) }
 {
     let place = cursor.word(b"delay")?;
     let until = cursor.flag(b"until")?;
     let value = expression(alloc, cursor, left)?;
-    cursor.mark(b";")?;
+    cursor.delimiter(b";")?;
     Ok(Delay {
         place,
         until,
@@ -115,12 +116,16 @@ pub fn delay(alloc: Global, cursor: &mut Cursor<'_>, left: usize) -> Result<Dela
 
 /// `EXPRESSION [.. EXPRESSION]` (3.8.1)
 #[tactic(auto, unfolding(ada_grammar::specs::ReadingSimple::value_choice_of))]
-fn value_choice(alloc: Global, cursor: &mut Cursor<'_>, left: usize) -> Result<Choice, Stuck>
+fn value_choice(
+    alloc: Global,
+    cursor: &mut Cursor<'_>,
+    left: usize,
+) -> Result<Choice, OrMemory<Stuck>>
     ensures { Reads result cursor.new (value_choice_of left cursor.old) }
 {
     let low = expression(alloc, cursor, left)?;
-    if cursor.is_mark(b"..") {
-        cursor.mark(b"..")?;
+    if cursor.is_delimiter(b"..") {
+        cursor.delimiter(b"..")?;
         let high = expression(alloc, cursor, left)?;
         Ok(Choice::Range { low, high })
     } else {
@@ -130,7 +135,11 @@ fn value_choice(alloc: Global, cursor: &mut Cursor<'_>, left: usize) -> Result<C
 
 /// A discrete choice (3.8.1).
 #[tactic(auto, unfolding(ada_grammar::specs::ReadingSimple::choice_of))]
-pub fn choice(alloc: Global, cursor: &mut Cursor<'_>, left: usize) -> Result<Choice, Stuck>
+pub fn choice(
+    alloc: Global,
+    cursor: &mut Cursor<'_>,
+    left: usize,
+) -> Result<Choice, OrMemory<Stuck>>
     ensures { Reads result cursor.new (choice_of left cursor.old) }
 {
     if cursor.is_word(b"others") {
@@ -143,7 +152,11 @@ pub fn choice(alloc: Global, cursor: &mut Cursor<'_>, left: usize) -> Result<Cho
 
 /// `while EXPRESSION` (5.5)
 #[tactic(auto, unfolding(ada_grammar::specs::ReadingSimple::while_of))]
-fn while_iteration(alloc: Global, cursor: &mut Cursor<'_>, left: usize) -> Result<Iteration, Stuck>
+fn while_iteration(
+    alloc: Global,
+    cursor: &mut Cursor<'_>,
+    left: usize,
+) -> Result<Iteration, OrMemory<Stuck>>
     ensures { Reads result cursor.new (while_of left cursor.old) }
 {
     let place = cursor.word(b"while")?;
@@ -153,7 +166,11 @@ fn while_iteration(alloc: Global, cursor: &mut Cursor<'_>, left: usize) -> Resul
 
 /// `for NAME in [reverse] LOW .. HIGH` (5.5)
 #[tactic(auto, unfolding(ada_grammar::specs::ReadingSimple::for_of))]
-fn for_iteration(alloc: Global, cursor: &mut Cursor<'_>, left: usize) -> Result<Iteration, Stuck>
+fn for_iteration(
+    alloc: Global,
+    cursor: &mut Cursor<'_>,
+    left: usize,
+) -> Result<Iteration, OrMemory<Stuck>>
     ensures { Reads result cursor.new (for_of left cursor.old) }
 {
     let place = cursor.word(b"for")?;
@@ -172,7 +189,11 @@ fn for_iteration(alloc: Global, cursor: &mut Cursor<'_>, left: usize) -> Result<
 
 /// How a loop goes on (5.5).
 #[tactic(auto, unfolding(ada_grammar::specs::ReadingSimple::iteration_of))]
-pub fn iteration(alloc: Global, cursor: &mut Cursor<'_>, left: usize) -> Result<Iteration, Stuck>
+pub fn iteration(
+    alloc: Global,
+    cursor: &mut Cursor<'_>,
+    left: usize,
+) -> Result<Iteration, OrMemory<Stuck>>
     ensures { Reads result cursor.new (iteration_of left cursor.old) }
 {
     if cursor.is_word(b"while") {
@@ -186,7 +207,10 @@ pub fn iteration(alloc: Global, cursor: &mut Cursor<'_>, left: usize) -> Result<
 
 /// `[NAME]`, behind the `end` of a loop or a block that has this name (5.5, 5.6).
 #[tactic(auto, unfolding(ada_grammar::specs::Reading::end_name_of))]
-pub fn label_end(cursor: &mut Cursor<'_>, label: Option<Identifier>) -> Result<Option<Label>, Stuck>
+pub fn label_end(
+    cursor: &mut Cursor<'_>,
+    label: Option<Identifier>,
+) -> Result<Option<Label>, OrMemory<Stuck>>
     requires lower { IfSome label (λ name. map to_ascii_lowercase name.text ≡ name.text) }
     ensures { Reads result cursor.new (label_end_of label cursor.old) }
 {
@@ -201,7 +225,7 @@ pub fn label_end(cursor: &mut Cursor<'_>, label: Option<Identifier>) -> Result<O
 
 /// `[NAME]`, the loop that is left (5.7)
 #[tactic(auto, unfolding(ada_grammar::specs::ReadingSimple::loop_name_of))]
-fn loop_name(alloc: Global, cursor: &mut Cursor<'_>) -> Result<Option<Identifier>, Stuck>
+fn loop_name(alloc: Global, cursor: &mut Cursor<'_>) -> Result<Option<Identifier>, OrMemory<Stuck>>
     ensures { Reads result cursor.new (loop_name_of cursor.old) }
 {
     if cursor.is_identifier() {
@@ -217,7 +241,7 @@ fn exit_condition(
     alloc: Global,
     cursor: &mut Cursor<'_>,
     left: usize,
-) -> Result<Option<Expression>, Stuck>
+) -> Result<Option<Expression>, OrMemory<Stuck>>
     ensures { Reads result cursor.new (when_of left cursor.old) }
 {
     if cursor.is_word(b"when") {
@@ -234,13 +258,13 @@ pub fn exit_statement(
     alloc: Global,
     cursor: &mut Cursor<'_>,
     left: usize,
-) -> Result<Statement<Sequence>, Stuck>
+) -> Result<Statement<Sequence>, OrMemory<Stuck>>
     ensures { Reads result cursor.new (exit_of left cursor.old) }
 {
     let place = cursor.word(b"exit")?;
     let loop_name = loop_name(alloc, cursor)?;
     let condition = exit_condition(alloc, cursor, left)?;
-    cursor.mark(b";")?;
+    cursor.delimiter(b";")?;
     Ok(Statement::Exit(Exit {
         place,
         loop_name,
@@ -250,11 +274,11 @@ pub fn exit_statement(
 
 /// `null;` (5.1)
 #[tactic(auto, unfolding(ada_grammar::specs::ReadingSimple::null_of))]
-pub fn null_statement(cursor: &mut Cursor<'_>) -> Result<Statement<Sequence>, Stuck>
+pub fn null_statement(cursor: &mut Cursor<'_>) -> Result<Statement<Sequence>, OrMemory<Stuck>>
     ensures { Reads result cursor.new (null_of cursor.old) }
 {
     let place = cursor.word(b"null")?;
-    cursor.mark(b";")?;
+    cursor.delimiter(b";")?;
     Ok(Statement::Null { place })
 }
 
@@ -264,10 +288,10 @@ fn result_value(
     alloc: Global,
     cursor: &mut Cursor<'_>,
     left: usize,
-) -> Result<Option<Expression>, Stuck>
+) -> Result<Option<Expression>, OrMemory<Stuck>>
     ensures { Reads result cursor.new (result_value_of left cursor.old) }
 {
-    if cursor.is_mark(b";") {
+    if cursor.is_delimiter(b";") {
         Ok(None)
     } else {
         Ok(Some(expression(alloc, cursor, left)?))
@@ -280,18 +304,18 @@ pub fn return_statement(
     alloc: Global,
     cursor: &mut Cursor<'_>,
     left: usize,
-) -> Result<Statement<Sequence>, Stuck>
+) -> Result<Statement<Sequence>, OrMemory<Stuck>>
     ensures { Reads result cursor.new (return_of left cursor.old) }
 {
     let place = cursor.word(b"return")?;
     let value = result_value(alloc, cursor, left)?;
-    cursor.mark(b";")?;
+    cursor.delimiter(b";")?;
     Ok(Statement::Return { place, value })
 }
 
 /// `[NAME]`, the exception that is raised (11.3)
 #[tactic(auto, unfolding(ada_grammar::specs::ReadingSimple::exception_name_of))]
-fn exception_name(alloc: Global, cursor: &mut Cursor<'_>) -> Result<Option<Name>, Stuck>
+fn exception_name(alloc: Global, cursor: &mut Cursor<'_>) -> Result<Option<Name>, OrMemory<Stuck>>
     ensures { Reads result cursor.new (exception_name_of cursor.old) }
 {
     if cursor.is_identifier() {
@@ -303,29 +327,35 @@ fn exception_name(alloc: Global, cursor: &mut Cursor<'_>) -> Result<Option<Name>
 
 /// `raise [NAME];` (11.3)
 #[tactic(auto, unfolding(ada_grammar::specs::ReadingSimple::raise_of))]
-pub fn raise_statement(alloc: Global, cursor: &mut Cursor<'_>) -> Result<Statement<Sequence>, Stuck>
+pub fn raise_statement(
+    alloc: Global,
+    cursor: &mut Cursor<'_>,
+) -> Result<Statement<Sequence>, OrMemory<Stuck>>
     ensures { Reads result cursor.new (raise_of cursor.old) }
 {
     let place = cursor.word(b"raise")?;
     let exception = exception_name(alloc, cursor)?;
-    cursor.mark(b";")?;
+    cursor.delimiter(b";")?;
     Ok(Statement::Raise { place, exception })
 }
 
 /// `abort NAME {, NAME};` (9.8)
 #[tactic(auto, unfolding(ada_grammar::specs::ReadingSimple::abort_of))]
-pub fn abort_statement(alloc: Global, cursor: &mut Cursor<'_>) -> Result<Statement<Sequence>, Stuck>
+pub fn abort_statement(
+    alloc: Global,
+    cursor: &mut Cursor<'_>,
+) -> Result<Statement<Sequence>, OrMemory<Stuck>>
     ensures { Reads result cursor.new (abort_of cursor.old) }
 {
     let place = cursor.word(b"abort")?;
     let tasks = name_list(alloc, cursor, b",")?;
-    cursor.mark(b";")?;
+    cursor.delimiter(b";")?;
     Ok(Statement::Abort { place, tasks })
 }
 
 /// `[with abort]` (9.5.4)
 #[tactic(auto, unfolding(ada_grammar::specs::ReadingSimple::with_abort_of))]
-fn with_abort(cursor: &mut Cursor<'_>) -> Result<bool, Stuck>
+fn with_abort(cursor: &mut Cursor<'_>) -> Result<bool, OrMemory<Stuck>>
     ensures { Reads result cursor.new (with_abort_of cursor.old) }
 {
     if cursor.is_word(b"with") {
@@ -342,13 +372,13 @@ fn with_abort(cursor: &mut Cursor<'_>) -> Result<bool, Stuck>
 pub fn requeue_statement(
     alloc: Global,
     cursor: &mut Cursor<'_>,
-) -> Result<Statement<Sequence>, Stuck>
+) -> Result<Statement<Sequence>, OrMemory<Stuck>>
     ensures { Reads result cursor.new (requeue_of cursor.old) }
 {
     let place = cursor.word(b"requeue")?;
     let entry = name(alloc, cursor)?;
     let with_abort = with_abort(cursor)?;
-    cursor.mark(b";")?;
+    cursor.delimiter(b";")?;
     Ok(Statement::Requeue {
         place,
         entry,
@@ -361,7 +391,7 @@ pub fn requeue_statement(
 pub fn handled_exceptions(
     alloc: Global,
     cursor: &mut Cursor<'_>,
-) -> Result<HandledExceptions, Stuck>
+) -> Result<HandledExceptions, OrMemory<Stuck>>
     ensures { Reads result cursor.new (exceptions_of cursor.old) }
 {
     if cursor.is_word(b"others") {

@@ -3,18 +3,18 @@
 ghost use Rattle.std.specs.Prelude.{◌≡◌, IfOk, codes, length, map};
 ghost use Rattle.std.specs.Char.{to_ascii_lowercase};
 ghost use Rattle.ada_grammar.specs.ReadingDeclarations.{aspect_of, aspect_value_of, aspects_of, begins_operation, begins_specification, entry_head_of, entry_of, function_of, given_aspects_of, operation_of, overriding_of, private_of, procedure_of, protected_of, specification_of, specified_operation_of, task_definition_of, task_of};
-ghost use Rattle.ada_grammar.specs.Reading.{behind_mark_of, items_from, sees_mark, sees_word};
-ghost use Rattle.ada_expressions.specs.Steps.{Reads};
+ghost use Rattle.ada_grammar.specs.Reading.{behind_delimiter_of, items_from, sees_delimiter, sees_word};
+ghost use Rattle.ada_grammar.specs.Reads.{Reads};
 
 use crate::declarations::add_components;
-use crate::marks::{first_before, parameters, subtype_mark};
-use ada_expressions::{Cursor, expression};
-use ada_grammar::Stuck;
+use crate::subtypes::{first_before, parameters, subtype_indication};
+use ada_expressions::expression;
+use ada_grammar::{Cursor, Stuck};
 use ada_tree::{
     Aspect, Component, Declaration, EntryDeclaration, EntryHead, Expression, ProtectedDeclaration,
     ProtectedOperation, Sequence, SubprogramSpecification, TaskDeclaration, TaskDefinition,
 };
-use ann_base::Place;
+use ann_base::{OrMemory, Place};
 use sqlite_items::Items;
 use std::alloc::Global;
 
@@ -24,11 +24,11 @@ fn aspect_value(
     alloc: Global,
     cursor: &mut Cursor<'_>,
     left: usize,
-) -> Result<Option<Expression>, Stuck>
+) -> Result<Option<Expression>, OrMemory<Stuck>>
     ensures { Reads result cursor.new (aspect_value_of left cursor.old) }
 {
-    if cursor.is_mark(b"=>") {
-        cursor.mark(b"=>")?;
+    if cursor.is_delimiter(b"=>") {
+        cursor.delimiter(b"=>")?;
         Ok(Some(expression(alloc, cursor, left)?))
     } else {
         Ok(None)
@@ -37,7 +37,7 @@ fn aspect_value(
 
 /// `NAME [=> EXPRESSION]` (13.1.1)
 #[tactic(auto, unfolding(ada_grammar::specs::ReadingDeclarations::aspect_of))]
-fn aspect(alloc: Global, cursor: &mut Cursor<'_>, left: usize) -> Result<Aspect, Stuck>
+fn aspect(alloc: Global, cursor: &mut Cursor<'_>, left: usize) -> Result<Aspect, OrMemory<Stuck>>
     ensures { Reads result cursor.new (aspect_of left cursor.old) }
 {
     let name = cursor.identifier(alloc)?;
@@ -46,11 +46,15 @@ fn aspect(alloc: Global, cursor: &mut Cursor<'_>, left: usize) -> Result<Aspect,
 }
 
 /// An aspect behind a comma.
-#[tactic(auto, unfolding(ada_grammar::specs::Reading::behind_mark_of))]
-fn next_aspect(alloc: Global, cursor: &mut Cursor<'_>, left: usize) -> Result<Aspect, Stuck>
-    ensures { Reads result cursor.new (behind_mark_of (codes ",") (aspect_of left) cursor.old) }
+#[tactic(auto, unfolding(ada_grammar::specs::Reading::behind_delimiter_of))]
+fn next_aspect(
+    alloc: Global,
+    cursor: &mut Cursor<'_>,
+    left: usize,
+) -> Result<Aspect, OrMemory<Stuck>>
+    ensures { Reads result cursor.new (behind_delimiter_of (codes ",") (aspect_of left) cursor.old) }
 {
-    cursor.mark(b",")?;
+    cursor.delimiter(b",")?;
     aspect(alloc, cursor, left)
 }
 
@@ -60,11 +64,11 @@ fn add_aspects(
     cursor: &mut Cursor<'_>,
     left: usize,
     mut found: Items<Aspect>,
-) -> Result<Items<Aspect>, Stuck>
-    ensures { Reads result cursor.new (items_from (sees_mark (codes ",")) (behind_mark_of (codes ",") (aspect_of left)) (length cursor.old) found cursor.old) }
+) -> Result<Items<Aspect>, OrMemory<Stuck>>
+    ensures { Reads result cursor.new (items_from (sees_delimiter (codes ",")) (behind_delimiter_of (codes ",") (aspect_of left)) (length cursor.old) found cursor.old) }
 {
-    for _turn in 0..cursor.left() {
-        if !cursor.is_mark(b",") {
+    for _turn in 0..cursor.remaining() {
+        if !cursor.is_delimiter(b",") {
             return Ok(found);
         }
         found.push(next_aspect(alloc, cursor, left)?)?;
@@ -78,7 +82,7 @@ fn given_aspects(
     alloc: Global,
     cursor: &mut Cursor<'_>,
     left: usize,
-) -> Result<Items<Aspect>, Stuck>
+) -> Result<Items<Aspect>, OrMemory<Stuck>>
     ensures { Reads result cursor.new (given_aspects_of left cursor.old) }
 {
     cursor.word(b"with")?;
@@ -89,7 +93,11 @@ fn given_aspects(
 
 /// `[with ASPECT {, ASPECT}]`, empty where no `with` stands (13.1.1).
 #[tactic(auto, unfolding(ada_grammar::specs::ReadingDeclarations::aspects_of))]
-pub fn aspects(alloc: Global, cursor: &mut Cursor<'_>, left: usize) -> Result<Items<Aspect>, Stuck>
+pub fn aspects(
+    alloc: Global,
+    cursor: &mut Cursor<'_>,
+    left: usize,
+) -> Result<Items<Aspect>, OrMemory<Stuck>>
     ensures { Reads result cursor.new (aspects_of left cursor.old) }
 {
     if cursor.is_word(b"with") {
@@ -101,7 +109,7 @@ pub fn aspects(alloc: Global, cursor: &mut Cursor<'_>, left: usize) -> Result<It
 
 /// `[overriding]` (8.3.1)
 #[tactic(auto, unfolding(ada_grammar::specs::ReadingDeclarations::overriding_of))]
-fn overriding_indicator(cursor: &mut Cursor<'_>) -> Result<Option<Place>, Stuck>
+fn overriding_indicator(cursor: &mut Cursor<'_>) -> Result<Option<Place>, OrMemory<Stuck>>
     ensures { Reads result cursor.new (overriding_of cursor.old) }
 {
     if cursor.is_word(b"overriding") {
@@ -118,7 +126,7 @@ fn procedure_specification(
     cursor: &mut Cursor<'_>,
     left: usize,
     overriding: Option<Place>,
-) -> Result<SubprogramSpecification, Stuck>
+) -> Result<SubprogramSpecification, OrMemory<Stuck>>
     ensures reads { Reads result cursor.new (procedure_of left overriding cursor.old) }
     ensures lower { IfOk result (λ it. map to_ascii_lowercase it.name.text ≡ it.name.text) }
 {
@@ -136,14 +144,14 @@ fn procedure_specification(
     })
 }
 
-/// `function NAME [PARAMETERS] return MARK [ASPECTS]` (6.1)
+/// `function NAME [PARAMETERS] return SUBTYPE [ASPECTS]` (6.1)
 #[tactic(auto, unfolding(ada_grammar::specs::ReadingDeclarations::function_of))]
 fn function_specification(
     alloc: Global,
     cursor: &mut Cursor<'_>,
     left: usize,
     overriding: Option<Place>,
-) -> Result<SubprogramSpecification, Stuck>
+) -> Result<SubprogramSpecification, OrMemory<Stuck>>
     ensures reads { Reads result cursor.new (function_of left overriding cursor.old) }
     ensures lower { IfOk result (λ it. map to_ascii_lowercase it.name.text ≡ it.name.text) }
 {
@@ -151,7 +159,7 @@ fn function_specification(
     let name = cursor.identifier(alloc)?;
     let parameters = parameters(alloc, cursor, left)?;
     cursor.word(b"return")?;
-    let result = subtype_mark(alloc, cursor, left)?;
+    let result = subtype_indication(alloc, cursor, left)?;
     let aspects = aspects(alloc, cursor, left)?;
     Ok(SubprogramSpecification {
         overriding,
@@ -169,7 +177,7 @@ pub fn specification(
     alloc: Global,
     cursor: &mut Cursor<'_>,
     left: usize,
-) -> Result<SubprogramSpecification, Stuck>
+) -> Result<SubprogramSpecification, OrMemory<Stuck>>
     ensures reads { Reads result cursor.new (specification_of left cursor.old) }
     ensures lower { IfOk result (λ it. map to_ascii_lowercase it.name.text ≡ it.name.text) }
 {
@@ -194,13 +202,13 @@ pub fn entry_declaration(
     alloc: Global,
     cursor: &mut Cursor<'_>,
     left: usize,
-) -> Result<EntryDeclaration, Stuck>
+) -> Result<EntryDeclaration, OrMemory<Stuck>>
     ensures { Reads result cursor.new (entry_of left cursor.old) }
 {
     let place = cursor.word(b"entry")?;
     let name = cursor.identifier(alloc)?;
     let parameters = parameters(alloc, cursor, left)?;
-    cursor.mark(b";")?;
+    cursor.delimiter(b";")?;
     Ok(EntryDeclaration {
         place,
         name,
@@ -214,10 +222,10 @@ fn add_entries(
     cursor: &mut Cursor<'_>,
     left: usize,
     mut found: Items<EntryDeclaration>,
-) -> Result<Items<EntryDeclaration>, Stuck>
+) -> Result<Items<EntryDeclaration>, OrMemory<Stuck>>
     ensures { Reads result cursor.new (items_from (sees_word (codes "entry")) (entry_of left) (length cursor.old) found cursor.old) }
 {
-    for _turn in 0..cursor.left() {
+    for _turn in 0..cursor.remaining() {
         if !cursor.is_word(b"entry") {
             return Ok(found);
         }
@@ -233,7 +241,7 @@ fn task_definition(
     cursor: &mut Cursor<'_>,
     left: usize,
     name: &[u8],
-) -> Result<Option<TaskDefinition>, Stuck>
+) -> Result<Option<TaskDefinition>, OrMemory<Stuck>>
     requires lower { map to_ascii_lowercase name.now ≡ name.now }
     ensures { Reads result cursor.new (task_definition_of left name.now cursor.old) }
 {
@@ -258,14 +266,14 @@ pub fn task_declaration(
     cursor: &mut Cursor<'_>,
     left: usize,
     place: Place,
-) -> Result<Declaration<Sequence>, Stuck>
+) -> Result<Declaration<Sequence>, OrMemory<Stuck>>
     ensures { Reads result cursor.new (task_of left place cursor.old) }
 {
     let is_type = cursor.flag(b"type")?;
     let name = cursor.identifier(alloc)?;
     let aspects = aspects(alloc, cursor, left)?;
     let definition = task_definition(alloc, cursor, left, name.text.as_slice())?;
-    cursor.mark(b";")?;
+    cursor.delimiter(b";")?;
     Ok(Declaration::Task(TaskDeclaration {
         place,
         is_type,
@@ -281,11 +289,11 @@ fn protected_subprogram(
     alloc: Global,
     cursor: &mut Cursor<'_>,
     left: usize,
-) -> Result<ProtectedOperation, Stuck>
+) -> Result<ProtectedOperation, OrMemory<Stuck>>
     ensures { Reads result cursor.new (specified_operation_of left cursor.old) }
 {
     let specification = specification(alloc, cursor, left)?;
-    cursor.mark(b";")?;
+    cursor.delimiter(b";")?;
     Ok(ProtectedOperation::Subprogram(specification))
 }
 
@@ -295,7 +303,7 @@ pub fn protected_operation(
     alloc: Global,
     cursor: &mut Cursor<'_>,
     left: usize,
-) -> Result<ProtectedOperation, Stuck>
+) -> Result<ProtectedOperation, OrMemory<Stuck>>
     ensures { Reads result cursor.new (operation_of left cursor.old) }
 {
     if cursor.is_word(b"entry") {
@@ -318,10 +326,10 @@ fn add_operations(
     cursor: &mut Cursor<'_>,
     left: usize,
     mut found: Items<ProtectedOperation>,
-) -> Result<Items<ProtectedOperation>, Stuck>
+) -> Result<Items<ProtectedOperation>, OrMemory<Stuck>>
     ensures { Reads result cursor.new (items_from begins_operation (operation_of left) (length cursor.old) found cursor.old) }
 {
-    for _turn in 0..cursor.left() {
+    for _turn in 0..cursor.remaining() {
         if !begins_operation(cursor) {
             return Ok(found);
         }
@@ -336,7 +344,7 @@ fn private_part(
     alloc: Global,
     cursor: &mut Cursor<'_>,
     left: usize,
-) -> Result<Option<Items<Component>>, Stuck>
+) -> Result<Option<Items<Component>>, OrMemory<Stuck>>
     ensures { Reads result cursor.new (private_of left cursor.old) }
 {
     if cursor.is_word(b"private") {
@@ -354,7 +362,7 @@ pub fn protected_declaration(
     cursor: &mut Cursor<'_>,
     left: usize,
     place: Place,
-) -> Result<Declaration<Sequence>, Stuck>
+) -> Result<Declaration<Sequence>, OrMemory<Stuck>>
     ensures { Reads result cursor.new (protected_of left place cursor.old) }
 {
     let is_type = cursor.flag(b"type")?;
@@ -365,7 +373,7 @@ pub fn protected_declaration(
     let components = private_part(alloc, cursor, left)?;
     cursor.word(b"end")?;
     let named_at_end = cursor.flag(name.text.as_slice())?;
-    cursor.mark(b";")?;
+    cursor.delimiter(b";")?;
     Ok(Declaration::Protected(ProtectedDeclaration {
         place,
         is_type,
@@ -379,7 +387,11 @@ pub fn protected_declaration(
 
 /// `entry NAME [PARAMETERS] when EXPRESSION`; the name is in lower case (9.5.2)
 #[tactic(auto, unfolding(ada_grammar::specs::ReadingDeclarations::entry_head_of))]
-pub fn entry_head(alloc: Global, cursor: &mut Cursor<'_>, left: usize) -> Result<EntryHead, Stuck>
+pub fn entry_head(
+    alloc: Global,
+    cursor: &mut Cursor<'_>,
+    left: usize,
+) -> Result<EntryHead, OrMemory<Stuck>>
     ensures reads { Reads result cursor.new (entry_head_of left cursor.old) }
     ensures lower { IfOk result (λ head. map to_ascii_lowercase head.name.text ≡ head.name.text) }
 {

@@ -1,4 +1,3 @@
-pub mod Lower
 pub mod Levels
 pub mod FirstItems
 pub mod GivenArguments

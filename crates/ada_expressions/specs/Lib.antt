@@ -1,4 +1,3 @@
-pub mod Steps
 pub mod Inside
 pub mod Turns
 pub mod Lists

@@ -1,10 +1,11 @@
 -- A loop that reads items as long as one begins: what each way out of it has read.
-use Rattle.std.proofs.Common.{◌≡◌, ℕ, zero, suc, ◌+◌, ◌-◌, ◌<◌, ◌≤◌, Bool, true, false, List, [], ◌∷◌, ◌++◌, Ok, Err, refl, sym, ap, subst, ◌∙◌, arith}
+use Rattle.std.proofs.Common.{◌≡◌, ℕ, zero, suc, ◌+◌, ◌-◌, ◌<◌, ◌≤◌, Bool, true, false, List, [], ◌∷◌, ◌++◌, Ok, Err, refl, sym, ap, ◌∙◌, arith}
 use Rattle.ada_tree.specs.Written.{Lexeme}
+use Rattle.ann_base.specs.declared.faults.OrMemory.{OrMemory}
+use Rattle.ann_base.specs.declared.faults.OrMemory.TheVariants as answer
 use Rattle.ada_grammar.specs.declared.stuck.Stuck.{Stuck}
-use Rattle.ada_grammar.specs.declared.stuck.Stuck.TheVariants as stuck
 use Rattle.ada_grammar.specs.Reading.{Parser, Read, items_from}
-use Rattle.ada_expressions.specs.Steps.{Reads, Stops}
+use Rattle.ada_grammar.specs.Reads.{Stops}
 use Rattle.ada_expressions.specs.Turns.{one_more, no_more}
 
 module _ {A : Type 0} (begins : List Lexeme → Bool) (item : Parser A) where
@@ -32,13 +33,12 @@ module _ {A : Type 0} (begins : List Lexeme → Bool) (item : Parser A) where
   one_read turn end found ls m x whole p e f is =
       sym (goes_on (end - (turn + 1)) found ls m x e f) ∙ one_more (λ n. items_from begins item n found ls) whole turn end p is
 
-  stops_at : (fuel : ℕ) (found : List A) (ls : List Lexeme) (why : Stuck) → begins ls ≡ true → Stops why (item ls) → Stops why (items_from begins item (suc fuel) found ls)
+  stops_at : (fuel : ℕ) (found : List A) (ls : List Lexeme) (why : Stuck) → begins ls ≡ true → item ls ≡ Err why → items_from begins item (suc fuel) found ls ≡ Err why
   unfolding items_from
-  stops_at fuel found ls stuck.Memory e f = tt
-  stops_at fuel found ls (stuck.At left) e f = rw (e, f) refl
-  stops_at fuel found ls (stuck.TooDeep left) e f = rw (e, f) refl
+  stops_at fuel found ls why e f = rw (e, f) refl
 
-  pub one_stops : (turn end : ℕ) (found : List A) (ls : List Lexeme) (why : Stuck) (whole : Read (List A)) → turn < end → begins ls ≡ true → Stops why (item ls)
+  pub one_stops : (turn end : ℕ) (found : List A) (ls : List Lexeme) (why : OrMemory Stuck) (whole : Read (List A)) → turn < end → begins ls ≡ true → Stops why (item ls)
       → items_from begins item (end - turn) found ls ≡ whole → Stops why whole
-  one_stops turn end found ls why whole p e f is =
-      subst (λ (r : Read (List A)). Stops why r) (one_more (λ n. items_from begins item n found ls) whole turn end p is) (stops_at (end - (turn + 1)) found ls why e f)
+  one_stops turn end found ls answer.Memory whole p e f is = tt
+  one_stops turn end found ls (answer.Fault why) whole p e f is =
+      sym (one_more (λ n. items_from begins item n found ls) whole turn end p is) ∙ stops_at (end - (turn + 1)) found ls why e f

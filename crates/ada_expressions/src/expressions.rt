@@ -1,29 +1,28 @@
 //! Expressions (ISO/IEC 8652:2012, 4.4). The productions take the reader of the expressions in brackets as a
 //! parameter, so that each is proved by itself.
 ghost use Rattle.std.specs.Prelude.{◌≡◌, IfOk, codes, length};
-ghost use Rattle.ada_grammar.specs.Reading.{behind_mark_of, items_from, sees_mark, sees_word};
+ghost use Rattle.ada_grammar.specs.Reading.{behind_delimiter_of, items_from, sees_delimiter, sees_word};
 ghost use Rattle.ada_grammar.specs.ReadingExpressions.{addend_of, addition_behind_of, adds, argument_of, arguments_of, bracketed_of, compared_of, expression_of, factor_of, first_term_of, formed, given_arguments_of, highest_of, inner_of, joined_of, logical_of, logical_text, multiplied_of, multiplies, named_argument_of, named_of, operand_of, primary_of, product_of, relation_of, signed_of, sum_of, term_of};
 ghost use Rattle.ada_expressions.specs.Inside.{ReadsInside};
-ghost use Rattle.ada_expressions.specs.Steps.{Reads};
+ghost use Rattle.ada_grammar.specs.Reads.{Reads};
 
-use crate::cursor::Cursor;
 use crate::names::name;
 use crate::operators::{
     addition, adds, again, compares, comparison, designator, highest_place, joins, joins_again,
     logical_operator, multiplication, multiplies, sign_place,
 };
-use ada_grammar::Stuck;
+use ada_grammar::{Cursor, Stuck};
 use ada_tree::{
     Addend, Argument, Expression, ExpressionForm, HighestOperator, LogicalOperator, Multiplied,
     OneOrMore, Operand, Sign,
 };
-use ann_base::NoMemory;
+use ann_base::{NoMemory, OrMemory};
 use sqlite_items::{Boxed, Items};
 use std::alloc::Global;
 
 /// How expressions are read where `left` levels may still be opened.
 #[derive(Clone, Copy)]
-pub struct Expressions<F> {
+pub struct ExpressionReader<F> {
     /// Where memory comes from.
     pub alloc: Global,
     /// How many levels may still be opened.
@@ -41,9 +40,9 @@ fn formed(alloc: Global, form: ExpressionForm<Expression>) -> Result<Expression,
     })
 }
 
-impl<F: Fn(Global, &mut Cursor<'_>, usize) -> Result<Expression, Stuck>> Expressions<F> {
+impl<F: Fn(Global, &mut Cursor<'_>, usize) -> Result<Expression, OrMemory<Stuck>>> ExpressionReader<F> {
     /// An expression one level further in.
-    fn inner(&self, cursor: &mut Cursor<'_>) -> Result<Expression, Stuck>
+    fn inner(&self, cursor: &mut Cursor<'_>) -> Result<Expression, OrMemory<Stuck>>
         requires reads { ReadsInside self.now.left (F.pre self.now.read) (F.post self.now.read) }
         ensures { Reads result cursor.new (inner_of self.now.left cursor.old) }
     {
@@ -55,12 +54,15 @@ impl<F: Fn(Global, &mut Cursor<'_>, usize) -> Result<Expression, Stuck>> Express
 
     /// `NAME => EXPRESSION`
     #[tactic(auto, unfolding(ada_grammar::specs::ReadingExpressions::named_argument_of))]
-    fn named_argument(&self, cursor: &mut Cursor<'_>) -> Result<Argument<Expression>, Stuck>
+    fn named_argument(
+        &self,
+        cursor: &mut Cursor<'_>,
+    ) -> Result<Argument<Expression>, OrMemory<Stuck>>
         requires reads { ReadsInside self.now.left (F.pre self.now.read) (F.post self.now.read) }
         ensures { Reads result cursor.new (named_argument_of self.now.left (inner_of self.now.left) cursor.old) }
     {
         let formal = cursor.identifier(self.alloc)?;
-        cursor.mark(b"=>")?;
+        cursor.delimiter(b"=>")?;
         let value = self.inner(cursor)?;
         Ok(Argument {
             formal: Some(formal),
@@ -70,7 +72,7 @@ impl<F: Fn(Global, &mut Cursor<'_>, usize) -> Result<Expression, Stuck>> Express
 
     /// An index or an actual (4.1.1, 6.4.1).
     #[tactic(auto, unfolding(ada_grammar::specs::ReadingExpressions::argument_of))]
-    fn argument(&self, cursor: &mut Cursor<'_>) -> Result<Argument<Expression>, Stuck>
+    fn argument(&self, cursor: &mut Cursor<'_>) -> Result<Argument<Expression>, OrMemory<Stuck>>
         requires reads { ReadsInside self.now.left (F.pre self.now.read) (F.post self.now.read) }
         ensures { Reads result cursor.new (argument_of self.now.left (inner_of self.now.left) cursor.old) }
     {
@@ -86,12 +88,15 @@ impl<F: Fn(Global, &mut Cursor<'_>, usize) -> Result<Expression, Stuck>> Express
     }
 
     /// An argument behind a comma.
-    #[tactic(auto, unfolding(ada_grammar::specs::Reading::behind_mark_of))]
-    fn next_argument(&self, cursor: &mut Cursor<'_>) -> Result<Argument<Expression>, Stuck>
+    #[tactic(auto, unfolding(ada_grammar::specs::Reading::behind_delimiter_of))]
+    fn next_argument(
+        &self,
+        cursor: &mut Cursor<'_>,
+    ) -> Result<Argument<Expression>, OrMemory<Stuck>>
         requires reads { ReadsInside self.now.left (F.pre self.now.read) (F.post self.now.read) }
-        ensures { Reads result cursor.new (behind_mark_of (codes ",") (argument_of self.now.left (inner_of self.now.left)) cursor.old) }
+        ensures { Reads result cursor.new (behind_delimiter_of (codes ",") (argument_of self.now.left (inner_of self.now.left)) cursor.old) }
     {
-        cursor.mark(b",")?;
+        cursor.delimiter(b",")?;
         self.argument(cursor)
     }
 
@@ -101,12 +106,12 @@ impl<F: Fn(Global, &mut Cursor<'_>, usize) -> Result<Expression, Stuck>> Express
         &self,
         cursor: &mut Cursor<'_>,
         mut arguments: Items<Argument<Expression>>,
-    ) -> Result<Items<Argument<Expression>>, Stuck>
+    ) -> Result<Items<Argument<Expression>>, OrMemory<Stuck>>
         requires reads { ReadsInside self.now.left (F.pre self.now.read) (F.post self.now.read) }
-        ensures { Reads result cursor.new (items_from (sees_mark (codes ",")) (behind_mark_of (codes ",") (argument_of self.now.left (inner_of self.now.left))) (length cursor.old) arguments cursor.old) }
+        ensures { Reads result cursor.new (items_from (sees_delimiter (codes ",")) (behind_delimiter_of (codes ",") (argument_of self.now.left (inner_of self.now.left))) (length cursor.old) arguments cursor.old) }
     {
-        for _turn in 0..cursor.left() {
-            if !cursor.is_mark(b",") {
+        for _turn in 0..cursor.remaining() {
+            if !cursor.is_delimiter(b",") {
                 return Ok(arguments);
             }
             arguments.push(self.next_argument(cursor)?)?;
@@ -116,7 +121,10 @@ impl<F: Fn(Global, &mut Cursor<'_>, usize) -> Result<Expression, Stuck>> Express
 
     /// Arguments in brackets (4.1.1, 6.4.1).
     #[tactic(auto, unfolding(ada_grammar::specs::ReadingExpressions::given_arguments_of))]
-    fn given_arguments(&self, cursor: &mut Cursor<'_>) -> Result<Items<Argument<Expression>>, Stuck>
+    fn given_arguments(
+        &self,
+        cursor: &mut Cursor<'_>,
+    ) -> Result<Items<Argument<Expression>>, OrMemory<Stuck>>
         requires reads { ReadsInside self.now.left (F.pre self.now.read) (F.post self.now.read) }
         ensures { Reads result cursor.new (given_arguments_of self.now.left (inner_of self.now.left) cursor.old) }
     {
@@ -124,17 +132,20 @@ impl<F: Fn(Global, &mut Cursor<'_>, usize) -> Result<Expression, Stuck>> Express
         let mut arguments = Items::new(self.alloc);
         arguments.push(self.argument(cursor)?)?;
         let arguments = self.add_arguments(cursor, arguments)?;
-        cursor.mark(b")")?;
+        cursor.delimiter(b")")?;
         Ok(arguments)
     }
 
     /// The arguments of a name, none where no bracket stands.
     #[tactic(auto, unfolding(ada_grammar::specs::ReadingExpressions::arguments_of))]
-    fn arguments(&self, cursor: &mut Cursor<'_>) -> Result<Items<Argument<Expression>>, Stuck>
+    fn arguments(
+        &self,
+        cursor: &mut Cursor<'_>,
+    ) -> Result<Items<Argument<Expression>>, OrMemory<Stuck>>
         requires reads { ReadsInside self.now.left (F.pre self.now.read) (F.post self.now.read) }
         ensures { Reads result cursor.new (arguments_of self.now.left (inner_of self.now.left) cursor.old) }
     {
-        if cursor.is_mark(b"(") {
+        if cursor.is_delimiter(b"(") {
             self.given_arguments(cursor)
         } else {
             Ok(Items::new(self.alloc))
@@ -143,7 +154,7 @@ impl<F: Fn(Global, &mut Cursor<'_>, usize) -> Result<Expression, Stuck>> Express
 
     /// A name, an attribute, an indexed component or a function call (4.1, 6.4).
     #[tactic(auto, unfolding(ada_grammar::specs::ReadingExpressions::named_of))]
-    fn named(&self, cursor: &mut Cursor<'_>) -> Result<Expression, Stuck>
+    fn named(&self, cursor: &mut Cursor<'_>) -> Result<Expression, OrMemory<Stuck>>
         requires reads { ReadsInside self.now.left (F.pre self.now.read) (F.post self.now.read) }
         ensures { Reads result cursor.new (named_of self.now.left (inner_of self.now.left) cursor.old) }
     {
@@ -160,19 +171,19 @@ impl<F: Fn(Global, &mut Cursor<'_>, usize) -> Result<Expression, Stuck>> Express
 
     /// `(EXPRESSION)`
     #[tactic(auto, unfolding(ada_grammar::specs::ReadingExpressions::bracketed_of))]
-    fn bracketed(&self, cursor: &mut Cursor<'_>) -> Result<Expression, Stuck>
+    fn bracketed(&self, cursor: &mut Cursor<'_>) -> Result<Expression, OrMemory<Stuck>>
         requires reads { ReadsInside self.now.left (F.pre self.now.read) (F.post self.now.read) }
         ensures { Reads result cursor.new (bracketed_of self.now.left (inner_of self.now.left) cursor.old) }
     {
         let place = cursor.open(self.left)?;
         let inner = self.inner(cursor)?;
-        cursor.mark(b")")?;
+        cursor.delimiter(b")")?;
         Ok(formed(self.alloc, ExpressionForm::Bracketed { place, inner })?)
     }
 
     /// A primary (4.4).
     #[tactic(auto, unfolding(ada_grammar::specs::ReadingExpressions::primary_of))]
-    fn primary(&self, cursor: &mut Cursor<'_>) -> Result<Expression, Stuck>
+    fn primary(&self, cursor: &mut Cursor<'_>) -> Result<Expression, OrMemory<Stuck>>
         requires reads { ReadsInside self.now.left (F.pre self.now.read) (F.post self.now.read) }
         ensures { Reads result cursor.new (primary_of self.now.left (inner_of self.now.left) cursor.old) }
     {
@@ -185,7 +196,7 @@ impl<F: Fn(Global, &mut Cursor<'_>, usize) -> Result<Expression, Stuck>> Express
         } else if cursor.is_word(b"null") {
             let place = cursor.word(b"null")?;
             Ok(formed(self.alloc, ExpressionForm::Null { place })?)
-        } else if cursor.is_mark(b"(") {
+        } else if cursor.is_delimiter(b"(") {
             self.bracketed(cursor)
         } else {
             self.named(cursor)
@@ -198,7 +209,7 @@ impl<F: Fn(Global, &mut Cursor<'_>, usize) -> Result<Expression, Stuck>> Express
         &self,
         cursor: &mut Cursor<'_>,
         operator: HighestOperator,
-    ) -> Result<Expression, Stuck>
+    ) -> Result<Expression, OrMemory<Stuck>>
         requires reads { ReadsInside self.now.left (F.pre self.now.read) (F.post self.now.read) }
         ensures { Reads result cursor.new (highest_of self.now.left (inner_of self.now.left) operator cursor.old) }
     {
@@ -214,7 +225,7 @@ impl<F: Fn(Global, &mut Cursor<'_>, usize) -> Result<Expression, Stuck>> Express
 
     /// A factor (4.4).
     #[tactic(auto, unfolding(ada_grammar::specs::ReadingExpressions::factor_of))]
-    fn factor(&self, cursor: &mut Cursor<'_>) -> Result<Expression, Stuck>
+    fn factor(&self, cursor: &mut Cursor<'_>) -> Result<Expression, OrMemory<Stuck>>
         requires reads { ReadsInside self.now.left (F.pre self.now.read) (F.post self.now.read) }
         ensures { Reads result cursor.new (factor_of self.now.left (inner_of self.now.left) cursor.old) }
     {
@@ -229,7 +240,7 @@ impl<F: Fn(Global, &mut Cursor<'_>, usize) -> Result<Expression, Stuck>> Express
 
     /// A factor behind a multiplying operator.
     #[tactic(auto, unfolding(ada_grammar::specs::ReadingExpressions::multiplied_of))]
-    fn multiplied(&self, cursor: &mut Cursor<'_>) -> Result<Multiplied<Expression>, Stuck>
+    fn multiplied(&self, cursor: &mut Cursor<'_>) -> Result<Multiplied<Expression>, OrMemory<Stuck>>
         requires reads { ReadsInside self.now.left (F.pre self.now.read) (F.post self.now.read) }
         ensures { Reads result cursor.new (multiplied_of self.now.left (inner_of self.now.left) cursor.old) }
     {
@@ -247,11 +258,11 @@ impl<F: Fn(Global, &mut Cursor<'_>, usize) -> Result<Expression, Stuck>> Express
         &self,
         cursor: &mut Cursor<'_>,
         mut factors: Items<Multiplied<Expression>>,
-    ) -> Result<Items<Multiplied<Expression>>, Stuck>
+    ) -> Result<Items<Multiplied<Expression>>, OrMemory<Stuck>>
         requires reads { ReadsInside self.now.left (F.pre self.now.read) (F.post self.now.read) }
         ensures { Reads result cursor.new (items_from multiplies (multiplied_of self.now.left (inner_of self.now.left)) (length cursor.old) factors cursor.old) }
     {
-        for _turn in 0..cursor.left() {
+        for _turn in 0..cursor.remaining() {
             if !multiplies(cursor) {
                 return Ok(factors);
             }
@@ -262,7 +273,11 @@ impl<F: Fn(Global, &mut Cursor<'_>, usize) -> Result<Expression, Stuck>> Express
 
     /// Factors that are multiplied or divided, behind the first one (4.5.5).
     #[tactic(auto, unfolding(ada_grammar::specs::ReadingExpressions::product_of, ada_grammar::specs::Reading::items_of))]
-    fn product(&self, cursor: &mut Cursor<'_>, first: Expression) -> Result<Expression, Stuck>
+    fn product(
+        &self,
+        cursor: &mut Cursor<'_>,
+        first: Expression,
+    ) -> Result<Expression, OrMemory<Stuck>>
         requires reads { ReadsInside self.now.left (F.pre self.now.read) (F.post self.now.read) }
         ensures { Reads result cursor.new (product_of self.now.left (inner_of self.now.left) first cursor.old) }
     {
@@ -276,7 +291,7 @@ impl<F: Fn(Global, &mut Cursor<'_>, usize) -> Result<Expression, Stuck>> Express
 
     /// A term (4.4).
     #[tactic(auto, unfolding(ada_grammar::specs::ReadingExpressions::term_of))]
-    fn term(&self, cursor: &mut Cursor<'_>) -> Result<Expression, Stuck>
+    fn term(&self, cursor: &mut Cursor<'_>) -> Result<Expression, OrMemory<Stuck>>
         requires reads { ReadsInside self.now.left (F.pre self.now.read) (F.post self.now.read) }
         ensures { Reads result cursor.new (term_of self.now.left (inner_of self.now.left) cursor.old) }
     {
@@ -290,7 +305,7 @@ impl<F: Fn(Global, &mut Cursor<'_>, usize) -> Result<Expression, Stuck>> Express
 
     /// A term behind a sign (4.5.4).
     #[tactic(auto, unfolding(ada_grammar::specs::ReadingExpressions::signed_of))]
-    fn signed(&self, cursor: &mut Cursor<'_>, sign: Sign) -> Result<Expression, Stuck>
+    fn signed(&self, cursor: &mut Cursor<'_>, sign: Sign) -> Result<Expression, OrMemory<Stuck>>
         requires reads { ReadsInside self.now.left (F.pre self.now.read) (F.post self.now.read) }
         ensures { Reads result cursor.new (signed_of self.now.left (inner_of self.now.left) sign cursor.old) }
     {
@@ -306,13 +321,13 @@ impl<F: Fn(Global, &mut Cursor<'_>, usize) -> Result<Expression, Stuck>> Express
 
     /// The first term of a sum, with its sign.
     #[tactic(auto, unfolding(ada_grammar::specs::ReadingExpressions::first_term_of))]
-    fn first_term(&self, cursor: &mut Cursor<'_>) -> Result<Expression, Stuck>
+    fn first_term(&self, cursor: &mut Cursor<'_>) -> Result<Expression, OrMemory<Stuck>>
         requires reads { ReadsInside self.now.left (F.pre self.now.read) (F.post self.now.read) }
         ensures { Reads result cursor.new (first_term_of self.now.left (inner_of self.now.left) cursor.old) }
     {
-        if cursor.is_mark(b"+") {
+        if cursor.is_delimiter(b"+") {
             self.signed(cursor, Sign::Plus)
-        } else if cursor.is_mark(b"-") {
+        } else if cursor.is_delimiter(b"-") {
             self.signed(cursor, Sign::Minus)
         } else {
             self.term(cursor)
@@ -321,7 +336,7 @@ impl<F: Fn(Global, &mut Cursor<'_>, usize) -> Result<Expression, Stuck>> Express
 
     /// A term behind a binary adding operator.
     #[tactic(auto, unfolding(ada_grammar::specs::ReadingExpressions::addend_of))]
-    fn addend(&self, cursor: &mut Cursor<'_>) -> Result<Addend<Expression>, Stuck>
+    fn addend(&self, cursor: &mut Cursor<'_>) -> Result<Addend<Expression>, OrMemory<Stuck>>
         requires reads { ReadsInside self.now.left (F.pre self.now.read) (F.post self.now.read) }
         ensures { Reads result cursor.new (addend_of self.now.left (inner_of self.now.left) cursor.old) }
     {
@@ -339,11 +354,11 @@ impl<F: Fn(Global, &mut Cursor<'_>, usize) -> Result<Expression, Stuck>> Express
         &self,
         cursor: &mut Cursor<'_>,
         mut terms: Items<Addend<Expression>>,
-    ) -> Result<Items<Addend<Expression>>, Stuck>
+    ) -> Result<Items<Addend<Expression>>, OrMemory<Stuck>>
         requires reads { ReadsInside self.now.left (F.pre self.now.read) (F.post self.now.read) }
         ensures { Reads result cursor.new (items_from adds (addend_of self.now.left (inner_of self.now.left)) (length cursor.old) terms cursor.old) }
     {
-        for _turn in 0..cursor.left() {
+        for _turn in 0..cursor.remaining() {
             if !adds(cursor) {
                 return Ok(terms);
             }
@@ -358,7 +373,7 @@ impl<F: Fn(Global, &mut Cursor<'_>, usize) -> Result<Expression, Stuck>> Express
         &self,
         cursor: &mut Cursor<'_>,
         first: Expression,
-    ) -> Result<Expression, Stuck>
+    ) -> Result<Expression, OrMemory<Stuck>>
         requires reads { ReadsInside self.now.left (F.pre self.now.read) (F.post self.now.read) }
         ensures { Reads result cursor.new (addition_behind_of self.now.left (inner_of self.now.left) first cursor.old) }
     {
@@ -372,7 +387,7 @@ impl<F: Fn(Global, &mut Cursor<'_>, usize) -> Result<Expression, Stuck>> Express
 
     /// A simple expression (4.4).
     #[tactic(auto, unfolding(ada_grammar::specs::ReadingExpressions::sum_of))]
-    fn sum(&self, cursor: &mut Cursor<'_>) -> Result<Expression, Stuck>
+    fn sum(&self, cursor: &mut Cursor<'_>) -> Result<Expression, OrMemory<Stuck>>
         requires reads { ReadsInside self.now.left (F.pre self.now.read) (F.post self.now.read) }
         ensures { Reads result cursor.new (sum_of self.now.left (inner_of self.now.left) cursor.old) }
     {
@@ -386,7 +401,11 @@ impl<F: Fn(Global, &mut Cursor<'_>, usize) -> Result<Expression, Stuck>> Express
 
     /// Two sums that are compared, behind the first one (4.5.2).
     #[tactic(auto, unfolding(ada_grammar::specs::ReadingExpressions::compared_of))]
-    fn compared(&self, cursor: &mut Cursor<'_>, first: Expression) -> Result<Expression, Stuck>
+    fn compared(
+        &self,
+        cursor: &mut Cursor<'_>,
+        first: Expression,
+    ) -> Result<Expression, OrMemory<Stuck>>
         requires reads { ReadsInside self.now.left (F.pre self.now.read) (F.post self.now.read) }
         ensures { Reads result cursor.new (compared_of self.now.left (inner_of self.now.left) first cursor.old) }
     {
@@ -403,7 +422,7 @@ impl<F: Fn(Global, &mut Cursor<'_>, usize) -> Result<Expression, Stuck>> Express
 
     /// A relation (4.4).
     #[tactic(auto, unfolding(ada_grammar::specs::ReadingExpressions::relation_of))]
-    fn relation(&self, cursor: &mut Cursor<'_>) -> Result<Expression, Stuck>
+    fn relation(&self, cursor: &mut Cursor<'_>) -> Result<Expression, OrMemory<Stuck>>
         requires reads { ReadsInside self.now.left (F.pre self.now.read) (F.post self.now.read) }
         ensures { Reads result cursor.new (relation_of self.now.left (inner_of self.now.left) cursor.old) }
     {
@@ -421,7 +440,7 @@ impl<F: Fn(Global, &mut Cursor<'_>, usize) -> Result<Expression, Stuck>> Express
         &self,
         cursor: &mut Cursor<'_>,
         operator: LogicalOperator,
-    ) -> Result<Operand<Expression>, Stuck>
+    ) -> Result<Operand<Expression>, OrMemory<Stuck>>
         requires reads { ReadsInside self.now.left (F.pre self.now.read) (F.post self.now.read) }
         ensures { Reads result cursor.new (operand_of self.now.left (inner_of self.now.left) operator cursor.old) }
     {
@@ -436,11 +455,11 @@ impl<F: Fn(Global, &mut Cursor<'_>, usize) -> Result<Expression, Stuck>> Express
         cursor: &mut Cursor<'_>,
         operator: LogicalOperator,
         mut operands: Items<Operand<Expression>>,
-    ) -> Result<Items<Operand<Expression>>, Stuck>
+    ) -> Result<Items<Operand<Expression>>, OrMemory<Stuck>>
         requires reads { ReadsInside self.now.left (F.pre self.now.read) (F.post self.now.read) }
         ensures { Reads result cursor.new (items_from (sees_word (logical_text operator)) (operand_of self.now.left (inner_of self.now.left) operator) (length cursor.old) operands cursor.old) }
     {
-        for _turn in 0..cursor.left() {
+        for _turn in 0..cursor.remaining() {
             if !joins_again(cursor, operator) {
                 return Ok(operands);
             }
@@ -451,7 +470,11 @@ impl<F: Fn(Global, &mut Cursor<'_>, usize) -> Result<Expression, Stuck>> Express
 
     /// Relations that one logical operator joins, behind the first one (4.5.1).
     #[tactic(auto, unfolding(ada_grammar::specs::ReadingExpressions::joined_of, ada_grammar::specs::Reading::items_of))]
-    fn joined(&self, cursor: &mut Cursor<'_>, first: Expression) -> Result<Expression, Stuck>
+    fn joined(
+        &self,
+        cursor: &mut Cursor<'_>,
+        first: Expression,
+    ) -> Result<Expression, OrMemory<Stuck>>
         requires reads { ReadsInside self.now.left (F.pre self.now.read) (F.post self.now.read) }
         ensures { Reads result cursor.new (joined_of self.now.left (inner_of self.now.left) first cursor.old) }
     {
@@ -471,7 +494,7 @@ impl<F: Fn(Global, &mut Cursor<'_>, usize) -> Result<Expression, Stuck>> Express
 
     /// An expression (4.4).
     #[tactic(auto, unfolding(ada_grammar::specs::ReadingExpressions::logical_of))]
-    fn logical(&self, cursor: &mut Cursor<'_>) -> Result<Expression, Stuck>
+    fn logical(&self, cursor: &mut Cursor<'_>) -> Result<Expression, OrMemory<Stuck>>
         requires reads { ReadsInside self.now.left (F.pre self.now.read) (F.post self.now.read) }
         ensures { Reads result cursor.new (logical_of self.now.left (inner_of self.now.left) cursor.old) }
     {
@@ -486,10 +509,14 @@ impl<F: Fn(Global, &mut Cursor<'_>, usize) -> Result<Expression, Stuck>> Express
 
 /// An expression, where `left` levels may still be opened.
 #[tactic(auto, using(crate::proofs::Levels::at_level))]
-pub fn expression(alloc: Global, cursor: &mut Cursor<'_>, left: usize) -> Result<Expression, Stuck>
+pub fn expression(
+    alloc: Global,
+    cursor: &mut Cursor<'_>,
+    left: usize,
+) -> Result<Expression, OrMemory<Stuck>>
     ensures { Reads result cursor.new (expression_of left cursor.old) }
 {
-    Expressions {
+    ExpressionReader {
         alloc,
         left,
         read: expression,
@@ -502,10 +529,10 @@ pub fn arguments(
     alloc: Global,
     cursor: &mut Cursor<'_>,
     left: usize,
-) -> Result<Items<Argument<Expression>>, Stuck>
+) -> Result<Items<Argument<Expression>>, OrMemory<Stuck>>
     ensures { Reads result cursor.new (arguments_of left (inner_of left) cursor.old) }
 {
-    Expressions {
+    ExpressionReader {
         alloc,
         left,
         read: expression,
@@ -518,10 +545,10 @@ pub fn argument(
     alloc: Global,
     cursor: &mut Cursor<'_>,
     left: usize,
-) -> Result<Argument<Expression>, Stuck>
+) -> Result<Argument<Expression>, OrMemory<Stuck>>
     ensures { Reads result cursor.new (argument_of left (inner_of left) cursor.old) }
 {
-    Expressions {
+    ExpressionReader {
         alloc,
         left,
         read: expression,

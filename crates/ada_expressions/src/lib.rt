@@ -1,11 +1,9 @@
-//! Reading tokens one after another: a cursor over them, names, and expressions.
+//! Names and expressions, read from a cursor over tokens.
 #![tactic(auto)]
 
-mod cursor;
 mod expressions;
 mod names;
 mod operators;
 
-pub use cursor::Cursor;
 pub use expressions::{argument, arguments, expression};
 pub use names::{identifiers, name, name_list};

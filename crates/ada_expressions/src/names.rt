@@ -1,24 +1,24 @@
 //! Names (ISO/IEC 8652:2012, 4.1).
 ghost use Rattle.std.specs.Prelude.{◌≡◌, length};
-ghost use Rattle.ada_grammar.specs.Reading.{an_identifier, behind_mark_of, identifiers_of, items_from, name_of, names_of, sees_mark, separated_of};
-ghost use Rattle.ada_expressions.specs.Steps.{Reads};
+ghost use Rattle.ada_grammar.specs.Reading.{an_identifier, behind_delimiter_of, identifiers_of, items_from, name_of, names_of, sees_delimiter, separated_of};
+ghost use Rattle.ada_grammar.specs.Reads.{Reads};
 
-use crate::cursor::Cursor;
-use ada_grammar::Stuck;
+use ada_grammar::{Cursor, Stuck};
 use ada_tree::{Identifier, Name, OneOrMore};
+use ann_base::OrMemory;
 use sqlite_items::Items;
 use std::alloc::Global;
 
-/// An identifier behind this mark.
-#[tactic(auto, unfolding(ada_grammar::specs::Reading::behind_mark_of))]
+/// An identifier behind this delimiter.
+#[tactic(auto, unfolding(ada_grammar::specs::Reading::behind_delimiter_of))]
 fn identifier_behind(
     alloc: Global,
     cursor: &mut Cursor<'_>,
-    mark: &[u8],
-) -> Result<Identifier, Stuck>
-    ensures { Reads result cursor.new (behind_mark_of mark.now an_identifier cursor.old) }
+    delimiter: &[u8],
+) -> Result<Identifier, OrMemory<Stuck>>
+    ensures { Reads result cursor.new (behind_delimiter_of delimiter.now an_identifier cursor.old) }
 {
-    cursor.mark(mark)?;
+    cursor.delimiter(delimiter)?;
     cursor.identifier(alloc)
 }
 
@@ -26,37 +26,40 @@ fn identifier_behind(
 fn add_identifiers(
     alloc: Global,
     cursor: &mut Cursor<'_>,
-    mark: &[u8],
+    delimiter: &[u8],
     mut identifiers: Items<Identifier>,
-) -> Result<Items<Identifier>, Stuck>
-    ensures { Reads result cursor.new (items_from (sees_mark mark.now) (behind_mark_of mark.now an_identifier) (length cursor.old) identifiers cursor.old) }
+) -> Result<Items<Identifier>, OrMemory<Stuck>>
+    ensures { Reads result cursor.new (items_from (sees_delimiter delimiter.now) (behind_delimiter_of delimiter.now an_identifier) (length cursor.old) identifiers cursor.old) }
 {
-    for _turn in 0..cursor.left() {
-        if !cursor.is_mark(mark) {
+    for _turn in 0..cursor.remaining() {
+        if !cursor.is_delimiter(delimiter) {
             return Ok(identifiers);
         }
-        identifiers.push(identifier_behind(alloc, cursor, mark)?)?;
+        identifiers.push(identifier_behind(alloc, cursor, delimiter)?)?;
     }
     Ok(identifiers)
 }
 
-/// Identifiers with this mark between them.
+/// Identifiers with this delimiter between them.
 #[tactic(auto, unfolding(ada_grammar::specs::Reading::items_of, ada_grammar::specs::Reading::separated_of))]
 fn separated_identifiers(
     alloc: Global,
     cursor: &mut Cursor<'_>,
-    mark: &[u8],
-) -> Result<OneOrMore<Identifier>, Stuck>
-    ensures { Reads result cursor.new (separated_of mark.now an_identifier cursor.old) }
+    delimiter: &[u8],
+) -> Result<OneOrMore<Identifier>, OrMemory<Stuck>>
+    ensures { Reads result cursor.new (separated_of delimiter.now an_identifier cursor.old) }
 {
     let first = cursor.identifier(alloc)?;
-    let others = add_identifiers(alloc, cursor, mark, Items::new(alloc))?;
+    let others = add_identifiers(alloc, cursor, delimiter, Items::new(alloc))?;
     Ok(OneOrMore { first, others })
 }
 
 /// Identifiers with commas between them (3.3.1).
 #[tactic(auto, unfolding(ada_grammar::specs::Reading::identifiers_of))]
-pub fn identifiers(alloc: Global, cursor: &mut Cursor<'_>) -> Result<OneOrMore<Identifier>, Stuck>
+pub fn identifiers(
+    alloc: Global,
+    cursor: &mut Cursor<'_>,
+) -> Result<OneOrMore<Identifier>, OrMemory<Stuck>>
     ensures { Reads result cursor.new (identifiers_of cursor.old) }
 {
     separated_identifiers(alloc, cursor, b",")
@@ -64,19 +67,23 @@ pub fn identifiers(alloc: Global, cursor: &mut Cursor<'_>) -> Result<OneOrMore<I
 
 /// A direct name or an expanded name (4.1, 4.1.3).
 #[tactic(auto, unfolding(ada_grammar::specs::Reading::name_of))]
-pub fn name(alloc: Global, cursor: &mut Cursor<'_>) -> Result<Name, Stuck>
+pub fn name(alloc: Global, cursor: &mut Cursor<'_>) -> Result<Name, OrMemory<Stuck>>
     ensures { Reads result cursor.new (name_of cursor.old) }
 {
     let parts = separated_identifiers(alloc, cursor, b".")?;
     Ok(Name { parts })
 }
 
-/// A name behind this mark.
-#[tactic(auto, unfolding(ada_grammar::specs::Reading::behind_mark_of))]
-fn name_behind(alloc: Global, cursor: &mut Cursor<'_>, mark: &[u8]) -> Result<Name, Stuck>
-    ensures { Reads result cursor.new (behind_mark_of mark.now name_of cursor.old) }
+/// A name behind this delimiter.
+#[tactic(auto, unfolding(ada_grammar::specs::Reading::behind_delimiter_of))]
+fn name_behind(
+    alloc: Global,
+    cursor: &mut Cursor<'_>,
+    delimiter: &[u8],
+) -> Result<Name, OrMemory<Stuck>>
+    ensures { Reads result cursor.new (behind_delimiter_of delimiter.now name_of cursor.old) }
 {
-    cursor.mark(mark)?;
+    cursor.delimiter(delimiter)?;
     name(alloc, cursor)
 }
 
@@ -84,30 +91,30 @@ fn name_behind(alloc: Global, cursor: &mut Cursor<'_>, mark: &[u8]) -> Result<Na
 fn add_names(
     alloc: Global,
     cursor: &mut Cursor<'_>,
-    mark: &[u8],
+    delimiter: &[u8],
     mut names: Items<Name>,
-) -> Result<Items<Name>, Stuck>
-    ensures { Reads result cursor.new (items_from (sees_mark mark.now) (behind_mark_of mark.now name_of) (length cursor.old) names cursor.old) }
+) -> Result<Items<Name>, OrMemory<Stuck>>
+    ensures { Reads result cursor.new (items_from (sees_delimiter delimiter.now) (behind_delimiter_of delimiter.now name_of) (length cursor.old) names cursor.old) }
 {
-    for _turn in 0..cursor.left() {
-        if !cursor.is_mark(mark) {
+    for _turn in 0..cursor.remaining() {
+        if !cursor.is_delimiter(delimiter) {
             return Ok(names);
         }
-        names.push(name_behind(alloc, cursor, mark)?)?;
+        names.push(name_behind(alloc, cursor, delimiter)?)?;
     }
     Ok(names)
 }
 
-/// Names with this mark between them.
+/// Names with this delimiter between them.
 #[tactic(auto, unfolding(ada_grammar::specs::Reading::items_of, ada_grammar::specs::Reading::separated_of, ada_grammar::specs::Reading::names_of))]
 pub fn name_list(
     alloc: Global,
     cursor: &mut Cursor<'_>,
-    mark: &[u8],
-) -> Result<OneOrMore<Name>, Stuck>
-    ensures { Reads result cursor.new (names_of mark.now cursor.old) }
+    delimiter: &[u8],
+) -> Result<OneOrMore<Name>, OrMemory<Stuck>>
+    ensures { Reads result cursor.new (names_of delimiter.now cursor.old) }
 {
     let first = name(alloc, cursor)?;
-    let others = add_names(alloc, cursor, mark, Items::new(alloc))?;
+    let others = add_names(alloc, cursor, delimiter, Items::new(alloc))?;
     Ok(OneOrMore { first, others })
 }

@@ -6,3 +6,4 @@ pub mod ReadingDeclarations
 pub mod ReadingBodies
 pub mod ReadingSequences
 pub mod ReadingUnits
+pub mod Reads

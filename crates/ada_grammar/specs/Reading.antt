@@ -51,32 +51,32 @@ abbrev pub is_word : Kind → Bool
 is_word kinds.Word = true
 is_word kinds.Number = false
 is_word kinds.Text = false
-is_word kinds.Mark = false
+is_word kinds.Delimiter = false
 
 abbrev pub is_number : Kind → Bool
 is_number kinds.Word = false
 is_number kinds.Number = true
 is_number kinds.Text = false
-is_number kinds.Mark = false
+is_number kinds.Delimiter = false
 
 abbrev pub is_text : Kind → Bool
 is_text kinds.Word = false
 is_text kinds.Number = false
 is_text kinds.Text = true
-is_text kinds.Mark = false
+is_text kinds.Delimiter = false
 
-abbrev pub is_mark : Kind → Bool
-is_mark kinds.Word = false
-is_mark kinds.Number = false
-is_mark kinds.Text = false
-is_mark kinds.Mark = true
+abbrev pub is_delimiter : Kind → Bool
+is_delimiter kinds.Word = false
+is_delimiter kinds.Number = false
+is_delimiter kinds.Text = false
+is_delimiter kinds.Delimiter = true
 
--- this word, this mark, an identifier (any word that is not reserved, 2.3), a number, a text
+-- this word, this delimiter, an identifier (any word that is not reserved, 2.3), a number, a text
 abbrev pub is_this_word : List ℕ → Lexeme → Bool
 is_this_word text l = is_word l.kind && bytes_eq l.text text
 
-abbrev pub is_this_mark : List ℕ → Lexeme → Bool
-is_this_mark text l = is_mark l.kind && bytes_eq l.text text
+abbrev pub is_this_delimiter : List ℕ → Lexeme → Bool
+is_this_delimiter text l = is_delimiter l.kind && bytes_eq l.text text
 
 abbrev pub is_identifier : Lexeme → Bool
 is_identifier l = is_word l.kind && not (is_reserved l.text)
@@ -100,8 +100,8 @@ starts_both first second (l ∷ ls) = first l && starts second ls
 abbrev pub sees_word : List ℕ → List Lexeme → Bool
 sees_word text ls = starts (is_this_word text) ls
 
-abbrev pub sees_mark : List ℕ → List Lexeme → Bool
-sees_mark text ls = starts (is_this_mark text) ls
+abbrev pub sees_delimiter : List ℕ → List Lexeme → Bool
+sees_delimiter text ls = starts (is_this_delimiter text) ls
 
 abbrev pub sees_identifier : List Lexeme → Bool
 sees_identifier ls = starts is_identifier ls
@@ -114,8 +114,8 @@ token test (l ∷ ls) = if test l then Ok (l, ls) else Err (stuck.At (length (l 
 unfoldable pub the_word : List ℕ → Parser Place
 the_word text = token (is_this_word text) >>= λ l. pure l.place
 
-unfoldable pub the_mark : List ℕ → Parser Place
-the_mark text = token (is_this_mark text) >>= λ l. pure l.place
+unfoldable pub the_delimiter : List ℕ → Parser Place
+the_delimiter text = token (is_this_delimiter text) >>= λ l. pure l.place
 
 unfoldable pub an_identifier : Parser Identifier
 an_identifier = token is_identifier >>= λ l. pure (record { place = l.place; text = l.text })
@@ -137,8 +137,8 @@ end_name_of name = flag_of name
 
 -- an opening bracket, or the `is` of a body, where so many levels are left
 unfoldable pub opening_of : ℕ → Parser Place
-opening_of zero = choose (sees_mark (codes "(")) too_deep nothing
-opening_of (suc left) = the_mark (codes "(")
+opening_of zero = choose (sees_delimiter (codes "(")) too_deep nothing
+opening_of (suc left) = the_delimiter (codes "(")
 
 unfoldable pub opening_is_of : ℕ → Parser Place
 opening_is_of zero = choose (sees_word (codes "is")) too_deep nothing
@@ -160,14 +160,14 @@ unfoldable pub items_of : {A : Type 0} → (List Lexeme → Bool) → Parser A �
 items_of begins item = λ ls. items_from begins item (length ls) [] ls
 
 -- an item behind a separator
-unfoldable pub behind_mark_of : {A : Type 0} → List ℕ → Parser A → Parser A
-behind_mark_of separator item = the_mark separator >> item
+unfoldable pub behind_delimiter_of : {A : Type 0} → List ℕ → Parser A → Parser A
+behind_delimiter_of separator item = the_delimiter separator >> item
 
 -- one {separator one}
 unfoldable pub separated_of : {A : Type 0} → List ℕ → Parser A → Parser (OneOrMore A)
 separated_of separator item = do
   first ← item
-  others ← items_of (sees_mark separator) (behind_mark_of separator item)
+  others ← items_of (sees_delimiter separator) (behind_delimiter_of separator item)
   pure (record { first = first; others = others })
 
 -- NAME {"," NAME}

@@ -11,7 +11,7 @@ use Rattle.ada_tree.specs.declared.declarations.OperationBody.{OperationBody}
 use Rattle.ada_tree.specs.declared.declarations.Declaration.TheVariants as declarations
 use Rattle.ada_tree.specs.declared.declarations.OperationBody.TheVariants as bodies
 use Rattle.ada_tree.specs.Written.{Lexeme}
-use Rattle.ada_grammar.specs.Reading.{Parser, ◌>>=◌, ◌>>◌, pure, choose, sees_word, sees_mark, sees_identifier, the_word, the_mark, an_identifier, end_name_of, opening_is_of, below, items_of}
+use Rattle.ada_grammar.specs.Reading.{Parser, ◌>>=◌, ◌>>◌, pure, choose, sees_word, sees_delimiter, sees_identifier, the_word, the_delimiter, an_identifier, end_name_of, opening_is_of, below, items_of}
 use Rattle.ada_grammar.specs.ReadingDeclarations.{begins_operation, begins_specification, entry_head_of, named_declaration_of, protected_of, specification_of, subtype_of, task_of, type_of, use_of}
 
 -- ---- bodies, given how a sequence is read one level further in
@@ -24,7 +24,7 @@ module _ (left : ℕ) (sequence : SequenceRole → Parser Sequence) where
     inside ← sequence role.Body
     the_word (codes "end")
     named ← end_name_of name
-    the_mark (codes ";")
+    the_delimiter (codes ";")
     pure (record { sequence = inside; named_at_end = named })
 
   unfoldable pub subprogram_operation_of : Parser (OperationBody Sequence)
@@ -51,7 +51,7 @@ module _ (left : ℕ) (sequence : SequenceRole → Parser Sequence) where
   unfoldable pub subprogram_of : Parser (Declaration Sequence)
   subprogram_of = do
     specification ← specification_of left
-    choose (sees_mark (codes ";")) (the_mark (codes ";") >> pure (declarations.Subprogram specification)) (subprogram_body_of specification)
+    choose (sees_delimiter (codes ";")) (the_delimiter (codes ";") >> pure (declarations.Subprogram specification)) (subprogram_body_of specification)
 
   -- "body" NAME body, behind "task"
   unfoldable pub task_body_of : Place → Parser (Declaration Sequence)
@@ -77,7 +77,7 @@ module _ (left : ℕ) (sequence : SequenceRole → Parser Sequence) (deeper : Se
     operation_bodies ← items_of begins_operation (operation_body_of (below left) deeper)
     the_word (codes "end")
     named ← end_name_of name.text
-    the_mark (codes ";")
+    the_delimiter (codes ";")
     pure (declarations.ProtectedBody (record { place = place; name = name; operations = operation_bodies; named_at_end = named }))
 
   unfoldable pub any_protected_of : Parser (Declaration Sequence)

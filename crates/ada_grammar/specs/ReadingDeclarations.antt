@@ -18,65 +18,65 @@ use Rattle.ada_tree.specs.declared.declarations.Declaration.TheVariants as decla
 use Rattle.ada_tree.specs.declared.declarations.TypeDefinition.TheVariants as definitions
 use Rattle.ada_tree.specs.declared.declarations.ProtectedOperation.TheVariants as operations
 use Rattle.ada_tree.specs.Written.{Lexeme}
-use Rattle.ada_grammar.specs.Reading.{Parser, ◌>>=◌, ◌>>◌, pure, choose, sees_word, sees_mark, sees_identifier, the_word, the_mark, an_identifier, flag_of, end_name_of, opening_of, below, items_of, behind_mark_of, identifiers_of, name_of}
+use Rattle.ada_grammar.specs.Reading.{Parser, ◌>>=◌, ◌>>◌, pure, choose, sees_word, sees_delimiter, sees_identifier, the_word, the_delimiter, an_identifier, flag_of, end_name_of, opening_of, below, items_of, behind_delimiter_of, identifiers_of, name_of}
 use Rattle.ada_grammar.specs.ReadingExpressions.{expression_of}
-use Rattle.ada_grammar.specs.ReadingSimple.{bounds_of, subtype_mark_of, parameters_of}
+use Rattle.ada_grammar.specs.ReadingSimple.{bounds_of, subtype_indication_of, parameters_of}
 
 -- ---- objects, types, exceptions (3.3.1, 3.2.1, 11.1)
 
 -- [":=" expression]
 unfoldable pub initial_of : ℕ → Parser (Option Expression)
-initial_of left = choose (sees_mark (codes ":=")) (do the_mark (codes ":="); value ← expression_of left; pure (Some value)) (pure None)
+initial_of left = choose (sees_delimiter (codes ":=")) (do the_delimiter (codes ":="); value ← expression_of left; pure (Some value)) (pure None)
 
--- ["aliased"] ["constant"] mark [":=" expression] ";", behind the names and the colon
+-- ["aliased"] ["constant"] delimiter [":=" expression] ";", behind the names and the colon
 unfoldable pub object_of : ℕ → OneOrMore Identifier → Parser (Declaration Sequence)
 object_of left names = do
   aliased ← flag_of (codes "aliased")
   constant ← flag_of (codes "constant")
-  mark ← subtype_mark_of left
+  subtype ← subtype_indication_of left
   initial ← initial_of left
-  the_mark (codes ";")
-  pure (declarations.Object (record { names = names; aliased = aliased; constant = constant; mark = mark; initial = initial }))
+  the_delimiter (codes ";")
+  pure (declarations.Object (record { names = names; aliased = aliased; constant = constant; subtype = subtype; initial = initial }))
 
 unfoldable pub exception_of : OneOrMore Identifier → Parser (Declaration Sequence)
 exception_of names = do
   the_word (codes "exception")
-  the_mark (codes ";")
+  the_delimiter (codes ";")
   pure (declarations.Exception names)
 
 unfoldable pub named_declaration_of : ℕ → Parser (Declaration Sequence)
 named_declaration_of left = do
   names ← identifiers_of
-  the_mark (codes ":")
+  the_delimiter (codes ":")
   choose (sees_word (codes "exception")) (exception_of names) (object_of left names)
 
--- NAME {"," NAME} ":" mark [":=" expression] ";"
+-- NAME {"," NAME} ":" delimiter [":=" expression] ";"
 unfoldable pub component_of : ℕ → Parser Component
 component_of left = do
   names ← identifiers_of
-  the_mark (codes ":")
-  mark ← subtype_mark_of left
+  the_delimiter (codes ":")
+  subtype ← subtype_indication_of left
   initial ← initial_of left
-  the_mark (codes ";")
-  pure (record { names = names; mark = mark; initial = initial })
+  the_delimiter (codes ";")
+  pure (record { names = names; subtype = subtype; initial = initial })
 
 -- "(" NAME {"," NAME} ")"
 unfoldable pub enumeration_of : ℕ → Parser TypeDefinition
 enumeration_of left = do
   opening_of left
   literals ← identifiers_of
-  the_mark (codes ")")
+  the_delimiter (codes ")")
   pure (definitions.Enumeration literals)
 
--- "array" "(" expression ".." expression ")" "of" mark
+-- "array" "(" expression ".." expression ")" "of" delimiter
 unfoldable pub array_of : ℕ → Parser TypeDefinition
 array_of left = do
   the_word (codes "array")
   opening_of left
   bounds ← bounds_of (below left)
-  the_mark (codes ")")
+  the_delimiter (codes ")")
   the_word (codes "of")
-  component ← subtype_mark_of left
+  component ← subtype_indication_of left
   pure (definitions.Array bounds.0 bounds.1 component)
 
 -- "null" "record" | "record" component {component} "end" "record"
@@ -108,7 +108,7 @@ derived_of left = do
   pure (definitions.Derived parent components)
 
 unfoldable pub definition_of : ℕ → Parser TypeDefinition
-definition_of left = choose (sees_mark (codes "(")) (enumeration_of left) (choose (sees_word (codes "array")) (array_of left) (derived_of left))
+definition_of left = choose (sees_delimiter (codes "(")) (enumeration_of left) (choose (sees_word (codes "array")) (array_of left) (derived_of left))
 
 -- "type" NAME "is" definition ";"
 unfoldable pub type_of : ℕ → Parser (Declaration Sequence)
@@ -117,32 +117,32 @@ type_of left = do
   name ← an_identifier
   the_word (codes "is")
   definition ← definition_of left
-  the_mark (codes ";")
+  the_delimiter (codes ";")
   pure (declarations.Type (record { place = place; name = name; definition = definition }))
 
--- "subtype" NAME "is" mark ";"
+-- "subtype" NAME "is" delimiter ";"
 unfoldable pub subtype_of : ℕ → Parser (Declaration Sequence)
 subtype_of left = do
   place ← the_word (codes "subtype")
   name ← an_identifier
   the_word (codes "is")
-  mark ← subtype_mark_of left
-  the_mark (codes ";")
-  pure (declarations.Subtype (record { place = place; name = name; mark = mark }))
+  subtype ← subtype_indication_of left
+  the_delimiter (codes ";")
+  pure (declarations.Subtype (record { place = place; name = name; subtype = subtype }))
 
 -- "use" name ";"
 unfoldable pub use_of : Parser (Declaration Sequence)
 use_of = do
   place ← the_word (codes "use")
   name ← name_of
-  the_mark (codes ";")
+  the_delimiter (codes ";")
   pure (declarations.Use place name)
 
 -- ---- specifications (6.1, 9.1, 9.4, 9.5.2, 13.1.1)
 
 -- NAME ["=>" expression]
 unfoldable pub aspect_value_of : ℕ → Parser (Option Expression)
-aspect_value_of left = choose (sees_mark (codes "=>")) (do the_mark (codes "=>"); value ← expression_of left; pure (Some value)) (pure None)
+aspect_value_of left = choose (sees_delimiter (codes "=>")) (do the_delimiter (codes "=>"); value ← expression_of left; pure (Some value)) (pure None)
 
 unfoldable pub aspect_of : ℕ → Parser Aspect
 aspect_of left = do
@@ -155,7 +155,7 @@ unfoldable pub given_aspects_of : ℕ → Parser (List Aspect)
 given_aspects_of left = do
   the_word (codes "with")
   first ← aspect_of left
-  others ← items_of (sees_mark (codes ",")) (behind_mark_of (codes ",") (aspect_of left))
+  others ← items_of (sees_delimiter (codes ",")) (behind_delimiter_of (codes ",") (aspect_of left))
   pure (first ∷ others)
 
 unfoldable pub aspects_of : ℕ → Parser (List Aspect)
@@ -174,14 +174,14 @@ procedure_of left overriding = do
   aspects ← aspects_of left
   pure (record { overriding = overriding; place = place; name = name; parameters = parameters; result = None; aspects = aspects })
 
--- "function" NAME [parameters] "return" mark [aspects]
+-- "function" NAME [parameters] "return" delimiter [aspects]
 unfoldable pub function_of : ℕ → Option Place → Parser SubprogramSpecification
 function_of left overriding = do
   place ← the_word (codes "function")
   name ← an_identifier
   parameters ← parameters_of left
   the_word (codes "return")
-  result ← subtype_mark_of left
+  result ← subtype_indication_of left
   aspects ← aspects_of left
   pure (record { overriding = overriding; place = place; name = name; parameters = parameters; result = Some result; aspects = aspects })
 
@@ -199,7 +199,7 @@ entry_of left = do
   place ← the_word (codes "entry")
   name ← an_identifier
   parameters ← parameters_of left
-  the_mark (codes ";")
+  the_delimiter (codes ";")
   pure (record { place = place; name = name; parameters = parameters })
 
 -- ["is" {entry} "end" [NAME]]
@@ -216,13 +216,13 @@ task_of left place = do
   name ← an_identifier
   aspects ← aspects_of left
   definition ← task_definition_of left name.text
-  the_mark (codes ";")
+  the_delimiter (codes ";")
   pure (declarations.Task (record { place = place; is_type = is_type; name = name; aspects = aspects; definition = definition }))
 
 unfoldable pub specified_operation_of : ℕ → Parser ProtectedOperation
 specified_operation_of left = do
   specification ← specification_of left
-  the_mark (codes ";")
+  the_delimiter (codes ";")
   pure (operations.Subprogram specification)
 
 unfoldable pub operation_of : ℕ → Parser ProtectedOperation
@@ -247,7 +247,7 @@ protected_of left place = do
   components ← private_of left
   the_word (codes "end")
   named ← end_name_of name.text
-  the_mark (codes ";")
+  the_delimiter (codes ";")
   pure (declarations.Protected (record { place = place; is_type = is_type; name = name; aspects = aspects; operations = named_operations; components = components; named_at_end = named }))
 
 -- "entry" NAME [parameters] "when" expression

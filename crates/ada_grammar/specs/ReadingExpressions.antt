@@ -25,7 +25,7 @@ use Rattle.ada_tree.specs.declared.expressions.AttributeDesignator.{AttributeDes
 use Rattle.ada_tree.specs.declared.expressions.Argument.{Argument}
 use Rattle.ada_tree.specs.Written.{Lexeme}
 use Rattle.ada_tree.specs.SpellingExpressions.{relational_text, adding_text, sign_text, highest_text, attribute_text}
-use Rattle.ada_grammar.specs.Reading.{Parser, ◌>>=◌, ◌>>◌, pure, nothing, choose, is_this_mark, is_identifier, is_numeral, is_string, starts, starts_both, sees_word, sees_mark, the_word, the_mark, an_identifier, a_number, a_text, opening_of, items_of, behind_mark_of, name_of}
+use Rattle.ada_grammar.specs.Reading.{Parser, ◌>>=◌, ◌>>◌, pure, nothing, choose, is_this_delimiter, is_identifier, is_numeral, is_string, starts, starts_both, sees_word, sees_delimiter, the_word, the_delimiter, an_identifier, a_number, a_text, opening_of, items_of, behind_delimiter_of, name_of}
 
 -- an expression of this form
 abbrev pub formed : ExpressionForm Expression → Expression
@@ -34,46 +34,46 @@ formed f = roll-Expression (record { form = f })
 -- ---- operators, each with its place
 
 unfoldable pub relational_of : RelationalOperator → Parser (Place × RelationalOperator)
-relational_of operator = the_mark (relational_text operator) >>= λ place. pure (place, operator)
+relational_of operator = the_delimiter (relational_text operator) >>= λ place. pure (place, operator)
 
 unfoldable pub adding_of : AddingOperator → Parser (Place × AddingOperator)
-adding_of operator = the_mark (adding_text operator) >>= λ place. pure (place, operator)
+adding_of operator = the_delimiter (adding_text operator) >>= λ place. pure (place, operator)
 
 abbrev pub compares : List Lexeme → Bool
 compares ls =
-    sees_mark (codes "=") ls || (sees_mark (codes "/=") ls || (sees_mark (codes "<") ls || (sees_mark (codes "<=") ls || (sees_mark (codes ">") ls || sees_mark (codes ">=") ls))))
+    sees_delimiter (codes "=") ls || (sees_delimiter (codes "/=") ls || (sees_delimiter (codes "<") ls || (sees_delimiter (codes "<=") ls || (sees_delimiter (codes ">") ls || sees_delimiter (codes ">=") ls))))
 
 unfoldable pub comparison_of : Parser (Place × RelationalOperator)
 comparison_of =
-    choose (sees_mark (codes "=")) (relational_of relational.Equal)
-    (choose (sees_mark (codes "/=")) (relational_of relational.NotEqual)
-    (choose (sees_mark (codes "<")) (relational_of relational.Less)
-    (choose (sees_mark (codes "<=")) (relational_of relational.LessOrEqual)
-    (choose (sees_mark (codes ">")) (relational_of relational.Greater)
+    choose (sees_delimiter (codes "=")) (relational_of relational.Equal)
+    (choose (sees_delimiter (codes "/=")) (relational_of relational.NotEqual)
+    (choose (sees_delimiter (codes "<")) (relational_of relational.Less)
+    (choose (sees_delimiter (codes "<=")) (relational_of relational.LessOrEqual)
+    (choose (sees_delimiter (codes ">")) (relational_of relational.Greater)
     (relational_of relational.GreaterOrEqual)))))
 
 abbrev pub adds : List Lexeme → Bool
-adds ls = sees_mark (codes "+") ls || (sees_mark (codes "-") ls || sees_mark (codes "&") ls)
+adds ls = sees_delimiter (codes "+") ls || (sees_delimiter (codes "-") ls || sees_delimiter (codes "&") ls)
 
 unfoldable pub addition_of : Parser (Place × AddingOperator)
 addition_of =
-    choose (sees_mark (codes "+")) (adding_of adding.Plus)
-    (choose (sees_mark (codes "-")) (adding_of adding.Minus)
+    choose (sees_delimiter (codes "+")) (adding_of adding.Plus)
+    (choose (sees_delimiter (codes "-")) (adding_of adding.Minus)
     (adding_of adding.Concatenation))
 
 abbrev pub multiplies : List Lexeme → Bool
-multiplies ls = sees_mark (codes "*") ls || (sees_mark (codes "/") ls || (sees_word (codes "mod") ls || sees_word (codes "rem") ls))
+multiplies ls = sees_delimiter (codes "*") ls || (sees_delimiter (codes "/") ls || (sees_word (codes "mod") ls || sees_word (codes "rem") ls))
 
-unfoldable pub multiplying_mark_of : List ℕ → MultiplyingOperator → Parser (Place × MultiplyingOperator)
-multiplying_mark_of text operator = the_mark text >>= λ place. pure (place, operator)
+unfoldable pub multiplying_delimiter_of : List ℕ → MultiplyingOperator → Parser (Place × MultiplyingOperator)
+multiplying_delimiter_of text operator = the_delimiter text >>= λ place. pure (place, operator)
 
 unfoldable pub multiplying_word_of : List ℕ → MultiplyingOperator → Parser (Place × MultiplyingOperator)
 multiplying_word_of text operator = the_word text >>= λ place. pure (place, operator)
 
 unfoldable pub multiplication_of : Parser (Place × MultiplyingOperator)
 multiplication_of =
-    choose (sees_mark (codes "*")) (multiplying_mark_of (codes "*") multiplying.Times)
-    (choose (sees_mark (codes "/")) (multiplying_mark_of (codes "/") multiplying.Divide)
+    choose (sees_delimiter (codes "*")) (multiplying_delimiter_of (codes "*") multiplying.Times)
+    (choose (sees_delimiter (codes "/")) (multiplying_delimiter_of (codes "/") multiplying.Divide)
     (choose (sees_word (codes "mod")) (multiplying_word_of (codes "mod") multiplying.Modulus)
     (multiplying_word_of (codes "rem") multiplying.Remainder)))
 
@@ -134,19 +134,19 @@ attribute_word_of =
 
 -- ["'" ATTRIBUTE]
 unfoldable pub designator_of : Parser (Option AttributeDesignator)
-designator_of = choose (sees_mark (codes "'")) (do the_mark (codes "'"); word ← attribute_word_of; pure (Some word)) (pure None)
+designator_of = choose (sees_delimiter (codes "'")) (do the_delimiter (codes "'"); word ← attribute_word_of; pure (Some word)) (pure None)
 
 -- ---- the productions
 
 abbrev pub names_formal : List Lexeme → Bool
-names_formal ls = starts_both is_identifier (is_this_mark (codes "=>")) ls
+names_formal ls = starts_both is_identifier (is_this_delimiter (codes "=>")) ls
 
 module _ (left : ℕ) (inner : Parser Expression) where
   -- [NAME "=>"] expression
   unfoldable pub named_argument_of : Parser (Argument Expression)
   named_argument_of = do
     formal ← an_identifier
-    the_mark (codes "=>")
+    the_delimiter (codes "=>")
     value ← inner
     pure (record { formal = Some formal; value = value })
 
@@ -158,12 +158,12 @@ module _ (left : ℕ) (inner : Parser Expression) where
   given_arguments_of = do
     opening_of left
     first ← argument_of
-    others ← items_of (sees_mark (codes ",")) (behind_mark_of (codes ",") argument_of)
-    the_mark (codes ")")
+    others ← items_of (sees_delimiter (codes ",")) (behind_delimiter_of (codes ",") argument_of)
+    the_delimiter (codes ")")
     pure (first ∷ others)
 
   unfoldable pub arguments_of : Parser (List (Argument Expression))
-  arguments_of = choose (sees_mark (codes "(")) given_arguments_of (pure [])
+  arguments_of = choose (sees_delimiter (codes "(")) given_arguments_of (pure [])
 
   -- primary (4.4)
   unfoldable pub named_of : Parser Expression
@@ -177,7 +177,7 @@ module _ (left : ℕ) (inner : Parser Expression) where
   bracketed_of = do
     place ← opening_of left
     expression ← inner
-    the_mark (codes ")")
+    the_delimiter (codes ")")
     pure (formed (form.Bracketed place expression))
 
   unfoldable pub primary_of : Parser Expression
@@ -185,7 +185,7 @@ module _ (left : ℕ) (inner : Parser Expression) where
       choose (starts is_numeral) (a_number >>= λ number. pure (formed (form.Number number.0 number.1)))
       (choose (starts is_string) (a_text >>= λ text. pure (formed (form.Text text.0 text.1)))
       (choose (sees_word (codes "null")) (the_word (codes "null") >>= λ place. pure (formed (form.Null place)))
-      (choose (sees_mark (codes "(")) bracketed_of
+      (choose (sees_delimiter (codes "(")) bracketed_of
       named_of)))
 
   -- ["abs" | "not"] primary
@@ -217,12 +217,12 @@ module _ (left : ℕ) (inner : Parser Expression) where
   -- ["+" | "-"] term {("+" | "-" | "&") term}
   unfoldable pub signed_of : Sign → Parser Expression
   signed_of sign = do
-    place ← the_mark (sign_text sign)
+    place ← the_delimiter (sign_text sign)
     operand ← term_of
     pure (formed (form.Signed place sign operand))
 
   unfoldable pub first_term_of : Parser Expression
-  first_term_of = choose (sees_mark (codes "+")) (signed_of signs.Plus) (choose (sees_mark (codes "-")) (signed_of signs.Minus) term_of)
+  first_term_of = choose (sees_delimiter (codes "+")) (signed_of signs.Plus) (choose (sees_delimiter (codes "-")) (signed_of signs.Minus) term_of)
 
   unfoldable pub addend_of : Parser (Addend Expression)
   addend_of = do

@@ -7,7 +7,7 @@ use Rattle.ada_tree.specs.declared.statements.Sequence.{Sequence, roll-Sequence}
 use Rattle.ada_tree.specs.declared.statements.SequenceRole.{SequenceRole}
 use Rattle.ada_tree.specs.declared.statements.SequenceRole.TheVariants as role
 use Rattle.ada_tree.specs.declared.declarations.Declaration.{Declaration}
-use Rattle.ada_grammar.specs.Reading.{Parser, ◌>>=◌, ◌>>◌, pure, nothing, too_deep, choose, sees_word, the_word, the_mark, items_of}
+use Rattle.ada_grammar.specs.Reading.{Parser, ◌>>=◌, ◌>>◌, pure, nothing, too_deep, choose, sees_word, the_word, the_delimiter, items_of}
 use Rattle.ada_grammar.specs.ReadingSimple.{exceptions_of}
 use Rattle.ada_grammar.specs.ReadingStatements.{begins_statement, statement_inside_of}
 use Rattle.ada_grammar.specs.ReadingBodies.{begins_declaration, declaration_of}
@@ -38,7 +38,7 @@ module _ (left : ℕ) (inner : SequenceRole → Parser Sequence) (deeper : Seque
   handler_of = do
     place ← the_word (codes "when")
     exceptions ← exceptions_of
-    the_mark (codes "=>")
+    the_delimiter (codes "=>")
     inside ← statements_of
     pure (record { place = place; exceptions = exceptions; statements = made [] inside [] })
 

@@ -4,7 +4,7 @@ use Rattle.ada_tree.specs.declared.names.Identifier.{Identifier}
 use Rattle.ada_tree.specs.declared.names.Name.{Name}
 use Rattle.ada_tree.specs.declared.expressions.Expression.{Expression}
 use Rattle.ada_tree.specs.declared.expressions.Argument.{Argument}
-use Rattle.ada_tree.specs.declared.declarations.Mark.{Mark}
+use Rattle.ada_tree.specs.declared.declarations.SubtypeIndication.{SubtypeIndication}
 use Rattle.ada_tree.specs.declared.declarations.Constraint.{Constraint}
 use Rattle.ada_tree.specs.declared.declarations.Parameter.{Parameter}
 use Rattle.ada_tree.specs.declared.declarations.Constraint.TheVariants as constraints
@@ -20,26 +20,26 @@ use Rattle.ada_tree.specs.declared.statements.Statement.TheVariants as statement
 use Rattle.ada_tree.specs.declared.statements.Choice.TheVariants as choices
 use Rattle.ada_tree.specs.declared.statements.Iteration.TheVariants as iterations
 use Rattle.ada_tree.specs.declared.statements.HandledExceptions.TheVariants as exceptions
-use Rattle.ada_grammar.specs.Reading.{Parser, ◌>>=◌, ◌>>◌, pure, nothing, choose, sees_word, sees_mark, sees_identifier, the_word, the_mark, an_identifier, flag_of, end_name_of, opening_of, below, items_of, behind_mark_of, identifiers_of, name_of, names_of}
+use Rattle.ada_grammar.specs.Reading.{Parser, ◌>>=◌, ◌>>◌, pure, nothing, choose, sees_word, sees_delimiter, sees_identifier, the_word, the_delimiter, an_identifier, flag_of, end_name_of, opening_of, below, items_of, behind_delimiter_of, identifiers_of, name_of, names_of}
 use Rattle.ada_grammar.specs.ReadingExpressions.{expression_of, inner_of, arguments_of}
 
--- ---- subtype marks and parameters (3.2.2, 6.1)
+-- ---- subtype delimiters and parameters (3.2.2, 6.1)
 
 -- "(" name "'" "Access" ")"
 unfoldable pub access_of : ℕ → Parser (Option Constraint)
 access_of left = do
   opening_of left
   name ← name_of
-  the_mark (codes "'")
+  the_delimiter (codes "'")
   the_word (codes "access")
-  the_mark (codes ")")
+  the_delimiter (codes ")")
   pure (Some (constraints.Access name))
 
 -- LOW ".." HIGH
 unfoldable pub bounds_of : ℕ → Parser (Expression × Expression)
 bounds_of left = do
   low ← expression_of left
-  the_mark (codes "..")
+  the_delimiter (codes "..")
   high ← expression_of left
   pure (low, high)
 
@@ -50,35 +50,35 @@ range_of left = do
   pure (Some (constraints.Range bounds.0 bounds.1))
 
 unfoldable pub constraint_of : ℕ → Parser (Option Constraint)
-constraint_of left = choose (sees_mark (codes "(")) (access_of left) (choose (sees_word (codes "range")) (range_of left) (pure None))
+constraint_of left = choose (sees_delimiter (codes "(")) (access_of left) (choose (sees_word (codes "range")) (range_of left) (pure None))
 
-unfoldable pub subtype_mark_of : ℕ → Parser Mark
-subtype_mark_of left = do
+unfoldable pub subtype_indication_of : ℕ → Parser SubtypeIndication
+subtype_indication_of left = do
   name ← name_of
   constraint ← constraint_of left
   pure (record { name = name; constraint = constraint })
 
--- NAME {"," NAME} ":" ["in"] ["out"] mark
+-- NAME {"," NAME} ":" ["in"] ["out"] delimiter
 unfoldable pub parameter_of : ℕ → Parser Parameter
 parameter_of left = do
   names ← identifiers_of
-  the_mark (codes ":")
+  the_delimiter (codes ":")
   is_in ← flag_of (codes "in")
   is_out ← flag_of (codes "out")
-  mark ← subtype_mark_of left
-  pure (record { names = names; is_in = is_in; is_out = is_out; mark = mark })
+  subtype ← subtype_indication_of left
+  pure (record { names = names; is_in = is_in; is_out = is_out; subtype = subtype })
 
 -- "(" parameter {";" parameter} ")"
 unfoldable pub given_parameters_of : ℕ → Parser (List Parameter)
 given_parameters_of left = do
   opening_of left
   first ← parameter_of (below left)
-  others ← items_of (sees_mark (codes ";")) (behind_mark_of (codes ";") (parameter_of (below left)))
-  the_mark (codes ")")
+  others ← items_of (sees_delimiter (codes ";")) (behind_delimiter_of (codes ";") (parameter_of (below left)))
+  the_delimiter (codes ")")
   pure (first ∷ others)
 
 unfoldable pub parameters_of : ℕ → Parser (List Parameter)
-parameters_of left = choose (sees_mark (codes "(")) (given_parameters_of left) (pure [])
+parameters_of left = choose (sees_delimiter (codes "(")) (given_parameters_of left) (pure [])
 
 -- ---- statements without others in them
 
@@ -100,28 +100,28 @@ index_of (a ∷ b ∷ more) = nothing
 unfoldable pub assignment_behind_of : ℕ → Name → List (Argument Expression) → Parser (Statement Sequence)
 assignment_behind_of left target arguments = do
   index ← index_of arguments
-  the_mark (codes ":=")
+  the_delimiter (codes ":=")
   value ← expression_of left
-  the_mark (codes ";")
+  the_delimiter (codes ";")
   pure (statements.Assignment (record { target = target; index = index; value = value }))
 
 unfoldable pub call_behind_of : Name → List (Argument Expression) → Parser (Statement Sequence)
 call_behind_of name arguments = do
-  the_mark (codes ";")
+  the_delimiter (codes ";")
   pure (statements.Call (record { name = name; arguments = arguments }))
 
 unfoldable pub simple_of : ℕ → Parser (Statement Sequence)
 simple_of left = do
   name ← name_of
   arguments ← all_arguments_of left
-  choose (sees_mark (codes ":=")) (assignment_behind_of left name arguments) (call_behind_of name arguments)
+  choose (sees_delimiter (codes ":=")) (assignment_behind_of left name arguments) (call_behind_of name arguments)
 
 -- name ["(" argument {"," argument} ")"] ";" (6.4, 9.5.3)
 unfoldable pub call_of : ℕ → Parser Call
 call_of left = do
   name ← name_of
   arguments ← all_arguments_of left
-  the_mark (codes ";")
+  the_delimiter (codes ";")
   pure (record { name = name; arguments = arguments })
 
 -- "delay" ["until"] expression ";" (9.6)
@@ -130,14 +130,14 @@ delay_of left = do
   place ← the_word (codes "delay")
   until ← flag_of (codes "until")
   value ← expression_of left
-  the_mark (codes ";")
+  the_delimiter (codes ";")
   pure (record { place = place; until = until; value = value })
 
 -- expression [".." expression] | "others"
 unfoldable pub value_choice_of : ℕ → Parser Choice
 value_choice_of left = do
   low ← expression_of left
-  choose (sees_mark (codes "..")) (do the_mark (codes ".."); high ← expression_of left; pure (choices.Range low high)) (pure (choices.Value low))
+  choose (sees_delimiter (codes "..")) (do the_delimiter (codes ".."); high ← expression_of left; pure (choices.Range low high)) (pure (choices.Value low))
 
 unfoldable pub choice_of : ℕ → Parser Choice
 choice_of left = choose (sees_word (codes "others")) (the_word (codes "others") >>= λ place. pure (choices.Others place)) (value_choice_of left)
@@ -178,24 +178,24 @@ exit_of left = do
   place ← the_word (codes "exit")
   loop_name ← loop_name_of
   condition ← when_of left
-  the_mark (codes ";")
+  the_delimiter (codes ";")
   pure (statements.Exit (record { place = place; loop_name = loop_name; condition = condition }))
 
 unfoldable pub null_of : Parser (Statement Sequence)
 null_of = do
   place ← the_word (codes "null")
-  the_mark (codes ";")
+  the_delimiter (codes ";")
   pure (statements.Null place)
 
 -- "return" [expression] ";" (6.5)
 unfoldable pub result_value_of : ℕ → Parser (Option Expression)
-result_value_of left = choose (sees_mark (codes ";")) (pure None) (expression_of left >>= λ value. pure (Some value))
+result_value_of left = choose (sees_delimiter (codes ";")) (pure None) (expression_of left >>= λ value. pure (Some value))
 
 unfoldable pub return_of : ℕ → Parser (Statement Sequence)
 return_of left = do
   place ← the_word (codes "return")
   value ← result_value_of left
-  the_mark (codes ";")
+  the_delimiter (codes ";")
   pure (statements.Return place value)
 
 -- "raise" [name] ";" (11.3)
@@ -206,7 +206,7 @@ unfoldable pub raise_of : Parser (Statement Sequence)
 raise_of = do
   place ← the_word (codes "raise")
   exception ← exception_name_of
-  the_mark (codes ";")
+  the_delimiter (codes ";")
   pure (statements.Raise place exception)
 
 -- "abort" name {"," name} ";" (9.8)
@@ -214,7 +214,7 @@ unfoldable pub abort_of : Parser (Statement Sequence)
 abort_of = do
   place ← the_word (codes "abort")
   tasks ← names_of (codes ",")
-  the_mark (codes ";")
+  the_delimiter (codes ";")
   pure (statements.Abort place tasks)
 
 -- "requeue" name ["with" "abort"] ";" (9.5.4)
@@ -226,7 +226,7 @@ requeue_of = do
   place ← the_word (codes "requeue")
   entry ← name_of
   with_abort ← with_abort_of
-  the_mark (codes ";")
+  the_delimiter (codes ";")
   pure (statements.Requeue place entry with_abort)
 
 -- name {"|" name} | "others" (11.2)

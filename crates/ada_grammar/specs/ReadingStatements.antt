@@ -23,7 +23,7 @@ use Rattle.ada_tree.specs.declared.selects.SelectForm.TheVariants as select
 use Rattle.ada_tree.specs.declared.selects.Alternative.TheVariants as alternative
 use Rattle.ada_tree.specs.declared.selects.Trigger.TheVariants as trigger
 use Rattle.ada_tree.specs.Written.{Lexeme}
-use Rattle.ada_grammar.specs.Reading.{Parser, ◌>>=◌, ◌>>◌, pure, nothing, too_deep, choose, is_identifier, is_this_mark, starts_both, sees_word, sees_identifier, the_word, the_mark, an_identifier, end_name_of, items_of, separated_of}
+use Rattle.ada_grammar.specs.Reading.{Parser, ◌>>=◌, ◌>>◌, pure, nothing, too_deep, choose, is_identifier, is_this_delimiter, starts_both, sees_word, sees_identifier, the_word, the_delimiter, an_identifier, end_name_of, items_of, separated_of}
 use Rattle.ada_grammar.specs.ReadingExpressions.{expression_of}
 use Rattle.ada_grammar.specs.ReadingSimple.{parameters_of, simple_of, call_of, delay_of, choice_of, iteration_of, label_end_of, exit_of, null_of, return_of, raise_of, abort_of, requeue_of}
 
@@ -49,7 +49,7 @@ begins_statement ls = begins_compound ls || begins_simple ls
 
 -- NAME ":"
 abbrev pub sees_label : List Lexeme → Bool
-sees_label ls = starts_both is_identifier (is_this_mark (codes ":")) ls
+sees_label ls = starts_both is_identifier (is_this_delimiter (codes ":")) ls
 
 -- a statement inside a select takes a level of its own
 abbrev pub opened : {A : Type 0} → (List Lexeme → Bool) → (ℕ → Parser A) → ℕ → Parser A
@@ -89,7 +89,7 @@ module _ (left : ℕ) (sequence : SequenceRole → Parser Sequence) where
     otherwise ← else_of
     the_word (codes "end")
     the_word (codes "if")
-    the_mark (codes ";")
+    the_delimiter (codes ";")
     pure (statements.If (record { place = place; condition = condition; statements = inside; elsifs = elsifs; otherwise = otherwise }))
 
   -- "when" choice {"|" choice} "=>" statements (5.4)
@@ -97,7 +97,7 @@ module _ (left : ℕ) (sequence : SequenceRole → Parser Sequence) where
   case_alternative_of = do
     place ← the_word (codes "when")
     choices ← separated_of (codes "|") (choice_of left)
-    the_mark (codes "=>")
+    the_delimiter (codes "=>")
     inside ← sequence role.Statements
     pure (record { place = place; choices = choices; statements = inside })
 
@@ -116,7 +116,7 @@ module _ (left : ℕ) (sequence : SequenceRole → Parser Sequence) where
     alternatives ← case_alternatives_of
     the_word (codes "end")
     the_word (codes "case")
-    the_mark (codes ";")
+    the_delimiter (codes ";")
     pure (statements.Case (record { place = place; selector = selector; alternatives = alternatives }))
 
   -- [iteration] "loop" statements "end" "loop" [NAME] ";" (5.5)
@@ -128,7 +128,7 @@ module _ (left : ℕ) (sequence : SequenceRole → Parser Sequence) where
     the_word (codes "end")
     the_word (codes "loop")
     label ← label_end_of name
-    the_mark (codes ";")
+    the_delimiter (codes ";")
     pure (statements.Loop (record { label = label; iteration = iteration; place = place; statements = inside }))
 
   -- ["declare" {declaration}] "begin" handled sequence "end" [NAME] ";" (5.6)
@@ -136,7 +136,7 @@ module _ (left : ℕ) (sequence : SequenceRole → Parser Sequence) where
   block_end_of name place declare inside = do
     the_word (codes "end")
     label ← label_end_of name
-    the_mark (codes ";")
+    the_delimiter (codes ";")
     pure (statements.Block (record { label = label; place = place; declare = declare; sequence = inside }))
 
   unfoldable pub declare_of : Option Identifier → Parser (Statement Sequence)
@@ -158,7 +158,7 @@ module _ (left : ℕ) (sequence : SequenceRole → Parser Sequence) where
   unfoldable pub labelled_of : Parser (Statement Sequence)
   labelled_of = do
     name ← an_identifier
-    the_mark (codes ":")
+    the_delimiter (codes ":")
     choose begins_block (block_of (Some name)) (loop_of (Some name))
 
   -- ["do" handled sequence "end" [NAME]] (9.5.2)
@@ -175,7 +175,7 @@ module _ (left : ℕ) (sequence : SequenceRole → Parser Sequence) where
     entry ← an_identifier
     parameters ← parameters_of left
     body ← accept_body_of entry.text
-    the_mark (codes ";")
+    the_delimiter (codes ";")
     pure (record { place = place; entry = entry; parameters = parameters; body = body })
 
   -- statements where some stand there
@@ -205,7 +205,7 @@ module _ (left : ℕ) (sequence : SequenceRole → Parser Sequence) (deeper : Se
   unfoldable pub terminate_of : Parser (Alternative Sequence)
   terminate_of = do
     place ← the_word (codes "terminate")
-    the_mark (codes ";")
+    the_delimiter (codes ";")
     pure (alternative.Terminate place)
 
   unfoldable pub alternative_of : Parser (Alternative Sequence)
@@ -215,7 +215,7 @@ module _ (left : ℕ) (sequence : SequenceRole → Parser Sequence) (deeper : Se
   unfoldable pub guard_of : Parser (Option Guard)
   guard_of =
       choose (sees_word (codes "when"))
-      (do place ← the_word (codes "when"); condition ← expression_of left; the_mark (codes "=>"); pure (Some (record { place = place; condition = condition })))
+      (do place ← the_word (codes "when"); condition ← expression_of left; the_delimiter (codes "=>"); pure (Some (record { place = place; condition = condition })))
       (pure None)
 
   unfoldable pub select_alternative_of : Parser (SelectAlternative Sequence)
@@ -285,7 +285,7 @@ module _ (left : ℕ) (sequence : SequenceRole → Parser Sequence) (deeper : Se
     form ← select_form_of
     the_word (codes "end")
     the_word (codes "select")
-    the_mark (codes ";")
+    the_delimiter (codes ";")
     pure (statements.Select (record { place = place; form = form }))
 
   -- ---- all statements (5.1)

@@ -1,6 +1,7 @@
 -- Reading library units and a source (2.8, clause 7, 10.1).
-use Rattle.std.specs.Prelude.{◌≡◌, ℕ, ◌-◌, ◌++◌, length, Result, zero, suc, Bool, true, false, ◌||◌, List, [], ◌∷◌, Option, Some, None, Ok, Err, codes}
+use Rattle.std.specs.Prelude.{ℕ, ◌-◌, ◌++◌, length, Result, zero, suc, Bool, true, false, ◌||◌, List, [], ◌∷◌, Option, Some, None, Ok, Err, codes}
 use Rattle.ann_base.specs.declared.places.Place.{Place}
+use Rattle.ada_tree.specs.declared.units.TheConstants.{MAX_NESTING}
 use Rattle.ada_tree.specs.declared.statements.Sequence.{Sequence}
 use Rattle.ada_tree.specs.declared.statements.SequenceRole.TheVariants as role
 use Rattle.ada_tree.specs.declared.declarations.Declaration.{Declaration}
@@ -16,7 +17,7 @@ use Rattle.ada_grammar.specs.declared.stuck.Stuck.{Stuck}
 use Rattle.ada_grammar.specs.declared.stuck.Stuck.TheVariants as stuck
 use Rattle.ada_grammar.specs.declared.faults.ParseFault.{ParseFault}
 use Rattle.ada_grammar.specs.declared.faults.ParseFault.TheVariants as faults
-use Rattle.ada_grammar.specs.Reading.{Read, Parser, ◌>>=◌, ◌>>◌, pure, choose, sees_word, the_word, the_mark, an_identifier, end_name_of, opening_of, opening_is_of, below, items_of, separated_of, names_of}
+use Rattle.ada_grammar.specs.Reading.{Read, Parser, ◌>>=◌, ◌>>◌, pure, choose, sees_word, the_word, the_delimiter, an_identifier, end_name_of, opening_of, opening_is_of, below, items_of, separated_of, names_of}
 use Rattle.ada_grammar.specs.ReadingExpressions.{inner_of, argument_of}
 use Rattle.ada_grammar.specs.ReadingDeclarations.{aspects_of}
 use Rattle.ada_grammar.specs.ReadingBodies.{body_of}
@@ -33,8 +34,8 @@ pragma_of left = do
   name ← an_identifier
   opening_of left
   arguments ← separated_of (codes ",") (argument_of left (inner_of left))
-  the_mark (codes ")")
-  the_mark (codes ";")
+  the_delimiter (codes ")")
+  the_delimiter (codes ";")
   pure (record { place = place; name = name; arguments = arguments })
 
 -- ("with" | "use") name {"," name} ";" (10.1.2, 8.4)
@@ -42,14 +43,14 @@ unfoldable pub with_of : Parser ContextClause
 with_of = do
   place ← the_word (codes "with")
   names ← names_of (codes ",")
-  the_mark (codes ";")
+  the_delimiter (codes ";")
   pure (record { place = place; is_use = false; names = names })
 
 unfoldable pub use_clause_of : Parser ContextClause
 use_clause_of = do
   place ← the_word (codes "use")
   names ← names_of (codes ",")
-  the_mark (codes ";")
+  the_delimiter (codes ";")
   pure (record { place = place; is_use = true; names = names })
 
 unfoldable pub clause_of : Parser ContextClause
@@ -73,7 +74,7 @@ package_declaration_of left place = do
   hidden ← private_part_of left
   the_word (codes "end")
   named ← end_name_of name.text
-  the_mark (codes ";")
+  the_delimiter (codes ";")
   pure (packages.Declaration (record { place = place; name = name; declarations = visible; private = hidden; named_at_end = named }))
 
 -- "body" NAME "is" {declaration} ["begin" handled sequence] "end" [NAME] ";", behind "package" (7.2)
@@ -89,7 +90,7 @@ package_body_of left place = do
   inside ← package_statements_of (below left)
   the_word (codes "end")
   named ← end_name_of name.text
-  the_mark (codes ";")
+  the_delimiter (codes ";")
   pure (packages.Body (record { place = place; name = name; declarations = before; sequence = inside; named_at_end = named }))
 
 unfoldable pub package_of : ℕ → Parser Package
@@ -129,27 +130,16 @@ source_of left = do
   main ← main_of left
   finished (record { pragmas = pragmas; packages = before.0; context = before.1; main = main })
 
--- ---- the whole source, with 100 levels
+-- ---- the whole source
 
 -- how many tokens were read before the fault
 abbrev pub placed_fault : ℕ → Stuck → ParseFault
-placed_fault count stuck.Memory = faults.Memory
-placed_fault count (stuck.At left) = faults.Unexpected (count - left)
-placed_fault count (stuck.TooDeep left) = faults.TooDeep (count - left)
+placed_fault count (stuck.At remaining) = faults.Unexpected (count - remaining)
+placed_fault count (stuck.TooDeep remaining) = faults.TooDeep (count - remaining)
 
 abbrev pub placed : ℕ → Read Tree → Result Tree ParseFault
 placed count (Ok unit) = Ok unit.0
 placed count (Err why) = Err (placed_fault count why)
 
 unfoldable pub unit_of : List Lexeme → Result Tree ParseFault
-unit_of lexemes = placed (length lexemes) (source_of 100 lexemes)
-
--- What parse answered is what reading gives, unless memory ran out.
-abbrev pub Fails : ParseFault → Result Tree ParseFault → Type 0
-Fails faults.Memory read = Unit {0}
-Fails (faults.Unexpected token) read = read ≡ Err (faults.Unexpected token)
-Fails (faults.TooDeep token) read = read ≡ Err (faults.TooDeep token)
-
-abbrev pub Gives : Result Tree ParseFault → Result Tree ParseFault → Type 0
-Gives (Ok unit) read = read ≡ Ok unit
-Gives (Err fault) read = Fails fault read
+unit_of lexemes = placed (length lexemes) (source_of MAX_NESTING lexemes)

@@ -8,13 +8,13 @@ use Rattle.ann_base.specs.declared.places.Place.{Place}
 use Rattle.ada_lex.specs.declared.scan.Run.TheVariants.{Letters, Whole}
 use Rattle.ada_lex.specs.declared.tokens.Kind.{Kind}
 use Rattle.ada_lex.specs.declared.tokens.Kind.TheVariants as kinds
-use Rattle.ada_lex.specs.Shapes.{begins_with, run_length, value_of, text_length, is_no_text, mark_length}
-use Rattle.ada_lex.specs.Reading.{unless_bad, fault_in_word, word_at, number_at, number_unless, fraction_length, spoils_number, text_at, mark_unless}
+use Rattle.ada_lex.specs.Shapes.{begins_with, run_length, value_of, text_length, is_no_text, delimiter_length}
+use Rattle.ada_lex.specs.Reading.{unless_bad, fault_in_word, word_at, number_at, number_unless, fraction_length, spoils_number, text_at, delimiter_unless}
 use Rattle.ada_lex.specs.Meaning.{whole_of}
 use Rattle.ada_lex.specs.Lexed.{is_run, is_fraction, IsNumber, IsToken, IsWithin, IsApart}
 use Rattle.ada_lex.proofs.Loops.{run_in_list}
 use Rattle.ada_lex.proofs.Runs.{both, both_are, run_longest, run_is, begins_in_front, begins_in_whole}
-use Rattle.ada_lex.proofs.Longest.{fraction_fits, fraction_is, number_longest, whole_in_front, behind_front, map_some, plus_two, plus_one, two_or, mark_fits, mark_first, mark_longest}
+use Rattle.ada_lex.proofs.Longest.{fraction_fits, fraction_is, number_longest, whole_in_front, behind_front, map_some, plus_two, plus_one, two_or, delimiter_fits, delimiter_first, delimiter_longest}
 
 -- a token of n bytes stands at the front, and no longer one
 pub record Stands (kind : Kind) (n : ℕ) (bytes : List ℕ) : Type 0 where
@@ -62,17 +62,17 @@ number_stands place n bytes s =
     let fine : number_unless (begins_with spoils_number (drop n bytes) || leb (2 ^ 128) (value_of (take (run_length Whole bytes) bytes))) place n ≡ Ok n = rw (s.apart, small) refl in
     subst (λ (k : ℕ). number_unless (begins_with spoils_number (drop k bytes) || leb (2 ^ 128) (value_of (take (run_length Whole bytes) bytes))) place k ≡ Ok n) is fine
 
-pub mark_stands : (place : Place) (n : ℕ) (bytes : List ℕ) → Stands kinds.Mark n bytes → (mark_length bytes ≡ n) × (mark_unless (mark_length bytes) place ≡ Ok n) × (0 < n)
-mark_stands place n bytes s =
+pub delimiter_stands : (place : Place) (n : ℕ) (bytes : List ℕ) → Stands kinds.Delimiter n bytes → (delimiter_length bytes ≡ n) × (delimiter_unless (delimiter_length bytes) place ≡ Ok n) × (0 < n)
+delimiter_stands place n bytes s =
     let length_is : length (take n bytes) ≡ n = length-take-le n bytes s.fits in
     let some : 0 < n = omega (arith, s.shaped.0, length_is) in
-    let at_least : n ≤ mark_length bytes = mark_longest bytes n s.fits s.shaped.1 in
-    let m_is : length (take (mark_length bytes) bytes) ≡ mark_length bytes = length-take-le (mark_length bytes) bytes (mark_fits bytes) in
-    let at_most : mark_length bytes ≤ n = s.longest (mark_length bytes) (mark_fits bytes) (omega (arith, m_is, at_least, some), mark_first bytes ∙ sym m_is) in
-    let is : mark_length bytes ≡ n = omega arith in
-    (is, subst (λ (k : ℕ). mark_unless k place ≡ Ok n) (sym is) (unless_none n some), some)
+    let at_least : n ≤ delimiter_length bytes = delimiter_longest bytes n s.fits s.shaped.1 in
+    let m_is : length (take (delimiter_length bytes) bytes) ≡ delimiter_length bytes = length-take-le (delimiter_length bytes) bytes (delimiter_fits bytes) in
+    let at_most : delimiter_length bytes ≤ n = s.longest (delimiter_length bytes) (delimiter_fits bytes) (omega (arith, m_is, at_least, some), delimiter_first bytes ∙ sym m_is) in
+    let is : delimiter_length bytes ≡ n = omega arith in
+    (is, subst (λ (k : ℕ). delimiter_unless k place ≡ Ok n) (sym is) (unless_none n some), some)
   where
-    unless_none : (n : ℕ) → 0 < n → mark_unless n place ≡ Ok n
+    unless_none : (n : ℕ) → 0 < n → delimiter_unless n place ≡ Ok n
     unless_none zero lt = absurd (omega arith)
     unless_none (suc n) lt = refl
 

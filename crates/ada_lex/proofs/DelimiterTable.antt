@@ -1,9 +1,9 @@
 -- Each entry stands in the table.
 use Rattle.std.proofs.Common.{◌≡◌, ℕ, refl, get_or, ◌<◌, lit<, List, Option, Some, None, ap, ◌∙◌}
 use Rattle.std.specs.Prelude.{IfNone}
-use Rattle.ada_lex.specs.declared.marks.Delimiter.{Delimiter}
-use Rattle.ada_lex.specs.declared.marks.Delimiter.TheVariants.{Arrow, Dots, Becomes, NotEqual, AtLeast, AtMost, Ampersand, Apostrophe, OpenBracket, CloseBracket, Asterisk, Plus, Comma, Minus, Point, Solidus, Colon, Semicolon, Less, Equal, Greater, Bar}
-use Rattle.ada_lex.specs.declared.marks.TheConstants.{ALL}
+use Rattle.ada_lex.specs.declared.delimiters.Delimiter.{Delimiter}
+use Rattle.ada_lex.specs.declared.delimiters.Delimiter.TheVariants.{Arrow, Dots, Becomes, NotEqual, AtLeast, AtMost, Ampersand, Apostrophe, OpenBracket, CloseBracket, Asterisk, Plus, Comma, Minus, Point, Solidus, Colon, Semicolon, Less, Equal, Greater, Bar}
+use Rattle.ada_lex.specs.declared.delimiters.TheConstants.{ALL}
 use Rattle.ada_lex.specs.DelimiterLetters.{letters}
 
 abbrev pub place_of : Delimiter → ℕ

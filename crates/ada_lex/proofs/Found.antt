@@ -3,6 +3,8 @@ use Rattle.std.proofs.Common.{◌≡◌, ℕ, zero, suc, ◌-◌, ◌<◌, ◌�
 use Rattle.std.proofs.lemmas.Bool.{false≢true, eqb-true}
 use Rattle.std.specs.Prelude.{IfOk}
 use Rattle.std.specs.Char.{is_ascii_digit, is_ascii_alphabetic}
+use Rattle.ann_base.specs.declared.faults.OrMemory.{OrMemory}
+use Rattle.ann_base.specs.Answers.{AnswersAs}
 use Rattle.ada_lex.specs.declared.scan.Run.TheVariants.{Line}
 use Rattle.ada_lex.specs.declared.scan.Spot.{Spot}
 use Rattle.ada_lex.specs.declared.tokens.Kind.{Kind}
@@ -10,8 +12,8 @@ use Rattle.ada_lex.specs.declared.tokens.Kind.TheVariants as kinds
 use Rattle.ada_lex.specs.declared.tokens.Token.{Token}
 use Rattle.ada_lex.specs.declared.tokens.LexFault.{LexFault}
 use Rattle.ada_lex.specs.declared.tokens.LexFault.TheVariants as faults
-use Rattle.ada_lex.specs.Shapes.{begins_with, is_separator, gap_length, run_length, mark_length}
-use Rattle.ada_lex.specs.Reading.{◌>>=◌, behind, behind_all, made, kind_of, token_at, piece_at, piece_unless, with_front, tokens_from, tokens_of, start, Gives}
+use Rattle.ada_lex.specs.Shapes.{begins_with, is_separator, gap_length, run_length, delimiter_length}
+use Rattle.ada_lex.specs.Reading.{◌>>=◌, behind, behind_all, made, kind_of, token_at, piece_at, piece_unless, with_front, tokens_from, tokens_of, start}
 use Rattle.ada_lex.specs.Lexed.{gap_state, IsToken, LexedFrom, Lexed}
 use Rattle.ada_lex.proofs.Loops.{piece_is}
 use Rattle.ada_lex.proofs.Pieces.{token_some}
@@ -93,11 +95,11 @@ not_ten test (b ∷ rest) more ten e = by_test (eqb b 10) refl
     by_test false p = refl
     by_test true p = absurd (false≢true (sym ten ∙ ap test (sym (eqb-true b 10 p)) ∙ e))
 
-mark_begins : (bytes more : List ℕ) → 0 < length bytes → mark_length bytes ≡ length bytes → begins_with (λ b. not (eqb b 10)) (bytes ++ more) ≡ true
-mark_begins [] more some e = absurd (omega arith)
-mark_begins (b ∷ rest) more some e = by_test (eqb b 10) refl
+delimiter_begins : (bytes more : List ℕ) → 0 < length bytes → delimiter_length bytes ≡ length bytes → begins_with (λ b. not (eqb b 10)) (bytes ++ more) ≡ true
+delimiter_begins [] more some e = absurd (omega arith)
+delimiter_begins (b ∷ rest) more some e = by_test (eqb b 10) refl
   where
-    ten_is_none : (x : List ℕ) → mark_length (10 ∷ x) ≡ 0
+    ten_is_none : (x : List ℕ) → delimiter_length (10 ∷ x) ≡ 0
     ten_is_none [] = refl
     ten_is_none (c ∷ x) = by_bool (eqb c 61)
       where
@@ -108,14 +110,14 @@ mark_begins (b ∷ rest) more some e = by_test (eqb b 10) refl
     by_test : (v : Bool) → eqb b 10 ≡ v → not v ≡ true
     by_test false p = refl
     by_test true p =
-        let none : mark_length (b ∷ rest) ≡ 0 = ap (λ (k : ℕ). mark_length (k ∷ rest)) (eqb-true b 10 p) ∙ ten_is_none rest in
+        let none : delimiter_length (b ∷ rest) ≡ 0 = ap (λ (k : ℕ). delimiter_length (k ∷ rest)) (eqb-true b 10 p) ∙ ten_is_none rest in
         absurd (omega (arith, none, e))
 
 token_begins : (kind : Kind) (bytes more : List ℕ) → IsToken kind bytes → begins_with (λ b. not (eqb b 10)) (bytes ++ more) ≡ true
 token_begins kinds.Word bytes more token = not_ten is_ascii_alphabetic bytes more refl (both _ _ token).0
 token_begins kinds.Number bytes more token = not_ten is_ascii_digit bytes more refl token.1
 token_begins kinds.Text bytes more token = not_ten (λ b. eqb b 34) bytes more refl token.0
-token_begins kinds.Mark bytes more token = mark_begins bytes more token.0 token.1
+token_begins kinds.Delimiter bytes more token = delimiter_begins bytes more token.0 token.1
 
 is_line : (b : ℕ) (v : Bool) → eqb b 10 ≡ v → not v ≡ false → is_separator b ≡ true
 is_line b true p q = rw (eqb-true b 10 p) refl
@@ -265,6 +267,6 @@ lexed source tokens e = by_test (ltb 262144 (length source)) refl e
     by_test false p q = (ltb-false 262144 (length source) p, lexed_from (length source) source start tokens (omega arith) q)
 
 -- what a function that reads a source answers is lexed
-pub found_by : {V : Type 0} (view : V → List Token) (answer : Result V LexFault) (source : List ℕ) → length source ≤ 262144 → Gives view answer (tokens_from source 0 start) → IfOk answer (λ v. Lexed source (view v))
+pub found_by : {V : Type 0} (view : V → List Token) (answer : Result V (OrMemory LexFault)) (source : List ℕ) → length source ≤ 262144 → AnswersAs view answer (tokens_from source 0 start) → IfOk answer (λ v. Lexed source (view v))
 found_by view (Ok v) source le e = (le, lexed_from (length source) source start (view v) (omega arith) e)
 found_by view (Err f) source le e = tt

@@ -3,6 +3,7 @@ use Rattle.std.proofs.Common.{◌≡◌, ℕ, ◌+◌, ◌<◌, ◌≤◌, true,
 use Rattle.std.proofs.lemmas.Bool.{false≢true}
 use Rattle.std.proofs.Math.Seq.{take-append_seam, drop-append_seam}
 use Rattle.std.specs.Prelude.{Bool, IfOk}
+use Rattle.ann_base.specs.declared.faults.OrMemory.{OrMemory}
 use Rattle.ada_lex.specs.declared.scan.Spot.{Spot}
 use Rattle.ada_lex.specs.declared.tokens.Kind.{Kind}
 use Rattle.ada_lex.specs.declared.tokens.Kind.TheVariants as kinds
@@ -34,7 +35,7 @@ token_has_bytes : (kind : Kind) (bytes : List ℕ) → IsToken kind bytes → 0 
 token_has_bytes kinds.Word bytes is = begun _ bytes (front_true _ _ is)
 token_has_bytes kinds.Number bytes is = begun _ bytes is.1
 token_has_bytes kinds.Text bytes is = begun _ bytes is.0
-token_has_bytes kinds.Mark bytes is = is.0
+token_has_bytes kinds.Delimiter bytes is = is.0
 
 -- what lies between what stands before and what stands behind
 between : (front text rest : List ℕ) (a b : ℕ) → a ≡ length front → b ≡ length text → take b (drop a (front ++ (text ++ rest))) ≡ text
@@ -68,10 +69,10 @@ tokens_few [] bytes spot lexed = omega arith
 tokens_few (token ∷ tokens) bytes spot (gap, text, rest, stands, lexed) =
     omega (arith, token_has_bytes token.kind text stands.shaped, tokens_few tokens rest (behind_all (gap ++ text) spot) lexed, ap length stands.parts, length-append gap (text ++ rest), length-append text rest)
 
-pub inside_by : {V : Type 0} (view : V → List Token) (answer : Result V LexFault) (source : List ℕ) → IfOk answer (λ v. Lexed source (view v)) → IfOk answer (λ v. AreTokensOf source (view v))
+pub inside_by : {V : Type 0} (view : V → List Token) (answer : Result V (OrMemory LexFault)) (source : List ℕ) → IfOk answer (λ v. Lexed source (view v)) → IfOk answer (λ v. AreTokensOf source (view v))
 inside_by view (Ok v) source lexed = tokens_inside (view v) [] source start source refl refl lexed.1
 inside_by view (Err e) source lexed = tt
 
-pub few_by : {V : Type 0} (view : V → List Token) (answer : Result V LexFault) (source : List ℕ) → IfOk answer (λ v. Lexed source (view v)) → IfOk answer (λ v. length (view v) ≤ length source)
+pub few_by : {V : Type 0} (view : V → List Token) (answer : Result V (OrMemory LexFault)) (source : List ℕ) → IfOk answer (λ v. Lexed source (view v)) → IfOk answer (λ v. length (view v) ≤ length source)
 few_by view (Ok v) source lexed = tokens_few (view v) source start lexed.1
 few_by view (Err e) source lexed = tt

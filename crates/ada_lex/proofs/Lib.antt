@@ -5,7 +5,7 @@ pub mod DelimiterTable
 pub mod Runs
 pub mod Longest
 pub mod Found
-pub mod Only
+pub mod GapsRead
 pub mod Complete
 pub mod Unique
 pub mod ReservedWords

@@ -10,12 +10,12 @@ use Rattle.ann_base.specs.declared.places.Place.{Place}
 use Rattle.ada_lex.specs.declared.scan.Run.TheVariants.{Letters, Whole, Decimals, Line}
 use Rattle.ada_lex.specs.declared.tokens.Kind.{Kind}
 use Rattle.ada_lex.specs.declared.tokens.Kind.TheVariants as kinds
-use Rattle.ada_lex.specs.Shapes.{goes_on, begins_with, run_length, value_of, text_length, is_no_text, mark_length, is_mark, is_double_mark, gap_length}
-use Rattle.ada_lex.specs.Reading.{fault_in_word, word_at, number_at, fraction_length, spoils_number, text_at, closed_text, mark_unless, token_at}
+use Rattle.ada_lex.specs.Shapes.{goes_on, begins_with, run_length, value_of, text_length, is_no_text, delimiter_length, is_delimiter, is_double_delimiter, gap_length}
+use Rattle.ada_lex.specs.Reading.{fault_in_word, word_at, number_at, fraction_length, spoils_number, text_at, closed_text, delimiter_unless, token_at}
 use Rattle.ada_lex.specs.Meaning.{whole_of}
 use Rattle.ada_lex.specs.Lexed.{is_run, is_fraction, IsNumber, IsToken, IsWithin, IsLongest, IsApart}
 use Rattle.ada_lex.proofs.Loops.{run_in_list}
-use Rattle.ada_lex.proofs.Pieces.{unless_bad_ok, number_ok, mark_some}
+use Rattle.ada_lex.proofs.Pieces.{unless_bad_ok, number_ok, delimiter_some}
 use Rattle.ada_lex.proofs.Runs.{both, both_are, run_longest, run_is, run_stop, begins_in_front, begins_in_whole}
 
 -- what is known of a token of n bytes at the front
@@ -290,46 +290,46 @@ text_read place b rest n mark e =
       apart = subst (λ (k : ℕ). begins_with (λ b. eqb b 34) (drop k (b ∷ rest)) ≡ false) (sym is) (text_ended rest p.0 p.1);
     }
 
--- marks
-abbrev pub mark_of : Bool → Bool → ℕ
-mark_of double single = cond double 2 (cond single 1 0)
+-- delimiters
+abbrev pub delimiter_of : Bool → Bool → ℕ
+delimiter_of double single = cond double 2 (cond single 1 0)
 
-pub mark_fits : (bytes : List ℕ) → mark_length bytes ≤ length bytes
-mark_fits [] = omega arith
-mark_fits (a ∷ []) = elim (is_mark a) as (λ v. cond v 1 0 ≤ 1) [ true ↦ omega arith | false ↦ omega arith ]
-mark_fits (a ∷ b ∷ rest) = by_tests (is_double_mark a b) (is_mark a)
+pub delimiter_fits : (bytes : List ℕ) → delimiter_length bytes ≤ length bytes
+delimiter_fits [] = omega arith
+delimiter_fits (a ∷ []) = elim (is_delimiter a) as (λ v. cond v 1 0 ≤ 1) [ true ↦ omega arith | false ↦ omega arith ]
+delimiter_fits (a ∷ b ∷ rest) = by_tests (is_double_delimiter a b) (is_delimiter a)
   where
-    by_tests : (v w : Bool) → mark_of v w ≤ suc (suc (length rest))
+    by_tests : (v w : Bool) → delimiter_of v w ≤ suc (suc (length rest))
     by_tests true w = omega arith
     by_tests false true = omega arith
     by_tests false false = omega arith
 
-pub mark_first : (bytes : List ℕ) → mark_length (take (mark_length bytes) bytes) ≡ mark_length bytes
-mark_first [] = refl
-mark_first (a ∷ []) = by_test (is_mark a) refl
+pub delimiter_first : (bytes : List ℕ) → delimiter_length (take (delimiter_length bytes) bytes) ≡ delimiter_length bytes
+delimiter_first [] = refl
+delimiter_first (a ∷ []) = by_test (is_delimiter a) refl
   where
-    by_test : (v : Bool) → is_mark a ≡ v → mark_length (take (cond v 1 0) (a ∷ [])) ≡ cond v 1 0
+    by_test : (v : Bool) → is_delimiter a ≡ v → delimiter_length (take (cond v 1 0) (a ∷ [])) ≡ cond v 1 0
     by_test true e = rw e refl
     by_test false e = refl
-mark_first (a ∷ b ∷ rest) = by_tests (is_double_mark a b) (is_mark a) refl refl
+delimiter_first (a ∷ b ∷ rest) = by_tests (is_double_delimiter a b) (is_delimiter a) refl refl
   where
-    by_tests : (v w : Bool) → is_double_mark a b ≡ v → is_mark a ≡ w → mark_length (take (mark_of v w) (a ∷ b ∷ rest)) ≡ mark_of v w
+    by_tests : (v w : Bool) → is_double_delimiter a b ≡ v → is_delimiter a ≡ w → delimiter_length (take (delimiter_of v w) (a ∷ b ∷ rest)) ≡ delimiter_of v w
     by_tests true w e f = rw e refl
     by_tests false true e f = rw f refl
     by_tests false false e f = refl
 
-pub mark_longest : (bytes : List ℕ) (j : ℕ) → j ≤ length bytes → mark_length (take j bytes) ≡ length (take j bytes) → j ≤ mark_length bytes
-mark_longest bytes zero fits e = omega arith
-mark_longest [] (suc j) fits e = absurd (omega arith)
-mark_longest (a ∷ []) (suc zero) fits e = omega (arith, e)
-mark_longest (a ∷ []) (suc (suc j)) fits e = absurd (omega arith)
-mark_longest (a ∷ b ∷ rest) (suc zero) fits e = by_tests (is_double_mark a b) (is_mark a) e
+pub delimiter_longest : (bytes : List ℕ) (j : ℕ) → j ≤ length bytes → delimiter_length (take j bytes) ≡ length (take j bytes) → j ≤ delimiter_length bytes
+delimiter_longest bytes zero fits e = omega arith
+delimiter_longest [] (suc j) fits e = absurd (omega arith)
+delimiter_longest (a ∷ []) (suc zero) fits e = omega (arith, e)
+delimiter_longest (a ∷ []) (suc (suc j)) fits e = absurd (omega arith)
+delimiter_longest (a ∷ b ∷ rest) (suc zero) fits e = by_tests (is_double_delimiter a b) (is_delimiter a) e
   where
-    by_tests : (v w : Bool) → cond {A = ℕ} w 1 0 ≡ 1 → 1 ≤ mark_of v w
+    by_tests : (v w : Bool) → cond {A = ℕ} w 1 0 ≡ 1 → 1 ≤ delimiter_of v w
     by_tests true w e = omega arith
     by_tests false true e = omega arith
     by_tests false false e = absurd (omega (arith, e))
-mark_longest (a ∷ b ∷ rest) (suc (suc i)) fits e = omega (arith, e, length-take-le i rest (omega arith))
+delimiter_longest (a ∷ b ∷ rest) (suc (suc i)) fits e = omega (arith, e, length-take-le i rest (omega arith))
 
 no_comment : (rest : List ℕ) → gap_length (45 ∷ rest) ≡ 0 → begins_with (λ b. eqb b 45) rest ≡ false
 unfolding run_length
@@ -349,25 +349,25 @@ minus_apart b rest (suc (suc n)) gap pos fits e =
     let short : length (take (suc (suc n)) (b ∷ rest)) ≡ 1 = ap length e in
     absurd (omega (arith, short, length-take-le (suc (suc n)) (b ∷ rest) fits))
 
-pub mark_read : (place : Place) (b : ℕ) (rest : List ℕ) (n : ℕ) → gap_length (b ∷ rest) ≡ 0 → mark_unless (mark_length (b ∷ rest)) place ≡ Ok n → IsRead kinds.Mark n (b ∷ rest)
-mark_read place b rest n gap e =
-    let p = mark_some (mark_length (b ∷ rest)) place n e in
-    let le : n ≤ length (b ∷ rest) = omega (arith, mark_fits (b ∷ rest), p.0) in
+pub delimiter_read : (place : Place) (b : ℕ) (rest : List ℕ) (n : ℕ) → gap_length (b ∷ rest) ≡ 0 → delimiter_unless (delimiter_length (b ∷ rest)) place ≡ Ok n → IsRead kinds.Delimiter n (b ∷ rest)
+delimiter_read place b rest n gap e =
+    let p = delimiter_some (delimiter_length (b ∷ rest)) place n e in
+    let le : n ≤ length (b ∷ rest) = omega (arith, delimiter_fits (b ∷ rest), p.0) in
     let length_is : length (take n (b ∷ rest)) ≡ n = length-take-le n (b ∷ rest) le in
-    let first : mark_length (take n (b ∷ rest)) ≡ n = subst (λ (k : ℕ). mark_length (take k (b ∷ rest)) ≡ k) p.0 (mark_first (b ∷ rest)) in
+    let first : delimiter_length (take n (b ∷ rest)) ≡ n = subst (λ (k : ℕ). delimiter_length (take k (b ∷ rest)) ≡ k) p.0 (delimiter_first (b ∷ rest)) in
     record {
       fits = le;
       shaped = (omega (arith, length_is, p.1), first ∙ sym length_is);
       within = tt;
-      longest = longest_by kinds.Mark n (b ∷ rest) le (λ j fits token. omega (arith, mark_longest (b ∷ rest) j fits token.1, p.0));
+      longest = longest_by kinds.Delimiter n (b ∷ rest) le (λ j fits token. omega (arith, delimiter_longest (b ∷ rest) j fits token.1, p.0));
       apart = minus_apart b rest n gap p.1 le;
     }
 
 -- whatever the kind
 pub token_read : (letter digit mark : Bool) (place : Place) (b : ℕ) (rest : List ℕ) (n : ℕ) → is_ascii_alphabetic b ≡ letter → is_ascii_digit b ≡ digit → eqb b 34 ≡ mark → gap_length (b ∷ rest) ≡ 0 → 0 < n
-    → token_at (cond letter kinds.Word (cond digit kinds.Number (cond mark kinds.Text kinds.Mark))) place (b ∷ rest) ≡ Ok n
-    → IsRead (cond letter kinds.Word (cond digit kinds.Number (cond mark kinds.Text kinds.Mark))) n (b ∷ rest)
+    → token_at (cond letter kinds.Word (cond digit kinds.Number (cond mark kinds.Text kinds.Delimiter))) place (b ∷ rest) ≡ Ok n
+    → IsRead (cond letter kinds.Word (cond digit kinds.Number (cond mark kinds.Text kinds.Delimiter))) n (b ∷ rest)
 token_read true digit mark place b rest n l d m gap some e = word_read place (b ∷ rest) n l some e
 token_read false true mark place b rest n l d m gap some e = number_read place (b ∷ rest) n d some e
 token_read false false true place b rest n l d m gap some e = text_read place b rest n m e
-token_read false false false place b rest n l d m gap some e = mark_read place b rest n gap e
+token_read false false false place b rest n l d m gap some e = delimiter_read place b rest n gap e

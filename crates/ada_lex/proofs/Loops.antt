@@ -9,10 +9,9 @@ use Rattle.ada_lex.specs.declared.scan.Run.{Run}
 use Rattle.ada_lex.specs.declared.scan.Spot.{Spot}
 use Rattle.ada_lex.specs.declared.tokens.Token.{Token}
 use Rattle.ada_lex.specs.declared.tokens.LexFault.{LexFault}
-use Rattle.ada_lex.specs.declared.tokens.LexFault.TheVariants as faults
 use Rattle.ada_lex.specs.Shapes.{goes_on, run_length, value_behind, text_length}
 use Rattle.ada_lex.specs.Meaning.{undoubled}
-use Rattle.ada_lex.specs.Reading.{behind, behind_all, with_front, piece_at, tokens_from, Fails}
+use Rattle.ada_lex.specs.Reading.{behind, behind_all, with_front, piece_at, tokens_from}
 
 -- a run ends where it does not go on
 pub run_ends : (run : Run) (bytes : List ℕ) → goes_on run bytes ≡ false → run_length run bytes ≡ 0
@@ -183,12 +182,8 @@ unfolding tokens_from
 piece_fault [] spot front f some e = absurd (omega arith)
 piece_fault (b ∷ rest) spot front f some e = rw e refl
 
-pub piece_fails : (bytes : List ℕ) (spot : Spot) (front : List Token) (f : LexFault) (total : Result (List Token) LexFault) → 0 < length bytes → Fails f (piece_at spot bytes) → with_front front (tokens_from bytes 0 spot) ≡ total → Fails f total
-piece_fails bytes spot front faults.Memory total some h so_far = tt
-piece_fails bytes spot front (faults.BadByte p) total some h so_far = sym so_far ∙ piece_fault bytes spot front (faults.BadByte p) some h
-piece_fails bytes spot front (faults.BadNumber p) total some h so_far = sym so_far ∙ piece_fault bytes spot front (faults.BadNumber p) some h
-piece_fails bytes spot front (faults.OpenString p) total some h so_far = sym so_far ∙ piece_fault bytes spot front (faults.OpenString p) some h
-piece_fails bytes spot front faults.TooLong total some h so_far = sym so_far ∙ piece_fault bytes spot front faults.TooLong some h
+pub piece_fails : (bytes : List ℕ) (spot : Spot) (front : List Token) (f : LexFault) (total : Result (List Token) LexFault) → 0 < length bytes → piece_at spot bytes ≡ Err f → with_front front (tokens_from bytes 0 spot) ≡ total → total ≡ Err f
+piece_fails bytes spot front f total some h so_far = sym so_far ∙ piece_fault bytes spot front f some h
 
 pub all_pieces : (bytes : List ℕ) (spot : Spot) (front : List Token) (total : Result (List Token) LexFault) → length bytes ≡ 0 → with_front front (tokens_from bytes 0 spot) ≡ total → total ≡ Ok front
 unfolding tokens_from

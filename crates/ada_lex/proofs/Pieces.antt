@@ -7,8 +7,8 @@ use Rattle.ada_lex.specs.declared.scan.Run.TheVariants.{Letters, Whole}
 use Rattle.ada_lex.specs.declared.tokens.Kind.{Kind}
 use Rattle.ada_lex.specs.declared.tokens.Kind.TheVariants as kinds
 use Rattle.ada_lex.specs.declared.tokens.LexFault.{LexFault}
-use Rattle.ada_lex.specs.Shapes.{goes_on, run_length, text_length, mark_length}
-use Rattle.ada_lex.specs.Reading.{unless_bad, word_at, number_at, number_unless, fraction_length, text_at, closed_text, mark_unless, kind_of, token_at}
+use Rattle.ada_lex.specs.Shapes.{goes_on, run_length, text_length, delimiter_length}
+use Rattle.ada_lex.specs.Reading.{unless_bad, word_at, number_at, number_unless, fraction_length, text_at, closed_text, delimiter_unless, kind_of, token_at}
 
 abbrev fine : ℕ → Result ℕ LexFault
 fine n = Ok n
@@ -61,16 +61,16 @@ text_some : (place : Place) (b : ℕ) (rest : List ℕ) (n : ℕ) → text_at pl
 unfolding text_at
 text_some place b rest n e = closed_some (text_length (drop 1 (b ∷ rest))) place (b ∷ rest) n e
 
-pub mark_some : (m : ℕ) (place : Place) (n : ℕ) → mark_unless m place ≡ Ok n → (m ≡ n) × (0 < n)
-mark_some zero place n e = absurd cc
-mark_some (suc m) place n e = let is = ok_is (suc m) n e in (is, omega (arith, is))
+pub delimiter_some : (m : ℕ) (place : Place) (n : ℕ) → delimiter_unless m place ≡ Ok n → (m ≡ n) × (0 < n)
+delimiter_some zero place n e = absurd cc
+delimiter_some (suc m) place n e = let is = ok_is (suc m) n e in (is, omega (arith, is))
 
 kind_some : (letter digit mark : Bool) (place : Place) (b : ℕ) (rest : List ℕ) (n : ℕ) → is_ascii_alphabetic b ≡ letter → is_ascii_digit b ≡ digit
-    → token_at (cond letter kinds.Word (cond digit kinds.Number (cond mark kinds.Text kinds.Mark))) place (b ∷ rest) ≡ Ok n → 0 < n
+    → token_at (cond letter kinds.Word (cond digit kinds.Number (cond mark kinds.Text kinds.Delimiter))) place (b ∷ rest) ≡ Ok n → 0 < n
 kind_some true digit mark place b rest n l d e = word_some place b rest n l e
 kind_some false true mark place b rest n l d e = number_some place b rest n d e
 kind_some false false true place b rest n l d e = text_some place b rest n e
-kind_some false false false place b rest n l d e = (mark_some (mark_length (b ∷ rest)) place n e).1
+kind_some false false false place b rest n l d e = (delimiter_some (delimiter_length (b ∷ rest)) place n e).1
 
 -- a token has a byte
 pub token_some : (place : Place) (kind : Kind) (bytes : List ℕ) (n : ℕ) → 0 < length bytes → kind ≡ kind_of (get_or bytes 0 0) → token_at kind place bytes ≡ Ok n → 0 < n

@@ -2,20 +2,23 @@
 use Rattle.std.proofs.Common.{◌≡◌, ℕ, zero, suc, ◌+◌, ◌-◌, ◌<◌, ◌≤◌, Bool, true, false, cond, eqb, leb, ◌&&◌, ◌||◌, ◌⊎◌, List, [], ◌∷◌, ◌++◌, length, take, drop, Result, Ok, Err, refl, sym, ap, ◌∙◌, subst, arith, inl, inr, length-append, take-add, take_at, drop_at}
 use Rattle.std.proofs.lemmas.Bool.{false≢true, eqb-true, cases_lt, lt-leb, leb-true}
 use Rattle.std.specs.Char.{is_ascii_digit, is_ascii_alphabetic}
+use Rattle.ann_base.specs.declared.faults.OrMemory.{OrMemory}
+use Rattle.ann_base.specs.Answers.{AnswersAs}
+use Rattle.ann_base.specs.declared.faults.OrMemory.TheVariants as answer
 use Rattle.ada_lex.specs.declared.scan.Spot.{Spot}
 use Rattle.ada_lex.specs.declared.tokens.Kind.{Kind}
 use Rattle.ada_lex.specs.declared.tokens.Kind.TheVariants as kinds
 use Rattle.ada_lex.specs.declared.tokens.Token.{Token}
 use Rattle.ada_lex.specs.declared.tokens.LexFault.{LexFault}
 use Rattle.ada_lex.specs.declared.tokens.LexFault.TheVariants as faults
-use Rattle.ada_lex.specs.Shapes.{begins_with, is_separator, is_mark, is_double_mark, gap_length, mark_length, run_length}
-use Rattle.ada_lex.specs.Reading.{Gives, behind_all, made, kind_of, token_at, piece_at, with_front, tokens_from, start}
+use Rattle.ada_lex.specs.Shapes.{begins_with, is_separator, is_delimiter, is_double_delimiter, gap_length, delimiter_length, run_length}
+use Rattle.ada_lex.specs.Reading.{behind_all, made, kind_of, token_at, piece_at, with_front, tokens_from, start}
 use Rattle.ada_lex.specs.Lexed.{IsToken, IsWithin, IsApart, StandsThere, LexedFrom, Lexed}
 use Rattle.ada_lex.proofs.Loops.{piece_is}
 use Rattle.ada_lex.proofs.Runs.{both}
 use Rattle.ada_lex.proofs.Found.{behind_append}
-use Rattle.ada_lex.proofs.Only.{gap_skipped, last_gap}
-use Rattle.ada_lex.proofs.Complete.{Stands, word_stands, number_stands, text_stands, mark_stands}
+use Rattle.ada_lex.proofs.GapsRead.{gap_skipped, last_gap}
+use Rattle.ada_lex.proofs.Complete.{Stands, word_stands, number_stands, text_stands, delimiter_stands}
 
 -- a byte that passes a test is none that does not
 differs : (test : ℕ → Bool) (k b : ℕ) → test k ≡ false → test b ≡ true → eqb b k ≡ false
@@ -60,24 +63,24 @@ cases_or : (p q : Bool) → (p || q) ≡ true → (p ≡ true) ⊎ (q ≡ true)
 cases_or true q e = inl refl
 cases_or false q e = inr e
 
-double_single : (a b : ℕ) → is_double_mark a b ≡ true → is_mark a ≡ true
+double_single : (a b : ℕ) → is_double_delimiter a b ≡ true → is_delimiter a ≡ true
 double_single a b e =
-    elim (cases_or (((eqb a 61) && (eqb b 62)) || ((eqb a 46) && (eqb b 46))) ((eqb b 61) && (((eqb a 58) || (eqb a 47) || (eqb a 62)) || (eqb a 60))) e) as (λ _. is_mark a ≡ true) [
+    elim (cases_or (((eqb a 61) && (eqb b 62)) || ((eqb a 46) && (eqb b 46))) ((eqb b 61) && (((eqb a 58) || (eqb a 47) || (eqb a 62)) || (eqb a 60))) e) as (λ _. is_delimiter a ≡ true) [
       | inl p ↦
-          elim (cases_or ((eqb a 61) && (eqb b 62)) ((eqb a 46) && (eqb b 46)) p) as (λ _. is_mark a ≡ true) [ inl q ↦ at 61 refl (both (eqb a 61) (eqb b 62) q).0 | inr q ↦ at 46 refl (both (eqb a 46) (eqb b 46) q).0 ]
+          elim (cases_or ((eqb a 61) && (eqb b 62)) ((eqb a 46) && (eqb b 46)) p) as (λ _. is_delimiter a ≡ true) [ inl q ↦ at 61 refl (both (eqb a 61) (eqb b 62) q).0 | inr q ↦ at 46 refl (both (eqb a 46) (eqb b 46) q).0 ]
       | inr p ↦
-          elim (cases_or ((eqb a 58) || (eqb a 47) || (eqb a 62)) (eqb a 60) (both (eqb b 61) (((eqb a 58) || (eqb a 47) || (eqb a 62)) || (eqb a 60)) p).1) as (λ _. is_mark a ≡ true) [
+          elim (cases_or ((eqb a 58) || (eqb a 47) || (eqb a 62)) (eqb a 60) (both (eqb b 61) (((eqb a 58) || (eqb a 47) || (eqb a 62)) || (eqb a 60)) p).1) as (λ _. is_delimiter a ≡ true) [
             | inl q ↦
-                elim (cases_or ((eqb a 58) || (eqb a 47)) (eqb a 62) q) as (λ _. is_mark a ≡ true) [
-                  | inl r ↦ elim (cases_or (eqb a 58) (eqb a 47) r) as (λ _. is_mark a ≡ true) [ inl s ↦ at 58 refl s | inr s ↦ at 47 refl s ]
+                elim (cases_or ((eqb a 58) || (eqb a 47)) (eqb a 62) q) as (λ _. is_delimiter a ≡ true) [
+                  | inl r ↦ elim (cases_or (eqb a 58) (eqb a 47) r) as (λ _. is_delimiter a ≡ true) [ inl s ↦ at 58 refl s | inr s ↦ at 47 refl s ]
                   | inr r ↦ at 62 refl r
                 ]
             | inr q ↦ at 60 refl q
           ]
     ]
   where
-    at : (k : ℕ) → is_mark k ≡ true → eqb a k ≡ true → is_mark a ≡ true
-    at k m e = ap is_mark (eqb-true a k e) ∙ m
+    at : (k : ℕ) → is_delimiter k ≡ true → eqb a k ≡ true → is_delimiter a ≡ true
+    at k m e = ap is_delimiter (eqb-true a k e) ∙ m
 
 not_digit : (b : ℕ) → (b < 48) ⊎ (57 < b) → is_ascii_digit b ≡ false
 not_digit b (inl lt) = rw (lt-leb 48 b lt) refl
@@ -87,8 +90,8 @@ not_digit b (inr lt) = rw (lt-leb b 57 lt) (by_test (leb 48 b))
     by_test true = refl
     by_test false = refl
 
-mark_plain : (b : ℕ) → is_mark b ≡ true → (is_ascii_alphabetic b ≡ false) × (is_ascii_digit b ≡ false)
-mark_plain b e =
+delimiter_plain : (b : ℕ) → is_delimiter b ≡ true → (is_ascii_alphabetic b ≡ false) × (is_ascii_digit b ≡ false)
+delimiter_plain b e =
     elim (cases_or ((leb 38 b && leb b 47) || (leb 58 b && leb b 62)) (eqb b 124) e) as (λ _. (is_ascii_alphabetic b ≡ false) × (is_ascii_digit b ≡ false)) [
       | inl p ↦
           elim (cases_or (leb 38 b && leb b 47) (leb 58 b && leb b 62) p) as (λ _. (is_ascii_alphabetic b ≡ false) × (is_ascii_digit b ≡ false)) [
@@ -98,20 +101,20 @@ mark_plain b e =
       | inr p ↦ subst (λ (k : ℕ). (is_ascii_alphabetic k ≡ false) × (is_ascii_digit k ≡ false)) (sym (eqb-true b 124 p)) (refl, refl)
     ]
 
-first_is_mark : (b : ℕ) (more : List ℕ) → 0 < mark_length (b ∷ more) → is_mark b ≡ true
-first_is_mark b [] lt = by_test (is_mark b) lt
+first_is_mark : (b : ℕ) (more : List ℕ) → 0 < delimiter_length (b ∷ more) → is_delimiter b ≡ true
+first_is_mark b [] lt = by_test (is_delimiter b) lt
   where
     by_test : (v : Bool) → 0 < cond {A = ℕ} v 1 0 → v ≡ true
     by_test true lt = refl
     by_test false lt = absurd (omega (arith, lt))
-first_is_mark b (c ∷ more) lt = by_tests (is_double_mark b c) (is_mark b) refl refl lt
+first_is_mark b (c ∷ more) lt = by_tests (is_double_delimiter b c) (is_delimiter b) refl refl lt
   where
-    by_tests : (v w : Bool) → is_double_mark b c ≡ v → is_mark b ≡ w → 0 < cond {A = ℕ} v 2 (cond {A = ℕ} w 1 0) → w ≡ true
+    by_tests : (v w : Bool) → is_double_delimiter b c ≡ v → is_delimiter b ≡ w → 0 < cond {A = ℕ} v 2 (cond {A = ℕ} w 1 0) → w ≡ true
     by_tests true w p q lt = sym q ∙ double_single b c p
     by_tests false true p q lt = refl
     by_tests false false p q lt = absurd (omega (arith, lt))
 
-minus_alone : (more : List ℕ) → mark_length (45 ∷ more) ≡ 1
+minus_alone : (more : List ℕ) → delimiter_length (45 ∷ more) ≡ 1
 minus_alone [] = refl
 minus_alone (c ∷ more) = by_test (eqb c 61)
   where
@@ -119,17 +122,17 @@ minus_alone (c ∷ more) = by_test (eqb c 61)
     by_test true = refl
     by_test false = refl
 
-mark_begins : (b n : ℕ) (more : List ℕ) → mark_length (b ∷ more) ≡ n → 0 < n → IsApart kinds.Mark (take n (b ∷ more)) (drop n (b ∷ more)) → Begins kinds.Mark b more
-mark_begins b n more is some apart =
-    let mark : is_mark b ≡ true = first_is_mark b more (omega (arith, is, some)) in
-    let plain = mark_plain b mark in
-    (gap_none b more (no_separator is_mark b refl refl refl refl refl mark) (minus (eqb b 45) refl), rw (plain.0, plain.1, differs is_mark 34 b refl mark) refl)
+delimiter_begins : (b n : ℕ) (more : List ℕ) → delimiter_length (b ∷ more) ≡ n → 0 < n → IsApart kinds.Delimiter (take n (b ∷ more)) (drop n (b ∷ more)) → Begins kinds.Delimiter b more
+delimiter_begins b n more is some apart =
+    let mark : is_delimiter b ≡ true = first_is_mark b more (omega (arith, is, some)) in
+    let plain = delimiter_plain b mark in
+    (gap_none b more (no_separator is_delimiter b refl refl refl refl refl mark) (minus (eqb b 45) refl), rw (plain.0, plain.1, differs is_delimiter 34 b refl mark) refl)
   where
     minus : (v : Bool) → eqb b 45 ≡ v → (v ≡ false) ⊎ (begins_with (λ c. eqb c 45) more ≡ false)
     minus false e = inl refl
     minus true e =
         let first : b ≡ 45 = eqb-true b 45 e in
-        let one : n ≡ 1 = sym is ∙ ap (λ (k : ℕ). mark_length (k ∷ more)) first ∙ minus_alone more in
+        let one : n ≡ 1 = sym is ∙ ap (λ (k : ℕ). delimiter_length (k ∷ more)) first ∙ minus_alone more in
         let spelt : take n (b ∷ more) ≡ 45 ∷ [] = ap (λ (k : ℕ). take k (b ∷ more)) one ∙ ap (λ (k : ℕ). k ∷ []) first in
         inr (subst (λ (k : ℕ). begins_with (λ c. eqb c 45) (drop k (b ∷ more)) ≡ false) one (apart spelt))
 
@@ -141,7 +144,7 @@ pub begins : (kind : Kind) (n b : ℕ) (more : List ℕ) (spot : Spot) → Stand
 begins kinds.Word n b more spot s = (word_begins b more (first_passes is_ascii_alphabetic n b more (both _ _ s.shaped).0), word_stands spot.place n (b ∷ more) s)
 begins kinds.Number n b more spot s = (number_begins b more (first_passes is_ascii_digit n b more s.shaped.1), number_stands spot.place n (b ∷ more) s)
 begins kinds.Text n b more spot s = (text_begins b more (first_passes (λ c. eqb c 34) n b more s.shaped.0), text_stands spot.place n b more s)
-begins kinds.Mark n b more spot s = let p = mark_stands spot.place n (b ∷ more) s in (mark_begins b n more p.0 p.2 s.apart, p.1)
+begins kinds.Delimiter n b more spot s = let p = delimiter_stands spot.place n (b ∷ more) s in (delimiter_begins b n more p.0 p.2 s.apart, p.1)
 
 piece_there : (kind : Kind) (n b : ℕ) (more : List ℕ) (spot : Spot) → Stands kind n (b ∷ more) → piece_at spot (b ∷ more) ≡ Ok (made kind spot n ∷ [], n)
 unfolding piece_at
@@ -151,7 +154,7 @@ no_token : (kind : Kind) → IsToken kind [] → ⊥
 no_token kinds.Word e = false≢true e
 no_token kinds.Number e = false≢true e.1
 no_token kinds.Text e = false≢true e.0
-no_token kinds.Mark e = omega (arith, e.0)
+no_token kinds.Delimiter e = omega (arith, e.0)
 
 stands_of : (spot : Spot) (bytes : List ℕ) (token : Token) (gap text rest : List ℕ) → StandsThere spot bytes token gap text rest → Stands token.kind (length text) (text ++ rest)
 stands_of spot bytes token gap text rest s =
@@ -192,9 +195,9 @@ complete (token ∷ tokens) bytes spot (gap, text, rest, s, lexed) =
     ap (λ (x : List ℕ). tokens_from x 0 spot) s.parts ∙ skipped ∙ step ∙ ap (with_front (made token.kind (behind_all gap spot) (length text) ∷ [])) others ∙ ap (λ (t : Token). Ok (t ∷ tokens)) (sym s.placed)
 
 -- a function that reads a source answers what is lexed
-pub only_by : {V : Type 0} (view : V → List Token) (answer : Result V LexFault) (source : List ℕ) → Gives view answer (tokens_from source 0 start) → (tokens : List Token) → Lexed source tokens → Gives view answer (Ok tokens)
-only_by view answer source e tokens (short, lexed) = subst (Gives view answer) (complete tokens source start lexed) e
+pub only_by : {V : Type 0} (view : V → List Token) (answer : Result V (OrMemory LexFault)) (source : List ℕ) → AnswersAs view answer (tokens_from source 0 start) → (tokens : List Token) → Lexed source tokens → AnswersAs view answer (Ok tokens)
+only_by view answer source e tokens (short, lexed) = subst (AnswersAs view answer) (complete tokens source start lexed) e
 
 -- a source that is too long has none
-pub too_long : {V : Type 0} (view : V → List Token) (source : List ℕ) → 262144 < length source → (tokens : List Token) → Lexed source tokens → Gives view (Err faults.TooLong) (Ok tokens)
+pub too_long : {V : Type 0} (view : V → List Token) (source : List ℕ) → 262144 < length source → (tokens : List Token) → Lexed source tokens → AnswersAs view (Err (answer.Fault faults.TooLong)) (Ok tokens)
 too_long view source long tokens (short, lexed) = absurd (omega (arith, short, long))

@@ -1,7 +1,7 @@
 -- The bytes of a delimiter (2.2).
 use Rattle.std.specs.Prelude.{ℕ, List, [], ◌∷◌}
-use Rattle.ada_lex.specs.declared.marks.Delimiter.{Delimiter}
-use Rattle.ada_lex.specs.declared.marks.Delimiter.TheVariants.{Arrow, Dots, Becomes, NotEqual, AtLeast, AtMost, Ampersand, Apostrophe, OpenBracket, CloseBracket, Asterisk, Plus, Comma, Minus, Point, Solidus, Colon, Semicolon, Less, Equal, Greater, Bar}
+use Rattle.ada_lex.specs.declared.delimiters.Delimiter.{Delimiter}
+use Rattle.ada_lex.specs.declared.delimiters.Delimiter.TheVariants.{Arrow, Dots, Becomes, NotEqual, AtLeast, AtMost, Ampersand, Apostrophe, OpenBracket, CloseBracket, Asterisk, Plus, Comma, Minus, Point, Solidus, Colon, Semicolon, Less, Equal, Greater, Bar}
 
 unfoldable pub letters : Delimiter → List ℕ
 letters Arrow = 61 ∷ 62 ∷ []

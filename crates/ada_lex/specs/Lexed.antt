@@ -1,13 +1,14 @@
 -- When a list of tokens is that of a source (clause 2): apart from how it is read.
 use Rattle.std.specs.Prelude.{◌≡◌, ℕ, ◌-◌, ◌^◌, ◌<◌, ◌≤◌, Bool, true, false, ◌&&◌, not, ◌==◌, if◌then◌else◌, List, [], ◌∷◌, ◌++◌, length, take, drop, Option, Some, None, position}
 use Rattle.std.specs.Char.{is_ascii_digit, is_ascii_alphabetic}
+use Rattle.ada_lex.specs.declared.lexing.TheConstants.{MAX_SOURCE}
 use Rattle.ada_lex.specs.declared.scan.Run.{Run}
 use Rattle.ada_lex.specs.declared.scan.Run.TheVariants.{Letters, Whole, Decimals}
 use Rattle.ada_lex.specs.declared.scan.Spot.{Spot}
 use Rattle.ada_lex.specs.declared.tokens.Kind.{Kind}
 use Rattle.ada_lex.specs.declared.tokens.Kind.TheVariants as kinds
 use Rattle.ada_lex.specs.declared.tokens.Token.{Token}
-use Rattle.ada_lex.specs.Shapes.{begins_with, goes_on, is_separator, is_no_text, text_length, mark_length}
+use Rattle.ada_lex.specs.Shapes.{begins_with, goes_on, is_separator, is_no_text, text_length, delimiter_length}
 use Rattle.ada_lex.specs.Reading.{behind_all, made, spoils_number, start}
 use Rattle.ada_lex.specs.Meaning.{IsInside, spelling_of, meaning_of, whole_of}
 
@@ -41,21 +42,21 @@ IsNumber bytes = (n : ℕ) × (begins_with is_ascii_digit bytes ≡ true) × (is
 abbrev pub IsText : List ℕ → Type 0
 IsText bytes = (begins_with (λ b. b == 34) bytes ≡ true) × (text_length (drop 1 bytes) ≡ Some (length bytes - 1))
 
-abbrev pub IsMark : List ℕ → Type 0
-IsMark bytes = (0 < length bytes) × (mark_length bytes ≡ length bytes)
+abbrev pub IsDelimiter : List ℕ → Type 0
+IsDelimiter bytes = (0 < length bytes) × (delimiter_length bytes ≡ length bytes)
 
 abbrev pub IsToken : Kind → List ℕ → Type 0
 IsToken kinds.Word bytes = is_word bytes ≡ true
 IsToken kinds.Number bytes = IsNumber bytes
 IsToken kinds.Text bytes = IsText bytes
-IsToken kinds.Mark bytes = IsMark bytes
+IsToken kinds.Delimiter bytes = IsDelimiter bytes
 
 -- the limits of the profile: 80 bytes of a word, a whole part below 2 to the power of 128, bytes that a text may hold
 abbrev pub IsWithin : Kind → List ℕ → Type 0
 IsWithin kinds.Word bytes = length bytes ≤ 80
 IsWithin kinds.Number bytes = whole_of bytes < 2 ^ 128
 IsWithin kinds.Text bytes = position is_no_text bytes ≡ None
-IsWithin kinds.Mark bytes = Unit {0}
+IsWithin kinds.Delimiter bytes = Unit {0}
 
 -- what may not follow a token directly: more of it; an underscore behind a word, what spoils a number, a mark behind a
 -- text, a second minus sign
@@ -66,7 +67,7 @@ abbrev pub IsApart : Kind → List ℕ → List ℕ → Type 0
 IsApart kinds.Word bytes rest = begins_with (λ b. b == 95) rest ≡ false
 IsApart kinds.Number bytes rest = begins_with spoils_number rest ≡ false
 IsApart kinds.Text bytes rest = begins_with (λ b. b == 34) rest ≡ false
-IsApart kinds.Mark bytes rest = (bytes ≡ 45 ∷ []) → begins_with (λ b. b == 45) rest ≡ false
+IsApart kinds.Delimiter bytes rest = (bytes ≡ 45 ∷ []) → begins_with (λ b. b == 45) rest ≡ false
 
 -- one token behind a gap
 pub record StandsThere (spot : Spot) (bytes : List ℕ) (token : Token) (gap text rest : List ℕ) : Type 0 where
@@ -84,7 +85,7 @@ LexedFrom (token ∷ tokens) spot bytes = (gap : List ℕ) × (text : List ℕ) 
 
 -- The tokens are those of the source, each at its place.
 abbrev pub Lexed : List ℕ → List Token → Type 0
-Lexed source tokens = (length source ≤ 262144) × LexedFrom tokens start source
+Lexed source tokens = (length source ≤ MAX_SOURCE) × LexedFrom tokens start source
 
 -- ---- tokens one by one
 

@@ -33,4 +33,4 @@ abbrev pub meaning_of : Kind → List ℕ → List ℕ
 meaning_of kinds.Word bytes = map to_ascii_lowercase bytes
 meaning_of kinds.Number bytes = bytes
 meaning_of kinds.Text bytes = undoubled (drop 1 bytes)
-meaning_of kinds.Mark bytes = bytes
+meaning_of kinds.Delimiter bytes = bytes

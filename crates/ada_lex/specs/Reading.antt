@@ -1,7 +1,8 @@
 -- Reading a source from left to right: its tokens, or the first fault (clause 2).
-use Rattle.std.specs.Prelude.{◌≡◌, ℕ, zero, suc, ◌+◌, ◌-◌, ◌^◌, Bool, true, false, ◌&&◌, ◌||◌, ◌==◌, nat_lt, nat_le, min, if◌then◌else◌, List, [], ◌∷◌, ◌++◌, length, take, drop, Option, Some, None, Result, Ok, Err, position}
+use Rattle.std.specs.Prelude.{ℕ, zero, suc, ◌+◌, ◌-◌, ◌^◌, Bool, true, false, ◌&&◌, ◌||◌, ◌==◌, nat_lt, nat_le, min, if◌then◌else◌, List, [], ◌∷◌, ◌++◌, length, take, drop, Option, Some, None, Result, Ok, Err, position}
 use Rattle.std.specs.Char.{is_ascii_digit, is_ascii_alphabetic}
 use Rattle.ann_base.specs.declared.places.Place.{Place}
+use Rattle.ada_lex.specs.declared.lexing.TheConstants.{MAX_SOURCE}
 use Rattle.ada_lex.specs.declared.scan.Run.TheVariants.{Letters, Whole, Decimals}
 use Rattle.ada_lex.specs.declared.scan.Spot.{Spot}
 use Rattle.ada_lex.specs.declared.tokens.Kind.{Kind}
@@ -9,24 +10,12 @@ use Rattle.ada_lex.specs.declared.tokens.Kind.TheVariants as kinds
 use Rattle.ada_lex.specs.declared.tokens.Token.{Token}
 use Rattle.ada_lex.specs.declared.tokens.LexFault.{LexFault}
 use Rattle.ada_lex.specs.declared.tokens.LexFault.TheVariants as faults
-use Rattle.ada_lex.specs.Shapes.{begins_with, run_length, value_of, text_length, is_no_text, mark_length, gap_length}
+use Rattle.ada_lex.specs.Shapes.{begins_with, run_length, value_of, text_length, is_no_text, delimiter_length, gap_length}
 
 infixl 10 ◌>>=◌
 abbrev pub ◌>>=◌ : {A B : Type 0} → Result A LexFault → (A → Result B LexFault) → Result B LexFault
 (Ok x) >>= f = f x
 (Err e) >>= f = Err e
-
--- What a function returned, seen by view, is what reading gives, unless memory ran out.
-abbrev pub Fails : {Y : Type 0} → LexFault → Result Y LexFault → Type 0
-Fails faults.Memory read = Unit {0}
-Fails (faults.BadByte place) read = read ≡ Err (faults.BadByte place)
-Fails (faults.BadNumber place) read = read ≡ Err (faults.BadNumber place)
-Fails (faults.OpenString place) read = read ≡ Err (faults.OpenString place)
-Fails faults.TooLong read = read ≡ Err faults.TooLong
-
-abbrev pub Gives : {X Y : Type 0} → (X → Y) → Result X LexFault → Result Y LexFault → Type 0
-Gives view (Ok x) read = read ≡ Ok (view x)
-Gives view (Err e) read = Fails e read
 
 -- the place so many bytes further on the same line
 abbrev pub place_on : Place → ℕ → Place
@@ -90,9 +79,9 @@ closed_text (Some n) place bytes = unless_bad (position is_no_text (take (n + 1)
 unfoldable pub text_at : Place → List ℕ → Result ℕ LexFault
 text_at place bytes = closed_text (text_length (drop 1 bytes)) place bytes
 
-abbrev pub mark_unless : ℕ → Place → Result ℕ LexFault
-mark_unless zero place = Err (faults.BadByte place)
-mark_unless (suc n) place = Ok (suc n)
+abbrev pub delimiter_unless : ℕ → Place → Result ℕ LexFault
+delimiter_unless zero place = Err (faults.BadByte place)
+delimiter_unless (suc n) place = Ok (suc n)
 
 -- the kind of the token at the front, by its first byte
 abbrev pub kind_of : ℕ → Kind
@@ -100,14 +89,14 @@ kind_of b =
     if is_ascii_alphabetic b then kinds.Word
     else (if is_ascii_digit b then kinds.Number
     else (if b == 34 then kinds.Text
-    else kinds.Mark))
+    else kinds.Delimiter))
 
 -- how many bytes the token of this kind at the front has
 abbrev pub token_at : Kind → Place → List ℕ → Result ℕ LexFault
 token_at kinds.Word place bytes = word_at place bytes
 token_at kinds.Number place bytes = number_at place bytes
 token_at kinds.Text place bytes = text_at place bytes
-token_at kinds.Mark place bytes = mark_unless (mark_length bytes) place
+token_at kinds.Delimiter place bytes = delimiter_unless (delimiter_length bytes) place
 
 -- the token of so many bytes that stands there
 abbrev pub made : Kind → Spot → ℕ → Token
@@ -133,4 +122,4 @@ tokens_from (b ∷ rest) zero spot = piece_at spot (b ∷ rest) >>= λ piece. wi
 
 -- The tokens of a source, or its first fault. Its length is asked first.
 unfoldable pub tokens_of : List ℕ → Result (List Token) LexFault
-tokens_of source = if nat_lt 262144 (length source) then Err faults.TooLong else tokens_from source 0 start
+tokens_of source = if nat_lt MAX_SOURCE (length source) then Err faults.TooLong else tokens_from source 0 start

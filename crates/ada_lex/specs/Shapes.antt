@@ -50,20 +50,20 @@ text_length (b ∷ c ∷ rest) =
 abbrev pub is_no_text : ℕ → Bool
 is_no_text b = not (nat_le 32 b && nat_le b 126)
 
--- the marks of one byte, and those of two
-abbrev pub is_mark : ℕ → Bool
-is_mark b = (nat_le 38 b && nat_le b 47) || (nat_le 58 b && nat_le b 62) || (b == 124)
+-- the delimiters of one byte, and those of two
+abbrev pub is_delimiter : ℕ → Bool
+is_delimiter b = (nat_le 38 b && nat_le b 47) || (nat_le 58 b && nat_le b 62) || (b == 124)
 
-abbrev pub is_double_mark : ℕ → ℕ → Bool
-is_double_mark a b =
+abbrev pub is_double_delimiter : ℕ → ℕ → Bool
+is_double_delimiter a b =
     ((a == 61) && (b == 62)) || ((a == 46) && (b == 46))
     || ((b == 61) && ((a == 58) || (a == 47) || (a == 62) || (a == 60)))
 
--- how many bytes the mark at the front has, 0 where there is none
-abbrev pub mark_length : List ℕ → ℕ
-mark_length [] = 0
-mark_length (a ∷ []) = if is_mark a then 1 else 0
-mark_length (a ∷ b ∷ rest) = if is_double_mark a b then 2 else (if is_mark a then 1 else 0)
+-- how many bytes the delimiter at the front has, 0 where there is none
+abbrev pub delimiter_length : List ℕ → ℕ
+delimiter_length [] = 0
+delimiter_length (a ∷ []) = if is_delimiter a then 1 else 0
+delimiter_length (a ∷ b ∷ rest) = if is_double_delimiter a b then 2 else (if is_delimiter a then 1 else 0)
 
 -- how many bytes of separators or of a comment stand at the front, 0 where there are none
 abbrev pub gap_length : List ℕ → ℕ

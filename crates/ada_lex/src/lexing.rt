@@ -1,20 +1,20 @@
 //! A source is cut into its tokens.
-ghost use Rattle.std.specs.Prelude.{◌≡◌, ◌≤◌, ◌++◌, length, option_to_list, OnOk, IfErr, IfOk, Ok, List};
+ghost use Rattle.std.specs.Prelude.{◌≡◌, ◌≤◌, ◌++◌, length, option_to_list, OnOk, IfOk, Ok, List};
+ghost use Rattle.ann_base.specs.Answers.{AnswersAs};
 ghost use Rattle.ada_lex.specs.declared.tokens.Token.{Token};
 ghost use Rattle.ada_lex.specs.Lexed.{Lexed, AreTokensOf};
-ghost use Rattle.ada_lex.specs.Reading.{Gives, tokens_from, tokens_of, start};
+ghost use Rattle.ada_lex.specs.Reading.{tokens_from, tokens_of, start};
 
 use crate::scan::{Spot, piece_at};
 use crate::tokens::{LexFault, Token};
-use ann_base::Place;
+use ann_base::{NoMemory, OrMemory, Place};
 use std::alloc::Global;
 
 /// The most bytes that a source has.
 pub const MAX_SOURCE: usize = 262_144;
 
-fn push_found(tokens: &mut Vec<Token>, token: Option<Token>) -> Result<(), LexFault>
-    ensures ok { OnOk result (tokens.new.items ≡ tokens.old.items ++ option_to_list token) }
-    ensures memory { IfErr result (λ e. e ≡ LexFault.Memory) }
+fn push_found(tokens: &mut Vec<Token>, token: Option<Token>) -> Result<(), NoMemory>
+    ensures { OnOk result (tokens.new.items ≡ tokens.old.items ++ option_to_list token) }
 {
     if let Some(token) = token {
         tokens.push(token)?;
@@ -22,9 +22,9 @@ fn push_found(tokens: &mut Vec<Token>, token: Option<Token>) -> Result<(), LexFa
     Ok(())
 }
 
-fn tokens_of(alloc: Global, source: &[u8]) -> Result<Vec<Token>, LexFault>
-    requires { length source.now ≤ 262144 }
-    ensures { Gives (λ v. v.items) result (tokens_from source.now 0 start) }
+fn tokens_of(alloc: Global, source: &[u8]) -> Result<Vec<Token>, OrMemory<LexFault>>
+    requires { length source.now ≤ MAX_SOURCE }
+    ensures { AnswersAs (λ v. v.items) result (tokens_from source.now 0 start) }
 {
     let mut tokens = Vec::new(alloc);
     let mut spot = Spot {
@@ -33,7 +33,10 @@ fn tokens_of(alloc: Global, source: &[u8]) -> Result<Vec<Token>, LexFault>
     };
     let mut rest = source;
     while !rest.is_empty() {
-        let (token, n) = piece_at(spot, rest)?;
+        let (token, n) = match piece_at(spot, rest) {
+            Ok(piece) => piece,
+            Err(fault) => return Err(OrMemory::Fault(fault)),
+        };
         push_found(&mut tokens, token)?;
         let (piece, after) = rest.split_at(n);
         spot = spot.behind(piece);
@@ -44,20 +47,20 @@ fn tokens_of(alloc: Global, source: &[u8]) -> Result<Vec<Token>, LexFault>
 
 #[tactic(auto, unfolding(crate::specs::Reading::tokens_of))]
 /// The tokens of a source in order, or its first fault (clause 2).
-pub fn lex(alloc: Global, source: &[u8]) -> Result<Vec<Token>, LexFault>
+pub fn lex(alloc: Global, source: &[u8]) -> Result<Vec<Token>, OrMemory<LexFault>>
     // What it answers are the tokens of the source, each at its place.
     ensures found { IfOk result (λ v. Lexed source.now v.items) }
     // No other tokens are those of the source, and where there are some it answers them, unless memory runs out.
-    ensures only { (tokens : List Token) → Lexed source.now tokens → Gives (λ v. v.items) result (Ok tokens) }
+    ensures only { (tokens : List Token) → Lexed source.now tokens → AnswersAs (λ v. v.items) result (Ok tokens) }
     // A fault is the first one from left to right; the length is asked before all.
-    ensures exact { Gives (λ v. v.items) result (tokens_of source.now) }
+    ensures exact { AnswersAs (λ v. v.items) result (tokens_of source.now) }
     // Each token lies inside the source, and there are no more than bytes.
     ensures inside { IfOk result (λ v. AreTokensOf source.now v.items) }
     ensures count { IfOk result (λ v. length v.items ≤ length source.now) }
-    ensures short { IfOk result (λ v. length source.now ≤ 262144) }
+    ensures short { IfOk result (λ v. length source.now ≤ MAX_SOURCE) }
 {
     if source.len() > MAX_SOURCE {
-        return Err(LexFault::TooLong);
+        return Err(OrMemory::Fault(LexFault::TooLong));
     }
     tokens_of(alloc, source)
 }

@@ -1,8 +1,10 @@
 //! How far the token, the separators or the comment at the front of some bytes reach.
 ghost use Rattle.std.specs.Prelude.{◌≡◌, ◌+◌, ◌-◌, ◌^◌, ◌<◌, ◌≤◌, ◌≢◌, ◌*◌, take, drop, length, position, true, slice_index, option_to_list, IfSome, IfOk};
 ghost use Rattle.std.specs.Option.{SomeIff};
-ghost use Rattle.ada_lex.specs.Shapes.{begins_with, goes_on, run_length, value_of, text_length, is_no_text, is_mark, is_double_mark, is_separator, mark_length, gap_length};
-ghost use Rattle.ada_lex.specs.Reading.{Gives, behind, behind_all, spoils_number, fraction_length, fault_in_word, kind_of, word_at, number_at, text_at, token_at, piece_at};
+ghost use Rattle.std.specs.Result.{result_map_both};
+ghost use Rattle.ada_lex.specs.declared.lexing.TheConstants.{MAX_SOURCE};
+ghost use Rattle.ada_lex.specs.Shapes.{begins_with, goes_on, run_length, value_of, text_length, is_no_text, is_delimiter, is_double_delimiter, is_separator, delimiter_length, gap_length};
+ghost use Rattle.ada_lex.specs.Reading.{behind, behind_all, spoils_number, fraction_length, fault_in_word, kind_of, word_at, number_at, text_at, token_at, piece_at};
 
 use crate::tokens::{Kind, LexFault, Token};
 use ann_base::Place;
@@ -76,14 +78,14 @@ fn is_separator(b: u8) -> bool
     matches!(b, b' ' | b'\t' | b'\x0C' | b'\r' | b'\n')
 }
 
-fn is_mark(b: u8) -> bool
-    ensures { result ≡ is_mark b }
+fn is_delimiter(b: u8) -> bool
+    ensures { result ≡ is_delimiter b }
 {
     matches!(b, b'&'..=b'/' | b':'..=b'>' | b'|')
 }
 
-fn is_double_mark(a: u8, b: u8) -> bool
-    ensures { result ≡ is_double_mark a b }
+fn is_double_delimiter(a: u8, b: u8) -> bool
+    ensures { result ≡ is_double_delimiter a b }
 {
     match (a, b) {
         (b'=', b'>') | (b'.', b'.') => true,
@@ -106,13 +108,13 @@ pub(crate) fn gap_length(bytes: &[u8]) -> usize
     }
 }
 
-fn mark_length(bytes: &[u8]) -> usize
-    ensures length { result ≡ mark_length bytes.now }
+fn delimiter_length(bytes: &[u8]) -> usize
+    ensures length { result ≡ delimiter_length bytes.now }
     ensures within { result ≤ length bytes.now }
 {
     match bytes {
-        [a, b, ..] if is_double_mark(*a, *b) => 2,
-        [a, ..] if is_mark(*a) => 1,
+        [a, b, ..] if is_double_delimiter(*a, *b) => 2,
+        [a, ..] if is_delimiter(*a) => 1,
         _ => 0,
     }
 }
@@ -144,9 +146,9 @@ fn fault_in_word(n: usize, rest: &[u8]) -> Option<usize>
 
 #[tactic(auto, unfolding(crate::specs::Reading::word_at))]
 fn word_at(place: Place, bytes: &[u8]) -> Result<usize, LexFault>
-    requires short { length bytes.now ≤ 262144 }
-    requires column { place.column + length bytes.now ≤ 262145 }
-    ensures exact { Gives (λ n. n) result (word_at place bytes.now) }
+    requires short { length bytes.now ≤ MAX_SOURCE }
+    requires column { place.column + length bytes.now ≤ MAX_SOURCE + 1 }
+    ensures exact { result ≡ word_at place bytes.now }
     ensures within { IfOk result (λ n. n ≤ length bytes.now) }
 {
     let n = run_length(Run::Letters, bytes);
@@ -209,8 +211,8 @@ fn spoils_front(bytes: &[u8]) -> bool
 
 #[tactic(auto, unfolding(crate::specs::Reading::number_at))]
 fn number_at(place: Place, bytes: &[u8]) -> Result<usize, LexFault>
-    requires { length bytes.now ≤ 262144 }
-    ensures exact { Gives (λ n. n) result (number_at place bytes.now) }
+    requires { length bytes.now ≤ MAX_SOURCE }
+    ensures exact { result ≡ number_at place bytes.now }
     ensures within { IfOk result (λ n. n ≤ length bytes.now) }
 {
     let whole = run_length(Run::Whole, bytes);
@@ -255,9 +257,9 @@ fn first_bad(bytes: &[u8]) -> Option<usize>
 #[tactic(auto, unfolding(crate::specs::Reading::text_at))]
 fn text_at(place: Place, bytes: &[u8]) -> Result<usize, LexFault>
     requires some { 0 < length bytes.now }
-    requires short { length bytes.now ≤ 262144 }
-    requires column { place.column + length bytes.now ≤ 262145 }
-    ensures exact { Gives (λ n. n) result (text_at place bytes.now) }
+    requires short { length bytes.now ≤ MAX_SOURCE }
+    requires column { place.column + length bytes.now ≤ MAX_SOURCE + 1 }
+    ensures exact { result ≡ text_at place bytes.now }
     ensures within { IfOk result (λ n. n ≤ length bytes.now) }
 {
     match text_length(tail(bytes, 1)) {
@@ -280,23 +282,23 @@ pub(crate) fn kind_of(b: u8) -> Kind
     } else if b == b'"' {
         Kind::Text
     } else {
-        Kind::Mark
+        Kind::Delimiter
     }
 }
 
 /// How many bytes the token of this kind at the front has.
 pub(crate) fn token_at(kind: Kind, place: Place, bytes: &[u8]) -> Result<usize, LexFault>
     requires some { 0 < length bytes.now }
-    requires short { length bytes.now ≤ 262144 }
-    requires column { place.column + length bytes.now ≤ 262145 }
-    ensures exact { Gives (λ n. n) result (token_at kind place bytes.now) }
+    requires short { length bytes.now ≤ MAX_SOURCE }
+    requires column { place.column + length bytes.now ≤ MAX_SOURCE + 1 }
+    ensures exact { result ≡ token_at kind place bytes.now }
     ensures within { IfOk result (λ n. n ≤ length bytes.now) }
 {
     match kind {
         Kind::Word => word_at(place, bytes),
         Kind::Number => number_at(place, bytes),
         Kind::Text => text_at(place, bytes),
-        Kind::Mark => match mark_length(bytes) {
+        Kind::Delimiter => match delimiter_length(bytes) {
             0 => Err(LexFault::BadByte(place)),
             n => Ok(n),
         },
@@ -307,9 +309,9 @@ pub(crate) fn token_at(kind: Kind, place: Place, bytes: &[u8]) -> Result<usize, 
 #[tactic(auto, unfolding(crate::specs::Reading::piece_at))]
 pub(crate) fn piece_at(spot: Spot, bytes: &[u8]) -> Result<(Option<Token>, usize), LexFault>
     requires some { 0 < length bytes.now }
-    requires offset { spot.offset + length bytes.now ≤ 262144 }
+    requires offset { spot.offset + length bytes.now ≤ MAX_SOURCE }
     requires column { spot.place.column ≤ spot.offset + 1 }
-    ensures exact { Gives (λ p. (option_to_list p.0, p.1)) result (piece_at spot bytes.now) }
+    ensures exact { result_map_both (λ p. (option_to_list p.0, p.1)) (λ fault. fault) result ≡ piece_at spot bytes.now }
     ensures nonempty { IfOk result (λ p. 0 < p.1) }
     ensures within { IfOk result (λ p. p.1 ≤ length bytes.now) }
 {
@@ -330,7 +332,7 @@ pub(crate) fn piece_at(spot: Spot, bytes: &[u8]) -> Result<(Option<Token>, usize
 
 impl Spot {
     fn behind_byte(self, b: u8) -> Spot
-        requires offset { self.offset < 262144 }
+        requires offset { self.offset < MAX_SOURCE }
         requires line { self.place.line ≤ self.offset + 1 }
         requires column { self.place.column ≤ self.offset + 1 }
         ensures spot { result ≡ behind self b }
@@ -357,7 +359,7 @@ impl Spot {
 
     /// The spot behind these bytes.
     pub(crate) fn behind(self, bytes: &[u8]) -> Spot
-        requires offset { self.offset + length bytes.now ≤ 262144 }
+        requires offset { self.offset + length bytes.now ≤ MAX_SOURCE }
         requires line { self.place.line ≤ self.offset + 1 }
         requires column { self.place.column ≤ self.offset + 1 }
         ensures spot { result ≡ behind_all bytes.now self }

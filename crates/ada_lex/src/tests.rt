@@ -1,17 +1,17 @@
 //! Sources with the tokens or the fault that the rules give them.
 use super::*;
-use ann_base::Place;
+use ann_base::{OrMemory, Place};
 use std::test::Fail;
 
 /// Code and place of the fault, code 0 where there is none.
-fn fault_of(found: Result<Vec<Token>, LexFault>) -> (u8, u32, u32) {
+fn fault_of(found: Result<Vec<Token>, OrMemory<LexFault>>) -> (u8, u32, u32) {
     match found {
         Ok(_) => (0, 0, 0),
-        Err(LexFault::BadByte(place)) => (1, place.line, place.column),
-        Err(LexFault::BadNumber(place)) => (2, place.line, place.column),
-        Err(LexFault::OpenString(place)) => (3, place.line, place.column),
-        Err(LexFault::TooLong) => (4, 1, 1),
-        Err(LexFault::Memory) => (9, 0, 0),
+        Err(OrMemory::Fault(LexFault::BadByte(place))) => (1, place.line, place.column),
+        Err(OrMemory::Fault(LexFault::BadNumber(place))) => (2, place.line, place.column),
+        Err(OrMemory::Fault(LexFault::OpenString(place))) => (3, place.line, place.column),
+        Err(OrMemory::Fault(LexFault::TooLong)) => (4, 1, 1),
+        Err(OrMemory::Memory) => (9, 0, 0),
     }
 }
 
@@ -60,14 +60,14 @@ fn tokens(rt: HostRuntime) -> Result<(), Fail> {
     let rows: [(Kind, u32, u32, u32, u32); 10] = [
         (Kind::Word, 0, 2, 1, 1),
         (Kind::Word, 3, 6, 1, 4),
-        (Kind::Mark, 7, 9, 1, 8),
+        (Kind::Delimiter, 7, 9, 1, 8),
         (Kind::Number, 10, 15, 1, 11),
         (Kind::Word, 16, 20, 1, 17),
         (Kind::Word, 28, 31, 2, 2),
-        (Kind::Mark, 32, 33, 2, 6),
+        (Kind::Delimiter, 32, 33, 2, 6),
         (Kind::Text, 33, 39, 2, 7),
-        (Kind::Mark, 39, 40, 2, 13),
-        (Kind::Mark, 40, 41, 2, 14),
+        (Kind::Delimiter, 39, 40, 2, 13),
+        (Kind::Delimiter, 40, 41, 2, 14),
     ];
     assert_eq!(rt; found.len(), 10);
     for ((kind, first, end, line, column), token) in rows.into_iter().zip(found) {

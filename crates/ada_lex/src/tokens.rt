@@ -1,9 +1,5 @@
 //! Tokens and the faults of a source that has none.
-ghost use Rattle.std.specs.Prelude.{◌≡◌};
-ghost use Rattle.ada_lex.specs.declared.tokens.LexFault.TheVariants.{Memory};
-
 use ann_base::Place;
-use std::alloc::{AllocError, AllocFailed};
 use thiserror::Error;
 
 /// What a token is.
@@ -16,7 +12,7 @@ pub enum Kind {
     /// A string literal, with its quotation marks (2.6).
     Text,
     /// A delimiter (2.2).
-    Mark,
+    Delimiter,
 }
 
 /// A token: its kind, the bytes `first .. end` of the source that spell it, and the place of its first byte.
@@ -31,7 +27,7 @@ pub struct Token {
 }
 
 /// Why a source has no tokens: its first fault.
-#[derive(Debug, Drop, Error)]
+#[derive(Clone, Copy, Debug, Error)]
 pub enum LexFault {
     /// A byte that no token, separator or comment has there.
     #[error("a byte that may not stand here")]
@@ -42,26 +38,7 @@ pub enum LexFault {
     /// A text that does not end on its line, at its first mark.
     #[error("a text that does not end on its line")]
     OpenString(Place),
-    /// More than 262,144 bytes.
+    /// More than `MAX_SOURCE` bytes.
     #[error("the source is too long")]
     TooLong,
-    /// Memory was wanting.
-    #[error("no memory")]
-    Memory,
-}
-
-impl From<AllocError> for LexFault {
-    ghost from_gives = { λ _ e. e ≡ Memory };
-
-    fn from(_: AllocError) -> Self {
-        LexFault::Memory
-    }
-}
-
-impl<T: Drop> From<AllocFailed<T>> for LexFault {
-    ghost from_gives = { λ _ e. e ≡ Memory };
-
-    fn from(_: AllocFailed<T>) -> Self {
-        LexFault::Memory
-    }
 }

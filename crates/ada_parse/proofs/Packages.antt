@@ -1,13 +1,14 @@
 -- A loop that reads packages, each with its context: what each way out of it has read.
-use Rattle.std.proofs.Common.{◌≡◌, ℕ, zero, suc, ◌+◌, ◌-◌, ◌<◌, ◌≤◌, Bool, true, false, List, [], ◌∷◌, ◌++◌, Ok, Err, codes, refl, sym, ap, subst, ◌∙◌, arith}
+use Rattle.std.proofs.Common.{◌≡◌, ℕ, zero, suc, ◌+◌, ◌-◌, ◌<◌, ◌≤◌, Bool, true, false, List, [], ◌∷◌, ◌++◌, Ok, Err, codes, refl, sym, ap, ◌∙◌, arith}
 use Rattle.ada_tree.specs.declared.units.ContextClause.{ContextClause}
 use Rattle.ada_tree.specs.declared.units.LibraryPackage.{LibraryPackage}
 use Rattle.ada_tree.specs.declared.units.Package.{Package}
 use Rattle.ada_tree.specs.Written.{Lexeme}
+use Rattle.ann_base.specs.declared.faults.OrMemory.{OrMemory}
+use Rattle.ann_base.specs.declared.faults.OrMemory.TheVariants as answer
 use Rattle.ada_grammar.specs.declared.stuck.Stuck.{Stuck}
-use Rattle.ada_grammar.specs.declared.stuck.Stuck.TheVariants as stuck
 use Rattle.ada_grammar.specs.Reading.{Read, sees_word}
-use Rattle.ada_expressions.specs.Steps.{Reads, Stops}
+use Rattle.ada_grammar.specs.Reads.{Stops}
 use Rattle.ada_expressions.specs.Turns.{one_more, no_more}
 use Rattle.ada_grammar.specs.ReadingUnits.{context_of, package_of, packages_from}
 
@@ -15,17 +16,15 @@ abbrev pub Packages : Type 0
 Packages = List LibraryPackage × List ContextClause
 
 module _ (left : ℕ) where
-  context_stops_at : (fuel : ℕ) (found : List LibraryPackage) (ls : List Lexeme) (why : Stuck) → Stops why (context_of ls) → Stops why (packages_from left fuel found ls)
+  context_stops_at : (fuel : ℕ) (found : List LibraryPackage) (ls : List Lexeme) (why : Stuck) → context_of ls ≡ Err why → packages_from left fuel found ls ≡ Err why
   unfolding packages_from
-  context_stops_at fuel found ls stuck.Memory e = tt
-  context_stops_at zero found ls (stuck.At n) e = rw e refl
-  context_stops_at zero found ls (stuck.TooDeep n) e = rw e refl
-  context_stops_at (suc fuel) found ls (stuck.At n) e = rw e refl
-  context_stops_at (suc fuel) found ls (stuck.TooDeep n) e = rw e refl
+  context_stops_at zero found ls why e = rw e refl
+  context_stops_at (suc fuel) found ls why e = rw e refl
 
-  pub context_stops : (fuel : ℕ) (found : List LibraryPackage) (ls : List Lexeme) (why : Stuck) (whole : Read Packages) → Stops why (context_of ls)
+  pub context_stops : (fuel : ℕ) (found : List LibraryPackage) (ls : List Lexeme) (why : OrMemory Stuck) (whole : Read Packages) → Stops why (context_of ls)
       → packages_from left fuel found ls ≡ whole → Stops why whole
-  context_stops fuel found ls why whole e is = subst (λ (r : Read Packages). Stops why r) is (context_stops_at fuel found ls why e)
+  context_stops fuel found ls answer.Memory whole e is = tt
+  context_stops fuel found ls (answer.Fault why) whole e is = sym is ∙ context_stops_at fuel found ls why e
 
   ends_at : (fuel : ℕ) (found : List LibraryPackage) (context : List ContextClause) (ls m : List Lexeme) → context_of ls ≡ Ok (context, m) → sees_word (codes "package") m ≡ false
       → packages_from left fuel found ls ≡ Ok ((found, context), m)
@@ -59,14 +58,12 @@ module _ (left : ℕ) where
       sym (goes_on (end - (turn + 1)) found context package_read ls m n e f h) ∙ one_more (λ k. packages_from left k found ls) whole turn end p is
 
   package_stops_at : (fuel : ℕ) (found : List LibraryPackage) (context : List ContextClause) (ls m : List Lexeme) (why : Stuck) → context_of ls ≡ Ok (context, m)
-      → sees_word (codes "package") m ≡ true → Stops why (package_of left m) → Stops why (packages_from left (suc fuel) found ls)
+      → sees_word (codes "package") m ≡ true → package_of left m ≡ Err why → packages_from left (suc fuel) found ls ≡ Err why
   unfolding packages_from
-  package_stops_at fuel found context ls m stuck.Memory e f h = tt
-  package_stops_at fuel found context ls m (stuck.At n) e f h = rw (e, f, h) refl
-  package_stops_at fuel found context ls m (stuck.TooDeep n) e f h = rw (e, f, h) refl
+  package_stops_at fuel found context ls m why e f h = rw (e, f, h) refl
 
-  pub package_stops : (turn end : ℕ) (found : List LibraryPackage) (context : List ContextClause) (ls m : List Lexeme) (why : Stuck) (whole : Read Packages) → turn < end
+  pub package_stops : (turn end : ℕ) (found : List LibraryPackage) (context : List ContextClause) (ls m : List Lexeme) (why : OrMemory Stuck) (whole : Read Packages) → turn < end
       → context_of ls ≡ Ok (context, m) → sees_word (codes "package") m ≡ true → Stops why (package_of left m) → packages_from left (end - turn) found ls ≡ whole → Stops why whole
-  package_stops turn end found context ls m why whole p e f h is =
-      subst (λ (r : Read Packages). Stops why r) (one_more (λ k. packages_from left k found ls) whole turn end p is)
-      (package_stops_at (end - (turn + 1)) found context ls m why e f h)
+  package_stops turn end found context ls m answer.Memory whole p e f h is = tt
+  package_stops turn end found context ls m (answer.Fault why) whole p e f h is =
+      sym (one_more (λ k. packages_from left k found ls) whole turn end p is) ∙ package_stops_at (end - (turn + 1)) found context ls m why e f h

@@ -6,8 +6,7 @@ use Rattle.ada_tree.specs.declared.units.Unit.{Unit as Tree}
 use Rattle.ada_tree.specs.Written.{Lexeme, lexeme_of, lexemes_of}
 use Rattle.ada_grammar.specs.declared.stuck.Stuck.{Stuck}
 use Rattle.ada_grammar.specs.declared.stuck.Stuck.TheVariants as stuck
-use Rattle.ada_expressions.specs.Steps.{Stops}
-use Rattle.ada_grammar.specs.ReadingUnits.{Fails, finished, placed_fault, source_of, unit_of}
+use Rattle.ada_grammar.specs.ReadingUnits.{finished, placed_fault, source_of, unit_of}
 
 pub finished_at_end : (unit : Tree) (ls : List Lexeme) → length ls ≡ 0 → finished unit ls ≡ Ok (unit, ls)
 finished_at_end unit [] e = refl
@@ -21,9 +20,7 @@ pub unit_read : (ls : List Lexeme) (unit : Tree) (rest : List Lexeme) → source
 unfolding unit_of
 unit_read ls unit rest e = rw e refl
 
-pub unit_stops : (source : List ℕ) (tokens : List Token) (why : Stuck) → Stops why (source_of 100 (lexemes_of source tokens))
-    → Fails (placed_fault (length tokens) why) (unit_of (lexemes_of source tokens))
+pub unit_stops : (source : List ℕ) (tokens : List Token) (why : Stuck) → source_of 100 (lexemes_of source tokens) ≡ Err why
+    → unit_of (lexemes_of source tokens) ≡ Err (placed_fault (length tokens) why)
 unfolding unit_of
-unit_stops source tokens stuck.Memory e = tt
-unit_stops source tokens (stuck.At left) e = rw (e, length-map tokens (lexeme_of source)) refl
-unit_stops source tokens (stuck.TooDeep left) e = rw (e, length-map tokens (lexeme_of source)) refl
+unit_stops source tokens why e = rw (e, length-map tokens (lexeme_of source)) refl

@@ -1,48 +1,46 @@
 //! Library units and the source (ISO/IEC 8652:2012, 2.8, clause 7, 10.1).
 ghost use Rattle.std.specs.Prelude.{◌≡◌, ◌≤◌, codes, length, true, IfErr, IfOk, Ok};
+ghost use Rattle.ann_base.specs.Answers.{Answers, OfFault};
 ghost use Rattle.ada_lex.specs.Lexed.{AreTokensOf};
 ghost use Rattle.ada_tree.specs.declared.units.Unit.{Unit as Tree};
 ghost use Rattle.ada_tree.specs.Written.{lexemes_of};
 ghost use Rattle.ada_tree.specs.Spelling.{SpellsTokens};
 ghost use Rattle.ada_tree.specs.Shape.{is_shaped};
-ghost use Rattle.ada_grammar.specs.Reading.{behind_mark_of, items_of, sees_mark, sees_word, separated_of};
+ghost use Rattle.ada_grammar.specs.Reading.{behind_delimiter_of, items_of, sees_delimiter, sees_word, separated_of};
 ghost use Rattle.ada_grammar.specs.ReadingExpressions.{argument_of, inner_of};
-ghost use Rattle.ada_expressions.specs.Steps.{Reads};
+ghost use Rattle.ada_grammar.specs.Reads.{Reads};
 ghost use Rattle.fault_places.specs.Laws.{NoneGoesOn};
-ghost use Rattle.ada_grammar.specs.ReadingUnits.{Gives, begins_clause, clause_of, context_of, declarations_at, finished, main_of, package_body_of, package_declaration_of, package_of, package_statements_of, packages_of, placed_fault, pragma_of, private_part_of, source_of, unit_of, use_clause_of, with_of};
+ghost use Rattle.ada_grammar.specs.ReadingUnits.{begins_clause, clause_of, context_of, declarations_at, finished, main_of, package_body_of, package_declaration_of, package_of, package_statements_of, packages_of, placed_fault, pragma_of, private_part_of, source_of, unit_of, use_clause_of, with_of};
 
 use ada_clauses::aspects;
-use ada_expressions::{Cursor, argument, name_list};
-use ada_grammar::{ParseFault, Stuck};
-use ada_lex::Token;
+use ada_expressions::{argument, name_list};
+use ada_grammar::{Cursor, ParseFault, Stuck};
+use ada_lex::{MAX_SOURCE, Token};
 use ada_sequences::{below, body, declarations, end_name, sequence};
 use ada_tree::{
-    Argument, ContextClause, Declaration, Expression, LibraryPackage, MainProcedure, OneOrMore,
-    Package, PackageBody, PackageDeclaration, Pragma, Sequence, SequenceRole, Unit,
+    Argument, ContextClause, Declaration, Expression, LibraryPackage, MAX_NESTING, MainProcedure,
+    OneOrMore, Package, PackageBody, PackageDeclaration, Pragma, Sequence, SequenceRole, Unit,
 };
-use ann_base::Place;
+use ann_base::{OrMemory, Place};
 use fault_places::{no_tree_goes_deeper, no_tree_goes_on};
 use grammar_laws::{read_is_spelt, spelt_is_read};
 use sqlite_items::Items;
 use std::alloc::Global;
 
-/// How many levels of nesting a source may open.
-const LEVELS: usize = 100;
-
 /// The tree that the tokens of a source spell (10.1), or the first token with which reading cannot go on, or the one
 /// that opens nesting 101. `tokens` are those that `lex` answers for the source.
-pub fn parse(alloc: Global, source: &[u8], tokens: &[Token]) -> Result<Unit, ParseFault>
+pub fn parse(alloc: Global, source: &[u8], tokens: &[Token]) -> Result<Unit, OrMemory<ParseFault>>
     requires tokens { AreTokensOf source.now tokens.now }
-    requires count { length tokens.now ≤ 262144 }
+    requires count { length tokens.now ≤ MAX_SOURCE }
     // The tree spells the tokens, and is shaped.
     ensures found { IfOk result (λ unit. SpellsTokens unit (lexemes_of source.now tokens.now)) }
     ensures shaped { IfOk result (λ unit. is_shaped unit ≡ true) }
     // Any shaped tree that spells the tokens is the answer, unless memory runs out; so it is refused only where there is none.
-    ensures only { (unit : Tree) → SpellsTokens unit (lexemes_of source.now tokens.now) → is_shaped unit ≡ true → Gives result (Ok unit) }
+    ensures only { (unit : Tree) → SpellsTokens unit (lexemes_of source.now tokens.now) → is_shaped unit ≡ true → Answers result (Ok unit) }
     // Otherwise the fault is at the first token with which the reading from left to right cannot go on.
-    ensures exact { Gives result (unit_of (lexemes_of source.now tokens.now)) }
+    ensures exact { Answers result (unit_of (lexemes_of source.now tokens.now)) }
     // No shaped tree begins with the tokens up to that of the fault, itself counted.
-    ensures place { IfErr result (λ fault. NoneGoesOn (lexemes_of source.now tokens.now) fault) }
+    ensures place { IfErr result (OfFault (NoneGoesOn (lexemes_of source.now tokens.now))) }
 {
     // What the laws of the grammar say of what is read, and of where the reading stops.
     read_is_spelt();
@@ -53,37 +51,37 @@ pub fn parse(alloc: Global, source: &[u8], tokens: &[Token]) -> Result<Unit, Par
 }
 
 /// What reading the tokens from left to right gives.
-fn read(alloc: Global, source: &[u8], tokens: &[Token]) -> Result<Unit, ParseFault>
+fn read(alloc: Global, source: &[u8], tokens: &[Token]) -> Result<Unit, OrMemory<ParseFault>>
     requires tokens { AreTokensOf source.now tokens.now }
-    requires count { length tokens.now ≤ 262144 }
-    ensures exact { Gives result (unit_of (lexemes_of source.now tokens.now)) }
+    requires count { length tokens.now ≤ MAX_SOURCE }
+    ensures exact { Answers result (unit_of (lexemes_of source.now tokens.now)) }
 {
     let mut cursor = Cursor::new(source, tokens);
-    match source_unit(alloc, &mut cursor, LEVELS) {
+    match source_unit(alloc, &mut cursor, MAX_NESTING) {
         Ok(unit) => Ok(unit),
-        Err(stuck) => Err(fault(tokens, stuck)),
+        Err(OrMemory::Fault(stuck)) => Err(OrMemory::Fault(fault(tokens, stuck))),
+        Err(OrMemory::Memory) => Err(OrMemory::Memory),
     }
 }
 
 /// The fault where reading these tokens is stuck: how many tokens were read before it.
 fn fault(tokens: &[Token], stuck: Stuck) -> ParseFault
-    requires count { length tokens.now ≤ 262144 }
+    requires count { length tokens.now ≤ MAX_SOURCE }
     ensures { result ≡ placed_fault (length tokens.now) stuck }
 {
     match stuck {
-        Stuck::At { left } => ParseFault::Unexpected {
-            token: tokens.len().saturating_sub(left) as u32,
+        Stuck::At { remaining } => ParseFault::Unexpected {
+            token: tokens.len().saturating_sub(remaining) as u32,
         },
-        Stuck::TooDeep { left } => ParseFault::TooDeep {
-            token: tokens.len().saturating_sub(left) as u32,
+        Stuck::TooDeep { remaining } => ParseFault::TooDeep {
+            token: tokens.len().saturating_sub(remaining) as u32,
         },
-        Stuck::Memory => ParseFault::Memory,
     }
 }
 
 /// `{PRAGMA} {PACKAGE} MAIN` (10.1)
 #[tactic(auto, unfolding(ada_grammar::specs::ReadingUnits::source_of))]
-fn source_unit(alloc: Global, cursor: &mut Cursor<'_>, left: usize) -> Result<Unit, Stuck>
+fn source_unit(alloc: Global, cursor: &mut Cursor<'_>, left: usize) -> Result<Unit, OrMemory<Stuck>>
     ensures { Reads result cursor.new (source_of left cursor.old) }
 {
     let pragmas = pragmas(alloc, cursor, left)?;
@@ -102,27 +100,26 @@ fn source_unit(alloc: Global, cursor: &mut Cursor<'_>, left: usize) -> Result<Un
 
 /// The unit, where nothing stands behind it.
 #[tactic(auto, using(crate::proofs::Sources::finished_at_end, crate::proofs::Sources::finished_too_early))]
-fn finished(cursor: &mut Cursor<'_>, unit: Unit) -> Result<Unit, Stuck>
+fn finished(cursor: &mut Cursor<'_>, unit: Unit) -> Result<Unit, OrMemory<Stuck>>
     ensures { Reads result cursor.new (finished unit cursor.old) }
 {
-    let left = cursor.left();
-    if left > 0 {
-        Err(Stuck::At { left })
+    if cursor.remaining() > 0 {
+        Err(cursor.stuck())
     } else {
         Ok(unit)
     }
 }
 
 /// An argument behind a comma.
-#[tactic(auto, unfolding(ada_grammar::specs::Reading::behind_mark_of))]
+#[tactic(auto, unfolding(ada_grammar::specs::Reading::behind_delimiter_of))]
 fn next_argument(
     alloc: Global,
     cursor: &mut Cursor<'_>,
     left: usize,
-) -> Result<Argument<Expression>, Stuck>
-    ensures { Reads result cursor.new (behind_mark_of (codes ",") (argument_of left (inner_of left)) cursor.old) }
+) -> Result<Argument<Expression>, OrMemory<Stuck>>
+    ensures { Reads result cursor.new (behind_delimiter_of (codes ",") (argument_of left (inner_of left)) cursor.old) }
 {
-    cursor.mark(b",")?;
+    cursor.delimiter(b",")?;
     argument(alloc, cursor, left)
 }
 
@@ -132,12 +129,12 @@ fn next_arguments(
     alloc: Global,
     cursor: &mut Cursor<'_>,
     left: usize,
-) -> Result<Items<Argument<Expression>>, Stuck>
-    ensures { Reads result cursor.new (items_of (sees_mark (codes ",")) (behind_mark_of (codes ",") (argument_of left (inner_of left))) cursor.old) }
+) -> Result<Items<Argument<Expression>>, OrMemory<Stuck>>
+    ensures { Reads result cursor.new (items_of (sees_delimiter (codes ",")) (behind_delimiter_of (codes ",") (argument_of left (inner_of left))) cursor.old) }
 {
     let mut found = Items::new(alloc);
-    for _turn in 0..cursor.left() {
-        if !cursor.is_mark(b",") {
+    for _turn in 0..cursor.remaining() {
+        if !cursor.is_delimiter(b",") {
             return Ok(found);
         }
         found.push(next_argument(alloc, cursor, left)?)?;
@@ -151,7 +148,7 @@ fn pragma_arguments(
     alloc: Global,
     cursor: &mut Cursor<'_>,
     left: usize,
-) -> Result<OneOrMore<Argument<Expression>>, Stuck>
+) -> Result<OneOrMore<Argument<Expression>>, OrMemory<Stuck>>
     ensures { Reads result cursor.new (separated_of (codes ",") (argument_of left (inner_of left)) cursor.old) }
 {
     let first = argument(alloc, cursor, left)?;
@@ -161,15 +158,19 @@ fn pragma_arguments(
 
 /// A pragma (2.8).
 #[tactic(auto, unfolding(ada_grammar::specs::ReadingUnits::pragma_of))]
-fn pragma_line(alloc: Global, cursor: &mut Cursor<'_>, left: usize) -> Result<Pragma, Stuck>
+fn pragma_line(
+    alloc: Global,
+    cursor: &mut Cursor<'_>,
+    left: usize,
+) -> Result<Pragma, OrMemory<Stuck>>
     ensures { Reads result cursor.new (pragma_of left cursor.old) }
 {
     let place = cursor.word(b"pragma")?;
     let name = cursor.identifier(alloc)?;
     cursor.open(left)?;
     let arguments = pragma_arguments(alloc, cursor, left)?;
-    cursor.mark(b")")?;
-    cursor.mark(b";")?;
+    cursor.delimiter(b")")?;
+    cursor.delimiter(b";")?;
     Ok(Pragma {
         place,
         name,
@@ -179,11 +180,15 @@ fn pragma_line(alloc: Global, cursor: &mut Cursor<'_>, left: usize) -> Result<Pr
 
 /// The pragmas before the first unit (10.1.5).
 #[tactic(auto, unfolding(ada_grammar::specs::Reading::items_of))]
-fn pragmas(alloc: Global, cursor: &mut Cursor<'_>, left: usize) -> Result<Items<Pragma>, Stuck>
+fn pragmas(
+    alloc: Global,
+    cursor: &mut Cursor<'_>,
+    left: usize,
+) -> Result<Items<Pragma>, OrMemory<Stuck>>
     ensures { Reads result cursor.new (items_of (sees_word (codes "pragma")) (pragma_of left) cursor.old) }
 {
     let mut found = Items::new(alloc);
-    for _turn in 0..cursor.left() {
+    for _turn in 0..cursor.remaining() {
         if !cursor.is_word(b"pragma") {
             return Ok(found);
         }
@@ -194,12 +199,12 @@ fn pragmas(alloc: Global, cursor: &mut Cursor<'_>, left: usize) -> Result<Items<
 
 /// A with clause (10.1.2).
 #[tactic(auto, unfolding(ada_grammar::specs::ReadingUnits::with_of))]
-fn with_clause(alloc: Global, cursor: &mut Cursor<'_>) -> Result<ContextClause, Stuck>
+fn with_clause(alloc: Global, cursor: &mut Cursor<'_>) -> Result<ContextClause, OrMemory<Stuck>>
     ensures { Reads result cursor.new (with_of cursor.old) }
 {
     let place = cursor.word(b"with")?;
     let names = name_list(alloc, cursor, b",")?;
-    cursor.mark(b";")?;
+    cursor.delimiter(b";")?;
     Ok(ContextClause {
         place,
         is_use: false,
@@ -209,12 +214,12 @@ fn with_clause(alloc: Global, cursor: &mut Cursor<'_>) -> Result<ContextClause, 
 
 /// A use clause in a context (8.4).
 #[tactic(auto, unfolding(ada_grammar::specs::ReadingUnits::use_clause_of))]
-fn use_clause(alloc: Global, cursor: &mut Cursor<'_>) -> Result<ContextClause, Stuck>
+fn use_clause(alloc: Global, cursor: &mut Cursor<'_>) -> Result<ContextClause, OrMemory<Stuck>>
     ensures { Reads result cursor.new (use_clause_of cursor.old) }
 {
     let place = cursor.word(b"use")?;
     let names = name_list(alloc, cursor, b",")?;
-    cursor.mark(b";")?;
+    cursor.delimiter(b";")?;
     Ok(ContextClause {
         place,
         is_use: true,
@@ -231,7 +236,7 @@ fn begins_clause(cursor: &Cursor<'_>) -> bool
 
 /// A context clause (10.1.2).
 #[tactic(auto, unfolding(ada_grammar::specs::ReadingUnits::clause_of))]
-fn clause(alloc: Global, cursor: &mut Cursor<'_>) -> Result<ContextClause, Stuck>
+fn clause(alloc: Global, cursor: &mut Cursor<'_>) -> Result<ContextClause, OrMemory<Stuck>>
     ensures { Reads result cursor.new (clause_of cursor.old) }
 {
     if cursor.is_word(b"use") {
@@ -243,11 +248,14 @@ fn clause(alloc: Global, cursor: &mut Cursor<'_>) -> Result<ContextClause, Stuck
 
 /// The context of a library unit (10.1.2).
 #[tactic(auto, unfolding(ada_grammar::specs::Reading::items_of, ada_grammar::specs::ReadingUnits::context_of))]
-fn context_clauses(alloc: Global, cursor: &mut Cursor<'_>) -> Result<Items<ContextClause>, Stuck>
+fn context_clauses(
+    alloc: Global,
+    cursor: &mut Cursor<'_>,
+) -> Result<Items<ContextClause>, OrMemory<Stuck>>
     ensures { Reads result cursor.new (context_of cursor.old) }
 {
     let mut found = Items::new(alloc);
-    for _turn in 0..cursor.left() {
+    for _turn in 0..cursor.remaining() {
         if !begins_clause(cursor) {
             return Ok(found);
         }
@@ -262,7 +270,7 @@ fn private_part(
     alloc: Global,
     cursor: &mut Cursor<'_>,
     left: usize,
-) -> Result<Option<Items<Declaration<Sequence>>>, Stuck>
+) -> Result<Option<Items<Declaration<Sequence>>>, OrMemory<Stuck>>
     ensures { Reads result cursor.new (private_part_of left cursor.old) }
 {
     if cursor.is_word(b"private") {
@@ -281,7 +289,7 @@ fn package_declaration(
     cursor: &mut Cursor<'_>,
     left: usize,
     place: Place,
-) -> Result<Package, Stuck>
+) -> Result<Package, OrMemory<Stuck>>
     ensures { Reads result cursor.new (package_declaration_of left place cursor.old) }
 {
     let name = cursor.identifier(alloc)?;
@@ -290,7 +298,7 @@ fn package_declaration(
     let private = private_part(alloc, cursor, left)?;
     cursor.word(b"end")?;
     let named_at_end = end_name(cursor, &name)?;
-    cursor.mark(b";")?;
+    cursor.delimiter(b";")?;
     Ok(Package::Declaration(PackageDeclaration {
         place,
         name,
@@ -306,7 +314,7 @@ fn package_statements(
     alloc: Global,
     cursor: &mut Cursor<'_>,
     left: usize,
-) -> Result<Option<Sequence>, Stuck>
+) -> Result<Option<Sequence>, OrMemory<Stuck>>
     ensures { Reads result cursor.new (package_statements_of left cursor.old) }
 {
     if cursor.is_word(b"begin") {
@@ -325,7 +333,7 @@ fn package_body(
     cursor: &mut Cursor<'_>,
     left: usize,
     place: Place,
-) -> Result<Package, Stuck>
+) -> Result<Package, OrMemory<Stuck>>
     ensures { Reads result cursor.new (package_body_of left place cursor.old) }
 {
     cursor.word(b"body")?;
@@ -336,7 +344,7 @@ fn package_body(
     let sequence = package_statements(alloc, cursor, inside)?;
     cursor.word(b"end")?;
     let named_at_end = end_name(cursor, &name)?;
-    cursor.mark(b";")?;
+    cursor.delimiter(b";")?;
     Ok(Package::Body(PackageBody {
         place,
         name,
@@ -348,7 +356,7 @@ fn package_body(
 
 /// A package declaration or a package body (7.1, 7.2).
 #[tactic(auto, unfolding(ada_grammar::specs::ReadingUnits::package_of))]
-fn package(alloc: Global, cursor: &mut Cursor<'_>, left: usize) -> Result<Package, Stuck>
+fn package(alloc: Global, cursor: &mut Cursor<'_>, left: usize) -> Result<Package, OrMemory<Stuck>>
     ensures { Reads result cursor.new (package_of left cursor.old) }
 {
     let place = cursor.word(b"package")?;
@@ -365,11 +373,11 @@ fn packages(
     alloc: Global,
     cursor: &mut Cursor<'_>,
     left: usize,
-) -> Result<(Items<LibraryPackage>, Items<ContextClause>), Stuck>
+) -> Result<(Items<LibraryPackage>, Items<ContextClause>), OrMemory<Stuck>>
     ensures { Reads result cursor.new (packages_of left cursor.old) }
 {
     let mut found = Items::new(alloc);
-    for _turn in 0..cursor.left() {
+    for _turn in 0..cursor.remaining() {
         let context = context_clauses(alloc, cursor)?;
         if !cursor.is_word(b"package") {
             return Ok((found, context));
@@ -387,7 +395,7 @@ fn main_procedure(
     alloc: Global,
     cursor: &mut Cursor<'_>,
     left: usize,
-) -> Result<MainProcedure, Stuck>
+) -> Result<MainProcedure, OrMemory<Stuck>>
     ensures { Reads result cursor.new (main_of left cursor.old) }
 {
     let place = cursor.word(b"procedure")?;

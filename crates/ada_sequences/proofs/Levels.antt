@@ -5,6 +5,7 @@ use denote.Ref.{MutBor}
 use Rattle.ada_tree.specs.declared.statements.Sequence.{Sequence}
 use Rattle.ada_tree.specs.declared.statements.SequenceRole.{SequenceRole}
 use Rattle.ada_tree.specs.Written.{Lexeme}
+use Rattle.ann_base.specs.declared.faults.OrMemory.{OrMemory}
 use Rattle.ada_grammar.specs.declared.stuck.Stuck.{Stuck}
 use Rattle.ada_grammar.specs.declared.stuck.Stuck.TheVariants as stuck
 use Rattle.ada_grammar.specs.Reading.{below}
@@ -59,7 +60,7 @@ less_below (suc left) m p = omega arith
 
 -- what reads inside more levels reads inside fewer
 pub reads_further_in : {pre : Global → MutBor (List Lexeme) → ℕ → SequenceRole → Type 0}
-    {post : Global → MutBor (List Lexeme) → ℕ → SequenceRole → Result Sequence Stuck → MutBor (List Lexeme) → Type 0}
+    {post : Global → MutBor (List Lexeme) → ℕ → SequenceRole → Result Sequence (OrMemory Stuck) → MutBor (List Lexeme) → Type 0}
     (left fewer : ℕ) → ((m : ℕ) → m < fewer → m < left) → ReadsInside left pre post → ReadsInside fewer pre post
 reads_further_in left fewer less whole = record {
   callable = λ alloc old m role p. whole.callable alloc old m role (less m p);

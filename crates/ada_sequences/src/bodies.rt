@@ -2,25 +2,24 @@
 ghost use Rattle.std.specs.Prelude.{◌≡◌, map};
 ghost use Rattle.std.specs.Char.{to_ascii_lowercase};
 ghost use Rattle.ada_grammar.specs.Reading.{below, items_of};
-ghost use Rattle.ada_expressions.specs.Steps.{Reads};
+ghost use Rattle.ada_grammar.specs.Reads.{Reads};
 ghost use Rattle.ada_grammar.specs.ReadingDeclarations.{begins_operation};
 ghost use Rattle.ada_sequences.specs.Inside.{ReadsInside};
 ghost use Rattle.ada_grammar.specs.ReadingBodies.{any_protected_of, any_task_of, begins_declaration, begins_unit, body_of, declaration_of, entry_operation_of, operation_body_of, protected_body_of, subprogram_body_of, subprogram_of, subprogram_operation_of, task_body_of};
 ghost use Rattle.ada_grammar.specs.ReadingSequences.{inside_of};
 
-use crate::sequences::Sequences;
+use crate::sequences::SequenceReader;
 use crate::statements::end_name;
 use ada_clauses::{
     begins_operation, begins_specification, entry_head, named_declaration, protected_declaration,
     specification, subtype_declaration, task_declaration, type_declaration, use_clause,
 };
-use ada_expressions::Cursor;
-use ada_grammar::Stuck;
+use ada_grammar::{Cursor, Stuck};
 use ada_tree::{
     Body, Declaration, Identifier, OperationBody, ProtectedBody, Sequence, SequenceRole,
     SubprogramSpecification,
 };
-use ann_base::Place;
+use ann_base::{OrMemory, Place};
 use sqlite_items::Items;
 use std::alloc::Global;
 
@@ -56,11 +55,15 @@ pub fn begins_declaration(cursor: &Cursor<'_>) -> bool
 }
 
 impl<
-    F: Fn(Global, &mut Cursor<'_>, usize, SequenceRole) -> Result<Sequence, Stuck> + Copy,
-> Sequences<F> {
+    F: Fn(Global, &mut Cursor<'_>, usize, SequenceRole) -> Result<Sequence, OrMemory<Stuck>> + Copy,
+> SequenceReader<F> {
     /// `is BODY end [NAME];` (3.11)
     #[tactic(auto, unfolding(ada_grammar::specs::ReadingBodies::body_of))]
-    pub fn body(&self, cursor: &mut Cursor<'_>, name: &Identifier) -> Result<Body<Sequence>, Stuck>
+    pub fn body(
+        &self,
+        cursor: &mut Cursor<'_>,
+        name: &Identifier,
+    ) -> Result<Body<Sequence>, OrMemory<Stuck>>
         requires reads { ReadsInside self.now.left (F.pre self.now.read) (F.post self.now.read) }
         requires lower { map to_ascii_lowercase name.now.text ≡ name.now.text }
         ensures { Reads result cursor.new (body_of self.now.left (inside_of self.now.left) name.now.text cursor.old) }
@@ -69,7 +72,7 @@ impl<
         let sequence = self.inner(cursor, SequenceRole::Body)?;
         cursor.word(b"end")?;
         let named_at_end = end_name(cursor, name)?;
-        cursor.mark(b";")?;
+        cursor.delimiter(b";")?;
         Ok(Body {
             sequence,
             named_at_end,
@@ -81,7 +84,7 @@ impl<
     fn subprogram_operation(
         &self,
         cursor: &mut Cursor<'_>,
-    ) -> Result<OperationBody<Sequence>, Stuck>
+    ) -> Result<OperationBody<Sequence>, OrMemory<Stuck>>
         requires reads { ReadsInside self.now.left (F.pre self.now.read) (F.post self.now.read) }
         ensures { Reads result cursor.new (subprogram_operation_of self.now.left (inside_of self.now.left) cursor.old) }
     {
@@ -95,7 +98,10 @@ impl<
 
     /// An entry body (9.5.2).
     #[tactic(auto, unfolding(ada_grammar::specs::ReadingBodies::entry_operation_of))]
-    fn entry_operation(&self, cursor: &mut Cursor<'_>) -> Result<OperationBody<Sequence>, Stuck>
+    fn entry_operation(
+        &self,
+        cursor: &mut Cursor<'_>,
+    ) -> Result<OperationBody<Sequence>, OrMemory<Stuck>>
         requires reads { ReadsInside self.now.left (F.pre self.now.read) (F.post self.now.read) }
         ensures { Reads result cursor.new (entry_operation_of self.now.left (inside_of self.now.left) cursor.old) }
     {
@@ -106,7 +112,10 @@ impl<
 
     /// A body in a protected body (9.4).
     #[tactic(auto, unfolding(ada_grammar::specs::ReadingBodies::operation_body_of))]
-    fn operation_body(&self, cursor: &mut Cursor<'_>) -> Result<OperationBody<Sequence>, Stuck>
+    fn operation_body(
+        &self,
+        cursor: &mut Cursor<'_>,
+    ) -> Result<OperationBody<Sequence>, OrMemory<Stuck>>
         requires reads { ReadsInside self.now.left (F.pre self.now.read) (F.post self.now.read) }
         ensures { Reads result cursor.new (operation_body_of self.now.left (inside_of self.now.left) cursor.old) }
     {
@@ -123,7 +132,7 @@ impl<
         &self,
         cursor: &mut Cursor<'_>,
         specification: SubprogramSpecification,
-    ) -> Result<Declaration<Sequence>, Stuck>
+    ) -> Result<Declaration<Sequence>, OrMemory<Stuck>>
         requires reads { ReadsInside self.now.left (F.pre self.now.read) (F.post self.now.read) }
         requires lower { map to_ascii_lowercase specification.name.text ≡ specification.name.text }
         ensures { Reads result cursor.new (subprogram_body_of self.now.left (inside_of self.now.left) specification cursor.old) }
@@ -137,13 +146,13 @@ impl<
 
     /// A subprogram declaration or a subprogram body (6.1, 6.3).
     #[tactic(auto, unfolding(ada_grammar::specs::ReadingBodies::subprogram_of))]
-    fn subprogram(&self, cursor: &mut Cursor<'_>) -> Result<Declaration<Sequence>, Stuck>
+    fn subprogram(&self, cursor: &mut Cursor<'_>) -> Result<Declaration<Sequence>, OrMemory<Stuck>>
         requires reads { ReadsInside self.now.left (F.pre self.now.read) (F.post self.now.read) }
         ensures { Reads result cursor.new (subprogram_of self.now.left (inside_of self.now.left) cursor.old) }
     {
         let specification = specification(self.alloc, cursor, self.left)?;
-        if cursor.is_mark(b";") {
-            cursor.mark(b";")?;
+        if cursor.is_delimiter(b";") {
+            cursor.delimiter(b";")?;
             Ok(Declaration::Subprogram(specification))
         } else {
             self.subprogram_body(cursor, specification)
@@ -156,7 +165,7 @@ impl<
         &self,
         cursor: &mut Cursor<'_>,
         place: Place,
-    ) -> Result<Declaration<Sequence>, Stuck>
+    ) -> Result<Declaration<Sequence>, OrMemory<Stuck>>
         requires reads { ReadsInside self.now.left (F.pre self.now.read) (F.post self.now.read) }
         ensures { Reads result cursor.new (task_body_of self.now.left (inside_of self.now.left) place cursor.old) }
     {
@@ -168,7 +177,7 @@ impl<
 
     /// A task declaration or a task body (9.1).
     #[tactic(auto, unfolding(ada_grammar::specs::ReadingBodies::any_task_of))]
-    fn any_task(&self, cursor: &mut Cursor<'_>) -> Result<Declaration<Sequence>, Stuck>
+    fn any_task(&self, cursor: &mut Cursor<'_>) -> Result<Declaration<Sequence>, OrMemory<Stuck>>
         requires reads { ReadsInside self.now.left (F.pre self.now.read) (F.post self.now.read) }
         ensures { Reads result cursor.new (any_task_of self.now.left (inside_of self.now.left) cursor.old) }
     {
@@ -184,11 +193,11 @@ impl<
     fn inner_operation_body(
         &self,
         cursor: &mut Cursor<'_>,
-    ) -> Result<OperationBody<Sequence>, Stuck>
+    ) -> Result<OperationBody<Sequence>, OrMemory<Stuck>>
         requires reads { ReadsInside self.now.left (F.pre self.now.read) (F.post self.now.read) }
         ensures { Reads result cursor.new (operation_body_of (below self.now.left) (inside_of (below self.now.left)) cursor.old) }
     {
-        Sequences {
+        SequenceReader {
             alloc: self.alloc,
             left: below(self.left),
             read: self.read,
@@ -201,12 +210,12 @@ impl<
     fn operation_bodies(
         &self,
         cursor: &mut Cursor<'_>,
-    ) -> Result<Items<OperationBody<Sequence>>, Stuck>
+    ) -> Result<Items<OperationBody<Sequence>>, OrMemory<Stuck>>
         requires reads { ReadsInside self.now.left (F.pre self.now.read) (F.post self.now.read) }
         ensures { Reads result cursor.new (items_of begins_operation (operation_body_of (below self.now.left) (inside_of (below self.now.left))) cursor.old) }
     {
         let mut found = Items::new(self.alloc);
-        for _turn in 0..cursor.left() {
+        for _turn in 0..cursor.remaining() {
             if !begins_operation(cursor) {
                 return Ok(found);
             }
@@ -221,7 +230,7 @@ impl<
         &self,
         cursor: &mut Cursor<'_>,
         place: Place,
-    ) -> Result<Declaration<Sequence>, Stuck>
+    ) -> Result<Declaration<Sequence>, OrMemory<Stuck>>
         requires reads { ReadsInside self.now.left (F.pre self.now.read) (F.post self.now.read) }
         ensures { Reads result cursor.new (protected_body_of self.now.left (inside_of self.now.left) (inside_of (below self.now.left)) place cursor.old) }
     {
@@ -231,7 +240,7 @@ impl<
         let operations = self.operation_bodies(cursor)?;
         cursor.word(b"end")?;
         let named_at_end = end_name(cursor, &name)?;
-        cursor.mark(b";")?;
+        cursor.delimiter(b";")?;
         Ok(Declaration::ProtectedBody(ProtectedBody {
             place,
             name,
@@ -242,7 +251,10 @@ impl<
 
     /// A protected declaration or a protected body (9.4).
     #[tactic(auto, unfolding(ada_grammar::specs::ReadingBodies::any_protected_of))]
-    fn any_protected(&self, cursor: &mut Cursor<'_>) -> Result<Declaration<Sequence>, Stuck>
+    fn any_protected(
+        &self,
+        cursor: &mut Cursor<'_>,
+    ) -> Result<Declaration<Sequence>, OrMemory<Stuck>>
         requires reads { ReadsInside self.now.left (F.pre self.now.read) (F.post self.now.read) }
         ensures { Reads result cursor.new (any_protected_of self.now.left (inside_of self.now.left) (inside_of (below self.now.left)) cursor.old) }
     {
@@ -256,7 +268,10 @@ impl<
 
     /// A declaration (3.1).
     #[tactic(auto, unfolding(ada_grammar::specs::ReadingBodies::declaration_of))]
-    pub fn declaration(&self, cursor: &mut Cursor<'_>) -> Result<Declaration<Sequence>, Stuck>
+    pub fn declaration(
+        &self,
+        cursor: &mut Cursor<'_>,
+    ) -> Result<Declaration<Sequence>, OrMemory<Stuck>>
         requires reads { ReadsInside self.now.left (F.pre self.now.read) (F.post self.now.read) }
         ensures { Reads result cursor.new (declaration_of self.now.left (inside_of self.now.left) (inside_of (below self.now.left)) cursor.old) }
     {

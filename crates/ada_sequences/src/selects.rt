@@ -1,29 +1,30 @@
 //! Select statements (ISO/IEC 8652:2012, 9.7).
 ghost use Rattle.std.specs.Prelude.{◌≡◌, suc, codes};
 ghost use Rattle.ada_grammar.specs.Reading.{items_of, sees_word};
-ghost use Rattle.ada_expressions.specs.Steps.{Reads};
+ghost use Rattle.ada_grammar.specs.Reads.{Reads};
 ghost use Rattle.ada_sequences.specs.Inside.{ReadsInside};
 ghost use Rattle.ada_grammar.specs.ReadingStatements.{accept_alternative_of, accept_opened_of, alternative_of, asynchronous_of, behind_call_of, call_opened_of, call_select_of, conditional_of, delay_alternative_of, delay_opened_of, delay_select_of, guard_of, next_alternative_of, select_alternative_of, select_form_of, select_of, selective_of, terminate_of, timed_of};
 ghost use Rattle.ada_grammar.specs.ReadingSequences.{inside_of, sequence_of};
 
-use crate::statements::Statements;
+use crate::statements::StatementReader;
 use ada_clauses::{call, delay};
-use ada_expressions::{Cursor, expression};
-use ada_grammar::Stuck;
+use ada_expressions::expression;
+use ada_grammar::{Cursor, Stuck};
 use ada_tree::{
     Accept, Alternative, AsynchronousSelect, Call, ConditionalEntryCall, Delay, Guard, OneOrMore,
     SelectAlternative, SelectForm, SelectStatement, SelectiveAccept, Sequence, SequenceRole,
     Statement, TimedEntryCall, Trigger,
 };
+use ann_base::OrMemory;
 use sqlite_items::Items;
 use std::alloc::Global;
 
 impl<
-    F: Fn(Global, &mut Cursor<'_>, usize, SequenceRole) -> Result<Sequence, Stuck> + Copy,
-> Statements<F> {
+    F: Fn(Global, &mut Cursor<'_>, usize, SequenceRole) -> Result<Sequence, OrMemory<Stuck>> + Copy,
+> StatementReader<F> {
     /// An entry call in a select statement, which takes a level.
     #[tactic(auto, unfolding(ada_grammar::specs::ReadingStatements::call_opened_of))]
-    fn opened_call(&self, cursor: &mut Cursor<'_>) -> Result<Call, Stuck>
+    fn opened_call(&self, cursor: &mut Cursor<'_>) -> Result<Call, OrMemory<Stuck>>
         ensures { Reads result cursor.new (call_opened_of self.now.left cursor.old) }
     {
         match self.left {
@@ -40,7 +41,7 @@ impl<
 
     /// A delay statement in a select statement, which takes a level.
     #[tactic(auto, unfolding(ada_grammar::specs::ReadingStatements::delay_opened_of))]
-    fn opened_delay(&self, cursor: &mut Cursor<'_>) -> Result<Delay, Stuck>
+    fn opened_delay(&self, cursor: &mut Cursor<'_>) -> Result<Delay, OrMemory<Stuck>>
         ensures { Reads result cursor.new (delay_opened_of self.now.left cursor.old) }
     {
         match self.left {
@@ -56,7 +57,7 @@ impl<
     }
 
     /// An accept statement in a select statement, which takes a level.
-    fn opened_accept(&self, cursor: &mut Cursor<'_>) -> Result<Accept<Sequence>, Stuck>
+    fn opened_accept(&self, cursor: &mut Cursor<'_>) -> Result<Accept<Sequence>, OrMemory<Stuck>>
         requires reads { ReadsInside (suc self.now.left) (F.pre self.now.read) (F.post self.now.read) }
         ensures { Reads result cursor.new (accept_opened_of self.now.left (inside_of self.now.left) cursor.old) }
     {
@@ -68,7 +69,7 @@ impl<
                     Err(cursor.stuck())
                 }
             }
-            left => Statements {
+            left => StatementReader {
                 alloc: self.alloc,
                 left: left - 1,
                 read: self.read,
@@ -79,7 +80,10 @@ impl<
 
     /// An accept alternative (9.7.1).
     #[tactic(auto, unfolding(ada_grammar::specs::ReadingStatements::accept_alternative_of))]
-    fn accept_alternative(&self, cursor: &mut Cursor<'_>) -> Result<Alternative<Sequence>, Stuck>
+    fn accept_alternative(
+        &self,
+        cursor: &mut Cursor<'_>,
+    ) -> Result<Alternative<Sequence>, OrMemory<Stuck>>
         requires reads { ReadsInside (suc self.now.left) (F.pre self.now.read) (F.post self.now.read) }
         ensures { Reads result cursor.new (accept_alternative_of self.now.left (sequence_of self.now.left) (inside_of self.now.left) cursor.old) }
     {
@@ -90,7 +94,10 @@ impl<
 
     /// A delay alternative (9.7.1).
     #[tactic(auto, unfolding(ada_grammar::specs::ReadingStatements::delay_alternative_of))]
-    fn delay_alternative(&self, cursor: &mut Cursor<'_>) -> Result<Alternative<Sequence>, Stuck>
+    fn delay_alternative(
+        &self,
+        cursor: &mut Cursor<'_>,
+    ) -> Result<Alternative<Sequence>, OrMemory<Stuck>>
         requires reads { ReadsInside (suc self.now.left) (F.pre self.now.read) (F.post self.now.read) }
         ensures { Reads result cursor.new (delay_alternative_of self.now.left (sequence_of self.now.left) (inside_of self.now.left) cursor.old) }
     {
@@ -101,17 +108,20 @@ impl<
 
     /// `terminate;` (9.7.1)
     #[tactic(auto, unfolding(ada_grammar::specs::ReadingStatements::terminate_of))]
-    fn terminate_alternative(&self, cursor: &mut Cursor<'_>) -> Result<Alternative<Sequence>, Stuck>
+    fn terminate_alternative(
+        &self,
+        cursor: &mut Cursor<'_>,
+    ) -> Result<Alternative<Sequence>, OrMemory<Stuck>>
         ensures { Reads result cursor.new (terminate_of self.now.left (sequence_of self.now.left) (inside_of self.now.left) cursor.old) }
     {
         let place = cursor.word(b"terminate")?;
-        cursor.mark(b";")?;
+        cursor.delimiter(b";")?;
         Ok(Alternative::Terminate { place })
     }
 
     /// What an alternative waits for (9.7.1).
     #[tactic(auto, unfolding(ada_grammar::specs::ReadingStatements::alternative_of))]
-    fn alternative(&self, cursor: &mut Cursor<'_>) -> Result<Alternative<Sequence>, Stuck>
+    fn alternative(&self, cursor: &mut Cursor<'_>) -> Result<Alternative<Sequence>, OrMemory<Stuck>>
         requires reads { ReadsInside (suc self.now.left) (F.pre self.now.read) (F.post self.now.read) }
         ensures { Reads result cursor.new (alternative_of self.now.left (sequence_of self.now.left) (inside_of self.now.left) cursor.old) }
     {
@@ -126,13 +136,13 @@ impl<
 
     /// `[when EXPRESSION =>]` (9.7.1)
     #[tactic(auto, unfolding(ada_grammar::specs::ReadingStatements::guard_of))]
-    fn guard(&self, cursor: &mut Cursor<'_>) -> Result<Option<Guard>, Stuck>
+    fn guard(&self, cursor: &mut Cursor<'_>) -> Result<Option<Guard>, OrMemory<Stuck>>
         ensures { Reads result cursor.new (guard_of self.now.left (sequence_of self.now.left) (inside_of self.now.left) cursor.old) }
     {
         if cursor.is_word(b"when") {
             let place = cursor.word(b"when")?;
             let condition = expression(self.alloc, cursor, self.left)?;
-            cursor.mark(b"=>")?;
+            cursor.delimiter(b"=>")?;
             Ok(Some(Guard { place, condition }))
         } else {
             Ok(None)
@@ -144,7 +154,7 @@ impl<
     fn select_alternative(
         &self,
         cursor: &mut Cursor<'_>,
-    ) -> Result<SelectAlternative<Sequence>, Stuck>
+    ) -> Result<SelectAlternative<Sequence>, OrMemory<Stuck>>
         requires reads { ReadsInside (suc self.now.left) (F.pre self.now.read) (F.post self.now.read) }
         ensures { Reads result cursor.new (select_alternative_of self.now.left (sequence_of self.now.left) (inside_of self.now.left) cursor.old) }
     {
@@ -158,7 +168,7 @@ impl<
     fn next_alternative(
         &self,
         cursor: &mut Cursor<'_>,
-    ) -> Result<SelectAlternative<Sequence>, Stuck>
+    ) -> Result<SelectAlternative<Sequence>, OrMemory<Stuck>>
         requires reads { ReadsInside (suc self.now.left) (F.pre self.now.read) (F.post self.now.read) }
         ensures { Reads result cursor.new (next_alternative_of self.now.left (sequence_of self.now.left) (inside_of self.now.left) cursor.old) }
     {
@@ -171,12 +181,12 @@ impl<
     fn next_alternatives(
         &self,
         cursor: &mut Cursor<'_>,
-    ) -> Result<Items<SelectAlternative<Sequence>>, Stuck>
+    ) -> Result<Items<SelectAlternative<Sequence>>, OrMemory<Stuck>>
         requires reads { ReadsInside (suc self.now.left) (F.pre self.now.read) (F.post self.now.read) }
         ensures { Reads result cursor.new (items_of (sees_word (codes "or")) (next_alternative_of self.now.left (sequence_of self.now.left) (inside_of self.now.left)) cursor.old) }
     {
         let mut found = Items::new(self.alloc);
-        for _turn in 0..cursor.left() {
+        for _turn in 0..cursor.remaining() {
             if !cursor.is_word(b"or") {
                 return Ok(found);
             }
@@ -191,7 +201,7 @@ impl<
         &self,
         cursor: &mut Cursor<'_>,
         first: SelectAlternative<Sequence>,
-    ) -> Result<SelectForm<Sequence>, Stuck>
+    ) -> Result<SelectForm<Sequence>, OrMemory<Stuck>>
         requires reads { ReadsInside (suc self.now.left) (F.pre self.now.read) (F.post self.now.read) }
         ensures { Reads result cursor.new (selective_of self.now.left (sequence_of self.now.left) (inside_of self.now.left) first cursor.old) }
     {
@@ -210,7 +220,7 @@ impl<
         cursor: &mut Cursor<'_>,
         trigger: Trigger,
         statements: Option<Sequence>,
-    ) -> Result<SelectForm<Sequence>, Stuck>
+    ) -> Result<SelectForm<Sequence>, OrMemory<Stuck>>
         requires reads { ReadsInside (suc self.now.left) (F.pre self.now.read) (F.post self.now.read) }
         ensures { Reads result cursor.new (asynchronous_of self.now.left (sequence_of self.now.left) (inside_of self.now.left) trigger statements cursor.old) }
     {
@@ -231,7 +241,7 @@ impl<
         cursor: &mut Cursor<'_>,
         call: Call,
         statements: Option<Sequence>,
-    ) -> Result<SelectForm<Sequence>, Stuck>
+    ) -> Result<SelectForm<Sequence>, OrMemory<Stuck>>
         requires reads { ReadsInside (suc self.now.left) (F.pre self.now.read) (F.post self.now.read) }
         ensures { Reads result cursor.new (timed_of self.now.left (sequence_of self.now.left) (inside_of self.now.left) call statements cursor.old) }
     {
@@ -253,7 +263,7 @@ impl<
         cursor: &mut Cursor<'_>,
         call: Call,
         statements: Option<Sequence>,
-    ) -> Result<SelectForm<Sequence>, Stuck>
+    ) -> Result<SelectForm<Sequence>, OrMemory<Stuck>>
         requires reads { ReadsInside (suc self.now.left) (F.pre self.now.read) (F.post self.now.read) }
         ensures { Reads result cursor.new (conditional_of self.now.left (sequence_of self.now.left) (inside_of self.now.left) call statements cursor.old) }
     {
@@ -273,7 +283,7 @@ impl<
         cursor: &mut Cursor<'_>,
         call: Call,
         statements: Option<Sequence>,
-    ) -> Result<SelectForm<Sequence>, Stuck>
+    ) -> Result<SelectForm<Sequence>, OrMemory<Stuck>>
         requires reads { ReadsInside (suc self.now.left) (F.pre self.now.read) (F.post self.now.read) }
         ensures { Reads result cursor.new (behind_call_of self.now.left (sequence_of self.now.left) (inside_of self.now.left) call statements cursor.old) }
     {
@@ -288,7 +298,7 @@ impl<
 
     /// A select statement that begins with a call.
     #[tactic(auto, unfolding(ada_grammar::specs::ReadingStatements::call_select_of))]
-    fn call_select(&self, cursor: &mut Cursor<'_>) -> Result<SelectForm<Sequence>, Stuck>
+    fn call_select(&self, cursor: &mut Cursor<'_>) -> Result<SelectForm<Sequence>, OrMemory<Stuck>>
         requires reads { ReadsInside (suc self.now.left) (F.pre self.now.read) (F.post self.now.read) }
         ensures { Reads result cursor.new (call_select_of self.now.left (sequence_of self.now.left) (inside_of self.now.left) cursor.old) }
     {
@@ -299,7 +309,7 @@ impl<
 
     /// A select statement that begins with a delay.
     #[tactic(auto, unfolding(ada_grammar::specs::ReadingStatements::delay_select_of))]
-    fn delay_select(&self, cursor: &mut Cursor<'_>) -> Result<SelectForm<Sequence>, Stuck>
+    fn delay_select(&self, cursor: &mut Cursor<'_>) -> Result<SelectForm<Sequence>, OrMemory<Stuck>>
         requires reads { ReadsInside (suc self.now.left) (F.pre self.now.read) (F.post self.now.read) }
         ensures { Reads result cursor.new (delay_select_of self.now.left (sequence_of self.now.left) (inside_of self.now.left) cursor.old) }
     {
@@ -318,7 +328,7 @@ impl<
 
     /// What stands between `select` and its `end`.
     #[tactic(auto, unfolding(ada_grammar::specs::ReadingStatements::select_form_of))]
-    fn select_form(&self, cursor: &mut Cursor<'_>) -> Result<SelectForm<Sequence>, Stuck>
+    fn select_form(&self, cursor: &mut Cursor<'_>) -> Result<SelectForm<Sequence>, OrMemory<Stuck>>
         requires reads { ReadsInside (suc self.now.left) (F.pre self.now.read) (F.post self.now.read) }
         ensures { Reads result cursor.new (select_form_of self.now.left (sequence_of self.now.left) (inside_of self.now.left) cursor.old) }
     {
@@ -334,7 +344,7 @@ impl<
 
     /// A select statement.
     #[tactic(auto, unfolding(ada_grammar::specs::ReadingStatements::select_of))]
-    pub fn select(&self, cursor: &mut Cursor<'_>) -> Result<Statement<Sequence>, Stuck>
+    pub fn select(&self, cursor: &mut Cursor<'_>) -> Result<Statement<Sequence>, OrMemory<Stuck>>
         requires reads { ReadsInside (suc self.now.left) (F.pre self.now.read) (F.post self.now.read) }
         ensures { Reads result cursor.new (select_of self.now.left (sequence_of self.now.left) (inside_of self.now.left) cursor.old) }
     {
@@ -342,7 +352,7 @@ impl<
         let form = self.select_form(cursor)?;
         cursor.word(b"end")?;
         cursor.word(b"select")?;
-        cursor.mark(b";")?;
+        cursor.delimiter(b";")?;
         Ok(Statement::Select(SelectStatement { place, form }))
     }
 }

@@ -1,26 +1,25 @@
 //! Sequences: statements, their handlers, and the declarations before them (ISO/IEC 8652:2012, 11.2, 3.11).
 ghost use Rattle.std.specs.Prelude.{◌≡◌, [], IfOk, codes};
 ghost use Rattle.ada_grammar.specs.Reading.{below, items_of, sees_word};
-ghost use Rattle.ada_expressions.specs.Steps.{Reads};
+ghost use Rattle.ada_grammar.specs.Reads.{Reads};
 ghost use Rattle.ada_sequences.specs.Inside.{ReadsInside};
 ghost use Rattle.ada_grammar.specs.ReadingBodies.{begins_declaration};
 ghost use Rattle.ada_grammar.specs.ReadingStatements.{begins_statement};
 ghost use Rattle.ada_grammar.specs.ReadingSequences.{declarations_of, given_handlers_of, handled_behind_of, handler_of, handlers_of, inside_of, made, parts_of, plain_of, statement_of, statements_of, whole_body_of};
 
 use crate::bodies::begins_declaration;
-use crate::statements::{Statements, begins_statement};
+use crate::statements::{StatementReader, begins_statement};
 use ada_clauses::handled_exceptions;
-use ada_expressions::Cursor;
-use ada_grammar::Stuck;
+use ada_grammar::{Cursor, Stuck};
 use ada_tree::{Declaration, Handler, OneOrMore, Sequence, SequenceParts, SequenceRole, Statement};
-use ann_base::NoMemory;
+use ann_base::{NoMemory, OrMemory};
 use sqlite_items::{Boxed, Items};
 use std::alloc::Global;
 
 /// How sequences are read where `left` levels may still be opened. The productions take the reader of the sequences
 /// further in as a parameter, so that each is proved by itself.
 #[derive(Clone, Copy)]
-pub struct Sequences<F> {
+pub struct SequenceReader<F> {
     /// Where memory comes from.
     pub alloc: Global,
     /// How many levels may still be opened.
@@ -61,10 +60,14 @@ fn made_plain(
 }
 
 impl<
-    F: Fn(Global, &mut Cursor<'_>, usize, SequenceRole) -> Result<Sequence, Stuck> + Copy,
-> Sequences<F> {
+    F: Fn(Global, &mut Cursor<'_>, usize, SequenceRole) -> Result<Sequence, OrMemory<Stuck>> + Copy,
+> SequenceReader<F> {
     /// A sequence one level further in.
-    pub fn inner(&self, cursor: &mut Cursor<'_>, role: SequenceRole) -> Result<Sequence, Stuck>
+    pub fn inner(
+        &self,
+        cursor: &mut Cursor<'_>,
+        role: SequenceRole,
+    ) -> Result<Sequence, OrMemory<Stuck>>
         requires reads { ReadsInside self.now.left (F.pre self.now.read) (F.post self.now.read) }
         ensures { Reads result cursor.new (inside_of self.now.left role cursor.old) }
     {
@@ -76,7 +79,7 @@ impl<
 
     /// A statement, which takes a level (5.1).
     #[tactic(auto, unfolding(ada_grammar::specs::ReadingSequences::statement_of))]
-    fn statement(&self, cursor: &mut Cursor<'_>) -> Result<Statement<Sequence>, Stuck>
+    fn statement(&self, cursor: &mut Cursor<'_>) -> Result<Statement<Sequence>, OrMemory<Stuck>>
         requires reads { ReadsInside self.now.left (F.pre self.now.read) (F.post self.now.read) }
         ensures { Reads result cursor.new (statement_of self.now.left (inside_of self.now.left) (inside_of (below self.now.left)) cursor.old) }
     {
@@ -88,7 +91,7 @@ impl<
                     Err(cursor.stuck())
                 }
             }
-            left => Statements {
+            left => StatementReader {
                 alloc: self.alloc,
                 left: left - 1,
                 read: self.read,
@@ -99,12 +102,15 @@ impl<
 
     /// The statements behind the first one (5.1).
     #[tactic(auto, unfolding(ada_grammar::specs::Reading::items_of))]
-    fn next_statements(&self, cursor: &mut Cursor<'_>) -> Result<Items<Statement<Sequence>>, Stuck>
+    fn next_statements(
+        &self,
+        cursor: &mut Cursor<'_>,
+    ) -> Result<Items<Statement<Sequence>>, OrMemory<Stuck>>
         requires reads { ReadsInside self.now.left (F.pre self.now.read) (F.post self.now.read) }
         ensures { Reads result cursor.new (items_of begins_statement (statement_of self.now.left (inside_of self.now.left) (inside_of (below self.now.left))) cursor.old) }
     {
         let mut found = Items::new(self.alloc);
-        for _turn in 0..cursor.left() {
+        for _turn in 0..cursor.remaining() {
             if !begins_statement(cursor) {
                 return Ok(found);
             }
@@ -115,7 +121,10 @@ impl<
 
     /// `STATEMENT {STATEMENT}` (5.1)
     #[tactic(auto, unfolding(ada_grammar::specs::ReadingSequences::statements_of))]
-    fn statements(&self, cursor: &mut Cursor<'_>) -> Result<OneOrMore<Statement<Sequence>>, Stuck>
+    fn statements(
+        &self,
+        cursor: &mut Cursor<'_>,
+    ) -> Result<OneOrMore<Statement<Sequence>>, OrMemory<Stuck>>
         requires reads { ReadsInside self.now.left (F.pre self.now.read) (F.post self.now.read) }
         ensures { Reads result cursor.new (statements_of self.now.left (inside_of self.now.left) (inside_of (below self.now.left)) cursor.old) }
     {
@@ -126,7 +135,7 @@ impl<
 
     /// Statements alone (5.1).
     #[tactic(auto, unfolding(ada_grammar::specs::ReadingSequences::plain_of))]
-    fn plain(&self, cursor: &mut Cursor<'_>) -> Result<Sequence, Stuck>
+    fn plain(&self, cursor: &mut Cursor<'_>) -> Result<Sequence, OrMemory<Stuck>>
         requires reads { ReadsInside self.now.left (F.pre self.now.read) (F.post self.now.read) }
         ensures { Reads result cursor.new (plain_of self.now.left (inside_of self.now.left) (inside_of (below self.now.left)) cursor.old) }
     {
@@ -136,13 +145,13 @@ impl<
 
     /// A handler (11.2).
     #[tactic(auto, unfolding(ada_grammar::specs::ReadingSequences::handler_of))]
-    fn handler(&self, cursor: &mut Cursor<'_>) -> Result<Handler<Sequence>, Stuck>
+    fn handler(&self, cursor: &mut Cursor<'_>) -> Result<Handler<Sequence>, OrMemory<Stuck>>
         requires reads { ReadsInside self.now.left (F.pre self.now.read) (F.post self.now.read) }
         ensures { Reads result cursor.new (handler_of self.now.left (inside_of self.now.left) (inside_of (below self.now.left)) cursor.old) }
     {
         let place = cursor.word(b"when")?;
         let exceptions = handled_exceptions(self.alloc, cursor)?;
-        cursor.mark(b"=>")?;
+        cursor.delimiter(b"=>")?;
         let statements = self.statements(cursor)?;
         Ok(Handler {
             place,
@@ -153,12 +162,15 @@ impl<
 
     /// The handlers behind the first one (11.2).
     #[tactic(auto, unfolding(ada_grammar::specs::Reading::items_of))]
-    fn next_handlers(&self, cursor: &mut Cursor<'_>) -> Result<Items<Handler<Sequence>>, Stuck>
+    fn next_handlers(
+        &self,
+        cursor: &mut Cursor<'_>,
+    ) -> Result<Items<Handler<Sequence>>, OrMemory<Stuck>>
         requires reads { ReadsInside self.now.left (F.pre self.now.read) (F.post self.now.read) }
         ensures { Reads result cursor.new (items_of (sees_word (codes "when")) (handler_of self.now.left (inside_of self.now.left) (inside_of (below self.now.left))) cursor.old) }
     {
         let mut found = Items::new(self.alloc);
-        for _turn in 0..cursor.left() {
+        for _turn in 0..cursor.remaining() {
             if !cursor.is_word(b"when") {
                 return Ok(found);
             }
@@ -169,7 +181,10 @@ impl<
 
     /// `exception HANDLER {HANDLER}` (11.2)
     #[tactic(auto, unfolding(ada_grammar::specs::ReadingSequences::given_handlers_of))]
-    fn given_handlers(&self, cursor: &mut Cursor<'_>) -> Result<Items<Handler<Sequence>>, Stuck>
+    fn given_handlers(
+        &self,
+        cursor: &mut Cursor<'_>,
+    ) -> Result<Items<Handler<Sequence>>, OrMemory<Stuck>>
         requires reads { ReadsInside self.now.left (F.pre self.now.read) (F.post self.now.read) }
         ensures { Reads result cursor.new (given_handlers_of self.now.left (inside_of self.now.left) (inside_of (below self.now.left)) cursor.old) }
     {
@@ -184,7 +199,7 @@ impl<
 
     /// `[exception HANDLER {HANDLER}]` (11.2)
     #[tactic(auto, unfolding(ada_grammar::specs::ReadingSequences::handlers_of))]
-    fn handlers(&self, cursor: &mut Cursor<'_>) -> Result<Items<Handler<Sequence>>, Stuck>
+    fn handlers(&self, cursor: &mut Cursor<'_>) -> Result<Items<Handler<Sequence>>, OrMemory<Stuck>>
         requires reads { ReadsInside self.now.left (F.pre self.now.read) (F.post self.now.read) }
         ensures { Reads result cursor.new (handlers_of self.now.left (inside_of self.now.left) (inside_of (below self.now.left)) cursor.old) }
     {
@@ -200,12 +215,12 @@ impl<
     pub fn declarations(
         &self,
         cursor: &mut Cursor<'_>,
-    ) -> Result<Items<Declaration<Sequence>>, Stuck>
+    ) -> Result<Items<Declaration<Sequence>>, OrMemory<Stuck>>
         requires reads { ReadsInside self.now.left (F.pre self.now.read) (F.post self.now.read) }
         ensures { Reads result cursor.new (declarations_of self.now.left (inside_of self.now.left) (inside_of (below self.now.left)) cursor.old) }
     {
         let mut found = Items::new(self.alloc);
-        for _turn in 0..cursor.left() {
+        for _turn in 0..cursor.remaining() {
             if !begins_declaration(cursor) {
                 return Ok(found);
             }
@@ -220,7 +235,7 @@ impl<
         &self,
         cursor: &mut Cursor<'_>,
         declarations: Items<Declaration<Sequence>>,
-    ) -> Result<Sequence, Stuck>
+    ) -> Result<Sequence, OrMemory<Stuck>>
         requires reads { ReadsInside self.now.left (F.pre self.now.read) (F.post self.now.read) }
         ensures { Reads result cursor.new (handled_behind_of self.now.left (inside_of self.now.left) (inside_of (below self.now.left)) declarations cursor.old) }
     {
@@ -231,7 +246,7 @@ impl<
 
     /// Declarations, statements and handlers (3.11).
     #[tactic(auto, unfolding(ada_grammar::specs::ReadingSequences::whole_body_of))]
-    fn whole_body(&self, cursor: &mut Cursor<'_>) -> Result<Sequence, Stuck>
+    fn whole_body(&self, cursor: &mut Cursor<'_>) -> Result<Sequence, OrMemory<Stuck>>
         requires reads { ReadsInside self.now.left (F.pre self.now.read) (F.post self.now.read) }
         ensures { Reads result cursor.new (whole_body_of self.now.left (inside_of self.now.left) (inside_of (below self.now.left)) cursor.old) }
     {
@@ -241,7 +256,11 @@ impl<
     }
 
     /// What may stand in a sequence of this role.
-    pub fn parts(&self, cursor: &mut Cursor<'_>, role: SequenceRole) -> Result<Sequence, Stuck>
+    pub fn parts(
+        &self,
+        cursor: &mut Cursor<'_>,
+        role: SequenceRole,
+    ) -> Result<Sequence, OrMemory<Stuck>>
         requires reads { ReadsInside self.now.left (F.pre self.now.read) (F.post self.now.read) }
         ensures { Reads result cursor.new (parts_of self.now.left (inside_of self.now.left) (inside_of (below self.now.left)) role cursor.old) }
     {

@@ -2,8 +2,8 @@
 //! sequences in them as a parameter, so that each is proved by itself.
 ghost use Rattle.std.specs.Prelude.{◌≡◌, suc, IfSome, None, Some, codes, map};
 ghost use Rattle.std.specs.Char.{to_ascii_lowercase};
-ghost use Rattle.ada_grammar.specs.Reading.{behind_mark_of, end_name_of, items_of, sees_mark, sees_word, separated_of};
-ghost use Rattle.ada_expressions.specs.Steps.{Reads};
+ghost use Rattle.ada_grammar.specs.Reading.{behind_delimiter_of, end_name_of, items_of, sees_delimiter, sees_word, separated_of};
+ghost use Rattle.ada_grammar.specs.Reads.{Reads};
 ghost use Rattle.ada_grammar.specs.ReadingSimple.{choice_of};
 ghost use Rattle.ada_sequences.specs.Inside.{ReadsInside};
 ghost use Rattle.ada_grammar.specs.ReadingStatements.{accept_body_of, accept_of, begin_of, begins_block, begins_compound, begins_loop, begins_simple, begins_statement, block_end_of, block_of, case_alternative_of, case_alternatives_of, case_of, compound_of, declare_of, else_of, elsif_of, if_of, labelled_of, loop_of, named_statement_of, optional_statements_of, sees_label, simple_statement_of, statement_inside_of};
@@ -13,13 +13,13 @@ use ada_clauses::{
     abort_statement, choice, delay, exit_statement, iteration, label_end, null_statement,
     parameters, raise_statement, requeue_statement, return_statement, simple_statement,
 };
-use ada_expressions::{Cursor, expression};
-use ada_grammar::Stuck;
+use ada_expressions::expression;
+use ada_grammar::{Cursor, Stuck};
 use ada_tree::{
     Accept, AcceptBody, Block, Case, CaseAlternative, Choice, Elsif, Identifier, If, Loop,
     OneOrMore, Sequence, SequenceRole, Statement,
 };
-use ann_base::Place;
+use ann_base::{OrMemory, Place};
 use sqlite_items::Items;
 use std::alloc::Global;
 
@@ -73,7 +73,7 @@ pub fn begins_statement(cursor: &Cursor<'_>) -> bool
 
 /// The construct's own name behind its `end`, or none: whether it stands there.
 #[tactic(auto, unfolding(ada_grammar::specs::Reading::end_name_of))]
-pub fn end_name(cursor: &mut Cursor<'_>, name: &Identifier) -> Result<bool, Stuck>
+pub fn end_name(cursor: &mut Cursor<'_>, name: &Identifier) -> Result<bool, OrMemory<Stuck>>
     requires lower { map to_ascii_lowercase name.now.text ≡ name.now.text }
     ensures { Reads result cursor.new (end_name_of name.now.text cursor.old) }
 {
@@ -82,7 +82,7 @@ pub fn end_name(cursor: &mut Cursor<'_>, name: &Identifier) -> Result<bool, Stuc
 
 /// How statements are read where `left` levels may still be opened inside them.
 #[derive(Clone, Copy)]
-pub struct Statements<F> {
+pub struct StatementReader<F> {
     /// Where memory comes from.
     pub alloc: Global,
     /// How many levels may still be opened inside.
@@ -92,10 +92,14 @@ pub struct Statements<F> {
 }
 
 impl<
-    F: Fn(Global, &mut Cursor<'_>, usize, SequenceRole) -> Result<Sequence, Stuck> + Copy,
-> Statements<F> {
+    F: Fn(Global, &mut Cursor<'_>, usize, SequenceRole) -> Result<Sequence, OrMemory<Stuck>> + Copy,
+> StatementReader<F> {
     /// The sequence inside a statement.
-    pub fn sequence(&self, cursor: &mut Cursor<'_>, role: SequenceRole) -> Result<Sequence, Stuck>
+    pub fn sequence(
+        &self,
+        cursor: &mut Cursor<'_>,
+        role: SequenceRole,
+    ) -> Result<Sequence, OrMemory<Stuck>>
         requires reads { ReadsInside (suc self.now.left) (F.pre self.now.read) (F.post self.now.read) }
         ensures { Reads result cursor.new (sequence_of self.now.left role cursor.old) }
     {
@@ -104,7 +108,7 @@ impl<
 
     /// `elsif EXPRESSION then STATEMENTS` (5.3)
     #[tactic(auto, unfolding(ada_grammar::specs::ReadingStatements::elsif_of))]
-    fn elsif(&self, cursor: &mut Cursor<'_>) -> Result<Elsif<Sequence>, Stuck>
+    fn elsif(&self, cursor: &mut Cursor<'_>) -> Result<Elsif<Sequence>, OrMemory<Stuck>>
         requires reads { ReadsInside (suc self.now.left) (F.pre self.now.read) (F.post self.now.read) }
         ensures { Reads result cursor.new (elsif_of self.now.left (sequence_of self.now.left) cursor.old) }
     {
@@ -121,12 +125,12 @@ impl<
 
     /// `{elsif EXPRESSION then STATEMENTS}` (5.3)
     #[tactic(auto, unfolding(ada_grammar::specs::Reading::items_of))]
-    fn elsifs(&self, cursor: &mut Cursor<'_>) -> Result<Items<Elsif<Sequence>>, Stuck>
+    fn elsifs(&self, cursor: &mut Cursor<'_>) -> Result<Items<Elsif<Sequence>>, OrMemory<Stuck>>
         requires reads { ReadsInside (suc self.now.left) (F.pre self.now.read) (F.post self.now.read) }
         ensures { Reads result cursor.new (items_of (sees_word (codes "elsif")) (elsif_of self.now.left (sequence_of self.now.left)) cursor.old) }
     {
         let mut found = Items::new(self.alloc);
-        for _turn in 0..cursor.left() {
+        for _turn in 0..cursor.remaining() {
             if !cursor.is_word(b"elsif") {
                 return Ok(found);
             }
@@ -137,7 +141,7 @@ impl<
 
     /// `[else STATEMENTS]` (5.3, 9.7.1)
     #[tactic(auto, unfolding(ada_grammar::specs::ReadingStatements::else_of))]
-    pub fn otherwise(&self, cursor: &mut Cursor<'_>) -> Result<Option<Sequence>, Stuck>
+    pub fn otherwise(&self, cursor: &mut Cursor<'_>) -> Result<Option<Sequence>, OrMemory<Stuck>>
         requires reads { ReadsInside (suc self.now.left) (F.pre self.now.read) (F.post self.now.read) }
         ensures { Reads result cursor.new (else_of self.now.left (sequence_of self.now.left) cursor.old) }
     {
@@ -152,7 +156,7 @@ impl<
 
     /// An if statement (5.3).
     #[tactic(auto, unfolding(ada_grammar::specs::ReadingStatements::if_of))]
-    fn if_statement(&self, cursor: &mut Cursor<'_>) -> Result<Statement<Sequence>, Stuck>
+    fn if_statement(&self, cursor: &mut Cursor<'_>) -> Result<Statement<Sequence>, OrMemory<Stuck>>
         requires reads { ReadsInside (suc self.now.left) (F.pre self.now.read) (F.post self.now.read) }
         ensures { Reads result cursor.new (if_of self.now.left (sequence_of self.now.left) cursor.old) }
     {
@@ -164,7 +168,7 @@ impl<
         let otherwise = self.otherwise(cursor)?;
         cursor.word(b"end")?;
         cursor.word(b"if")?;
-        cursor.mark(b";")?;
+        cursor.delimiter(b";")?;
         Ok(Statement::If(If {
             place,
             condition,
@@ -175,22 +179,22 @@ impl<
     }
 
     /// A choice behind a bar (3.8.1).
-    #[tactic(auto, unfolding(ada_grammar::specs::Reading::behind_mark_of))]
-    fn next_choice(&self, cursor: &mut Cursor<'_>) -> Result<Choice, Stuck>
-        ensures { Reads result cursor.new (behind_mark_of (codes "|") (choice_of self.now.left) cursor.old) }
+    #[tactic(auto, unfolding(ada_grammar::specs::Reading::behind_delimiter_of))]
+    fn next_choice(&self, cursor: &mut Cursor<'_>) -> Result<Choice, OrMemory<Stuck>>
+        ensures { Reads result cursor.new (behind_delimiter_of (codes "|") (choice_of self.now.left) cursor.old) }
     {
-        cursor.mark(b"|")?;
+        cursor.delimiter(b"|")?;
         choice(self.alloc, cursor, self.left)
     }
 
     /// The choices behind the first one (3.8.1).
     #[tactic(auto, unfolding(ada_grammar::specs::Reading::items_of))]
-    fn next_choices(&self, cursor: &mut Cursor<'_>) -> Result<Items<Choice>, Stuck>
-        ensures { Reads result cursor.new (items_of (sees_mark (codes "|")) (behind_mark_of (codes "|") (choice_of self.now.left)) cursor.old) }
+    fn next_choices(&self, cursor: &mut Cursor<'_>) -> Result<Items<Choice>, OrMemory<Stuck>>
+        ensures { Reads result cursor.new (items_of (sees_delimiter (codes "|")) (behind_delimiter_of (codes "|") (choice_of self.now.left)) cursor.old) }
     {
         let mut found = Items::new(self.alloc);
-        for _turn in 0..cursor.left() {
-            if !cursor.is_mark(b"|") {
+        for _turn in 0..cursor.remaining() {
+            if !cursor.is_delimiter(b"|") {
                 return Ok(found);
             }
             found.push(self.next_choice(cursor)?)?;
@@ -200,7 +204,7 @@ impl<
 
     /// `CHOICE {| CHOICE}` (3.8.1)
     #[tactic(auto, unfolding(ada_grammar::specs::Reading::separated_of))]
-    fn choices(&self, cursor: &mut Cursor<'_>) -> Result<OneOrMore<Choice>, Stuck>
+    fn choices(&self, cursor: &mut Cursor<'_>) -> Result<OneOrMore<Choice>, OrMemory<Stuck>>
         ensures { Reads result cursor.new (separated_of (codes "|") (choice_of self.now.left) cursor.old) }
     {
         let first = choice(self.alloc, cursor, self.left)?;
@@ -210,13 +214,16 @@ impl<
 
     /// `when CHOICE {| CHOICE} => STATEMENTS` (5.4)
     #[tactic(auto, unfolding(ada_grammar::specs::ReadingStatements::case_alternative_of))]
-    fn case_alternative(&self, cursor: &mut Cursor<'_>) -> Result<CaseAlternative<Sequence>, Stuck>
+    fn case_alternative(
+        &self,
+        cursor: &mut Cursor<'_>,
+    ) -> Result<CaseAlternative<Sequence>, OrMemory<Stuck>>
         requires reads { ReadsInside (suc self.now.left) (F.pre self.now.read) (F.post self.now.read) }
         ensures { Reads result cursor.new (case_alternative_of self.now.left (sequence_of self.now.left) cursor.old) }
     {
         let place = cursor.word(b"when")?;
         let choices = self.choices(cursor)?;
-        cursor.mark(b"=>")?;
+        cursor.delimiter(b"=>")?;
         let statements = self.sequence(cursor, SequenceRole::Statements)?;
         Ok(CaseAlternative {
             place,
@@ -230,12 +237,12 @@ impl<
     fn next_case_alternatives(
         &self,
         cursor: &mut Cursor<'_>,
-    ) -> Result<Items<CaseAlternative<Sequence>>, Stuck>
+    ) -> Result<Items<CaseAlternative<Sequence>>, OrMemory<Stuck>>
         requires reads { ReadsInside (suc self.now.left) (F.pre self.now.read) (F.post self.now.read) }
         ensures { Reads result cursor.new (items_of (sees_word (codes "when")) (case_alternative_of self.now.left (sequence_of self.now.left)) cursor.old) }
     {
         let mut found = Items::new(self.alloc);
-        for _turn in 0..cursor.left() {
+        for _turn in 0..cursor.remaining() {
             if !cursor.is_word(b"when") {
                 return Ok(found);
             }
@@ -249,7 +256,7 @@ impl<
     fn case_alternatives(
         &self,
         cursor: &mut Cursor<'_>,
-    ) -> Result<OneOrMore<CaseAlternative<Sequence>>, Stuck>
+    ) -> Result<OneOrMore<CaseAlternative<Sequence>>, OrMemory<Stuck>>
         requires reads { ReadsInside (suc self.now.left) (F.pre self.now.read) (F.post self.now.read) }
         ensures { Reads result cursor.new (case_alternatives_of self.now.left (sequence_of self.now.left) cursor.old) }
     {
@@ -260,7 +267,10 @@ impl<
 
     /// A case statement (5.4).
     #[tactic(auto, unfolding(ada_grammar::specs::ReadingStatements::case_of))]
-    fn case_statement(&self, cursor: &mut Cursor<'_>) -> Result<Statement<Sequence>, Stuck>
+    fn case_statement(
+        &self,
+        cursor: &mut Cursor<'_>,
+    ) -> Result<Statement<Sequence>, OrMemory<Stuck>>
         requires reads { ReadsInside (suc self.now.left) (F.pre self.now.read) (F.post self.now.read) }
         ensures { Reads result cursor.new (case_of self.now.left (sequence_of self.now.left) cursor.old) }
     {
@@ -270,7 +280,7 @@ impl<
         let alternatives = self.case_alternatives(cursor)?;
         cursor.word(b"end")?;
         cursor.word(b"case")?;
-        cursor.mark(b";")?;
+        cursor.delimiter(b";")?;
         Ok(Statement::Case(Case {
             place,
             selector,
@@ -284,7 +294,7 @@ impl<
         &self,
         cursor: &mut Cursor<'_>,
         name: Option<Identifier>,
-    ) -> Result<Statement<Sequence>, Stuck>
+    ) -> Result<Statement<Sequence>, OrMemory<Stuck>>
         requires reads { ReadsInside (suc self.now.left) (F.pre self.now.read) (F.post self.now.read) }
         requires lower { IfSome name (λ name. map to_ascii_lowercase name.text ≡ name.text) }
         ensures { Reads result cursor.new (loop_of self.now.left (sequence_of self.now.left) name cursor.old) }
@@ -295,7 +305,7 @@ impl<
         cursor.word(b"end")?;
         cursor.word(b"loop")?;
         let label = label_end(cursor, name)?;
-        cursor.mark(b";")?;
+        cursor.delimiter(b";")?;
         Ok(Statement::Loop(Loop {
             label,
             iteration,
@@ -313,13 +323,13 @@ impl<
         place: Place,
         declare: bool,
         sequence: Sequence,
-    ) -> Result<Statement<Sequence>, Stuck>
+    ) -> Result<Statement<Sequence>, OrMemory<Stuck>>
         requires lower { IfSome name (λ name. map to_ascii_lowercase name.text ≡ name.text) }
         ensures { Reads result cursor.new (block_end_of self.now.left (sequence_of self.now.left) name place declare sequence cursor.old) }
     {
         cursor.word(b"end")?;
         let label = label_end(cursor, name)?;
-        cursor.mark(b";")?;
+        cursor.delimiter(b";")?;
         Ok(Statement::Block(Block {
             label,
             place,
@@ -334,7 +344,7 @@ impl<
         &self,
         cursor: &mut Cursor<'_>,
         name: Option<Identifier>,
-    ) -> Result<Statement<Sequence>, Stuck>
+    ) -> Result<Statement<Sequence>, OrMemory<Stuck>>
         requires reads { ReadsInside (suc self.now.left) (F.pre self.now.read) (F.post self.now.read) }
         requires lower { IfSome name (λ name. map to_ascii_lowercase name.text ≡ name.text) }
         ensures { Reads result cursor.new (declare_of self.now.left (sequence_of self.now.left) name cursor.old) }
@@ -350,7 +360,7 @@ impl<
         &self,
         cursor: &mut Cursor<'_>,
         name: Option<Identifier>,
-    ) -> Result<Statement<Sequence>, Stuck>
+    ) -> Result<Statement<Sequence>, OrMemory<Stuck>>
         requires reads { ReadsInside (suc self.now.left) (F.pre self.now.read) (F.post self.now.read) }
         requires lower { IfSome name (λ name. map to_ascii_lowercase name.text ≡ name.text) }
         ensures { Reads result cursor.new (begin_of self.now.left (sequence_of self.now.left) name cursor.old) }
@@ -366,7 +376,7 @@ impl<
         &self,
         cursor: &mut Cursor<'_>,
         name: Option<Identifier>,
-    ) -> Result<Statement<Sequence>, Stuck>
+    ) -> Result<Statement<Sequence>, OrMemory<Stuck>>
         requires reads { ReadsInside (suc self.now.left) (F.pre self.now.read) (F.post self.now.read) }
         requires lower { IfSome name (λ name. map to_ascii_lowercase name.text ≡ name.text) }
         ensures { Reads result cursor.new (block_of self.now.left (sequence_of self.now.left) name cursor.old) }
@@ -380,12 +390,12 @@ impl<
 
     /// A loop or a block with a name (5.5, 5.6).
     #[tactic(auto, unfolding(ada_grammar::specs::ReadingStatements::labelled_of))]
-    fn labelled(&self, cursor: &mut Cursor<'_>) -> Result<Statement<Sequence>, Stuck>
+    fn labelled(&self, cursor: &mut Cursor<'_>) -> Result<Statement<Sequence>, OrMemory<Stuck>>
         requires reads { ReadsInside (suc self.now.left) (F.pre self.now.read) (F.post self.now.read) }
         ensures { Reads result cursor.new (labelled_of self.now.left (sequence_of self.now.left) cursor.old) }
     {
         let name = cursor.identifier(self.alloc)?;
-        cursor.mark(b":")?;
+        cursor.delimiter(b":")?;
         if begins_block(cursor) {
             self.block(cursor, Some(name))
         } else {
@@ -399,7 +409,7 @@ impl<
         &self,
         cursor: &mut Cursor<'_>,
         name: &Identifier,
-    ) -> Result<Option<AcceptBody<Sequence>>, Stuck>
+    ) -> Result<Option<AcceptBody<Sequence>>, OrMemory<Stuck>>
         requires reads { ReadsInside (suc self.now.left) (F.pre self.now.read) (F.post self.now.read) }
         requires lower { map to_ascii_lowercase name.now.text ≡ name.now.text }
         ensures { Reads result cursor.new (accept_body_of self.now.left (sequence_of self.now.left) name.now.text cursor.old) }
@@ -420,7 +430,7 @@ impl<
 
     /// An accept statement (9.5.2).
     #[tactic(auto, unfolding(ada_grammar::specs::ReadingStatements::accept_of))]
-    pub fn accept(&self, cursor: &mut Cursor<'_>) -> Result<Accept<Sequence>, Stuck>
+    pub fn accept(&self, cursor: &mut Cursor<'_>) -> Result<Accept<Sequence>, OrMemory<Stuck>>
         requires reads { ReadsInside (suc self.now.left) (F.pre self.now.read) (F.post self.now.read) }
         ensures { Reads result cursor.new (accept_of self.now.left (sequence_of self.now.left) cursor.old) }
     {
@@ -428,7 +438,7 @@ impl<
         let entry = cursor.identifier(self.alloc)?;
         let parameters = parameters(self.alloc, cursor, self.left)?;
         let body = self.accept_body(cursor, &entry)?;
-        cursor.mark(b";")?;
+        cursor.delimiter(b";")?;
         Ok(Accept {
             place,
             entry,
@@ -439,7 +449,10 @@ impl<
 
     /// Statements, where some stand there.
     #[tactic(auto, unfolding(ada_grammar::specs::ReadingStatements::optional_statements_of))]
-    pub fn optional_statements(&self, cursor: &mut Cursor<'_>) -> Result<Option<Sequence>, Stuck>
+    pub fn optional_statements(
+        &self,
+        cursor: &mut Cursor<'_>,
+    ) -> Result<Option<Sequence>, OrMemory<Stuck>>
         requires reads { ReadsInside (suc self.now.left) (F.pre self.now.read) (F.post self.now.read) }
         ensures { Reads result cursor.new (optional_statements_of self.now.left (sequence_of self.now.left) cursor.old) }
     {
@@ -453,7 +466,10 @@ impl<
 
     /// A statement that begins with a name.
     #[tactic(auto, unfolding(ada_grammar::specs::ReadingStatements::named_statement_of))]
-    fn named_statement(&self, cursor: &mut Cursor<'_>) -> Result<Statement<Sequence>, Stuck>
+    fn named_statement(
+        &self,
+        cursor: &mut Cursor<'_>,
+    ) -> Result<Statement<Sequence>, OrMemory<Stuck>>
         requires reads { ReadsInside (suc self.now.left) (F.pre self.now.read) (F.post self.now.read) }
         ensures { Reads result cursor.new (named_statement_of self.now.left (sequence_of self.now.left) (inside_of self.now.left) cursor.old) }
     {
@@ -466,7 +482,7 @@ impl<
 
     /// A statement that holds others, and has no name (5.1).
     #[tactic(auto, unfolding(ada_grammar::specs::ReadingStatements::compound_of))]
-    fn compound(&self, cursor: &mut Cursor<'_>) -> Result<Statement<Sequence>, Stuck>
+    fn compound(&self, cursor: &mut Cursor<'_>) -> Result<Statement<Sequence>, OrMemory<Stuck>>
         requires reads { ReadsInside (suc self.now.left) (F.pre self.now.read) (F.post self.now.read) }
         ensures { Reads result cursor.new (compound_of self.now.left (sequence_of self.now.left) (inside_of self.now.left) cursor.old) }
     {
@@ -488,7 +504,7 @@ impl<
 
     /// Another statement, or one with a name (5.1).
     #[tactic(auto, unfolding(ada_grammar::specs::ReadingStatements::simple_statement_of))]
-    fn simple(&self, cursor: &mut Cursor<'_>) -> Result<Statement<Sequence>, Stuck>
+    fn simple(&self, cursor: &mut Cursor<'_>) -> Result<Statement<Sequence>, OrMemory<Stuck>>
         requires reads { ReadsInside (suc self.now.left) (F.pre self.now.read) (F.post self.now.read) }
         ensures { Reads result cursor.new (simple_statement_of self.now.left (sequence_of self.now.left) (inside_of self.now.left) cursor.old) }
     {
@@ -514,7 +530,7 @@ impl<
 
     /// A statement (5.1).
     #[tactic(auto, unfolding(ada_grammar::specs::ReadingStatements::statement_inside_of))]
-    pub fn statement(&self, cursor: &mut Cursor<'_>) -> Result<Statement<Sequence>, Stuck>
+    pub fn statement(&self, cursor: &mut Cursor<'_>) -> Result<Statement<Sequence>, OrMemory<Stuck>>
         requires reads { ReadsInside (suc self.now.left) (F.pre self.now.read) (F.post self.now.read) }
         ensures { Reads result cursor.new (statement_inside_of self.now.left (sequence_of self.now.left) (inside_of self.now.left) cursor.old) }
     {

@@ -1,15 +1,15 @@
 //! Sequences, bodies and declarations, each read with the sequences in them (ISO/IEC 8652:2012, 3.11, 11.2).
 ghost use Rattle.std.specs.Prelude.{◌≡◌, map};
 ghost use Rattle.std.specs.Char.{to_ascii_lowercase};
-ghost use Rattle.ada_expressions.specs.Steps.{Reads};
+ghost use Rattle.ada_grammar.specs.Reads.{Reads};
 ghost use Rattle.ada_grammar.specs.ReadingBodies.{body_of};
 ghost use Rattle.ada_grammar.specs.ReadingSequences.{inside_of, sequence_of};
 ghost use Rattle.ada_grammar.specs.ReadingUnits.{declarations_at};
 
-use crate::sequences::Sequences;
-use ada_expressions::Cursor;
-use ada_grammar::Stuck;
+use crate::sequences::SequenceReader;
+use ada_grammar::{Cursor, Stuck};
 use ada_tree::{Body, Declaration, Identifier, Sequence, SequenceRole};
+use ann_base::OrMemory;
 use sqlite_items::Items;
 use std::alloc::Global;
 
@@ -19,10 +19,10 @@ pub fn sequence(
     cursor: &mut Cursor<'_>,
     left: usize,
     role: SequenceRole,
-) -> Result<Sequence, Stuck>
+) -> Result<Sequence, OrMemory<Stuck>>
     ensures { Reads result cursor.new (sequence_of left role cursor.old) }
 {
-    Sequences {
+    SequenceReader {
         alloc,
         left,
         read: sequence,
@@ -35,10 +35,10 @@ pub fn declarations(
     alloc: Global,
     cursor: &mut Cursor<'_>,
     left: usize,
-) -> Result<Items<Declaration<Sequence>>, Stuck>
+) -> Result<Items<Declaration<Sequence>>, OrMemory<Stuck>>
     ensures { Reads result cursor.new (declarations_at left cursor.old) }
 {
-    Sequences {
+    SequenceReader {
         alloc,
         left,
         read: sequence,
@@ -52,11 +52,11 @@ pub fn body(
     cursor: &mut Cursor<'_>,
     left: usize,
     name: &Identifier,
-) -> Result<Body<Sequence>, Stuck>
+) -> Result<Body<Sequence>, OrMemory<Stuck>>
     requires lower { map to_ascii_lowercase name.now.text ≡ name.now.text }
     ensures { Reads result cursor.new (body_of left (inside_of left) name.now.text cursor.old) }
 {
-    Sequences {
+    SequenceReader {
         alloc,
         left,
         read: sequence,

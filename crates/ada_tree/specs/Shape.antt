@@ -2,6 +2,7 @@
 -- nesting is at most 100.
 use Rattle.std.specs.Prelude.{ℕ, Bool, true, false, ◌&&◌, List, [], ◌∷◌}
 use Rattle.std.specs.List.{list_all}
+use Rattle.ada_tree.specs.declared.units.TheConstants.{MAX_NESTING}
 use Rattle.ada_tree.specs.declared.statements.SequenceRole.{SequenceRole}
 use Rattle.ada_tree.specs.declared.statements.SequenceRole.TheVariants as role
 use Rattle.ada_tree.specs.declared.statements.Sequence.{Sequence}
@@ -86,6 +87,5 @@ main_fits left m = aspects_fit left m.aspects && body_fits sequence_fits left m.
 abbrev pub unit_fits : ℕ → Tree → Bool
 unit_fits left u = list_all (pragma_fits left) u.pragmas && (list_all (library_package_fits left) u.packages && main_fits left u.main)
 
--- nesting is at most 100
 unfoldable pub is_shaped : Tree → Bool
-is_shaped unit = unit_fits 100 unit
+is_shaped unit = unit_fits MAX_NESTING unit

@@ -25,15 +25,15 @@ use Rattle.ada_tree.specs.declared.declarations.TypeDefinition.TheVariants as de
 use Rattle.ada_tree.specs.declared.declarations.ProtectedOperation.TheVariants as operation
 use Rattle.ada_tree.specs.declared.declarations.OperationBody.TheVariants as body_of
 use Rattle.ada_tree.specs.ShapeExpressions.{within, all_fit, optional_fits}
-use Rattle.ada_tree.specs.ShapeStatements.{value_fits, nothing_in_it, mark_fits, parameters_fit}
+use Rattle.ada_tree.specs.ShapeStatements.{value_fits, nothing_in_it, indication_fits, parameters_fit}
 
 -- ---- objects, types
 
 abbrev pub object_fits : ℕ → ObjectDeclaration → Bool
-object_fits left o = mark_fits left o.mark && optional_fits (value_fits left) o.initial
+object_fits left o = indication_fits left o.subtype && optional_fits (value_fits left) o.initial
 
 abbrev pub component_fits : ℕ → Component → Bool
-component_fits left c = mark_fits left c.mark && optional_fits (value_fits left) c.initial
+component_fits left c = indication_fits left c.subtype && optional_fits (value_fits left) c.initial
 
 abbrev pub components_fit : ℕ → OneOrMore Component → Bool
 components_fit left components = all_fit (component_fits left) components
@@ -44,7 +44,7 @@ bounds_fit low high left = value_fits left low && value_fits left high
 -- literals and bounds stand in brackets
 abbrev pub definition_fits : ℕ → TypeDefinition → Bool
 definition_fits left (definition.Enumeration literals) = within left nothing_in_it
-definition_fits left (definition.Array low high component) = within left (bounds_fit low high) && mark_fits left component
+definition_fits left (definition.Array low high component) = within left (bounds_fit low high) && indication_fits left component
 definition_fits left (definition.Derived parent components) = optional_fits (components_fit left) components
 
 -- ---- specifications
@@ -56,7 +56,7 @@ abbrev pub aspects_fit : ℕ → List Aspect → Bool
 aspects_fit left aspects = list_all (aspect_fits left) aspects
 
 abbrev pub specification_fits : ℕ → SubprogramSpecification → Bool
-specification_fits left s = parameters_fit left s.parameters && (optional_fits (mark_fits left) s.result && aspects_fit left s.aspects)
+specification_fits left s = parameters_fit left s.parameters && (optional_fits (indication_fits left) s.result && aspects_fit left s.aspects)
 
 abbrev pub entry_fits : ℕ → EntryDeclaration → Bool
 entry_fits left e = parameters_fit left e.parameters
@@ -99,7 +99,7 @@ module _ {Q : Type 0} (sequence : Q → SequenceRole → ℕ → Bool) where
   abbrev pub declaration_fits : ℕ → Declaration Q → Bool
   declaration_fits left (declaration.Object o) = object_fits left o
   declaration_fits left (declaration.Type t) = definition_fits left t.definition
-  declaration_fits left (declaration.Subtype s) = mark_fits left s.mark
+  declaration_fits left (declaration.Subtype s) = indication_fits left s.subtype
   declaration_fits left (declaration.Exception names) = true
   declaration_fits left (declaration.Subprogram specification) = specification_fits left specification
   declaration_fits left (declaration.SubprogramBody specification body) = specification_fits left specification && body_fits left body

@@ -4,7 +4,7 @@ use Rattle.std.specs.List.{list_all}
 use Rattle.ada_tree.specs.declared.expressions.Expression.{Expression}
 use Rattle.ada_tree.specs.declared.expressions.Precedence.TheVariants as precedence
 use Rattle.ada_tree.specs.declared.declarations.Parameter.{Parameter}
-use Rattle.ada_tree.specs.declared.declarations.Mark.{Mark}
+use Rattle.ada_tree.specs.declared.declarations.SubtypeIndication.{SubtypeIndication}
 use Rattle.ada_tree.specs.declared.declarations.Constraint.{Constraint}
 use Rattle.ada_tree.specs.declared.declarations.Constraint.TheVariants as constraint
 use Rattle.ada_tree.specs.declared.statements.SequenceRole.{SequenceRole}
@@ -45,7 +45,7 @@ value_fits left e = expression_fits e precedence.Logical left
 abbrev pub value_fits_at : Expression → ℕ → Bool
 value_fits_at e left = expression_fits e precedence.Logical left
 
--- ---- subtype marks and parameters: a timer's task stands in brackets, and so do parameters
+-- ---- subtype delimiters and parameters: a timer's task stands in brackets, and so do parameters
 
 abbrev pub nothing_in_it : ℕ → Bool
 nothing_in_it left = true
@@ -54,11 +54,11 @@ abbrev pub constraint_fits : ℕ → Constraint → Bool
 constraint_fits left (constraint.Access name) = within left nothing_in_it
 constraint_fits left (constraint.Range low high) = value_fits left low && value_fits left high
 
-abbrev pub mark_fits : ℕ → Mark → Bool
-mark_fits left m = optional_fits (constraint_fits left) m.constraint
+abbrev pub indication_fits : ℕ → SubtypeIndication → Bool
+indication_fits left m = optional_fits (constraint_fits left) m.constraint
 
 abbrev pub parameter_fits : ℕ → Parameter → Bool
-parameter_fits left p = mark_fits left p.mark
+parameter_fits left p = indication_fits left p.subtype
 
 abbrev pub parameters_fit : ℕ → List Parameter → Bool
 parameters_fit left parameters = enclosed_fit left parameter_fits parameters

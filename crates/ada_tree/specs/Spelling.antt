@@ -17,8 +17,7 @@ use Rattle.ada_tree.specs.declared.units.PackageDeclaration.{PackageDeclaration}
 use Rattle.ada_tree.specs.declared.units.PackageBody.{PackageBody}
 use Rattle.ada_tree.specs.declared.units.MainProcedure.{MainProcedure}
 use Rattle.ada_tree.specs.declared.units.Package.TheVariants as packages
-use Rattle.ada_tree.specs.declared.spelling.Spelt.{Spelt}
-use Rattle.ada_tree.specs.Written.{Written, Lexeme, AllSpell, word, word_at, mark, identifier_written, each_written, all_written, separated, optional, name_written, end_name_written}
+use Rattle.ada_tree.specs.Written.{Written, Lexeme, AllSpell, word, word_at, delimiter, identifier_written, each_written, all_written, separated, optional, name_written, end_name_written}
 use Rattle.ada_tree.specs.SpellingExpressions.{expression_written, argument_written}
 use Rattle.ada_tree.specs.SpellingStatements.{semicolon, statement_written, handler_written}
 use Rattle.ada_tree.specs.SpellingDeclarations.{declaration_written, body_written, aspects_written}
@@ -54,7 +53,7 @@ sequence_written = fold-Sequence (SequenceRole → List Written) sequence_layer
 -- "pragma" NAME "(" argument {"," argument} ")" ";" (2.8)
 abbrev pub pragma_written : Pragma → List Written
 pragma_written p =
-    word_at p.place (codes "pragma") ∷ identifier_written p.name ∷ mark (codes "(") ∷ (separated (mark (codes ",")) (argument_written expression_written) p.arguments ++ mark (codes ")") ∷ semicolon)
+    word_at p.place (codes "pragma") ∷ identifier_written p.name ∷ delimiter (codes "(") ∷ (separated (delimiter (codes ",")) (argument_written expression_written) p.arguments ++ delimiter (codes ")") ∷ semicolon)
 
 abbrev pub clause_text : Bool → List ℕ
 clause_text true = codes "use"
@@ -62,7 +61,7 @@ clause_text false = codes "with"
 
 -- ("with" | "use") name {"," name} ";" (10.1.2, 8.4)
 abbrev pub clause_written : ContextClause → List Written
-clause_written c = word_at c.place (clause_text c.is_use) ∷ (separated (mark (codes ",")) name_written c.names ++ semicolon)
+clause_written c = word_at c.place (clause_text c.is_use) ∷ (separated (delimiter (codes ",")) name_written c.names ++ semicolon)
 
 abbrev pub declarations_written : List (Declaration Sequence) → List Written
 declarations_written = each_written (declaration_written sequence_written)
@@ -101,10 +100,7 @@ main_written m = word_at m.place (codes "procedure") ∷ identifier_written m.na
 abbrev pub unit_written : Tree → List Written
 unit_written u = each_written pragma_written u.pragmas ++ (each_written library_package_written u.packages ++ (each_written clause_written u.context ++ main_written u.main))
 
--- ---- without places, and the tokens that a tree spells
-
-abbrev pub spelt : Written → Spelt
-spelt written = record { kind = written.kind; text = written.text }
+-- ---- the tokens that a tree spells
 
 -- The tree spells these tokens, and its places are theirs.
 abbrev pub SpellsTokens : Tree → List Lexeme → Type 0

@@ -8,7 +8,7 @@ use Rattle.ada_tree.specs.declared.statements.SequenceRole.{SequenceRole}
 use Rattle.ada_tree.specs.declared.statements.SequenceRole.TheVariants as role
 use Rattle.ada_tree.specs.declared.declarations.Declaration.{Declaration}
 use Rattle.ada_tree.specs.declared.declarations.Body.{Body}
-use Rattle.ada_tree.specs.declared.declarations.Mark.{Mark}
+use Rattle.ada_tree.specs.declared.declarations.SubtypeIndication.{SubtypeIndication}
 use Rattle.ada_tree.specs.declared.declarations.ObjectDeclaration.{ObjectDeclaration}
 use Rattle.ada_tree.specs.declared.declarations.Component.{Component}
 use Rattle.ada_tree.specs.declared.declarations.TypeDeclaration.{TypeDeclaration}
@@ -28,25 +28,25 @@ use Rattle.ada_tree.specs.declared.declarations.Declaration.TheVariants as decla
 use Rattle.ada_tree.specs.declared.declarations.TypeDefinition.TheVariants as definition
 use Rattle.ada_tree.specs.declared.declarations.ProtectedOperation.TheVariants as operation
 use Rattle.ada_tree.specs.declared.declarations.OperationBody.TheVariants as body_of
-use Rattle.ada_tree.specs.Written.{Written, word, word_at, mark, identifier_written, each_written, all_written, optional, flag, enclosed, name_written, identifiers_written, end_name_written}
+use Rattle.ada_tree.specs.Written.{Written, word, word_at, delimiter, identifier_written, each_written, all_written, optional, flag, enclosed, name_written, identifiers_written, end_name_written}
 use Rattle.ada_tree.specs.SpellingExpressions.{expression_written}
-use Rattle.ada_tree.specs.SpellingStatements.{semicolon, mark_written, parameters_written}
+use Rattle.ada_tree.specs.SpellingStatements.{semicolon, indication_written, parameters_written}
 
 -- ---- objects, types, exceptions (3.3.1, 3.2.1, 11.1)
 
 -- [":=" expression]
 abbrev pub becomes_written : Expression → List Written
-becomes_written value = mark (codes ":=") ∷ expression_written value
+becomes_written value = delimiter (codes ":=") ∷ expression_written value
 
--- NAME {"," NAME} ":" ["aliased"] ["constant"] mark [":=" expression] ";"
+-- NAME {"," NAME} ":" ["aliased"] ["constant"] delimiter [":=" expression] ";"
 abbrev pub object_written : ObjectDeclaration → List Written
 object_written o =
-    identifiers_written o.names ++ mark (codes ":") ∷ (flag o.aliased (word (codes "aliased") ∷ []) ++ (flag o.constant (word (codes "constant") ∷ [])
-    ++ (mark_written o.mark ++ (optional becomes_written o.initial ++ semicolon))))
+    identifiers_written o.names ++ delimiter (codes ":") ∷ (flag o.aliased (word (codes "aliased") ∷ []) ++ (flag o.constant (word (codes "constant") ∷ [])
+    ++ (indication_written o.subtype ++ (optional becomes_written o.initial ++ semicolon))))
 
--- NAME {"," NAME} ":" mark [":=" expression] ";"
+-- NAME {"," NAME} ":" delimiter [":=" expression] ";"
 abbrev pub component_written : Component → List Written
-component_written c = identifiers_written c.names ++ mark (codes ":") ∷ (mark_written c.mark ++ (optional becomes_written c.initial ++ semicolon))
+component_written c = identifiers_written c.names ++ delimiter (codes ":") ∷ (indication_written c.subtype ++ (optional becomes_written c.initial ++ semicolon))
 
 -- "null" "record" | "record" component {component} "end" "record"
 abbrev pub extension_written : Option (OneOrMore Component) → List Written
@@ -54,23 +54,23 @@ extension_written None = word (codes "null") ∷ word (codes "record") ∷ []
 extension_written (Some components) = word (codes "record") ∷ (all_written component_written components ++ word (codes "end") ∷ word (codes "record") ∷ [])
 
 abbrev pub definition_written : TypeDefinition → List Written
-definition_written (definition.Enumeration literals) = mark (codes "(") ∷ (identifiers_written literals ++ mark (codes ")") ∷ [])
+definition_written (definition.Enumeration literals) = delimiter (codes "(") ∷ (identifiers_written literals ++ delimiter (codes ")") ∷ [])
 definition_written (definition.Array low high component) =
-    word (codes "array") ∷ mark (codes "(") ∷ (expression_written low ++ mark (codes "..") ∷ (expression_written high ++ mark (codes ")") ∷ word (codes "of") ∷ mark_written component))
+    word (codes "array") ∷ delimiter (codes "(") ∷ (expression_written low ++ delimiter (codes "..") ∷ (expression_written high ++ delimiter (codes ")") ∷ word (codes "of") ∷ indication_written component))
 definition_written (definition.Derived parent components) = word (codes "new") ∷ (name_written parent ++ word (codes "with") ∷ extension_written components)
 
 -- "type" NAME "is" definition ";"
 abbrev pub type_written : TypeDeclaration → List Written
 type_written t = word_at t.place (codes "type") ∷ identifier_written t.name ∷ word (codes "is") ∷ (definition_written t.definition ++ semicolon)
 
--- "subtype" NAME "is" mark ";"
+-- "subtype" NAME "is" delimiter ";"
 abbrev pub subtype_written : SubtypeDeclaration → List Written
-subtype_written s = word_at s.place (codes "subtype") ∷ identifier_written s.name ∷ word (codes "is") ∷ (mark_written s.mark ++ semicolon)
+subtype_written s = word_at s.place (codes "subtype") ∷ identifier_written s.name ∷ word (codes "is") ∷ (indication_written s.subtype ++ semicolon)
 
 -- ---- specifications (6.1, 9.1, 9.4, 9.5.2, 13.1.1)
 
 abbrev pub aspect_value_written : Expression → List Written
-aspect_value_written value = mark (codes "=>") ∷ expression_written value
+aspect_value_written value = delimiter (codes "=>") ∷ expression_written value
 
 -- NAME ["=>" expression]
 abbrev pub aspect_written : Aspect → List Written
@@ -78,20 +78,20 @@ aspect_written a = identifier_written a.name ∷ optional aspect_value_written a
 
 -- ["with" aspect {"," aspect}]
 abbrev pub aspects_written : List Aspect → List Written
-aspects_written = enclosed (word (codes "with")) (mark (codes ",")) [] aspect_written
+aspects_written = enclosed (word (codes "with")) (delimiter (codes ",")) [] aspect_written
 
 abbrev pub overriding_written : Place → List Written
 overriding_written place = word_at place (codes "overriding") ∷ []
 
 -- a function has a result, and a procedure has none
-abbrev pub subprogram_word : Option Mark → List ℕ
+abbrev pub subprogram_word : Option SubtypeIndication → List ℕ
 subprogram_word None = codes "procedure"
 subprogram_word (Some result) = codes "function"
 
-abbrev pub result_written : Mark → List Written
-result_written result = word (codes "return") ∷ mark_written result
+abbrev pub result_written : SubtypeIndication → List Written
+result_written result = word (codes "return") ∷ indication_written result
 
--- ["overriding"] ("procedure" | "function") NAME [parameters] ["return" mark] [aspects]
+-- ["overriding"] ("procedure" | "function") NAME [parameters] ["return" delimiter] [aspects]
 abbrev pub specification_written : SubprogramSpecification → List Written
 specification_written s =
     optional overriding_written s.overriding ++ word_at s.place (subprogram_word s.result) ∷ identifier_written s.name ∷ (parameters_written s.parameters
@@ -153,7 +153,7 @@ module _ {Q : Type 0} (sequence : Q → SequenceRole → List Written) where
   declaration_written (declaration.Object o) = object_written o
   declaration_written (declaration.Type t) = type_written t
   declaration_written (declaration.Subtype s) = subtype_written s
-  declaration_written (declaration.Exception names) = identifiers_written names ++ mark (codes ":") ∷ word (codes "exception") ∷ semicolon
+  declaration_written (declaration.Exception names) = identifiers_written names ++ delimiter (codes ":") ∷ word (codes "exception") ∷ semicolon
   declaration_written (declaration.Subprogram specification) = specification_written specification ++ semicolon
   declaration_written (declaration.SubprogramBody specification body) = specification_written specification ++ body_written specification.name body
   declaration_written (declaration.Task t) = task_written t

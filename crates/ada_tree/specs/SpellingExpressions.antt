@@ -26,7 +26,7 @@ use Rattle.ada_tree.specs.declared.expressions.Addend.{Addend}
 use Rattle.ada_tree.specs.declared.expressions.Multiplied.{Multiplied}
 use Rattle.ada_tree.specs.declared.expressions.AttributeDesignator.{AttributeDesignator}
 use Rattle.ada_tree.specs.declared.expressions.Argument.{Argument}
-use Rattle.ada_tree.specs.Written.{Written, word, word_at, mark, mark_at, number_at, text_at, identifier_written, all_written, optional, enclosed, name_written}
+use Rattle.ada_tree.specs.Written.{Written, word, word_at, delimiter, delimiter_at, number_at, text_at, identifier_written, all_written, optional, enclosed, name_written}
 
 -- ---- operators
 
@@ -55,8 +55,8 @@ sign_text sign.Plus = codes "+"
 sign_text sign.Minus = codes "-"
 
 abbrev pub multiplying_written : MultiplyingOperator → Place → Written
-multiplying_written multiplying.Times place = mark_at place (codes "*")
-multiplying_written multiplying.Divide place = mark_at place (codes "/")
+multiplying_written multiplying.Times place = delimiter_at place (codes "*")
+multiplying_written multiplying.Divide place = delimiter_at place (codes "/")
 multiplying_written multiplying.Modulus place = word_at place (codes "mod")
 multiplying_written multiplying.Remainder place = word_at place (codes "rem")
 
@@ -73,20 +73,20 @@ attribute_text attribute.Identity = codes "identity"
 attribute_text attribute.Access = codes "access"
 
 abbrev pub designator_written : AttributeDesignator → List Written
-designator_written d = mark (codes "'") ∷ word_at d.place (attribute_text d.attribute) ∷ []
+designator_written d = delimiter (codes "'") ∷ word_at d.place (attribute_text d.attribute) ∷ []
 
 -- ---- the forms, given how the expressions in them are spelt
 
 -- [NAME "=>"]
 abbrev pub formal_written : Identifier → List Written
-formal_written name = identifier_written name ∷ mark (codes "=>") ∷ []
+formal_written name = identifier_written name ∷ delimiter (codes "=>") ∷ []
 
 module _ {E : Type 0} (expression : E → List Written) where
   abbrev pub operand_written : LogicalOperator → Operand E → List Written
   operand_written operator o = logical_written operator o.place ++ expression o.relation
 
   abbrev pub addend_written : Addend E → List Written
-  addend_written a = mark_at a.place (adding_text a.operator) ∷ expression a.term
+  addend_written a = delimiter_at a.place (adding_text a.operator) ∷ expression a.term
 
   abbrev pub multiplied_written : Multiplied E → List Written
   multiplied_written m = multiplying_written m.operator m.place ∷ expression m.factor
@@ -97,19 +97,19 @@ module _ {E : Type 0} (expression : E → List Written) where
 
   -- ["(" argument {"," argument} ")"]
   abbrev pub arguments_written : List (Argument E) → List Written
-  arguments_written = enclosed (mark (codes "(")) (mark (codes ",")) (mark (codes ")") ∷ []) argument_written
+  arguments_written = enclosed (delimiter (codes "(")) (delimiter (codes ",")) (delimiter (codes ")") ∷ []) argument_written
 
   abbrev pub form_written : ExpressionForm E → List Written
   form_written (form.Logical operator first others) = expression first ++ all_written (operand_written operator) others
-  form_written (form.Relational left place operator right) = expression left ++ mark_at place (relational_text operator) ∷ expression right
+  form_written (form.Relational left place operator right) = expression left ++ delimiter_at place (relational_text operator) ∷ expression right
   form_written (form.Adding first others) = expression first ++ all_written addend_written others
-  form_written (form.Signed place sign operand) = mark_at place (sign_text sign) ∷ expression operand
+  form_written (form.Signed place sign operand) = delimiter_at place (sign_text sign) ∷ expression operand
   form_written (form.Multiplying first others) = expression first ++ all_written multiplied_written others
   form_written (form.Highest place operator operand) = word_at place (highest_text operator) ∷ expression operand
   form_written (form.Number place literal) = number_at place literal ∷ []
   form_written (form.Text place text) = text_at place text ∷ []
   form_written (form.Null place) = word_at place (codes "null") ∷ []
-  form_written (form.Bracketed place inner) = mark_at place (codes "(") ∷ (expression inner ++ mark (codes ")") ∷ [])
+  form_written (form.Bracketed place inner) = delimiter_at place (codes "(") ∷ (expression inner ++ delimiter (codes ")") ∷ [])
   form_written (form.Named name attribute arguments) = name_written name ++ (optional designator_written attribute ++ arguments_written arguments)
 
 -- ---- expressions

@@ -4,7 +4,7 @@ use Rattle.ann_base.specs.declared.places.Place.{Place}
 use Rattle.ada_tree.specs.declared.names.Identifier.{Identifier}
 use Rattle.ada_tree.specs.declared.expressions.Expression.{Expression}
 use Rattle.ada_tree.specs.declared.declarations.Parameter.{Parameter}
-use Rattle.ada_tree.specs.declared.declarations.Mark.{Mark}
+use Rattle.ada_tree.specs.declared.declarations.SubtypeIndication.{SubtypeIndication}
 use Rattle.ada_tree.specs.declared.declarations.Constraint.{Constraint}
 use Rattle.ada_tree.specs.declared.declarations.Constraint.TheVariants as constraint
 use Rattle.ada_tree.specs.declared.statements.SequenceRole.{SequenceRole}
@@ -40,39 +40,39 @@ use Rattle.ada_tree.specs.declared.selects.Trigger.{Trigger}
 use Rattle.ada_tree.specs.declared.selects.SelectForm.TheVariants as select
 use Rattle.ada_tree.specs.declared.selects.Alternative.TheVariants as alternative
 use Rattle.ada_tree.specs.declared.selects.Trigger.TheVariants as trigger
-use Rattle.ada_tree.specs.Written.{Written, word, word_at, mark, identifier_written, each_written, separated, all_written, optional, flag, enclosed, name_written, identifiers_written, end_name_written}
+use Rattle.ada_tree.specs.Written.{Written, word, word_at, delimiter, identifier_written, each_written, separated, all_written, optional, flag, enclosed, name_written, identifiers_written, end_name_written}
 use Rattle.ada_tree.specs.SpellingExpressions.{expression_written, arguments_written}
 
--- ---- subtype marks and parameters (3.2.2, 6.1)
+-- ---- subtype delimiters and parameters (3.2.2, 6.1)
 
 abbrev pub constraint_written : Constraint → List Written
-constraint_written (constraint.Access name) = mark (codes "(") ∷ (name_written name ++ mark (codes "'") ∷ word (codes "access") ∷ mark (codes ")") ∷ [])
-constraint_written (constraint.Range low high) = word (codes "range") ∷ (expression_written low ++ mark (codes "..") ∷ expression_written high)
+constraint_written (constraint.Access name) = delimiter (codes "(") ∷ (name_written name ++ delimiter (codes "'") ∷ word (codes "access") ∷ delimiter (codes ")") ∷ [])
+constraint_written (constraint.Range low high) = word (codes "range") ∷ (expression_written low ++ delimiter (codes "..") ∷ expression_written high)
 
 -- name ["(" name "'" "Access" ")" | "range" expression ".." expression]
-abbrev pub mark_written : Mark → List Written
-mark_written m = name_written m.name ++ optional constraint_written m.constraint
+abbrev pub indication_written : SubtypeIndication → List Written
+indication_written m = name_written m.name ++ optional constraint_written m.constraint
 
--- NAME {"," NAME} ":" ["in"] ["out"] mark
+-- NAME {"," NAME} ":" ["in"] ["out"] delimiter
 abbrev pub parameter_written : Parameter → List Written
 parameter_written p =
-    identifiers_written p.names ++ mark (codes ":") ∷ (flag p.is_in (word (codes "in") ∷ []) ++ (flag p.is_out (word (codes "out") ∷ []) ++ mark_written p.mark))
+    identifiers_written p.names ++ delimiter (codes ":") ∷ (flag p.is_in (word (codes "in") ∷ []) ++ (flag p.is_out (word (codes "out") ∷ []) ++ indication_written p.subtype))
 
 -- ["(" parameter {";" parameter} ")"]
 abbrev pub parameters_written : List Parameter → List Written
-parameters_written = enclosed (mark (codes "(")) (mark (codes ";")) (mark (codes ")") ∷ []) parameter_written
+parameters_written = enclosed (delimiter (codes "(")) (delimiter (codes ";")) (delimiter (codes ")") ∷ []) parameter_written
 
 -- ---- statements without others in them
 
 abbrev pub semicolon : List Written
-semicolon = mark (codes ";") ∷ []
+semicolon = delimiter (codes ";") ∷ []
 
 abbrev pub index_written : Expression → List Written
-index_written index = mark (codes "(") ∷ (expression_written index ++ mark (codes ")") ∷ [])
+index_written index = delimiter (codes "(") ∷ (expression_written index ++ delimiter (codes ")") ∷ [])
 
 -- name ["(" expression ")"] ":=" expression ";" (5.2)
 abbrev pub assignment_written : Assignment → List Written
-assignment_written a = name_written a.target ++ (optional index_written a.index ++ mark (codes ":=") ∷ (expression_written a.value ++ semicolon))
+assignment_written a = name_written a.target ++ (optional index_written a.index ++ delimiter (codes ":=") ∷ (expression_written a.value ++ semicolon))
 
 -- name ["(" argument {"," argument} ")"] ";" (6.4, 9.5.3)
 abbrev pub call_written : Call → List Written
@@ -84,12 +84,12 @@ delay_written d = word_at d.place (codes "delay") ∷ (flag d.until (word (codes
 
 abbrev pub choice_written : Choice → List Written
 choice_written (choice.Value value) = expression_written value
-choice_written (choice.Range low high) = expression_written low ++ mark (codes "..") ∷ expression_written high
+choice_written (choice.Range low high) = expression_written low ++ delimiter (codes "..") ∷ expression_written high
 choice_written (choice.Others place) = word_at place (codes "others") ∷ []
 
 -- NAME ":"
 abbrev pub label_written : Label → List Written
-label_written l = identifier_written l.name ∷ mark (codes ":") ∷ []
+label_written l = identifier_written l.name ∷ delimiter (codes ":") ∷ []
 
 abbrev pub label_end_written : Label → List Written
 label_end_written l = end_name_written l.named_at_end l.name
@@ -99,7 +99,7 @@ iteration_written iteration.Forever = []
 iteration_written (iteration.While place condition) = word_at place (codes "while") ∷ expression_written condition
 iteration_written (iteration.For place parameter reverse low high) =
     word_at place (codes "for") ∷ identifier_written parameter ∷ word (codes "in") ∷ (flag reverse (word (codes "reverse") ∷ [])
-    ++ (expression_written low ++ mark (codes "..") ∷ expression_written high))
+    ++ (expression_written low ++ delimiter (codes "..") ∷ expression_written high))
 
 abbrev pub loop_name_written : Identifier → List Written
 loop_name_written name = identifier_written name ∷ []
@@ -112,14 +112,14 @@ abbrev pub exit_written : Exit → List Written
 exit_written e = word_at e.place (codes "exit") ∷ (optional loop_name_written e.loop_name ++ (optional when_written e.condition ++ semicolon))
 
 abbrev pub exceptions_written : HandledExceptions → List Written
-exceptions_written (exceptions.Named names) = separated (mark (codes "|")) name_written names
+exceptions_written (exceptions.Named names) = separated (delimiter (codes "|")) name_written names
 exceptions_written (exceptions.Others place) = word_at place (codes "others") ∷ []
 
 abbrev pub with_abort_written : Bool → List Written
 with_abort_written with_abort = flag with_abort (word (codes "with") ∷ word (codes "abort") ∷ [])
 
 abbrev pub guard_written : Guard → List Written
-guard_written g = word_at g.place (codes "when") ∷ (expression_written g.condition ++ mark (codes "=>") ∷ [])
+guard_written g = word_at g.place (codes "when") ∷ (expression_written g.condition ++ delimiter (codes "=>") ∷ [])
 
 abbrev pub trigger_written : Trigger → List Written
 trigger_written (trigger.Call call) = call_written call
@@ -148,7 +148,7 @@ module _ {Q : Type 0} (sequence : Q → SequenceRole → List Written) where
   -- "when" choice {"|" choice} "=>" statements (5.4)
   abbrev pub case_alternative_written : CaseAlternative Q → List Written
   case_alternative_written a =
-      word_at a.place (codes "when") ∷ (separated (mark (codes "|")) choice_written a.choices ++ mark (codes "=>") ∷ statements_written a.statements)
+      word_at a.place (codes "when") ∷ (separated (delimiter (codes "|")) choice_written a.choices ++ delimiter (codes "=>") ∷ statements_written a.statements)
 
   -- "case" expression "is" alternative {alternative} "end" "case" ";" (5.4)
   abbrev pub case_written : Case Q → List Written
@@ -174,7 +174,7 @@ module _ {Q : Type 0} (sequence : Q → SequenceRole → List Written) where
 
   -- "when" (name {"|" name} | "others") "=>" statements (11.2)
   abbrev pub handler_written : Handler Q → List Written
-  handler_written h = word_at h.place (codes "when") ∷ (exceptions_written h.exceptions ++ mark (codes "=>") ∷ statements_written h.statements)
+  handler_written h = word_at h.place (codes "when") ∷ (exceptions_written h.exceptions ++ delimiter (codes "=>") ∷ statements_written h.statements)
 
   abbrev pub accept_body_written : Identifier → AcceptBody Q → List Written
   accept_body_written name b = word (codes "do") ∷ (sequence b.sequence role.Handled ++ word (codes "end") ∷ end_name_written b.named_at_end name)
@@ -221,7 +221,7 @@ module _ {Q : Type 0} (sequence : Q → SequenceRole → List Written) where
   statement_written (statement.Block b) = block_written b
   statement_written (statement.Return place value) = word_at place (codes "return") ∷ (optional expression_written value ++ semicolon)
   statement_written (statement.Raise place exception) = word_at place (codes "raise") ∷ (optional name_written exception ++ semicolon)
-  statement_written (statement.Abort place tasks) = word_at place (codes "abort") ∷ (separated (mark (codes ",")) name_written tasks ++ semicolon)
+  statement_written (statement.Abort place tasks) = word_at place (codes "abort") ∷ (separated (delimiter (codes ",")) name_written tasks ++ semicolon)
   statement_written (statement.Accept a) = accept_written a
   statement_written (statement.Requeue place entry with_abort) = word_at place (codes "requeue") ∷ (name_written entry ++ (with_abort_written with_abort ++ semicolon))
   statement_written (statement.Select s) = select_written s

@@ -29,7 +29,7 @@ lexeme_of source token = record { kind = token.kind; text = meaning_of token.kin
 abbrev pub lexemes_of : List ℕ → List Token → List Lexeme
 lexemes_of source tokens = map (lexeme_of source) tokens
 
--- ---- single tokens: a reserved word or one that an attribute is, with its place or without; a mark; an identifier
+-- ---- single tokens: a reserved word or one that an attribute is, with its place or without; a delimiter; an identifier
 
 abbrev pub word : List ℕ → Written
 word text = record { kind = kinds.Word; text = text; identifier = false; place = None }
@@ -37,11 +37,11 @@ word text = record { kind = kinds.Word; text = text; identifier = false; place =
 abbrev pub word_at : Place → List ℕ → Written
 word_at place text = record { kind = kinds.Word; text = text; identifier = false; place = Some place }
 
-abbrev pub mark : List ℕ → Written
-mark text = record { kind = kinds.Mark; text = text; identifier = false; place = None }
+abbrev pub delimiter : List ℕ → Written
+delimiter text = record { kind = kinds.Delimiter; text = text; identifier = false; place = None }
 
-abbrev pub mark_at : Place → List ℕ → Written
-mark_at place text = record { kind = kinds.Mark; text = text; identifier = false; place = Some place }
+abbrev pub delimiter_at : Place → List ℕ → Written
+delimiter_at place text = record { kind = kinds.Delimiter; text = text; identifier = false; place = Some place }
 
 abbrev pub number_at : Place → List ℕ → Written
 number_at place text = record { kind = kinds.Number; text = text; identifier = false; place = Some place }
@@ -78,7 +78,7 @@ abbrev pub flag : Bool → List Written → List Written
 flag true ws = ws
 flag false ws = []
 
--- an opening word or mark, items with commas or semicolons between them, and what closes; nothing where there are none
+-- an opening word or delimiter, items with commas or semicolons between them, and what closes; nothing where there are none
 abbrev pub enclosed : {X : Type 0} → Written → Written → List Written → (X → List Written) → List X → List Written
 enclosed opening separator closing w [] = []
 enclosed opening separator closing w (x ∷ xs) = opening ∷ (w x ++ (each_written (behind separator w) xs ++ closing))
@@ -90,13 +90,13 @@ one_identifier i = identifier_written i ∷ []
 
 -- NAME {"." NAME}
 abbrev pub name_written : Name → List Written
-name_written name = separated (mark (codes ".")) one_identifier name.parts
+name_written name = separated (delimiter (codes ".")) one_identifier name.parts
 
 -- NAME {"," NAME}
 abbrev pub identifiers_written : OneOrMore Identifier → List Written
-identifiers_written names = separated (mark (codes ",")) one_identifier names
+identifiers_written names = separated (delimiter (codes ",")) one_identifier names
 
--- the name behind `end` is the construct's own, or none: a mark says which
+-- the name behind `end` is the construct's own, or none: a flag says which
 abbrev pub end_name_written : Bool → Identifier → List Written
 end_name_written named name = flag named (word name.text ∷ [])
 

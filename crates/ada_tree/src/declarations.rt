@@ -5,13 +5,12 @@ use ann_base::Place;
 use sqlite_items::Items;
 
 /// A declaration (3.1).
-#[derive(Drop)]
 pub enum Declaration<Q> {
     /// An object declaration (3.3.1).
     Object(ObjectDeclaration),
     /// A type declaration (3.2.1).
     Type(TypeDeclaration),
-    /// `subtype NAME is MARK;` (3.2.2)
+    /// `subtype NAME is SUBTYPE;` (3.2.2)
     Subtype(SubtypeDeclaration),
     /// `NAME {, NAME} : exception;` (11.1)
     Exception {
@@ -51,6 +50,31 @@ pub enum Declaration<Q> {
     },
 }
 
+impl<Q: Drop> Drop for Declaration<Q> {
+    fn drop(self) {
+        match self {
+            Declaration::Object(_) => (),
+            Declaration::Type(_) => (),
+            Declaration::Subtype(_) => (),
+            Declaration::Exception { names: _ } => (),
+            Declaration::Subprogram(_) => (),
+            Declaration::SubprogramBody {
+                specification: _,
+                body: _,
+            } => (),
+            Declaration::Task(_) => (),
+            Declaration::TaskBody {
+                place: _,
+                name: _,
+                body: _,
+            } => (),
+            Declaration::Protected(_) => (),
+            Declaration::ProtectedBody(_) => (),
+            Declaration::Use { place: _, name: _ } => (),
+        }
+    }
+}
+
 /// `{DECLARATION} begin SEQUENCE end [NAME];`, behind the `is` of a body (3.11.1).
 #[derive(Drop)]
 pub struct Body<Q> {
@@ -60,17 +84,24 @@ pub struct Body<Q> {
     pub named_at_end: bool,
 }
 
-/// A subtype mark and what restricts it (3.2.2, 3.6.1).
-#[derive(Drop)]
-pub struct Mark {
+/// A subtype indication: a subtype mark and what restricts it (3.2.2, 3.6.1).
+pub struct SubtypeIndication {
     /// The subtype.
     pub name: Name,
     /// What restricts it.
     pub constraint: Option<Constraint>,
 }
 
+impl Drop for SubtypeIndication {
+    fn drop(self) {
+        let SubtypeIndication {
+            name: _,
+            constraint: _,
+        } = self;
+    }
+}
+
 /// What restricts a subtype mark.
-#[derive(Drop)]
 pub enum Constraint {
     /// `(NAME'Access)`, the discriminant of a timer (D.14.1).
     Access(Name),
@@ -83,8 +114,16 @@ pub enum Constraint {
     },
 }
 
-/// `NAME {, NAME} : [aliased] [constant] MARK [:= EXPRESSION];` (3.3.1)
-#[derive(Drop)]
+impl Drop for Constraint {
+    fn drop(self) {
+        match self {
+            Constraint::Access(_) => (),
+            Constraint::Range { low: _, high: _ } => (),
+        }
+    }
+}
+
+/// `NAME {, NAME} : [aliased] [constant] SUBTYPE [:= EXPRESSION];` (3.3.1)
 pub struct ObjectDeclaration {
     /// The objects.
     pub names: OneOrMore<Identifier>,
@@ -93,24 +132,44 @@ pub struct ObjectDeclaration {
     /// Whether `constant` stands there.
     pub constant: bool,
     /// The subtype.
-    pub mark: Mark,
+    pub subtype: SubtypeIndication,
     /// The initial value.
     pub initial: Option<Expression>,
 }
 
-/// `NAME {, NAME} : MARK [:= EXPRESSION];`, a component (3.8)
-#[derive(Drop)]
+impl Drop for ObjectDeclaration {
+    fn drop(self) {
+        let ObjectDeclaration {
+            names: _,
+            aliased: _,
+            constant: _,
+            subtype: _,
+            initial: _,
+        } = self;
+    }
+}
+
+/// `NAME {, NAME} : SUBTYPE [:= EXPRESSION];`, a component (3.8)
 pub struct Component {
     /// The components.
     pub names: OneOrMore<Identifier>,
     /// The subtype.
-    pub mark: Mark,
+    pub subtype: SubtypeIndication,
     /// The initial value.
     pub initial: Option<Expression>,
 }
 
+impl Drop for Component {
+    fn drop(self) {
+        let Component {
+            names: _,
+            subtype: _,
+            initial: _,
+        } = self;
+    }
+}
+
 /// `type NAME is DEFINITION;` (3.2.1)
-#[derive(Drop)]
 pub struct TypeDeclaration {
     /// The place of `type`.
     pub place: Place,
@@ -120,22 +179,31 @@ pub struct TypeDeclaration {
     pub definition: TypeDefinition,
 }
 
+impl Drop for TypeDeclaration {
+    fn drop(self) {
+        let TypeDeclaration {
+            place: _,
+            name: _,
+            definition: _,
+        } = self;
+    }
+}
+
 /// How a type is defined.
-#[derive(Drop)]
 pub enum TypeDefinition {
     /// `(NAME {, NAME})` (3.5.1)
     Enumeration {
         /// The literals.
         literals: OneOrMore<Identifier>,
     },
-    /// `array (LOW .. HIGH) of MARK` (3.6)
+    /// `array (LOW .. HIGH) of SUBTYPE` (3.6)
     Array {
         /// The least index.
         low: Expression,
         /// The greatest index.
         high: Expression,
         /// The subtype of a component.
-        component: Mark,
+        component: SubtypeIndication,
     },
     /// `new NAME with RECORD` (3.9.1)
     Derived {
@@ -146,19 +214,44 @@ pub enum TypeDefinition {
     },
 }
 
-/// `subtype NAME is MARK;` (3.2.2)
-#[derive(Drop)]
+impl Drop for TypeDefinition {
+    fn drop(self) {
+        match self {
+            TypeDefinition::Enumeration { literals: _ } => (),
+            TypeDefinition::Array {
+                low: _,
+                high: _,
+                component: _,
+            } => (),
+            TypeDefinition::Derived {
+                parent: _,
+                components: _,
+            } => (),
+        }
+    }
+}
+
+/// `subtype NAME is SUBTYPE;` (3.2.2)
 pub struct SubtypeDeclaration {
     /// The place of `subtype`.
     pub place: Place,
     /// The subtype.
     pub name: Identifier,
     /// What it is.
-    pub mark: Mark,
+    pub subtype: SubtypeIndication,
 }
 
-/// `NAME {, NAME} : [in] [out] MARK` (6.1)
-#[derive(Drop)]
+impl Drop for SubtypeDeclaration {
+    fn drop(self) {
+        let SubtypeDeclaration {
+            place: _,
+            name: _,
+            subtype: _,
+        } = self;
+    }
+}
+
+/// `NAME {, NAME} : [in] [out] SUBTYPE` (6.1)
 pub struct Parameter {
     /// The formals.
     pub names: OneOrMore<Identifier>,
@@ -167,11 +260,21 @@ pub struct Parameter {
     /// Whether `out` stands there.
     pub is_out: bool,
     /// The subtype.
-    pub mark: Mark,
+    pub subtype: SubtypeIndication,
+}
+
+impl Drop for Parameter {
+    fn drop(self) {
+        let Parameter {
+            names: _,
+            is_in: _,
+            is_out: _,
+            subtype: _,
+        } = self;
+    }
 }
 
 /// `NAME [=> EXPRESSION]`, an aspect (13.1.1)
-#[derive(Drop)]
 pub struct Aspect {
     /// The aspect.
     pub name: Identifier,
@@ -179,8 +282,13 @@ pub struct Aspect {
     pub value: Option<Expression>,
 }
 
-/// `[overriding] (procedure | function) NAME [PARAMETERS] [return MARK] [ASPECTS]` (6.1, 8.3.1)
-#[derive(Drop)]
+impl Drop for Aspect {
+    fn drop(self) {
+        let Aspect { name: _, value: _ } = self;
+    }
+}
+
+/// `[overriding] (procedure | function) NAME [PARAMETERS] [return SUBTYPE] [ASPECTS]` (6.1, 8.3.1)
 pub struct SubprogramSpecification {
     /// The place of `overriding`, where it stands there.
     pub overriding: Option<Place>,
@@ -191,13 +299,25 @@ pub struct SubprogramSpecification {
     /// The parameters; empty where no bracket stands.
     pub parameters: Items<Parameter>,
     /// The result's subtype: a function has one, and a procedure has none.
-    pub result: Option<Mark>,
+    pub result: Option<SubtypeIndication>,
     /// The aspects; empty where no `with` stands.
     pub aspects: Items<Aspect>,
 }
 
+impl Drop for SubprogramSpecification {
+    fn drop(self) {
+        let SubprogramSpecification {
+            overriding: _,
+            place: _,
+            name: _,
+            parameters: _,
+            result: _,
+            aspects: _,
+        } = self;
+    }
+}
+
 /// `entry NAME [PARAMETERS];` (9.5.2)
-#[derive(Drop)]
 pub struct EntryDeclaration {
     /// The place of `entry`.
     pub place: Place,
@@ -207,8 +327,17 @@ pub struct EntryDeclaration {
     pub parameters: Items<Parameter>,
 }
 
+impl Drop for EntryDeclaration {
+    fn drop(self) {
+        let EntryDeclaration {
+            place: _,
+            name: _,
+            parameters: _,
+        } = self;
+    }
+}
+
 /// `task [type] NAME [ASPECTS] [is {ENTRY} end [NAME]];` (9.1)
-#[derive(Drop)]
 pub struct TaskDeclaration {
     /// The place of `task`.
     pub place: Place,
@@ -222,8 +351,19 @@ pub struct TaskDeclaration {
     pub definition: Option<TaskDefinition>,
 }
 
+impl Drop for TaskDeclaration {
+    fn drop(self) {
+        let TaskDeclaration {
+            place: _,
+            is_type: _,
+            name: _,
+            aspects: _,
+            definition: _,
+        } = self;
+    }
+}
+
 /// `is {ENTRY} end [NAME]` (9.1)
-#[derive(Drop)]
 pub struct TaskDefinition {
     /// The entries.
     pub entries: Items<EntryDeclaration>,
@@ -231,8 +371,16 @@ pub struct TaskDefinition {
     pub named_at_end: bool,
 }
 
+impl Drop for TaskDefinition {
+    fn drop(self) {
+        let TaskDefinition {
+            entries: _,
+            named_at_end: _,
+        } = self;
+    }
+}
+
 /// `protected [type] NAME [ASPECTS] is {OPERATION} [private {COMPONENT}] end [NAME];` (9.4)
-#[derive(Drop)]
 pub struct ProtectedDeclaration {
     /// The place of `protected`.
     pub place: Place,
@@ -250,8 +398,21 @@ pub struct ProtectedDeclaration {
     pub named_at_end: bool,
 }
 
+impl Drop for ProtectedDeclaration {
+    fn drop(self) {
+        let ProtectedDeclaration {
+            place: _,
+            is_type: _,
+            name: _,
+            aspects: _,
+            operations: _,
+            components: _,
+            named_at_end: _,
+        } = self;
+    }
+}
+
 /// An operation that a protected declaration names (9.4).
-#[derive(Drop)]
 pub enum ProtectedOperation {
     /// A procedure or a function.
     Subprogram(SubprogramSpecification),
@@ -259,8 +420,16 @@ pub enum ProtectedOperation {
     Entry(EntryDeclaration),
 }
 
+impl Drop for ProtectedOperation {
+    fn drop(self) {
+        match self {
+            ProtectedOperation::Subprogram(_) => (),
+            ProtectedOperation::Entry(_) => (),
+        }
+    }
+}
+
 /// `protected body NAME is {OPERATION} end [NAME];` (9.4)
-#[derive(Drop)]
 pub struct ProtectedBody<Q> {
     /// The place of `protected`.
     pub place: Place,
@@ -272,8 +441,18 @@ pub struct ProtectedBody<Q> {
     pub named_at_end: bool,
 }
 
+impl<Q: Drop> Drop for ProtectedBody<Q> {
+    fn drop(self) {
+        let ProtectedBody {
+            place: _,
+            name: _,
+            operations: _,
+            named_at_end: _,
+        } = self;
+    }
+}
+
 /// A body in a protected body (9.4).
-#[derive(Drop)]
 pub enum OperationBody<Q> {
     /// A procedure's or a function's.
     Subprogram {
@@ -291,8 +470,19 @@ pub enum OperationBody<Q> {
     },
 }
 
+impl<Q: Drop> Drop for OperationBody<Q> {
+    fn drop(self) {
+        match self {
+            OperationBody::Subprogram {
+                specification: _,
+                body: _,
+            } => (),
+            OperationBody::Entry { head: _, body: _ } => (),
+        }
+    }
+}
+
 /// `entry NAME [PARAMETERS] when EXPRESSION` (9.5.2)
-#[derive(Drop)]
 pub struct EntryHead {
     /// The place of `entry`.
     pub place: Place,
@@ -302,4 +492,15 @@ pub struct EntryHead {
     pub parameters: Items<Parameter>,
     /// The barrier.
     pub barrier: Expression,
+}
+
+impl Drop for EntryHead {
+    fn drop(self) {
+        let EntryHead {
+            place: _,
+            name: _,
+            parameters: _,
+            barrier: _,
+        } = self;
+    }
 }

@@ -33,7 +33,6 @@ pub enum Precedence {
 }
 
 /// The forms of expressions.
-#[derive(Drop)]
 pub enum ExpressionForm<E> {
     /// Relations with one logical operator between them (4.5.1).
     Logical {
@@ -124,8 +123,55 @@ pub enum ExpressionForm<E> {
     },
 }
 
+impl<E: Drop> Drop for ExpressionForm<E> {
+    fn drop(self) {
+        match self {
+            ExpressionForm::Logical {
+                operator: _,
+                first: _,
+                others: _,
+            } => (),
+            ExpressionForm::Relational {
+                left: _,
+                place: _,
+                operator: _,
+                right: _,
+            } => (),
+            ExpressionForm::Adding {
+                first: _,
+                others: _,
+            } => (),
+            ExpressionForm::Signed {
+                place: _,
+                sign: _,
+                operand: _,
+            } => (),
+            ExpressionForm::Multiplying {
+                first: _,
+                others: _,
+            } => (),
+            ExpressionForm::Highest {
+                place: _,
+                operator: _,
+                operand: _,
+            } => (),
+            ExpressionForm::Number {
+                place: _,
+                literal: _,
+            } => (),
+            ExpressionForm::Text { place: _, text: _ } => (),
+            ExpressionForm::Null { place: _ } => (),
+            ExpressionForm::Bracketed { place: _, inner: _ } => (),
+            ExpressionForm::Named {
+                name: _,
+                attribute: _,
+                arguments: _,
+            } => (),
+        }
+    }
+}
+
 /// A relation behind a logical operator.
-#[derive(Drop)]
 pub struct Operand<E> {
     /// The place of the operator.
     pub place: Place,
@@ -133,8 +179,16 @@ pub struct Operand<E> {
     pub relation: E,
 }
 
+impl<E: Drop> Drop for Operand<E> {
+    fn drop(self) {
+        let Operand {
+            place: _,
+            relation: _,
+        } = self;
+    }
+}
+
 /// A term behind a binary adding operator.
-#[derive(Drop)]
 pub struct Addend<E> {
     /// The place of the operator.
     pub place: Place,
@@ -144,8 +198,17 @@ pub struct Addend<E> {
     pub term: E,
 }
 
+impl<E: Drop> Drop for Addend<E> {
+    fn drop(self) {
+        let Addend {
+            place: _,
+            operator: _,
+            term: _,
+        } = self;
+    }
+}
+
 /// A factor behind a multiplying operator.
-#[derive(Drop)]
 pub struct Multiplied<E> {
     /// The place of the operator.
     pub place: Place,
@@ -153,6 +216,16 @@ pub struct Multiplied<E> {
     pub operator: MultiplyingOperator,
     /// The factor.
     pub factor: E,
+}
+
+impl<E: Drop> Drop for Multiplied<E> {
+    fn drop(self) {
+        let Multiplied {
+            place: _,
+            operator: _,
+            factor: _,
+        } = self;
+    }
 }
 
 /// An attribute behind a tick (4.1.4).

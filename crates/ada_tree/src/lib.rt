@@ -1,5 +1,8 @@
-//! The tree of an Ada source, as plain public data with places; how a tree is spelt, and which trees are those of the
-//! grammar.
+//! The tree of an Ada source, as plain public data with places. Its `specs` say which tokens spell a tree, and which
+//! trees are those of the grammar.
+//!
+//! Each `drop` that takes a part of a tree apart is written out: a derived one would be proved anew in each crate, and on
+//! each way out of a function, that drops the part.
 #![tactic(auto)]
 
 mod bytes;
@@ -8,26 +11,15 @@ mod expressions;
 mod names;
 mod operators;
 mod selects;
-mod shape;
-mod shape_declarations;
-mod shape_expressions;
-mod shape_statements;
-mod shape_units;
-mod spelling;
-mod spelling_declarations;
-mod spelling_expressions;
-mod spelling_selects;
-mod spelling_statements;
-mod spelling_units;
 mod statements;
 mod units;
 
 pub use bytes::Bytes;
 pub use declarations::{
-    Aspect, Body, Component, Constraint, Declaration, EntryDeclaration, EntryHead, Mark,
+    Aspect, Body, Component, Constraint, Declaration, EntryDeclaration, EntryHead,
     ObjectDeclaration, OperationBody, Parameter, ProtectedBody, ProtectedDeclaration,
-    ProtectedOperation, SubprogramSpecification, SubtypeDeclaration, TaskDeclaration,
-    TaskDefinition, TypeDeclaration, TypeDefinition,
+    ProtectedOperation, SubprogramSpecification, SubtypeDeclaration, SubtypeIndication,
+    TaskDeclaration, TaskDefinition, TypeDeclaration, TypeDefinition,
 };
 pub use expressions::{
     Addend, Argument, AttributeDesignator, Expression, ExpressionForm, Multiplied, Operand,
@@ -42,18 +34,12 @@ pub use selects::{
     Alternative, AsynchronousSelect, ConditionalEntryCall, Guard, SelectAlternative, SelectForm,
     SelectStatement, SelectiveAccept, TimedEntryCall, Trigger,
 };
-pub use shape_units::shaped;
-pub use spelling::Spelt;
-pub use spelling_units::spell;
 pub use statements::{
     Accept, AcceptBody, Assignment, Block, Call, Case, CaseAlternative, Choice, Delay, Elsif, Exit,
     HandledExceptions, Handler, If, Iteration, Label, Loop, Sequence, SequenceParts, SequenceRole,
     Statement,
 };
 pub use units::{
-    ContextClause, LibraryPackage, MainProcedure, Package, PackageBody, PackageDeclaration, Pragma,
-    Unit,
+    ContextClause, LibraryPackage, MAX_NESTING, MainProcedure, Package, PackageBody,
+    PackageDeclaration, Pragma, Unit,
 };
-
-#[cfg(test)]
-mod tests;

@@ -4,7 +4,6 @@ use ann_base::Place;
 use sqlite_items::Items;
 
 /// An identifier: a word that is not reserved (ISO/IEC 8652:2012, 2.3, 2.9).
-#[derive(Drop)]
 pub struct Identifier {
     /// Where it stands.
     pub place: Place,
@@ -12,8 +11,13 @@ pub struct Identifier {
     pub text: Bytes,
 }
 
+impl Drop for Identifier {
+    fn drop(self) {
+        let Identifier { place: _, text: _ } = self;
+    }
+}
+
 /// A list of the grammar that has one item at least, in the order of the text.
-#[derive(Drop)]
 pub struct OneOrMore<T> {
     /// The first item.
     pub first: T,
@@ -21,9 +25,23 @@ pub struct OneOrMore<T> {
     pub others: Items<T>,
 }
 
+impl<T: Drop> Drop for OneOrMore<T> {
+    fn drop(self) {
+        let OneOrMore {
+            first: _,
+            others: _,
+        } = self;
+    }
+}
+
 /// A direct name or an expanded name: identifiers with points between them (4.1, 4.1.3).
-#[derive(Drop)]
 pub struct Name {
     /// The identifiers, the prefix first.
     pub parts: OneOrMore<Identifier>,
+}
+
+impl Drop for Name {
+    fn drop(self) {
+        let Name { parts: _ } = self;
+    }
 }

@@ -12,7 +12,6 @@ pub struct SelectStatement<Q> {
 }
 
 /// The forms of select statements.
-#[derive(Drop)]
 pub enum SelectForm<Q> {
     /// A selective accept (9.7.1).
     SelectiveAccept(SelectiveAccept<Q>),
@@ -24,8 +23,18 @@ pub enum SelectForm<Q> {
     AsynchronousSelect(AsynchronousSelect<Q>),
 }
 
+impl<Q: Drop> Drop for SelectForm<Q> {
+    fn drop(self) {
+        match self {
+            SelectForm::SelectiveAccept(_) => (),
+            SelectForm::TimedEntryCall(_) => (),
+            SelectForm::ConditionalEntryCall(_) => (),
+            SelectForm::AsynchronousSelect(_) => (),
+        }
+    }
+}
+
 /// `ALTERNATIVE {or ALTERNATIVE} [else STATEMENTS]` (9.7.1)
-#[derive(Drop)]
 pub struct SelectiveAccept<Q> {
     /// The alternatives.
     pub alternatives: OneOrMore<SelectAlternative<Q>>,
@@ -33,13 +42,30 @@ pub struct SelectiveAccept<Q> {
     pub otherwise: Option<Q>,
 }
 
+impl<Q: Drop> Drop for SelectiveAccept<Q> {
+    fn drop(self) {
+        let SelectiveAccept {
+            alternatives: _,
+            otherwise: _,
+        } = self;
+    }
+}
+
 /// `[when EXPRESSION =>] ALTERNATIVE` (9.7.1)
-#[derive(Drop)]
 pub struct SelectAlternative<Q> {
     /// Its guard.
     pub guard: Option<Guard>,
     /// What it waits for.
     pub alternative: Alternative<Q>,
+}
+
+impl<Q: Drop> Drop for SelectAlternative<Q> {
+    fn drop(self) {
+        let SelectAlternative {
+            guard: _,
+            alternative: _,
+        } = self;
+    }
 }
 
 /// `when EXPRESSION =>` (9.7.1)
@@ -52,7 +78,6 @@ pub struct Guard {
 }
 
 /// What an alternative of a selective accept waits for (9.7.1).
-#[derive(Drop)]
 pub enum Alternative<Q> {
     /// An accept alternative.
     Accept {
@@ -75,8 +100,23 @@ pub enum Alternative<Q> {
     },
 }
 
+impl<Q: Drop> Drop for Alternative<Q> {
+    fn drop(self) {
+        match self {
+            Alternative::Accept {
+                accept: _,
+                statements: _,
+            } => (),
+            Alternative::Delay {
+                delay: _,
+                statements: _,
+            } => (),
+            Alternative::Terminate { place: _ } => (),
+        }
+    }
+}
+
 /// `CALL [STATEMENTS] or DELAY [STATEMENTS]` (9.7.2)
-#[derive(Drop)]
 pub struct TimedEntryCall<Q> {
     /// The entry call.
     pub call: Call,
@@ -88,8 +128,18 @@ pub struct TimedEntryCall<Q> {
     pub delay_statements: Option<Q>,
 }
 
+impl<Q: Drop> Drop for TimedEntryCall<Q> {
+    fn drop(self) {
+        let TimedEntryCall {
+            call: _,
+            statements: _,
+            delay: _,
+            delay_statements: _,
+        } = self;
+    }
+}
+
 /// `CALL [STATEMENTS] else STATEMENTS` (9.7.3)
-#[derive(Drop)]
 pub struct ConditionalEntryCall<Q> {
     /// The entry call.
     pub call: Call,
@@ -99,8 +149,17 @@ pub struct ConditionalEntryCall<Q> {
     pub otherwise: Q,
 }
 
+impl<Q: Drop> Drop for ConditionalEntryCall<Q> {
+    fn drop(self) {
+        let ConditionalEntryCall {
+            call: _,
+            statements: _,
+            otherwise: _,
+        } = self;
+    }
+}
+
 /// `TRIGGER [STATEMENTS] then abort STATEMENTS` (9.7.4)
-#[derive(Drop)]
 pub struct AsynchronousSelect<Q> {
     /// What triggers.
     pub trigger: Trigger,
@@ -110,11 +169,29 @@ pub struct AsynchronousSelect<Q> {
     pub abortable: Q,
 }
 
+impl<Q: Drop> Drop for AsynchronousSelect<Q> {
+    fn drop(self) {
+        let AsynchronousSelect {
+            trigger: _,
+            statements: _,
+            abortable: _,
+        } = self;
+    }
+}
+
 /// A triggering statement (9.7.4).
-#[derive(Drop)]
 pub enum Trigger {
     /// An entry call.
     Call(Call),
     /// A delay statement.
     Delay(Delay),
+}
+
+impl Drop for Trigger {
+    fn drop(self) {
+        match self {
+            Trigger::Call(_) => (),
+            Trigger::Delay(_) => (),
+        }
+    }
 }

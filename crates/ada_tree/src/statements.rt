@@ -15,7 +15,6 @@ pub struct Sequence {
 }
 
 /// The parts of a sequence.
-#[derive(Drop)]
 pub struct SequenceParts<Q> {
     /// The declarations, in a body or behind `declare`; none elsewhere.
     pub declarations: Items<Declaration<Q>>,
@@ -23,6 +22,16 @@ pub struct SequenceParts<Q> {
     pub statements: OneOrMore<Statement<Q>>,
     /// The handlers behind `exception`, in a body, a block or an accept statement; none elsewhere.
     pub handlers: Items<Handler<Q>>,
+}
+
+impl<Q: Drop> Drop for SequenceParts<Q> {
+    fn drop(self) {
+        let SequenceParts {
+            declarations: _,
+            statements: _,
+            handlers: _,
+        } = self;
+    }
 }
 
 /// What a sequence may hold where it stands.
@@ -37,7 +46,6 @@ pub enum SequenceRole {
 }
 
 /// A statement (5.1).
-#[derive(Drop)]
 pub enum Statement<Q> {
     /// `null;`
     Null {
@@ -96,8 +104,36 @@ pub enum Statement<Q> {
     Select(SelectStatement<Q>),
 }
 
+impl<Q: Drop> Drop for Statement<Q> {
+    fn drop(self) {
+        match self {
+            Statement::Null { place: _ } => (),
+            Statement::Assignment(_) => (),
+            Statement::Call(_) => (),
+            Statement::Delay(_) => (),
+            Statement::If(_) => (),
+            Statement::Case(_) => (),
+            Statement::Loop(_) => (),
+            Statement::Exit(_) => (),
+            Statement::Block(_) => (),
+            Statement::Return { place: _, value: _ } => (),
+            Statement::Raise {
+                place: _,
+                exception: _,
+            } => (),
+            Statement::Abort { place: _, tasks: _ } => (),
+            Statement::Accept(_) => (),
+            Statement::Requeue {
+                place: _,
+                entry: _,
+                with_abort: _,
+            } => (),
+            Statement::Select(_) => (),
+        }
+    }
+}
+
 /// `NAME [(EXPRESSION)] := EXPRESSION;` (5.2)
-#[derive(Drop)]
 pub struct Assignment {
     /// The variable or the array.
     pub target: Name,
@@ -107,13 +143,31 @@ pub struct Assignment {
     pub value: Expression,
 }
 
+impl Drop for Assignment {
+    fn drop(self) {
+        let Assignment {
+            target: _,
+            index: _,
+            value: _,
+        } = self;
+    }
+}
+
 /// `NAME [(ARGUMENT {, ARGUMENT})];` (6.4, 9.5.3)
-#[derive(Drop)]
 pub struct Call {
     /// The procedure or the entry.
     pub name: Name,
     /// The actuals; empty where no bracket stands.
     pub arguments: Items<Argument<Expression>>,
+}
+
+impl Drop for Call {
+    fn drop(self) {
+        let Call {
+            name: _,
+            arguments: _,
+        } = self;
+    }
 }
 
 /// `delay [until] EXPRESSION;` (9.6)
@@ -128,7 +182,6 @@ pub struct Delay {
 }
 
 /// An if statement (5.3).
-#[derive(Drop)]
 pub struct If<Q> {
     /// The place of `if`.
     pub place: Place,
@@ -142,8 +195,19 @@ pub struct If<Q> {
     pub otherwise: Option<Q>,
 }
 
+impl<Q: Drop> Drop for If<Q> {
+    fn drop(self) {
+        let If {
+            place: _,
+            condition: _,
+            statements: _,
+            elsifs: _,
+            otherwise: _,
+        } = self;
+    }
+}
+
 /// `elsif EXPRESSION then STATEMENTS` (5.3)
-#[derive(Drop)]
 pub struct Elsif<Q> {
     /// The place of `elsif`.
     pub place: Place,
@@ -153,8 +217,17 @@ pub struct Elsif<Q> {
     pub statements: Q,
 }
 
+impl<Q: Drop> Drop for Elsif<Q> {
+    fn drop(self) {
+        let Elsif {
+            place: _,
+            condition: _,
+            statements: _,
+        } = self;
+    }
+}
+
 /// A case statement (5.4).
-#[derive(Drop)]
 pub struct Case<Q> {
     /// The place of `case`.
     pub place: Place,
@@ -164,8 +237,17 @@ pub struct Case<Q> {
     pub alternatives: OneOrMore<CaseAlternative<Q>>,
 }
 
+impl<Q: Drop> Drop for Case<Q> {
+    fn drop(self) {
+        let Case {
+            place: _,
+            selector: _,
+            alternatives: _,
+        } = self;
+    }
+}
+
 /// `when CHOICE {| CHOICE} => STATEMENTS` (5.4)
-#[derive(Drop)]
 pub struct CaseAlternative<Q> {
     /// The place of `when`.
     pub place: Place,
@@ -175,8 +257,17 @@ pub struct CaseAlternative<Q> {
     pub statements: Q,
 }
 
+impl<Q: Drop> Drop for CaseAlternative<Q> {
+    fn drop(self) {
+        let CaseAlternative {
+            place: _,
+            choices: _,
+            statements: _,
+        } = self;
+    }
+}
+
 /// A discrete choice (3.8.1).
-#[derive(Drop)]
 pub enum Choice {
     /// One value.
     Value(Expression),
@@ -194,6 +285,16 @@ pub enum Choice {
     },
 }
 
+impl Drop for Choice {
+    fn drop(self) {
+        match self {
+            Choice::Value(_) => (),
+            Choice::Range { low: _, high: _ } => (),
+            Choice::Others { place: _ } => (),
+        }
+    }
+}
+
 /// A loop or a block's name before a colon (5.5, 5.6).
 #[derive(Drop)]
 pub struct Label {
@@ -204,7 +305,6 @@ pub struct Label {
 }
 
 /// A loop (5.5).
-#[derive(Drop)]
 pub struct Loop<Q> {
     /// Its name.
     pub label: Option<Label>,
@@ -216,8 +316,18 @@ pub struct Loop<Q> {
     pub statements: Q,
 }
 
+impl<Q: Drop> Drop for Loop<Q> {
+    fn drop(self) {
+        let Loop {
+            label: _,
+            iteration: _,
+            place: _,
+            statements: _,
+        } = self;
+    }
+}
+
 /// How a loop goes on (5.5).
-#[derive(Drop)]
 pub enum Iteration {
     /// Without an end.
     Forever,
@@ -243,8 +353,26 @@ pub enum Iteration {
     },
 }
 
+impl Drop for Iteration {
+    fn drop(self) {
+        match self {
+            Iteration::Forever => (),
+            Iteration::While {
+                place: _,
+                condition: _,
+            } => (),
+            Iteration::For {
+                place: _,
+                parameter: _,
+                reverse: _,
+                low: _,
+                high: _,
+            } => (),
+        }
+    }
+}
+
 /// `exit [NAME] [when EXPRESSION];` (5.7)
-#[derive(Drop)]
 pub struct Exit {
     /// The place of `exit`.
     pub place: Place,
@@ -254,8 +382,17 @@ pub struct Exit {
     pub condition: Option<Expression>,
 }
 
+impl Drop for Exit {
+    fn drop(self) {
+        let Exit {
+            place: _,
+            loop_name: _,
+            condition: _,
+        } = self;
+    }
+}
+
 /// A block (5.6).
-#[derive(Drop)]
 pub struct Block<Q> {
     /// Its name.
     pub label: Option<Label>,
@@ -267,8 +404,18 @@ pub struct Block<Q> {
     pub sequence: Q,
 }
 
+impl<Q: Drop> Drop for Block<Q> {
+    fn drop(self) {
+        let Block {
+            label: _,
+            place: _,
+            declare: _,
+            sequence: _,
+        } = self;
+    }
+}
+
 /// An exception handler (11.2).
-#[derive(Drop)]
 pub struct Handler<Q> {
     /// The place of `when`.
     pub place: Place,
@@ -278,8 +425,17 @@ pub struct Handler<Q> {
     pub statements: Q,
 }
 
+impl<Q: Drop> Drop for Handler<Q> {
+    fn drop(self) {
+        let Handler {
+            place: _,
+            exceptions: _,
+            statements: _,
+        } = self;
+    }
+}
+
 /// What a handler handles (11.2).
-#[derive(Drop)]
 pub enum HandledExceptions {
     /// `NAME {| NAME}`
     Named(OneOrMore<Name>),
@@ -290,8 +446,16 @@ pub enum HandledExceptions {
     },
 }
 
+impl Drop for HandledExceptions {
+    fn drop(self) {
+        match self {
+            HandledExceptions::Named(_) => (),
+            HandledExceptions::Others { place: _ } => (),
+        }
+    }
+}
+
 /// An accept statement (9.5.2).
-#[derive(Drop)]
 pub struct Accept<Q> {
     /// The place of `accept`.
     pub place: Place,
@@ -301,6 +465,17 @@ pub struct Accept<Q> {
     pub parameters: Items<Parameter>,
     /// What stands behind `do`.
     pub body: Option<AcceptBody<Q>>,
+}
+
+impl<Q: Drop> Drop for Accept<Q> {
+    fn drop(self) {
+        let Accept {
+            place: _,
+            entry: _,
+            parameters: _,
+            body: _,
+        } = self;
+    }
 }
 
 /// `do SEQUENCE end [NAME]` (9.5.2)

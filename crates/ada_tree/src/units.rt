@@ -5,8 +5,10 @@ use crate::{
 use ann_base::Place;
 use sqlite_items::Items;
 
+/// How many levels of nesting a source may open.
+pub const MAX_NESTING: usize = 100;
+
 /// A source: pragmas, packages, and the main procedure with its context (10.1, 10.2).
-#[derive(Drop)]
 pub struct Unit {
     /// The pragmas before the first unit.
     pub pragmas: Items<Pragma>,
@@ -18,8 +20,18 @@ pub struct Unit {
     pub main: MainProcedure,
 }
 
+impl Drop for Unit {
+    fn drop(self) {
+        let Unit {
+            pragmas: _,
+            packages: _,
+            context: _,
+            main: _,
+        } = self;
+    }
+}
+
 /// `pragma NAME (ARGUMENT {, ARGUMENT});` (2.8)
-#[derive(Drop)]
 pub struct Pragma {
     /// The place of `pragma`.
     pub place: Place,
@@ -29,8 +41,17 @@ pub struct Pragma {
     pub arguments: OneOrMore<Argument<Expression>>,
 }
 
+impl Drop for Pragma {
+    fn drop(self) {
+        let Pragma {
+            place: _,
+            name: _,
+            arguments: _,
+        } = self;
+    }
+}
+
 /// `(with | use) NAME {, NAME};` (10.1.2, 8.4)
-#[derive(Drop)]
 pub struct ContextClause {
     /// The place of `with` or `use`.
     pub place: Place,
@@ -40,8 +61,17 @@ pub struct ContextClause {
     pub names: OneOrMore<Name>,
 }
 
+impl Drop for ContextClause {
+    fn drop(self) {
+        let ContextClause {
+            place: _,
+            is_use: _,
+            names: _,
+        } = self;
+    }
+}
+
 /// A package with its context (10.1.1).
-#[derive(Drop)]
 pub struct LibraryPackage {
     /// The context.
     pub context: Items<ContextClause>,
@@ -49,8 +79,16 @@ pub struct LibraryPackage {
     pub package: Package,
 }
 
+impl Drop for LibraryPackage {
+    fn drop(self) {
+        let LibraryPackage {
+            context: _,
+            package: _,
+        } = self;
+    }
+}
+
 /// A package's declaration or its body (7.1, 7.2).
-#[derive(Drop)]
 pub enum Package {
     /// A declaration.
     Declaration(PackageDeclaration),
@@ -58,8 +96,16 @@ pub enum Package {
     Body(PackageBody),
 }
 
+impl Drop for Package {
+    fn drop(self) {
+        match self {
+            Package::Declaration(_) => (),
+            Package::Body(_) => (),
+        }
+    }
+}
+
 /// `package NAME is {DECLARATION} [private {DECLARATION}] end [NAME];` (7.1)
-#[derive(Drop)]
 pub struct PackageDeclaration {
     /// The place of `package`.
     pub place: Place,
@@ -73,8 +119,19 @@ pub struct PackageDeclaration {
     pub named_at_end: bool,
 }
 
+impl Drop for PackageDeclaration {
+    fn drop(self) {
+        let PackageDeclaration {
+            place: _,
+            name: _,
+            declarations: _,
+            private: _,
+            named_at_end: _,
+        } = self;
+    }
+}
+
 /// `package body NAME is {DECLARATION} [begin SEQUENCE] end [NAME];` (7.2)
-#[derive(Drop)]
 pub struct PackageBody {
     /// The place of `package`.
     pub place: Place,
@@ -88,8 +145,19 @@ pub struct PackageBody {
     pub named_at_end: bool,
 }
 
+impl Drop for PackageBody {
+    fn drop(self) {
+        let PackageBody {
+            place: _,
+            name: _,
+            declarations: _,
+            sequence: _,
+            named_at_end: _,
+        } = self;
+    }
+}
+
 /// `procedure NAME [ASPECTS] is BODY` (6.3)
-#[derive(Drop)]
 pub struct MainProcedure {
     /// The place of `procedure`.
     pub place: Place,
@@ -99,4 +167,15 @@ pub struct MainProcedure {
     pub aspects: Items<Aspect>,
     /// What stands behind `is`.
     pub body: Body<Sequence>,
+}
+
+impl Drop for MainProcedure {
+    fn drop(self) {
+        let MainProcedure {
+            place: _,
+            name: _,
+            aspects: _,
+            body: _,
+        } = self;
+    }
 }

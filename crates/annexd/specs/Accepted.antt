@@ -57,7 +57,6 @@ lexical_code (lexical.BadByte place) = refused_at place 70 1
 lexical_code (lexical.BadNumber place) = refused_at place 70 2
 lexical_code (lexical.OpenString place) = refused_at place 70 3
 lexical_code lexical.TooLong = refused_at first_place 70 4
-lexical_code lexical.Memory = Memory
 
 -- the place behind bytes: a line feed alone ends a line
 abbrev pub behind_place : Place → ℕ → Place
@@ -72,7 +71,7 @@ abbrev pub end_of : List ℕ → Place
 end_of source = behind_bytes first_place source
 
 abbrev pub no_token : Token
-no_token = record { kind = kinds.Mark; first = 0; end = 0; place = first_place }
+no_token = record { kind = kinds.Delimiter; first = 0; end = 0; place = first_place }
 
 abbrev pub place_of : List ℕ → List Token → ℕ → Place
 place_of source tokens n = cond (nat_lt n (length tokens)) (slice_index_or tokens n no_token).place (end_of source)
@@ -81,7 +80,6 @@ place_of source tokens n = cond (nat_lt n (length tokens)) (slice_index_or token
 abbrev pub grammar_code : List ℕ → List Token → ParseFault → Refused
 grammar_code source tokens (grammatical.Unexpected token) = refused_at (place_of source tokens token) 70 5
 grammar_code source tokens (grammatical.TooDeep token) = refused_at (place_of source tokens token) 70 6
-grammar_code source tokens grammatical.Memory = Memory
 
 -- L40
 abbrev pub form_code : NotBuilt → Refused

@@ -17,6 +17,7 @@ use ada_names::{Image, number};
 use ada_parse::parse;
 use ada_static::{Checked, Refusal, check};
 use ada_tree::Unit;
+use ann_base::OrMemory;
 use std::alloc::Global;
 
 /// The checked image of a source, or why it is refused: the first stage that refuses decides.
@@ -30,7 +31,8 @@ pub fn accept(alloc: Global, source: &[u8]) -> Result<Checked, Refused>
 {
     match lex(alloc, source) {
         Ok(tokens) => accept_tokens(alloc, source, &tokens),
-        Err(fault) => Err(lexical(fault)),
+        Err(OrMemory::Fault(fault)) => Err(lexical(fault)),
+        Err(OrMemory::Memory) => Err(Refused::Memory),
     }
 }
 
@@ -47,7 +49,8 @@ fn accept_tokens(alloc: Global, source: &[u8], tokens: &[Token]) -> Result<Check
     built_is_readable();
     match parse(alloc, source, tokens) {
         Ok(tree) => accept_tree(alloc, &tree),
-        Err(fault) => Err(grammatical(source, tokens, fault)),
+        Err(OrMemory::Fault(fault)) => Err(grammatical(source, tokens, fault)),
+        Err(OrMemory::Memory) => Err(Refused::Memory),
     }
 }
 

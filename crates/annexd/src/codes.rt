@@ -46,7 +46,6 @@ pub fn lexical(fault: LexFault) -> Refused
         LexFault::BadNumber(place) => refused_at(place, b'F', 2),
         LexFault::OpenString(place) => refused_at(place, b'F', 3),
         LexFault::TooLong => refused_at(FIRST, b'F', 4),
-        LexFault::Memory => Refused::Memory,
     }
 }
 
@@ -58,7 +57,6 @@ pub fn grammatical(source: &[u8], tokens: &[Token], fault: ParseFault) -> Refuse
     match fault {
         ParseFault::Unexpected { token } => refused_at(place_of(source, tokens, token), b'F', 5),
         ParseFault::TooDeep { token } => refused_at(place_of(source, tokens, token), b'F', 6),
-        ParseFault::Memory => Refused::Memory,
     }
 }
 

@@ -7,13 +7,13 @@ use Rattle.ada_tree.specs.declared.statements.SequenceRole.TheVariants as role
 use Rattle.ada_tree.specs.declared.declarations.SubprogramSpecification.{SubprogramSpecification}
 use Rattle.ada_grammar.specs.Reading.{Parser, below}
 use Rattle.ada_grammar.specs.ReadingBodies.{body_of, subprogram_operation_of, entry_operation_of, operation_body_of, subprogram_body_of, subprogram_of, task_body_of, any_task_of, protected_body_of, any_protected_of, declaration_of, begins_unit, begins_declaration}
-use Rattle.fault_places.proofs.Local.{Local, Eats, Head, local_pure, local_then, local_choose, head_starts, head_or, local_word, local_mark, local_identifier, eats_first, eats_choose, eats_word, local_end_name, local_opening_is, local_items}
+use Rattle.fault_places.proofs.Local.{Local, Eats, Head, local_pure, local_then, local_choose, head_starts, head_or, local_word, local_delimiter, local_identifier, eats_first, eats_choose, eats_word, local_end_name, local_opening_is, local_items}
 use Rattle.fault_places.proofs.Passing.{Each}
 use Rattle.fault_places.proofs.Declarations.{local_named_declaration, eats_named_declaration, local_type, eats_type, local_subtype, eats_subtype, local_use, eats_use, local_specification, eats_specification, head_begins_specification, local_task, head_begins_operation, local_protected, local_entry_head, eats_entry_head}
 
 pub local_body : (left : ℕ) (sequence : SequenceRole → Parser Sequence) (is_sequence : Each sequence) (name : List ℕ) → Local (body_of left sequence name)
 unfolding body_of
-local_body left sequence is_sequence name = local_then (local_opening_is left) (λ _. local_then (is_sequence role.Body) (λ inside. local_then (local_word _) (λ _. local_then (local_end_name _) (λ named. local_then (local_mark _) (λ _. local_pure _)))))
+local_body left sequence is_sequence name = local_then (local_opening_is left) (λ _. local_then (is_sequence role.Body) (λ inside. local_then (local_word _) (λ _. local_then (local_end_name _) (λ named. local_then (local_delimiter _) (λ _. local_pure _)))))
 
 pub local_subprogram_operation : (left : ℕ) (sequence : SequenceRole → Parser Sequence) (is_sequence : Each sequence) → Local (subprogram_operation_of left sequence)
 unfolding subprogram_operation_of
@@ -45,11 +45,11 @@ local_subprogram_body left sequence is_sequence specification = local_then (loca
 
 pub local_subprogram : (left : ℕ) (sequence : SequenceRole → Parser Sequence) (is_sequence : Each sequence) → Local (subprogram_of left sequence)
 unfolding subprogram_of
-local_subprogram left sequence is_sequence = local_then (local_specification left) (λ specification. local_choose (head_starts _) (local_then (local_mark _) (λ _. local_pure _)) (local_subprogram_body left sequence is_sequence specification))
+local_subprogram left sequence is_sequence = local_then (local_specification left) (λ specification. local_choose (head_starts _) (local_then (local_delimiter _) (λ _. local_pure _)) (local_subprogram_body left sequence is_sequence specification))
 
 pub eats_subprogram : (left : ℕ) (sequence : SequenceRole → Parser Sequence) (is_sequence : Each sequence) → Eats (subprogram_of left sequence)
 unfolding subprogram_of
-eats_subprogram left sequence is_sequence = eats_first (eats_specification left) (λ specification. local_choose (head_starts _) (local_then (local_mark _) (λ _. local_pure _)) (local_subprogram_body left sequence is_sequence specification))
+eats_subprogram left sequence is_sequence = eats_first (eats_specification left) (λ specification. local_choose (head_starts _) (local_then (local_delimiter _) (λ _. local_pure _)) (local_subprogram_body left sequence is_sequence specification))
 
 pub local_task_body : (left : ℕ) (sequence : SequenceRole → Parser Sequence) (is_sequence : Each sequence) (place : Place) → Local (task_body_of left sequence place)
 unfolding task_body_of
@@ -65,7 +65,7 @@ eats_any_task left sequence is_sequence = eats_first (eats_word _) (λ place. lo
 
 pub local_protected_body : (left : ℕ) (sequence : SequenceRole → Parser Sequence) (is_sequence : Each sequence) (deeper : SequenceRole → Parser Sequence) (is_deeper : Each deeper) (place : Place) → Local (protected_body_of left sequence deeper place)
 unfolding protected_body_of
-local_protected_body left sequence is_sequence deeper is_deeper place = local_then (local_word _) (λ _. local_then local_identifier (λ name. local_then (local_opening_is left) (λ _. local_then (local_items head_begins_operation (local_operation_body (below left) deeper is_deeper) (eats_operation_body (below left) deeper is_deeper)) (λ operation_bodies. local_then (local_word _) (λ _. local_then (local_end_name _) (λ named. local_then (local_mark _) (λ _. local_pure _)))))))
+local_protected_body left sequence is_sequence deeper is_deeper place = local_then (local_word _) (λ _. local_then local_identifier (λ name. local_then (local_opening_is left) (λ _. local_then (local_items head_begins_operation (local_operation_body (below left) deeper is_deeper) (eats_operation_body (below left) deeper is_deeper)) (λ operation_bodies. local_then (local_word _) (λ _. local_then (local_end_name _) (λ named. local_then (local_delimiter _) (λ _. local_pure _)))))))
 
 pub local_any_protected : (left : ℕ) (sequence : SequenceRole → Parser Sequence) (is_sequence : Each sequence) (deeper : SequenceRole → Parser Sequence) (is_deeper : Each deeper) → Local (any_protected_of left sequence deeper)
 unfolding any_protected_of

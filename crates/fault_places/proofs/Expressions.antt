@@ -16,22 +16,22 @@ use Rattle.ada_tree.specs.declared.operators.Attribute.{Attribute}
 use Rattle.ada_tree.specs.declared.operators.Attribute.TheVariants as attributes
 use Rattle.ada_tree.specs.declared.expressions.Expression.{Expression}
 use Rattle.ada_tree.specs.SpellingExpressions.{highest_text}
-use Rattle.ada_grammar.specs.Reading.{Parser, nothing, is_this_word, is_this_mark}
-use Rattle.ada_grammar.specs.ReadingExpressions.{relational_of, adding_of, compares, comparison_of, adds, addition_of, multiplies, multiplying_mark_of, multiplying_word_of, multiplication_of, joins, conjunction_of, disjunction_of, exclusive_of, logical_operator_of, both_words_of, again_of, this_attribute_of, attribute_word_of, designator_of, named_argument_of, argument_of, given_arguments_of, arguments_of, named_of, bracketed_of, primary_of, highest_of, factor_of, multiplied_of, product_of, term_of, signed_of, first_term_of, addend_of, addition_behind_of, sum_of, compared_of, relation_of, operand_of, joined_of, logical_of, expression_of, inner_of}
-use Rattle.fault_places.proofs.Local.{Local, Eats, Head, local_pure, local_nothing, local_then, local_choose, head_starts, head_or, local_word, local_mark, local_identifier, local_number, local_text, eats_first, eats_choose, eats_word, eats_mark, local_opening, local_items, local_behind_mark, eats_behind_mark, local_name}
-use Rattle.fault_places.proofs.Passing.{Takes, takes_then, takes_word, takes_number, takes_text, passes_identifier, passes_name, passes_choose, passes_mark, local_choose_both, local_stuck_then, never_opens, Inside, Passes}
+use Rattle.ada_grammar.specs.Reading.{Parser, nothing, is_this_word, is_this_delimiter}
+use Rattle.ada_grammar.specs.ReadingExpressions.{relational_of, adding_of, compares, comparison_of, adds, addition_of, multiplies, multiplying_delimiter_of, multiplying_word_of, multiplication_of, joins, conjunction_of, disjunction_of, exclusive_of, logical_operator_of, both_words_of, again_of, this_attribute_of, attribute_word_of, designator_of, named_argument_of, argument_of, given_arguments_of, arguments_of, named_of, bracketed_of, primary_of, highest_of, factor_of, multiplied_of, product_of, term_of, signed_of, first_term_of, addend_of, addition_behind_of, sum_of, compared_of, relation_of, operand_of, joined_of, logical_of, expression_of, inner_of}
+use Rattle.fault_places.proofs.Local.{Local, Eats, Head, local_pure, local_nothing, local_then, local_choose, head_starts, head_or, local_word, local_delimiter, local_identifier, local_number, local_text, eats_first, eats_choose, eats_word, eats_delimiter, local_opening, local_items, local_behind_delimiter, eats_behind_delimiter, local_name}
+use Rattle.fault_places.proofs.Passing.{Takes, takes_then, takes_word, takes_number, takes_text, passes_identifier, passes_name, passes_choose, passes_delimiter, local_choose_both, local_stuck_then, never_opens, Inside, Passes}
 
 pub local_relational : (operator : RelationalOperator) → Local (relational_of operator)
 unfolding relational_of
-local_relational operator = local_then (local_mark _) (λ place. local_pure _)
+local_relational operator = local_then (local_delimiter _) (λ place. local_pure _)
 
 pub local_adding : (operator : AddingOperator) → Local (adding_of operator)
 unfolding adding_of
-local_adding operator = local_then (local_mark _) (λ place. local_pure _)
+local_adding operator = local_then (local_delimiter _) (λ place. local_pure _)
 
 pub eats_adding : (operator : AddingOperator) → Eats (adding_of operator)
 unfolding adding_of
-eats_adding operator = eats_first (eats_mark _) (λ place. local_pure _)
+eats_adding operator = eats_first (eats_delimiter _) (λ place. local_pure _)
 
 pub head_compares : Head compares
 head_compares = head_or (head_starts _) (head_or (head_starts _) (head_or (head_starts _) (head_or (head_starts _) (head_or (head_starts _) (head_starts _)))))
@@ -54,13 +54,13 @@ eats_addition = eats_choose _ (eats_adding adding.Plus) (eats_choose _ (eats_add
 pub head_multiplies : Head multiplies
 head_multiplies = head_or (head_starts _) (head_or (head_starts _) (head_or (head_starts _) (head_starts _)))
 
-pub local_multiplying_mark : (text : List ℕ) (operator : MultiplyingOperator) → Local (multiplying_mark_of text operator)
-unfolding multiplying_mark_of
-local_multiplying_mark text operator = local_then (local_mark _) (λ place. local_pure _)
+pub local_multiplying_delimiter : (text : List ℕ) (operator : MultiplyingOperator) → Local (multiplying_delimiter_of text operator)
+unfolding multiplying_delimiter_of
+local_multiplying_delimiter text operator = local_then (local_delimiter _) (λ place. local_pure _)
 
-pub eats_multiplying_mark : (text : List ℕ) (operator : MultiplyingOperator) → Eats (multiplying_mark_of text operator)
-unfolding multiplying_mark_of
-eats_multiplying_mark text operator = eats_first (eats_mark _) (λ place. local_pure _)
+pub eats_multiplying_delimiter : (text : List ℕ) (operator : MultiplyingOperator) → Eats (multiplying_delimiter_of text operator)
+unfolding multiplying_delimiter_of
+eats_multiplying_delimiter text operator = eats_first (eats_delimiter _) (λ place. local_pure _)
 
 pub local_multiplying_word : (text : List ℕ) (operator : MultiplyingOperator) → Local (multiplying_word_of text operator)
 unfolding multiplying_word_of
@@ -72,11 +72,11 @@ eats_multiplying_word text operator = eats_first (eats_word _) (λ place. local_
 
 pub local_multiplication : Local multiplication_of
 unfolding multiplication_of
-local_multiplication = local_choose (head_starts _) (local_multiplying_mark (codes "*") multiplying.Times) (local_choose (head_starts _) (local_multiplying_mark (codes "/") multiplying.Divide) (local_choose (head_starts _) (local_multiplying_word (codes "mod") multiplying.Modulus) (local_multiplying_word (codes "rem") multiplying.Remainder)))
+local_multiplication = local_choose (head_starts _) (local_multiplying_delimiter (codes "*") multiplying.Times) (local_choose (head_starts _) (local_multiplying_delimiter (codes "/") multiplying.Divide) (local_choose (head_starts _) (local_multiplying_word (codes "mod") multiplying.Modulus) (local_multiplying_word (codes "rem") multiplying.Remainder)))
 
 pub eats_multiplication : Eats multiplication_of
 unfolding multiplication_of
-eats_multiplication = eats_choose _ (eats_multiplying_mark (codes "*") multiplying.Times) (eats_choose _ (eats_multiplying_mark (codes "/") multiplying.Divide) (eats_choose _ (eats_multiplying_word (codes "mod") multiplying.Modulus) (eats_multiplying_word (codes "rem") multiplying.Remainder)))
+eats_multiplication = eats_choose _ (eats_multiplying_delimiter (codes "*") multiplying.Times) (eats_choose _ (eats_multiplying_delimiter (codes "/") multiplying.Divide) (eats_choose _ (eats_multiplying_word (codes "mod") multiplying.Modulus) (eats_multiplying_word (codes "rem") multiplying.Remainder)))
 
 pub head_joins : Head joins
 head_joins = head_or (head_starts _) (head_or (head_starts _) (head_starts _))
@@ -129,27 +129,27 @@ local_attribute_word = local_choose (head_starts _) (local_this_attribute attrib
 
 pub local_designator : Local designator_of
 unfolding designator_of
-local_designator = local_choose (head_starts _) (local_then (local_mark _) (λ _. local_then local_attribute_word (λ word. local_pure _))) (local_pure _)
+local_designator = local_choose (head_starts _) (local_then (local_delimiter _) (λ _. local_then local_attribute_word (λ word. local_pure _))) (local_pure _)
 
 pub local_named_argument : (left : ℕ) (inner : Parser Expression) (inside : Inside left inner) → Local (named_argument_of left inner)
 unfolding named_argument_of
-local_named_argument left inner inside = local_then local_identifier (λ formal. local_then (local_mark _) (λ _. local_then inside.local (λ value. local_pure _)))
+local_named_argument left inner inside = local_then local_identifier (λ formal. local_then (local_delimiter _) (λ _. local_then inside.local (λ value. local_pure _)))
 
 pub passes_named_argument : (left : ℕ) (inner : Parser Expression) (inside : Inside left inner) → Passes (named_argument_of left inner)
 unfolding named_argument_of
-passes_named_argument left inner inside = (takes_then passes_identifier (λ formal. local_then (local_mark _) (λ _. local_then inside.local (λ value. local_pure _))))
+passes_named_argument left inner inside = (takes_then passes_identifier (λ formal. local_then (local_delimiter _) (λ _. local_then inside.local (λ value. local_pure _))))
 
 pub local_argument : (left : ℕ) (inner : Parser Expression) (inside : Inside left inner) (passes : Passes inner) → Local (argument_of left inner)
 unfolding argument_of
 local_argument left inner inside passes =
-    local_choose_both (is_this_mark (codes "=>")) _ _ (local_named_argument left inner inside) (local_then inside.local (λ value. local_pure _)) (passes_named_argument left inner inside) (takes_then passes (λ value. local_pure _))
+    local_choose_both (is_this_delimiter (codes "=>")) _ _ (local_named_argument left inner inside) (local_then inside.local (λ value. local_pure _)) (passes_named_argument left inner inside) (takes_then passes (λ value. local_pure _))
 
 pub local_given_arguments : (left : ℕ) (inner : Parser Expression) (inside : Inside left inner) → Local (given_arguments_of left inner)
 unfolding given_arguments_of
 local_given_arguments zero inner inside = local_stuck_then _ (local_opening zero) never_opens
 local_given_arguments (suc left) inner inside =
     let argument = local_argument (suc left) inner inside inside.passes in
-    local_then (local_opening (suc left)) (λ _. local_then argument (λ first. local_then (local_items (head_starts _) (local_behind_mark _ argument) (eats_behind_mark _ argument)) (λ others. local_then (local_mark _) (λ _. local_pure _))))
+    local_then (local_opening (suc left)) (λ _. local_then argument (λ first. local_then (local_items (head_starts _) (local_behind_delimiter _ argument) (eats_behind_delimiter _ argument)) (λ others. local_then (local_delimiter _) (λ _. local_pure _))))
 
 pub local_arguments : (left : ℕ) (inner : Parser Expression) (inside : Inside left inner) → Local (arguments_of left inner)
 unfolding arguments_of
@@ -161,7 +161,7 @@ local_named left inner inside = local_then local_name (λ name. local_then local
 
 pub local_bracketed : (left : ℕ) (inner : Parser Expression) (inside : Inside left inner) → Local (bracketed_of left inner)
 unfolding bracketed_of
-local_bracketed left inner inside = local_then (local_opening left) (λ place. local_then inside.local (λ expression. local_then (local_mark _) (λ _. local_pure _)))
+local_bracketed left inner inside = local_then (local_opening left) (λ place. local_then inside.local (λ expression. local_then (local_delimiter _) (λ _. local_pure _)))
 
 pub local_primary : (left : ℕ) (inner : Parser Expression) (inside : Inside left inner) → Local (primary_of left inner)
 unfolding primary_of
@@ -193,7 +193,7 @@ local_term left inner inside = local_then (local_factor left inner inside) (λ f
 
 pub local_signed : (left : ℕ) (inner : Parser Expression) (inside : Inside left inner) (sign : Sign) → Local (signed_of left inner sign)
 unfolding signed_of
-local_signed left inner inside sign = local_then (local_mark _) (λ place. local_then (local_term left inner inside) (λ operand. local_pure _))
+local_signed left inner inside sign = local_then (local_delimiter _) (λ place. local_then (local_term left inner inside) (λ operand. local_pure _))
 
 pub local_first_term : (left : ℕ) (inner : Parser Expression) (inside : Inside left inner) → Local (first_term_of left inner)
 unfolding first_term_of
@@ -245,7 +245,7 @@ passes_named left inner inside = (takes_then passes_name (λ name. local_then lo
 
 pub passes_primary : (left : ℕ) (inner : Parser Expression) (inside : Inside left inner) → Passes (primary_of left inner)
 unfolding primary_of
-passes_primary left inner inside = (passes_choose _ (takes_then takes_number (λ number. local_pure _)) (passes_choose _ (takes_then takes_text (λ text. local_pure _)) (passes_choose _ (takes_then (takes_word _) (λ place. local_pure _)) (passes_mark _ _ (passes_named left inner inside)))))
+passes_primary left inner inside = (passes_choose _ (takes_then takes_number (λ number. local_pure _)) (passes_choose _ (takes_then takes_text (λ text. local_pure _)) (passes_choose _ (takes_then (takes_word _) (λ place. local_pure _)) (passes_delimiter _ _ (passes_named left inner inside)))))
 
 pub takes_highest : (left : ℕ) (inner : Parser Expression) (inside : Inside left inner) (operator : HighestOperator) → Takes (is_this_word (highest_text operator)) (highest_of left inner operator)
 unfolding highest_of
@@ -261,7 +261,7 @@ passes_term left inner inside = (takes_then (passes_factor left inner inside) (�
 
 pub passes_first_term : (left : ℕ) (inner : Parser Expression) (inside : Inside left inner) → Passes (first_term_of left inner)
 unfolding first_term_of
-passes_first_term left inner inside = (passes_mark _ _ (passes_mark _ _ (passes_term left inner inside)))
+passes_first_term left inner inside = (passes_delimiter _ _ (passes_delimiter _ _ (passes_term left inner inside)))
 
 pub passes_sum : (left : ℕ) (inner : Parser Expression) (inside : Inside left inner) → Passes (sum_of left inner)
 unfolding sum_of

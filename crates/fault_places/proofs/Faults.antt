@@ -51,7 +51,6 @@ abbrev token_of : Result Tree ParseFault → ℕ
 token_of (Ok unit) = 0
 token_of (Err (faults.Unexpected token)) = token
 token_of (Err (faults.TooDeep token)) = token
-token_of (Err faults.Memory) = 0
 
 stops_too : (x : Lexeme) (r s : List Lexeme) (make : ℕ → Stuck) (n : ℕ) (other : Read Tree) → KeptStuck x r s make n other → Stops other
 stops_too x r s make n other k = subst Stops (sym k.same) tt
@@ -61,14 +60,12 @@ too_late front x r left token later count is = omega (arith, later, count, is, l
 
 stops_on : (front : List Lexeme) (x : Lexeme) (r s : List Lexeme) (read other : Read Tree) (token : ℕ) → Moves x r s read other → length front ≡ token → placed (length (front ++ x ∷ r)) read ≡ fault_at (faults.Unexpected token) → Stops other
 stops_on front x r s (Ok p) other token moves count is = absurd cc
-stops_on front x r s (Err stuck.Memory) other token moves count is = absurd cc
 stops_on front x r s (Err (stuck.At left)) other token (inl k) count is = stops_too x r s stuck.At left other k
 stops_on front x r s (Err (stuck.At left)) other token (inr later) count is = absurd (too_late front x r left token later count (ap token_of is))
 stops_on front x r s (Err (stuck.TooDeep left)) other token moves count is = absurd cc
 
 stops_deeper : (front : List Lexeme) (x : Lexeme) (r s : List Lexeme) (read other : Read Tree) (token : ℕ) → Moves x r s read other → length front ≡ token → placed (length (front ++ x ∷ r)) read ≡ fault_at (faults.TooDeep token) → Stops other
 stops_deeper front x r s (Ok p) other token moves count is = absurd cc
-stops_deeper front x r s (Err stuck.Memory) other token moves count is = absurd cc
 stops_deeper front x r s (Err (stuck.At left)) other token moves count is = absurd cc
 stops_deeper front x r s (Err (stuck.TooDeep left)) other token (inl k) count is = stops_too x r s stuck.TooDeep left other k
 stops_deeper front x r s (Err (stuck.TooDeep left)) other token (inr later) count is = absurd (too_late front x r left token later count (ap token_of is))

@@ -3,12 +3,11 @@ use Rattle.std.proofs.Common.{◌≡◌, ℕ, zero, suc, ◌<◌, ◌≤◌, ◌
 use Rattle.ada_tree.specs.Written.{Lexeme}
 use Rattle.ada_grammar.specs.declared.stuck.Stuck.{Stuck}
 use Rattle.ada_grammar.specs.declared.stuck.Stuck.TheVariants as stuck
-use Rattle.ada_grammar.specs.Reading.{Read, Parser, and_then, ◌>>=◌, pure, nothing, too_deep, choose, starts, is_this_word, is_this_mark, is_identifier, is_numeral, is_string, token, the_word, the_mark, an_identifier, a_number, a_text, flag_of, end_name_of, opening_of, opening_is_of, items_from, items_of, behind_mark_of, separated_of, identifiers_of, name_of, names_of}
+use Rattle.ada_grammar.specs.Reading.{Read, Parser, and_then, ◌>>=◌, pure, nothing, too_deep, choose, starts, is_this_word, is_this_delimiter, is_identifier, is_numeral, is_string, token, the_word, the_delimiter, an_identifier, a_number, a_text, flag_of, end_name_of, opening_of, opening_is_of, items_from, items_of, behind_delimiter_of, separated_of, identifiers_of, name_of, names_of}
 
 -- ---- what is left is at most so much
 
 abbrev pub StuckWithin : ℕ → Stuck → Type 0
-StuckWithin n stuck.Memory = Unit {0}
 StuckWithin n (stuck.At left) = left ≤ n
 StuckWithin n (stuck.TooDeep left) = left ≤ n
 
@@ -17,7 +16,6 @@ Within n (Ok p) = length p.1 ≤ n
 Within n (Err why) = StuckWithin n why
 
 stuck_wider : (a b : ℕ) (why : Stuck) → a ≤ b → StuckWithin a why → StuckWithin b why
-stuck_wider a b stuck.Memory less h = tt
 stuck_wider a b (stuck.At left) less h = omega (arith, less, h)
 stuck_wider a b (stuck.TooDeep left) less h = omega (arith, less, h)
 
@@ -39,7 +37,6 @@ module _ (x : Lexeme) (r s : List Lexeme) where
     pub same : other ≡ Err (make (length (front ++ x ∷ s)))
 
   abbrev pub MovesStuck : {A : Type 0} → Stuck → Read A → Type 0
-  MovesStuck stuck.Memory other = Unit {0}
   MovesStuck (stuck.At n) other = KeptStuck stuck.At n other ⊎ (n ≤ length r)
   MovesStuck (stuck.TooDeep n) other = KeptStuck stuck.TooDeep n other ⊎ (n ≤ length r)
 
@@ -48,7 +45,6 @@ module _ (x : Lexeme) (r s : List Lexeme) where
   Moves (Err why) other = MovesStuck why other
 
   past_stuck : {A : Type 0} (why : Stuck) (other : Read A) → StuckWithin (length r) why → MovesStuck why other
-  past_stuck stuck.Memory other h = tt
   past_stuck (stuck.At n) other h = inr h
   past_stuck (stuck.TooDeep n) other h = inr h
 
@@ -89,7 +85,6 @@ module _ (x : Lexeme) (r s : List Lexeme) where
       subst (λ z. Moves x r s (f a z) (and_then other f)) (sym k.is) (subst (λ z. Moves x r s (f a (k.front ++ x ∷ r)) (and_then z f)) (sym k.same) ((local a).moves k.front x r s))
 
   pub stuck_then : {A B : Type 0} (f : A → Parser B) (why : Stuck) (other : Read A) → MovesStuck x r s why other → MovesStuck x r s {A = B} why (and_then other f)
-  stuck_then f stuck.Memory other h = tt
   stuck_then f (stuck.At n) other (inl k) = inl (record { front = k.front; is = k.is; same = ap (λ z. and_then z f) k.same })
   stuck_then f (stuck.At n) other (inr h) = inr h
   stuck_then f (stuck.TooDeep n) other (inl k) = inl (record { front = k.front; is = k.is; same = ap (λ z. and_then z f) k.same })
@@ -165,9 +160,9 @@ pub local_word : (text : List ℕ) → Local (the_word text)
 unfolding the_word
 local_word text = local_then (local_token (is_this_word text)) (λ l. local_pure l.place)
 
-pub local_mark : (text : List ℕ) → Local (the_mark text)
-unfolding the_mark
-local_mark text = local_then (local_token (is_this_mark text)) (λ l. local_pure l.place)
+pub local_delimiter : (text : List ℕ) → Local (the_delimiter text)
+unfolding the_delimiter
+local_delimiter text = local_then (local_token (is_this_delimiter text)) (λ l. local_pure l.place)
 
 pub local_identifier : Local an_identifier
 unfolding an_identifier
@@ -237,9 +232,9 @@ pub eats_word : (text : List ℕ) → Eats (the_word text)
 unfolding the_word
 eats_word text = eats_first (eats_token (is_this_word text)) (λ l. local_pure l.place)
 
-pub eats_mark : (text : List ℕ) → Eats (the_mark text)
-unfolding the_mark
-eats_mark text = eats_first (eats_token (is_this_mark text)) (λ l. local_pure l.place)
+pub eats_delimiter : (text : List ℕ) → Eats (the_delimiter text)
+unfolding the_delimiter
+eats_delimiter text = eats_first (eats_token (is_this_delimiter text)) (λ l. local_pure l.place)
 
 pub eats_identifier : Eats an_identifier
 unfolding an_identifier
@@ -258,7 +253,7 @@ local_end_name name = local_flag name
 pub local_opening : (left : ℕ) → Local (opening_of left)
 unfolding opening_of
 local_opening zero = local_choose (head_starts _) local_too_deep local_nothing
-local_opening (suc left) = local_mark _
+local_opening (suc left) = local_delimiter _
 
 pub local_opening_is : (left : ℕ) → Local (opening_is_of left)
 unfolding opening_is_of
@@ -268,7 +263,7 @@ local_opening_is (suc left) = local_word _
 pub eats_opening : (left : ℕ) → Eats (opening_of left)
 unfolding opening_of
 eats_opening zero = eats_choose _ eats_too_deep eats_nothing
-eats_opening (suc left) = eats_mark _
+eats_opening (suc left) = eats_delimiter _
 
 -- ---- lists: the fuel is the number of tokens, and each item has one at least
 
@@ -330,21 +325,21 @@ local_items {begins = begins} {item = item} head local eats = record {
   moves = λ c x r s. items_move x r s begins item head local eats (length (c ++ x ∷ r)) (length (c ++ x ∷ s)) [] c (omega arith) (omega arith);
 }
 
-pub local_behind_mark : {A : Type 0} {item : Parser A} (separator : List ℕ) → Local item → Local (behind_mark_of separator item)
-unfolding behind_mark_of
-local_behind_mark separator local = local_then (local_mark separator) (λ _. local)
+pub local_behind_delimiter : {A : Type 0} {item : Parser A} (separator : List ℕ) → Local item → Local (behind_delimiter_of separator item)
+unfolding behind_delimiter_of
+local_behind_delimiter separator local = local_then (local_delimiter separator) (λ _. local)
 
-pub eats_behind_mark : {A : Type 0} {item : Parser A} (separator : List ℕ) → Local item → Eats (behind_mark_of separator item)
-unfolding behind_mark_of
-eats_behind_mark separator local = eats_first (eats_mark separator) (λ _. local)
+pub eats_behind_delimiter : {A : Type 0} {item : Parser A} (separator : List ℕ) → Local item → Eats (behind_delimiter_of separator item)
+unfolding behind_delimiter_of
+eats_behind_delimiter separator local = eats_first (eats_delimiter separator) (λ _. local)
 
 pub local_separated : {A : Type 0} {item : Parser A} (separator : List ℕ) → Local item → Local (separated_of separator item)
 unfolding separated_of
-local_separated separator local = local_then local (λ first. local_then (local_items (head_starts _) (local_behind_mark separator local) (eats_behind_mark separator local)) (λ others. local_pure _))
+local_separated separator local = local_then local (λ first. local_then (local_items (head_starts _) (local_behind_delimiter separator local) (eats_behind_delimiter separator local)) (λ others. local_pure _))
 
 pub eats_separated : {A : Type 0} {item : Parser A} (separator : List ℕ) → Local item → Eats item → Eats (separated_of separator item)
 unfolding separated_of
-eats_separated separator local eats = eats_first eats (λ first. local_then (local_items (head_starts _) (local_behind_mark separator local) (eats_behind_mark separator local)) (λ others. local_pure _))
+eats_separated separator local eats = eats_first eats (λ first. local_then (local_items (head_starts _) (local_behind_delimiter separator local) (eats_behind_delimiter separator local)) (λ others. local_pure _))
 
 pub local_identifiers : Local identifiers_of
 unfolding identifiers_of

@@ -8,8 +8,8 @@ use Rattle.ada_tree.specs.declared.statements.Sequence.{Sequence}
 use Rattle.ada_tree.specs.declared.statements.SequenceRole.{SequenceRole}
 use Rattle.ada_tree.specs.Written.{Lexeme}
 use Rattle.ada_grammar.specs.declared.stuck.Stuck.TheVariants as stuck
-use Rattle.ada_grammar.specs.Reading.{Read, Parser, and_then, ◌>>=◌, choose, too_deep, nothing, starts, starts_both, sees_mark, is_word, is_mark, is_this_word, is_this_mark, is_identifier, is_numeral, is_string, token, the_word, an_identifier, a_number, a_text, opening_of, separated_of, name_of}
-use Rattle.fault_places.proofs.Local.{Within, Moves, past, Local, head_starts, head_at, local_pure, local_then, then_within, if_within, if_moves, stuck_then, local_items, local_behind_mark, eats_behind_mark, local_identifier}
+use Rattle.ada_grammar.specs.Reading.{Read, Parser, and_then, ◌>>=◌, choose, too_deep, nothing, starts, starts_both, sees_delimiter, is_word, is_delimiter, is_this_word, is_this_delimiter, is_identifier, is_numeral, is_string, token, the_word, an_identifier, a_number, a_text, opening_of, separated_of, name_of}
+use Rattle.fault_places.proofs.Local.{Within, Moves, past, Local, head_starts, head_at, local_pure, local_then, then_within, if_within, if_moves, stuck_then, local_items, local_behind_delimiter, eats_behind_delimiter, local_identifier}
 
 -- reading goes past a token of this kind
 pub record Takes {A : Type 0} (test : Lexeme → Bool) (p : Parser A) : Type 0 where
@@ -47,7 +47,7 @@ passes_identifier = takes_then (takes_token is_identifier) (λ l. local_pure _)
 
 pub passes_name : Passes name_of
 unfolding name_of separated_of
-passes_name = takes_then (takes_then passes_identifier (λ first. local_then (local_items (head_starts _) (local_behind_mark _ local_identifier) (eats_behind_mark _ local_identifier)) (λ others. local_pure _))) (λ parts. local_pure _)
+passes_name = takes_then (takes_then passes_identifier (λ first. local_then (local_items (head_starts _) (local_behind_delimiter _ local_identifier) (eats_behind_delimiter _ local_identifier)) (λ others. local_pure _))) (λ parts. local_pure _)
 
 if_past : {A : Type 0} (n : ℕ) (b : Bool) (p q : Read A) → (b ≡ true → Within n p) → Within n q → Within n (if b then p else q)
 if_past n true p q h k = h refl
@@ -58,15 +58,15 @@ pub passes_choose : {A : Type 0} (test : Lexeme → Bool) {p q : Parser A} → T
 unfolding starts
 passes_choose test {p = p} {q = q} takes passes = record { past_it = λ x r is. if_past (length r) (test x) (p (x ∷ r)) (q (x ∷ r)) (takes.past_it x r) (passes.past_it x r is) }
 
-no_mark_of : (k : Kind) (b c : Bool) → is_word k && b ≡ true → is_mark k && c ≡ true → ⊥
-no_mark_of kinds.Word b c is marked = cc
-no_mark_of kinds.Number b c is marked = cc
-no_mark_of kinds.Text b c is marked = cc
-no_mark_of kinds.Mark b c is marked = cc
+no_delimiter_of : (k : Kind) (b c : Bool) → is_word k && b ≡ true → is_delimiter k && c ≡ true → ⊥
+no_delimiter_of kinds.Word b c is delimited = cc
+no_delimiter_of kinds.Number b c is delimited = cc
+no_delimiter_of kinds.Text b c is delimited = cc
+no_delimiter_of kinds.Delimiter b c is delimited = cc
 
-pub passes_mark : {A : Type 0} (text : List ℕ) (p : Parser A) {q : Parser A} → Passes q → Passes (choose (sees_mark text) p q)
+pub passes_delimiter : {A : Type 0} (text : List ℕ) (p : Parser A) {q : Parser A} → Passes q → Passes (choose (sees_delimiter text) p q)
 unfolding starts
-passes_mark text p {q = q} passes = record { past_it = λ x r is. if_past (length r) (is_this_mark text x) (p (x ∷ r)) (q (x ∷ r)) (λ marked. absurd (no_mark_of x.kind _ _ is marked)) (passes.past_it x r is) }
+passes_delimiter text p {q = q} passes = record { past_it = λ x r is. if_past (length r) (is_this_delimiter text x) (p (x ∷ r)) (q (x ∷ r)) (λ delimited. absurd (no_delimiter_of x.kind _ _ is delimited)) (passes.past_it x r is) }
 
 -- ---- a choice by an identifier and the token behind it
 
@@ -121,7 +121,7 @@ if_never false p q h k = k
 
 pub never_opens : (ls : List Lexeme) → Never (opening_of zero ls)
 unfolding opening_of
-never_opens ls = if_never {A = Place} (sees_mark (codes "(") ls) (too_deep ls) (nothing ls) tt tt
+never_opens ls = if_never {A = Place} (sees_delimiter (codes "(") ls) (too_deep ls) (nothing ls) tt tt
 
 -- ---- an expression inside, one level further in
 

@@ -6,7 +6,7 @@ use Rattle.ada_tree.specs.declared.statements.SequenceRole.TheVariants as role
 use Rattle.ada_tree.specs.declared.declarations.Declaration.{Declaration}
 use Rattle.ada_grammar.specs.Reading.{Parser}
 use Rattle.ada_grammar.specs.ReadingSequences.{statement_at, statement_of, statements_of, handler_of, given_handlers_of, handlers_of, declarations_of, plain_of, handled_behind_of, whole_body_of, parts_of, no_sequence, sequence_of, inside_of}
-use Rattle.fault_places.proofs.Local.{Local, Eats, local_pure, local_nothing, local_too_deep, local_then, local_choose, head_starts, local_word, local_mark, eats_nothing, eats_too_deep, eats_first, eats_choose, eats_word, local_items}
+use Rattle.fault_places.proofs.Local.{Local, Eats, local_pure, local_nothing, local_too_deep, local_then, local_choose, head_starts, local_word, local_delimiter, eats_nothing, eats_too_deep, eats_first, eats_choose, eats_word, local_items}
 use Rattle.fault_places.proofs.Passing.{Each}
 use Rattle.fault_places.proofs.Simple.{local_exceptions}
 use Rattle.fault_places.proofs.Statements.{head_begins_statement, local_statement_inside, eats_statement_inside}
@@ -34,11 +34,11 @@ local_statements left inner is_inner deeper is_deeper = local_then (local_statem
 
 pub local_handler : (left : ℕ) (inner : SequenceRole → Parser Sequence) (is_inner : Each inner) (deeper : SequenceRole → Parser Sequence) (is_deeper : Each deeper) → Local (handler_of left inner deeper)
 unfolding handler_of
-local_handler left inner is_inner deeper is_deeper = local_then (local_word _) (λ place. local_then local_exceptions (λ exceptions. local_then (local_mark _) (λ _. local_then (local_statements left inner is_inner deeper is_deeper) (λ inside. local_pure _))))
+local_handler left inner is_inner deeper is_deeper = local_then (local_word _) (λ place. local_then local_exceptions (λ exceptions. local_then (local_delimiter _) (λ _. local_then (local_statements left inner is_inner deeper is_deeper) (λ inside. local_pure _))))
 
 pub eats_handler : (left : ℕ) (inner : SequenceRole → Parser Sequence) (is_inner : Each inner) (deeper : SequenceRole → Parser Sequence) (is_deeper : Each deeper) → Eats (handler_of left inner deeper)
 unfolding handler_of
-eats_handler left inner is_inner deeper is_deeper = eats_first (eats_word _) (λ place. local_then local_exceptions (λ exceptions. local_then (local_mark _) (λ _. local_then (local_statements left inner is_inner deeper is_deeper) (λ inside. local_pure _))))
+eats_handler left inner is_inner deeper is_deeper = eats_first (eats_word _) (λ place. local_then local_exceptions (λ exceptions. local_then (local_delimiter _) (λ _. local_then (local_statements left inner is_inner deeper is_deeper) (λ inside. local_pure _))))
 
 pub local_given_handlers : (left : ℕ) (inner : SequenceRole → Parser Sequence) (is_inner : Each inner) (deeper : SequenceRole → Parser Sequence) (is_deeper : Each deeper) → Local (given_handlers_of left inner deeper)
 unfolding given_handlers_of

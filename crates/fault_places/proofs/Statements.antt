@@ -12,9 +12,9 @@ use Rattle.ada_tree.specs.declared.selects.Trigger.{Trigger}
 use Rattle.ada_tree.specs.declared.selects.Alternative.TheVariants as alternative
 use Rattle.ada_tree.specs.declared.selects.Trigger.TheVariants as trigger
 use Rattle.ada_tree.specs.Written.{Lexeme}
-use Rattle.ada_grammar.specs.Reading.{Parser, is_this_mark}
+use Rattle.ada_grammar.specs.Reading.{Parser, is_this_delimiter}
 use Rattle.ada_grammar.specs.ReadingStatements.{begins_loop, begins_block, begins_compound, begins_simple, begins_statement, opened, call_opened_of, delay_opened_of, elsif_of, else_of, if_of, case_alternative_of, case_alternatives_of, case_of, loop_of, block_end_of, declare_of, begin_of, block_of, labelled_of, accept_body_of, accept_of, optional_statements_of, accept_opened_of, accept_alternative_of, delay_alternative_of, terminate_of, alternative_of, guard_of, select_alternative_of, next_alternative_of, selective_of, asynchronous_of, timed_of, conditional_of, behind_call_of, call_select_of, delay_select_of, select_form_of, select_of, compound_of, named_statement_of, simple_statement_of, statement_inside_of}
-use Rattle.fault_places.proofs.Local.{Local, Eats, Head, local_pure, local_nothing, local_too_deep, local_then, local_choose, head_starts, head_or, local_word, local_mark, local_identifier, eats_first, eats_behind, eats_choose, eats_word, eats_identifier, local_end_name, local_items, local_separated}
+use Rattle.fault_places.proofs.Local.{Local, Eats, Head, local_pure, local_nothing, local_too_deep, local_then, local_choose, head_starts, head_or, local_word, local_delimiter, local_identifier, eats_first, eats_behind, eats_choose, eats_word, eats_identifier, local_end_name, local_items, local_separated}
 use Rattle.fault_places.proofs.Passing.{takes_then, passes_identifier, local_choose_both, Passes, Each}
 use Rattle.fault_places.proofs.Expressions.{local_expression}
 use Rattle.fault_places.proofs.Simple.{local_parameters, local_simple, eats_simple, local_call, local_delay, eats_delay, local_choice, local_iteration, local_label_end, local_exit, eats_exit, local_null, eats_null, local_return, eats_return, local_raise, eats_raise, local_abort, eats_abort, local_requeue, eats_requeue, passes_simple}
@@ -61,19 +61,19 @@ local_else left sequence is_sequence = local_choose (head_starts _) (local_then 
 
 pub local_if : (left : ℕ) (sequence : SequenceRole → Parser Sequence) (is_sequence : Each sequence) → Local (if_of left sequence)
 unfolding if_of
-local_if left sequence is_sequence = local_then (local_word _) (λ place. local_then (local_expression left) (λ condition. local_then (local_word _) (λ _. local_then (is_sequence role.Statements) (λ inside. local_then (local_items (head_starts _) (local_elsif left sequence is_sequence) (eats_elsif left sequence is_sequence)) (λ elsifs. local_then (local_else left sequence is_sequence) (λ otherwise. local_then (local_word _) (λ _. local_then (local_word _) (λ _. local_then (local_mark _) (λ _. local_pure _)))))))))
+local_if left sequence is_sequence = local_then (local_word _) (λ place. local_then (local_expression left) (λ condition. local_then (local_word _) (λ _. local_then (is_sequence role.Statements) (λ inside. local_then (local_items (head_starts _) (local_elsif left sequence is_sequence) (eats_elsif left sequence is_sequence)) (λ elsifs. local_then (local_else left sequence is_sequence) (λ otherwise. local_then (local_word _) (λ _. local_then (local_word _) (λ _. local_then (local_delimiter _) (λ _. local_pure _)))))))))
 
 pub eats_if : (left : ℕ) (sequence : SequenceRole → Parser Sequence) (is_sequence : Each sequence) → Eats (if_of left sequence)
 unfolding if_of
-eats_if left sequence is_sequence = eats_first (eats_word _) (λ place. local_then (local_expression left) (λ condition. local_then (local_word _) (λ _. local_then (is_sequence role.Statements) (λ inside. local_then (local_items (head_starts _) (local_elsif left sequence is_sequence) (eats_elsif left sequence is_sequence)) (λ elsifs. local_then (local_else left sequence is_sequence) (λ otherwise. local_then (local_word _) (λ _. local_then (local_word _) (λ _. local_then (local_mark _) (λ _. local_pure _)))))))))
+eats_if left sequence is_sequence = eats_first (eats_word _) (λ place. local_then (local_expression left) (λ condition. local_then (local_word _) (λ _. local_then (is_sequence role.Statements) (λ inside. local_then (local_items (head_starts _) (local_elsif left sequence is_sequence) (eats_elsif left sequence is_sequence)) (λ elsifs. local_then (local_else left sequence is_sequence) (λ otherwise. local_then (local_word _) (λ _. local_then (local_word _) (λ _. local_then (local_delimiter _) (λ _. local_pure _)))))))))
 
 pub local_case_alternative : (left : ℕ) (sequence : SequenceRole → Parser Sequence) (is_sequence : Each sequence) → Local (case_alternative_of left sequence)
 unfolding case_alternative_of
-local_case_alternative left sequence is_sequence = local_then (local_word _) (λ place. local_then (local_separated _ (local_choice left)) (λ choices. local_then (local_mark _) (λ _. local_then (is_sequence role.Statements) (λ inside. local_pure _))))
+local_case_alternative left sequence is_sequence = local_then (local_word _) (λ place. local_then (local_separated _ (local_choice left)) (λ choices. local_then (local_delimiter _) (λ _. local_then (is_sequence role.Statements) (λ inside. local_pure _))))
 
 pub eats_case_alternative : (left : ℕ) (sequence : SequenceRole → Parser Sequence) (is_sequence : Each sequence) → Eats (case_alternative_of left sequence)
 unfolding case_alternative_of
-eats_case_alternative left sequence is_sequence = eats_first (eats_word _) (λ place. local_then (local_separated _ (local_choice left)) (λ choices. local_then (local_mark _) (λ _. local_then (is_sequence role.Statements) (λ inside. local_pure _))))
+eats_case_alternative left sequence is_sequence = eats_first (eats_word _) (λ place. local_then (local_separated _ (local_choice left)) (λ choices. local_then (local_delimiter _) (λ _. local_then (is_sequence role.Statements) (λ inside. local_pure _))))
 
 pub local_case_alternatives : (left : ℕ) (sequence : SequenceRole → Parser Sequence) (is_sequence : Each sequence) → Local (case_alternatives_of left sequence)
 unfolding case_alternatives_of
@@ -81,23 +81,23 @@ local_case_alternatives left sequence is_sequence = local_then (local_case_alter
 
 pub local_case : (left : ℕ) (sequence : SequenceRole → Parser Sequence) (is_sequence : Each sequence) → Local (case_of left sequence)
 unfolding case_of
-local_case left sequence is_sequence = local_then (local_word _) (λ place. local_then (local_expression left) (λ selector. local_then (local_word _) (λ _. local_then (local_case_alternatives left sequence is_sequence) (λ alternatives. local_then (local_word _) (λ _. local_then (local_word _) (λ _. local_then (local_mark _) (λ _. local_pure _)))))))
+local_case left sequence is_sequence = local_then (local_word _) (λ place. local_then (local_expression left) (λ selector. local_then (local_word _) (λ _. local_then (local_case_alternatives left sequence is_sequence) (λ alternatives. local_then (local_word _) (λ _. local_then (local_word _) (λ _. local_then (local_delimiter _) (λ _. local_pure _)))))))
 
 pub eats_case : (left : ℕ) (sequence : SequenceRole → Parser Sequence) (is_sequence : Each sequence) → Eats (case_of left sequence)
 unfolding case_of
-eats_case left sequence is_sequence = eats_first (eats_word _) (λ place. local_then (local_expression left) (λ selector. local_then (local_word _) (λ _. local_then (local_case_alternatives left sequence is_sequence) (λ alternatives. local_then (local_word _) (λ _. local_then (local_word _) (λ _. local_then (local_mark _) (λ _. local_pure _)))))))
+eats_case left sequence is_sequence = eats_first (eats_word _) (λ place. local_then (local_expression left) (λ selector. local_then (local_word _) (λ _. local_then (local_case_alternatives left sequence is_sequence) (λ alternatives. local_then (local_word _) (λ _. local_then (local_word _) (λ _. local_then (local_delimiter _) (λ _. local_pure _)))))))
 
 pub local_loop : (left : ℕ) (sequence : SequenceRole → Parser Sequence) (is_sequence : Each sequence) (name : Option Identifier) → Local (loop_of left sequence name)
 unfolding loop_of
-local_loop left sequence is_sequence name = local_then (local_iteration left) (λ iteration. local_then (local_word _) (λ place. local_then (is_sequence role.Statements) (λ inside. local_then (local_word _) (λ _. local_then (local_word _) (λ _. local_then (local_label_end name) (λ label. local_then (local_mark _) (λ _. local_pure _)))))))
+local_loop left sequence is_sequence name = local_then (local_iteration left) (λ iteration. local_then (local_word _) (λ place. local_then (is_sequence role.Statements) (λ inside. local_then (local_word _) (λ _. local_then (local_word _) (λ _. local_then (local_label_end name) (λ label. local_then (local_delimiter _) (λ _. local_pure _)))))))
 
 pub eats_loop : (left : ℕ) (sequence : SequenceRole → Parser Sequence) (is_sequence : Each sequence) (name : Option Identifier) → Eats (loop_of left sequence name)
 unfolding loop_of
-eats_loop left sequence is_sequence name = eats_behind (local_iteration left) (λ iteration. eats_first (eats_word _) (λ place. local_then (is_sequence role.Statements) (λ inside. local_then (local_word _) (λ _. local_then (local_word _) (λ _. local_then (local_label_end name) (λ label. local_then (local_mark _) (λ _. local_pure _)))))))
+eats_loop left sequence is_sequence name = eats_behind (local_iteration left) (λ iteration. eats_first (eats_word _) (λ place. local_then (is_sequence role.Statements) (λ inside. local_then (local_word _) (λ _. local_then (local_word _) (λ _. local_then (local_label_end name) (λ label. local_then (local_delimiter _) (λ _. local_pure _)))))))
 
 pub local_block_end : (left : ℕ) (sequence : SequenceRole → Parser Sequence) (is_sequence : Each sequence) (name : Option Identifier) (place : Place) (declare : Bool) (inside : Sequence) → Local (block_end_of left sequence name place declare inside)
 unfolding block_end_of
-local_block_end left sequence is_sequence name place declare inside = local_then (local_word _) (λ _. local_then (local_label_end name) (λ label. local_then (local_mark _) (λ _. local_pure _)))
+local_block_end left sequence is_sequence name place declare inside = local_then (local_word _) (λ _. local_then (local_label_end name) (λ label. local_then (local_delimiter _) (λ _. local_pure _)))
 
 pub local_declare : (left : ℕ) (sequence : SequenceRole → Parser Sequence) (is_sequence : Each sequence) (name : Option Identifier) → Local (declare_of left sequence name)
 unfolding declare_of
@@ -125,11 +125,11 @@ eats_block left sequence is_sequence name = eats_choose _ (eats_declare left seq
 
 pub local_labelled : (left : ℕ) (sequence : SequenceRole → Parser Sequence) (is_sequence : Each sequence) → Local (labelled_of left sequence)
 unfolding labelled_of
-local_labelled left sequence is_sequence = local_then local_identifier (λ name. local_then (local_mark _) (λ _. local_choose head_begins_block (local_block left sequence is_sequence (Some name)) (local_loop left sequence is_sequence (Some name))))
+local_labelled left sequence is_sequence = local_then local_identifier (λ name. local_then (local_delimiter _) (λ _. local_choose head_begins_block (local_block left sequence is_sequence (Some name)) (local_loop left sequence is_sequence (Some name))))
 
 pub eats_labelled : (left : ℕ) (sequence : SequenceRole → Parser Sequence) (is_sequence : Each sequence) → Eats (labelled_of left sequence)
 unfolding labelled_of
-eats_labelled left sequence is_sequence = eats_first eats_identifier (λ name. local_then (local_mark _) (λ _. local_choose head_begins_block (local_block left sequence is_sequence (Some name)) (local_loop left sequence is_sequence (Some name))))
+eats_labelled left sequence is_sequence = eats_first eats_identifier (λ name. local_then (local_delimiter _) (λ _. local_choose head_begins_block (local_block left sequence is_sequence (Some name)) (local_loop left sequence is_sequence (Some name))))
 
 pub local_accept_body : (left : ℕ) (sequence : SequenceRole → Parser Sequence) (is_sequence : Each sequence) (name : List ℕ) → Local (accept_body_of left sequence name)
 unfolding accept_body_of
@@ -137,11 +137,11 @@ local_accept_body left sequence is_sequence name = local_choose (head_starts _) 
 
 pub local_accept : (left : ℕ) (sequence : SequenceRole → Parser Sequence) (is_sequence : Each sequence) → Local (accept_of left sequence)
 unfolding accept_of
-local_accept left sequence is_sequence = local_then (local_word _) (λ place. local_then local_identifier (λ entry. local_then (local_parameters left) (λ parameters. local_then (local_accept_body left sequence is_sequence entry.text) (λ body. local_then (local_mark _) (λ _. local_pure _)))))
+local_accept left sequence is_sequence = local_then (local_word _) (λ place. local_then local_identifier (λ entry. local_then (local_parameters left) (λ parameters. local_then (local_accept_body left sequence is_sequence entry.text) (λ body. local_then (local_delimiter _) (λ _. local_pure _)))))
 
 pub eats_accept : (left : ℕ) (sequence : SequenceRole → Parser Sequence) (is_sequence : Each sequence) → Eats (accept_of left sequence)
 unfolding accept_of
-eats_accept left sequence is_sequence = eats_first (eats_word _) (λ place. local_then local_identifier (λ entry. local_then (local_parameters left) (λ parameters. local_then (local_accept_body left sequence is_sequence entry.text) (λ body. local_then (local_mark _) (λ _. local_pure _)))))
+eats_accept left sequence is_sequence = eats_first (eats_word _) (λ place. local_then local_identifier (λ entry. local_then (local_parameters left) (λ parameters. local_then (local_accept_body left sequence is_sequence entry.text) (λ body. local_then (local_delimiter _) (λ _. local_pure _)))))
 
 pub local_optional_statements : (left : ℕ) (sequence : SequenceRole → Parser Sequence) (is_sequence : Each sequence) → Local (optional_statements_of left sequence)
 unfolding optional_statements_of
@@ -161,7 +161,7 @@ local_delay_alternative left sequence is_sequence deeper is_deeper = local_then 
 
 pub local_terminate : (left : ℕ) (sequence : SequenceRole → Parser Sequence) (is_sequence : Each sequence) (deeper : SequenceRole → Parser Sequence) (is_deeper : Each deeper) → Local (terminate_of left sequence deeper)
 unfolding terminate_of
-local_terminate left sequence is_sequence deeper is_deeper = local_then (local_word _) (λ place. local_then (local_mark _) (λ _. local_pure _))
+local_terminate left sequence is_sequence deeper is_deeper = local_then (local_word _) (λ place. local_then (local_delimiter _) (λ _. local_pure _))
 
 pub local_alternative : (left : ℕ) (sequence : SequenceRole → Parser Sequence) (is_sequence : Each sequence) (deeper : SequenceRole → Parser Sequence) (is_deeper : Each deeper) → Local (alternative_of left sequence deeper)
 unfolding alternative_of
@@ -169,7 +169,7 @@ local_alternative left sequence is_sequence deeper is_deeper = local_choose (hea
 
 pub local_guard : (left : ℕ) (sequence : SequenceRole → Parser Sequence) (is_sequence : Each sequence) (deeper : SequenceRole → Parser Sequence) (is_deeper : Each deeper) → Local (guard_of left sequence deeper)
 unfolding guard_of
-local_guard left sequence is_sequence deeper is_deeper = local_choose (head_starts _) (local_then (local_word _) (λ place. local_then (local_expression left) (λ condition. local_then (local_mark _) (λ _. local_pure _)))) (local_pure _)
+local_guard left sequence is_sequence deeper is_deeper = local_choose (head_starts _) (local_then (local_word _) (λ place. local_then (local_expression left) (λ condition. local_then (local_delimiter _) (λ _. local_pure _)))) (local_pure _)
 
 pub local_select_alternative : (left : ℕ) (sequence : SequenceRole → Parser Sequence) (is_sequence : Each sequence) (deeper : SequenceRole → Parser Sequence) (is_deeper : Each deeper) → Local (select_alternative_of left sequence deeper)
 unfolding select_alternative_of
@@ -217,11 +217,11 @@ local_select_form left sequence is_sequence deeper is_deeper = local_choose (hea
 
 pub local_select : (left : ℕ) (sequence : SequenceRole → Parser Sequence) (is_sequence : Each sequence) (deeper : SequenceRole → Parser Sequence) (is_deeper : Each deeper) → Local (select_of left sequence deeper)
 unfolding select_of
-local_select left sequence is_sequence deeper is_deeper = local_then (local_word _) (λ place. local_then (local_select_form left sequence is_sequence deeper is_deeper) (λ form. local_then (local_word _) (λ _. local_then (local_word _) (λ _. local_then (local_mark _) (λ _. local_pure _)))))
+local_select left sequence is_sequence deeper is_deeper = local_then (local_word _) (λ place. local_then (local_select_form left sequence is_sequence deeper is_deeper) (λ form. local_then (local_word _) (λ _. local_then (local_word _) (λ _. local_then (local_delimiter _) (λ _. local_pure _)))))
 
 pub eats_select : (left : ℕ) (sequence : SequenceRole → Parser Sequence) (is_sequence : Each sequence) (deeper : SequenceRole → Parser Sequence) (is_deeper : Each deeper) → Eats (select_of left sequence deeper)
 unfolding select_of
-eats_select left sequence is_sequence deeper is_deeper = eats_first (eats_word _) (λ place. local_then (local_select_form left sequence is_sequence deeper is_deeper) (λ form. local_then (local_word _) (λ _. local_then (local_word _) (λ _. local_then (local_mark _) (λ _. local_pure _)))))
+eats_select left sequence is_sequence deeper is_deeper = eats_first (eats_word _) (λ place. local_then (local_select_form left sequence is_sequence deeper is_deeper) (λ form. local_then (local_word _) (λ _. local_then (local_word _) (λ _. local_then (local_delimiter _) (λ _. local_pure _)))))
 
 pub local_compound : (left : ℕ) (sequence : SequenceRole → Parser Sequence) (is_sequence : Each sequence) (deeper : SequenceRole → Parser Sequence) (is_deeper : Each deeper) → Local (compound_of left sequence deeper)
 unfolding compound_of
@@ -233,12 +233,12 @@ eats_compound left sequence is_sequence deeper is_deeper = eats_choose _ (eats_i
 
 pub passes_labelled : (left : ℕ) (sequence : SequenceRole → Parser Sequence) (is_sequence : Each sequence) → Passes (labelled_of left sequence)
 unfolding labelled_of
-passes_labelled left sequence is_sequence = (takes_then passes_identifier (λ name. local_then (local_mark _) (λ _. local_choose head_begins_block (local_block left sequence is_sequence (Some name)) (local_loop left sequence is_sequence (Some name)))))
+passes_labelled left sequence is_sequence = (takes_then passes_identifier (λ name. local_then (local_delimiter _) (λ _. local_choose head_begins_block (local_block left sequence is_sequence (Some name)) (local_loop left sequence is_sequence (Some name)))))
 
 pub local_named_statement : (left : ℕ) (sequence : SequenceRole → Parser Sequence) (is_sequence : Each sequence) (deeper : SequenceRole → Parser Sequence) (is_deeper : Each deeper) → Local (named_statement_of left sequence deeper)
 unfolding named_statement_of
 local_named_statement left sequence is_sequence deeper is_deeper =
-    local_choose_both (is_this_mark (codes ":")) _ _ (local_labelled left sequence is_sequence) (local_simple left) (passes_labelled left sequence is_sequence) (passes_simple left)
+    local_choose_both (is_this_delimiter (codes ":")) _ _ (local_labelled left sequence is_sequence) (local_simple left) (passes_labelled left sequence is_sequence) (passes_simple left)
 
 pub eats_named_statement : (left : ℕ) (sequence : SequenceRole → Parser Sequence) (is_sequence : Each sequence) (deeper : SequenceRole → Parser Sequence) (is_deeper : Each deeper) → Eats (named_statement_of left sequence deeper)
 unfolding named_statement_of

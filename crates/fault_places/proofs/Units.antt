@@ -7,11 +7,11 @@ use Rattle.ada_tree.specs.declared.units.ContextClause.{ContextClause}
 use Rattle.ada_tree.specs.declared.units.LibraryPackage.{LibraryPackage}
 use Rattle.ada_tree.specs.declared.units.Unit.{Unit as Tree}
 use Rattle.ada_tree.specs.Written.{Lexeme}
-use Rattle.ada_grammar.specs.Reading.{Parser, ◌>>=◌, pure, choose, sees_word, the_mark, an_identifier, opening_of, below, separated_of}
+use Rattle.ada_grammar.specs.Reading.{Parser, ◌>>=◌, pure, choose, sees_word, the_delimiter, an_identifier, opening_of, below, separated_of}
 use Rattle.ada_grammar.specs.ReadingExpressions.{argument_of, inner_of}
 use Rattle.ada_grammar.specs.ReadingSequences.{inside_of}
 use Rattle.ada_grammar.specs.ReadingUnits.{declarations_at, pragma_of, with_of, use_clause_of, clause_of, begins_clause, context_of, private_part_of, package_declaration_of, package_statements_of, package_body_of, package_of, packages_from, packages_of, main_of, finished, source_of}
-use Rattle.fault_places.proofs.Local.{Local, Eats, Head, local_pure, then_within, then_two, local_then, if_within, if_moves, head_at, local_choose, head_starts, head_or, local_word, local_mark, local_identifier, ok_within, eats_first, eats_choose, eats_word, local_end_name, local_opening, local_opening_is, next_within, none, local_items, local_separated, local_names, Within, Moves}
+use Rattle.fault_places.proofs.Local.{Local, Eats, Head, local_pure, then_within, then_two, local_then, if_within, if_moves, head_at, local_choose, head_starts, head_or, local_word, local_delimiter, local_identifier, ok_within, eats_first, eats_choose, eats_word, local_end_name, local_opening, local_opening_is, next_within, none, local_items, local_separated, local_names, Within, Moves}
 use Rattle.fault_places.proofs.Passing.{local_stuck_then, never_opens}
 use Rattle.fault_places.proofs.Expressions.{local_argument, inside_inner}
 use Rattle.fault_places.proofs.Declarations.{local_aspects}
@@ -21,11 +21,11 @@ use Rattle.fault_places.proofs.Sequences.{local_declarations, local_sequence, ea
 pub local_declarations_at : (left : ℕ) → Local (declarations_at left)
 local_declarations_at left = local_declarations left (inside_of left) (each_inside left) (inside_of (below left)) (each_inside (below left))
 
-behind_pragma : (left : ℕ) (place : Place) → Local {A = Pragma} (an_identifier >>= (λ name. opening_of left >>= (λ at. separated_of (codes ",") (argument_of left (inner_of left)) >>= (λ arguments. the_mark (codes ")") >>= (λ closing. the_mark (codes ";") >>= (λ end. pure (record { place = place; name = name; arguments = arguments })))))))
+behind_pragma : (left : ℕ) (place : Place) → Local {A = Pragma} (an_identifier >>= (λ name. opening_of left >>= (λ at. separated_of (codes ",") (argument_of left (inner_of left)) >>= (λ arguments. the_delimiter (codes ")") >>= (λ closing. the_delimiter (codes ";") >>= (λ end. pure (record { place = place; name = name; arguments = arguments })))))))
 behind_pragma zero place = local_then local_identifier (λ name. local_stuck_then _ (local_opening zero) never_opens)
 behind_pragma (suc left) place =
     local_then local_identifier (λ name. local_then (local_opening (suc left)) (λ at. local_then (local_separated _ (local_argument (suc left) (inner_of (suc left)) (inside_inner (suc left)) (inside_inner (suc left)).passes))
-    (λ arguments. local_then (local_mark _) (λ closing. local_then (local_mark _) (λ end. local_pure _)))))
+    (λ arguments. local_then (local_delimiter _) (λ closing. local_then (local_delimiter _) (λ end. local_pure _)))))
 
 pub local_pragma : (left : ℕ) → Local (pragma_of left)
 unfolding pragma_of
@@ -37,19 +37,19 @@ eats_pragma left = eats_first (eats_word _) (behind_pragma left)
 
 pub local_with : Local with_of
 unfolding with_of
-local_with = local_then (local_word _) (λ place. local_then (local_names _) (λ names. local_then (local_mark _) (λ _. local_pure _)))
+local_with = local_then (local_word _) (λ place. local_then (local_names _) (λ names. local_then (local_delimiter _) (λ _. local_pure _)))
 
 pub eats_with : Eats with_of
 unfolding with_of
-eats_with = eats_first (eats_word _) (λ place. local_then (local_names _) (λ names. local_then (local_mark _) (λ _. local_pure _)))
+eats_with = eats_first (eats_word _) (λ place. local_then (local_names _) (λ names. local_then (local_delimiter _) (λ _. local_pure _)))
 
 pub local_use_clause : Local use_clause_of
 unfolding use_clause_of
-local_use_clause = local_then (local_word _) (λ place. local_then (local_names _) (λ names. local_then (local_mark _) (λ _. local_pure _)))
+local_use_clause = local_then (local_word _) (λ place. local_then (local_names _) (λ names. local_then (local_delimiter _) (λ _. local_pure _)))
 
 pub eats_use_clause : Eats use_clause_of
 unfolding use_clause_of
-eats_use_clause = eats_first (eats_word _) (λ place. local_then (local_names _) (λ names. local_then (local_mark _) (λ _. local_pure _)))
+eats_use_clause = eats_first (eats_word _) (λ place. local_then (local_names _) (λ names. local_then (local_delimiter _) (λ _. local_pure _)))
 
 pub local_clause : Local clause_of
 unfolding clause_of
@@ -72,7 +72,7 @@ local_private_part left = local_choose (head_starts _) (local_then (local_word _
 
 pub local_package_declaration : (left : ℕ) (place : Place) → Local (package_declaration_of left place)
 unfolding package_declaration_of
-local_package_declaration left place = local_then local_identifier (λ name. local_then (local_word _) (λ _. local_then (local_declarations_at left) (λ visible. local_then (local_private_part left) (λ hidden. local_then (local_word _) (λ _. local_then (local_end_name _) (λ named. local_then (local_mark _) (λ _. local_pure _)))))))
+local_package_declaration left place = local_then local_identifier (λ name. local_then (local_word _) (λ _. local_then (local_declarations_at left) (λ visible. local_then (local_private_part left) (λ hidden. local_then (local_word _) (λ _. local_then (local_end_name _) (λ named. local_then (local_delimiter _) (λ _. local_pure _)))))))
 
 pub local_package_statements : (left : ℕ) → Local (package_statements_of left)
 unfolding package_statements_of
@@ -80,7 +80,7 @@ local_package_statements left = local_choose (head_starts _) (local_then (local_
 
 pub local_package_body : (left : ℕ) (place : Place) → Local (package_body_of left place)
 unfolding package_body_of
-local_package_body left place = local_then (local_word _) (λ _. local_then local_identifier (λ name. local_then (local_opening_is left) (λ _. local_then (local_declarations_at (below left)) (λ before. local_then (local_package_statements (below left)) (λ inside. local_then (local_word _) (λ _. local_then (local_end_name _) (λ named. local_then (local_mark _) (λ _. local_pure _))))))))
+local_package_body left place = local_then (local_word _) (λ _. local_then local_identifier (λ name. local_then (local_opening_is left) (λ _. local_then (local_declarations_at (below left)) (λ before. local_then (local_package_statements (below left)) (λ inside. local_then (local_word _) (λ _. local_then (local_end_name _) (λ named. local_then (local_delimiter _) (λ _. local_pure _))))))))
 
 pub local_package : (left : ℕ) → Local (package_of left)
 unfolding package_of

@@ -22,6 +22,5 @@ NoTreeGoesDeeper = (lexemes : List Lexeme) (token : ℕ) → unit_of lexemes ≡
 
 -- What a fault says of the trees: where its token stands, none begins with the tokens up to it, itself counted.
 abbrev pub NoneGoesOn : List Lexeme → ParseFault → Type 0
-NoneGoesOn lexemes faults.Memory = Unit {0}
 NoneGoesOn lexemes (faults.Unexpected token) = token < length lexemes → NoneBeginsWith (take (suc token) lexemes)
 NoneGoesOn lexemes (faults.TooDeep token) = token < length lexemes → NoneBeginsWith (take (suc token) lexemes)

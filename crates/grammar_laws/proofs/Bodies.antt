@@ -13,7 +13,7 @@ use Rattle.ada_tree.specs.declared.declarations.EntryHead.{EntryHead}
 use Rattle.ada_tree.specs.declared.declarations.OperationBody.{OperationBody}
 use Rattle.ada_tree.specs.declared.declarations.OperationBody.TheVariants as bodies
 use Rattle.ada_tree.specs.declared.declarations.SubprogramSpecification.{SubprogramSpecification}
-use Rattle.ada_tree.specs.Written.{Written, Lexeme, word, mark, each_written, end_name_written}
+use Rattle.ada_tree.specs.Written.{Written, Lexeme, word, delimiter, each_written, end_name_written}
 use Rattle.ada_tree.specs.Spelling.{sequence_written}
 use Rattle.ada_tree.specs.SpellingStatements.{semicolon}
 use Rattle.ada_tree.specs.SpellingDeclarations.{specification_written, entry_head_written, body_written, operation_body_written}
@@ -32,7 +32,7 @@ use Rattle.grammar_laws.proofs.Choices.{Sound, either, one_form}
 use Rattle.grammar_laws.proofs.Ends.{ends_expression, ends_sequence}
 use Rattle.grammar_laws.proofs.Selects.{ReadsDeeper}
 use Rattle.grammar_laws.proofs.ClausesEnds.{ends_operations, ends_specification}
-use Rattle.grammar_laws.proofs.ClausesSteps.{mark_ends, last_before, plain_before, end_name_exact, respelt_by}
+use Rattle.grammar_laws.proofs.ClausesSteps.{delimiter_ends, last_before, plain_before, end_name_exact, respelt_by}
 use Rattle.grammar_laws.proofs.ClausesSpecifications.{specification_exact, specification_first, entry_head_exact, entry_head_begins}
 
 -- ---- "is": where no level is left, none is opened
@@ -77,8 +77,8 @@ body_exact left sequence known name =
     (λ m e. last_before itself Any (word (codes "end")) (end_behind name) always (λ b. b.sequence) (λ q. sequence_written q role.Body) (λ q. sequence_fits q role.Body m) (ends_sequence role.Body) (sequence role.Body) _
     (inside_exact left m sequence e known) (λ l ls. refl)
     (λ inside. word_then itself _ (end_behind name) _ always (codes "end") _
-    (plain_before itself _ (mark (codes ";")) _ always (λ b. b.named_at_end) (λ b. end_name_written b name) shapeless (not_word name.text) (end_name_of name.text) _ (end_name_exact name) (λ l ls. refl) _ (λ b. refl)
-    (λ named. mark_ends itself _ (codes ";") (record { sequence = inside; named_at_end = named }) ((tt, refl), refl) (λ j p. rw (p.0.1, p.1) refl)))))
+    (plain_before itself _ (delimiter (codes ";")) _ always (λ b. b.named_at_end) (λ b. end_name_written b name) shapeless (not_word name.text) (end_name_of name.text) _ (end_name_exact name) (λ l ls. refl) _ (λ b. refl)
+    (λ named. delimiter_ends itself _ (codes ";") (record { sequence = inside; named_at_end = named }) ((tt, refl), refl) (λ j p. rw (p.0.1, p.1) refl)))))
 
 -- ---- a specification, or the head of an entry, and a body
 

@@ -10,7 +10,7 @@ use Rattle.ada_tree.specs.declared.declarations.Declaration.TheVariants as decla
 use Rattle.ada_tree.specs.declared.declarations.SubprogramSpecification.{SubprogramSpecification}
 use Rattle.ada_tree.specs.Written.{Written, Lexeme, word, word_at, identifier_written, name_written}
 use Rattle.ada_tree.specs.Spelling.{sequence_written}
-use Rattle.ada_tree.specs.SpellingStatements.{semicolon, mark_written}
+use Rattle.ada_tree.specs.SpellingStatements.{semicolon, indication_written}
 use Rattle.ada_tree.specs.SpellingDeclarations.{definition_written, specification_written, body_written, declaration_written}
 use Rattle.ada_tree.specs.Shape.{sequence_fits}
 use Rattle.ada_tree.specs.ShapeDeclarations.{declaration_fits}
@@ -73,7 +73,7 @@ module _ (left : ℕ) (sequence : SequenceRole → Parser Sequence) (deeper : Se
       (identifier_written t.name ∷ word (codes "is") ∷ (definition_written t.definition ++ semicolon)) ls r l ∙ (type_exact left).complete t ls r tt okay l refl
   declaration_complete (declarations.Subtype s) ls r okay l =
       begun_by (word_at s.place (codes "subtype")) (declaration_of left sequence deeper) (subtype_of left) (λ l ls. refl)
-      (identifier_written s.name ∷ word (codes "is") ∷ (mark_written s.mark ++ semicolon)) ls r l ∙ (subtype_exact left).complete s ls r tt okay l refl
+      (identifier_written s.name ∷ word (codes "is") ∷ (indication_written s.subtype ++ semicolon)) ls r l ∙ (subtype_exact left).complete s ls r tt okay l refl
   declaration_complete (declarations.Exception names) ls r okay l = rw (exception_begins names ls r l) (exception_complete left names ls r l)
   declaration_complete (declarations.Subprogram s) ls r okay l = specified_there s semicolon ls r l ∙ subprogram_complete left sequence known s ls r okay l
   declaration_complete (declarations.SubprogramBody s body) ls r okay l =
@@ -105,7 +105,7 @@ declaration_begins (declarations.Object o) ls r l = rw (object_begins o ls r l) 
 declaration_begins (declarations.Type t) ls r l =
     first_is begins_declaration true (word_at t.place (codes "type")) (λ l ls. refl) (identifier_written t.name ∷ word (codes "is") ∷ (definition_written t.definition ++ semicolon)) ls r l
 declaration_begins (declarations.Subtype s) ls r l =
-    first_is begins_declaration true (word_at s.place (codes "subtype")) (λ l ls. refl) (identifier_written s.name ∷ word (codes "is") ∷ (mark_written s.mark ++ semicolon)) ls r l
+    first_is begins_declaration true (word_at s.place (codes "subtype")) (λ l ls. refl) (identifier_written s.name ∷ word (codes "is") ∷ (indication_written s.subtype ++ semicolon)) ls r l
 declaration_begins (declarations.Exception names) ls r l = rw (exception_begins names ls r l) refl
 declaration_begins (declarations.Subprogram s) ls r l = specified_begins s semicolon ls r l
 declaration_begins (declarations.SubprogramBody s body) ls r l = specified_begins s (body_written sequence_written s.name body) ls r l

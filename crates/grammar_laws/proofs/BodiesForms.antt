@@ -12,22 +12,22 @@ use Rattle.ada_tree.specs.declared.declarations.ProtectedBody.{ProtectedBody}
 use Rattle.ada_tree.specs.declared.declarations.ProtectedDeclaration.{ProtectedDeclaration}
 use Rattle.ada_tree.specs.declared.declarations.SubprogramSpecification.{SubprogramSpecification}
 use Rattle.ada_tree.specs.declared.declarations.TaskDeclaration.{TaskDeclaration}
-use Rattle.ada_tree.specs.Written.{Written, Lexeme, word, word_at, mark, identifier_written, each_written, end_name_written}
+use Rattle.ada_tree.specs.Written.{Written, Lexeme, word, word_at, delimiter, identifier_written, each_written, end_name_written}
 use Rattle.ada_tree.specs.Spelling.{sequence_written}
 use Rattle.ada_tree.specs.SpellingStatements.{semicolon}
 use Rattle.ada_tree.specs.SpellingDeclarations.{specification_written, task_written, protected_written, body_written, operation_body_written, protected_body_written, declaration_written}
 use Rattle.ada_tree.specs.Shape.{sequence_fits}
 use Rattle.ada_tree.specs.ShapeDeclarations.{specification_fits, task_fits, protected_fits, body_fits, operation_body_fits, operations_fit, protected_body_fits, declaration_fits}
-use Rattle.ada_grammar.specs.Reading.{Parser, ◌>>=◌, ◌>>◌, pure, choose, starts, sees_word, sees_mark, the_word, the_mark, end_name_of, below, items_of}
+use Rattle.ada_grammar.specs.Reading.{Parser, ◌>>=◌, ◌>>◌, pure, choose, starts, sees_word, sees_delimiter, the_word, the_delimiter, end_name_of, below, items_of}
 use Rattle.ada_grammar.specs.ReadingDeclarations.{begins_operation, specification_of, task_of, protected_of}
 use Rattle.ada_grammar.specs.ReadingBodies.{body_of, operation_body_of, subprogram_body_of, subprogram_of, task_body_of, any_task_of, protected_body_of, any_protected_of}
 use Rattle.grammar_laws.specs.Leads.{Leads}
 use Rattle.grammar_laws.proofs.Exact.{done, Rest, Any, itself, Exact, closing, first_is}
-use Rattle.grammar_laws.proofs.Tokens.{always, shapeless, not_word, word_then, sees_mark_first, sees_word_first}
+use Rattle.grammar_laws.proofs.Tokens.{always, shapeless, not_word, word_then, sees_delimiter_first, sees_word_first}
 use Rattle.grammar_laws.proofs.Choices.{Sound, one_form}
 use Rattle.grammar_laws.proofs.Selects.{ReadsDeeper}
 use Rattle.grammar_laws.proofs.ClausesEnds.{ends_operations, ends_specification}
-use Rattle.grammar_laws.proofs.ClausesSteps.{mark_ends, last_before, plain_before, word_kept, identifier_kept, end_name_exact, respelt_by, carried, chosen_by, passed_by, forked}
+use Rattle.grammar_laws.proofs.ClausesSteps.{delimiter_ends, last_before, plain_before, word_kept, identifier_kept, end_name_exact, respelt_by, carried, chosen_by, passed_by, forked}
 use Rattle.grammar_laws.proofs.ClausesSpecifications.{specification_exact}
 use Rattle.grammar_laws.proofs.ClausesTasks.{task_behind, task_exact, protected_behind, protected_exact}
 use Rattle.grammar_laws.proofs.ClausesBegins.{task_no_body, protected_no_body}
@@ -57,15 +57,15 @@ abbrev subprogram_body_made : Specified → Declaration Sequence
 subprogram_body_made x = declarations.SubprogramBody x.0 x.1
 
 abbrev subprogram_end_of : SubprogramSpecification → Parser (Declaration Sequence)
-subprogram_end_of specification = the_mark (codes ";") >> pure (declarations.Subprogram specification)
+subprogram_end_of specification = the_delimiter (codes ";") >> pure (declarations.Subprogram specification)
 
 subprogram_end_exact : (specification : SubprogramSpecification) → Rest subprogram_made (λ s. Any s × (specification ≡ s)) (λ s. semicolon) (λ s. true) always (subprogram_end_of specification)
-subprogram_end_exact specification = mark_ends subprogram_made _ (codes ";") specification (tt, refl) (λ j p. p.1)
+subprogram_end_exact specification = delimiter_ends subprogram_made _ (codes ";") specification (tt, refl) (λ j p. p.1)
 
 subprogram_exact : (left : ℕ) → Rest subprogram_made Any (λ s. specification_written s ++ semicolon) (specification_fits left) always (specification_of left >>= subprogram_end_of)
 unfolding starts
 subprogram_exact left =
-    last_before subprogram_made Any (mark (codes ";")) (λ s. []) always itself specification_written (specification_fits left) ends_specification (specification_of left) _ (specification_exact left) (λ l ls. refl)
+    last_before subprogram_made Any (delimiter (codes ";")) (λ s. []) always itself specification_written (specification_fits left) ends_specification (specification_of left) _ (specification_exact left) (λ l ls. refl)
     subprogram_end_exact
 
 abbrev SoundDeclaration : ℕ → Parser (Declaration Sequence) → Type 0
@@ -84,7 +84,7 @@ module _ (left : ℕ) (sequence : SequenceRole → Parser Sequence) (known : Rea
   pub subprogram_sound : SoundDeclaration left (subprogram_of left sequence)
   unfolding subprogram_of
   subprogram_sound =
-      forked (specification_of left) (sees_mark (codes ";")) subprogram_end_of (subprogram_body_of left sequence)
+      forked (specification_of left) (sees_delimiter (codes ";")) subprogram_end_of (subprogram_body_of left sequence)
       (one_form subprogram_made (subprogram_exact left) (λ s. refl) (λ s. refl))
       (one_form subprogram_body_made whole_body_exact (λ x. refl) (λ x. refl))
 
@@ -92,15 +92,15 @@ module _ (left : ℕ) (sequence : SequenceRole → Parser Sequence) (known : Rea
       → subprogram_of left sequence ls ≡ done (declarations.Subprogram s) r
   unfolding subprogram_of
   subprogram_complete s ls r okay l =
-      first_form (specification_of left) (sees_mark (codes ";")) subprogram_end_of (subprogram_body_of left sequence) subprogram_end_exact
-      (λ s ls r l. sees_mark_first (codes ";") [] ls r l) ls (declarations.Subprogram s) r ((subprogram_exact left).complete s ls r tt okay l refl)
+      first_form (specification_of left) (sees_delimiter (codes ";")) subprogram_end_of (subprogram_body_of left sequence) subprogram_end_exact
+      (λ s ls r l. sees_delimiter_first (codes ";") [] ls r l) ls (declarations.Subprogram s) r ((subprogram_exact left).complete s ls r tt okay l refl)
 
   pub subprogram_body_complete : (x : Specified) (ls r : List Lexeme) → specified_fits left x ≡ true → Leads (specified_written x) ls r
       → subprogram_of left sequence ls ≡ done (declarations.SubprogramBody x.0 x.1) r
   unfolding subprogram_of starts
   subprogram_body_complete x ls r okay l =
-      second_form (specification_of left) (sees_mark (codes ";")) subprogram_end_of (subprogram_body_of left sequence) subprogram_body_exact
-      (λ x ls r l. first_is (sees_mark (codes ";")) false (word (codes "is")) (λ l ls. refl) _ ls r l) ls (subprogram_body_made x) r (whole_body_exact.complete x ls r tt okay l refl)
+      second_form (specification_of left) (sees_delimiter (codes ";")) subprogram_end_of (subprogram_body_of left sequence) subprogram_body_exact
+      (λ x ls r l. first_is (sees_delimiter (codes ";")) false (word (codes "is")) (λ l ls. refl) _ ls r l) ls (subprogram_body_made x) r (whole_body_exact.complete x ls r tt okay l refl)
 
 -- ---- tasks
 
@@ -199,8 +199,8 @@ module _ (left : ℕ) (sequence : SequenceRole → Parser Sequence) (deeper : Se
       (operations_inside left m deeper e known) (λ l ls. refl)
       (λ operation_bodies. word_then protected_body_made _ end_behind _ always (codes "end") _
       (respelt_by protected_body_made _ (λ p. end_name_written p.named_at_end name ++ semicolon) end_behind (λ p. true) always _
-      (plain_before protected_body_made _ (mark (codes ";")) _ always (λ p. p.named_at_end) (λ b. end_name_written b name) shapeless (not_word name.text) (end_name_of name.text) _ (end_name_exact name) (λ l ls. refl) _ (λ b. refl)
-      (λ named. mark_ends protected_body_made _ (codes ";") (record { place = place; name = name; operations = operation_bodies; named_at_end = named }) ((((tt, refl), refl), refl), refl)
+      (plain_before protected_body_made _ (delimiter (codes ";")) _ always (λ p. p.named_at_end) (λ b. end_name_written b name) shapeless (not_word name.text) (end_name_of name.text) _ (end_name_exact name) (λ l ls. refl) _ (λ b. refl)
+      (λ named. delimiter_ends protected_body_made _ (codes ";") (record { place = place; name = name; operations = operation_bodies; named_at_end = named }) ((((tt, refl), refl), refl), refl)
       (λ j p. rw (p.0.0.0.1, p.0.0.1, p.0.1, p.1) refl)))
       (λ p q. rw (q.0.1) refl))))))
 

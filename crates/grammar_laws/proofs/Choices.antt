@@ -2,12 +2,12 @@
 use Rattle.std.proofs.Common.{◌≡◌, ℕ, zero, suc, Bool, true, false, cond, List, [], ◌∷◌, refl, sym, subst, ◌∙◌, codes}
 use Rattle.ann_base.specs.declared.places.Place.{Place}
 use Rattle.ada_tree.specs.declared.names.OneOrMore.{OneOrMore}
-use Rattle.ada_tree.specs.Written.{Written, Lexeme, mark, mark_at, enclosed}
+use Rattle.ada_tree.specs.Written.{Written, Lexeme, delimiter, delimiter_at, enclosed}
 use Rattle.ada_tree.specs.ShapeExpressions.{within}
-use Rattle.ada_grammar.specs.Reading.{Read, Parser, and_then, ◌>>=◌, pure, choose, nothing, too_deep, sees_mark, the_mark, opening_of}
+use Rattle.ada_grammar.specs.Reading.{Read, Parser, and_then, ◌>>=◌, pure, choose, nothing, too_deep, sees_delimiter, the_delimiter, opening_of}
 use Rattle.grammar_laws.specs.Leads.{Leads}
 use Rattle.grammar_laws.proofs.Exact.{done, Found, Rest, Any, itself, Exact, ready, plain}
-use Rattle.grammar_laws.proofs.Tokens.{always, shapeless, mark_exact, mark_then}
+use Rattle.grammar_laws.proofs.Tokens.{always, shapeless, delimiter_exact, delimiter_then}
 
 -- ---- a choice by the next tokens
 
@@ -43,7 +43,7 @@ one_form form law same okay = record {
 
 never_opened : {X : Type 0} (F : Type 0) (ls : List Lexeme) (k : Place → Parser X) (x : X) (r : List Lexeme) → and_then (opening_of zero ls) k ≡ done x r → F
 unfolding opening_of
-never_opened {X} F ls k x r e = by_test (sees_mark (codes "(") ls) e
+never_opened {X} F ls k x r e = by_test (sees_delimiter (codes "(") ls) e
   where
     by_test : (v : Bool) → and_then (cond {A = Read Place} v (too_deep ls) (nothing ls)) k ≡ done x r → F
     by_test true e = absurd cc
@@ -51,24 +51,24 @@ never_opened {X} F ls k x r e = by_test (sees_mark (codes "(") ls) e
 
 pub opened : {X I : Type 0} (left : ℕ) (make : I → X) (P : I → Type 0) (w : I → List Written) (fits : I → ℕ → Bool) (ends : List Lexeme → Bool) (get : I → Place) (k : Place → Parser X)
     → ((m : ℕ) → left ≡ suc m → (a : Place) → Rest make (λ i. P i × (a ≡ get i)) w (λ i. fits i m) ends (k a))
-    → Rest make P (λ i. mark_at (get i) (codes "(") ∷ w i) (λ i. within left (fits i)) ends (opening_of left >>= k)
+    → Rest make P (λ i. delimiter_at (get i) (codes "(") ∷ w i) (λ i. within left (fits i)) ends (opening_of left >>= k)
 unfolding opening_of
 opened zero make P w fits ends get k more = record {
   sound = λ ls x r e. never_opened _ ls k x r e;
   complete = λ i ls r p o l end. absurd cc;
 }
 opened (suc m) make P w fits ends get k more =
-    plain make P w (λ i. fits i m) ends get (λ p. mark_at p (codes "(") ∷ []) shapeless always (the_mark (codes "(")) k (mark_exact (codes "(")) (λ a. refl) (λ i ls r p l end. refl) (more m refl)
+    plain make P w (λ i. fits i m) ends get (λ p. delimiter_at p (codes "(") ∷ []) shapeless always (the_delimiter (codes "(")) k (delimiter_exact (codes "(")) (λ a. refl) (λ i ls r p l end. refl) (more m refl)
 
 pub opened_plain : {X I : Type 0} (left : ℕ) (make : I → X) (P : I → Type 0) (w : I → List Written) (fits : I → ℕ → Bool) (ends : List Lexeme → Bool) (k : Parser X)
     → ((m : ℕ) → left ≡ suc m → Rest make P w (λ i. fits i m) ends k)
-    → Rest make P (λ i. mark (codes "(") ∷ w i) (λ i. within left (fits i)) ends (opening_of left >>= (λ a. k))
+    → Rest make P (λ i. delimiter (codes "(") ∷ w i) (λ i. within left (fits i)) ends (opening_of left >>= (λ a. k))
 unfolding opening_of
 opened_plain zero make P w fits ends k more = record {
   sound = λ ls x r e. never_opened _ ls (λ a. k) x r e;
   complete = λ i ls r p o l end. absurd cc;
 }
-opened_plain (suc m) make P w fits ends k more = mark_then make P w (λ i. fits i m) ends (codes "(") k (more m refl)
+opened_plain (suc m) make P w fits ends k more = delimiter_then make P w (λ i. fits i m) ends (codes "(") k (more m refl)
 
 -- ---- items in brackets, or nothing
 

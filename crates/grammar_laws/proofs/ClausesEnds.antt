@@ -8,14 +8,14 @@ use Rattle.ada_lex.specs.Reserved.{is_reserved}
 use Rattle.ada_lex.specs.ReservedLetters.{letters}
 use Rattle.ada_tree.specs.declared.names.Identifier.{Identifier}
 use Rattle.ada_tree.specs.Written.{Written, Lexeme, flag, optional, each_written, behind, enclosed}
-use Rattle.ada_grammar.specs.Reading.{sees_mark, sees_word, sees_identifier, starts}
+use Rattle.ada_grammar.specs.Reading.{sees_delimiter, sees_word, sees_identifier, starts}
 use Rattle.ada_grammar.specs.ReadingExpressions.{compares, adds, multiplies, joins}
 use Rattle.ada_grammar.specs.ReadingDeclarations.{begins_operation}
 use Rattle.grammar_laws.specs.Leads.{Leads}
 use Rattle.grammar_laws.proofs.Leading.{leads_through, as_written}
 use Rattle.grammar_laws.proofs.Exact.{first_true, second_true, both, first_is}
-use Rattle.grammar_laws.proofs.Tokens.{not_word, seen_mark, seen_word}
-use Rattle.grammar_laws.proofs.Names.{not_mark, ends_names}
+use Rattle.grammar_laws.proofs.Tokens.{not_word, seen_delimiter, seen_word}
+use Rattle.grammar_laws.proofs.Names.{not_delimiter, ends_names}
 use Rattle.grammar_laws.proofs.Ends.{ends_designated, ends_term, ends_sum, ends_relation, ends_expression}
 
 -- ---- a subtype mark: more of its name or of its bounds, a bracket, a range
@@ -26,7 +26,7 @@ ends_subtype r = ends_expression r && not_word (codes "range") r
 -- ---- a choice: more of its expression, or two dots
 
 abbrev pub ends_choice : List Lexeme → Bool
-ends_choice r = ends_expression r && not_mark (codes "..") r
+ends_choice r = ends_expression r && not_delimiter (codes "..") r
 
 -- ---- how a loop goes on: more of its expression, or what says it
 
@@ -39,7 +39,7 @@ abbrev pub not_identifier : List Lexeme → Bool
 not_identifier r = not (sees_identifier r)
 
 abbrev pub ends_name : List Lexeme → Bool
-ends_name r = not_mark (codes ".") r && not_identifier r
+ends_name r = not_delimiter (codes ".") r && not_identifier r
 
 -- ---- a condition that may be missing
 
@@ -54,7 +54,7 @@ ends_exceptions r = ends_names (codes "|") r
 -- ---- the value of a result: it ends at a semicolon, or is none where one stands
 
 abbrev pub ends_result : List Lexeme → Bool
-ends_result r = sees_mark (codes ";") r
+ends_result r = sees_delimiter (codes ";") r
 
 -- ---- the operations of a protected unit: one more
 
@@ -64,15 +64,15 @@ ends_operations r = not (begins_operation r)
 -- ---- an initial value that may be missing
 
 abbrev pub ends_initial : List Lexeme → Bool
-ends_initial r = ends_expression r && not_mark (codes ":=") r
+ends_initial r = ends_expression r && not_delimiter (codes ":=") r
 
 -- ---- aspects, and specifications that end with them
 
 abbrev pub ends_aspect : List Lexeme → Bool
-ends_aspect r = ends_expression r && not_mark (codes "=>") r
+ends_aspect r = ends_expression r && not_delimiter (codes "=>") r
 
 abbrev pub ends_aspects : List Lexeme → Bool
-ends_aspects r = (ends_aspect r && not_mark (codes ",") r) && not_word (codes "with") r
+ends_aspects r = (ends_aspect r && not_delimiter (codes ",") r) && not_word (codes "with") r
 
 abbrev pub ends_specification : List Lexeme → Bool
 ends_specification r = ends_aspects r && not_word (codes "range") r
@@ -98,12 +98,12 @@ expression_designated r e =
     first_true (ends_designated r) (not (multiplies r)) (first_true (ends_term r) (not (adds r))
     (first_true (ends_sum r) (not (compares r)) (first_true (ends_relation r) (not (joins r)) e)))
 
-pub expression_no_point : (r : List Lexeme) → ends_expression r ≡ true → not_mark (codes ".") r ≡ true
-expression_no_point r e = first_true (not_mark (codes ".") r) (not_mark (codes "'") r && not_mark (codes "(") r) (expression_designated r e)
+pub expression_no_point : (r : List Lexeme) → ends_expression r ≡ true → not_delimiter (codes ".") r ≡ true
+expression_no_point r e = first_true (not_delimiter (codes ".") r) (not_delimiter (codes "'") r && not_delimiter (codes "(") r) (expression_designated r e)
 
-pub expression_no_bracket : (r : List Lexeme) → ends_expression r ≡ true → not_mark (codes "(") r ≡ true
+pub expression_no_bracket : (r : List Lexeme) → ends_expression r ≡ true → not_delimiter (codes "(") r ≡ true
 expression_no_bracket r e =
-    second_true (not_mark (codes "'") r) (not_mark (codes "(") r) (second_true (not_mark (codes ".") r) (not_mark (codes "'") r && not_mark (codes "(") r) (expression_designated r e))
+    second_true (not_delimiter (codes "'") r) (not_delimiter (codes "(") r) (second_true (not_delimiter (codes ".") r) (not_delimiter (codes "'") r && not_delimiter (codes "(") r) (expression_designated r e))
 
 pub subtype_expression : (r : List Lexeme) → ends_subtype r ≡ true → ends_expression r ≡ true
 subtype_expression r e = first_true (ends_expression r) (not_word (codes "range") r) e
@@ -125,7 +125,7 @@ pub stop_flag : (test : List Lexeme → Bool) (b : Bool) (ws w : List Written) �
 stop_flag test true ws w one rest ls r l = one ls r l
 stop_flag test false ws w one rest ls r l = rest ls r l
 
--- ---- an identifier is no reserved word and no mark
+-- ---- an identifier is no reserved word and no delimiter
 
 pub identifier_no_word : (text : List ℕ) → ((p : Place) (ls : List Lexeme) → sees_identifier (record { kind = kinds.Word; text = text; place = p } ∷ ls) ≡ false)
     → (ls : List Lexeme) → sees_identifier ls ≡ true → not_word text ls ≡ true
@@ -135,13 +135,13 @@ identifier_no_word text reserved ls e = by_test (sees_word text ls) refl
     by_test false s = refl
     by_test true s = absurd (false≢true (sym (seen_word sees_identifier false text reserved ls s) ∙ e))
 
-pub identifier_no_mark : (text : List ℕ) (ls : List Lexeme) → sees_identifier ls ≡ true → not_mark text ls ≡ true
+pub identifier_no_delimiter : (text : List ℕ) (ls : List Lexeme) → sees_identifier ls ≡ true → not_delimiter text ls ≡ true
 unfolding starts
-identifier_no_mark text ls e = by_test (sees_mark text ls) refl
+identifier_no_delimiter text ls e = by_test (sees_delimiter text ls) refl
   where
-    by_test : (v : Bool) → sees_mark text ls ≡ v → not v ≡ true
+    by_test : (v : Bool) → sees_delimiter text ls ≡ v → not v ≡ true
     by_test false s = refl
-    by_test true s = absurd (false≢true (sym (seen_mark sees_identifier false text (λ p ls. refl) ls s) ∙ e))
+    by_test true s = absurd (false≢true (sym (seen_delimiter sees_identifier false text (λ p ls. refl) ls s) ∙ e))
 
 pub identifier_no_in : (ls : List Lexeme) → sees_identifier ls ≡ true → not_word (codes "in") ls ≡ true
 unfolding starts is_reserved letters
@@ -191,17 +191,17 @@ stop_each test wa one (x ∷ xs) ls r l end = let t = leads_through (wa x) (each
 
 -- ---- what specifications end with says
 
-pub aspects_list : (r : List Lexeme) → ends_aspects r ≡ true → (ends_aspect r && not_mark (codes ",") r) ≡ true
-aspects_list r e = first_true (ends_aspect r && not_mark (codes ",") r) (not_word (codes "with") r) e
+pub aspects_list : (r : List Lexeme) → ends_aspects r ≡ true → (ends_aspect r && not_delimiter (codes ",") r) ≡ true
+aspects_list r e = first_true (ends_aspect r && not_delimiter (codes ",") r) (not_word (codes "with") r) e
 
 pub aspects_aspect : (r : List Lexeme) → ends_aspects r ≡ true → ends_aspect r ≡ true
-aspects_aspect r e = first_true (ends_aspect r) (not_mark (codes ",") r) (aspects_list r e)
+aspects_aspect r e = first_true (ends_aspect r) (not_delimiter (codes ",") r) (aspects_list r e)
 
 pub aspects_no_with : (r : List Lexeme) → ends_aspects r ≡ true → not_word (codes "with") r ≡ true
-aspects_no_with r e = second_true (ends_aspect r && not_mark (codes ",") r) (not_word (codes "with") r) e
+aspects_no_with r e = second_true (ends_aspect r && not_delimiter (codes ",") r) (not_word (codes "with") r) e
 
 pub aspects_expression : (r : List Lexeme) → ends_aspects r ≡ true → ends_expression r ≡ true
-aspects_expression r e = first_true (ends_expression r) (not_mark (codes "=>") r) (aspects_aspect r e)
+aspects_expression r e = first_true (ends_expression r) (not_delimiter (codes "=>") r) (aspects_aspect r e)
 
 pub specification_aspects : (r : List Lexeme) → ends_specification r ≡ true → ends_aspects r ≡ true
 specification_aspects r e = first_true (ends_aspects r) (not_word (codes "range") r) e

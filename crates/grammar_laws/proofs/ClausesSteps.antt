@@ -4,14 +4,14 @@ use Rattle.std.specs.Prelude.{Option, Some, None}
 use Rattle.std.specs.List.{list_all}
 use Rattle.ann_base.specs.declared.places.Place.{Place}
 use Rattle.ada_tree.specs.declared.names.Identifier.{Identifier}
-use Rattle.ada_tree.specs.Written.{Written, Lexeme, word, word_at, mark, identifier_written, each_written, behind, enclosed, end_name_written}
+use Rattle.ada_tree.specs.Written.{Written, Lexeme, word, word_at, delimiter, identifier_written, each_written, behind, enclosed, end_name_written}
 use Rattle.ada_tree.specs.ShapeExpressions.{optional_fits}
-use Rattle.ada_grammar.specs.Reading.{Read, Parser, ◌>>=◌, ◌>>◌, pure, choose, starts, sees_mark, the_word, the_mark, an_identifier, end_name_of, items_of, behind_mark_of}
+use Rattle.ada_grammar.specs.Reading.{Read, Parser, ◌>>=◌, ◌>>◌, pure, choose, starts, sees_delimiter, the_word, the_delimiter, an_identifier, end_name_of, items_of, behind_delimiter_of}
 use Rattle.grammar_laws.specs.Leads.{Leads}
 use Rattle.grammar_laws.proofs.Leading.{as_written}
 use Rattle.grammar_laws.proofs.Exact.{done, pair_of, parts, Found, Rest, Any, itself, Exact, first_true, second_true, ready, field, plain, last, listed, first_is}
-use Rattle.grammar_laws.proofs.Tokens.{always, shapeless, not_true, not_word, word_then, mark_then, word_exact, identifier_exact, flag_exact, sees_mark_first}
-use Rattle.grammar_laws.proofs.Names.{not_mark}
+use Rattle.grammar_laws.proofs.Tokens.{always, shapeless, not_true, not_word, word_then, delimiter_then, word_exact, identifier_exact, flag_exact, sees_delimiter_first}
+use Rattle.grammar_laws.proofs.Names.{not_delimiter}
 use Rattle.grammar_laws.proofs.Choices.{Sound}
 
 pub nothing_behind : {A : Type 0} (xs : List A) → xs ++ [] ≡ xs
@@ -24,9 +24,9 @@ optional_shapeless (Some a) = refl
 
 -- ---- a token that ends a production
 
-pub mark_ends : {X I : Type 0} (make : I → X) (P : I → Type 0) (text : List ℕ) (i : I) → P i → ((j : I) → P j → i ≡ j)
-    → Rest make P (λ j. mark text ∷ []) (λ j. true) always (the_mark text >>= (λ a. pure (make i)))
-mark_ends make P text i p only = mark_then make P (λ j. []) (λ j. true) always text (pure (make i)) (ready make P always i p only)
+pub delimiter_ends : {X I : Type 0} (make : I → X) (P : I → Type 0) (text : List ℕ) (i : I) → P i → ((j : I) → P j → i ≡ j)
+    → Rest make P (λ j. delimiter text ∷ []) (λ j. true) always (the_delimiter text >>= (λ a. pure (make i)))
+delimiter_ends make P text i p only = delimiter_then make P (λ j. []) (λ j. true) always text (pure (make i)) (ready make P always i p only)
 
 pub word_ends : {X I : Type 0} (make : I → X) (P : I → Type 0) (text : List ℕ) (i : I) → P i → ((j : I) → P j → i ≡ j)
     → Rest make P (λ j. word text ∷ []) (λ j. true) always (the_word text >>= (λ a. pure (make i)))
@@ -56,17 +56,17 @@ module _ {X I A : Type 0} (make : I → X) (P : I → Type 0) (token : Written) 
 
 -- {separator item}
 abbrev pub ends_list : List ℕ → (List Lexeme → Bool) → List Lexeme → Bool
-ends_list separator ends_item r = ends_item r && not_mark separator r
+ends_list separator ends_item r = ends_item r && not_delimiter separator r
 
 pub items_behind : {A : Type 0} (separator : List ℕ) (w : A → List Written) (ok : A → Bool) (ends_item : List Lexeme → Bool) (item : Parser A)
-    → Exact w ok ends_item item → ((r : List Lexeme) → sees_mark separator r ≡ true → ends_item r ≡ true)
-    → Exact (each_written (behind (mark separator) w)) (list_all ok) (ends_list separator ends_item) (items_of (sees_mark separator) (behind_mark_of separator item))
-unfolding behind_mark_of starts
+    → Exact w ok ends_item item → ((r : List Lexeme) → sees_delimiter separator r ≡ true → ends_item r ≡ true)
+    → Exact (each_written (behind (delimiter separator) w)) (list_all ok) (ends_list separator ends_item) (items_of (sees_delimiter separator) (behind_delimiter_of separator item))
+unfolding behind_delimiter_of starts
 items_behind separator w ok ends_item item one apart =
-    listed (sees_mark separator) (behind (mark separator) w) ok ends_item (ends_list separator ends_item) (the_mark separator >> item)
-    (mark_then itself Any w ok ends_item separator item one) (λ a ls r l. sees_mark_first separator (w a) ls r l) refl apart
-    (λ r e. first_true (ends_item r) (not_mark separator r) e)
-    (λ r e. not_true (sees_mark separator r) (second_true (ends_item r) (not_mark separator r) e))
+    listed (sees_delimiter separator) (behind (delimiter separator) w) ok ends_item (ends_list separator ends_item) (the_delimiter separator >> item)
+    (delimiter_then itself Any w ok ends_item separator item one) (λ a ls r l. sees_delimiter_first separator (w a) ls r l) refl apart
+    (λ r e. first_true (ends_item r) (not_delimiter separator r) e)
+    (λ r e. not_true (sees_delimiter separator r) (second_true (ends_item r) (not_delimiter separator r) e))
 
 -- one item, and more
 abbrev pub first_and : {A : Type 0} → A × List A → List A

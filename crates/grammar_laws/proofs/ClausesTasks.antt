@@ -17,7 +17,7 @@ use Rattle.ada_tree.specs.declared.declarations.TaskDefinition.{TaskDefinition}
 use Rattle.ada_tree.specs.declared.declarations.ProtectedDeclaration.{ProtectedDeclaration}
 use Rattle.ada_tree.specs.declared.declarations.ProtectedOperation.{ProtectedOperation}
 use Rattle.ada_tree.specs.declared.declarations.ProtectedOperation.TheVariants as operations
-use Rattle.ada_tree.specs.Written.{Written, Lexeme, word, word_at, mark, identifier_written, each_written, optional, end_name_written}
+use Rattle.ada_tree.specs.Written.{Written, Lexeme, word, word_at, delimiter, identifier_written, each_written, optional, end_name_written}
 use Rattle.ada_tree.specs.SpellingStatements.{semicolon, parameters_written}
 use Rattle.ada_tree.specs.SpellingDeclarations.{component_written, aspects_written, specification_written, entry_written, task_definition_written, type_flag, operation_written, private_written}
 use Rattle.ada_tree.specs.ShapeExpressions.{optional_fits}
@@ -30,7 +30,7 @@ use Rattle.grammar_laws.proofs.Exact.{done, Rest, Any, itself, Exact, first_true
 use Rattle.grammar_laws.proofs.Tokens.{always, shapeless, not_true, not_word, word_then, flag_exact, sees_word_first, sees_identifier_first}
 use Rattle.grammar_laws.proofs.Choices.{Sound, either, one_form}
 use Rattle.grammar_laws.proofs.ClausesEnds.{ends_operations, ends_specification, ends_aspects, ends_task_definition, ends_private, not_identifier, identifier_no_type}
-use Rattle.grammar_laws.proofs.ClausesSteps.{mark_ends, field_before, last_before, plain_before, identifier_kept, end_name_exact, respelt_by}
+use Rattle.grammar_laws.proofs.ClausesSteps.{delimiter_ends, field_before, last_before, plain_before, identifier_kept, end_name_exact, respelt_by}
 use Rattle.grammar_laws.proofs.ClausesTypes.{components_exact}
 use Rattle.grammar_laws.proofs.ClausesSpecifications.{aspects_exact, specification_exact, specification_first, entry_exact, entry_begins}
 
@@ -77,7 +77,7 @@ unfolding starts
 before_definition t ls r l =
     first_optional ends_aspects true (task_definition_written t.name) semicolon
     (λ d ls m l. first_is ends_aspects true (word (codes "is")) (λ l ls. refl) (each_written entry_written d.entries ++ word (codes "end") ∷ end_name_written d.named_at_end t.name) ls m l)
-    (λ ls r l. first_is ends_aspects true (mark (codes ";")) (λ l ls. refl) [] ls r l) t.definition ls r l
+    (λ ls r l. first_is ends_aspects true (delimiter (codes ";")) (λ l ls. refl) [] ls r l) t.definition ls r l
 
 pub task_exact : (left : ℕ) (place : Place) → Rest (λ (t : TaskDeclaration). declarations.Task t) (λ t. Any t × (place ≡ t.place)) task_behind (task_fits left) always (task_of left place)
 unfolding task_of starts
@@ -88,8 +88,8 @@ task_exact left place =
     (λ name. field task_made _ definition_behind (λ t. optional_fits (task_definition_fits left) t.definition) always (λ t. t.aspects) aspects_written (aspects_fit left) ends_aspects (aspects_of left) _ (aspects_exact left)
     (λ t ls r p l end. before_definition t ls r l)
     (λ aspects. respelt_by task_made _ (λ t. optional (task_definition_written name) t.definition ++ semicolon) definition_behind (λ t. optional_fits (task_definition_fits left) t.definition) always _
-    (last_before task_made _ (mark (codes ";")) _ always (λ t. t.definition) (optional (task_definition_written name)) (optional_fits (task_definition_fits left)) (ends_task_definition name) (task_definition_of left name.text) _ (task_definition_exact left name) (λ l ls. refl)
-    (λ definition. mark_ends task_made _ (codes ";") (record { place = place; is_type = is_type; name = name; aspects = aspects; definition = definition }) (((((tt, refl), refl), refl), refl), refl)
+    (last_before task_made _ (delimiter (codes ";")) _ always (λ t. t.definition) (optional (task_definition_written name)) (optional_fits (task_definition_fits left)) (ends_task_definition name) (task_definition_of left name.text) _ (task_definition_exact left name) (λ l ls. refl)
+    (λ definition. delimiter_ends task_made _ (codes ";") (record { place = place; is_type = is_type; name = name; aspects = aspects; definition = definition }) (((((tt, refl), refl), refl), refl), refl)
     (λ j p. rw (p.0.0.0.0.1, p.0.0.0.1, p.0.0.1, p.0.1, p.1) refl)))
     (λ t p. rw (p.0.1) refl))))
 
@@ -107,8 +107,8 @@ entry_operation_exact left = closing entry_operation Any always itself entry_wri
 subprogram_operation_exact : (left : ℕ) → Rest subprogram_operation Any (λ s. specification_written s ++ semicolon) (specification_fits left) always (specified_operation_of left)
 unfolding specified_operation_of starts
 subprogram_operation_exact left =
-    last_before subprogram_operation Any (mark (codes ";")) (λ s. []) always itself specification_written (specification_fits left) ends_specification (specification_of left) _ (specification_exact left) (λ l ls. refl)
-    (λ s. mark_ends subprogram_operation _ (codes ";") s (tt, refl) (λ j p. p.1))
+    last_before subprogram_operation Any (delimiter (codes ";")) (λ s. []) always itself specification_written (specification_fits left) ends_specification (specification_of left) _ (specification_exact left) (λ l ls. refl)
+    (λ s. delimiter_ends subprogram_operation _ (codes ";") s (tt, refl) (λ j p. p.1))
 
 operation_sound : (left : ℕ) → Sound itself operation_written (operation_fits left) (operation_of left)
 unfolding operation_of
@@ -209,8 +209,8 @@ protected_exact left place =
     (λ named_operations. last_before protected_made _ (word (codes "end")) end_behind always (λ p. p.components) (optional private_written) (optional_fits (private_fits left)) ends_private (private_of left) _ (private_exact left) (λ l ls. refl)
     (λ components. word_then protected_made _ end_behind _ always (codes "end") _
     (respelt_by protected_made _ (λ p. end_name_written p.named_at_end name ++ semicolon) end_behind (λ p. true) always _
-    (plain_before protected_made _ (mark (codes ";")) _ always (λ p. p.named_at_end) (λ b. end_name_written b name) shapeless (not_word name.text) (end_name_of name.text) _ (end_name_exact name) (λ l ls. refl) _ (λ b. refl)
-    (λ named. mark_ends protected_made _ (codes ";") (record { place = place; is_type = is_type; name = name; aspects = aspects; operations = named_operations; components = components; named_at_end = named })
+    (plain_before protected_made _ (delimiter (codes ";")) _ always (λ p. p.named_at_end) (λ b. end_name_written b name) shapeless (not_word name.text) (end_name_of name.text) _ (end_name_exact name) (λ l ls. refl) _ (λ b. refl)
+    (λ named. delimiter_ends protected_made _ (codes ";") (record { place = place; is_type = is_type; name = name; aspects = aspects; operations = named_operations; components = components; named_at_end = named })
     (((((((tt, refl), refl), refl), refl), refl), refl), refl)
     (λ j p. rw (p.0.0.0.0.0.0.1, p.0.0.0.0.0.1, p.0.0.0.0.1, p.0.0.0.1, p.0.0.1, p.0.1, p.1) refl)))
     (λ p q. rw (q.0.0.0.1) refl))))))))

@@ -14,7 +14,7 @@ use Rattle.ada_tree.specs.declared.expressions.Expression.{Expression}
 use Rattle.ada_tree.specs.declared.expressions.Expression.TheViews.{out-Expression}
 use Rattle.ada_tree.specs.declared.expressions.ExpressionForm.{ExpressionForm}
 use Rattle.ada_tree.specs.declared.expressions.ExpressionForm.TheVariants as form
-use Rattle.ada_tree.specs.Written.{Written, Lexeme, word_at, mark, mark_at, number_at, text_at, each_written, all_written, behind, optional, one_identifier}
+use Rattle.ada_tree.specs.Written.{Written, Lexeme, word_at, delimiter, delimiter_at, number_at, text_at, each_written, all_written, behind, optional, one_identifier}
 use Rattle.ada_tree.specs.SpellingExpressions.{logical_written, relational_text, sign_text, highest_text, designator_written, arguments_written, operand_written, addend_written, multiplied_written, form_written, expression_written}
 use Rattle.ada_tree.proofs.ExpressionFolds.{expression_is_written}
 use Rattle.ada_grammar.specs.Reading.{sees_identifier, starts}
@@ -22,8 +22,8 @@ use Rattle.grammar_laws.specs.Leads.{Leads}
 use Rattle.grammar_laws.proofs.Leading.{leads_through, leads_length}
 use Rattle.grammar_laws.proofs.Exact.{first_is}
 use Rattle.grammar_laws.proofs.Tokens.{not_word, sees_identifier_first}
-use Rattle.grammar_laws.proofs.Names.{not_mark}
-use Rattle.grammar_laws.proofs.ClausesEnds.{identifier_no_word, identifier_no_mark}
+use Rattle.grammar_laws.proofs.Names.{not_delimiter}
+use Rattle.grammar_laws.proofs.ClausesEnds.{identifier_no_word, identifier_no_delimiter}
 
 logical_takes : (o : LogicalOperator) (p : Place) (a b : List Written) → 1 ≤ length ((logical_written o p ++ a) ++ b)
 logical_takes logical.And p a b = omega arith
@@ -38,8 +38,8 @@ module _ (test : List Lexeme → Bool) (v : Bool)
     (numbers : (text : List ℕ) (p : Place) (ls : List Lexeme) → test (record { kind = kinds.Number; text = text; place = p } ∷ ls) ≡ v)
     (texts : (text : List ℕ) (p : Place) (ls : List Lexeme) → test (record { kind = kinds.Text; text = text; place = p } ∷ ls) ≡ v)
     (nulls : (p : Place) (ls : List Lexeme) → test (record { kind = kinds.Word; text = codes "null"; place = p } ∷ ls) ≡ v)
-    (brackets : (p : Place) (ls : List Lexeme) → test (record { kind = kinds.Mark; text = codes "("; place = p } ∷ ls) ≡ v)
-    (signs : (s : Sign) (p : Place) (ls : List Lexeme) → test (record { kind = kinds.Mark; text = sign_text s; place = p } ∷ ls) ≡ v)
+    (brackets : (p : Place) (ls : List Lexeme) → test (record { kind = kinds.Delimiter; text = codes "("; place = p } ∷ ls) ≡ v)
+    (signs : (s : Sign) (p : Place) (ls : List Lexeme) → test (record { kind = kinds.Delimiter; text = sign_text s; place = p } ∷ ls) ≡ v)
     (operators : (o : HighestOperator) (p : Place) (ls : List Lexeme) → test (record { kind = kinds.Word; text = highest_text o; place = p } ∷ ls) ≡ v) where
   abbrev OfAll : ℕ → Type 0
   OfAll fuel = (e : Expression) (ls m : List Lexeme) → length ls < fuel + length m → Leads (expression_written e) ls m → test ls ≡ v
@@ -54,17 +54,17 @@ module _ (test : List Lexeme → Bool) (v : Bool)
   by_form fuel all (form.Logical operator first others) ls m enough l =
       by_first fuel all first (all_written (operand_written expression_written operator) others) ls m
       (logical_takes operator others.first.place (expression_written others.first.relation) (each_written (operand_written expression_written operator) others.others)) enough l
-  by_form fuel all (form.Relational first place operator second) ls m enough l = by_first fuel all first (mark_at place (relational_text operator) ∷ expression_written second) ls m (omega arith) enough l
+  by_form fuel all (form.Relational first place operator second) ls m enough l = by_first fuel all first (delimiter_at place (relational_text operator) ∷ expression_written second) ls m (omega arith) enough l
   by_form fuel all (form.Adding first others) ls m enough l = by_first fuel all first (all_written (addend_written expression_written) others) ls m (omega arith) enough l
-  by_form fuel all (form.Signed place s operand) ls m enough l = first_is test v (mark_at place (sign_text s)) (λ l ls. signs s l.place ls) (expression_written operand) ls m l
+  by_form fuel all (form.Signed place s operand) ls m enough l = first_is test v (delimiter_at place (sign_text s)) (λ l ls. signs s l.place ls) (expression_written operand) ls m l
   by_form fuel all (form.Multiplying first others) ls m enough l = by_first fuel all first (all_written (multiplied_written expression_written) others) ls m (omega arith) enough l
   by_form fuel all (form.Highest place o operand) ls m enough l = first_is test v (word_at place (highest_text o)) (λ l ls. operators o l.place ls) (expression_written operand) ls m l
   by_form fuel all (form.Number place literal) ls m enough l = first_is test v (number_at place literal) (λ l ls. numbers literal l.place ls) [] ls m l
   by_form fuel all (form.Text place text) ls m enough l = first_is test v (text_at place text) (λ l ls. texts text l.place ls) [] ls m l
   by_form fuel all (form.Null place) ls m enough l = first_is test v (word_at place (codes "null")) (λ l ls. nulls l.place ls) [] ls m l
-  by_form fuel all (form.Bracketed place inner) ls m enough l = first_is test v (mark_at place (codes "(")) (λ l ls. brackets l.place ls) (expression_written inner ++ mark (codes ")") ∷ []) ls m l
+  by_form fuel all (form.Bracketed place inner) ls m enough l = first_is test v (delimiter_at place (codes "(")) (λ l ls. brackets l.place ls) (expression_written inner ++ delimiter (codes ")") ∷ []) ls m l
   by_form fuel all (form.Named name attribute arguments) ls m enough l =
-      identifiers ls (sees_identifier_first name.parts.first (each_written (behind (mark (codes ".")) one_identifier) name.parts.others ++ (optional designator_written attribute ++ arguments_written expression_written arguments)) ls m l)
+      identifiers ls (sees_identifier_first name.parts.first (each_written (behind (delimiter (codes ".")) one_identifier) name.parts.others ++ (optional designator_written attribute ++ arguments_written expression_written arguments)) ls m l)
 
   of_all : (fuel : ℕ) → OfAll fuel
   of_all zero e ls m enough l = absurd (omega (arith, enough, leads_length (expression_written e) ls m l))
@@ -76,7 +76,7 @@ module _ (test : List Lexeme → Bool) (v : Bool)
 
 -- ---- some tests
 
--- no word that begins an expression, and no mark
+-- no word that begins an expression, and no delimiter
 
 pub value_is_no_until : (e : Expression) (ls r : List Lexeme) → Leads (expression_written e) ls r → not_word (codes "until") ls ≡ true
 unfolding starts is_reserved letters
@@ -105,12 +105,12 @@ value_is_no_others e ls r l =
     no_operator highest.Absolute p ls = refl
     no_operator highest.Not p ls = refl
 
-pub value_is_no_semicolon : (e : Expression) (ls r : List Lexeme) → Leads (expression_written e) ls r → not_mark (codes ";") ls ≡ true
+pub value_is_no_semicolon : (e : Expression) (ls r : List Lexeme) → Leads (expression_written e) ls r → not_delimiter (codes ";") ls ≡ true
 unfolding starts
 value_is_no_semicolon e ls r l =
-    value_begins (not_mark (codes ";")) true (λ ls e. identifier_no_mark (codes ";") ls e) (λ t p ls. refl) (λ t p ls. refl) (λ p ls. refl) (λ p ls. refl) no_sign (λ o p ls. refl) e ls r l
+    value_begins (not_delimiter (codes ";")) true (λ ls e. identifier_no_delimiter (codes ";") ls e) (λ t p ls. refl) (λ t p ls. refl) (λ p ls. refl) (λ p ls. refl) no_sign (λ o p ls. refl) e ls r l
   where
-    no_sign : (s : Sign) (p : Place) (ls : List Lexeme) → not_mark (codes ";") (record { kind = kinds.Mark; text = sign_text s; place = p } ∷ ls) ≡ true
+    no_sign : (s : Sign) (p : Place) (ls : List Lexeme) → not_delimiter (codes ";") (record { kind = kinds.Delimiter; text = sign_text s; place = p } ∷ ls) ≡ true
     no_sign sign.Plus p ls = refl
     no_sign sign.Minus p ls = refl
 
@@ -127,5 +127,5 @@ value_no_reverse e w ls r l = value_before (not_word (codes "reverse")) e (value
 pub value_no_others : (e : Expression) (w : List Written) (ls r : List Lexeme) → Leads (expression_written e ++ w) ls r → not_word (codes "others") ls ≡ true
 value_no_others e w ls r l = value_before (not_word (codes "others")) e (value_is_no_others e) w ls r l
 
-pub value_no_semicolon : (e : Expression) (w : List Written) (ls r : List Lexeme) → Leads (expression_written e ++ w) ls r → not_mark (codes ";") ls ≡ true
-value_no_semicolon e w ls r l = value_before (not_mark (codes ";")) e (value_is_no_semicolon e) w ls r l
+pub value_no_semicolon : (e : Expression) (w : List Written) (ls r : List Lexeme) → Leads (expression_written e ++ w) ls r → not_delimiter (codes ";") ls ≡ true
+value_no_semicolon e w ls r l = value_before (not_delimiter (codes ";")) e (value_is_no_semicolon e) w ls r l

@@ -6,12 +6,12 @@ use Rattle.ada_tree.specs.declared.statements.SequenceRole.TheVariants as role
 use Rattle.ada_grammar.specs.ReadingExpressions.{compares, adds, multiplies, joins}
 use Rattle.ada_grammar.specs.ReadingStatements.{begins_statement}
 use Rattle.grammar_laws.proofs.Tokens.{not_word}
-use Rattle.grammar_laws.proofs.Names.{not_mark}
+use Rattle.grammar_laws.proofs.Names.{not_delimiter}
 
 -- ---- expressions, level by level of precedence
 
 abbrev pub ends_designated : List Lexeme → Bool
-ends_designated r = not_mark (codes ".") r && (not_mark (codes "'") r && not_mark (codes "(") r)
+ends_designated r = not_delimiter (codes ".") r && (not_delimiter (codes "'") r && not_delimiter (codes "(") r)
 
 abbrev pub ends_term : List Lexeme → Bool
 ends_term r = ends_designated r && not (multiplies r)
@@ -28,7 +28,7 @@ ends_expression r = ends_relation r && not (joins r)
 -- ---- the arguments of a call: an opening bracket
 
 abbrev pub ends_arguments : List Lexeme → Bool
-ends_arguments r = not_mark (codes "(") r
+ends_arguments r = not_delimiter (codes "(") r
 
 -- ---- sequences, by what they may hold
 

@@ -2,7 +2,7 @@ pub mod Choices
 pub mod ClausesBegins
 pub mod ClausesCalls
 pub mod ClausesEnds
-pub mod ClausesMarks
+pub mod ClausesSubtypes
 pub mod ClausesObjects
 pub mod ClausesSpecifications
 pub mod ClausesStatements

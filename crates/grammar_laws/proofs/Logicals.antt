@@ -16,7 +16,7 @@ use Rattle.ada_tree.specs.declared.expressions.Expression.TheViews.{out-Expressi
 use Rattle.ada_tree.specs.declared.expressions.ExpressionForm.{ExpressionForm}
 use Rattle.ada_tree.specs.declared.expressions.ExpressionForm.TheVariants as form
 use Rattle.ada_tree.specs.declared.expressions.Operand.{Operand}
-use Rattle.ada_tree.specs.Written.{Written, Lexeme, word, word_at, mark_at, each_written, all_written}
+use Rattle.ada_tree.specs.Written.{Written, Lexeme, word, word_at, delimiter_at, each_written, all_written}
 use Rattle.ada_tree.specs.SpellingExpressions.{logical_written, relational_text, sign_text, highest_text, operand_written, addend_written, form_written, expression_written}
 use Rattle.ada_tree.specs.ShapeExpressions.{all_fit, operand_fits, addend_fits, form_fits, expression_fits}
 use Rattle.ada_grammar.specs.Reading.{Read, Parser, and_then, ◌>>=◌, ◌>>◌, pure, choose, starts, sees_word, the_word, items_of}
@@ -55,7 +55,7 @@ operator_no_else p highest.Absolute k ks = refl
 operator_no_else p highest.Not k ks = refl
 
 module _ (test : List Lexeme → Bool) (v : Bool) (on : Firsts test v) (operated : (p : Place) (operator : HighestOperator) (k : Lexeme) (ks : List Lexeme) → test (as_written (word_at p (highest_text operator)) k ∷ ks) ≡ v)
-    (signed : (p : Place) (sign : Sign) (k : Lexeme) (ks : List Lexeme) → test (as_written (mark_at p (sign_text sign)) k ∷ ks) ≡ v) (left : ℕ) where
+    (signed : (p : Place) (sign : Sign) (k : Lexeme) (ks : List Lexeme) → test (as_written (delimiter_at p (sign_text sign)) k ∷ ks) ≡ v) (left : ℕ) where
   shape_of : (e : Expression) (least : Precedence) → expression_fits e least left ≡ true → form_fits expression_fits (out-Expression e).form least left ≡ true
   shape_of e least o = sym (formed_is_fit (out-Expression e).form least left) ∙ (ap (λ z. expression_fits z least left) (formed_again e) ∙ o)
 
@@ -63,7 +63,7 @@ module _ (test : List Lexeme → Bool) (v : Bool) (on : Firsts test v) (operated
   leads_of e ls r l = subst (λ (ws : List Written). Leads ws ls r) (sym (ap expression_written (formed_again e)) ∙ formed_is_written (out-Expression e).form) l
 
   signed_first : (f : ExpressionForm Expression) (ls r : List Lexeme) → form_fits expression_fits f precedence.Signed left ≡ true → Leads (form_written expression_written f) ls r → test ls ≡ v
-  signed_first (form.Signed place sign operand) ls r o l = first_is test v (mark_at place (sign_text sign)) (signed place sign) (expression_written operand) ls r l
+  signed_first (form.Signed place sign operand) ls r o l = first_is test v (delimiter_at place (sign_text sign)) (signed place sign) (expression_written operand) ls r l
   signed_first (form.Logical operator first others) ls r o l = absurd (false≢true o)
   signed_first (form.Relational a place operator b) ls r o l = absurd (false≢true o)
   signed_first (form.Adding first others) ls r o l = absurd (false≢true o)
@@ -92,7 +92,7 @@ module _ (test : List Lexeme → Bool) (v : Bool) (on : Firsts test v) (operated
 
   relation_first : (f : ExpressionForm Expression) (ls r : List Lexeme) → form_fits expression_fits f precedence.Relational left ≡ true → Leads (form_written expression_written f) ls r → test ls ≡ v
   relation_first (form.Relational a place operator b) ls r o l =
-      let t = leads_through (expression_written a) (mark_at place (relational_text operator) ∷ expression_written b) ls r l in
+      let t = leads_through (expression_written a) (delimiter_at place (relational_text operator) ∷ expression_written b) ls r l in
       sum_first (out-Expression a).form ls t.middle (shape_of a precedence.Adding (first_true (expression_fits a precedence.Adding left) (expression_fits b precedence.Adding left) o)) (leads_of a ls t.middle t.first)
   relation_first (form.Logical operator first others) ls r o l = absurd (false≢true o)
   relation_first (form.Adding first others) ls r o l = sum_first (form.Adding first others) ls r o l
@@ -127,48 +127,48 @@ module _ (test : List Lexeme → Bool) (v : Bool) (on : Firsts test v) (operated
       from (form.Bracketed place e) ls r o l = relation_first (form.Bracketed place e) ls r o l
       from (form.Named name attribute arguments) ls r o l = relation_first (form.Named name attribute arguments) ls r o l
 
-sign_no_then : (p : Place) (sign : Sign) (k : Lexeme) (ks : List Lexeme) → sees_word (codes "then") (as_written (mark_at p (sign_text sign)) k ∷ ks) ≡ false
+sign_no_then : (p : Place) (sign : Sign) (k : Lexeme) (ks : List Lexeme) → sees_word (codes "then") (as_written (delimiter_at p (sign_text sign)) k ∷ ks) ≡ false
 unfolding starts
 sign_no_then p sign k ks = refl
 
-sign_no_else : (p : Place) (sign : Sign) (k : Lexeme) (ks : List Lexeme) → sees_word (codes "else") (as_written (mark_at p (sign_text sign)) k ∷ ks) ≡ false
+sign_no_else : (p : Place) (sign : Sign) (k : Lexeme) (ks : List Lexeme) → sees_word (codes "else") (as_written (delimiter_at p (sign_text sign)) k ∷ ks) ≡ false
 unfolding starts
 sign_no_else p sign k ks = refl
 
 -- ---- logical operators (4.5.1)
 
-abbrev pub Marked : Type 0
-Marked = Place × LogicalOperator
+abbrev pub Delimited : Type 0
+Delimited = Place × LogicalOperator
 
-abbrev pub logical_mark : Marked → List Written
-logical_mark x = logical_written x.1 x.0
+abbrev pub logical_delimiter : Delimited → List Written
+logical_delimiter x = logical_written x.1 x.0
 
 abbrev pub ends_operator : List Lexeme → Bool
 ends_operator r = not_word (codes "then") r && not_word (codes "else") r
 
 -- one word, or two
 module _ (first second : List ℕ) (single double : LogicalOperator) where
-  abbrev either_words : Parser Marked
+  abbrev either_words : Parser Delimited
   either_words = the_word first >>= (λ place. choose (sees_word second) (the_word second >> pure (place, double)) (pure (place, single)))
 
-  one_word : Rest {X = Marked} (λ (p : Place). (p, single)) Any (λ p. word_at p first ∷ []) shapeless always (the_word first >>= (λ place. pure (place, single)))
-  one_word = closing {X = Marked} (λ (p : Place). (p, single)) Any always itself (λ p. word_at p first ∷ []) shapeless (the_word first) itself (word_exact first) (λ a. tt) (λ a. refl) (λ a x p e. e)
+  one_word : Rest {X = Delimited} (λ (p : Place). (p, single)) Any (λ p. word_at p first ∷ []) shapeless always (the_word first >>= (λ place. pure (place, single)))
+  one_word = closing {X = Delimited} (λ (p : Place). (p, single)) Any always itself (λ p. word_at p first ∷ []) shapeless (the_word first) itself (word_exact first) (λ a. tt) (λ a. refl) (λ a x p e. e)
 
-  two_words : Rest {X = Marked} (λ (p : Place). (p, double)) Any (λ p. word_at p first ∷ word second ∷ []) shapeless always (the_word first >>= (λ place. the_word second >>= (λ other. pure (place, double))))
+  two_words : Rest {X = Delimited} (λ (p : Place). (p, double)) Any (λ p. word_at p first ∷ word second ∷ []) shapeless always (the_word first >>= (λ place. the_word second >>= (λ other. pure (place, double))))
   two_words =
-      let make : Place → Marked = λ p. (p, double) in
+      let make : Place → Delimited = λ p. (p, double) in
       plain make Any (λ p. word second ∷ []) shapeless always itself (λ p. word_at p first ∷ []) shapeless always (the_word first) _ (word_exact first) (λ a. refl) (λ x ls r p l end. refl)
       (λ place. word_then make (λ x. Any x × (place ≡ x)) (λ p. []) shapeless always second _ (ready make (λ x. Any x × (place ≡ x)) always place (tt, refl) (λ x p. p.1)))
 
-  words_sound : (w : Marked → List Written) → ((p : Place) → (word_at p first ∷ []) ≡ w (p, single)) → ((p : Place) → (word_at p first ∷ word second ∷ []) ≡ w (p, double)) → Sound itself w shapeless either_words
+  words_sound : (w : Delimited → List Written) → ((p : Place) → (word_at p first ∷ []) ≡ w (p, single)) → ((p : Place) → (word_at p first ∷ word second ∷ []) ≡ w (p, double)) → Sound itself w shapeless either_words
   words_sound w is_single is_double = record { by = by_place }
     where
-      by_place : (ls : List Lexeme) (x : Marked) (r : List Lexeme) → either_words ls ≡ done x r → Found itself Any w shapeless x ls r
+      by_place : (ls : List Lexeme) (x : Delimited) (r : List Lexeme) → either_words ls ≡ done x r → Found itself Any w shapeless x ls r
       by_place ls x r e =
           let s = parts (the_word first ls) (λ place. choose (sees_word second) (the_word second >> pure (place, double)) (pure (place, single))) x r e in
           by_test ls x r s.value s.rest s.is (sees_word second s.rest) s.then
         where
-          by_test : (ls : List Lexeme) (x : Marked) (r : List Lexeme) (p : Place) (m : List Lexeme) → the_word first ls ≡ done p m → (v : Bool) → cond {A = Read Marked} v (and_then (the_word second m) (λ other. pure (p, double))) (done (p, single) m) ≡ done x r
+          by_test : (ls : List Lexeme) (x : Delimited) (r : List Lexeme) (p : Place) (m : List Lexeme) → the_word first ls ≡ done p m → (v : Bool) → cond {A = Read Delimited} v (and_then (the_word second m) (λ other. pure (p, double))) (done (p, single) m) ≡ done x r
               → Found itself Any w shapeless x ls r
           by_test ls x r p m is true e = (one_form (λ (p : Place). (p, double)) two_words is_double (λ p. refl)).by ls x r (rw is e)
           by_test ls x r p m is false e = (one_form (λ (p : Place). (p, single)) one_word is_single (λ p. refl)).by ls x r (rw is e)
@@ -182,15 +182,15 @@ module _ (first second : List ℕ) (single double : LogicalOperator) where
       let whole = two_words.complete p ls r tt refl l refl in
       rw ((word_exact first).complete p ls t.middle tt refl t.first refl, sees_word_first second [] t.middle r t.second) (rw ((word_exact first).complete p ls t.middle tt refl t.first refl) at whole)
 
-exclusive_exact : Rest {X = Marked} (λ (p : Place). (p, logical.Xor)) Any (λ p. word_at p (codes "xor") ∷ []) shapeless always exclusive_of
+exclusive_exact : Rest {X = Delimited} (λ (p : Place). (p, logical.Xor)) Any (λ p. word_at p (codes "xor") ∷ []) shapeless always exclusive_of
 unfolding exclusive_of
 exclusive_exact = one_word (codes "xor") (codes "xor") logical.Xor logical.Xor
 
-operator_sound : Sound itself logical_mark shapeless logical_operator_of
+operator_sound : Sound itself logical_delimiter shapeless logical_operator_of
 unfolding logical_operator_of conjunction_of disjunction_of
 operator_sound =
-    either (sees_word (codes "and")) (words_sound (codes "and") (codes "then") logical.And logical.AndThen logical_mark (λ p. refl) (λ p. refl))
-    (either (sees_word (codes "or")) (words_sound (codes "or") (codes "else") logical.Or logical.OrElse logical_mark (λ p. refl) (λ p. refl))
+    either (sees_word (codes "and")) (words_sound (codes "and") (codes "then") logical.And logical.AndThen logical_delimiter (λ p. refl) (λ p. refl))
+    (either (sees_word (codes "or")) (words_sound (codes "or") (codes "else") logical.Or logical.OrElse logical_delimiter (λ p. refl) (λ p. refl))
     (one_form (λ (p : Place). (p, logical.Xor)) exclusive_exact (λ p. refl) (λ p. refl)))
 
 operator_complete : (operator : LogicalOperator) (p : Place) (ls r : List Lexeme) → Leads (logical_written operator p) ls r → ends_operator r ≡ true → logical_operator_of ls ≡ done (p, operator) r
@@ -208,7 +208,7 @@ operator_complete logical.Xor p ls r l end =
     rw (first_is (sees_word (codes "and")) false (word_at p (codes "xor")) (λ k ks. refl) [] ls r l, first_is (sees_word (codes "or")) false (word_at p (codes "xor")) (λ k ks. refl) [] ls r l)
     (exclusive_exact.complete p ls r tt refl l refl)
 
-pub operator_exact : Exact logical_mark shapeless ends_operator logical_operator_of
+pub operator_exact : Exact logical_delimiter shapeless ends_operator logical_operator_of
 operator_exact = record { sound = operator_sound.by; complete = λ x ls r q o l end. operator_complete x.1 x.0 ls r l end }
 
 -- the same operator again
@@ -311,7 +311,7 @@ module _ (left : ℕ) (inner : Parser Expression) (inside : ReadsInside left inn
       let others_written : Operands → List Written = λ x. each_written (operand_written expression_written x.0) x.1.others in
       let others_fit : Operands → Bool = λ x. list_all (operand_fits expression_fits left) x.1.others in
       respelt make Any (λ x. logical_written x.0 x.1.first.place ++ (expression_written x.1.first.relation ++ others_written x)) operands_written operands_fit ends_expression (joined_of left inner first)
-      (plain_before make Any (λ x. expression_written x.1.first.relation ++ others_written x) operands_fit ends_expression (λ x. (x.1.first.place, x.0)) logical_mark shapeless ends_operator logical_operator_of _
+      (plain_before make Any (λ x. expression_written x.1.first.relation ++ others_written x) operands_fit ends_expression (λ x. (x.1.first.place, x.0)) logical_delimiter shapeless ends_operator logical_operator_of _
       operator_exact (λ x. refl)
       (λ x ls r p o l end.
       let t = leads_through (expression_written x.1.first.relation) (others_written x) ls r l in
@@ -322,7 +322,7 @@ module _ (left : ℕ) (inner : Parser Expression) (inside : ReadsInside left inn
       (λ second. more operator second first)))
       (λ x. sym (append_assoc (logical_written x.0 x.1.first.place) (expression_written x.1.first.relation) (others_written x)))
     where
-      more : (operator : Marked) (second first : Expression)
+      more : (operator : Delimited) (second first : Expression)
           → Rest (λ (x : Operands). formed (form.Logical x.0 first x.1)) (λ x. (Any x × (operator ≡ (x.1.first.place, x.0))) × (second ≡ x.1.first.relation)) (λ x. each_written (operand_written expression_written x.0) x.1.others)
           (λ x. list_all (operand_fits expression_fits left) x.1.others) ends_expression
           (items_of (sees_word (logical_text operator.1)) (operand_of left inner operator.1) >>= (λ others. pure (formed (form.Logical operator.1 first (record { first = record { place = operator.0; relation = second }; others = others })))))
@@ -335,7 +335,7 @@ module _ (left : ℕ) (inner : Parser Expression) (inside : ReadsInside left inn
           (listed (sees_word (logical_text operator.1)) (operand_written expression_written operator.1) (operand_fits expression_fits left) ends_relation ends_expression (operand_of left inner operator.1)
           (operand_exact operator.1) (begins_operand operator.1) refl (operand_apart operator.1) ends_operand (no_operand operator.1))
           (λ others. ((tt, refl), refl)) (λ others. refl) (λ others x p e. rw (p.0.1, p.1, e) refl))
-          (λ x p. ap (λ (z : Marked). each_written (operand_written expression_written z.1) x.1.others) p.0.1)
+          (λ x p. ap (λ (z : Delimited). each_written (operand_written expression_written z.1) x.1.others) p.0.1)
 
   logical_level : (f : ExpressionForm Expression) → form_fits expression_fits f precedence.Logical left ≡ true → Level Operands (λ first x. form.Logical x.0 first x.1) precedence.Relational left f
   logical_level (form.Logical operator first others) o = This first (operator, others) refl

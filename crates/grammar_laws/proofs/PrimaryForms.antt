@@ -12,17 +12,17 @@ use Rattle.ada_tree.specs.declared.expressions.ExpressionForm.{ExpressionForm}
 use Rattle.ada_tree.specs.declared.expressions.ExpressionForm.TheVariants as form
 use Rattle.ada_tree.specs.declared.expressions.AttributeDesignator.{AttributeDesignator}
 use Rattle.ada_tree.specs.declared.expressions.Argument.{Argument}
-use Rattle.ada_tree.specs.Written.{Written, Lexeme, word_at, mark, mark_at, number_at, text_at, identifier_written, one_identifier, each_written, behind, optional, name_written}
+use Rattle.ada_tree.specs.Written.{Written, Lexeme, word_at, delimiter, delimiter_at, number_at, text_at, identifier_written, one_identifier, each_written, behind, optional, name_written}
 use Rattle.ada_tree.specs.SpellingExpressions.{attribute_text, designator_written, arguments_written, form_written, expression_written}
 use Rattle.ada_tree.specs.ShapeExpressions.{within, optional_fits, arguments_fit, form_fits, expression_fits}
-use Rattle.ada_grammar.specs.Reading.{Parser, ◌>>=◌, pure, starts, is_numeral, is_string, sees_word, sees_mark, the_word, a_number, a_text, name_of}
+use Rattle.ada_grammar.specs.Reading.{Parser, ◌>>=◌, pure, starts, is_numeral, is_string, sees_word, sees_delimiter, the_word, a_number, a_text, name_of}
 use Rattle.ada_grammar.specs.ReadingExpressions.{formed, designator_of, arguments_of, named_of, bracketed_of, primary_of}
 use Rattle.grammar_laws.specs.Leads.{Leads}
 use Rattle.grammar_laws.proofs.Leading.{as_written}
 use Rattle.grammar_laws.proofs.Exact.{done, Rest, Any, itself, Exact, first_true, second_true, ready, last, plain, narrower, closing, first_is}
-use Rattle.grammar_laws.proofs.Tokens.{always, shapeless, word_exact, number_exact, text_exact, mark_then, sees_mark_at_first, identifier_no_word}
+use Rattle.grammar_laws.proofs.Tokens.{always, shapeless, word_exact, number_exact, text_exact, delimiter_then, sees_delimiter_at_first, identifier_no_word}
 use Rattle.grammar_laws.proofs.ReservedWords.{reserved_null}
-use Rattle.grammar_laws.proofs.Names.{not_mark, name_exact}
+use Rattle.grammar_laws.proofs.Names.{not_delimiter, name_exact}
 use Rattle.grammar_laws.proofs.Choices.{Sound, either, one_form, opened}
 use Rattle.grammar_laws.proofs.Ends.{ends_designated, ends_expression, ends_arguments}
 use Rattle.grammar_laws.proofs.Primaries.{ReadsInside, formed_is_written, formed_is_fit, formed_again, designator_exact, arguments_read}
@@ -73,16 +73,16 @@ by_expression least left ends p law f ls r o l end =
 
 module _ (left : ℕ) (inner : Parser Expression) (inside : ReadsInside left inner) where
   -- "(" expression ")"
-  bracketed_exact : Rest (λ (x : Place × Expression). formed (form.Bracketed x.0 x.1)) Any (λ x. mark_at x.0 (codes "(") ∷ (expression_written x.1 ++ mark (codes ")") ∷ []))
+  bracketed_exact : Rest (λ (x : Place × Expression). formed (form.Bracketed x.0 x.1)) Any (λ x. delimiter_at x.0 (codes "(") ∷ (expression_written x.1 ++ delimiter (codes ")") ∷ []))
       (λ x. within left (expression_fits x.1 precedence.Logical)) always (bracketed_of left inner)
   unfolding bracketed_of starts
   bracketed_exact =
       let make : Place × Expression → Expression = λ x. formed (form.Bracketed x.0 x.1) in
-      opened left make Any (λ x. expression_written x.1 ++ mark (codes ")") ∷ []) (λ x n. expression_fits x.1 precedence.Logical n) always (λ x. x.0) _
-      (λ m e a. last make (λ x. Any x × (a ≡ x.0)) (λ x. mark (codes ")") ∷ []) always (λ x. x.1) expression_written (λ y. expression_fits y precedence.Logical m) ends_expression inner _
+      opened left make Any (λ x. expression_written x.1 ++ delimiter (codes ")") ∷ []) (λ x n. expression_fits x.1 precedence.Logical n) always (λ x. x.0) _
+      (λ m e a. last make (λ x. Any x × (a ≡ x.0)) (λ x. delimiter (codes ")") ∷ []) always (λ x. x.1) expression_written (λ y. expression_fits y precedence.Logical m) ends_expression inner _
       (inside_at left inner inside m e)
-      (λ x ls r p l end. first_is ends_expression true (mark (codes ")")) (λ k ks. refl) [] ls r l)
-      (λ y. mark_then make (λ x. (Any x × (a ≡ x.0)) × (y ≡ x.1)) (λ x. []) (λ x. true) always (codes ")") _
+      (λ x ls r p l end. first_is ends_expression true (delimiter (codes ")")) (λ k ks. refl) [] ls r l)
+      (λ y. delimiter_then make (λ x. (Any x × (a ≡ x.0)) × (y ≡ x.1)) (λ x. []) (λ x. true) always (codes ")") _
       (ready make (λ x. (Any x × (a ≡ x.0)) × (y ≡ x.1)) always (a, y) ((tt, refl), refl) (λ x p. rw (p.0.1, p.1) refl))))
 
   -- name ["'" ATTRIBUTE] ["(" argument {"," argument} ")"]
@@ -93,34 +93,34 @@ module _ (left : ℕ) (inner : Parser Expression) (inside : ReadsInside left inn
   behind_name x = optional designator_written x.1.0 ++ arguments_written expression_written x.1.1
 
   no_point : (test : List Lexeme → Bool)
-      → ((k : Lexeme) (ks : List Lexeme) → test (as_written (mark (codes "'")) k ∷ ks) ≡ true) → ((k : Lexeme) (ks : List Lexeme) → test (as_written (mark (codes "(")) k ∷ ks) ≡ true)
+      → ((k : Lexeme) (ks : List Lexeme) → test (as_written (delimiter (codes "'")) k ∷ ks) ≡ true) → ((k : Lexeme) (ks : List Lexeme) → test (as_written (delimiter (codes "(")) k ∷ ks) ≡ true)
       → (d : Option AttributeDesignator) (a : List (Argument Expression)) (ls r : List Lexeme) → Leads (optional designator_written d ++ arguments_written expression_written a) ls r → test r ≡ true → test ls ≡ true
-  no_point test tick bracket (Some d) a ls r l end = first_is test true (mark (codes "'")) tick (word_at d.place (attribute_text d.attribute) ∷ arguments_written expression_written a) ls r l
+  no_point test tick bracket (Some d) a ls r l end = first_is test true (delimiter (codes "'")) tick (word_at d.place (attribute_text d.attribute) ∷ arguments_written expression_written a) ls r l
   no_point test tick bracket None [] ls r l end = subst (λ (z : List Lexeme). test z ≡ true) (sym l) end
-  no_point test tick bracket None (x ∷ a) ls r l end = first_is test true (mark (codes "(")) bracket _ ls r l
+  no_point test tick bracket None (x ∷ a) ls r l end = first_is test true (delimiter (codes "(")) bracket _ ls r l
 
-  no_tick : (a : List (Argument Expression)) (ls r : List Lexeme) → Leads (arguments_written expression_written a) ls r → not_mark (codes "'") r ≡ true → not_mark (codes "'") ls ≡ true
+  no_tick : (a : List (Argument Expression)) (ls r : List Lexeme) → Leads (arguments_written expression_written a) ls r → not_delimiter (codes "'") r ≡ true → not_delimiter (codes "'") ls ≡ true
   unfolding starts
-  no_tick [] ls r l end = subst (λ (z : List Lexeme). not_mark (codes "'") z ≡ true) (sym l) end
-  no_tick (x ∷ a) ls r l end = first_is (not_mark (codes "'")) true (mark (codes "(")) (λ k ks. refl) _ ls r l
+  no_tick [] ls r l end = subst (λ (z : List Lexeme). not_delimiter (codes "'") z ≡ true) (sym l) end
+  no_tick (x ∷ a) ls r l end = first_is (not_delimiter (codes "'")) true (delimiter (codes "(")) (λ k ks. refl) _ ls r l
 
-  ends_name : (r : List Lexeme) → ends_designated r ≡ true → not_mark (codes ".") r ≡ true
-  ends_name r end = first_true (not_mark (codes ".") r) (not_mark (codes "'") r && not_mark (codes "(") r) end
+  ends_name : (r : List Lexeme) → ends_designated r ≡ true → not_delimiter (codes ".") r ≡ true
+  ends_name r end = first_true (not_delimiter (codes ".") r) (not_delimiter (codes "'") r && not_delimiter (codes "(") r) end
 
-  ends_tick : (r : List Lexeme) → ends_designated r ≡ true → not_mark (codes "'") r ≡ true
-  ends_tick r end = first_true (not_mark (codes "'") r) (not_mark (codes "(") r) (second_true (not_mark (codes ".") r) (not_mark (codes "'") r && not_mark (codes "(") r) end)
+  ends_tick : (r : List Lexeme) → ends_designated r ≡ true → not_delimiter (codes "'") r ≡ true
+  ends_tick r end = first_true (not_delimiter (codes "'") r) (not_delimiter (codes "(") r) (second_true (not_delimiter (codes ".") r) (not_delimiter (codes "'") r && not_delimiter (codes "(") r) end)
 
   ends_bracket : (r : List Lexeme) → ends_designated r ≡ true → ends_arguments r ≡ true
-  ends_bracket r end = second_true (not_mark (codes "'") r) (not_mark (codes "(") r) (second_true (not_mark (codes ".") r) (not_mark (codes "'") r && not_mark (codes "(") r) end)
+  ends_bracket r end = second_true (not_delimiter (codes "'") r) (not_delimiter (codes "(") r) (second_true (not_delimiter (codes ".") r) (not_delimiter (codes "'") r && not_delimiter (codes "(") r) end)
 
   named_exact : Rest (λ (x : Parts'). formed (form.Named x.0 x.1.0 x.1.1)) Any (λ x. name_written x.0 ++ behind_name x) (λ x. arguments_fit expression_fits left x.1.1) ends_designated (named_of left inner)
   unfolding named_of starts
   named_exact =
       let make : Parts' → Expression = λ x. formed (form.Named x.0 x.1.0 x.1.1) in
-      plain make Any behind_name (λ x. arguments_fit expression_fits left x.1.1) ends_designated (λ x. x.0) name_written shapeless (not_mark (codes ".")) name_of _ name_exact (λ n. refl)
-      (λ x ls r p l end. no_point (not_mark (codes ".")) (λ k ks. refl) (λ k ks. refl) x.1.0 x.1.1 ls r l (ends_name r end))
+      plain make Any behind_name (λ x. arguments_fit expression_fits left x.1.1) ends_designated (λ x. x.0) name_written shapeless (not_delimiter (codes ".")) name_of _ name_exact (λ n. refl)
+      (λ x ls r p l end. no_point (not_delimiter (codes ".")) (λ k ks. refl) (λ k ks. refl) x.1.0 x.1.1 ls r l (ends_name r end))
       (λ name. plain make (λ x. Any x × (name ≡ x.0)) (λ x. arguments_written expression_written x.1.1) (λ x. arguments_fit expression_fits left x.1.1) ends_designated
-      (λ x. x.1.0) (optional designator_written) (optional_fits shapeless) (not_mark (codes "'")) designator_of _ designator_exact (λ d. optional_shapeless d)
+      (λ x. x.1.0) (optional designator_written) (optional_fits shapeless) (not_delimiter (codes "'")) designator_of _ designator_exact (λ d. optional_shapeless d)
       (λ x ls r p l end. no_tick x.1.1 ls r l (ends_tick r end))
       (λ d. closing make (λ x. (Any x × (name ≡ x.0)) × (d ≡ x.1.0)) ends_designated (λ x. x.1.1) (arguments_written expression_written) (arguments_fit expression_fits left) (arguments_of left inner)
       (λ a. (name, (d, a)))
@@ -149,7 +149,7 @@ module _ (left : ℕ) (inner : Parser Expression) (inside : ReadsInside left inn
       either (starts is_numeral) (one_form (λ (x : Place × List ℕ). form.Number x.0 x.1) number_form (λ x. refl) (λ x. refl))
       (either (starts is_string) (one_form (λ (x : Place × List ℕ). form.Text x.0 x.1) text_form (λ x. refl) (λ x. refl))
       (either (sees_word (codes "null")) (one_form (λ (p : Place). form.Null p) null_form (λ p. refl) (λ p. refl))
-      (either (sees_mark (codes "(")) (one_form (λ (x : Place × Expression). form.Bracketed x.0 x.1) bracketed_exact (λ x. refl) (λ x. refl))
+      (either (sees_delimiter (codes "(")) (one_form (λ (x : Place × Expression). form.Bracketed x.0 x.1) bracketed_exact (λ x. refl) (λ x. refl))
       (one_form (λ (x : Parts'). form.Named x.0 x.1.0 x.1.1) named_exact (λ x. refl) (λ x. refl)))))
 
   pub primary_complete : (f : ExpressionForm Expression) (ls r : List Lexeme) → fits_primary f ≡ true → Leads (form_written expression_written f) ls r → ends_designated r ≡ true → primary_of left inner ls ≡ done (formed f) r
@@ -176,19 +176,19 @@ module _ (left : ℕ) (inner : Parser Expression) (inside : ReadsInside left inn
       (null_form.complete place ls r tt refl l refl)
   primary_complete (form.Bracketed place e) ls r o l end =
       rw (
-        first_is (starts is_numeral) false (mark_at place (codes "(")) (λ k ks. refl) _ ls r l,
-        first_is (starts is_string) false (mark_at place (codes "(")) (λ k ks. refl) _ ls r l,
-        first_is (sees_word (codes "null")) false (mark_at place (codes "(")) (λ k ks. refl) _ ls r l,
-        sees_mark_at_first (codes "(") place _ ls r l,
+        first_is (starts is_numeral) false (delimiter_at place (codes "(")) (λ k ks. refl) _ ls r l,
+        first_is (starts is_string) false (delimiter_at place (codes "(")) (λ k ks. refl) _ ls r l,
+        first_is (sees_word (codes "null")) false (delimiter_at place (codes "(")) (λ k ks. refl) _ ls r l,
+        sees_delimiter_at_first (codes "(") place _ ls r l,
       )
       (bracketed_exact.complete (place, e) ls r tt o l refl)
   primary_complete (form.Named name attribute arguments) ls r o l end =
-      let ws = each_written (behind (mark (codes ".")) one_identifier) name.parts.others ++ behind_name (name, (attribute, arguments)) in
+      let ws = each_written (behind (delimiter (codes ".")) one_identifier) name.parts.others ++ behind_name (name, (attribute, arguments)) in
       rw (
         first_is (starts is_numeral) false (identifier_written name.parts.first) (λ k ks. refl) ws ls r l,
         first_is (starts is_string) false (identifier_written name.parts.first) (λ k ks. refl) ws ls r l,
         identifier_no_word (codes "null") reserved_null name.parts.first ws ls r l,
-        first_is (sees_mark (codes "(")) false (identifier_written name.parts.first) (λ k ks. refl) ws ls r l,
+        first_is (sees_delimiter (codes "(")) false (identifier_written name.parts.first) (λ k ks. refl) ws ls r l,
       )
       (named_exact.complete (name, (attribute, arguments)) ls r tt o l end)
 

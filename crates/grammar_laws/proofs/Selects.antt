@@ -25,7 +25,7 @@ use Rattle.ada_tree.specs.declared.selects.Trigger.{Trigger}
 use Rattle.ada_tree.specs.declared.selects.SelectForm.TheVariants as select
 use Rattle.ada_tree.specs.declared.selects.Alternative.TheVariants as alternative
 use Rattle.ada_tree.specs.declared.selects.Trigger.TheVariants as trigger
-use Rattle.ada_tree.specs.Written.{Written, Lexeme, word, word_at, mark, identifier_written, each_written, behind, separated, optional}
+use Rattle.ada_tree.specs.Written.{Written, Lexeme, word, word_at, delimiter, identifier_written, each_written, behind, separated, optional}
 use Rattle.ada_tree.specs.Spelling.{sequence_written}
 use Rattle.ada_tree.specs.SpellingExpressions.{expression_written, arguments_written}
 use Rattle.ada_tree.specs.SpellingStatements.{semicolon, parameters_written, accept_body_written, statements_written, else_written, call_written, delay_written, accept_written, guard_written, trigger_written, alternative_written, select_alternative_written, select_form_written, select_written}
@@ -40,7 +40,7 @@ use Rattle.grammar_laws.proofs.Exact.{done, Rest, Any, itself, Exact, closing, r
 use Rattle.grammar_laws.proofs.Tokens.{always, shapeless, not_true, not_word, seen_word, sees_word_first, sees_word_at_first}
 use Rattle.grammar_laws.proofs.Ends.{ends_expression, ends_statements, ends_sequence}
 use Rattle.grammar_laws.proofs.Expressions.{expression_exact}
-use Rattle.grammar_laws.proofs.StatementsSteps.{placed, worded, marked, part, last_part, through, Came, decided, Side}
+use Rattle.grammar_laws.proofs.StatementsSteps.{placed, worded, delimited, part, last_part, through, Came, decided, Side}
 use Rattle.grammar_laws.proofs.ClausesCalls.{call_exact, delay_exact}
 use Rattle.grammar_laws.proofs.StatementsBegin.{name_sees}
 use Rattle.grammar_laws.proofs.Statements.{ends_else, else_exact, accept_exact, optional_statements_exact}
@@ -145,7 +145,7 @@ module _ (left : ℕ) (sequence : SequenceRole → Parser Sequence) (deeper : Se
   unfolding terminate_of
   terminate_exact =
       placed itself (codes "terminate") (λ place.
-      marked (codes ";") (
+      delimited (codes ";") (
       ready _ _ ends_statements place (tt, refl) (λ j p. p.1)))
 
   abbrev OfAccepting : Alternative Sequence → Type 0
@@ -193,8 +193,8 @@ module _ (left : ℕ) (sequence : SequenceRole → Parser Sequence) (deeper : Se
   guard_exact =
       optionally (sees_word (codes "when")) guard_written (guard_fits left) (not_word (codes "when")) _
       (placed (λ g. g.place) (codes "when") (λ place.
-      last_part (λ g. g.condition) (expression_exact left) (λ g ls r p l end. first_is ends_expression true (mark (codes "=>")) (λ l ls. refl) [] ls r l) (λ condition.
-      marked (codes "=>") (
+      last_part (λ g. g.condition) (expression_exact left) (λ g ls r p l end. first_is ends_expression true (delimiter (codes "=>")) (λ l ls. refl) [] ls r l) (λ condition.
+      delimited (codes "=>") (
       ready _ _ (not_word (codes "when")) (record { place = place; condition = condition }) ((tt, refl), refl) (λ j p. rw (p.0.1, p.1) refl)))))
       (λ g ls r l. sees_word_at_first (codes "when") g.place _ ls r l)
       (λ r e. not_true (sees_word (codes "when") r) e)
@@ -527,7 +527,7 @@ module _ (left : ℕ) (sequence : SequenceRole → Parser Sequence) (deeper : Se
   -- a selective accept begins with no identifier
   no_identifier : (g : Option Guard) (a : Alternative Sequence) (ws : List Written) (ls r : List Lexeme) → Leads ((optional guard_written g ++ alternative_written sequence_written a) ++ ws) ls r → sees_identifier ls ≡ false
   unfolding starts is_reserved letters
-  no_identifier (Some g) a ws ls r l = first_is sees_identifier false (word_at g.place (codes "when")) (λ l ls. refl) (((expression_written g.condition ++ mark (codes "=>") ∷ []) ++ alternative_written sequence_written a) ++ ws) ls r l
+  no_identifier (Some g) a ws ls r l = first_is sees_identifier false (word_at g.place (codes "when")) (λ l ls. refl) (((expression_written g.condition ++ delimiter (codes "=>") ∷ []) ++ alternative_written sequence_written a) ++ ws) ls r l
   no_identifier None (alternative.Accept accept inside) ws ls r l = first_is sees_identifier false (word_at accept.place (codes "accept")) (λ l ls. refl) (behind_accept accept inside ++ ws) ls r l
   no_identifier None (alternative.Delay delay inside) ws ls r l =
       let t = leads_through (alternative_written sequence_written (alternative.Delay delay inside)) ws ls r l in
@@ -599,5 +599,5 @@ module _ (left : ℕ) (sequence : SequenceRole → Parser Sequence) (deeper : Se
   select_exact =
       placed (λ s. s.place) (codes "select") (λ place.
       last_part (λ s. s.form) select_form_exact (λ s ls r p l end. first_is before_end true (word (codes "end")) (λ l ls. refl) (word (codes "select") ∷ semicolon) ls r l) (λ form.
-      worded (codes "end") (worded (codes "select") (marked (codes ";") (
+      worded (codes "end") (worded (codes "select") (delimited (codes ";") (
       ready _ _ always (record { place = place; form = form }) ((tt, refl), refl) (λ j p. rw (p.0.1, p.1) refl))))))

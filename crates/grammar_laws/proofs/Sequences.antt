@@ -15,7 +15,7 @@ use Rattle.ada_tree.specs.declared.statements.SequenceParts.{SequenceParts}
 use Rattle.ada_tree.specs.declared.statements.SequenceRole.{SequenceRole}
 use Rattle.ada_tree.specs.declared.statements.SequenceRole.TheVariants as role
 use Rattle.ada_tree.specs.declared.declarations.Declaration.{Declaration}
-use Rattle.ada_tree.specs.Written.{Written, Lexeme, word, mark, each_written, all_written}
+use Rattle.ada_tree.specs.Written.{Written, Lexeme, word, delimiter, each_written, all_written}
 use Rattle.ada_tree.specs.SpellingStatements.{exceptions_written, statements_written, statement_written, handler_written}
 use Rattle.ada_tree.specs.SpellingDeclarations.{declaration_written}
 use Rattle.ada_tree.specs.Spelling.{handlers_written, parts_written, sequence_written}
@@ -38,7 +38,7 @@ use Rattle.grammar_laws.proofs.Choices.{Sound, either, one_form}
 use Rattle.grammar_laws.proofs.Ends.{ends_statements, ends_sequence}
 use Rattle.grammar_laws.proofs.ClausesEnds.{ends_exceptions}
 use Rattle.grammar_laws.proofs.ClausesStatements.{exceptions_exact}
-use Rattle.grammar_laws.proofs.StatementsSteps.{placed, marked}
+use Rattle.grammar_laws.proofs.StatementsSteps.{placed, delimited}
 use Rattle.grammar_laws.proofs.StatementsBegin.{statement_begins}
 use Rattle.grammar_laws.proofs.StatementForms.{statement_exact}
 use Rattle.grammar_laws.proofs.Selects.{ReadsDeeper, no_level}
@@ -166,16 +166,16 @@ module _ (left : ℕ) (inner : SequenceRole → Parser Sequence) (deeper : Seque
   unfolding handler_of starts
   one_handler =
       placed (λ h. h.place) (codes "when")
-      (λ place. plain itself (λ h. Any h × (place ≡ h.place)) (λ h. mark (codes "=>") ∷ statements_written sequence_written h.statements) (handler_fits sequence_fits left) ends_statements
+      (λ place. plain itself (λ h. Any h × (place ≡ h.place)) (λ h. delimiter (codes "=>") ∷ statements_written sequence_written h.statements) (handler_fits sequence_fits left) ends_statements
       (λ h. h.exceptions) exceptions_written shapeless ends_exceptions exceptions_of _ exceptions_exact (λ x. refl)
-      (λ h ls r p l end. first_is ends_exceptions true (mark (codes "=>")) (λ k ks. refl) (statements_written sequence_written h.statements) ls r l)
-      (λ exceptions. marked (codes "=>")
+      (λ h ls r p l end. first_is ends_exceptions true (delimiter (codes "=>")) (λ k ks. refl) (statements_written sequence_written h.statements) ls r l)
+      (λ exceptions. delimited (codes "=>")
       (same_reader (same_handler place exceptions)
       (closing itself (λ h. (Any h × (place ≡ h.place)) × (exceptions ≡ h.exceptions)) ends_statements (λ h. h.statements) (statements_written sequence_written) (statements_fit sequence_fits left) (plain_of left inner deeper)
       (λ q. record { place = place; exceptions = exceptions; statements = q }) statements_exact (λ q. ((tt, refl), refl)) (λ q. refl) (λ q h p e. rw (p.0.1, p.1, e) refl)))))
 
   begins_handler : (h : Handler Sequence) (ls r : List Lexeme) → Leads (handler_written sequence_written h) ls r → sees_word (codes "when") ls ≡ true
-  begins_handler h ls r l = sees_word_at_first (codes "when") h.place (exceptions_written h.exceptions ++ mark (codes "=>") ∷ statements_written sequence_written h.statements) ls r l
+  begins_handler h ls r l = sees_word_at_first (codes "when") h.place (exceptions_written h.exceptions ++ delimiter (codes "=>") ∷ statements_written sequence_written h.statements) ls r l
 
   when_apart : (r : List Lexeme) → sees_word (codes "when") r ≡ true → ends_statements r ≡ true
   unfolding starts begins_statement is_reserved letters

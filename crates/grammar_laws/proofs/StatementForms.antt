@@ -25,13 +25,13 @@ use Rattle.ada_tree.specs.declared.statements.Iteration.TheVariants as iteration
 use Rattle.ada_tree.specs.declared.statements.SequenceRole.TheVariants as role
 use Rattle.ada_tree.specs.declared.statements.Accept.{Accept}
 use Rattle.ada_tree.specs.declared.statements.Delay.{Delay}
-use Rattle.ada_tree.specs.Written.{Written, Lexeme, word, word_at, mark, flag, separated, identifier_written, one_identifier, each_written, behind, name_written, optional}
+use Rattle.ada_tree.specs.Written.{Written, Lexeme, word, word_at, delimiter, flag, separated, identifier_written, one_identifier, each_written, behind, name_written, optional}
 use Rattle.ada_tree.specs.Spelling.{sequence_written}
 use Rattle.ada_tree.specs.SpellingStatements.{semicolon, call_written, index_written, assignment_written, delay_written, label_written, iteration_written, loop_written, block_opened, block_written, parameters_written, accept_body_written, with_abort_written, accept_written, statement_written}
 use Rattle.ada_tree.specs.SpellingExpressions.{expression_written, arguments_written}
 use Rattle.ada_tree.specs.Shape.{sequence_fits}
 use Rattle.ada_tree.specs.ShapeStatements.{delay_fits, accept_fits, parts_fit}
-use Rattle.ada_grammar.specs.Reading.{Parser, ◌>>=◌, pure, starts, starts_both, is_word, is_identifier, sees_word, sees_mark}
+use Rattle.ada_grammar.specs.Reading.{Parser, ◌>>=◌, pure, starts, starts_both, is_word, is_identifier, sees_word, sees_delimiter}
 use Rattle.ada_grammar.specs.ReadingSimple.{delay_of, simple_of, null_of, exit_of, return_of, raise_of, abort_of, requeue_of}
 use Rattle.ada_grammar.specs.ReadingStatements.{begins_loop, begins_block, begins_compound, sees_label, if_of, case_of, loop_of, block_of, labelled_of, accept_of, select_of, compound_of, named_statement_of, simple_statement_of, statement_inside_of}
 use Rattle.grammar_laws.specs.Leads.{Leads}
@@ -64,30 +64,30 @@ unreserved text reserved i ws (l ∷ ls) r s = and_false (is_word l.kind) (bytes
 
 -- ---- whether a name and a colon stand there
 
-no_colon : (name : Name) (ws : List Written) → ((ls r : List Lexeme) → Leads ws ls r → sees_mark (codes ":") ls ≡ false) → (ls r : List Lexeme) → Leads (name_written name ++ ws) ls r → sees_label ls ≡ false
+no_colon : (name : Name) (ws : List Written) → ((ls r : List Lexeme) → Leads ws ls r → sees_delimiter (codes ":") ls ≡ false) → (ls r : List Lexeme) → Leads (name_written name ++ ws) ls r → sees_label ls ≡ false
 unfolding starts_both starts
 no_colon name ws rest [] r l = absurd l
 no_colon name ws rest (l ∷ ls) r s =
-    and_false (is_identifier l) (sees_mark (codes ":") ls)
-    (first_each (sees_mark (codes ":")) false (behind (mark (codes ".")) one_identifier) ws (λ i ls m l. first_is (sees_mark (codes ":")) false (mark (codes ".")) (λ l ls. refl) (one_identifier i) ls m l) rest name.parts.others ls r s.1)
+    and_false (is_identifier l) (sees_delimiter (codes ":") ls)
+    (first_each (sees_delimiter (codes ":")) false (behind (delimiter (codes ".")) one_identifier) ws (λ i ls m l. first_is (sees_delimiter (codes ":")) false (delimiter (codes ".")) (λ l ls. refl) (one_identifier i) ls m l) rest name.parts.others ls r s.1)
 
 call_no_label : (c : Call) (ls r : List Lexeme) → Leads (call_written c) ls r → sees_label ls ≡ false
 unfolding starts
 call_no_label c ls r l = no_colon c.name (arguments_written expression_written c.arguments ++ semicolon) (λ ls r l. arguments_or_semicolon c.arguments ls r l) ls r l
   where
-    arguments_or_semicolon : (arguments : List (Argument Expression)) (ls r : List Lexeme) → Leads (arguments_written expression_written arguments ++ semicolon) ls r → sees_mark (codes ":") ls ≡ false
-    arguments_or_semicolon [] ls r l = first_is (sees_mark (codes ":")) false (mark (codes ";")) (λ l ls. refl) [] ls r l
+    arguments_or_semicolon : (arguments : List (Argument Expression)) (ls r : List Lexeme) → Leads (arguments_written expression_written arguments ++ semicolon) ls r → sees_delimiter (codes ":") ls ≡ false
+    arguments_or_semicolon [] ls r l = first_is (sees_delimiter (codes ":")) false (delimiter (codes ";")) (λ l ls. refl) [] ls r l
     arguments_or_semicolon (a ∷ arguments) ls r l =
         let t = leads_through (arguments_written expression_written (a ∷ arguments)) semicolon ls r l in
-        first_is (sees_mark (codes ":")) false (mark (codes "(")) (λ l ls. refl) _ ls t.middle t.first
+        first_is (sees_delimiter (codes ":")) false (delimiter (codes "(")) (λ l ls. refl) _ ls t.middle t.first
 
 assignment_no_label : (a : Assignment) (ls r : List Lexeme) → Leads (assignment_written a) ls r → sees_label ls ≡ false
 unfolding starts
 assignment_no_label a ls r l =
-    no_colon a.target (optional index_written a.index ++ mark (codes ":=") ∷ (expression_written a.value ++ semicolon))
-    (λ ls r l. first_optional (sees_mark (codes ":")) false index_written (mark (codes ":=") ∷ (expression_written a.value ++ semicolon))
-    (λ i ls m l. first_is (sees_mark (codes ":")) false (mark (codes "(")) (λ l ls. refl) (expression_written i ++ mark (codes ")") ∷ []) ls m l)
-    (λ ls r l. first_is (sees_mark (codes ":")) false (mark (codes ":=")) (λ l ls. refl) (expression_written a.value ++ semicolon) ls r l) a.index ls r l)
+    no_colon a.target (optional index_written a.index ++ delimiter (codes ":=") ∷ (expression_written a.value ++ semicolon))
+    (λ ls r l. first_optional (sees_delimiter (codes ":")) false index_written (delimiter (codes ":=") ∷ (expression_written a.value ++ semicolon))
+    (λ i ls m l. first_is (sees_delimiter (codes ":")) false (delimiter (codes "(")) (λ l ls. refl) (expression_written i ++ delimiter (codes ")") ∷ []) ls m l)
+    (λ ls r l. first_is (sees_delimiter (codes ":")) false (delimiter (codes ":=")) (λ l ls. refl) (expression_written a.value ++ semicolon) ls r l) a.index ls r l)
     ls r l
 
 label_there : (label : Label) (ws : List Written) (ls r : List Lexeme) → Leads (label_written label ++ ws) ls r → sees_label ls ≡ true
@@ -175,19 +175,19 @@ module _ (left : ℕ) (sequence : SequenceRole → Parser Sequence) (deeper : Se
       → Leads (statement_written sequence_written s) ls r → Leads (label_written label ++ ws) ls r → statement_inside_of left sequence deeper ls ≡ done s r
   unfolding named_statement_of
   labelled_complete label s e ws ls r o l there =
-      named_there label.name (mark (codes ":") ∷ ws) ls r there
+      named_there label.name (delimiter (codes ":") ∷ ws) ls r there
       ∙ chosen sees_label (labelled_of left sequence) (simple_of left) ls (done s r) (label_there label ws ls r there) ((labelled_exact left sequence exact).complete s ls r (label.name, e) o l refl)
 
   assigned : (a : Assignment) (ls r : List Lexeme) → parts_fit sequence_fits (statements.Assignment a) left ≡ true → Leads (assignment_written a) ls r → statement_inside_of left sequence deeper ls ≡ done (statements.Assignment a) r
   unfolding named_statement_of
   assigned a ls r o l =
-      named_there a.target.parts.first (each_written (behind (mark (codes ".")) one_identifier) a.target.parts.others ++ (optional index_written a.index ++ mark (codes ":=") ∷ (expression_written a.value ++ semicolon))) ls r l
+      named_there a.target.parts.first (each_written (behind (delimiter (codes ".")) one_identifier) a.target.parts.others ++ (optional index_written a.index ++ delimiter (codes ":=") ∷ (expression_written a.value ++ semicolon))) ls r l
       ∙ passed sees_label (labelled_of left sequence) (simple_of left) ls (done (statements.Assignment a) r) (assignment_no_label a ls r l) (assignment_complete left a ls r o l)
 
   called : (c : Call) (ls r : List Lexeme) → parts_fit sequence_fits (statements.Call c) left ≡ true → Leads (call_written c) ls r → statement_inside_of left sequence deeper ls ≡ done (statements.Call c) r
   unfolding named_statement_of
   called c ls r o l =
-      named_there c.name.parts.first (each_written (behind (mark (codes ".")) one_identifier) c.name.parts.others ++ (arguments_written expression_written c.arguments ++ semicolon)) ls r l
+      named_there c.name.parts.first (each_written (behind (delimiter (codes ".")) one_identifier) c.name.parts.others ++ (arguments_written expression_written c.arguments ++ semicolon)) ls r l
       ∙ passed sees_label (labelled_of left sequence) (simple_of left) ls (done (statements.Call c) r) (call_no_label c ls r l) (call_complete left c ls r o l)
 
   -- ---- loops and blocks
@@ -199,7 +199,7 @@ module _ (left : ℕ) (sequence : SequenceRole → Parser Sequence) (deeper : Se
       begun_by (word_at place (codes "while")) (statement_inside_of left sequence deeper) (loop_of left sequence None) (λ l ls. refl) (expression_written condition ++ word_at p (codes "loop") ∷ ws) ls r l
   loop_there (iterations.For place parameter reverse low high) p ws ls r l =
       begun_by (word_at place (codes "for")) (statement_inside_of left sequence deeper) (loop_of left sequence None) (λ l ls. refl)
-      (identifier_written parameter ∷ word (codes "in") ∷ (flag reverse (word (codes "reverse") ∷ []) ++ (expression_written low ++ mark (codes "..") ∷ expression_written high) ++ word_at p (codes "loop") ∷ ws)) ls r l
+      (identifier_written parameter ∷ word (codes "in") ∷ (flag reverse (word (codes "reverse") ∷ []) ++ (expression_written low ++ delimiter (codes "..") ∷ expression_written high) ++ word_at p (codes "loop") ∷ ws)) ls r l
 
   looped : (s : Loop Sequence) (label : Option Label) → label ≡ s.label → (ls r : List Lexeme) → parts_fit sequence_fits (statements.Loop s) left ≡ true
       → Leads (loop_written sequence_written s) ls r → Leads (optional label_written label ++ loop_behind_label s) ls r → statement_inside_of left sequence deeper ls ≡ done (statements.Loop s) r
@@ -239,7 +239,7 @@ module _ (left : ℕ) (sequence : SequenceRole → Parser Sequence) (deeper : Se
   statement_complete (statements.Raise place exception) ls r o l =
       begun_by (word_at place (codes "raise")) (statement_inside_of left sequence deeper) raise_of (λ l ls. refl) (optional name_written exception ++ semicolon) ls r l ∙ raise_exact.complete (place, exception) ls r tt refl l refl
   statement_complete (statements.Abort place tasks) ls r o l =
-      begun_by (word_at place (codes "abort")) (statement_inside_of left sequence deeper) abort_of (λ l ls. refl) (separated (mark (codes ",")) name_written tasks ++ semicolon) ls r l ∙ abort_exact.complete (place, tasks) ls r tt refl l refl
+      begun_by (word_at place (codes "abort")) (statement_inside_of left sequence deeper) abort_of (λ l ls. refl) (separated (delimiter (codes ",")) name_written tasks ++ semicolon) ls r l ∙ abort_exact.complete (place, tasks) ls r tt refl l refl
   statement_complete (statements.Accept a) ls r o l =
       begun_by (word_at a.place (codes "accept")) (statement_inside_of left sequence deeper) (accept_of left sequence >>= λ accept. pure (statements.Accept accept)) (λ l ls. refl)
       (identifier_written a.entry ∷ (parameters_written a.parameters ++ (optional (accept_body_written sequence_written a.entry) a.body ++ semicolon))) ls r l ∙ accept_statement_exact.complete a ls r tt o l refl

@@ -14,25 +14,25 @@ use Rattle.ada_tree.specs.declared.statements.Elsif.{Elsif}
 use Rattle.ada_tree.specs.declared.statements.Case.{Case}
 use Rattle.ada_tree.specs.declared.statements.CaseAlternative.{CaseAlternative}
 use Rattle.ada_tree.specs.declared.statements.AcceptBody.{AcceptBody}
-use Rattle.ada_tree.specs.Written.{Lexeme, word, word_at, mark, flag, each_written, all_written, separated, optional}
+use Rattle.ada_tree.specs.Written.{Lexeme, word, word_at, delimiter, flag, each_written, all_written, separated, optional}
 use Rattle.ada_tree.specs.Spelling.{sequence_written}
 use Rattle.ada_tree.specs.SpellingStatements.{semicolon, statements_written, choice_written, elsif_written, else_written, if_written, case_alternative_written, case_written, accept_body_written, accept_written}
 use Rattle.ada_tree.specs.Shape.{sequence_fits}
 use Rattle.ada_tree.specs.ShapeExpressions.{optional_fits, all_fit}
 use Rattle.ada_tree.specs.ShapeStatements.{choice_fits, statements_fit, elsif_fits, if_fits, case_alternative_fits, case_fits, accept_body_fits, accept_fits}
-use Rattle.ada_grammar.specs.Reading.{Parser, starts, sees_word, sees_mark, end_name_of, items_of, separated_of}
+use Rattle.ada_grammar.specs.Reading.{Parser, starts, sees_word, sees_delimiter, end_name_of, items_of, separated_of}
 use Rattle.ada_grammar.specs.ReadingStatements.{begins_statement, elsif_of, else_of, if_of, case_alternative_of, case_alternatives_of, case_of, accept_body_of, accept_of, optional_statements_of}
 use Rattle.ada_grammar.specs.ReadingSimple.{choice_of}
 use Rattle.grammar_laws.specs.Leads.{Leads}
 use Rattle.grammar_laws.proofs.Exact.{Rest, Any, itself, Exact, closing, ready, narrower, first_is, first_optional, first_each, optionally, listed, first_true, second_true}
-use Rattle.grammar_laws.proofs.Tokens.{always, shapeless, not_true, sees_word_first, sees_word_at_first, seen_word, seen_mark, not_word, flag_exact}
+use Rattle.grammar_laws.proofs.Tokens.{always, shapeless, not_true, sees_word_first, sees_word_at_first, seen_word, seen_delimiter, not_word, flag_exact}
 use Rattle.grammar_laws.proofs.Ends.{ends_statements, ends_sequence}
-use Rattle.grammar_laws.proofs.StatementsSteps.{placed, named, worded, marked, part, last_part, valued, rewritten}
+use Rattle.grammar_laws.proofs.StatementsSteps.{placed, named, worded, delimited, part, last_part, valued, rewritten}
 use Rattle.grammar_laws.proofs.StatementsBegin.{statements_begin}
-use Rattle.grammar_laws.proofs.ClausesMarks.{parameters_exact}
+use Rattle.grammar_laws.proofs.ClausesSubtypes.{parameters_exact}
 use Rattle.grammar_laws.proofs.ClausesEnds.{ends_choice}
 use Rattle.grammar_laws.proofs.ClausesStatements.{choice_exact}
-use Rattle.grammar_laws.proofs.Names.{not_mark, separated_exact}
+use Rattle.grammar_laws.proofs.Names.{not_delimiter, separated_exact}
 
 -- ---- what may not stand behind parts
 
@@ -43,18 +43,18 @@ abbrev pub ends_else : List Lexeme → Bool
 ends_else r = ends_statements r && not_word (codes "else") r
 
 abbrev pub ends_choices : List Lexeme → Bool
-ends_choices r = ends_choice r && not_mark (codes "|") r
+ends_choices r = ends_choice r && not_delimiter (codes "|") r
 
 abbrev pub ends_alternatives : List Lexeme → Bool
 ends_alternatives r = ends_statements r && not_word (codes "when") r
 
 -- a semicolon stands there
 abbrev pub before_semicolon : List Lexeme → Bool
-before_semicolon r = sees_mark (codes ";") r
+before_semicolon r = sees_delimiter (codes ";") r
 
 pub end_name_exact : (text : List ℕ) → Exact (λ b. flag b (word text ∷ [])) shapeless before_semicolon (end_name_of text)
 unfolding end_name_of starts
-end_name_exact text = narrower itself Any _ shapeless (not_word text) before_semicolon (end_name_of text) (flag_exact text) (λ r e. seen_mark (not_word text) true (codes ";") (λ p ls. refl) r e)
+end_name_exact text = narrower itself Any _ shapeless (not_word text) before_semicolon (end_name_of text) (flag_exact text) (λ r e. seen_delimiter (not_word text) true (codes ";") (λ p ls. refl) r e)
 
 module _ (left : ℕ) (sequence : SequenceRole → Parser Sequence)
     (exact : (r : SequenceRole) → Exact (λ q. sequence_written q r) (λ q. sequence_fits q r left) (ends_sequence r) (sequence r)) where
@@ -115,26 +115,26 @@ module _ (left : ℕ) (sequence : SequenceRole → Parser Sequence)
       part (λ i. i.statements) (exact role.Statements) (λ i ls r p l end. elsif_or_end i.elsifs i.otherwise ls r l) (λ inside.
       part (λ i. i.elsifs) elsifs_exact (λ i ls r p l end. else_or_end i.otherwise ls r l) (λ elsifs.
       last_part (λ i. i.otherwise) else_exact (λ i ls r p l end. first_is ends_else true (word (codes "end")) (λ l ls. refl) (word (codes "if") ∷ semicolon) ls r l) (λ otherwise.
-      worded (codes "end") (worded (codes "if") (marked (codes ";") (
+      worded (codes "end") (worded (codes "if") (delimited (codes ";") (
       ready _ _ always (record { place = place; condition = condition; statements = inside; elsifs = elsifs; otherwise = otherwise }) (((((tt, refl), refl), refl), refl), refl)
       (λ j p. rw (p.0.0.0.0.1, p.0.0.0.1, p.0.0.1, p.0.1, p.1) refl))))))))))
 
   -- ---- case (5.4)
 
-  choices_exact : Exact (separated (mark (codes "|")) choice_written) (all_fit (choice_fits left)) ends_choices (separated_of (codes "|") (choice_of left))
+  choices_exact : Exact (separated (delimiter (codes "|")) choice_written) (all_fit (choice_fits left)) ends_choices (separated_of (codes "|") (choice_of left))
   unfolding starts
   choices_exact =
       separated_exact (codes "|") choice_written (choice_fits left) ends_choice ends_choices (choice_of left) (choice_exact left)
-      (λ r e. seen_mark ends_choice true (codes "|") (λ p ls. refl) r e)
-      (λ r e. first_true (ends_choice r) (not_mark (codes "|") r) e)
-      (λ r e. not_true (sees_mark (codes "|") r) (second_true (ends_choice r) (not_mark (codes "|") r) e))
+      (λ r e. seen_delimiter ends_choice true (codes "|") (λ p ls. refl) r e)
+      (λ r e. first_true (ends_choice r) (not_delimiter (codes "|") r) e)
+      (λ r e. not_true (sees_delimiter (codes "|") r) (second_true (ends_choice r) (not_delimiter (codes "|") r) e))
 
   pub case_alternative_exact : Exact (case_alternative_written sequence_written) (case_alternative_fits sequence_fits left) ends_statements (case_alternative_of left sequence)
   unfolding case_alternative_of starts
   case_alternative_exact =
       placed (λ a. a.place) (codes "when") (λ place.
-      part (λ a. a.choices) choices_exact (λ a ls r p l end. first_is ends_choices true (mark (codes "=>")) (λ l ls. refl) _ ls r l) (λ choices.
-      marked (codes "=>") (
+      part (λ a. a.choices) choices_exact (λ a ls r p l end. first_is ends_choices true (delimiter (codes "=>")) (λ l ls. refl) _ ls r l) (λ choices.
+      delimited (codes "=>") (
       closing itself _ ends_statements (λ a. a.statements) (λ q. sequence_written q role.Statements) (λ q. sequence_fits q role.Statements left) (sequence role.Statements)
       (λ inside. record { place = place; choices = choices; statements = inside })
       (exact role.Statements) (λ inside. ((tt, refl), refl)) (λ inside. refl) (λ inside a p q. rw (p.0.1, p.1, q) refl))))
@@ -168,7 +168,7 @@ module _ (left : ℕ) (sequence : SequenceRole → Parser Sequence)
       valued left (λ c. c.selector) (word (codes "is")) (λ l ls. refl) (λ selector.
       worded (codes "is") (
       last_part (λ c. c.alternatives) case_alternatives_exact (λ c ls r p l end. first_is ends_alternatives true (word (codes "end")) (λ l ls. refl) (word (codes "case") ∷ semicolon) ls r l) (λ alternatives.
-      worded (codes "end") (worded (codes "case") (marked (codes ";") (
+      worded (codes "end") (worded (codes "case") (delimited (codes ";") (
       ready _ _ always (record { place = place; selector = selector; alternatives = alternatives }) (((tt, refl), refl), refl) (λ j p. rw (p.0.0.1, p.0.1, p.1) refl))))))))
 
   -- ---- accept (9.5.2)
@@ -183,13 +183,13 @@ module _ (left : ℕ) (sequence : SequenceRole → Parser Sequence)
       closing (λ b. Some b) _ before_semicolon (λ b. b.named_at_end) _ shapeless (end_name_of name.text) (λ named. record { sequence = inside; named_at_end = named })
       (end_name_exact name.text) (λ named. (tt, refl)) (λ named. refl) (λ named b p e. rw (p.1, e) refl)))))
       (λ b ls r l. sees_word_first (codes "do") _ ls r l)
-      (λ r e. seen_mark (sees_word (codes "do")) false (codes ";") (λ p ls. refl) r e)
+      (λ r e. seen_delimiter (sees_word (codes "do")) false (codes ";") (λ p ls. refl) r e)
 
-  do_or_semicolon : (name : Identifier) (o : Option (AcceptBody Sequence)) (ls r : List Lexeme) → Leads (optional (accept_body_written sequence_written name) o ++ semicolon) ls r → not_mark (codes "(") ls ≡ true
+  do_or_semicolon : (name : Identifier) (o : Option (AcceptBody Sequence)) (ls r : List Lexeme) → Leads (optional (accept_body_written sequence_written name) o ++ semicolon) ls r → not_delimiter (codes "(") ls ≡ true
   unfolding starts
   do_or_semicolon name o ls r l =
-      first_optional (not_mark (codes "(")) true (accept_body_written sequence_written name) semicolon (λ b ls m l. first_is (not_mark (codes "(")) true (word (codes "do")) (λ l ls. refl) _ ls m l)
-      (λ ls r l. first_is (not_mark (codes "(")) true (mark (codes ";")) (λ l ls. refl) [] ls r l) o ls r l
+      first_optional (not_delimiter (codes "(")) true (accept_body_written sequence_written name) semicolon (λ b ls m l. first_is (not_delimiter (codes "(")) true (word (codes "do")) (λ l ls. refl) _ ls m l)
+      (λ ls r l. first_is (not_delimiter (codes "(")) true (delimiter (codes ";")) (λ l ls. refl) [] ls r l) o ls r l
 
   pub accept_exact : Exact (accept_written sequence_written) (accept_fits sequence_fits left) always (accept_of left sequence)
   unfolding accept_of starts
@@ -198,8 +198,8 @@ module _ (left : ℕ) (sequence : SequenceRole → Parser Sequence)
       named (λ a. a.entry) (λ entry.
       part (λ a. a.parameters) (parameters_exact left) (λ a ls r p l end. do_or_semicolon a.entry a.body ls r l) (λ parameters.
       rewritten {w = λ a. optional (accept_body_written sequence_written entry) a.body ++ semicolon} (
-      last_part (λ a. a.body) (accept_body_exact entry) (λ a ls r p l end. first_is before_semicolon true (mark (codes ";")) (λ l ls. refl) [] ls r l) (λ body.
-      marked (codes ";") (
+      last_part (λ a. a.body) (accept_body_exact entry) (λ a ls r p l end. first_is before_semicolon true (delimiter (codes ";")) (λ l ls. refl) [] ls r l) (λ body.
+      delimited (codes ";") (
       ready _ _ always (record { place = place; entry = entry; parameters = parameters; body = body }) ((((tt, refl), refl), refl), refl) (λ j p. rw (p.0.0.0.1, p.0.0.1, p.0.1, p.1) refl))))
       (λ a p. rw (p.0.1) refl))))
 

@@ -15,7 +15,7 @@ use Rattle.ada_tree.specs.declared.statements.Loop.{Loop}
 use Rattle.ada_tree.specs.declared.statements.Block.{Block}
 use Rattle.ada_tree.specs.declared.statements.Iteration.{Iteration}
 use Rattle.ada_tree.specs.declared.statements.Iteration.TheVariants as iterations
-use Rattle.ada_tree.specs.Written.{Written, Lexeme, word, word_at, mark, flag, identifier_written, optional}
+use Rattle.ada_tree.specs.Written.{Written, Lexeme, word, word_at, delimiter, flag, identifier_written, optional}
 use Rattle.ada_tree.specs.Spelling.{sequence_written}
 use Rattle.ada_tree.specs.SpellingExpressions.{expression_written}
 use Rattle.ada_tree.specs.SpellingStatements.{semicolon, statements_written, iteration_written, label_written, label_end_written, loop_written, block_opened, block_written, statement_written}
@@ -28,7 +28,7 @@ use Rattle.grammar_laws.specs.Leads.{Leads}
 use Rattle.grammar_laws.proofs.Exact.{Rest, Any, itself, Exact, ready, closing, first_is}
 use Rattle.grammar_laws.proofs.Tokens.{always, shapeless, sees_word_at_first}
 use Rattle.grammar_laws.proofs.Ends.{ends_statements, ends_sequence}
-use Rattle.grammar_laws.proofs.StatementsSteps.{placed, named, worded, marked, part, last_part, such, rewritten, through, Came, decided, Side}
+use Rattle.grammar_laws.proofs.StatementsSteps.{placed, named, worded, delimited, part, last_part, such, rewritten, through, Came, decided, Side}
 use Rattle.grammar_laws.proofs.ClausesEnds.{ends_iteration}
 use Rattle.grammar_laws.proofs.ClausesStatements.{iteration_exact}
 use Rattle.grammar_laws.proofs.Statements.{before_semicolon, end_name_exact}
@@ -134,8 +134,8 @@ module _ (left : ℕ) (sequence : SequenceRole → Parser Sequence)
       last_part (λ l. l.statements) (exact role.Statements)
       (λ i ls r p l end. first_is ends_statements true (word (codes "end")) (λ l ls. refl) (word (codes "loop") ∷ (optional label_end_written i.label ++ semicolon)) ls r l) (λ inside.
       worded (codes "end") (worded (codes "loop") (
-      such (λ o. label_name o ≡ name) (λ l. l.label) (label_end_exact name) (λ l p. p.0.0.0) (λ i ls r p l end. first_is before_semicolon true (mark (codes ";")) (λ l ls. refl) [] ls r l) (λ label known.
-      marked (codes ";") (
+      such (λ o. label_name o ≡ name) (λ l. l.label) (label_end_exact name) (λ l p. p.0.0.0) (λ i ls r p l end. first_is before_semicolon true (delimiter (codes ";")) (λ l ls. refl) [] ls r l) (λ label known.
+      delimited (codes ";") (
       ready _ _ always (record { label = label; iteration = iteration; place = place; statements = inside }) ((((known, refl), refl), refl), refl) (λ j p. rw (p.0.0.0.1, p.0.0.1, p.0.1, p.1) refl))))))))
 
   -- ---- blocks, behind the name and the colon
@@ -148,8 +148,8 @@ module _ (left : ℕ) (sequence : SequenceRole → Parser Sequence)
   unfolding block_end_of starts
   block_end_exact name place declare inside =
       worded (codes "end") (
-      such (λ o. label_name o ≡ name) (λ b. b.label) (label_end_exact name) (λ b p. p.0.0.0) (λ i ls r p l end. first_is before_semicolon true (mark (codes ";")) (λ l ls. refl) [] ls r l) (λ label known.
-      marked (codes ";") (
+      such (λ o. label_name o ≡ name) (λ b. b.label) (label_end_exact name) (λ b p. p.0.0.0) (λ i ls r p l end. first_is before_semicolon true (delimiter (codes ";")) (λ l ls. refl) [] ls r l) (λ label known.
+      delimited (codes ";") (
       ready _ _ always (record { label = label; place = place; declare = declare; sequence = inside }) ((((known, refl), refl), refl), refl) (λ j p. rw (p.0.0.0.1, p.0.0.1, p.0.1, p.1) refl))))
 
   declare_exact : (name : Option Identifier)
@@ -211,7 +211,7 @@ module _ (left : ℕ) (sequence : SequenceRole → Parser Sequence)
   loop_begins iterations.Forever p ws ls r l = first_is begins_block false (word_at p (codes "loop")) (λ l ls. refl) ws ls r l
   loop_begins (iterations.While place condition) p ws ls r l = first_is begins_block false (word_at place (codes "while")) (λ l ls. refl) _ ls r l
   loop_begins (iterations.For place parameter reverse low high) p ws ls r l = first_is begins_block false (word_at place (codes "for")) (λ l ls. refl)
-      (identifier_written parameter ∷ word (codes "in") ∷ (flag reverse (word (codes "reverse") ∷ []) ++ (expression_written low ++ mark (codes "..") ∷ expression_written high) ++ word_at p (codes "loop") ∷ ws)) ls r l
+      (identifier_written parameter ∷ word (codes "in") ∷ (flag reverse (word (codes "reverse") ∷ []) ++ (expression_written low ++ delimiter (codes "..") ∷ expression_written high) ++ word_at p (codes "loop") ∷ ws)) ls r l
 
   block_or_loop : (name : Identifier) (s : Statement Sequence) (ls r : List Lexeme) → HasLabel name s → Leads (behind_label s) ls r → Side begins_block (OfBlock name s) (OfLoop name s) ls
   block_or_loop name (statements.Null place) ls r e l = absurd (cc)
@@ -241,19 +241,19 @@ module _ (left : ℕ) (sequence : SequenceRole → Parser Sequence)
   abbrev Labelled : Type 0
   Labelled = Identifier × Statement Sequence
 
-  named_exact : Rest (λ (x : Labelled). x.1) (λ x. HasLabel x.0 x.1) (λ x. identifier_written x.0 ∷ mark (codes ":") ∷ behind_label x.1) (λ x. parts_fit sequence_fits x.1 left) always (labelled_of left sequence)
+  named_exact : Rest (λ (x : Labelled). x.1) (λ x. HasLabel x.0 x.1) (λ x. identifier_written x.0 ∷ delimiter (codes ":") ∷ behind_label x.1) (λ x. parts_fit sequence_fits x.1 left) always (labelled_of left sequence)
   unfolding labelled_of
   named_exact =
       named (λ x. x.0) (λ name.
-      marked (codes ":") (
+      delimited (codes ":") (
       through (λ s. (name, s)) (behind_label_exact name) (λ s p. (p, refl)) (λ s p. refl) (λ s p. refl)
       (λ x p. record { from = x.1; known = subst (λ (z : Identifier). HasLabel z x.1) (sym p.1) p.0; is = rw p.1 refl })))
 
-  with_name : (name : Identifier) (o : Option Label) (ws : List Written) → label_name o ≡ Some name → identifier_written name ∷ mark (codes ":") ∷ ws ≡ optional label_written o ++ ws
+  with_name : (name : Identifier) (o : Option Label) (ws : List Written) → label_name o ≡ Some name → identifier_written name ∷ delimiter (codes ":") ∷ ws ≡ optional label_written o ++ ws
   with_name name None ws e = absurd (cc)
   with_name name (Some label) ws e = rw (same_some label.name name e) refl
 
-  labelled_written : (name : Identifier) (s : Statement Sequence) → HasLabel name s → identifier_written name ∷ mark (codes ":") ∷ behind_label s ≡ statement_written sequence_written s
+  labelled_written : (name : Identifier) (s : Statement Sequence) → HasLabel name s → identifier_written name ∷ delimiter (codes ":") ∷ behind_label s ≡ statement_written sequence_written s
   labelled_written name (statements.Null place) e = absurd (cc)
   labelled_written name (statements.Assignment a) e = absurd (cc)
   labelled_written name (statements.Call c) e = absurd (cc)

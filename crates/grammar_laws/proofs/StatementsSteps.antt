@@ -3,15 +3,15 @@ use Rattle.std.proofs.Common.{◌≡◌, ℕ, Bool, true, false, cond, ◌&&◌,
 use Rattle.ann_base.specs.declared.places.Place.{Place}
 use Rattle.ada_tree.specs.declared.names.Identifier.{Identifier}
 use Rattle.ada_tree.specs.declared.expressions.Expression.{Expression}
-use Rattle.ada_tree.specs.Written.{Written, Lexeme, word, word_at, mark, identifier_written, one_identifier}
+use Rattle.ada_tree.specs.Written.{Written, Lexeme, word, word_at, delimiter, identifier_written, one_identifier}
 use Rattle.ada_tree.specs.SpellingExpressions.{expression_written}
 use Rattle.ada_tree.specs.ShapeStatements.{value_fits}
-use Rattle.ada_grammar.specs.Reading.{Read, Parser, ◌>>=◌, choose, the_word, the_mark, an_identifier}
+use Rattle.ada_grammar.specs.Reading.{Read, Parser, ◌>>=◌, choose, the_word, the_delimiter, an_identifier}
 use Rattle.ada_grammar.specs.ReadingExpressions.{expression_of}
 use Rattle.grammar_laws.specs.Leads.{Leads}
 use Rattle.grammar_laws.proofs.Leading.{leads_both, leads_through, as_written, spelt_is}
 use Rattle.grammar_laws.proofs.Exact.{done, parts, Found, Rest, itself, Exact, field, plain, last, first_is}
-use Rattle.grammar_laws.proofs.Tokens.{always, shapeless, word_exact, identifier_exact, word_then, mark_then}
+use Rattle.grammar_laws.proofs.Tokens.{always, shapeless, word_exact, identifier_exact, word_then, delimiter_then}
 use Rattle.grammar_laws.proofs.Ends.{ends_expression}
 use Rattle.grammar_laws.proofs.Expressions.{expression_exact}
 
@@ -44,8 +44,8 @@ module _ {X I : Type 0} {make : I → X} {P : I → Type 0} {w : I → List Writ
   pub worded : (text : List ℕ) {k : Parser X} → Rest make P w ok ends k → Rest make P (λ i. word text ∷ w i) ok ends (the_word text >>= (λ a. k))
   worded text {k} more = word_then make P w ok ends text k more
 
-  pub marked : (text : List ℕ) {k : Parser X} → Rest make P w ok ends k → Rest make P (λ i. mark text ∷ w i) ok ends (the_mark text >>= (λ a. k))
-  marked text {k} more = mark_then make P w ok ends text k more
+  pub delimited : (text : List ℕ) {k : Parser X} → Rest make P w ok ends k → Rest make P (λ i. delimiter text ∷ w i) ok ends (the_delimiter text >>= (λ a. k))
+  delimited text {k} more = delimiter_then make P w ok ends text k more
 
   -- a part
   pub part : {A : Type 0} (get : I → A) {wa : A → List Written} {oka : A → Bool} {endsa : List Lexeme → Bool} {pa : Parser A} {k : A → Parser X}
@@ -55,7 +55,7 @@ module _ {X I : Type 0} {make : I → X} {P : I → Type 0} {w : I → List Writ
       → Rest make P (λ i. wa (get i) ++ w i) (λ i. oka (get i) && ok i) ends (pa >>= k)
   part get {wa} {oka} {endsa} {pa} {k} one stop more = field make P w ok ends get wa oka endsa pa k one stop more
 
-  -- an expression, behind which a word or a mark stands
+  -- an expression, behind which a word or a delimiter stands
   pub valued : (left : ℕ) (get : I → Expression) (token : Written) {k : Expression → Parser X}
       → ((l : Lexeme) (ls : List Lexeme) → ends_expression (as_written token l ∷ ls) ≡ true)
       → ((a : Expression) → Rest make (λ i. P i × (a ≡ get i)) (λ i. token ∷ w i) ok ends (k a))

@@ -17,15 +17,15 @@ use Rattle.ada_tree.specs.declared.expressions.Expression.TheViews.{out-Expressi
 use Rattle.ada_tree.specs.declared.expressions.ExpressionForm.{ExpressionForm}
 use Rattle.ada_tree.specs.declared.expressions.ExpressionForm.TheVariants as form
 use Rattle.ada_tree.specs.declared.expressions.Addend.{Addend}
-use Rattle.ada_tree.specs.Written.{Written, Lexeme, word_at, mark_at, identifier_written, each_written, all_written}
+use Rattle.ada_tree.specs.Written.{Written, Lexeme, word_at, delimiter_at, identifier_written, each_written, all_written}
 use Rattle.ada_tree.specs.SpellingExpressions.{relational_text, adding_text, sign_text, highest_text, addend_written, multiplied_written, form_written, expression_written}
 use Rattle.ada_tree.specs.ShapeExpressions.{all_fit, addend_fits, multiplied_fits, form_fits, expression_fits}
-use Rattle.ada_grammar.specs.Reading.{Parser, starts, sees_mark, the_mark, items_of}
+use Rattle.ada_grammar.specs.Reading.{Parser, starts, sees_delimiter, the_delimiter, items_of}
 use Rattle.ada_grammar.specs.ReadingExpressions.{formed, compares, adds, relational_of, comparison_of, adding_of, addition_of, term_of, signed_of, first_term_of, addend_of, addition_behind_of, sum_of, compared_of, relation_of}
 use Rattle.grammar_laws.specs.Leads.{Leads}
 use Rattle.grammar_laws.proofs.Leading.{leads_through, as_written}
 use Rattle.grammar_laws.proofs.Exact.{done, Found, Rest, Any, itself, Exact, first_true, second_true, field, plain, narrower, closing, first_is, listed}
-use Rattle.grammar_laws.proofs.Tokens.{always, shapeless, not_true, mark_exact, sees_mark_at_first, seen_mark}
+use Rattle.grammar_laws.proofs.Tokens.{always, shapeless, not_true, delimiter_exact, sees_delimiter_at_first, seen_delimiter}
 use Rattle.grammar_laws.proofs.Choices.{Sound, either, one_form}
 use Rattle.grammar_laws.proofs.Ends.{ends_term, ends_sum, ends_relation}
 use Rattle.grammar_laws.proofs.Primaries.{ReadsInside, formed_is_written, formed_is_fit, formed_again}
@@ -36,19 +36,19 @@ use Rattle.grammar_laws.proofs.Terms.{Firsts, factor_first, looser, loosened, ei
 
 -- ---- the first token of a term is no sign
 
-plus_first : Firsts (sees_mark (codes "+")) false
+plus_first : Firsts (sees_delimiter (codes "+")) false
 unfolding starts
-plus_first = record { number = λ p t k ks. refl; text = λ p t k ks. refl; null = λ p k ks. refl; bracket = λ p k ks. refl; name = λ i ws ls r l. first_is (sees_mark (codes "+")) false (identifier_written i) (λ k ks. refl) ws ls r l }
+plus_first = record { number = λ p t k ks. refl; text = λ p t k ks. refl; null = λ p k ks. refl; bracket = λ p k ks. refl; name = λ i ws ls r l. first_is (sees_delimiter (codes "+")) false (identifier_written i) (λ k ks. refl) ws ls r l }
 
-minus_first : Firsts (sees_mark (codes "-")) false
+minus_first : Firsts (sees_delimiter (codes "-")) false
 unfolding starts
-minus_first = record { number = λ p t k ks. refl; text = λ p t k ks. refl; null = λ p k ks. refl; bracket = λ p k ks. refl; name = λ i ws ls r l. first_is (sees_mark (codes "-")) false (identifier_written i) (λ k ks. refl) ws ls r l }
+minus_first = record { number = λ p t k ks. refl; text = λ p t k ks. refl; null = λ p k ks. refl; bracket = λ p k ks. refl; name = λ i ws ls r l. first_is (sees_delimiter (codes "-")) false (identifier_written i) (λ k ks. refl) ws ls r l }
 
-operator_no_plus : (p : Place) (operator : HighestOperator) (k : Lexeme) (ks : List Lexeme) → sees_mark (codes "+") (as_written (word_at p (highest_text operator)) k ∷ ks) ≡ false
+operator_no_plus : (p : Place) (operator : HighestOperator) (k : Lexeme) (ks : List Lexeme) → sees_delimiter (codes "+") (as_written (word_at p (highest_text operator)) k ∷ ks) ≡ false
 unfolding starts
 operator_no_plus p operator k ks = refl
 
-operator_no_minus : (p : Place) (operator : HighestOperator) (k : Lexeme) (ks : List Lexeme) → sees_mark (codes "-") (as_written (word_at p (highest_text operator)) k ∷ ks) ≡ false
+operator_no_minus : (p : Place) (operator : HighestOperator) (k : Lexeme) (ks : List Lexeme) → sees_delimiter (codes "-") (as_written (word_at p (highest_text operator)) k ∷ ks) ≡ false
 unfolding starts
 operator_no_minus p operator k ks = refl
 
@@ -77,37 +77,37 @@ module _ (test : List Lexeme → Bool) (v : Bool) (on : Firsts test v) (operated
 
 -- ---- adding operators (4.5.3)
 
-abbrev pub adding_mark : Place × AddingOperator → List Written
-adding_mark x = mark_at x.0 (adding_text x.1) ∷ []
+abbrev pub adding_delimiter : Place × AddingOperator → List Written
+adding_delimiter x = delimiter_at x.0 (adding_text x.1) ∷ []
 
-this_adding : (operator : AddingOperator) → Rest (λ (p : Place). (p, operator)) Any (λ p. mark_at p (adding_text operator) ∷ []) shapeless always (adding_of operator)
+this_adding : (operator : AddingOperator) → Rest (λ (p : Place). (p, operator)) Any (λ p. delimiter_at p (adding_text operator) ∷ []) shapeless always (adding_of operator)
 unfolding adding_of
-this_adding operator = closing (λ (p : Place). (p, operator)) Any always itself (λ p. mark_at p (adding_text operator) ∷ []) shapeless (the_mark (adding_text operator)) itself (mark_exact (adding_text operator)) (λ a. tt) (λ a. refl) (λ a x p e. e)
+this_adding operator = closing (λ (p : Place). (p, operator)) Any always itself (λ p. delimiter_at p (adding_text operator) ∷ []) shapeless (the_delimiter (adding_text operator)) itself (delimiter_exact (adding_text operator)) (λ a. tt) (λ a. refl) (λ a x p e. e)
 
-addition_sound : Sound itself adding_mark shapeless addition_of
+addition_sound : Sound itself adding_delimiter shapeless addition_of
 unfolding addition_of
 addition_sound =
-    either (sees_mark (codes "+")) (one_form (λ p. (p, adding.Plus)) (this_adding adding.Plus) (λ p. refl) (λ p. refl))
-    (either (sees_mark (codes "-")) (one_form (λ p. (p, adding.Minus)) (this_adding adding.Minus) (λ p. refl) (λ p. refl))
+    either (sees_delimiter (codes "+")) (one_form (λ p. (p, adding.Plus)) (this_adding adding.Plus) (λ p. refl) (λ p. refl))
+    (either (sees_delimiter (codes "-")) (one_form (λ p. (p, adding.Minus)) (this_adding adding.Minus) (λ p. refl) (λ p. refl))
     (one_form (λ p. (p, adding.Concatenation)) (this_adding adding.Concatenation) (λ p. refl) (λ p. refl)))
 
-addition_complete : (operator : AddingOperator) (p : Place) (ls r : List Lexeme) → Leads (mark_at p (adding_text operator) ∷ []) ls r → addition_of ls ≡ done (p, operator) r
+addition_complete : (operator : AddingOperator) (p : Place) (ls r : List Lexeme) → Leads (delimiter_at p (adding_text operator) ∷ []) ls r → addition_of ls ≡ done (p, operator) r
 unfolding addition_of starts
-addition_complete adding.Plus p ls r l = rw (sees_mark_at_first (codes "+") p [] ls r l) ((this_adding adding.Plus).complete p ls r tt refl l refl)
+addition_complete adding.Plus p ls r l = rw (sees_delimiter_at_first (codes "+") p [] ls r l) ((this_adding adding.Plus).complete p ls r tt refl l refl)
 addition_complete adding.Minus p ls r l =
-    rw (first_is (sees_mark (codes "+")) false (mark_at p (codes "-")) (λ k ks. refl) [] ls r l, sees_mark_at_first (codes "-") p [] ls r l) ((this_adding adding.Minus).complete p ls r tt refl l refl)
+    rw (first_is (sees_delimiter (codes "+")) false (delimiter_at p (codes "-")) (λ k ks. refl) [] ls r l, sees_delimiter_at_first (codes "-") p [] ls r l) ((this_adding adding.Minus).complete p ls r tt refl l refl)
 addition_complete adding.Concatenation p ls r l =
-    rw (first_is (sees_mark (codes "+")) false (mark_at p (codes "&")) (λ k ks. refl) [] ls r l, first_is (sees_mark (codes "-")) false (mark_at p (codes "&")) (λ k ks. refl) [] ls r l)
+    rw (first_is (sees_delimiter (codes "+")) false (delimiter_at p (codes "&")) (λ k ks. refl) [] ls r l, first_is (sees_delimiter (codes "-")) false (delimiter_at p (codes "&")) (λ k ks. refl) [] ls r l)
     ((this_adding adding.Concatenation).complete p ls r tt refl l refl)
 
-addition_exact : Exact adding_mark shapeless always addition_of
+addition_exact : Exact adding_delimiter shapeless always addition_of
 addition_exact = record { sound = addition_sound.by; complete = λ x ls r q o l end. addition_complete x.1 x.0 ls r l }
 
-begins_adding : (operator : AddingOperator) (p : Place) (ws : List Written) (ls r : List Lexeme) → Leads (mark_at p (adding_text operator) ∷ ws) ls r → adds ls ≡ true
+begins_adding : (operator : AddingOperator) (p : Place) (ws : List Written) (ls r : List Lexeme) → Leads (delimiter_at p (adding_text operator) ∷ ws) ls r → adds ls ≡ true
 unfolding starts
-begins_adding adding.Plus p ws ls r l = first_is adds true (mark_at p (codes "+")) (λ k ks. refl) ws ls r l
-begins_adding adding.Minus p ws ls r l = first_is adds true (mark_at p (codes "-")) (λ k ks. refl) ws ls r l
-begins_adding adding.Concatenation p ws ls r l = first_is adds true (mark_at p (codes "&")) (λ k ks. refl) ws ls r l
+begins_adding adding.Plus p ws ls r l = first_is adds true (delimiter_at p (codes "+")) (λ k ks. refl) ws ls r l
+begins_adding adding.Minus p ws ls r l = first_is adds true (delimiter_at p (codes "-")) (λ k ks. refl) ws ls r l
+begins_adding adding.Concatenation p ws ls r l = first_is adds true (delimiter_at p (codes "&")) (λ k ks. refl) ws ls r l
 
 begins_addend : (a : Addend Expression) (ls r : List Lexeme) → Leads (addend_written expression_written a) ls r → adds ls ≡ true
 begins_addend a ls r l = begins_adding a.operator a.place (expression_written a.term) ls r l
@@ -116,81 +116,81 @@ adds_ends : (r : List Lexeme) → adds r ≡ true → ends_term r ≡ true
 unfolding starts
 adds_ends r e =
     let F = ends_term r ≡ true in
-    either_true F (sees_mark (codes "+") r) _ e (λ e. seen_mark ends_term true (codes "+") (λ p ls. refl) r e) (λ e.
-    either_true F (sees_mark (codes "-") r) _ e (λ e. seen_mark ends_term true (codes "-") (λ p ls. refl) r e)
-    (λ e. seen_mark ends_term true (codes "&") (λ p ls. refl) r e))
+    either_true F (sees_delimiter (codes "+") r) _ e (λ e. seen_delimiter ends_term true (codes "+") (λ p ls. refl) r e) (λ e.
+    either_true F (sees_delimiter (codes "-") r) _ e (λ e. seen_delimiter ends_term true (codes "-") (λ p ls. refl) r e)
+    (λ e. seen_delimiter ends_term true (codes "&") (λ p ls. refl) r e))
 
 -- ---- relational operators (4.5.2)
 
-abbrev pub relational_mark : Place × RelationalOperator → List Written
-relational_mark x = mark_at x.0 (relational_text x.1) ∷ []
+abbrev pub relational_delimiter : Place × RelationalOperator → List Written
+relational_delimiter x = delimiter_at x.0 (relational_text x.1) ∷ []
 
-this_relational : (operator : RelationalOperator) → Rest (λ (p : Place). (p, operator)) Any (λ p. mark_at p (relational_text operator) ∷ []) shapeless always (relational_of operator)
+this_relational : (operator : RelationalOperator) → Rest (λ (p : Place). (p, operator)) Any (λ p. delimiter_at p (relational_text operator) ∷ []) shapeless always (relational_of operator)
 unfolding relational_of
 this_relational operator =
-    closing (λ (p : Place). (p, operator)) Any always itself (λ p. mark_at p (relational_text operator) ∷ []) shapeless (the_mark (relational_text operator)) itself (mark_exact (relational_text operator)) (λ a. tt) (λ a. refl) (λ a x p e. e)
+    closing (λ (p : Place). (p, operator)) Any always itself (λ p. delimiter_at p (relational_text operator) ∷ []) shapeless (the_delimiter (relational_text operator)) itself (delimiter_exact (relational_text operator)) (λ a. tt) (λ a. refl) (λ a x p e. e)
 
-comparison_sound : Sound itself relational_mark shapeless comparison_of
+comparison_sound : Sound itself relational_delimiter shapeless comparison_of
 unfolding comparison_of
 comparison_sound =
-    either (sees_mark (codes "=")) (one_form (λ p. (p, relational.Equal)) (this_relational relational.Equal) (λ p. refl) (λ p. refl))
-    (either (sees_mark (codes "/=")) (one_form (λ p. (p, relational.NotEqual)) (this_relational relational.NotEqual) (λ p. refl) (λ p. refl))
-    (either (sees_mark (codes "<")) (one_form (λ p. (p, relational.Less)) (this_relational relational.Less) (λ p. refl) (λ p. refl))
-    (either (sees_mark (codes "<=")) (one_form (λ p. (p, relational.LessOrEqual)) (this_relational relational.LessOrEqual) (λ p. refl) (λ p. refl))
-    (either (sees_mark (codes ">")) (one_form (λ p. (p, relational.Greater)) (this_relational relational.Greater) (λ p. refl) (λ p. refl))
+    either (sees_delimiter (codes "=")) (one_form (λ p. (p, relational.Equal)) (this_relational relational.Equal) (λ p. refl) (λ p. refl))
+    (either (sees_delimiter (codes "/=")) (one_form (λ p. (p, relational.NotEqual)) (this_relational relational.NotEqual) (λ p. refl) (λ p. refl))
+    (either (sees_delimiter (codes "<")) (one_form (λ p. (p, relational.Less)) (this_relational relational.Less) (λ p. refl) (λ p. refl))
+    (either (sees_delimiter (codes "<=")) (one_form (λ p. (p, relational.LessOrEqual)) (this_relational relational.LessOrEqual) (λ p. refl) (λ p. refl))
+    (either (sees_delimiter (codes ">")) (one_form (λ p. (p, relational.Greater)) (this_relational relational.Greater) (λ p. refl) (λ p. refl))
     (one_form (λ p. (p, relational.GreaterOrEqual)) (this_relational relational.GreaterOrEqual) (λ p. refl) (λ p. refl))))))
 
-comparison_complete : (operator : RelationalOperator) (p : Place) (ls r : List Lexeme) → Leads (mark_at p (relational_text operator) ∷ []) ls r → comparison_of ls ≡ done (p, operator) r
+comparison_complete : (operator : RelationalOperator) (p : Place) (ls r : List Lexeme) → Leads (delimiter_at p (relational_text operator) ∷ []) ls r → comparison_of ls ≡ done (p, operator) r
 unfolding comparison_of starts
-comparison_complete relational.Equal p ls r l = rw (sees_mark_at_first (codes "=") p [] ls r l) ((this_relational relational.Equal).complete p ls r tt refl l refl)
+comparison_complete relational.Equal p ls r l = rw (sees_delimiter_at_first (codes "=") p [] ls r l) ((this_relational relational.Equal).complete p ls r tt refl l refl)
 comparison_complete relational.NotEqual p ls r l =
-    rw (first_is (sees_mark (codes "=")) false (mark_at p (codes "/=")) (λ k ks. refl) [] ls r l, sees_mark_at_first (codes "/=") p [] ls r l)
+    rw (first_is (sees_delimiter (codes "=")) false (delimiter_at p (codes "/=")) (λ k ks. refl) [] ls r l, sees_delimiter_at_first (codes "/=") p [] ls r l)
     ((this_relational relational.NotEqual).complete p ls r tt refl l refl)
 comparison_complete relational.Less p ls r l =
-    rw (first_is (sees_mark (codes "=")) false (mark_at p (codes "<")) (λ k ks. refl) [] ls r l, first_is (sees_mark (codes "/=")) false (mark_at p (codes "<")) (λ k ks. refl) [] ls r l, sees_mark_at_first (codes "<") p [] ls r l)
+    rw (first_is (sees_delimiter (codes "=")) false (delimiter_at p (codes "<")) (λ k ks. refl) [] ls r l, first_is (sees_delimiter (codes "/=")) false (delimiter_at p (codes "<")) (λ k ks. refl) [] ls r l, sees_delimiter_at_first (codes "<") p [] ls r l)
     ((this_relational relational.Less).complete p ls r tt refl l refl)
 comparison_complete relational.LessOrEqual p ls r l =
-    rw (first_is (sees_mark (codes "=")) false (mark_at p (codes "<=")) (λ k ks. refl) [] ls r l, first_is (sees_mark (codes "/=")) false (mark_at p (codes "<=")) (λ k ks. refl) [] ls r l, first_is (sees_mark (codes "<")) false (mark_at p (codes "<=")) (λ k ks. refl) [] ls r l, sees_mark_at_first (codes "<=") p [] ls r l)
+    rw (first_is (sees_delimiter (codes "=")) false (delimiter_at p (codes "<=")) (λ k ks. refl) [] ls r l, first_is (sees_delimiter (codes "/=")) false (delimiter_at p (codes "<=")) (λ k ks. refl) [] ls r l, first_is (sees_delimiter (codes "<")) false (delimiter_at p (codes "<=")) (λ k ks. refl) [] ls r l, sees_delimiter_at_first (codes "<=") p [] ls r l)
     ((this_relational relational.LessOrEqual).complete p ls r tt refl l refl)
 comparison_complete relational.Greater p ls r l =
-    rw (first_is (sees_mark (codes "=")) false (mark_at p (codes ">")) (λ k ks. refl) [] ls r l, first_is (sees_mark (codes "/=")) false (mark_at p (codes ">")) (λ k ks. refl) [] ls r l, first_is (sees_mark (codes "<")) false (mark_at p (codes ">")) (λ k ks. refl) [] ls r l, first_is (sees_mark (codes "<=")) false (mark_at p (codes ">")) (λ k ks. refl) [] ls r l, sees_mark_at_first (codes ">") p [] ls r l)
+    rw (first_is (sees_delimiter (codes "=")) false (delimiter_at p (codes ">")) (λ k ks. refl) [] ls r l, first_is (sees_delimiter (codes "/=")) false (delimiter_at p (codes ">")) (λ k ks. refl) [] ls r l, first_is (sees_delimiter (codes "<")) false (delimiter_at p (codes ">")) (λ k ks. refl) [] ls r l, first_is (sees_delimiter (codes "<=")) false (delimiter_at p (codes ">")) (λ k ks. refl) [] ls r l, sees_delimiter_at_first (codes ">") p [] ls r l)
     ((this_relational relational.Greater).complete p ls r tt refl l refl)
 comparison_complete relational.GreaterOrEqual p ls r l =
-    rw (first_is (sees_mark (codes "=")) false (mark_at p (codes ">=")) (λ k ks. refl) [] ls r l, first_is (sees_mark (codes "/=")) false (mark_at p (codes ">=")) (λ k ks. refl) [] ls r l, first_is (sees_mark (codes "<")) false (mark_at p (codes ">=")) (λ k ks. refl) [] ls r l, first_is (sees_mark (codes "<=")) false (mark_at p (codes ">=")) (λ k ks. refl) [] ls r l, first_is (sees_mark (codes ">")) false (mark_at p (codes ">=")) (λ k ks. refl) [] ls r l)
+    rw (first_is (sees_delimiter (codes "=")) false (delimiter_at p (codes ">=")) (λ k ks. refl) [] ls r l, first_is (sees_delimiter (codes "/=")) false (delimiter_at p (codes ">=")) (λ k ks. refl) [] ls r l, first_is (sees_delimiter (codes "<")) false (delimiter_at p (codes ">=")) (λ k ks. refl) [] ls r l, first_is (sees_delimiter (codes "<=")) false (delimiter_at p (codes ">=")) (λ k ks. refl) [] ls r l, first_is (sees_delimiter (codes ">")) false (delimiter_at p (codes ">=")) (λ k ks. refl) [] ls r l)
     ((this_relational relational.GreaterOrEqual).complete p ls r tt refl l refl)
 
-comparison_exact : Exact relational_mark shapeless always comparison_of
+comparison_exact : Exact relational_delimiter shapeless always comparison_of
 comparison_exact = record { sound = comparison_sound.by; complete = λ x ls r q o l end. comparison_complete x.1 x.0 ls r l }
 
-begins_comparison : (operator : RelationalOperator) (p : Place) (ws : List Written) (ls r : List Lexeme) → Leads (mark_at p (relational_text operator) ∷ ws) ls r → compares ls ≡ true
+begins_comparison : (operator : RelationalOperator) (p : Place) (ws : List Written) (ls r : List Lexeme) → Leads (delimiter_at p (relational_text operator) ∷ ws) ls r → compares ls ≡ true
 unfolding starts
-begins_comparison relational.Equal p ws ls r l = first_is compares true (mark_at p (codes "=")) (λ k ks. refl) ws ls r l
-begins_comparison relational.NotEqual p ws ls r l = first_is compares true (mark_at p (codes "/=")) (λ k ks. refl) ws ls r l
-begins_comparison relational.Less p ws ls r l = first_is compares true (mark_at p (codes "<")) (λ k ks. refl) ws ls r l
-begins_comparison relational.LessOrEqual p ws ls r l = first_is compares true (mark_at p (codes "<=")) (λ k ks. refl) ws ls r l
-begins_comparison relational.Greater p ws ls r l = first_is compares true (mark_at p (codes ">")) (λ k ks. refl) ws ls r l
-begins_comparison relational.GreaterOrEqual p ws ls r l = first_is compares true (mark_at p (codes ">=")) (λ k ks. refl) ws ls r l
+begins_comparison relational.Equal p ws ls r l = first_is compares true (delimiter_at p (codes "=")) (λ k ks. refl) ws ls r l
+begins_comparison relational.NotEqual p ws ls r l = first_is compares true (delimiter_at p (codes "/=")) (λ k ks. refl) ws ls r l
+begins_comparison relational.Less p ws ls r l = first_is compares true (delimiter_at p (codes "<")) (λ k ks. refl) ws ls r l
+begins_comparison relational.LessOrEqual p ws ls r l = first_is compares true (delimiter_at p (codes "<=")) (λ k ks. refl) ws ls r l
+begins_comparison relational.Greater p ws ls r l = first_is compares true (delimiter_at p (codes ">")) (λ k ks. refl) ws ls r l
+begins_comparison relational.GreaterOrEqual p ws ls r l = first_is compares true (delimiter_at p (codes ">=")) (λ k ks. refl) ws ls r l
 
 compares_ends : (r : List Lexeme) → compares r ≡ true → ends_sum r ≡ true
 unfolding starts
 compares_ends r e =
     let F = ends_sum r ≡ true in
-    either_true F (sees_mark (codes "=") r) _ e (λ e. seen_mark ends_sum true (codes "=") (λ p ls. refl) r e) (λ e.
-    either_true F (sees_mark (codes "/=") r) _ e (λ e. seen_mark ends_sum true (codes "/=") (λ p ls. refl) r e) (λ e.
-    either_true F (sees_mark (codes "<") r) _ e (λ e. seen_mark ends_sum true (codes "<") (λ p ls. refl) r e) (λ e.
-    either_true F (sees_mark (codes "<=") r) _ e (λ e. seen_mark ends_sum true (codes "<=") (λ p ls. refl) r e) (λ e.
-    either_true F (sees_mark (codes ">") r) _ e (λ e. seen_mark ends_sum true (codes ">") (λ p ls. refl) r e)
-    (λ e. seen_mark ends_sum true (codes ">=") (λ p ls. refl) r e)))))
+    either_true F (sees_delimiter (codes "=") r) _ e (λ e. seen_delimiter ends_sum true (codes "=") (λ p ls. refl) r e) (λ e.
+    either_true F (sees_delimiter (codes "/=") r) _ e (λ e. seen_delimiter ends_sum true (codes "/=") (λ p ls. refl) r e) (λ e.
+    either_true F (sees_delimiter (codes "<") r) _ e (λ e. seen_delimiter ends_sum true (codes "<") (λ p ls. refl) r e) (λ e.
+    either_true F (sees_delimiter (codes "<=") r) _ e (λ e. seen_delimiter ends_sum true (codes "<=") (λ p ls. refl) r e) (λ e.
+    either_true F (sees_delimiter (codes ">") r) _ e (λ e. seen_delimiter ends_sum true (codes ">") (λ p ls. refl) r e)
+    (λ e. seen_delimiter ends_sum true (codes ">=") (λ p ls. refl) r e)))))
 
 module _ (left : ℕ) (inner : Parser Expression) (inside : ReadsInside left inner) where
   -- ("+" | "-") term
-  signed_exact : (sign : Sign) → Rest (λ (x : Place × Expression). formed (form.Signed x.0 sign x.1)) Any (λ x. mark_at x.0 (sign_text sign) ∷ expression_written x.1)
+  signed_exact : (sign : Sign) → Rest (λ (x : Place × Expression). formed (form.Signed x.0 sign x.1)) Any (λ x. delimiter_at x.0 (sign_text sign) ∷ expression_written x.1)
       (λ x. expression_fits x.1 precedence.Multiplying left) ends_term (signed_of left inner sign)
   unfolding signed_of
   signed_exact sign =
       let make : Place × Expression → Expression = λ x. formed (form.Signed x.0 sign x.1) in
-      plain make Any (λ x. expression_written x.1) (λ x. expression_fits x.1 precedence.Multiplying left) ends_term (λ x. x.0) (λ p. mark_at p (sign_text sign) ∷ []) shapeless always (the_mark (sign_text sign)) _
-      (mark_exact (sign_text sign)) (λ p. refl) (λ x ls r p l end. refl)
+      plain make Any (λ x. expression_written x.1) (λ x. expression_fits x.1 precedence.Multiplying left) ends_term (λ x. x.0) (λ p. delimiter_at p (sign_text sign) ∷ []) shapeless always (the_delimiter (sign_text sign)) _
+      (delimiter_exact (sign_text sign)) (λ p. refl) (λ x ls r p l end. refl)
       (λ place. closing make (λ x. Any x × (place ≡ x.0)) ends_term (λ x. x.1) expression_written (λ e. expression_fits e precedence.Multiplying left) (term_of left inner) (λ e. (place, e))
       (term_exact left inner inside) (λ e. (tt, refl)) (λ e. refl) (λ e x p q. rw (p.1, q) refl))
 
@@ -215,15 +215,15 @@ module _ (left : ℕ) (inner : Parser Expression) (inside : ReadsInside left inn
   first_term_sound : Sound formed (form_written expression_written) fits_signed (first_term_of left inner)
   unfolding first_term_of
   first_term_sound =
-      either (sees_mark (codes "+")) (one_form (λ (x : Place × Expression). form.Signed x.0 signs.Plus x.1) (signed_exact signs.Plus) (λ x. refl) (λ x. refl))
-      (either (sees_mark (codes "-")) (one_form (λ (x : Place × Expression). form.Signed x.0 signs.Minus x.1) (signed_exact signs.Minus) (λ x. refl) (λ x. refl))
+      either (sees_delimiter (codes "+")) (one_form (λ (x : Place × Expression). form.Signed x.0 signs.Plus x.1) (signed_exact signs.Plus) (λ x. refl) (λ x. refl))
+      (either (sees_delimiter (codes "-")) (one_form (λ (x : Place × Expression). form.Signed x.0 signs.Minus x.1) (signed_exact signs.Minus) (λ x. refl) (λ x. refl))
       (loosened term_sound (λ f o. looser precedence.Signed precedence.Multiplying left f refl o)))
 
   no_sign : (f : ExpressionForm Expression) (ls r : List Lexeme) → form_fits expression_fits f precedence.Multiplying left ≡ true → Leads (form_written expression_written f) ls r → ends_term r ≡ true
       → first_term_of left inner ls ≡ done (formed f) r
   unfolding first_term_of
   no_sign f ls r o l end =
-      rw (term_first (sees_mark (codes "+")) false plus_first operator_no_plus left f ls r o l, term_first (sees_mark (codes "-")) false minus_first operator_no_minus left f ls r o l)
+      rw (term_first (sees_delimiter (codes "+")) false plus_first operator_no_plus left f ls r o l, term_first (sees_delimiter (codes "-")) false minus_first operator_no_minus left f ls r o l)
       (by_expression precedence.Multiplying left ends_term (term_of left inner) (term_exact left inner inside) f ls r o l end)
 
   first_term_complete : (f : ExpressionForm Expression) (ls r : List Lexeme) → fits_signed f ≡ true → Leads (form_written expression_written f) ls r → ends_term r ≡ true → first_term_of left inner ls ≡ done (formed f) r
@@ -232,9 +232,9 @@ module _ (left : ℕ) (inner : Parser Expression) (inside : ReadsInside left inn
   first_term_complete (form.Relational a place operator b) ls r o l end = absurd (false≢true o)
   first_term_complete (form.Adding first others) ls r o l end = absurd (false≢true o)
   first_term_complete (form.Signed place signs.Plus operand) ls r o l end =
-      rw (sees_mark_at_first (codes "+") place (expression_written operand) ls r l) ((signed_exact signs.Plus).complete (place, operand) ls r tt o l end)
+      rw (sees_delimiter_at_first (codes "+") place (expression_written operand) ls r l) ((signed_exact signs.Plus).complete (place, operand) ls r tt o l end)
   first_term_complete (form.Signed place signs.Minus operand) ls r o l end =
-      rw (first_is (sees_mark (codes "+")) false (mark_at place (codes "-")) (λ k ks. refl) (expression_written operand) ls r l, sees_mark_at_first (codes "-") place (expression_written operand) ls r l)
+      rw (first_is (sees_delimiter (codes "+")) false (delimiter_at place (codes "-")) (λ k ks. refl) (expression_written operand) ls r l, sees_delimiter_at_first (codes "-") place (expression_written operand) ls r l)
       ((signed_exact signs.Minus).complete (place, operand) ls r tt o l end)
   first_term_complete (form.Multiplying first others) ls r o l end = no_sign (form.Multiplying first others) ls r o l end
   first_term_complete (form.Highest place operator operand) ls r o l end = no_sign (form.Highest place operator operand) ls r o l end
@@ -251,7 +251,7 @@ module _ (left : ℕ) (inner : Parser Expression) (inside : ReadsInside left inn
   addend_exact : Exact (addend_written expression_written) (addend_fits expression_fits left) ends_term (addend_of left inner)
   unfolding addend_of
   addend_exact =
-      plain itself Any (λ m. expression_written m.term) (addend_fits expression_fits left) ends_term (λ m. (m.place, m.operator)) adding_mark shapeless always addition_of _
+      plain itself Any (λ m. expression_written m.term) (addend_fits expression_fits left) ends_term (λ m. (m.place, m.operator)) adding_delimiter shapeless always addition_of _
       addition_exact (λ x. refl) (λ m ls r p l end. refl)
       (λ x. closing itself (λ m. Any m × (x ≡ (m.place, m.operator))) ends_term (λ m. m.term) expression_written (λ e. expression_fits e precedence.Multiplying left) (term_of left inner)
       (λ e. record { place = x.0; operator = x.1; term = e }) (term_exact left inner inside) (λ e. (tt, refl)) (λ e. refl) (λ e m p q. rw (p.1, q) refl))
@@ -314,7 +314,7 @@ module _ (left : ℕ) (inner : Parser Expression) (inside : ReadsInside left inn
   Compared = (Place × RelationalOperator) × Expression
 
   abbrev compared_written : Compared → List Written
-  compared_written x = mark_at x.0.0 (relational_text x.0.1) ∷ expression_written x.1
+  compared_written x = delimiter_at x.0.0 (relational_text x.0.1) ∷ expression_written x.1
 
   ends_compared : (r : List Lexeme) → ends_relation r ≡ true → ends_sum r ≡ true
   ends_compared r end = first_true (ends_sum r) (not (compares r)) end
@@ -326,7 +326,7 @@ module _ (left : ℕ) (inner : Parser Expression) (inside : ReadsInside left inn
   unfolding compared_of
   compared_exact first =
       let make : Compared → Expression = λ x. formed (form.Relational first x.0.0 x.0.1 x.1) in
-      plain make Any (λ x. expression_written x.1) (λ x. expression_fits x.1 precedence.Adding left) ends_relation (λ x. x.0) relational_mark shapeless always comparison_of _
+      plain make Any (λ x. expression_written x.1) (λ x. expression_fits x.1 precedence.Adding left) ends_relation (λ x. x.0) relational_delimiter shapeless always comparison_of _
       comparison_exact (λ x. refl) (λ x ls r p l end. refl)
       (λ operator. closing make (λ x. Any x × (operator ≡ x.0)) ends_relation (λ x. x.1) expression_written (λ e. expression_fits e precedence.Adding left) (sum_of left inner) (λ e. (operator, e))
       (narrower itself Any expression_written (λ e. expression_fits e precedence.Adding left) ends_sum ends_relation (sum_of left inner) sum_exact ends_compared)

@@ -17,15 +17,15 @@ use Rattle.ada_tree.specs.declared.expressions.Expression.{Expression}
 use Rattle.ada_tree.specs.declared.expressions.ExpressionForm.{ExpressionForm}
 use Rattle.ada_tree.specs.declared.expressions.ExpressionForm.TheVariants as form
 use Rattle.ada_tree.specs.declared.expressions.Multiplied.{Multiplied}
-use Rattle.ada_tree.specs.Written.{Written, Lexeme, word_at, mark, mark_at, number_at, text_at, identifier_written, one_identifier, each_written, all_written, behind}
+use Rattle.ada_tree.specs.Written.{Written, Lexeme, word_at, delimiter, delimiter_at, number_at, text_at, identifier_written, one_identifier, each_written, all_written, behind}
 use Rattle.ada_tree.specs.SpellingExpressions.{multiplying_written, highest_text, multiplied_written, form_written, expression_written}
 use Rattle.ada_tree.specs.ShapeExpressions.{all_fit, rank, precedence_of, parts_fit, multiplied_fits, form_fits, expression_fits}
-use Rattle.ada_grammar.specs.Reading.{Parser, starts, sees_word, sees_mark, the_word, the_mark, items_of}
-use Rattle.ada_grammar.specs.ReadingExpressions.{formed, multiplies, multiplying_mark_of, multiplying_word_of, multiplication_of, primary_of, highest_of, factor_of, multiplied_of, product_of, term_of}
+use Rattle.ada_grammar.specs.Reading.{Parser, starts, sees_word, sees_delimiter, the_word, the_delimiter, items_of}
+use Rattle.ada_grammar.specs.ReadingExpressions.{formed, multiplies, multiplying_delimiter_of, multiplying_word_of, multiplication_of, primary_of, highest_of, factor_of, multiplied_of, product_of, term_of}
 use Rattle.grammar_laws.specs.Leads.{Leads}
 use Rattle.grammar_laws.proofs.Leading.{leads_through, as_written}
 use Rattle.grammar_laws.proofs.Exact.{done, Rest, Any, itself, Exact, first_true, second_true, both, field, plain, closing, first_is, listed}
-use Rattle.grammar_laws.proofs.Tokens.{always, shapeless, not_true, word_exact, mark_exact, sees_mark_at_first, sees_word_at_first, identifier_no_word, seen_mark, seen_word}
+use Rattle.grammar_laws.proofs.Tokens.{always, shapeless, not_true, word_exact, delimiter_exact, sees_delimiter_at_first, sees_word_at_first, identifier_no_word, seen_delimiter, seen_word}
 use Rattle.grammar_laws.proofs.ReservedWords.{reserved_abs, reserved_not}
 use Rattle.grammar_laws.proofs.Choices.{Sound, either, one_form}
 use Rattle.grammar_laws.proofs.Ends.{ends_designated, ends_term}
@@ -58,7 +58,7 @@ pub record Firsts (test : List Lexeme → Bool) (v : Bool) : Type 0 where
   pub number : (p : Place) (t : List ℕ) (k : Lexeme) (ks : List Lexeme) → test (as_written (number_at p t) k ∷ ks) ≡ v
   pub text : (p : Place) (t : List ℕ) (k : Lexeme) (ks : List Lexeme) → test (as_written (text_at p t) k ∷ ks) ≡ v
   pub null : (p : Place) (k : Lexeme) (ks : List Lexeme) → test (as_written (word_at p (codes "null")) k ∷ ks) ≡ v
-  pub bracket : (p : Place) (k : Lexeme) (ks : List Lexeme) → test (as_written (mark_at p (codes "(")) k ∷ ks) ≡ v
+  pub bracket : (p : Place) (k : Lexeme) (ks : List Lexeme) → test (as_written (delimiter_at p (codes "(")) k ∷ ks) ≡ v
   pub name : (i : Identifier) (ws : List Written) (ls r : List Lexeme) → Leads (identifier_written i ∷ ws) ls r → test ls ≡ v
 
 pub primary_first : (test : List Lexeme → Bool) (v : Bool) → Firsts test v → (left : ℕ) (f : ExpressionForm Expression) (ls r : List Lexeme) → form_fits expression_fits f precedence.Primary left ≡ true
@@ -72,9 +72,9 @@ primary_first test v on left (form.Highest place operator operand) ls r o l = ab
 primary_first test v on left (form.Number place literal) ls r o l = first_is test v (number_at place literal) (on.number place literal) [] ls r l
 primary_first test v on left (form.Text place text) ls r o l = first_is test v (text_at place text) (on.text place text) [] ls r l
 primary_first test v on left (form.Null place) ls r o l = first_is test v (word_at place (codes "null")) (on.null place) [] ls r l
-primary_first test v on left (form.Bracketed place e) ls r o l = first_is test v (mark_at place (codes "(")) (on.bracket place) (expression_written e ++ mark (codes ")") ∷ []) ls r l
+primary_first test v on left (form.Bracketed place e) ls r o l = first_is test v (delimiter_at place (codes "(")) (on.bracket place) (expression_written e ++ delimiter (codes ")") ∷ []) ls r l
 primary_first test v on left (form.Named name attribute arguments) ls r o l =
-    named (each_written (behind (mark (codes ".")) one_identifier) name.parts.others) _ ls r l
+    named (each_written (behind (delimiter (codes ".")) one_identifier) name.parts.others) _ ls r l
   where
     named : (others rest : List Written) (ls r : List Lexeme) → Leads ((identifier_written name.parts.first ∷ others) ++ rest) ls r → test ls ≡ v
     named others rest ls r l = on.name name.parts.first (others ++ rest) ls r l
@@ -104,55 +104,55 @@ factor_first test v on operated left (form.Named name attribute arguments) ls r 
 
 -- ---- multiplying operators (4.5.5)
 
-abbrev pub MultiplyingMark : Type 0
-MultiplyingMark = Place × MultiplyingOperator
+abbrev pub MultiplyingDelimiter : Type 0
+MultiplyingDelimiter = Place × MultiplyingOperator
 
-abbrev pub multiplying_mark : MultiplyingMark → List Written
-multiplying_mark x = multiplying_written x.1 x.0 ∷ []
+abbrev pub multiplying_delimiter : MultiplyingDelimiter → List Written
+multiplying_delimiter x = multiplying_written x.1 x.0 ∷ []
 
-by_mark : (text : List ℕ) (operator : MultiplyingOperator) → Rest (λ (p : Place). (p, operator)) Any (λ p. mark_at p text ∷ []) shapeless always (multiplying_mark_of text operator)
-unfolding multiplying_mark_of
-by_mark text operator = closing (λ (p : Place). (p, operator)) Any always itself (λ p. mark_at p text ∷ []) shapeless (the_mark text) itself (mark_exact text) (λ a. tt) (λ a. refl) (λ a x p e. e)
+by_delimiter : (text : List ℕ) (operator : MultiplyingOperator) → Rest (λ (p : Place). (p, operator)) Any (λ p. delimiter_at p text ∷ []) shapeless always (multiplying_delimiter_of text operator)
+unfolding multiplying_delimiter_of
+by_delimiter text operator = closing (λ (p : Place). (p, operator)) Any always itself (λ p. delimiter_at p text ∷ []) shapeless (the_delimiter text) itself (delimiter_exact text) (λ a. tt) (λ a. refl) (λ a x p e. e)
 
 by_word : (text : List ℕ) (operator : MultiplyingOperator) → Rest (λ (p : Place). (p, operator)) Any (λ p. word_at p text ∷ []) shapeless always (multiplying_word_of text operator)
 unfolding multiplying_word_of
 by_word text operator = closing (λ (p : Place). (p, operator)) Any always itself (λ p. word_at p text ∷ []) shapeless (the_word text) itself (word_exact text) (λ a. tt) (λ a. refl) (λ a x p e. e)
 
-multiplication_sound : Sound itself multiplying_mark shapeless multiplication_of
+multiplication_sound : Sound itself multiplying_delimiter shapeless multiplication_of
 unfolding multiplication_of
 multiplication_sound =
-    either (sees_mark (codes "*")) (one_form (λ p. (p, multiplying.Times)) (by_mark (codes "*") multiplying.Times) (λ p. refl) (λ p. refl))
-    (either (sees_mark (codes "/")) (one_form (λ p. (p, multiplying.Divide)) (by_mark (codes "/") multiplying.Divide) (λ p. refl) (λ p. refl))
+    either (sees_delimiter (codes "*")) (one_form (λ p. (p, multiplying.Times)) (by_delimiter (codes "*") multiplying.Times) (λ p. refl) (λ p. refl))
+    (either (sees_delimiter (codes "/")) (one_form (λ p. (p, multiplying.Divide)) (by_delimiter (codes "/") multiplying.Divide) (λ p. refl) (λ p. refl))
     (either (sees_word (codes "mod")) (one_form (λ p. (p, multiplying.Modulus)) (by_word (codes "mod") multiplying.Modulus) (λ p. refl) (λ p. refl))
     (one_form (λ p. (p, multiplying.Remainder)) (by_word (codes "rem") multiplying.Remainder) (λ p. refl) (λ p. refl))))
 
 multiplication_complete : (operator : MultiplyingOperator) (p : Place) (ls r : List Lexeme) → Leads (multiplying_written operator p ∷ []) ls r → multiplication_of ls ≡ done (p, operator) r
 unfolding multiplication_of starts
-multiplication_complete multiplying.Times p ls r l = rw (sees_mark_at_first (codes "*") p [] ls r l) ((by_mark (codes "*") multiplying.Times).complete p ls r tt refl l refl)
+multiplication_complete multiplying.Times p ls r l = rw (sees_delimiter_at_first (codes "*") p [] ls r l) ((by_delimiter (codes "*") multiplying.Times).complete p ls r tt refl l refl)
 multiplication_complete multiplying.Divide p ls r l =
-    rw (first_is (sees_mark (codes "*")) false (mark_at p (codes "/")) (λ k ks. refl) [] ls r l, sees_mark_at_first (codes "/") p [] ls r l) ((by_mark (codes "/") multiplying.Divide).complete p ls r tt refl l refl)
+    rw (first_is (sees_delimiter (codes "*")) false (delimiter_at p (codes "/")) (λ k ks. refl) [] ls r l, sees_delimiter_at_first (codes "/") p [] ls r l) ((by_delimiter (codes "/") multiplying.Divide).complete p ls r tt refl l refl)
 multiplication_complete multiplying.Modulus p ls r l =
     rw (
-      first_is (sees_mark (codes "*")) false (word_at p (codes "mod")) (λ k ks. refl) [] ls r l,
-      first_is (sees_mark (codes "/")) false (word_at p (codes "mod")) (λ k ks. refl) [] ls r l,
+      first_is (sees_delimiter (codes "*")) false (word_at p (codes "mod")) (λ k ks. refl) [] ls r l,
+      first_is (sees_delimiter (codes "/")) false (word_at p (codes "mod")) (λ k ks. refl) [] ls r l,
       sees_word_at_first (codes "mod") p [] ls r l,
     ) ((by_word (codes "mod") multiplying.Modulus).complete p ls r tt refl l refl)
 multiplication_complete multiplying.Remainder p ls r l =
     rw (
-      first_is (sees_mark (codes "*")) false (word_at p (codes "rem")) (λ k ks. refl) [] ls r l,
-      first_is (sees_mark (codes "/")) false (word_at p (codes "rem")) (λ k ks. refl) [] ls r l,
+      first_is (sees_delimiter (codes "*")) false (word_at p (codes "rem")) (λ k ks. refl) [] ls r l,
+      first_is (sees_delimiter (codes "/")) false (word_at p (codes "rem")) (λ k ks. refl) [] ls r l,
       first_is (sees_word (codes "mod")) false (word_at p (codes "rem")) (λ k ks. refl) [] ls r l,
     ) ((by_word (codes "rem") multiplying.Remainder).complete p ls r tt refl l refl)
 
-multiplication_exact : Exact multiplying_mark shapeless always multiplication_of
+multiplication_exact : Exact multiplying_delimiter shapeless always multiplication_of
 multiplication_exact = record { sound = multiplication_sound.by; complete = λ x ls r q o l end. multiplication_complete x.1 x.0 ls r l }
 
 multiplying_first : (test : List Lexeme → Bool) (v : Bool)
-    → ((p : Place) (k : Lexeme) (ks : List Lexeme) → test (as_written (mark_at p (codes "*")) k ∷ ks) ≡ v) → ((p : Place) (k : Lexeme) (ks : List Lexeme) → test (as_written (mark_at p (codes "/")) k ∷ ks) ≡ v)
+    → ((p : Place) (k : Lexeme) (ks : List Lexeme) → test (as_written (delimiter_at p (codes "*")) k ∷ ks) ≡ v) → ((p : Place) (k : Lexeme) (ks : List Lexeme) → test (as_written (delimiter_at p (codes "/")) k ∷ ks) ≡ v)
     → ((p : Place) (k : Lexeme) (ks : List Lexeme) → test (as_written (word_at p (codes "mod")) k ∷ ks) ≡ v) → ((p : Place) (k : Lexeme) (ks : List Lexeme) → test (as_written (word_at p (codes "rem")) k ∷ ks) ≡ v)
     → (operator : MultiplyingOperator) (p : Place) (ws : List Written) (ls r : List Lexeme) → Leads (multiplying_written operator p ∷ ws) ls r → test ls ≡ v
-multiplying_first test v a b c d multiplying.Times p ws ls r l = first_is test v (mark_at p (codes "*")) (a p) ws ls r l
-multiplying_first test v a b c d multiplying.Divide p ws ls r l = first_is test v (mark_at p (codes "/")) (b p) ws ls r l
+multiplying_first test v a b c d multiplying.Times p ws ls r l = first_is test v (delimiter_at p (codes "*")) (a p) ws ls r l
+multiplying_first test v a b c d multiplying.Divide p ws ls r l = first_is test v (delimiter_at p (codes "/")) (b p) ws ls r l
 multiplying_first test v a b c d multiplying.Modulus p ws ls r l = first_is test v (word_at p (codes "mod")) (c p) ws ls r l
 multiplying_first test v a b c d multiplying.Remainder p ws ls r l = first_is test v (word_at p (codes "rem")) (d p) ws ls r l
 
@@ -165,8 +165,8 @@ multiplies_ends : (r : List Lexeme) → multiplies r ≡ true → ends_designate
 unfolding starts
 multiplies_ends r e =
     let F = ends_designated r ≡ true in
-    either_true F (sees_mark (codes "*") r) _ e (λ e. seen_mark ends_designated true (codes "*") (λ p ls. refl) r e) (λ e.
-    either_true F (sees_mark (codes "/") r) _ e (λ e. seen_mark ends_designated true (codes "/") (λ p ls. refl) r e) (λ e.
+    either_true F (sees_delimiter (codes "*") r) _ e (λ e. seen_delimiter ends_designated true (codes "*") (λ p ls. refl) r e) (λ e.
+    either_true F (sees_delimiter (codes "/") r) _ e (λ e. seen_delimiter ends_designated true (codes "/") (λ p ls. refl) r e) (λ e.
     either_true F (sees_word (codes "mod") r) _ e (λ e. seen_word ends_designated true (codes "mod") (λ p ls. refl) r e)
     (λ e. seen_word ends_designated true (codes "rem") (λ p ls. refl) r e)))
 
@@ -224,7 +224,7 @@ module _ (left : ℕ) (inner : Parser Expression) (inside : ReadsInside left inn
   multiplied_exact : Exact (multiplied_written expression_written) (multiplied_fits expression_fits left) ends_designated (multiplied_of left inner)
   unfolding multiplied_of
   multiplied_exact =
-      plain itself Any (λ m. expression_written m.factor) (multiplied_fits expression_fits left) ends_designated (λ m. (m.place, m.operator)) multiplying_mark shapeless always multiplication_of _
+      plain itself Any (λ m. expression_written m.factor) (multiplied_fits expression_fits left) ends_designated (λ m. (m.place, m.operator)) multiplying_delimiter shapeless always multiplication_of _
       multiplication_exact (λ x. refl) (λ m ls r p l end. refl)
       (λ x. closing itself (λ m. Any m × (x ≡ (m.place, m.operator))) ends_designated (λ m. m.factor) expression_written (λ e. expression_fits e precedence.Highest left) (factor_of left inner)
       (λ e. record { place = x.0; operator = x.1; factor = e }) factor_exact (λ e. (tt, refl)) (λ e. refl) (λ e m p q. rw (p.1, q) refl))

@@ -9,9 +9,9 @@ use Rattle.ada_lex.specs.declared.tokens.Kind.{Kind}
 use Rattle.ada_lex.specs.declared.tokens.Kind.TheVariants as kinds
 use Rattle.ada_lex.specs.Reserved.{is_reserved}
 use Rattle.ada_tree.specs.declared.names.Identifier.{Identifier}
-use Rattle.ada_tree.specs.Written.{Written, Lexeme, Spells, word, word_at, mark, mark_at, number_at, text_at, identifier_written, one_identifier, flag}
+use Rattle.ada_tree.specs.Written.{Written, Lexeme, Spells, word, word_at, delimiter, delimiter_at, number_at, text_at, identifier_written, one_identifier, flag}
 use Rattle.ada_grammar.specs.declared.stuck.Stuck.TheVariants as stuck
-use Rattle.ada_grammar.specs.Reading.{Read, Parser, and_then, ◌>>=◌, pure, choose, is_word, is_number, is_text, is_mark, is_this_word, is_this_mark, is_identifier, is_numeral, is_string, starts, token, sees_word, sees_mark, sees_identifier, the_word, the_mark, an_identifier, a_number, a_text, flag_of}
+use Rattle.ada_grammar.specs.Reading.{Read, Parser, and_then, ◌>>=◌, pure, choose, is_word, is_number, is_text, is_delimiter, is_this_word, is_this_delimiter, is_identifier, is_numeral, is_string, starts, token, sees_word, sees_delimiter, sees_identifier, the_word, the_delimiter, an_identifier, a_number, a_text, flag_of}
 use Rattle.grammar_laws.specs.Leads.{Leads}
 use Rattle.grammar_laws.proofs.Leading.{spelt_is}
 use Rattle.grammar_laws.proofs.Exact.{done, pair_of, parts, Found, Rest, Any, itself, Exact, first_true, second_true, fixed}
@@ -22,25 +22,25 @@ word_kind : (kind : Kind) → is_word kind ≡ true → kind ≡ kinds.Word
 word_kind kinds.Word e = refl
 word_kind kinds.Number e = absurd (false≢true e)
 word_kind kinds.Text e = absurd (false≢true e)
-word_kind kinds.Mark e = absurd (false≢true e)
+word_kind kinds.Delimiter e = absurd (false≢true e)
 
 number_kind : (kind : Kind) → is_number kind ≡ true → kind ≡ kinds.Number
 number_kind kinds.Word e = absurd (false≢true e)
 number_kind kinds.Number e = refl
 number_kind kinds.Text e = absurd (false≢true e)
-number_kind kinds.Mark e = absurd (false≢true e)
+number_kind kinds.Delimiter e = absurd (false≢true e)
 
 text_kind : (kind : Kind) → is_text kind ≡ true → kind ≡ kinds.Text
 text_kind kinds.Word e = absurd (false≢true e)
 text_kind kinds.Number e = absurd (false≢true e)
 text_kind kinds.Text e = refl
-text_kind kinds.Mark e = absurd (false≢true e)
+text_kind kinds.Delimiter e = absurd (false≢true e)
 
-mark_kind : (kind : Kind) → is_mark kind ≡ true → kind ≡ kinds.Mark
-mark_kind kinds.Word e = absurd (false≢true e)
-mark_kind kinds.Number e = absurd (false≢true e)
-mark_kind kinds.Text e = absurd (false≢true e)
-mark_kind kinds.Mark e = refl
+delimiter_kind : (kind : Kind) → is_delimiter kind ≡ true → kind ≡ kinds.Delimiter
+delimiter_kind kinds.Word e = absurd (false≢true e)
+delimiter_kind kinds.Number e = absurd (false≢true e)
+delimiter_kind kinds.Text e = absurd (false≢true e)
+delimiter_kind kinds.Delimiter e = refl
 
 pub not_true : (p : Bool) → not p ≡ true → p ≡ false
 not_true true e = absurd (false≢true e)
@@ -103,7 +103,7 @@ token_exact {A} test value wa spells reads = record {
     from a [] r l = absurd l
     from a (l ∷ ls) r s = let is = reads a l s.0 in rw (is.0, is.1, s.1) refl
 
--- ---- words and marks
+-- ---- words and delimiters
 
 word_spelt : (text : List ℕ) (l : Lexeme) → is_this_word text l ≡ true → Spells (word_at l.place text) l
 word_spelt text l e = record {
@@ -116,16 +116,16 @@ word_spelt text l e = record {
 word_is : (text : List ℕ) (p : Place) (l : Lexeme) → Spells (word_at p text) l → (is_this_word text l ≡ true) × (l.place ≡ p)
 word_is text p l s = (rw (← s.kind, ← s.text) (text_same text), sym s.place)
 
-mark_spelt : (text : List ℕ) (l : Lexeme) → is_this_mark text l ≡ true → Spells (mark_at l.place text) l
-mark_spelt text l e = record {
-  kind = sym (mark_kind l.kind (first_true (is_mark l.kind) (bytes_eq l.text text) e));
-  text = sym (same_text l.text text (second_true (is_mark l.kind) (bytes_eq l.text text) e));
+delimiter_spelt : (text : List ℕ) (l : Lexeme) → is_this_delimiter text l ≡ true → Spells (delimiter_at l.place text) l
+delimiter_spelt text l e = record {
+  kind = sym (delimiter_kind l.kind (first_true (is_delimiter l.kind) (bytes_eq l.text text) e));
+  text = sym (same_text l.text text (second_true (is_delimiter l.kind) (bytes_eq l.text text) e));
   identifier = tt;
   place = refl;
 }
 
-mark_is : (text : List ℕ) (p : Place) (l : Lexeme) → Spells (mark_at p text) l → (is_this_mark text l ≡ true) × (l.place ≡ p)
-mark_is text p l s = (rw (← s.kind, ← s.text) (text_same text), sym s.place)
+delimiter_is : (text : List ℕ) (p : Place) (l : Lexeme) → Spells (delimiter_at p text) l → (is_this_delimiter text l ≡ true) × (l.place ≡ p)
+delimiter_is text p l s = (rw (← s.kind, ← s.text) (text_same text), sym s.place)
 
 place_of : Lexeme → Place
 place_of l = l.place
@@ -134,9 +134,9 @@ pub word_exact : (text : List ℕ) → Exact (λ p. word_at p text ∷ []) shape
 unfolding the_word
 word_exact text = token_exact (is_this_word text) (λ l. l.place) (λ p. word_at p text) (word_spelt text) (word_is text)
 
-pub mark_exact : (text : List ℕ) → Exact (λ p. mark_at p text ∷ []) shapeless always (the_mark text)
-unfolding the_mark
-mark_exact text = token_exact (is_this_mark text) (λ l. l.place) (λ p. mark_at p text) (mark_spelt text) (mark_is text)
+pub delimiter_exact : (text : List ℕ) → Exact (λ p. delimiter_at p text ∷ []) shapeless always (the_delimiter text)
+unfolding the_delimiter
+delimiter_exact text = token_exact (is_this_delimiter text) (λ l. l.place) (λ p. delimiter_at p text) (delimiter_spelt text) (delimiter_is text)
 
 -- ---- without their places
 
@@ -144,32 +144,32 @@ unplaced_word : (text : List ℕ) (p : Place) (ls r : List Lexeme) → Leads (wo
 unplaced_word text p [] r l = l
 unplaced_word text p (l ∷ ls) r s = (record { kind = s.0.kind; text = s.0.text; identifier = tt; place = tt }, s.1)
 
-unplaced_mark : (text : List ℕ) (p : Place) (ls r : List Lexeme) → Leads (mark_at p text ∷ []) ls r → Leads (mark text ∷ []) ls r
-unplaced_mark text p [] r l = l
-unplaced_mark text p (l ∷ ls) r s = (record { kind = s.0.kind; text = s.0.text; identifier = tt; place = tt }, s.1)
+unplaced_delimiter : (text : List ℕ) (p : Place) (ls r : List Lexeme) → Leads (delimiter_at p text ∷ []) ls r → Leads (delimiter text ∷ []) ls r
+unplaced_delimiter text p [] r l = l
+unplaced_delimiter text p (l ∷ ls) r s = (record { kind = s.0.kind; text = s.0.text; identifier = tt; place = tt }, s.1)
 
 word_there : (text : List ℕ) (l : Lexeme) (ls : List Lexeme) → Spells (word text) l → (p : Place) × (the_word text (l ∷ ls) ≡ done p ls)
 word_there text l ls s =
     (l.place, (word_exact text).complete l.place (l ∷ ls) ls tt refl (record { kind = s.kind; text = s.text; identifier = tt; place = refl }, refl) refl)
 
-mark_there : (text : List ℕ) (l : Lexeme) (ls : List Lexeme) → Spells (mark text) l → (p : Place) × (the_mark text (l ∷ ls) ≡ done p ls)
-mark_there text l ls s =
-    (l.place, (mark_exact text).complete l.place (l ∷ ls) ls tt refl (record { kind = s.kind; text = s.text; identifier = tt; place = refl }, refl) refl)
+delimiter_there : (text : List ℕ) (l : Lexeme) (ls : List Lexeme) → Spells (delimiter text) l → (p : Place) × (the_delimiter text (l ∷ ls) ≡ done p ls)
+delimiter_there text l ls s =
+    (l.place, (delimiter_exact text).complete l.place (l ∷ ls) ls tt refl (record { kind = s.kind; text = s.text; identifier = tt; place = refl }, refl) refl)
 
 word_was : (text : List ℕ) (ls : List Lexeme) (p : Place) (r : List Lexeme) → the_word text ls ≡ done p r → Leads (word text ∷ []) ls r
 word_was text ls p r e = let f = (word_exact text).sound ls p r e in unplaced_word text f.item ls r f.leads
 
-mark_was : (text : List ℕ) (ls : List Lexeme) (p : Place) (r : List Lexeme) → the_mark text ls ≡ done p r → Leads (mark text ∷ []) ls r
-mark_was text ls p r e = let f = (mark_exact text).sound ls p r e in unplaced_mark text f.item ls r f.leads
+delimiter_was : (text : List ℕ) (ls : List Lexeme) (p : Place) (r : List Lexeme) → the_delimiter text ls ≡ done p r → Leads (delimiter text ∷ []) ls r
+delimiter_was text ls p r e = let f = (delimiter_exact text).sound ls p r e in unplaced_delimiter text f.item ls r f.leads
 
--- a word, or a mark, of which the item keeps nothing, and what is read behind it
+-- a word, or a delimiter, of which the item keeps nothing, and what is read behind it
 pub word_then : {X I : Type 0} (make : I → X) (P : I → Type 0) (w : I → List Written) (ok : I → Bool) (ends : List Lexeme → Bool) (text : List ℕ) (k : Parser X)
     → Rest make P w ok ends k → Rest make P (λ i. word text ∷ w i) ok ends (the_word text >>= (λ a. k))
 word_then make P w ok ends text k more = fixed make P w ok ends (word text) (the_word text) k (word_was text) (word_there text) more
 
-pub mark_then : {X I : Type 0} (make : I → X) (P : I → Type 0) (w : I → List Written) (ok : I → Bool) (ends : List Lexeme → Bool) (text : List ℕ) (k : Parser X)
-    → Rest make P w ok ends k → Rest make P (λ i. mark text ∷ w i) ok ends (the_mark text >>= (λ a. k))
-mark_then make P w ok ends text k more = fixed make P w ok ends (mark text) (the_mark text) k (mark_was text) (mark_there text) more
+pub delimiter_then : {X I : Type 0} (make : I → X) (P : I → Type 0) (w : I → List Written) (ok : I → Bool) (ends : List Lexeme → Bool) (text : List ℕ) (k : Parser X)
+    → Rest make P w ok ends k → Rest make P (λ i. delimiter text ∷ w i) ok ends (the_delimiter text >>= (λ a. k))
+delimiter_then make P w ok ends text k more = fixed make P w ok ends (delimiter text) (the_delimiter text) k (delimiter_was text) (delimiter_there text) more
 
 -- ---- identifiers, numbers, texts
 
@@ -213,18 +213,18 @@ text_exact = token_exact is_string (λ l. (l.place, l.text)) (λ a. text_at a.0 
 pub identifier_seen : (i : Identifier) (l : Lexeme) → Spells (identifier_written i) l → is_identifier l ≡ true
 identifier_seen i l s = (identifier_is i l s).0
 
-pub mark_seen : (text : List ℕ) (l : Lexeme) → Spells (mark text) l → is_this_mark text l ≡ true
-mark_seen text l s = rw (← s.kind, ← s.text) (text_same text)
+pub delimiter_seen : (text : List ℕ) (l : Lexeme) → Spells (delimiter text) l → is_this_delimiter text l ≡ true
+delimiter_seen text l s = rw (← s.kind, ← s.text) (text_same text)
 
-pub sees_mark_first : (text : List ℕ) (ws : List Written) (ls r : List Lexeme) → Leads (mark text ∷ ws) ls r → sees_mark text ls ≡ true
+pub sees_delimiter_first : (text : List ℕ) (ws : List Written) (ls r : List Lexeme) → Leads (delimiter text ∷ ws) ls r → sees_delimiter text ls ≡ true
 unfolding starts
-sees_mark_first text ws [] r l = absurd l
-sees_mark_first text ws (l ∷ ls) r s = rw (← s.0.kind, ← s.0.text) (text_same text)
+sees_delimiter_first text ws [] r l = absurd l
+sees_delimiter_first text ws (l ∷ ls) r s = rw (← s.0.kind, ← s.0.text) (text_same text)
 
-pub sees_mark_at_first : (text : List ℕ) (p : Place) (ws : List Written) (ls r : List Lexeme) → Leads (mark_at p text ∷ ws) ls r → sees_mark text ls ≡ true
+pub sees_delimiter_at_first : (text : List ℕ) (p : Place) (ws : List Written) (ls r : List Lexeme) → Leads (delimiter_at p text ∷ ws) ls r → sees_delimiter text ls ≡ true
 unfolding starts
-sees_mark_at_first text p ws [] r l = absurd l
-sees_mark_at_first text p ws (l ∷ ls) r s = rw (← s.0.kind, ← s.0.text) (text_same text)
+sees_delimiter_at_first text p ws [] r l = absurd l
+sees_delimiter_at_first text p ws (l ∷ ls) r s = rw (← s.0.kind, ← s.0.text) (text_same text)
 
 pub sees_word_first : (text : List ℕ) (ws : List Written) (ls r : List Lexeme) → Leads (word text ∷ ws) ls r → sees_word text ls ≡ true
 unfolding starts
@@ -256,11 +256,11 @@ identifier_no_word text reserved i ws (l ∷ ls) r s = by_test (bytes_eq l.text 
     by_test true e = absurd (false≢true (sym s.0.identifier ∙ (ap is_reserved (same_text l.text text e) ∙ reserved)))
 
 -- a token that was seen, so another test of it computes
-pub seen_mark : (test : List Lexeme → Bool) (v : Bool) (text : List ℕ) → ((p : Place) (ls : List Lexeme) → test (record { kind = kinds.Mark; text = text; place = p } ∷ ls) ≡ v)
-    → (ls : List Lexeme) → sees_mark text ls ≡ true → test ls ≡ v
+pub seen_delimiter : (test : List Lexeme → Bool) (v : Bool) (text : List ℕ) → ((p : Place) (ls : List Lexeme) → test (record { kind = kinds.Delimiter; text = text; place = p } ∷ ls) ≡ v)
+    → (ls : List Lexeme) → sees_delimiter text ls ≡ true → test ls ≡ v
 unfolding starts
-seen_mark test v text on [] e = absurd (false≢true e)
-seen_mark test v text on (l ∷ ls) e = subst (λ (z : Lexeme). test (z ∷ ls) ≡ v) (spelt_is (mark_at l.place text) l (mark_spelt text l e)) (on l.place ls)
+seen_delimiter test v text on [] e = absurd (false≢true e)
+seen_delimiter test v text on (l ∷ ls) e = subst (λ (z : Lexeme). test (z ∷ ls) ≡ v) (spelt_is (delimiter_at l.place text) l (delimiter_spelt text l e)) (on l.place ls)
 
 pub seen_word : (test : List Lexeme → Bool) (v : Bool) (text : List ℕ) → ((p : Place) (ls : List Lexeme) → test (record { kind = kinds.Word; text = text; place = p } ∷ ls) ≡ v)
     → (ls : List Lexeme) → sees_word text ls ≡ true → test ls ≡ v

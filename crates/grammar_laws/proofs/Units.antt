@@ -22,7 +22,7 @@ use Rattle.ada_tree.specs.declared.units.PackageDeclaration.{PackageDeclaration}
 use Rattle.ada_tree.specs.declared.units.PackageBody.{PackageBody}
 use Rattle.ada_tree.specs.declared.units.MainProcedure.{MainProcedure}
 use Rattle.ada_tree.specs.declared.units.Unit.{Unit as Tree}
-use Rattle.ada_tree.specs.Written.{Written, Lexeme, word, word_at, mark, identifier_written, each_written, separated, optional, name_written, end_name_written}
+use Rattle.ada_tree.specs.Written.{Written, Lexeme, word, word_at, delimiter, identifier_written, each_written, separated, optional, name_written, end_name_written}
 use Rattle.ada_tree.specs.SpellingExpressions.{expression_written, argument_written}
 use Rattle.ada_tree.specs.SpellingStatements.{semicolon}
 use Rattle.ada_tree.specs.SpellingDeclarations.{body_written, aspects_written}
@@ -30,7 +30,7 @@ use Rattle.ada_tree.specs.Spelling.{sequence_written, pragma_written, clause_tex
 use Rattle.ada_tree.specs.ShapeExpressions.{within, all_fit, optional_fits, argument_fits, expression_fits}
 use Rattle.ada_tree.specs.ShapeDeclarations.{aspects_fit, body_fits}
 use Rattle.ada_tree.specs.Shape.{sequence_fits, pragma_fits, declarations_fit, package_declaration_fits, package_statements_fit, package_parts_fit, package_fits, library_package_fits, main_fits, unit_fits}
-use Rattle.ada_grammar.specs.Reading.{Read, and_then, ◌>>=◌, pure, choose, starts, sees_word, sees_mark, the_word, the_mark, below, items_of, separated_of, names_of, end_name_of}
+use Rattle.ada_grammar.specs.Reading.{Read, and_then, ◌>>=◌, pure, choose, starts, sees_word, sees_delimiter, the_word, the_delimiter, below, items_of, separated_of, names_of, end_name_of}
 use Rattle.ada_grammar.specs.ReadingExpressions.{inner_of, argument_of}
 use Rattle.ada_grammar.specs.ReadingStatements.{begins_statement}
 use Rattle.ada_grammar.specs.ReadingDeclarations.{aspects_of}
@@ -40,9 +40,9 @@ use Rattle.ada_grammar.specs.ReadingUnits.{declarations_at, pragma_of, with_of, 
 use Rattle.grammar_laws.specs.Leads.{Leads}
 use Rattle.grammar_laws.proofs.Leading.{leads_both, leads_through, leads_length}
 use Rattle.grammar_laws.proofs.Exact.{done, pair_of, parts, Rest, Any, itself, Exact, first_true, second_true, both, ready, field, plain, last, narrower, reshaped, respelt_where, closing, first_is, first_optional, first_each, optionally, listed}
-use Rattle.grammar_laws.proofs.Tokens.{always, shapeless, all_shapeless, not_true, not_word, word_exact, word_then, sees_mark_first, sees_word_first, sees_word_at_first, identifier_no_word, seen_mark, seen_word}
+use Rattle.grammar_laws.proofs.Tokens.{always, shapeless, all_shapeless, not_true, not_word, word_exact, word_then, sees_delimiter_first, sees_word_first, sees_word_at_first, identifier_no_word, seen_delimiter, seen_word}
 use Rattle.grammar_laws.proofs.ReservedWords.{reserved_body}
-use Rattle.grammar_laws.proofs.Names.{not_mark, separated_exact, names_exact, ends_names}
+use Rattle.grammar_laws.proofs.Names.{not_delimiter, separated_exact, names_exact, ends_names}
 use Rattle.grammar_laws.proofs.Choices.{Sound, either, one_form, opened_plain}
 use Rattle.grammar_laws.proofs.Ends.{ends_sequence}
 use Rattle.grammar_laws.proofs.Primaries.{ends_argument}
@@ -50,23 +50,23 @@ use Rattle.grammar_laws.proofs.Expressions.{argument_exact_at}
 use Rattle.grammar_laws.proofs.ClausesEnds.{ends_aspects}
 use Rattle.grammar_laws.proofs.ClausesSteps.{end_name_exact, forked}
 use Rattle.grammar_laws.proofs.ClausesSpecifications.{aspects_exact}
-use Rattle.grammar_laws.proofs.StatementsSteps.{placed, named, worded, marked}
+use Rattle.grammar_laws.proofs.StatementsSteps.{placed, named, worded, delimited}
 use Rattle.grammar_laws.proofs.Bodies.{opened_is, body_exact}
 use Rattle.grammar_laws.proofs.Sequences.{ends_declarations, declarations_exact, sequence_exact, inside_exact}
 
 -- ---- pragmas (2.8)
 
-closes_arguments : (r : List Lexeme) → sees_mark (codes ")") r ≡ true → ends_argument r ≡ true
+closes_arguments : (r : List Lexeme) → sees_delimiter (codes ")") r ≡ true → ends_argument r ≡ true
 unfolding starts
-closes_arguments r e = seen_mark ends_argument true (codes ")") (λ p ls. refl) r e
+closes_arguments r e = seen_delimiter ends_argument true (codes ")") (λ p ls. refl) r e
 
-more_arguments : (r : List Lexeme) → sees_mark (codes ",") r ≡ true → ends_argument r ≡ true
+more_arguments : (r : List Lexeme) → sees_delimiter (codes ",") r ≡ true → ends_argument r ≡ true
 unfolding starts
-more_arguments r e = seen_mark ends_argument true (codes ",") (λ p ls. refl) r e
+more_arguments r e = seen_delimiter ends_argument true (codes ",") (λ p ls. refl) r e
 
-no_more : (r : List Lexeme) → sees_mark (codes ")") r ≡ true → sees_mark (codes ",") r ≡ false
+no_more : (r : List Lexeme) → sees_delimiter (codes ")") r ≡ true → sees_delimiter (codes ",") r ≡ false
 unfolding starts
-no_more r e = seen_mark (sees_mark (codes ",")) false (codes ")") (λ p ls. refl) r e
+no_more r e = seen_delimiter (sees_delimiter (codes ",")) false (codes ")") (λ p ls. refl) r e
 
 one_level : (n m : ℕ) → suc n ≡ suc m → n ≡ m
 one_level n m e = omega (arith, e)
@@ -77,24 +77,24 @@ argument_w a = argument_written expression_written a
 abbrev argument_f : ℕ → Argument Expression → Bool
 argument_f m a = argument_fits expression_fits m a
 
-arguments_at : (left m : ℕ) → left ≡ suc m → Exact (separated (mark (codes ",")) argument_w) (all_fit (argument_f m)) (sees_mark (codes ")")) (separated_of (codes ",") (argument_of left (inner_of left)))
+arguments_at : (left m : ℕ) → left ≡ suc m → Exact (separated (delimiter (codes ",")) argument_w) (all_fit (argument_f m)) (sees_delimiter (codes ")")) (separated_of (codes ",") (argument_of left (inner_of left)))
 arguments_at zero m e = absurd cc
 arguments_at (suc n) m e =
-    subst (λ (k : ℕ). Exact (separated (mark (codes ",")) argument_w) (all_fit (argument_f k)) (sees_mark (codes ")")) (separated_of (codes ",") (argument_of (suc n) (inner_of (suc n))))) (one_level n m e)
-    (separated_exact (codes ",") argument_w (argument_f n) ends_argument (sees_mark (codes ")")) (argument_of (suc n) (inner_of (suc n))) (argument_exact_at n) more_arguments closes_arguments no_more)
+    subst (λ (k : ℕ). Exact (separated (delimiter (codes ",")) argument_w) (all_fit (argument_f k)) (sees_delimiter (codes ")")) (separated_of (codes ",") (argument_of (suc n) (inner_of (suc n))))) (one_level n m e)
+    (separated_exact (codes ",") argument_w (argument_f n) ends_argument (sees_delimiter (codes ")")) (argument_of (suc n) (inner_of (suc n))) (argument_exact_at n) more_arguments closes_arguments no_more)
 
 pragma_exact : (left : ℕ) → Exact pragma_written (pragma_fits left) always (pragma_of left)
 unfolding pragma_of
 pragma_exact left =
     placed (λ p. p.place) (codes "pragma") (λ place. named (λ p. p.name) (λ name.
-    opened_plain left itself (λ p. (Any p × (place ≡ p.place)) × (name ≡ p.name)) (λ p. separated (mark (codes ",")) argument_w p.arguments ++ mark (codes ")") ∷ semicolon) (λ p n. all_fit (argument_f n) p.arguments) always _
-    (λ m e. last itself (λ p. (Any p × (place ≡ p.place)) × (name ≡ p.name)) (λ p. mark (codes ")") ∷ semicolon) always (λ p. p.arguments) (separated (mark (codes ",")) argument_w) (all_fit (argument_f m)) (sees_mark (codes ")"))
-    (separated_of (codes ",") (argument_of left (inner_of left))) _ (arguments_at left m e) (λ p ls r known l end. sees_mark_first (codes ")") semicolon ls r l)
-    (λ arguments. marked (codes ")") (marked (codes ";")
+    opened_plain left itself (λ p. (Any p × (place ≡ p.place)) × (name ≡ p.name)) (λ p. separated (delimiter (codes ",")) argument_w p.arguments ++ delimiter (codes ")") ∷ semicolon) (λ p n. all_fit (argument_f n) p.arguments) always _
+    (λ m e. last itself (λ p. (Any p × (place ≡ p.place)) × (name ≡ p.name)) (λ p. delimiter (codes ")") ∷ semicolon) always (λ p. p.arguments) (separated (delimiter (codes ",")) argument_w) (all_fit (argument_f m)) (sees_delimiter (codes ")"))
+    (separated_of (codes ",") (argument_of left (inner_of left))) _ (arguments_at left m e) (λ p ls r known l end. sees_delimiter_first (codes ")") semicolon ls r l)
+    (λ arguments. delimited (codes ")") (delimited (codes ";")
     (ready itself (λ p. ((Any p × (place ≡ p.place)) × (name ≡ p.name)) × (arguments ≡ p.arguments)) always (record { place = place; name = name; arguments = arguments }) (((tt, refl), refl), refl) (λ p k. rw (k.0.0.1, k.0.1, k.1) refl)))))))
 
 pragma_begins : (p : Pragma) (ls r : List Lexeme) → Leads (pragma_written p) ls r → sees_word (codes "pragma") ls ≡ true
-pragma_begins p ls r l = sees_word_at_first (codes "pragma") p.place (identifier_written p.name ∷ mark (codes "(") ∷ (separated (mark (codes ",")) argument_w p.arguments ++ mark (codes ")") ∷ semicolon)) ls r l
+pragma_begins p ls r l = sees_word_at_first (codes "pragma") p.place (identifier_written p.name ∷ delimiter (codes "(") ∷ (separated (delimiter (codes ",")) argument_w p.arguments ++ delimiter (codes ")") ∷ semicolon)) ls r l
 
 pub pragmas_exact : (left : ℕ) → Exact (each_written pragma_written) (list_all (pragma_fits left)) (not_word (codes "pragma")) (items_of (sees_word (codes "pragma")) (pragma_of left))
 unfolding starts
@@ -104,41 +104,41 @@ pragmas_exact left =
 
 -- ---- context clauses (10.1.2, 8.4)
 
-comma_ends : (r : List Lexeme) → sees_mark (codes ",") r ≡ true → not_mark (codes ".") r ≡ true
+comma_ends : (r : List Lexeme) → sees_delimiter (codes ",") r ≡ true → not_delimiter (codes ".") r ≡ true
 unfolding starts
-comma_ends r e = seen_mark (not_mark (codes ".")) true (codes ",") (λ p ls. refl) r e
+comma_ends r e = seen_delimiter (not_delimiter (codes ".")) true (codes ",") (λ p ls. refl) r e
 
 semicolon_ends : (ls r : List Lexeme) → Leads semicolon ls r → ends_names (codes ",") ls ≡ true
 unfolding starts
-semicolon_ends ls r l = first_is (ends_names (codes ",")) true (mark (codes ";")) (λ k ks. refl) [] ls r l
+semicolon_ends ls r l = first_is (ends_names (codes ",")) true (delimiter (codes ";")) (λ k ks. refl) [] ls r l
 
 abbrev Clause : Type 0
 Clause = Place × OneOrMore Name
 
-use_form : Rest (λ (x : Clause). record { place = x.0; is_use = true; names = x.1 }) Any (λ x. word_at x.0 (codes "use") ∷ (separated (mark (codes ",")) name_written x.1 ++ semicolon)) shapeless always use_clause_of
+use_form : Rest (λ (x : Clause). record { place = x.0; is_use = true; names = x.1 }) Any (λ x. word_at x.0 (codes "use") ∷ (separated (delimiter (codes ",")) name_written x.1 ++ semicolon)) shapeless always use_clause_of
 unfolding use_clause_of
 use_form =
     let make : Clause → ContextClause = λ x. record { place = x.0; is_use = true; names = x.1 } in
     placed (λ x. x.0) (codes "use") (λ place.
-    plain make (λ x. Any x × (place ≡ x.0)) (λ x. semicolon) shapeless always (λ x. x.1) (separated (mark (codes ",")) name_written) shapeless (ends_names (codes ",")) (names_of (codes ",")) _ (names_exact (codes ",") comma_ends) (λ a. refl)
+    plain make (λ x. Any x × (place ≡ x.0)) (λ x. semicolon) shapeless always (λ x. x.1) (separated (delimiter (codes ",")) name_written) shapeless (ends_names (codes ",")) (names_of (codes ",")) _ (names_exact (codes ",") comma_ends) (λ a. refl)
     (λ x ls r p l end. semicolon_ends ls r l)
-    (λ names. marked (codes ";") (ready make (λ x. (Any x × (place ≡ x.0)) × (names ≡ x.1)) always (place, names) ((tt, refl), refl) (λ x p. rw (p.0.1, p.1) refl))))
+    (λ names. delimited (codes ";") (ready make (λ x. (Any x × (place ≡ x.0)) × (names ≡ x.1)) always (place, names) ((tt, refl), refl) (λ x p. rw (p.0.1, p.1) refl))))
 
-with_form : Rest (λ (x : Clause). record { place = x.0; is_use = false; names = x.1 }) Any (λ x. word_at x.0 (codes "with") ∷ (separated (mark (codes ",")) name_written x.1 ++ semicolon)) shapeless always with_of
+with_form : Rest (λ (x : Clause). record { place = x.0; is_use = false; names = x.1 }) Any (λ x. word_at x.0 (codes "with") ∷ (separated (delimiter (codes ",")) name_written x.1 ++ semicolon)) shapeless always with_of
 unfolding with_of
 with_form =
     let make : Clause → ContextClause = λ x. record { place = x.0; is_use = false; names = x.1 } in
     placed (λ x. x.0) (codes "with") (λ place.
-    plain make (λ x. Any x × (place ≡ x.0)) (λ x. semicolon) shapeless always (λ x. x.1) (separated (mark (codes ",")) name_written) shapeless (ends_names (codes ",")) (names_of (codes ",")) _ (names_exact (codes ",") comma_ends) (λ a. refl)
+    plain make (λ x. Any x × (place ≡ x.0)) (λ x. semicolon) shapeless always (λ x. x.1) (separated (delimiter (codes ",")) name_written) shapeless (ends_names (codes ",")) (names_of (codes ",")) _ (names_exact (codes ",") comma_ends) (λ a. refl)
     (λ x ls r p l end. semicolon_ends ls r l)
-    (λ names. marked (codes ";") (ready make (λ x. (Any x × (place ≡ x.0)) × (names ≡ x.1)) always (place, names) ((tt, refl), refl) (λ x p. rw (p.0.1, p.1) refl))))
+    (λ names. delimited (codes ";") (ready make (λ x. (Any x × (place ≡ x.0)) × (names ≡ x.1)) always (place, names) ((tt, refl), refl) (λ x p. rw (p.0.1, p.1) refl))))
 
 clause_complete : (is_use : Bool) (place : Place) (names : OneOrMore Name) (ls r : List Lexeme) → Leads (clause_written (record { place = place; is_use = is_use; names = names })) ls r
     → clause_of ls ≡ done (record { place = place; is_use = is_use; names = names }) r
 unfolding clause_of starts
-clause_complete true place names ls r l = rw (sees_word_at_first (codes "use") place (separated (mark (codes ",")) name_written names ++ semicolon) ls r l) (use_form.complete (place, names) ls r tt refl l refl)
+clause_complete true place names ls r l = rw (sees_word_at_first (codes "use") place (separated (delimiter (codes ",")) name_written names ++ semicolon) ls r l) (use_form.complete (place, names) ls r tt refl l refl)
 clause_complete false place names ls r l =
-    rw (first_is (sees_word (codes "use")) false (word_at place (codes "with")) (λ k ks. refl) (separated (mark (codes ",")) name_written names ++ semicolon) ls r l) (with_form.complete (place, names) ls r tt refl l refl)
+    rw (first_is (sees_word (codes "use")) false (word_at place (codes "with")) (λ k ks. refl) (separated (delimiter (codes ",")) name_written names ++ semicolon) ls r l) (with_form.complete (place, names) ls r tt refl l refl)
 
 clause_sound : Sound itself clause_written shapeless clause_of
 unfolding clause_of
@@ -150,7 +150,7 @@ clause_exact : Exact clause_written shapeless always clause_of
 clause_exact = record { sound = clause_sound.by; complete = λ c ls r q o l end. clause_complete c.is_use c.place c.names ls r l }
 
 clause_begins : (c : ContextClause) (ls r : List Lexeme) → Leads (clause_written c) ls r → begins_clause ls ≡ true
-clause_begins c ls r l = by_use c.is_use c.place (separated (mark (codes ",")) name_written c.names ++ semicolon) ls r l
+clause_begins c ls r l = by_use c.is_use c.place (separated (delimiter (codes ",")) name_written c.names ++ semicolon) ls r l
   where
     or_true : (p q : Bool) → q ≡ true → (p || q) ≡ true
     or_true true q e = refl
@@ -195,7 +195,7 @@ ended named name = word (codes "end") ∷ (end_name_written named name ++ semico
 
 semicolon_no_name : (name : Identifier) (ls r : List Lexeme) → Leads semicolon ls r → not_word name.text ls ≡ true
 unfolding starts
-semicolon_no_name name ls r l = first_is (not_word name.text) true (mark (codes ";")) (λ k ks. refl) [] ls r l
+semicolon_no_name name ls r l = first_is (not_word name.text) true (delimiter (codes ";")) (λ k ks. refl) [] ls r l
 
 abbrev ends_private : List Lexeme → Bool
 ends_private r = ends_declarations r && not_word (codes "private") r
@@ -219,13 +219,13 @@ end_no_private ws ls r l = first_is ends_private true (word (codes "end")) (λ k
 ended_by : {X I : Type 0} (make : I → X) (P : I → Type 0) (name_of : I → Identifier) (again_of : I → Bool) (name : Identifier) (k : Bool → I)
     → ((i : I) → P i → name ≡ name_of i) → ((b : Bool) → P (k b)) → ((b : Bool) → b ≡ again_of (k b)) → ((b : Bool) (i : I) → P i → b ≡ again_of i → k b ≡ i)
     → Rest make P (λ i. ended (again_of i) (name_of i)) (λ i. true) always
-    (the_word (codes "end") >>= (λ e. end_name_of name.text >>= (λ b. the_mark (codes ";") >>= (λ m. pure (make (k b))))))
+    (the_word (codes "end") >>= (λ e. end_name_of name.text >>= (λ b. the_delimiter (codes ";") >>= (λ m. pure (make (k b))))))
 ended_by {X} {I} make P name_of again_of name k same fits is only =
     respelt_where make P (λ i. ended (again_of i) name) (λ i. ended (again_of i) (name_of i)) (λ i. true) always _
     (worded (codes "end")
     (plain make P (λ i. semicolon) (λ i. true) always again_of (λ b. end_name_written b name) shapeless (not_word name.text) (end_name_of name.text) _ (end_name_exact name) (λ b. refl)
     (λ i ls r p l end. semicolon_no_name name ls r l)
-    (λ b. marked (codes ";") (ready make (λ i. P i × (b ≡ again_of i)) always (k b) (fits b, is b) (λ i p. only b i p.0 p.1)))))
+    (λ b. delimited (codes ";") (ready make (λ i. P i × (b ≡ again_of i)) always (k b) (fits b, is b) (λ i p. only b i p.0 p.1)))))
     (λ i p. ap (λ (n : Identifier). ended (again_of i) n) (same i p))
 
 abbrev pub declaration_behind : PackageDeclaration → List Written
@@ -495,7 +495,7 @@ module _ (left : ℕ) where
 
   clause_no_pragma : (c : ContextClause) (ls m : List Lexeme) → Leads (clause_written c) ls m → no_pragma ls ≡ true
   unfolding starts
-  clause_no_pragma c ls m l = by_use c.is_use c.place (separated (mark (codes ",")) name_written c.names ++ semicolon) ls m l
+  clause_no_pragma c ls m l = by_use c.is_use c.place (separated (delimiter (codes ",")) name_written c.names ++ semicolon) ls m l
     where
       by_use : (is_use : Bool) (place : Place) (ws : List Written) (ls r : List Lexeme) → Leads (word_at place (clause_text is_use) ∷ ws) ls r → no_pragma ls ≡ true
       by_use true place ws ls r l = first_is no_pragma true (word_at place (codes "use")) (λ k ks. refl) ws ls r l

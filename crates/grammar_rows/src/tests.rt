@@ -12,8 +12,9 @@ mod worked;
 use ada_grammar::ParseFault;
 use ada_lex::{Kind, Token, lex, lower_case, text_value};
 use ada_parse::parse;
-use ada_tree::{Spelt, Unit, shaped, spell};
-use ann_base::NoMemory;
+use ada_spelling::{Spelt, shaped, spell};
+use ada_tree::Unit;
+use ann_base::{NoMemory, OrMemory};
 use std::alloc::Global;
 use std::process::Abort;
 use std::test::Fail;
@@ -23,7 +24,7 @@ fn meaning(alloc: Global, kind: Kind, bytes: &[u8]) -> Result<Vec<u8>, NoMemory>
     match kind {
         Kind::Word => lower_case(alloc, bytes),
         Kind::Text => text_value(alloc, bytes),
-        Kind::Number | Kind::Mark => Ok(Vec::from_slice(alloc, bytes)?),
+        Kind::Number | Kind::Delimiter => Ok(Vec::from_slice(alloc, bytes)?),
     }
 }
 
@@ -59,9 +60,9 @@ fn fault_of(alloc: Global, source: &[u8]) -> Result<(u8, u32, u32), Fail> {
     let tokens = lex(alloc, source)?;
     let (code, token) = match parse(alloc, source, &tokens) {
         Ok(tree) => return Ok((code_of(alloc, source, &tokens, &tree)?, 0, 0)),
-        Err(ParseFault::Memory) => return Ok((9, 0, 0)),
-        Err(ParseFault::Unexpected { token }) => (5, token),
-        Err(ParseFault::TooDeep { token }) => (6, token),
+        Err(OrMemory::Memory) => return Ok((9, 0, 0)),
+        Err(OrMemory::Fault(ParseFault::Unexpected { token })) => (5, token),
+        Err(OrMemory::Fault(ParseFault::TooDeep { token })) => (6, token),
     };
     match tokens.get(token as usize) {
         None => Ok((code, 0, 0)),

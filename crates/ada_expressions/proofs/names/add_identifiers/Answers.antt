@@ -2,8 +2,8 @@ use Rattle.std.proofs.lemmas.Result.{err_from_is_err_and}
 use Rattle.ada_expressions.specs.Lists.{none_begins, no_turn, one_read, one_stops}
 use Rattle.ada_expressions.proofs.names.add_identifiers.Goals as goal
 
-pub returns-then-not-is_mark : goal.returns-then-not-is_mark
-returns-then-not-is_mark c = none_begins _ _ _ _ _ _ _ (cc) c.loop-turn.invariant
+pub returns-then-not-is_delimiter : goal.returns-then-not-is_delimiter
+returns-then-not-is_delimiter c = none_begins _ _ _ _ _ _ _ (cc) c.loop-turn.invariant
 
 pub returns-in_err-identifier_behind : goal.returns-in_err-identifier_behind
 returns-in_err-identifier_behind c =

@@ -1,8 +1,8 @@
 use Rattle.std.proofs.Common.{◌≡◌, ◌-◌, length}
-use Rattle.ada_grammar.specs.Reading.{an_identifier, behind_mark_of, items_from, sees_mark}
+use Rattle.ada_grammar.specs.Reading.{an_identifier, behind_delimiter_of, items_from, sees_delimiter}
 use Rattle.ada_expressions.proofs.names.add_identifiers.Given as goal
 
 abbrev pub invariant-loop-turn : goal.invariant-loop-turn
 invariant-loop-turn l =
-    items_from (sees_mark l.mark) (behind_mark_of l.mark an_identifier) (l._turn-end - l._turn) l.identifiers l.cursor
-    ≡ items_from (sees_mark l.mark) (behind_mark_of l.mark an_identifier) (length l.fn.cursor) l.fn.identifiers l.fn.cursor
+    items_from (sees_delimiter l.subtype) (behind_delimiter_of l.subtype an_identifier) (l._turn-end - l._turn) l.identifiers l.cursor
+    ≡ items_from (sees_delimiter l.subtype) (behind_delimiter_of l.subtype an_identifier) (length l.fn.cursor) l.fn.identifiers l.fn.cursor

@@ -1,0 +1,434 @@
+//! How declarations are spelt (ISO/IEC 8652:2012, clauses 3, 6, 9, 11, 13).
+ghost use Rattle.std.specs.Prelude.{◌≡◌, ◌++◌, ◌∷◌, [], map, codes, OnOk};
+ghost use Rattle.ada_tree.specs.Written.{optional, word, identifier_written, end_name_written};
+ghost use Rattle.ada_spelling.specs.Spelt.{spelt};
+ghost use Rattle.ada_tree.specs.SpellingStatements.{semicolon, indication_written};
+ghost use Rattle.ada_tree.specs.SpellingDeclarations.{becomes_written, extension_written, aspects_written, overriding_written, subprogram_word, task_definition_written, body_written};
+
+use crate::spelling::{
+    Spell, Tokens, spell_behind, spell_bracketed, spell_end_name, spell_flag, spell_led,
+    spell_separated,
+};
+use crate::spelling_statements::{SpellSequence, spell_word_alone};
+use ada_lex::Kind;
+use ada_tree::{
+    Aspect, Body, Component, Declaration, EntryDeclaration, EntryHead, Expression, Identifier,
+    ObjectDeclaration, OneOrMore, OperationBody, ProtectedBody, ProtectedDeclaration,
+    ProtectedOperation, SequenceRole, SubprogramSpecification, SubtypeDeclaration,
+    SubtypeIndication, TaskDeclaration, TaskDefinition, TypeDeclaration, TypeDefinition,
+};
+use ann_base::{NoMemory, Place};
+
+/// `SUBTYPE [:= EXPRESSION];` (3.3.1)
+fn spell_subtype_and_initial(
+    tokens: &mut Tokens,
+    delimiter: &SubtypeIndication,
+    initial: &Option<Expression>,
+) -> Result<(), NoMemory>
+    ensures { OnOk result (tokens.new ≡ tokens.old ++ map spelt (indication_written delimiter.now ++ (optional becomes_written initial.now ++ semicolon))) }
+{
+    delimiter.spell(tokens)?;
+    spell_led(tokens, Kind::Delimiter, b":=", initial)?;
+    tokens.delimiter(b";")
+}
+
+/// An object declaration (3.3.1).
+impl Spell for ObjectDeclaration {
+    ghost use Rattle.ada_tree.specs.SpellingDeclarations.{object_written};
+
+    ghost written = { object_written };
+
+    fn spell(&self, tokens: &mut Tokens) -> Result<(), NoMemory> {
+        spell_separated(tokens, b",", &self.names)?;
+        tokens.delimiter(b":")?;
+        spell_flag(tokens, self.aliased, b"aliased")?;
+        spell_flag(tokens, self.constant, b"constant")?;
+        spell_subtype_and_initial(tokens, &self.subtype, &self.initial)
+    }
+}
+
+/// A component (3.8).
+impl Spell for Component {
+    ghost use Rattle.ada_tree.specs.SpellingDeclarations.{component_written};
+
+    ghost written = { component_written };
+
+    fn spell(&self, tokens: &mut Tokens) -> Result<(), NoMemory> {
+        spell_separated(tokens, b",", &self.names)?;
+        tokens.delimiter(b":")?;
+        spell_subtype_and_initial(tokens, &self.subtype, &self.initial)
+    }
+}
+
+/// `null record`, or `record`, the components and `end record` (3.9.1).
+fn spell_extension(
+    tokens: &mut Tokens,
+    components: &Option<OneOrMore<Component>>,
+) -> Result<(), NoMemory>
+    ensures { OnOk result (tokens.new ≡ tokens.old ++ map spelt (extension_written components.now)) }
+{
+    match components {
+        None => {
+            tokens.word(b"null")?;
+            tokens.word(b"record")
+        }
+        Some(components) => {
+            tokens.word(b"record")?;
+            components.spell(tokens)?;
+            tokens.word(b"end")?;
+            tokens.word(b"record")
+        }
+    }
+}
+
+/// How a type is defined (3.5.1, 3.6, 3.9.1).
+impl Spell for TypeDefinition {
+    ghost use Rattle.ada_tree.specs.SpellingDeclarations.{definition_written};
+
+    ghost written = { definition_written };
+
+    fn spell(&self, tokens: &mut Tokens) -> Result<(), NoMemory> {
+        match self {
+            TypeDefinition::Enumeration { literals } => {
+                tokens.delimiter(b"(")?;
+                spell_separated(tokens, b",", literals)?;
+                tokens.delimiter(b")")
+            }
+            TypeDefinition::Array {
+                low,
+                high,
+                component,
+            } => {
+                tokens.word(b"array")?;
+                tokens.delimiter(b"(")?;
+                low.spell(tokens)?;
+                tokens.delimiter(b"..")?;
+                high.spell(tokens)?;
+                tokens.delimiter(b")")?;
+                tokens.word(b"of")?;
+                component.spell(tokens)
+            }
+            TypeDefinition::Derived { parent, components } => {
+                tokens.word(b"new")?;
+                parent.spell(tokens)?;
+                tokens.word(b"with")?;
+                spell_extension(tokens, components)
+            }
+        }
+    }
+}
+
+/// A type declaration (3.2.1).
+impl Spell for TypeDeclaration {
+    ghost use Rattle.ada_tree.specs.SpellingDeclarations.{type_written};
+
+    ghost written = { type_written };
+
+    fn spell(&self, tokens: &mut Tokens) -> Result<(), NoMemory> {
+        tokens.word(b"type")?;
+        self.name.spell(tokens)?;
+        tokens.word(b"is")?;
+        self.definition.spell(tokens)?;
+        tokens.delimiter(b";")
+    }
+}
+
+/// A subtype declaration (3.2.2).
+impl Spell for SubtypeDeclaration {
+    ghost use Rattle.ada_tree.specs.SpellingDeclarations.{subtype_written};
+
+    ghost written = { subtype_written };
+
+    fn spell(&self, tokens: &mut Tokens) -> Result<(), NoMemory> {
+        tokens.word(b"subtype")?;
+        self.name.spell(tokens)?;
+        tokens.word(b"is")?;
+        self.subtype.spell(tokens)?;
+        tokens.delimiter(b";")
+    }
+}
+
+/// An aspect (13.1.1).
+impl Spell for Aspect {
+    ghost use Rattle.ada_tree.specs.SpellingDeclarations.{aspect_written};
+
+    ghost written = { aspect_written };
+
+    fn spell(&self, tokens: &mut Tokens) -> Result<(), NoMemory> {
+        self.name.spell(tokens)?;
+        spell_led(tokens, Kind::Delimiter, b"=>", &self.value)
+    }
+}
+
+/// `with` and the aspects; nothing where there are none (13.1.1).
+pub(crate) fn spell_aspects(tokens: &mut Tokens, aspects: &[Aspect]) -> Result<(), NoMemory>
+    ensures { OnOk result (tokens.new ≡ tokens.old ++ map spelt (aspects_written aspects.now)) }
+{
+    match aspects {
+        [] => Ok(()),
+        [first, others @ ..] => {
+            tokens.word(b"with")?;
+            first.spell(tokens)?;
+            spell_behind(tokens, Kind::Delimiter, b",", others)
+        }
+    }
+}
+
+fn spell_overriding(tokens: &mut Tokens, overriding: Option<Place>) -> Result<(), NoMemory>
+    ensures { OnOk result (tokens.new ≡ tokens.old ++ map spelt (optional overriding_written overriding)) }
+{
+    match overriding {
+        None => Ok(()),
+        Some(_) => tokens.word(b"overriding"),
+    }
+}
+
+fn subprogram_word(subtype: &Option<SubtypeIndication>) -> &'static [u8]
+    ensures { result.now ≡ subprogram_word subtype.now }
+{
+    match subtype {
+        None => b"procedure",
+        Some(_) => b"function",
+    }
+}
+
+/// A subprogram's specification (6.1).
+impl Spell for SubprogramSpecification {
+    ghost use Rattle.ada_tree.specs.SpellingDeclarations.{specification_written};
+
+    ghost written = { specification_written };
+
+    fn spell(&self, tokens: &mut Tokens) -> Result<(), NoMemory> {
+        spell_overriding(tokens, self.overriding)?;
+        tokens.word(subprogram_word(&self.result))?;
+        self.name.spell(tokens)?;
+        spell_bracketed(tokens, b";", self.parameters.as_slice())?;
+        spell_led(tokens, Kind::Word, b"return", &self.result)?;
+        spell_aspects(tokens, self.aspects.as_slice())
+    }
+}
+
+/// An entry declaration (9.5.2).
+impl Spell for EntryDeclaration {
+    ghost use Rattle.ada_tree.specs.SpellingDeclarations.{entry_written};
+
+    ghost written = { entry_written };
+
+    fn spell(&self, tokens: &mut Tokens) -> Result<(), NoMemory> {
+        tokens.word(b"entry")?;
+        self.name.spell(tokens)?;
+        spell_bracketed(tokens, b";", self.parameters.as_slice())?;
+        tokens.delimiter(b";")
+    }
+}
+
+/// The name behind `end`, and a semicolon.
+pub(crate) fn spell_named_end(
+    tokens: &mut Tokens,
+    named: bool,
+    name: &Identifier,
+) -> Result<(), NoMemory>
+    ensures { OnOk result (tokens.new ≡ tokens.old ++ map spelt (word (codes "end") ∷ (end_name_written named name.now ++ semicolon))) }
+{
+    tokens.word(b"end")?;
+    spell_end_name(tokens, named, name)?;
+    tokens.delimiter(b";")
+}
+
+/// `NAME [ASPECTS]` (6.3, 9.1, 9.4)
+pub(crate) fn spell_name_and_aspects(
+    tokens: &mut Tokens,
+    name: &Identifier,
+    aspects: &[Aspect],
+) -> Result<(), NoMemory>
+    ensures { OnOk result (tokens.new ≡ tokens.old ++ map spelt (identifier_written name.now ∷ aspects_written aspects.now)) }
+{
+    name.spell(tokens)?;
+    spell_aspects(tokens, aspects)
+}
+
+/// `body NAME is` (7.2, 9.1, 9.4)
+pub(crate) fn spell_body_name(tokens: &mut Tokens, name: &Identifier) -> Result<(), NoMemory>
+    ensures { OnOk result (tokens.new ≡ tokens.old ++ map spelt (word (codes "body") ∷ identifier_written name.now ∷ word (codes "is") ∷ [])) }
+{
+    tokens.word(b"body")?;
+    name.spell(tokens)?;
+    tokens.word(b"is")
+}
+
+/// What stands behind the `is` of a task declaration (9.1).
+fn spell_task_definition(
+    tokens: &mut Tokens,
+    name: &Identifier,
+    definition: &Option<TaskDefinition>,
+) -> Result<(), NoMemory>
+    ensures { OnOk result (tokens.new ≡ tokens.old ++ map spelt (optional (task_definition_written name.now) definition.now)) }
+{
+    match definition {
+        None => Ok(()),
+        Some(definition) => {
+            tokens.word(b"is")?;
+            definition.entries.spell(tokens)?;
+            tokens.word(b"end")?;
+            spell_end_name(tokens, definition.named_at_end, name)
+        }
+    }
+}
+
+/// A task declaration (9.1).
+impl Spell for TaskDeclaration {
+    ghost use Rattle.ada_tree.specs.SpellingDeclarations.{task_written};
+
+    ghost written = { task_written };
+
+    fn spell(&self, tokens: &mut Tokens) -> Result<(), NoMemory> {
+        tokens.word(b"task")?;
+        spell_flag(tokens, self.is_type, b"type")?;
+        spell_name_and_aspects(tokens, &self.name, self.aspects.as_slice())?;
+        spell_task_definition(tokens, &self.name, &self.definition)?;
+        tokens.delimiter(b";")
+    }
+}
+
+impl Spell for ProtectedOperation {
+    ghost use Rattle.ada_tree.specs.SpellingDeclarations.{operation_written};
+
+    ghost written = { operation_written };
+
+    fn spell(&self, tokens: &mut Tokens) -> Result<(), NoMemory> {
+        match self {
+            ProtectedOperation::Subprogram(specification) => {
+                specification.spell(tokens)?;
+                tokens.delimiter(b";")
+            }
+            ProtectedOperation::Entry(entry) => entry.spell(tokens),
+        }
+    }
+}
+
+/// A protected declaration (9.4).
+impl Spell for ProtectedDeclaration {
+    ghost use Rattle.ada_tree.specs.SpellingDeclarations.{protected_written};
+
+    ghost written = { protected_written };
+
+    fn spell(&self, tokens: &mut Tokens) -> Result<(), NoMemory> {
+        tokens.word(b"protected")?;
+        spell_flag(tokens, self.is_type, b"type")?;
+        spell_name_and_aspects(tokens, &self.name, self.aspects.as_slice())?;
+        tokens.word(b"is")?;
+        self.operations.spell(tokens)?;
+        spell_led(tokens, Kind::Word, b"private", &self.components)?;
+        spell_named_end(tokens, self.named_at_end, &self.name)
+    }
+}
+
+/// The head of an entry body (9.5.2).
+impl Spell for EntryHead {
+    ghost use Rattle.ada_tree.specs.SpellingDeclarations.{entry_head_written};
+
+    ghost written = { entry_head_written };
+
+    fn spell(&self, tokens: &mut Tokens) -> Result<(), NoMemory> {
+        tokens.word(b"entry")?;
+        self.name.spell(tokens)?;
+        spell_bracketed(tokens, b";", self.parameters.as_slice())?;
+        tokens.word(b"when")?;
+        self.barrier.spell(tokens)
+    }
+}
+
+/// A construct's body, from `is` on (3.11.1).
+pub(crate) fn spell_body<Q: SpellSequence>(
+    tokens: &mut Tokens,
+    name: &Identifier,
+    body: &Body<Q>,
+) -> Result<(), NoMemory>
+    ensures { OnOk result (tokens.new ≡ tokens.old ++ map spelt (body_written Q.written name.now body.now)) }
+{
+    tokens.word(b"is")?;
+    body.sequence.spell_as(SequenceRole::Body, tokens)?;
+    spell_named_end(tokens, body.named_at_end, name)
+}
+
+/// A body in a protected body (9.4).
+impl<Q: SpellSequence> Spell for OperationBody<Q> {
+    ghost use Rattle.ada_tree.specs.SpellingDeclarations.{operation_body_written};
+
+    ghost written = { operation_body_written Q.written };
+
+    fn spell(&self, tokens: &mut Tokens) -> Result<(), NoMemory> {
+        match self {
+            OperationBody::Subprogram {
+                specification,
+                body,
+            } => {
+                specification.spell(tokens)?;
+                spell_body(tokens, &specification.name, body)
+            }
+            OperationBody::Entry { head, body } => {
+                head.spell(tokens)?;
+                spell_body(tokens, &head.name, body)
+            }
+        }
+    }
+}
+
+/// A protected body (9.4).
+impl<Q: SpellSequence> Spell for ProtectedBody<Q> {
+    ghost use Rattle.ada_tree.specs.SpellingDeclarations.{protected_body_written};
+
+    ghost written = { protected_body_written Q.written };
+
+    fn spell(&self, tokens: &mut Tokens) -> Result<(), NoMemory> {
+        tokens.word(b"protected")?;
+        spell_body_name(tokens, &self.name)?;
+        self.operations.spell(tokens)?;
+        spell_named_end(tokens, self.named_at_end, &self.name)
+    }
+}
+
+/// A declaration (3.1).
+impl<Q: SpellSequence> Spell for Declaration<Q> {
+    ghost use Rattle.ada_tree.specs.SpellingDeclarations.{declaration_written};
+
+    ghost written = { declaration_written Q.written };
+
+    fn spell(&self, tokens: &mut Tokens) -> Result<(), NoMemory> {
+        match self {
+            Declaration::Object(object) => object.spell(tokens),
+            Declaration::Type(declaration) => declaration.spell(tokens),
+            Declaration::Subtype(declaration) => declaration.spell(tokens),
+            Declaration::Exception { names } => {
+                spell_separated(tokens, b",", names)?;
+                tokens.delimiter(b":")?;
+                spell_word_alone(tokens, b"exception")
+            }
+            Declaration::Subprogram(specification) => {
+                specification.spell(tokens)?;
+                tokens.delimiter(b";")
+            }
+            Declaration::SubprogramBody {
+                specification,
+                body,
+            } => {
+                specification.spell(tokens)?;
+                spell_body(tokens, &specification.name, body)
+            }
+            Declaration::Task(task) => task.spell(tokens),
+            Declaration::TaskBody { name, body, .. } => {
+                tokens.word(b"task")?;
+                tokens.word(b"body")?;
+                name.spell(tokens)?;
+                spell_body(tokens, name, body)
+            }
+            Declaration::Protected(declaration) => declaration.spell(tokens),
+            Declaration::ProtectedBody(body) => body.spell(tokens),
+            Declaration::Use { name, .. } => {
+                tokens.word(b"use")?;
+                name.spell(tokens)?;
+                tokens.delimiter(b";")
+            }
+        }
+    }
+}

@@ -1,0 +1,117 @@
+//! How select statements are spelt (ISO/IEC 8652:2012, 9.7).
+use crate::spelling::{Spell, Tokens, spell_behind};
+use crate::spelling_statements::{
+    SpellSequence, spell_else, spell_end, spell_statements, spell_word_alone,
+};
+use ada_lex::Kind;
+use ada_tree::{
+    Alternative, Guard, SelectAlternative, SelectForm, SelectStatement, SequenceRole, Trigger,
+};
+use ann_base::NoMemory;
+
+impl Spell for Guard {
+    ghost use Rattle.ada_tree.specs.SpellingStatements.{guard_written};
+
+    ghost written = { guard_written };
+
+    fn spell(&self, tokens: &mut Tokens) -> Result<(), NoMemory> {
+        tokens.word(b"when")?;
+        self.condition.spell(tokens)?;
+        tokens.delimiter(b"=>")
+    }
+}
+
+impl Spell for Trigger {
+    ghost use Rattle.ada_tree.specs.SpellingStatements.{trigger_written};
+
+    ghost written = { trigger_written };
+
+    fn spell(&self, tokens: &mut Tokens) -> Result<(), NoMemory> {
+        match self {
+            Trigger::Call(call) => call.spell(tokens),
+            Trigger::Delay(delay) => delay.spell(tokens),
+        }
+    }
+}
+
+impl<Q: SpellSequence> Spell for Alternative<Q> {
+    ghost use Rattle.ada_tree.specs.SpellingStatements.{alternative_written};
+
+    ghost written = { alternative_written Q.written };
+
+    fn spell(&self, tokens: &mut Tokens) -> Result<(), NoMemory> {
+        match self {
+            Alternative::Accept { accept, statements } => {
+                accept.spell(tokens)?;
+                spell_statements(tokens, statements)
+            }
+            Alternative::Delay { delay, statements } => {
+                delay.spell(tokens)?;
+                spell_statements(tokens, statements)
+            }
+            Alternative::Terminate { .. } => spell_word_alone(tokens, b"terminate"),
+        }
+    }
+}
+
+impl<Q: SpellSequence> Spell for SelectAlternative<Q> {
+    ghost use Rattle.ada_tree.specs.SpellingStatements.{select_alternative_written};
+
+    ghost written = { select_alternative_written Q.written };
+
+    fn spell(&self, tokens: &mut Tokens) -> Result<(), NoMemory> {
+        self.guard.spell(tokens)?;
+        self.alternative.spell(tokens)
+    }
+}
+
+/// The forms of select statements (9.7.1 to 9.7.4).
+impl<Q: SpellSequence> Spell for SelectForm<Q> {
+    ghost use Rattle.ada_tree.specs.SpellingStatements.{select_form_written};
+
+    ghost written = { select_form_written Q.written };
+
+    fn spell(&self, tokens: &mut Tokens) -> Result<(), NoMemory> {
+        match self {
+            SelectForm::SelectiveAccept(select) => {
+                let alternatives = &select.alternatives;
+                alternatives.first.spell(tokens)?;
+                spell_behind(tokens, Kind::Word, b"or", alternatives.others.as_slice())?;
+                spell_else(tokens, &select.otherwise)
+            }
+            SelectForm::TimedEntryCall(select) => {
+                select.call.spell(tokens)?;
+                spell_statements(tokens, &select.statements)?;
+                tokens.word(b"or")?;
+                select.delay.spell(tokens)?;
+                spell_statements(tokens, &select.delay_statements)
+            }
+            SelectForm::ConditionalEntryCall(select) => {
+                select.call.spell(tokens)?;
+                spell_statements(tokens, &select.statements)?;
+                tokens.word(b"else")?;
+                select.otherwise.spell_as(SequenceRole::Statements, tokens)
+            }
+            SelectForm::AsynchronousSelect(select) => {
+                select.trigger.spell(tokens)?;
+                spell_statements(tokens, &select.statements)?;
+                tokens.word(b"then")?;
+                tokens.word(b"abort")?;
+                select.abortable.spell_as(SequenceRole::Statements, tokens)
+            }
+        }
+    }
+}
+
+/// A select statement (9.7).
+impl<Q: SpellSequence> Spell for SelectStatement<Q> {
+    ghost use Rattle.ada_tree.specs.SpellingStatements.{select_written};
+
+    ghost written = { select_written Q.written };
+
+    fn spell(&self, tokens: &mut Tokens) -> Result<(), NoMemory> {
+        tokens.word(b"select")?;
+        self.form.spell(tokens)?;
+        spell_end(tokens, b"select")
+    }
+}

@@ -1,0 +1,504 @@
+//! How statements are spelt (ISO/IEC 8652:2012, clauses 5, 9.5 to 9.8, 11).
+ghost use Rattle.std.specs.Prelude.{◌≡◌, ◌++◌, ◌∷◌, [], map, codes, OnOk};
+ghost use Rattle.ada_tree.specs.Written.{optional, word};
+ghost use Rattle.ada_spelling.specs.Spelt.{spelt};
+ghost use Rattle.ada_tree.specs.SpellingStatements.{semicolon, index_written, label_end_written, with_abort_written, statements_written, else_written, block_opened, accept_body_written};
+
+use crate::spelling::{
+    Spell, Tokens, spell_bracketed, spell_end_name, spell_flag, spell_led, spell_separated,
+};
+use ada_lex::Kind;
+use ada_tree::{
+    Accept, AcceptBody, Assignment, Block, Call, Case, CaseAlternative, Choice, Constraint, Delay,
+    Elsif, Exit, Expression, HandledExceptions, Handler, Identifier, If, Iteration, Label, Loop,
+    Parameter, SequenceRole, Statement, SubtypeIndication,
+};
+use ann_base::{NoMemory, Place};
+
+/// What is a sequence.
+pub(crate) trait SpellSequence {
+    ghost use Rattle.std.specs.Prelude.{◌≡◌, ◌++◌, List, map, OnOk};
+    ghost use Rattle.ada_tree.specs.declared.statements.SequenceRole.{SequenceRole};
+    ghost use Rattle.ada_tree.specs.Written.{Written};
+    ghost use Rattle.ada_spelling.specs.Spelt.{spelt};
+
+    ghost written: { Self → SequenceRole → List Written };
+
+    /// Adds the tokens of what may stand there.
+    fn spell_as(&self, role: SequenceRole, tokens: &mut Tokens) -> Result<(), NoMemory>
+        ensures { OnOk result (tokens.new ≡ tokens.old ++ map spelt (written self.now role)) };
+}
+
+impl Spell for Constraint {
+    ghost use Rattle.ada_tree.specs.SpellingStatements.{constraint_written};
+
+    ghost written = { constraint_written };
+
+    fn spell(&self, tokens: &mut Tokens) -> Result<(), NoMemory> {
+        match self {
+            Constraint::Access(name) => {
+                tokens.delimiter(b"(")?;
+                name.spell(tokens)?;
+                tokens.delimiter(b"'")?;
+                tokens.word(b"access")?;
+                tokens.delimiter(b")")
+            }
+            Constraint::Range { low, high } => {
+                tokens.word(b"range")?;
+                low.spell(tokens)?;
+                tokens.delimiter(b"..")?;
+                high.spell(tokens)
+            }
+        }
+    }
+}
+
+/// A subtype indication: a subtype mark and what restricts it (3.2.2).
+impl Spell for SubtypeIndication {
+    ghost use Rattle.ada_tree.specs.SpellingStatements.{indication_written};
+
+    ghost written = { indication_written };
+
+    fn spell(&self, tokens: &mut Tokens) -> Result<(), NoMemory> {
+        self.name.spell(tokens)?;
+        self.constraint.spell(tokens)
+    }
+}
+
+/// A parameter (6.1).
+impl Spell for Parameter {
+    ghost use Rattle.ada_tree.specs.SpellingStatements.{parameter_written};
+
+    ghost written = { parameter_written };
+
+    fn spell(&self, tokens: &mut Tokens) -> Result<(), NoMemory> {
+        spell_separated(tokens, b",", &self.names)?;
+        tokens.delimiter(b":")?;
+        spell_flag(tokens, self.is_in, b"in")?;
+        spell_flag(tokens, self.is_out, b"out")?;
+        self.subtype.spell(tokens)
+    }
+}
+
+fn spell_index(tokens: &mut Tokens, index: &Option<Expression>) -> Result<(), NoMemory>
+    ensures { OnOk result (tokens.new ≡ tokens.old ++ map spelt (optional index_written index.now)) }
+{
+    match index {
+        None => Ok(()),
+        Some(index) => {
+            tokens.delimiter(b"(")?;
+            index.spell(tokens)?;
+            tokens.delimiter(b")")
+        }
+    }
+}
+
+/// An assignment (5.2).
+impl Spell for Assignment {
+    ghost use Rattle.ada_tree.specs.SpellingStatements.{assignment_written};
+
+    ghost written = { assignment_written };
+
+    fn spell(&self, tokens: &mut Tokens) -> Result<(), NoMemory> {
+        self.target.spell(tokens)?;
+        spell_index(tokens, &self.index)?;
+        tokens.delimiter(b":=")?;
+        self.value.spell(tokens)?;
+        tokens.delimiter(b";")
+    }
+}
+
+/// A call (6.4, 9.5.3).
+impl Spell for Call {
+    ghost use Rattle.ada_tree.specs.SpellingStatements.{call_written};
+
+    ghost written = { call_written };
+
+    fn spell(&self, tokens: &mut Tokens) -> Result<(), NoMemory> {
+        self.name.spell(tokens)?;
+        spell_bracketed(tokens, b",", self.arguments.as_slice())?;
+        tokens.delimiter(b";")
+    }
+}
+
+/// A delay (9.6).
+impl Spell for Delay {
+    ghost use Rattle.ada_tree.specs.SpellingStatements.{delay_written};
+
+    ghost written = { delay_written };
+
+    fn spell(&self, tokens: &mut Tokens) -> Result<(), NoMemory> {
+        tokens.word(b"delay")?;
+        spell_flag(tokens, self.until, b"until")?;
+        self.value.spell(tokens)?;
+        tokens.delimiter(b";")
+    }
+}
+
+/// A discrete choice (3.8.1).
+impl Spell for Choice {
+    ghost use Rattle.ada_tree.specs.SpellingStatements.{choice_written};
+
+    ghost written = { choice_written };
+
+    fn spell(&self, tokens: &mut Tokens) -> Result<(), NoMemory> {
+        match self {
+            Choice::Value(value) => value.spell(tokens),
+            Choice::Range { low, high } => {
+                low.spell(tokens)?;
+                tokens.delimiter(b"..")?;
+                high.spell(tokens)
+            }
+            Choice::Others { .. } => tokens.word(b"others"),
+        }
+    }
+}
+
+impl Spell for Label {
+    ghost use Rattle.ada_tree.specs.SpellingStatements.{label_written};
+
+    ghost written = { label_written };
+
+    fn spell(&self, tokens: &mut Tokens) -> Result<(), NoMemory> {
+        self.name.spell(tokens)?;
+        tokens.delimiter(b":")
+    }
+}
+
+/// A loop or a block's name behind `end`.
+fn spell_label_end(tokens: &mut Tokens, label: &Option<Label>) -> Result<(), NoMemory>
+    ensures { OnOk result (tokens.new ≡ tokens.old ++ map spelt (optional label_end_written label.now)) }
+{
+    match label {
+        None => Ok(()),
+        Some(label) => spell_end_name(tokens, label.named_at_end, &label.name),
+    }
+}
+
+/// `loop`, the loop's name and a semicolon, behind `end` (5.5).
+fn spell_loop_end(tokens: &mut Tokens, label: &Option<Label>) -> Result<(), NoMemory>
+    ensures { OnOk result (tokens.new ≡ tokens.old ++ map spelt (word (codes "loop") ∷ (optional label_end_written label.now ++ semicolon))) }
+{
+    tokens.word(b"loop")?;
+    spell_label_end(tokens, label)?;
+    tokens.delimiter(b";")
+}
+
+/// How a loop goes on (5.5).
+impl Spell for Iteration {
+    ghost use Rattle.ada_tree.specs.SpellingStatements.{iteration_written};
+
+    ghost written = { iteration_written };
+
+    fn spell(&self, tokens: &mut Tokens) -> Result<(), NoMemory> {
+        match self {
+            Iteration::Forever => Ok(()),
+            Iteration::While { condition, .. } => {
+                tokens.word(b"while")?;
+                condition.spell(tokens)
+            }
+            Iteration::For {
+                parameter,
+                reverse,
+                low,
+                high,
+                ..
+            } => {
+                tokens.word(b"for")?;
+                parameter.spell(tokens)?;
+                tokens.word(b"in")?;
+                spell_flag(tokens, *reverse, b"reverse")?;
+                low.spell(tokens)?;
+                tokens.delimiter(b"..")?;
+                high.spell(tokens)
+            }
+        }
+    }
+}
+
+/// An exit (5.7).
+impl Spell for Exit {
+    ghost use Rattle.ada_tree.specs.SpellingStatements.{exit_written};
+
+    ghost written = { exit_written };
+
+    fn spell(&self, tokens: &mut Tokens) -> Result<(), NoMemory> {
+        tokens.word(b"exit")?;
+        self.loop_name.spell(tokens)?;
+        spell_led(tokens, Kind::Word, b"when", &self.condition)?;
+        tokens.delimiter(b";")
+    }
+}
+
+impl Spell for HandledExceptions {
+    ghost use Rattle.ada_tree.specs.SpellingStatements.{exceptions_written};
+
+    ghost written = { exceptions_written };
+
+    fn spell(&self, tokens: &mut Tokens) -> Result<(), NoMemory> {
+        match self {
+            HandledExceptions::Named(names) => spell_separated(tokens, b"|", names),
+            HandledExceptions::Others { .. } => tokens.word(b"others"),
+        }
+    }
+}
+
+/// `with abort`, where it stands there (9.5.4).
+fn spell_with_abort(tokens: &mut Tokens, with_abort: bool) -> Result<(), NoMemory>
+    ensures { OnOk result (tokens.new ≡ tokens.old ++ map spelt (with_abort_written with_abort)) }
+{
+    if with_abort {
+        tokens.word(b"with")?;
+        tokens.word(b"abort")
+    } else {
+        Ok(())
+    }
+}
+
+/// A statement or an alternative of one word.
+pub(crate) fn spell_word_alone(tokens: &mut Tokens, text: &[u8]) -> Result<(), NoMemory>
+    ensures { OnOk result (tokens.new ≡ tokens.old ++ map spelt (word text.now ∷ semicolon)) }
+{
+    tokens.word(text)?;
+    tokens.delimiter(b";")
+}
+
+/// `end`, the word that opened the statement, and a semicolon.
+pub(crate) fn spell_end(tokens: &mut Tokens, text: &[u8]) -> Result<(), NoMemory>
+    ensures { OnOk result (tokens.new ≡ tokens.old ++ map spelt (word (codes "end") ∷ word text.now ∷ semicolon)) }
+{
+    tokens.word(b"end")?;
+    spell_word_alone(tokens, text)
+}
+
+/// The statements that may stand there.
+pub(crate) fn spell_statements<Q: SpellSequence>(
+    tokens: &mut Tokens,
+    statements: &Option<Q>,
+) -> Result<(), NoMemory>
+    ensures { OnOk result (tokens.new ≡ tokens.old ++ map spelt (optional (statements_written Q.written) statements.now)) }
+{
+    match statements {
+        None => Ok(()),
+        Some(statements) => statements.spell_as(SequenceRole::Statements, tokens),
+    }
+}
+
+/// `else` and its statements, where they stand there.
+pub(crate) fn spell_else<Q: SpellSequence>(
+    tokens: &mut Tokens,
+    otherwise: &Option<Q>,
+) -> Result<(), NoMemory>
+    ensures { OnOk result (tokens.new ≡ tokens.old ++ map spelt (optional (else_written Q.written) otherwise.now)) }
+{
+    match otherwise {
+        None => Ok(()),
+        Some(statements) => {
+            tokens.word(b"else")?;
+            statements.spell_as(SequenceRole::Statements, tokens)
+        }
+    }
+}
+
+impl<Q: SpellSequence> Spell for Elsif<Q> {
+    ghost use Rattle.ada_tree.specs.SpellingStatements.{elsif_written};
+
+    ghost written = { elsif_written Q.written };
+
+    fn spell(&self, tokens: &mut Tokens) -> Result<(), NoMemory> {
+        tokens.word(b"elsif")?;
+        self.condition.spell(tokens)?;
+        tokens.word(b"then")?;
+        self.statements.spell_as(SequenceRole::Statements, tokens)
+    }
+}
+
+/// An if statement (5.3).
+impl<Q: SpellSequence> Spell for If<Q> {
+    ghost use Rattle.ada_tree.specs.SpellingStatements.{if_written};
+
+    ghost written = { if_written Q.written };
+
+    fn spell(&self, tokens: &mut Tokens) -> Result<(), NoMemory> {
+        tokens.word(b"if")?;
+        self.condition.spell(tokens)?;
+        tokens.word(b"then")?;
+        self.statements.spell_as(SequenceRole::Statements, tokens)?;
+        self.elsifs.spell(tokens)?;
+        spell_else(tokens, &self.otherwise)?;
+        spell_end(tokens, b"if")
+    }
+}
+
+impl<Q: SpellSequence> Spell for CaseAlternative<Q> {
+    ghost use Rattle.ada_tree.specs.SpellingStatements.{case_alternative_written};
+
+    ghost written = { case_alternative_written Q.written };
+
+    fn spell(&self, tokens: &mut Tokens) -> Result<(), NoMemory> {
+        tokens.word(b"when")?;
+        spell_separated(tokens, b"|", &self.choices)?;
+        tokens.delimiter(b"=>")?;
+        self.statements.spell_as(SequenceRole::Statements, tokens)
+    }
+}
+
+/// A case statement (5.4).
+impl<Q: SpellSequence> Spell for Case<Q> {
+    ghost use Rattle.ada_tree.specs.SpellingStatements.{case_written};
+
+    ghost written = { case_written Q.written };
+
+    fn spell(&self, tokens: &mut Tokens) -> Result<(), NoMemory> {
+        tokens.word(b"case")?;
+        self.selector.spell(tokens)?;
+        tokens.word(b"is")?;
+        self.alternatives.spell(tokens)?;
+        spell_end(tokens, b"case")
+    }
+}
+
+/// A loop (5.5).
+impl<Q: SpellSequence> Spell for Loop<Q> {
+    ghost use Rattle.ada_tree.specs.SpellingStatements.{loop_written};
+
+    ghost written = { loop_written Q.written };
+
+    fn spell(&self, tokens: &mut Tokens) -> Result<(), NoMemory> {
+        self.label.spell(tokens)?;
+        self.iteration.spell(tokens)?;
+        tokens.word(b"loop")?;
+        self.statements.spell_as(SequenceRole::Statements, tokens)?;
+        tokens.word(b"end")?;
+        spell_loop_end(tokens, &self.label)
+    }
+}
+
+/// `declare` and a body, or `begin` and statements (5.6).
+fn spell_block_opened<Q: SpellSequence>(
+    tokens: &mut Tokens,
+    declare: bool,
+    place: Place,
+    sequence: &Q,
+) -> Result<(), NoMemory>
+    ensures { OnOk result (tokens.new ≡ tokens.old ++ map spelt (block_opened Q.written declare place sequence.now)) }
+{
+    if declare {
+        tokens.word(b"declare")?;
+        sequence.spell_as(SequenceRole::Body, tokens)
+    } else {
+        tokens.word(b"begin")?;
+        sequence.spell_as(SequenceRole::Handled, tokens)
+    }
+}
+
+/// A block (5.6).
+impl<Q: SpellSequence> Spell for Block<Q> {
+    ghost use Rattle.ada_tree.specs.SpellingStatements.{block_written};
+
+    ghost written = { block_written Q.written };
+
+    fn spell(&self, tokens: &mut Tokens) -> Result<(), NoMemory> {
+        self.label.spell(tokens)?;
+        spell_block_opened(tokens, self.declare, self.place, &self.sequence)?;
+        tokens.word(b"end")?;
+        spell_label_end(tokens, &self.label)?;
+        tokens.delimiter(b";")
+    }
+}
+
+/// A handler (11.2).
+impl<Q: SpellSequence> Spell for Handler<Q> {
+    ghost use Rattle.ada_tree.specs.SpellingStatements.{handler_written};
+
+    ghost written = { handler_written Q.written };
+
+    fn spell(&self, tokens: &mut Tokens) -> Result<(), NoMemory> {
+        tokens.word(b"when")?;
+        self.exceptions.spell(tokens)?;
+        tokens.delimiter(b"=>")?;
+        self.statements.spell_as(SequenceRole::Statements, tokens)
+    }
+}
+
+/// What stands behind the `do` of an accept statement (9.5.2).
+fn spell_accept_body<Q: SpellSequence>(
+    tokens: &mut Tokens,
+    entry: &Identifier,
+    body: &Option<AcceptBody<Q>>,
+) -> Result<(), NoMemory>
+    ensures { OnOk result (tokens.new ≡ tokens.old ++ map spelt (optional (accept_body_written Q.written entry.now) body.now)) }
+{
+    match body {
+        None => Ok(()),
+        Some(body) => {
+            tokens.word(b"do")?;
+            body.sequence.spell_as(SequenceRole::Handled, tokens)?;
+            tokens.word(b"end")?;
+            spell_end_name(tokens, body.named_at_end, entry)
+        }
+    }
+}
+
+/// An accept statement (9.5.2).
+impl<Q: SpellSequence> Spell for Accept<Q> {
+    ghost use Rattle.ada_tree.specs.SpellingStatements.{accept_written};
+
+    ghost written = { accept_written Q.written };
+
+    fn spell(&self, tokens: &mut Tokens) -> Result<(), NoMemory> {
+        tokens.word(b"accept")?;
+        self.entry.spell(tokens)?;
+        spell_bracketed(tokens, b";", self.parameters.as_slice())?;
+        spell_accept_body(tokens, &self.entry, &self.body)?;
+        tokens.delimiter(b";")
+    }
+}
+
+/// A statement (5.1).
+impl<Q: SpellSequence> Spell for Statement<Q> {
+    ghost use Rattle.ada_tree.specs.SpellingStatements.{statement_written};
+
+    ghost written = { statement_written Q.written };
+
+    fn spell(&self, tokens: &mut Tokens) -> Result<(), NoMemory> {
+        match self {
+            Statement::Null { .. } => spell_word_alone(tokens, b"null"),
+            Statement::Assignment(assignment) => assignment.spell(tokens),
+            Statement::Call(call) => call.spell(tokens),
+            Statement::Delay(delay) => delay.spell(tokens),
+            Statement::If(statement) => statement.spell(tokens),
+            Statement::Case(statement) => statement.spell(tokens),
+            Statement::Loop(statement) => statement.spell(tokens),
+            Statement::Exit(exit) => exit.spell(tokens),
+            Statement::Block(block) => block.spell(tokens),
+            Statement::Return { value, .. } => {
+                tokens.word(b"return")?;
+                value.spell(tokens)?;
+                tokens.delimiter(b";")
+            }
+            Statement::Raise { exception, .. } => {
+                tokens.word(b"raise")?;
+                exception.spell(tokens)?;
+                tokens.delimiter(b";")
+            }
+            Statement::Abort { tasks, .. } => {
+                tokens.word(b"abort")?;
+                spell_separated(tokens, b",", tasks)?;
+                tokens.delimiter(b";")
+            }
+            Statement::Accept(accept) => accept.spell(tokens),
+            Statement::Requeue {
+                entry,
+                with_abort,
+                ..
+            } => {
+                tokens.word(b"requeue")?;
+                entry.spell(tokens)?;
+                spell_with_abort(tokens, *with_abort)?;
+                tokens.delimiter(b";")
+            }
+            Statement::Select(select) => select.spell(tokens),
+        }
+    }
+}

@@ -1,0 +1,238 @@
+//! How sequences, library units and a source are spelt (ISO/IEC 8652:2012, 11.2, 3.11, 2.8, clause 7, 10.1).
+ghost use Rattle.std.specs.Prelude.{◌≡◌, ◌++◌, ◌∷◌, map, codes, OnOk, IfOk};
+ghost use Rattle.ada_tree.specs.Written.{word, each_written, optional};
+ghost use Rattle.ada_spelling.specs.Spelt.{spelt};
+ghost use Rattle.ada_tree.specs.SpellingStatements.{handler_written};
+ghost use Rattle.ada_spelling.specs.Spelt.{spelt};
+ghost use Rattle.ada_tree.specs.Spelling.{handlers_written, handled_written, clause_text, package_statements_written, unit_written};
+
+use crate::spelling::{Spell, Spelt, Tokens, spell_each, spell_led, spell_separated};
+use crate::spelling_declarations::{
+    spell_body, spell_body_name, spell_name_and_aspects, spell_named_end,
+};
+use crate::spelling_statements::SpellSequence;
+use ada_lex::Kind;
+use ada_tree::{
+    ContextClause, Handler, LibraryPackage, MainProcedure, Package, PackageBody,
+    PackageDeclaration, Pragma, Sequence, SequenceParts, SequenceRole, Unit,
+};
+use ann_base::NoMemory;
+use std::alloc::Global;
+
+/// The tokens that spell the tree, in order.
+pub fn spell(alloc: Global, tree: &Unit) -> Result<Vec<Spelt>, NoMemory>
+    ensures { IfOk result (λ v. v.items ≡ map spelt (unit_written tree.now)) }
+{
+    let mut tokens = Tokens::new(alloc);
+    tree.spell(&mut tokens)?;
+    Ok(tokens.into_vec())
+}
+
+/// `exception` and the handlers (11.2).
+fn spell_exception_part<Q: SpellSequence>(
+    tokens: &mut Tokens,
+    first: &Handler<Q>,
+    others: &[Handler<Q>],
+) -> Result<(), NoMemory>
+    ensures { OnOk result (tokens.new ≡ tokens.old ++ map spelt (word (codes "exception") ∷ (handler_written Q.written first.now ++ each_written (handler_written Q.written) others.now))) }
+{
+    tokens.word(b"exception")?;
+    first.spell(tokens)?;
+    spell_each(tokens, others)
+}
+
+fn spell_handlers<Q: SpellSequence>(
+    tokens: &mut Tokens,
+    handlers: &[Handler<Q>],
+) -> Result<(), NoMemory>
+    ensures { OnOk result (tokens.new ≡ tokens.old ++ map spelt (handlers_written Q.written handlers.now)) }
+{
+    match handlers {
+        [] => Ok(()),
+        [first, others @ ..] => spell_exception_part(tokens, first, others),
+    }
+}
+
+/// The statements and their handlers (11.2).
+fn spell_handled<Q: SpellSequence>(
+    tokens: &mut Tokens,
+    parts: &SequenceParts<Q>,
+) -> Result<(), NoMemory>
+    ensures { OnOk result (tokens.new ≡ tokens.old ++ map spelt (handled_written Q.written parts.now)) }
+{
+    parts.statements.spell(tokens)?;
+    spell_handlers(tokens, parts.handlers.as_slice())
+}
+
+impl<Q: SpellSequence> SpellSequence for SequenceParts<Q> {
+    ghost use Rattle.ada_spelling.specs.Spelt.{spelt};
+    ghost use Rattle.ada_tree.specs.Spelling.{parts_written};
+
+    ghost written = { parts_written Q.written };
+
+    fn spell_as(&self, role: SequenceRole, tokens: &mut Tokens) -> Result<(), NoMemory> {
+        match role {
+            SequenceRole::Statements => self.statements.spell(tokens),
+            SequenceRole::Handled => spell_handled(tokens, self),
+            SequenceRole::Body => {
+                self.declarations.spell(tokens)?;
+                tokens.word(b"begin")?;
+                spell_handled(tokens, self)
+            }
+        }
+    }
+}
+
+impl SpellSequence for Sequence {
+    ghost use Rattle.ada_spelling.specs.Spelt.{spelt};
+    ghost use Rattle.ada_tree.specs.Spelling.{sequence_written};
+
+    ghost written = { sequence_written };
+
+    #[tactic(auto, using(ada_tree::proofs::SequenceFolds::sequence_is_written))]
+    fn spell_as(&self, role: SequenceRole, tokens: &mut Tokens) -> Result<(), NoMemory> {
+        self.parts.get().spell_as(role, tokens)
+    }
+}
+
+/// A pragma (2.8).
+impl Spell for Pragma {
+    ghost use Rattle.ada_spelling.specs.Spelt.{spelt};
+    ghost use Rattle.ada_tree.specs.Spelling.{pragma_written};
+
+    ghost written = { pragma_written };
+
+    fn spell(&self, tokens: &mut Tokens) -> Result<(), NoMemory> {
+        tokens.word(b"pragma")?;
+        self.name.spell(tokens)?;
+        tokens.delimiter(b"(")?;
+        spell_separated(tokens, b",", &self.arguments)?;
+        tokens.delimiter(b")")?;
+        tokens.delimiter(b";")
+    }
+}
+
+fn clause_text(is_use: bool) -> &'static [u8]
+    ensures { result.now ≡ clause_text is_use }
+{
+    if is_use { b"use" } else { b"with" }
+}
+
+/// A clause of a context (10.1.2, 8.4).
+impl Spell for ContextClause {
+    ghost use Rattle.ada_spelling.specs.Spelt.{spelt};
+    ghost use Rattle.ada_tree.specs.Spelling.{clause_written};
+
+    ghost written = { clause_written };
+
+    fn spell(&self, tokens: &mut Tokens) -> Result<(), NoMemory> {
+        tokens.word(clause_text(self.is_use))?;
+        spell_separated(tokens, b",", &self.names)?;
+        tokens.delimiter(b";")
+    }
+}
+
+/// A package's declaration (7.1).
+impl Spell for PackageDeclaration {
+    ghost use Rattle.ada_spelling.specs.Spelt.{spelt};
+    ghost use Rattle.ada_tree.specs.Spelling.{package_declaration_written};
+
+    ghost written = { package_declaration_written };
+
+    fn spell(&self, tokens: &mut Tokens) -> Result<(), NoMemory> {
+        tokens.word(b"package")?;
+        self.name.spell(tokens)?;
+        tokens.word(b"is")?;
+        self.declarations.spell(tokens)?;
+        spell_led(tokens, Kind::Word, b"private", &self.private)?;
+        spell_named_end(tokens, self.named_at_end, &self.name)
+    }
+}
+
+/// `begin` and the statements of a package's body, where they stand there (7.2).
+fn spell_package_statements(
+    tokens: &mut Tokens,
+    sequence: &Option<Sequence>,
+) -> Result<(), NoMemory>
+    ensures { OnOk result (tokens.new ≡ tokens.old ++ map spelt (optional package_statements_written sequence.now)) }
+{
+    match sequence {
+        None => Ok(()),
+        Some(sequence) => {
+            tokens.word(b"begin")?;
+            sequence.spell_as(SequenceRole::Handled, tokens)
+        }
+    }
+}
+
+/// A package's body (7.2).
+impl Spell for PackageBody {
+    ghost use Rattle.ada_spelling.specs.Spelt.{spelt};
+    ghost use Rattle.ada_tree.specs.Spelling.{package_body_written};
+
+    ghost written = { package_body_written };
+
+    fn spell(&self, tokens: &mut Tokens) -> Result<(), NoMemory> {
+        tokens.word(b"package")?;
+        spell_body_name(tokens, &self.name)?;
+        self.declarations.spell(tokens)?;
+        spell_package_statements(tokens, &self.sequence)?;
+        spell_named_end(tokens, self.named_at_end, &self.name)
+    }
+}
+
+impl Spell for Package {
+    ghost use Rattle.ada_spelling.specs.Spelt.{spelt};
+    ghost use Rattle.ada_tree.specs.Spelling.{package_written};
+
+    ghost written = { package_written };
+
+    fn spell(&self, tokens: &mut Tokens) -> Result<(), NoMemory> {
+        match self {
+            Package::Declaration(declaration) => declaration.spell(tokens),
+            Package::Body(body) => body.spell(tokens),
+        }
+    }
+}
+
+/// A package with its context (10.1.1).
+impl Spell for LibraryPackage {
+    ghost use Rattle.ada_spelling.specs.Spelt.{spelt};
+    ghost use Rattle.ada_tree.specs.Spelling.{library_package_written};
+
+    ghost written = { library_package_written };
+
+    fn spell(&self, tokens: &mut Tokens) -> Result<(), NoMemory> {
+        self.context.spell(tokens)?;
+        self.package.spell(tokens)
+    }
+}
+
+/// The main procedure (6.3, 10.2).
+impl Spell for MainProcedure {
+    ghost use Rattle.ada_spelling.specs.Spelt.{spelt};
+    ghost use Rattle.ada_tree.specs.Spelling.{main_written};
+
+    ghost written = { main_written };
+
+    fn spell(&self, tokens: &mut Tokens) -> Result<(), NoMemory> {
+        tokens.word(b"procedure")?;
+        spell_name_and_aspects(tokens, &self.name, self.aspects.as_slice())?;
+        spell_body(tokens, &self.name, &self.body)
+    }
+}
+
+/// A source (10.1).
+impl Spell for Unit {
+    ghost use Rattle.ada_spelling.specs.Spelt.{spelt};
+    ghost use Rattle.ada_tree.specs.Spelling.{unit_written};
+
+    ghost written = { unit_written };
+
+    fn spell(&self, tokens: &mut Tokens) -> Result<(), NoMemory> {
+        self.pragmas.spell(tokens)?;
+        self.packages.spell(tokens)?;
+        self.context.spell(tokens)?;
+        self.main.spell(tokens)
+    }
+}

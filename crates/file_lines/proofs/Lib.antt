@@ -1,0 +1,3 @@
+pub mod BytesByLines
+pub mod HandedOn
+pub mod Refilled

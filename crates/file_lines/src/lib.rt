@@ -1,0 +1,8 @@
+//! The lines of a file, one after another, in memory that grows with the longest line alone.
+#![tactic(auto)]
+
+mod lines;
+#[cfg(test)]
+mod tests;
+
+pub use lines::Lines;

@@ -20,7 +20,7 @@ use Rattle.ada_tree.specs.declared.statements.Statement.{Statement as SourceStat
 use Rattle.ada_tree.specs.declared.statements.Statement.TheVariants as source
 use Rattle.ada_tree.specs.declared.units.MainProcedure.{MainProcedure}
 use Rattle.ada_tree.specs.declared.units.Unit.{Unit as Tree}
-use Rattle.ada_tree.specs.Written.{Written, Lexeme, AllSpell, lexemes_of, word, mark, end_name_written, each_written, optional, name_written}
+use Rattle.ada_tree.specs.Written.{Written, Lexeme, AllSpell, lexemes_of, word, delimiter, end_name_written, each_written, optional, name_written}
 use Rattle.ada_tree.specs.SpellingExpressions.{expression_written, form_written, formal_written, argument_written, arguments_written}
 use Rattle.ada_tree.specs.SpellingStatements.{assignment_written, call_written, handler_written, semicolon, statement_written}
 use Rattle.ada_tree.specs.SpellingDeclarations.{aspect_written, declaration_written, aspects_written, body_written}
@@ -104,7 +104,7 @@ put_argument place [] are = tt
 put_argument place (a ∷ []) are =
     holds_unless HasText (is_some a.formal) (put_in place (out-Expression a.value).form) place
     (put_text place (out-Expression a.value).form (subst AreMeant (expression_is_written a.value)
-    (back_meant (optional formal_written a.formal) (expression_written a.value) (front_meant (argument_written expression_written a) (mark (codes ")") ∷ []) are.1))))
+    (back_meant (optional formal_written a.formal) (expression_written a.value) (front_meant (argument_written expression_written a) (delimiter (codes ")") ∷ []) are.1))))
 put_argument place (a ∷ b ∷ more) are = tt
 
 text_in : (s : SourceStatement Sequence) → AreMeant (statement_written sequence_written s) → Holds HasText (statement_of s)

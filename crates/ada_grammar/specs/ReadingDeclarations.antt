@@ -28,7 +28,7 @@ use Rattle.ada_grammar.specs.ReadingSimple.{bounds_of, subtype_indication_of, pa
 unfoldable pub initial_of : ℕ → Parser (Option Expression)
 initial_of left = choose (sees_delimiter (codes ":=")) (do the_delimiter (codes ":="); value ← expression_of left; pure (Some value)) (pure None)
 
--- ["aliased"] ["constant"] delimiter [":=" expression] ";", behind the names and the colon
+-- ["aliased"] ["constant"] subtype [":=" expression] ";", behind the names and the colon
 unfoldable pub object_of : ℕ → OneOrMore Identifier → Parser (Declaration Sequence)
 object_of left names = do
   aliased ← flag_of (codes "aliased")
@@ -50,7 +50,7 @@ named_declaration_of left = do
   the_delimiter (codes ":")
   choose (sees_word (codes "exception")) (exception_of names) (object_of left names)
 
--- NAME {"," NAME} ":" delimiter [":=" expression] ";"
+-- NAME {"," NAME} ":" subtype [":=" expression] ";"
 unfoldable pub component_of : ℕ → Parser Component
 component_of left = do
   names ← identifiers_of
@@ -68,7 +68,7 @@ enumeration_of left = do
   the_delimiter (codes ")")
   pure (definitions.Enumeration literals)
 
--- "array" "(" expression ".." expression ")" "of" delimiter
+-- "array" "(" expression ".." expression ")" "of" subtype
 unfoldable pub array_of : ℕ → Parser TypeDefinition
 array_of left = do
   the_word (codes "array")
@@ -120,7 +120,7 @@ type_of left = do
   the_delimiter (codes ";")
   pure (declarations.Type (record { place = place; name = name; definition = definition }))
 
--- "subtype" NAME "is" delimiter ";"
+-- "subtype" NAME "is" subtype ";"
 unfoldable pub subtype_of : ℕ → Parser (Declaration Sequence)
 subtype_of left = do
   place ← the_word (codes "subtype")
@@ -174,7 +174,7 @@ procedure_of left overriding = do
   aspects ← aspects_of left
   pure (record { overriding = overriding; place = place; name = name; parameters = parameters; result = None; aspects = aspects })
 
--- "function" NAME [parameters] "return" delimiter [aspects]
+-- "function" NAME [parameters] "return" subtype [aspects]
 unfoldable pub function_of : ℕ → Option Place → Parser SubprogramSpecification
 function_of left overriding = do
   place ← the_word (codes "function")

@@ -23,7 +23,7 @@ use Rattle.ada_tree.specs.declared.statements.HandledExceptions.TheVariants as e
 use Rattle.ada_grammar.specs.Reading.{Parser, ◌>>=◌, ◌>>◌, pure, nothing, choose, sees_word, sees_delimiter, sees_identifier, the_word, the_delimiter, an_identifier, flag_of, end_name_of, opening_of, below, items_of, behind_delimiter_of, identifiers_of, name_of, names_of}
 use Rattle.ada_grammar.specs.ReadingExpressions.{expression_of, inner_of, arguments_of}
 
--- ---- subtype delimiters and parameters (3.2.2, 6.1)
+-- ---- subtype indications and parameters (3.2.2, 6.1)
 
 -- "(" name "'" "Access" ")"
 unfoldable pub access_of : ℕ → Parser (Option Constraint)
@@ -58,7 +58,7 @@ subtype_indication_of left = do
   constraint ← constraint_of left
   pure (record { name = name; constraint = constraint })
 
--- NAME {"," NAME} ":" ["in"] ["out"] delimiter
+-- NAME {"," NAME} ":" ["in"] ["out"] subtype
 unfoldable pub parameter_of : ℕ → Parser Parameter
 parameter_of left = do
   names ← identifiers_of

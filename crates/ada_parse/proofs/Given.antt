@@ -1,5 +1,5 @@
 -- What an answer says, by the laws of the grammar.
-use Rattle.std.proofs.Common.{◌≡◌, true, List, Result, Ok, Err, sym, subst}
+use Rattle.std.proofs.Common.{◌≡◌, true, List, Result, Ok, Err, subst}
 use Rattle.std.specs.Prelude.{IfErr, IfOk}
 use Rattle.ann_base.specs.Answers.{Answers, OfFault}
 use Rattle.ann_base.specs.declared.faults.OrMemory.{OrMemory}

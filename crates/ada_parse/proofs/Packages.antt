@@ -1,5 +1,5 @@
 -- A loop that reads packages, each with its context: what each way out of it has read.
-use Rattle.std.proofs.Common.{◌≡◌, ℕ, zero, suc, ◌+◌, ◌-◌, ◌<◌, ◌≤◌, Bool, true, false, List, [], ◌∷◌, ◌++◌, Ok, Err, codes, refl, sym, ap, ◌∙◌, arith}
+use Rattle.std.proofs.Common.{◌≡◌, ℕ, zero, suc, ◌+◌, ◌-◌, ◌<◌, ◌≤◌, true, false, List, [], ◌∷◌, ◌++◌, Ok, Err, codes, refl, sym, ◌∙◌}
 use Rattle.ada_tree.specs.declared.units.ContextClause.{ContextClause}
 use Rattle.ada_tree.specs.declared.units.LibraryPackage.{LibraryPackage}
 use Rattle.ada_tree.specs.declared.units.Package.{Package}

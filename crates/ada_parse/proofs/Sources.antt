@@ -1,5 +1,5 @@
 -- What a source that is read to its end gives, and one that is not.
-use Rattle.std.proofs.Common.{◌≡◌, ℕ, zero, suc, ◌<◌, List, [], ◌∷◌, length, Ok, Err, refl, arith}
+use Rattle.std.proofs.Common.{◌≡◌, ℕ, ◌<◌, List, [], ◌∷◌, length, Ok, Err, refl, arith}
 use Rattle.std.proofs.lemmas.List.{length-map}
 use Rattle.ada_lex.specs.declared.tokens.Token.{Token}
 use Rattle.ada_tree.specs.declared.units.Unit.{Unit as Tree}

@@ -1,5 +1,5 @@
 -- One level further in, and two.
-use Rattle.std.proofs.Common.{◌≡◌, ℕ, zero, suc, ◌-◌, ◌<◌, List, length, Result, Ok, Err, ap, refl, arith}
+use Rattle.std.proofs.Common.{◌≡◌, ℕ, zero, suc, ◌-◌, ◌<◌, List, length, Result, Err, ap, refl, arith}
 use Rattle.std.specs.declared.alloc.Global.{Global}
 use denote.Ref.{MutBor}
 use Rattle.ada_tree.specs.declared.statements.Sequence.{Sequence}
@@ -12,7 +12,7 @@ use Rattle.ada_grammar.specs.Reading.{below}
 use Rattle.ada_grammar.specs.ReadingSimple.{call_of, delay_of}
 use Rattle.ada_sequences.specs.Inside.{ReadsInside}
 use Rattle.ada_grammar.specs.ReadingStatements.{accept_of, accept_opened_of, call_opened_of, delay_opened_of, statement_inside_of}
-use Rattle.ada_grammar.specs.ReadingSequences.{inside_of, no_sequence, parts_of, sequence_of, statement_of}
+use Rattle.ada_grammar.specs.ReadingSequences.{inside_of, parts_of, sequence_of, statement_of}
 
 pub sequence_is_parts : (left : ℕ) (role : SequenceRole) (ls : List Lexeme) → sequence_of left role ls ≡ parts_of left (inside_of left) (inside_of (below left)) role ls
 unfolding sequence_of inside_of

@@ -22,12 +22,12 @@ use ann_base::{NoMemory, Place};
 /// `SUBTYPE [:= EXPRESSION];` (3.3.1)
 fn spell_subtype_and_initial(
     tokens: &mut Tokens,
-    delimiter: &SubtypeIndication,
+    subtype: &SubtypeIndication,
     initial: &Option<Expression>,
 ) -> Result<(), NoMemory>
-    ensures { OnOk result (tokens.new ≡ tokens.old ++ map spelt (indication_written delimiter.now ++ (optional becomes_written initial.now ++ semicolon))) }
+    ensures { OnOk result (tokens.new ≡ tokens.old ++ map spelt (indication_written subtype.now ++ (optional becomes_written initial.now ++ semicolon))) }
 {
-    delimiter.spell(tokens)?;
+    subtype.spell(tokens)?;
     spell_led(tokens, Kind::Delimiter, b":=", initial)?;
     tokens.delimiter(b";")
 }

@@ -1,7 +1,6 @@
 //! How sequences, library units and a source are spelt (ISO/IEC 8652:2012, 11.2, 3.11, 2.8, clause 7, 10.1).
 ghost use Rattle.std.specs.Prelude.{◌≡◌, ◌++◌, ◌∷◌, map, codes, OnOk, IfOk};
 ghost use Rattle.ada_tree.specs.Written.{word, each_written, optional};
-ghost use Rattle.ada_spelling.specs.Spelt.{spelt};
 ghost use Rattle.ada_tree.specs.SpellingStatements.{handler_written};
 ghost use Rattle.ada_spelling.specs.Spelt.{spelt};
 ghost use Rattle.ada_tree.specs.Spelling.{handlers_written, handled_written, clause_text, package_statements_written, unit_written};
@@ -65,7 +64,6 @@ fn spell_handled<Q: SpellSequence>(
 }
 
 impl<Q: SpellSequence> SpellSequence for SequenceParts<Q> {
-    ghost use Rattle.ada_spelling.specs.Spelt.{spelt};
     ghost use Rattle.ada_tree.specs.Spelling.{parts_written};
 
     ghost written = { parts_written Q.written };
@@ -84,7 +82,6 @@ impl<Q: SpellSequence> SpellSequence for SequenceParts<Q> {
 }
 
 impl SpellSequence for Sequence {
-    ghost use Rattle.ada_spelling.specs.Spelt.{spelt};
     ghost use Rattle.ada_tree.specs.Spelling.{sequence_written};
 
     ghost written = { sequence_written };
@@ -97,7 +94,6 @@ impl SpellSequence for Sequence {
 
 /// A pragma (2.8).
 impl Spell for Pragma {
-    ghost use Rattle.ada_spelling.specs.Spelt.{spelt};
     ghost use Rattle.ada_tree.specs.Spelling.{pragma_written};
 
     ghost written = { pragma_written };
@@ -120,7 +116,6 @@ fn clause_text(is_use: bool) -> &'static [u8]
 
 /// A clause of a context (10.1.2, 8.4).
 impl Spell for ContextClause {
-    ghost use Rattle.ada_spelling.specs.Spelt.{spelt};
     ghost use Rattle.ada_tree.specs.Spelling.{clause_written};
 
     ghost written = { clause_written };
@@ -134,7 +129,6 @@ impl Spell for ContextClause {
 
 /// A package's declaration (7.1).
 impl Spell for PackageDeclaration {
-    ghost use Rattle.ada_spelling.specs.Spelt.{spelt};
     ghost use Rattle.ada_tree.specs.Spelling.{package_declaration_written};
 
     ghost written = { package_declaration_written };
@@ -167,7 +161,6 @@ fn spell_package_statements(
 
 /// A package's body (7.2).
 impl Spell for PackageBody {
-    ghost use Rattle.ada_spelling.specs.Spelt.{spelt};
     ghost use Rattle.ada_tree.specs.Spelling.{package_body_written};
 
     ghost written = { package_body_written };
@@ -182,7 +175,6 @@ impl Spell for PackageBody {
 }
 
 impl Spell for Package {
-    ghost use Rattle.ada_spelling.specs.Spelt.{spelt};
     ghost use Rattle.ada_tree.specs.Spelling.{package_written};
 
     ghost written = { package_written };
@@ -197,7 +189,6 @@ impl Spell for Package {
 
 /// A package with its context (10.1.1).
 impl Spell for LibraryPackage {
-    ghost use Rattle.ada_spelling.specs.Spelt.{spelt};
     ghost use Rattle.ada_tree.specs.Spelling.{library_package_written};
 
     ghost written = { library_package_written };
@@ -210,7 +201,6 @@ impl Spell for LibraryPackage {
 
 /// The main procedure (6.3, 10.2).
 impl Spell for MainProcedure {
-    ghost use Rattle.ada_spelling.specs.Spelt.{spelt};
     ghost use Rattle.ada_tree.specs.Spelling.{main_written};
 
     ghost written = { main_written };
@@ -224,7 +214,6 @@ impl Spell for MainProcedure {
 
 /// A source (10.1).
 impl Spell for Unit {
-    ghost use Rattle.ada_spelling.specs.Spelt.{spelt};
     ghost use Rattle.ada_tree.specs.Spelling.{unit_written};
 
     ghost written = { unit_written };

@@ -45,7 +45,7 @@ value_fits left e = expression_fits e precedence.Logical left
 abbrev pub value_fits_at : Expression → ℕ → Bool
 value_fits_at e left = expression_fits e precedence.Logical left
 
--- ---- subtype delimiters and parameters: a timer's task stands in brackets, and so do parameters
+-- ---- subtype indications and parameters: a timer's task stands in brackets, and so do parameters
 
 abbrev pub nothing_in_it : ℕ → Bool
 nothing_in_it left = true

@@ -38,13 +38,13 @@ use Rattle.ada_tree.specs.SpellingStatements.{semicolon, indication_written, par
 abbrev pub becomes_written : Expression → List Written
 becomes_written value = delimiter (codes ":=") ∷ expression_written value
 
--- NAME {"," NAME} ":" ["aliased"] ["constant"] delimiter [":=" expression] ";"
+-- NAME {"," NAME} ":" ["aliased"] ["constant"] subtype [":=" expression] ";"
 abbrev pub object_written : ObjectDeclaration → List Written
 object_written o =
     identifiers_written o.names ++ delimiter (codes ":") ∷ (flag o.aliased (word (codes "aliased") ∷ []) ++ (flag o.constant (word (codes "constant") ∷ [])
     ++ (indication_written o.subtype ++ (optional becomes_written o.initial ++ semicolon))))
 
--- NAME {"," NAME} ":" delimiter [":=" expression] ";"
+-- NAME {"," NAME} ":" subtype [":=" expression] ";"
 abbrev pub component_written : Component → List Written
 component_written c = identifiers_written c.names ++ delimiter (codes ":") ∷ (indication_written c.subtype ++ (optional becomes_written c.initial ++ semicolon))
 
@@ -63,7 +63,7 @@ definition_written (definition.Derived parent components) = word (codes "new") �
 abbrev pub type_written : TypeDeclaration → List Written
 type_written t = word_at t.place (codes "type") ∷ identifier_written t.name ∷ word (codes "is") ∷ (definition_written t.definition ++ semicolon)
 
--- "subtype" NAME "is" delimiter ";"
+-- "subtype" NAME "is" subtype ";"
 abbrev pub subtype_written : SubtypeDeclaration → List Written
 subtype_written s = word_at s.place (codes "subtype") ∷ identifier_written s.name ∷ word (codes "is") ∷ (indication_written s.subtype ++ semicolon)
 
@@ -91,7 +91,7 @@ subprogram_word (Some result) = codes "function"
 abbrev pub result_written : SubtypeIndication → List Written
 result_written result = word (codes "return") ∷ indication_written result
 
--- ["overriding"] ("procedure" | "function") NAME [parameters] ["return" delimiter] [aspects]
+-- ["overriding"] ("procedure" | "function") NAME [parameters] ["return" subtype] [aspects]
 abbrev pub specification_written : SubprogramSpecification → List Written
 specification_written s =
     optional overriding_written s.overriding ++ word_at s.place (subprogram_word s.result) ∷ identifier_written s.name ∷ (parameters_written s.parameters

@@ -43,7 +43,7 @@ use Rattle.ada_tree.specs.declared.selects.Trigger.TheVariants as trigger
 use Rattle.ada_tree.specs.Written.{Written, word, word_at, delimiter, identifier_written, each_written, separated, all_written, optional, flag, enclosed, name_written, identifiers_written, end_name_written}
 use Rattle.ada_tree.specs.SpellingExpressions.{expression_written, arguments_written}
 
--- ---- subtype delimiters and parameters (3.2.2, 6.1)
+-- ---- subtype indications and parameters (3.2.2, 6.1)
 
 abbrev pub constraint_written : Constraint → List Written
 constraint_written (constraint.Access name) = delimiter (codes "(") ∷ (name_written name ++ delimiter (codes "'") ∷ word (codes "access") ∷ delimiter (codes ")") ∷ [])
@@ -53,7 +53,7 @@ constraint_written (constraint.Range low high) = word (codes "range") ∷ (expre
 abbrev pub indication_written : SubtypeIndication → List Written
 indication_written m = name_written m.name ++ optional constraint_written m.constraint
 
--- NAME {"," NAME} ":" ["in"] ["out"] delimiter
+-- NAME {"," NAME} ":" ["in"] ["out"] subtype
 abbrev pub parameter_written : Parameter → List Written
 parameter_written p =
     identifiers_written p.names ++ delimiter (codes ":") ∷ (flag p.is_in (word (codes "in") ∷ []) ++ (flag p.is_out (word (codes "out") ∷ []) ++ indication_written p.subtype))

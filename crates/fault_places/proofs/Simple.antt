@@ -1,4 +1,4 @@
--- Subtype delimiters, parameters, and statements without others in them: what is read hangs on no later token.
+-- Subtype indications, parameters, and statements without others in them: what is read hangs on no later token.
 use Rattle.std.proofs.Common.{ℕ, List, [], ◌∷◌}
 use Rattle.std.specs.Prelude.{Option, Some, None}
 use Rattle.ada_tree.specs.declared.names.Identifier.{Identifier}

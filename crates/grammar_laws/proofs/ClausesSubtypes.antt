@@ -1,4 +1,4 @@
--- Subtype delimiters and parameters (3.2.2, 6.1).
+-- Subtype indications and parameters (3.2.2, 6.1).
 use Rattle.std.proofs.Common.{◌≡◌, ℕ, Bool, true, false, ◌&&◌, List, [], ◌∷◌, ◌++◌, refl, sym, subst, codes}
 use Rattle.std.specs.Prelude.{Option, Some, None}
 use Rattle.std.specs.List.{list_all}
@@ -95,7 +95,7 @@ constraint_complete left (Some (constraints.Range low high)) ls r okay l end =
 pub constraint_exact : (left : ℕ) → Exact (optional constraint_written) (optional_fits (constraint_fits left)) ends_subtype (constraint_of left)
 constraint_exact left = record { sound = (constraint_sound left).by; complete = λ o ls r q okay l end. constraint_complete left o ls r okay l end }
 
--- ---- subtype delimiters
+-- ---- subtype indications
 
 constraint_no_point : (c : Constraint) (ls r : List Lexeme) → Leads (constraint_written c) ls r → not_delimiter (codes ".") ls ≡ true
 unfolding starts

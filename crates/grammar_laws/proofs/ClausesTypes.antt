@@ -50,7 +50,7 @@ enumeration_exact left =
     plain_before enumeration Any (delimiter (codes ")")) _ always itself identifiers_written shapeless (not_delimiter (codes ",")) identifiers_of _ identifiers_exact (λ l ls. refl) _ (λ a. refl)
     (λ literals. delimiter_ends enumeration _ (codes ")") literals (tt, refl) (λ j p. p.1)))
 
--- ---- arrays: "array" "(" expression ".." expression ")" "of" delimiter
+-- ---- arrays: "array" "(" expression ".." expression ")" "of" subtype
 
 abbrev Arrayed : Type 0
 Arrayed = (Expression × Expression) × SubtypeIndication

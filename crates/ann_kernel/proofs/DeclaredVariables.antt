@@ -30,13 +30,12 @@ world_stored None w = w
 world_stored (Some s) w = write_cell (scope_id 1) s.cell (Whole s.value) w
 
 -- without an initial value a variable is set to 0
-pub HasDefaults : Image → World → ℕ → Type 0
+abbrev pub HasDefaults : Image → World → ℕ → Type 0
 HasDefaults p w count = (n : ℕ) → n < count → default_cells p w (main_variable n) ≡ Whole (pos 0) ∷ []
 
 -- by the kind of the declaration
 kind-declared : (p : Image) (w : World) (who : Who) (cells : List ℤ) (count : ℕ) (d : DeclNo) (k : DeclarationKind) → StandsInMain w who cells → HasVariables p count → HasDefaults p w count → AreIntegers cells → d.0 < count → IsVariableKind k →
     declared (seen_by p w who) d k ≡ Ok (world_stored (store_of_kind p cells d k) w)
-unfolding HasDefaults
 kind-declared p w who cells count d (kind.Object initial.Default) m h defaults a i v =
     ap (λ r. r >>= λ x. initialized (seen_by p w who) x initial.Default w) (object-is p w who cells count (object.Declared d) m h i)
     ∙ ap (λ values. Ok (edit_cells (scope_id 1) (put_cells d.0 values) w)) (defaults d.0 i)

@@ -62,7 +62,6 @@ one-default (suc count) zero h = refl
 one-default (suc count) (suc n) h = one-default count n (omega arith)
 
 defaults-inside : (name : List ℕ) (vs : List Declaration) (es : List Expression) (body : List Action) (now : ℕ) (onward : Option StatementNo) (cells : List ℤ) → HasVariables (simple_program name vs es body) (length vs) → HasDefaults (simple_program name vs es body) (inside (simple_program name vs es body) now onward cells) (length vs)
-unfolding HasDefaults
 defaults-inside name vs es body now onward cells h n i =
     let count = length vs in
     ap (λ k. take k (drop n (take count (replicate count (Whole (pos 0)))))) (h.variables n i).cells

@@ -1,27 +1,23 @@
 //! annexd: the timed run of an Ada program, as an exact trace.
 #![tactic(auto)]
 
-mod accepting;
-mod asking;
-mod codes;
 mod noting;
 mod performing;
-mod reading;
 mod running;
-mod streams;
 #[cfg(test)]
 mod tests;
 mod whole;
 
 use ann_base::{HostShelf, HostSink};
+use commands::Outcome;
 use noting::conclude;
-use performing::Failure;
 use std::process::ExitCode;
 use std::{env, io};
 use whole::top;
 
-/// Passes the words behind the program's name to `top`, with the host's files and streams. Where memory is wanting for
-/// the words the status is 9, as it is behind them.
+/// Passes the words behind the program's name to `top`, with the host's files and streams. Words that are not UTF-8 are
+/// refused, as words that are not asked for are; where memory runs out for the words the status is 9, as it is behind
+/// them.
 fn main(rt: HostRuntime) -> io::Result<ExitCode> {
     let mut notes = HostSink::errors(rt.stderr());
     let status = match words_behind_name(rt) {
@@ -31,7 +27,10 @@ fn main(rt: HostRuntime) -> io::Result<ExitCode> {
             top(rt.alloc(), &words, &mut shelf, &mut out, &mut notes)
         }
         Err(error) if error.kind() == io::ErrorKind::OutOfMemory => {
-            conclude(&mut notes, Err(Failure::Memory))
+            conclude(&mut notes, Outcome::NoMemory)
+        }
+        Err(error) if error.kind() == io::ErrorKind::InvalidData => {
+            conclude(&mut notes, Outcome::WordsRefused)
         }
         Err(error) => return Err(error),
     };

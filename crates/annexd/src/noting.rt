@@ -1,89 +1,69 @@
 //! The status of an outcome, and the note on it.
-ghost use Rattle.std.specs.Prelude.{◌≡◌, ◌≤◌, OnOk, OnErr, Err};
+ghost use Rattle.std.specs.Prelude.{◌≡◌, ◌≤◌, Some, OnOk, OnErr};
 ghost use Rattle.ann_base.specs.Outside.{Rose, extended};
-ghost use Rattle.annexd.specs.Notes.{Concludes, Noted, HoldsFront, refusal_text, note_of, failure_status, stop_status};
+ghost use Rattle.outside_bytes.specs.Pieces.{HoldsPrefix};
+ghost use Rattle.commands.specs.Outside.{sink_of};
+ghost use Rattle.commands.specs.Outcomes.{Concludes, ConcludesWith, refusal_text};
 
-use crate::codes::Code;
-use crate::performing::Failure;
-use crate::streams::{write_all, write_four};
+use ada_front::Refusal;
 use ann_base::{Failed, Sink};
-use ann_kernel::Stop;
+use commands::Outcome;
 use itoa::Buffer;
+use outside_bytes::{write_all, write_four};
 
-/// The status of an outcome. A failure is noted; where the note cannot be written the status is 8.
-pub fn conclude<K: Sink>(notes: &mut K, outcome: Result<Stop, Failure>) -> u8
-    ensures concluded { Concludes outcome (K.held notes.old) (K.held notes.new) (Rose (K.faults notes.old) (K.faults notes.new)) result }
+/// The status of an outcome. It is noted where the command was not done; where the note cannot be written the status
+/// is 8.
+pub fn conclude<K: Sink>(notes: &mut K, outcome: Outcome) -> u8
+    ensures concluded { Concludes outcome (sink_of K.held K.faults notes.old notes.new) result }
     ensures monotone { K.faults notes.old ≤ K.faults notes.new }
 {
+    let status = outcome.status();
     match outcome {
-        Ok(stop) => status_of(stop),
-        Err(failure) => note(notes, failure),
+        Outcome::Ended(_) => status,
+        Outcome::Accepted => status,
+        Outcome::WordsRefused => note(notes, b"words refused\n", status),
+        Outcome::SourceRefused(refusal) => note_refusal(notes, refusal, status),
+        Outcome::ReadFault => note(notes, b"read fault\n", status),
+        Outcome::WriteFault => note(notes, b"write fault\n", status),
+        Outcome::NoMemory => note(notes, b"no memory\n", status),
     }
 }
 
-/// Notes a failure.
-fn note<K: Sink>(notes: &mut K, failure: Failure) -> u8
-    ensures noted { Noted (note_of failure) (failure_status failure) (K.held notes.old) (K.held notes.new) (Rose (K.faults notes.old) (K.faults notes.new)) result }
+/// Writes a note, and answers the status that goes with it.
+fn note<K: Sink>(notes: &mut K, text: &[u8], status: u8) -> u8
+    ensures concluded { ConcludesWith (Some text.now) status
+        (sink_of K.held K.faults notes.old notes.new) result }
     ensures monotone { K.faults notes.old ≤ K.faults notes.new }
 {
-    match write_note(notes, failure) {
-        Ok(()) => failure_status(failure),
+    match write_all(notes, text) {
+        Ok(()) => status,
         Err(_) => 8,
     }
 }
 
-/// Writes the note on a failure. After a fault a front of it was written.
-fn write_note<K: Sink>(notes: &mut K, failure: Failure) -> Result<(), Failed>
-    ensures written { OnOk result (K.held notes.new ≡ extended (K.held notes.old) (note_of failure)) }
+/// The same of the note on a refused source.
+fn note_refusal<K: Sink>(notes: &mut K, refusal: Refusal, status: u8) -> u8
+    ensures concluded { ConcludesWith (Some (refusal_text refusal)) status
+        (sink_of K.held K.faults notes.old notes.new) result }
     ensures monotone { K.faults notes.old ≤ K.faults notes.new }
-    ensures cause { OnErr result (Rose (K.faults notes.old) (K.faults notes.new)) }
-    ensures front { OnErr result (HoldsFront (K.held notes.old) (K.held notes.new) (note_of failure)) }
 {
-    match failure {
-        Failure::Words => write_all(notes, b"words refused\n"),
-        Failure::Unread => write_all(notes, b"read fault\n"),
-        Failure::Refused(code) => write_refusal(notes, code),
-        Failure::Unwritten => write_all(notes, b"write fault\n"),
-        Failure::Memory => write_all(notes, b"no memory\n"),
+    match write_refusal(notes, refusal) {
+        Ok(()) => status,
+        Err(_) => 8,
     }
 }
 
-/// Writes `source refused LINE:COLUMN CODE` and a line feed.
-fn write_refusal<K: Sink>(notes: &mut K, code: Code) -> Result<(), Failed>
-    ensures written { OnOk result (K.held notes.new ≡ extended (K.held notes.old) (refusal_text code)) }
+/// Writes `source refused LINE:COLUMN CODE` and a line feed. After a failure a prefix of it was written.
+fn write_refusal<K: Sink>(notes: &mut K, refusal: Refusal) -> Result<(), Failed>
+    ensures written { OnOk result (K.held notes.new ≡ extended (K.held notes.old) (refusal_text refusal)) }
     ensures monotone { K.faults notes.old ≤ K.faults notes.new }
     ensures cause { OnErr result (Rose (K.faults notes.old) (K.faults notes.new)) }
-    ensures front { OnErr result (HoldsFront (K.held notes.old) (K.held notes.new) (refusal_text code)) }
+    ensures prefix { OnErr result (HoldsPrefix (K.held notes.old) (K.held notes.new) (refusal_text refusal)) }
 {
     let (mut line, mut column, mut number) = (Buffer::new(), Buffer::new(), Buffer::new());
-    let line = line.format(code.place.line).as_bytes();
-    let column = column.format(code.place.column).as_bytes();
-    let number = number.format(code.number).as_bytes();
+    let line = line.format(refusal.place.line).as_bytes();
+    let column = column.format(refusal.place.column).as_bytes();
+    let number = number.format(refusal.code.number()).as_bytes();
     write_four(notes, b"source refused ", line, b":", column)?;
-    write_four(notes, b" ", &[code.letter], number, b"\n")
-}
-
-/// The status of a failure.
-fn failure_status(failure: Failure) -> u8
-    ensures { result ≡ failure_status failure }
-{
-    match failure {
-        Failure::Words => 6,
-        Failure::Unread => 7,
-        Failure::Refused(_) => 4,
-        Failure::Unwritten => 8,
-        Failure::Memory => 9,
-    }
-}
-
-/// The status of a run that stopped so.
-fn status_of(stop: Stop) -> u8
-    ensures { result ≡ stop_status stop }
-{
-    match stop {
-        Stop::Completed => 0,
-        Stop::Exception(_) => 1,
-        Stop::Stuck => 2,
-        Stop::Bound => 3,
-    }
+    write_four(notes, b" ", &[refusal.code.letter()], number, b"\n")
 }

@@ -1,98 +1,98 @@
-//! What the words ask for.
+//! What is done for the words.
 ghost use Rattle.std.specs.Prelude.{◌≡◌, ◌≤◌, Some};
-ghost use Rattle.ann_base.specs.Outside.{Rose};
-ghost use Rattle.annexd.specs.Asked.{asked_of};
-ghost use Rattle.annexd.specs.Performed.{Performs, RunsSource, RunsImage, failure_of};
+ghost use Rattle.commands.specs.Requests.{seen, HasTicks};
+ghost use Rattle.commands.specs.Asked.{asked_of};
+ghost use Rattle.commands.specs.Outside.{shelf_of, sink_of};
+ghost use Rattle.commands.specs.Performed.{Performs, ServesBytes, ServesImage, without_image};
 
-use crate::accepting::accept;
-use crate::asking::asked;
-use crate::codes::{Code, Refused as RefusedSource};
-use crate::reading::{Unread, read_source};
-use crate::running::{Unwritten, run};
+use crate::running::{accepted, run};
+use ada_front::{Refusal, accept, long_sources_are_refused};
+use ada_lex::MAX_SOURCE;
 use ada_static::Checked;
-use ann_base::{Shelf, Sink};
-use ann_kernel::Stop;
+use ann_base::{OrMemory, Shelf, Sink};
+use commands::{Outcome, Request, asked};
+use outside_bytes::read_file;
 use std::alloc::Global;
 
-/// Why the words were not done.
-#[derive(Clone, Copy, Debug)]
-pub enum Failure {
-    /// They are not asked for.
-    Words,
-    /// The source could not be read.
-    Unread,
-    /// The source is refused.
-    Refused(Code),
-    /// The trace could not be written.
-    Unwritten,
-    /// Memory was wanting.
-    Memory,
-}
+/// How many bytes of a source are read: one more than it may have, so that one that is too long is seen to be.
+const BYTES: usize = MAX_SOURCE + 1;
 
-/// Does what the words ask for: the trace of the run goes to `out`.
+/// Does what the words ask for, and tells how it ended. What was asked for goes to `out`.
 pub fn perform<S: Shelf, K: Sink>(
     alloc: Global,
     words: &[Vec<u8>],
     shelf: &mut S,
     out: &mut K,
-) -> Result<Stop, Failure>
-    ensures performed { Performs (asked_of words.now) (S.files shelf.old) (Rose (S.faults shelf.old) (S.faults shelf.new)) (K.held out.old) (K.held out.new) (Rose (K.faults out.old) (K.faults out.new)) result }
+) -> Outcome
+    ensures performed { Performs (asked_of words.now)
+        (shelf_of S.files S.faults shelf.old shelf.new)
+        (sink_of K.held K.faults out.old out.new) result }
     ensures monotone_shelf { S.faults shelf.old ≤ S.faults shelf.new }
     ensures monotone_out { K.faults out.old ≤ K.faults out.new }
 {
     match asked(words) {
-        None => Err(Failure::Words),
-        Some(name) => run_file(alloc, name, shelf, out),
+        None => Outcome::WordsRefused,
+        Some(request) => serve(alloc, request, shelf, out),
     }
 }
 
-/// Reads the named source, and runs it where it is accepted.
-fn run_file<S: Shelf, K: Sink>(
-    alloc: Global,
-    name: &[u8],
-    shelf: &mut S,
-    out: &mut K,
-) -> Result<Stop, Failure>
-    ensures performed { Performs (Some name.now) (S.files shelf.old) (Rose (S.faults shelf.old) (S.faults shelf.new)) (K.held out.old) (K.held out.new) (Rose (K.faults out.old) (K.faults out.new)) result }
+/// Reads the source that a request names, and serves it.
+fn serve<S: Shelf, K: Sink>(alloc: Global, request: Request, shelf: &mut S, out: &mut K) -> Outcome
+    requires { HasTicks (seen request) }
+    ensures performed { Performs (Some (seen request.entry))
+        (shelf_of S.files S.faults shelf.old shelf.new)
+        (sink_of K.held K.faults out.old out.new) result }
     ensures monotone_shelf { S.faults shelf.old ≤ S.faults shelf.new }
     ensures monotone_out { K.faults out.old ≤ K.faults out.new }
 {
-    match read_source(alloc, shelf, name) {
-        Ok(source) => run_source(alloc, &source, out),
-        Err(Unread::Failed) => Err(Failure::Unread),
-        Err(Unread::Memory) => Err(Failure::Memory),
+    // A source that was not read to its end is refused as the whole of it is.
+    long_sources_are_refused();
+    match read_file(alloc, shelf, request.source(), BYTES) {
+        Ok(bytes) => serve_bytes(alloc, request, &bytes, out),
+        Err(OrMemory::Fault(_)) => Outcome::ReadFault,
+        Err(OrMemory::Memory) => Outcome::NoMemory,
     }
 }
 
-/// Runs a source where it is accepted.
-fn run_source<K: Sink>(alloc: Global, source: &[u8], out: &mut K) -> Result<Stop, Failure>
-    ensures performed { RunsSource source.now (K.held out.old) (K.held out.new) (Rose (K.faults out.old) (K.faults out.new)) result }
+/// Serves a request with the bytes of its source.
+fn serve_bytes<K: Sink>(alloc: Global, request: Request, bytes: &[u8], out: &mut K) -> Outcome
+    requires { HasTicks (seen request) }
+    ensures served { ServesBytes (seen request.entry) bytes.now
+        (sink_of K.held K.faults out.old out.new) result }
     ensures monotone_out { K.faults out.old ≤ K.faults out.new }
 {
-    match accept(alloc, source) {
-        Ok(checked) => run_checked(alloc, checked, out),
-        Err(refused) => Err(failure_of(refused)),
+    match accept(alloc, bytes) {
+        Ok(checked) => serve_image(alloc, request, checked, out),
+        Err(refused) => without_image(refused),
     }
 }
 
-/// The failure of a source without a checked image.
-fn failure_of(refused: RefusedSource) -> Failure
-    ensures { result ≡ failure_of refused }
+/// The outcome of a source without an image.
+fn without_image(refused: OrMemory<Refusal>) -> Outcome
+    ensures { result ≡ without_image refused }
 {
     match refused {
-        RefusedSource::Source(code) => Failure::Refused(code),
-        RefusedSource::Memory => Failure::Memory,
+        OrMemory::Fault(refusal) => Outcome::SourceRefused(refusal),
+        OrMemory::Memory => Outcome::NoMemory,
     }
 }
 
-/// Runs a checked image.
-fn run_checked<K: Sink>(alloc: Global, checked: Checked, out: &mut K) -> Result<Stop, Failure>
-    ensures performed { RunsImage checked (K.held out.old) (K.held out.new) (Rose (K.faults out.old) (K.faults out.new)) result }
+/// Serves a request with the image of its source.
+fn serve_image<K: Sink>(alloc: Global, request: Request, checked: Checked, out: &mut K) -> Outcome
+    requires { HasTicks (seen request) }
+    ensures served { ServesImage (seen request.entry) checked
+        (sink_of K.held K.faults out.old out.new) result }
     ensures monotone_out { K.faults out.old ≤ K.faults out.new }
 {
-    match run(alloc, checked, out) {
-        Ok(stop) => Ok(stop),
-        Err(Unwritten::Failed) => Err(Failure::Unwritten),
-        Err(Unwritten::Memory) => Err(Failure::Memory),
+    match request {
+        Request::Run { ticks, .. } => match run(alloc, checked, ticks, out) {
+            Ok(stop) => Outcome::Ended(stop),
+            Err(OrMemory::Fault(_)) => Outcome::WriteFault,
+            Err(OrMemory::Memory) => Outcome::NoMemory,
+        },
+        Request::Accept { .. } => match accepted(out) {
+            Ok(()) => Outcome::Accepted,
+            Err(_) => Outcome::WriteFault,
+        },
     }
 }

@@ -251,14 +251,83 @@ fn each_write_fails_in_turn(rt: HostRuntime) -> Result<(), Fail> {
     Ok(())
 }
 
+/// Words that are not asked for; the shelf has a file `source`.
+const REFUSED_WORDS: [&[&[u8]]; 15] = [
+    &[],
+    &[b"run"],
+    &[b"accept"],
+    &[b"walk", b"source"],
+    &[b"run", b""],
+    &[b"run", b"-source"],
+    &[b"accept", b"-x"],
+    &[b"accept", b"source", b"--ticks", b"5"],
+    &[b"run", b"source", b"--ticks"],
+    &[b"run", b"--ticks", b"5", b"source"],
+    &[b"run", b"source", b"--ticks=5"],
+    &[b"run", b"source", b"--ticks", b"0"],
+    &[b"run", b"source", b"--ticks", b"05"],
+    &[b"run", b"source", b"--ticks", b"5x"],
+    &[b"run", b"source", b"--ticks", b"1000000001"],
+];
+
 #[test]
 fn words_and_files_that_are_not_there(rt: HostRuntime) -> Result<(), Fail> {
-    let got = answer(rt.alloc(), &[b"walk", b"source"], HELLO, 10, &[], &[])?;
-    assert_eq!(rt; got.status, 6);
-    assert_eq!(rt; got.notes.held(), b"words refused\n".as_slice());
+    for words in REFUSED_WORDS {
+        let got = answer(rt.alloc(), words, HELLO, 10, &[], &[])?;
+        assert_eq!(rt; got.status, 6);
+        assert_eq!(rt; got.notes.held(), b"words refused\n".as_slice());
+    }
     let got = answer(rt.alloc(), &[b"run", b"other"], HELLO, 10, &[], &[])?;
     assert_eq!(rt; got.status, 7);
     assert_eq!(rt; got.notes.held(), b"read fault\n".as_slice());
+    Ok(())
+}
+
+#[test]
+fn a_run_ends_at_the_asked_tick(rt: HostRuntime) -> Result<(), Fail> {
+    let cases: [(&[u8], &[u8], u8); 3] = [
+        (
+            b"5",
+            b"0 t0 new main 15\n0 t0 ready 15 tail\n0 t0 run\n5 end bound\n",
+            3,
+        ),
+        (
+            b"7",
+            b"0 t0 new main 15\n0 t0 ready 15 tail\n0 t0 run\n7 t0 put hi\n7 end bound\n",
+            3,
+        ),
+        (b"1000000000", TRACE, 0),
+    ];
+    for (ticks, trace, status) in cases {
+        let got = answer(
+            rt.alloc(),
+            &[b"run", b"source", b"--ticks", ticks],
+            HELLO,
+            100,
+            &[],
+            &[],
+        )?;
+        assert_eq!(rt; got.status, status);
+        assert_eq!(rt; got.out.held(), trace);
+    }
+    Ok(())
+}
+
+#[test]
+fn a_source_is_accepted_or_not(rt: HostRuntime) -> Result<(), Fail> {
+    let got = answer(rt.alloc(), &[b"accept", b"source"], HELLO, 4, &[], &[])?;
+    assert_eq!(rt; got.status, 0);
+    assert_eq!(rt; got.out.held(), b"accepted\n".as_slice());
+    assert_eq!(rt; got.notes.held(), b"".as_slice());
+    let (source, note) = REFUSALS[0];
+    let got = answer(rt.alloc(), &[b"accept", b"source"], source, 100, &[], &[])?;
+    assert_eq!(rt; got.status, 4);
+    assert_eq!(rt; got.out.held(), b"".as_slice());
+    assert_eq!(rt; got.notes.held(), note);
+    let got = answer(rt.alloc(), &[b"accept", b"source"], HELLO, 4, &[], &[2])?;
+    assert_eq!(rt; got.status, 8);
+    assert_eq!(rt; got.out.held(), b"acce".as_slice());
+    assert_eq!(rt; got.notes.held(), b"write fault\n".as_slice());
     Ok(())
 }
 

@@ -1,19 +1,20 @@
 //! All that the program does.
 ghost use Rattle.std.specs.Prelude.{◌≡◌, ◌≢◌, ◌≤◌, ◌⊎◌, None, codes};
-ghost use Rattle.ann_base.specs.Outside.{Rose, Lacks, extended};
-ghost use Rattle.annexd.specs.Asked.{asked_of};
-ghost use Rattle.annexd.specs.Performed.{OfAsked};
-ghost use Rattle.annexd.specs.Statuses.{Headline, RunTold, NotAccepted, RefusalTold, Gained, NoteTried, IsStatus};
+ghost use Rattle.ann_base.specs.Outside.{Rose, extended};
+ghost use Rattle.commands.specs.Asked.{asked_of};
+ghost use Rattle.commands.specs.Outside.{shelf_of, sink_of};
+ghost use Rattle.commands.specs.Performed.{IsUnread};
+ghost use Rattle.commands.specs.Statuses.{Headline, AcceptanceTold, DoneTold, NotAccepted, RefusalTold, PrefixTold, NoteTried, IsStatus};
 
 use crate::noting::conclude;
 use crate::performing::perform;
 use ann_base::{Shelf, Sink};
 use std::alloc::Global;
 
-/// Does what the words ask for, and answers the status with which the program ends: 0 the run is completed, 1 it
-/// ended by an exception, 2 it is stuck, 3 its bound was reached, 4 the source is refused, 6 the words are
-/// refused, 7 the source could not be read, 8 something could not be written, 9 memory was wanting. The trace goes
-/// to `out`, and notes on statuses 4 to 9 to `notes`.
+/// Does what the words ask for, and answers the status with which the program ends: 0 a run is completed or a source is
+/// accepted, 1 a run ended by an exception, 2 it is stuck, 3 its bound was reached, 4 the source is refused, 6 the words
+/// are refused, 7 the source could not be read, 8 something could not be written, 9 memory ran out. What was asked for
+/// goes to `out`, and notes on statuses 4 to 9 to `notes`.
 pub fn top<S: Shelf, K: Sink>(
     alloc: Global,
     words: &[Vec<u8>],
@@ -22,31 +23,56 @@ pub fn top<S: Shelf, K: Sink>(
     notes: &mut K,
 ) -> u8
     // What is accepted is run, and its run is written whole.
-    ensures headline { Headline (asked_of words.now) (S.files shelf.old) (K.held out.old) (K.held out.new) (K.held notes.old) (K.held notes.new) result }
-    // The statuses: 0 and 3 tell a run's stop, completed or at its bound.
+    ensures headline { Headline (asked_of words.now)
+        (shelf_of S.files S.faults shelf.old shelf.new)
+        (sink_of K.held K.faults out.old out.new)
+        (sink_of K.held K.faults notes.old notes.new) result }
+    // It is told to be accepted where that was asked for.
+    ensures accepted { AcceptanceTold (asked_of words.now)
+        (shelf_of S.files S.faults shelf.old shelf.new)
+        (sink_of K.held K.faults out.old out.new)
+        (sink_of K.held K.faults notes.old notes.new) result }
+    // The statuses: 0 to 3 come only where what was asked for was done.
     ensures statuses { IsStatus result }
-    ensures run { result ≤ 3 → RunTold (asked_of words.now) (S.files shelf.old) (K.held out.old) (K.held out.new) result }
+    ensures run { result ≤ 3 → DoneTold (asked_of words.now)
+        (shelf_of S.files S.faults shelf.old shelf.new)
+        (sink_of K.held K.faults out.old out.new) result }
     ensures quiet { result ≤ 3 → K.held notes.new ≡ K.held notes.old }
     // 4: the source is refused, exactly where it is not accepted.
-    ensures refused_source { result ≡ 4 → RefusalTold (asked_of words.now) (S.files shelf.old) (K.held notes.old) (K.held notes.new) }
-    ensures not_accepted { NotAccepted (asked_of words.now) (S.files shelf.old) result }
+    ensures refused_source { result ≡ 4 → RefusalTold (asked_of words.now)
+        (shelf_of S.files S.faults shelf.old shelf.new)
+        (sink_of K.held K.faults notes.old notes.new) }
+    ensures not_accepted { NotAccepted (asked_of words.now)
+        (shelf_of S.files S.faults shelf.old shelf.new) result }
     ensures kept_4 { result ≡ 4 → K.held out.new ≡ K.held out.old }
     // 6: the words are refused, exactly where they are not asked for.
     ensures words { result ≡ 6 → asked_of words.now ≡ None }
     ensures refused_words { asked_of words.now ≡ None → result ≢ 8 → result ≡ 6 }
     ensures kept_6 { result ≡ 6 → K.held out.new ≡ K.held out.old }
-    ensures note_6 { result ≡ 6 → K.held notes.new ≡ extended (K.held notes.old) (codes "words refused\n") }
+    ensures note_6 { result ≡ 6 →
+        K.held notes.new ≡ extended (K.held notes.old) (codes "words refused\n") }
     // 7: only where the shelf's faults rose, or it tells its files and the named one is not among them.
-    ensures read_fault { result ≡ 7 → OfAsked (asked_of words.now) (λ name. Lacks (S.files shelf.old) name (Rose (S.faults shelf.old) (S.faults shelf.new))) }
+    ensures read_fault { result ≡ 7 → IsUnread (asked_of words.now)
+        (shelf_of S.files S.faults shelf.old shelf.new) }
     ensures kept_7 { result ≡ 7 → K.held out.new ≡ K.held out.old }
-    ensures note_7 { result ≡ 7 → K.held notes.new ≡ extended (K.held notes.old) (codes "read fault\n") }
+    ensures note_7 { result ≡ 7 →
+        K.held notes.new ≡ extended (K.held notes.old) (codes "read fault\n") }
     // 8: only where the faults of out or notes rose.
-    ensures write_fault { result ≡ 8 → Rose (K.faults out.old) (K.faults out.new) ⊎ Rose (K.faults notes.old) (K.faults notes.new) }
-    ensures front_8 { result ≡ 8 → Gained (asked_of words.now) (S.files shelf.old) (K.held out.old) (K.held out.new) }
-    ensures note_8 { result ≡ 8 → NoteTried (K.held notes.old) (K.held notes.new) }
-    // 9: memory was wanting.
-    ensures front_9 { result ≡ 9 → Gained (asked_of words.now) (S.files shelf.old) (K.held out.old) (K.held out.new) }
-    ensures note_9 { result ≡ 9 → K.held notes.new ≡ extended (K.held notes.old) (codes "no memory\n") }
+    ensures write_fault { result ≡ 8 →
+        Rose (K.faults out.old) (K.faults out.new) ⊎ Rose (K.faults notes.old) (K.faults notes.new) }
+    ensures prefix_8 { result ≡ 8 → PrefixTold (asked_of words.now)
+        (shelf_of S.files S.faults shelf.old shelf.new)
+        (sink_of K.held K.faults out.old out.new) }
+    ensures note_8 { result ≡ 8 → NoteTried (asked_of words.now)
+        (shelf_of S.files S.faults shelf.old shelf.new)
+        (sink_of K.held K.faults out.old out.new)
+        (sink_of K.held K.faults notes.old notes.new) }
+    // 9: memory ran out.
+    ensures prefix_9 { result ≡ 9 → PrefixTold (asked_of words.now)
+        (shelf_of S.files S.faults shelf.old shelf.new)
+        (sink_of K.held K.faults out.old out.new) }
+    ensures note_9 { result ≡ 9 →
+        K.held notes.new ≡ extended (K.held notes.old) (codes "no memory\n") }
     // Counts of faults do not fall.
     ensures monotone_shelf { S.faults shelf.old ≤ S.faults shelf.new }
     ensures monotone_out { K.faults out.old ≤ K.faults out.new }

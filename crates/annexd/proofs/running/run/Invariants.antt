@@ -2,14 +2,14 @@ use Rattle.std.proofs.Common.{◌≡◌, ◌≤◌, ◌++◌, List, ℕ}
 use Rattle.ann_base.specs.Outside.{extended}
 use Rattle.trace_text.specs.Text.{text_of}
 use Rattle.ann_kernel.specs.Kernel.{future, stop_to_come, left_to_do}
-use Rattle.annexd.specs.Runs.{text_of_run, stop_of}
+use Rattle.commands.specs.Runs.{text_of_run, stop_of}
 use Rattle.annexd.proofs.running.run.Given as goal
 
--- a front of the text of the run is written, and what is to come is the rest of it
+-- a prefix of the text of the run is written, and what is to come is the rest of it
 abbrev pub invariant-loop-buffer : goal.invariant-loop-buffer
 invariant-loop-buffer g l = record {
-  text : (front : List ℕ) × (text_of_run l.fn.checked ≡ front ++ text_of (future l.kernel)) × (g.K.Sink.held l.out ≡ extended (g.K.Sink.held l.fn.out) front);
-  stop : stop_to_come l.kernel ≡ stop_of l.fn.checked;
+  text : (prefix : List ℕ) × (text_of_run l.fn.checked l.fn.ticks ≡ prefix ++ text_of (future l.kernel)) × (g.K.Sink.held l.out ≡ extended (g.K.Sink.held l.fn.out) prefix);
+  stop : stop_to_come l.kernel ≡ stop_of l.fn.checked l.fn.ticks;
   monotone : g.K.Sink.faults l.fn.out ≤ g.K.Sink.faults l.out;
 }
 

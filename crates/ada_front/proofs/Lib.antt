@@ -1,0 +1,2 @@
+pub mod Acceptances
+pub mod LongSources

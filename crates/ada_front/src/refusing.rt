@@ -1,0 +1,166 @@
+//! Why a source is refused, and where.
+ghost use Rattle.std.specs.Prelude.{◌≡◌, ◌≤◌, length};
+ghost use Rattle.ada_front.specs.Refusals.{letter_of, number_of, of_tokens, of_grammar, place_of, end_of, place_after};
+
+use ada_grammar::ParseFault;
+use ada_lex::{LexFault, MAX_SOURCE, Token};
+use ann_base::Place;
+
+/// Why a source is refused. Each has a letter and a number, which are printed: F for the form of a source, L for its
+/// legality.
+#[derive(Clone, Copy, Debug, PartialEq, Eq)]
+pub enum Code {
+    /// F1: a byte that no token, separator or comment has there (2.1, 2.2).
+    BadByte,
+    /// F2: not a numeric literal of this profile (2.4).
+    BadNumber,
+    /// F3: a string literal that does not end on its line (2.6).
+    OpenText,
+    /// F4: more bytes than a source may have.
+    TooLong,
+    /// F5: a token that cannot stand here, or the source ends too early.
+    Unexpected,
+    /// F6: nesting that is too deep.
+    TooDeep,
+    /// F7: a name without a visible declaration (8.3).
+    Unknown,
+    /// F8: the second declaration of a name in one region (8.3).
+    Twice,
+    /// F9: two use clauses make different declarations of a name visible (8.4).
+    Ambiguous,
+    /// L40: a form that is not built.
+    NotBuilt,
+    /// L1 to L40: the rule of legality with this number is broken.
+    Rule(u16),
+}
+
+impl Code {
+    /// F or L.
+    pub fn letter(self) -> u8
+        ensures { result ≡ letter_of self }
+    {
+        match self {
+            Code::BadByte => b'F',
+            Code::BadNumber => b'F',
+            Code::OpenText => b'F',
+            Code::TooLong => b'F',
+            Code::Unexpected => b'F',
+            Code::TooDeep => b'F',
+            Code::Unknown => b'F',
+            Code::Twice => b'F',
+            Code::Ambiguous => b'F',
+            Code::NotBuilt => b'L',
+            Code::Rule(_) => b'L',
+        }
+    }
+
+    /// The number after the letter.
+    pub fn number(self) -> u16
+        ensures { result ≡ number_of self }
+    {
+        match self {
+            Code::BadByte => 1,
+            Code::BadNumber => 2,
+            Code::OpenText => 3,
+            Code::TooLong => 4,
+            Code::Unexpected => 5,
+            Code::TooDeep => 6,
+            Code::Unknown => 7,
+            Code::Twice => 8,
+            Code::Ambiguous => 9,
+            Code::NotBuilt => 40,
+            Code::Rule(number) => number,
+        }
+    }
+}
+
+/// A refusal of a source: its reason, and the place where it stands.
+#[derive(Clone, Copy, Debug, PartialEq, Eq)]
+pub struct Refusal {
+    pub place: Place,
+    pub code: Code,
+}
+
+/// The place of a source's first byte.
+const FIRST: Place = Place { line: 1, column: 1 };
+
+/// The refusal of a source without tokens.
+pub fn of_tokens(fault: LexFault) -> Refusal
+    ensures { result ≡ of_tokens fault }
+{
+    match fault {
+        LexFault::BadByte(place) => refused_at(place, Code::BadByte),
+        LexFault::BadNumber(place) => refused_at(place, Code::BadNumber),
+        LexFault::OpenString(place) => refused_at(place, Code::OpenText),
+        LexFault::TooLong => refused_at(FIRST, Code::TooLong),
+    }
+}
+
+/// The refusal of tokens that spell no tree, at the place of the token; the end of the source stands after its last
+/// byte.
+pub fn of_grammar(source: &[u8], tokens: &[Token], fault: ParseFault) -> Refusal
+    requires { length source.now ≤ MAX_SOURCE }
+    ensures { result ≡ of_grammar source.now tokens.now fault }
+{
+    match fault {
+        ParseFault::Unexpected { token } => {
+            refused_at(place_of(source, tokens, token), Code::Unexpected)
+        }
+        ParseFault::TooDeep { token } => {
+            refused_at(place_of(source, tokens, token), Code::TooDeep)
+        }
+    }
+}
+
+/// A refusal for this reason at this place.
+pub fn refused_at(place: Place, code: Code) -> Refusal
+    ensures { result ≡ record { place = place; code = code } }
+{
+    Refusal { place, code }
+}
+
+/// The place of a token, or of the end.
+fn place_of(source: &[u8], tokens: &[Token], token: u32) -> Place
+    requires { length source.now ≤ MAX_SOURCE }
+    ensures { result ≡ place_of source.now tokens.now token }
+{
+    let token = token as usize;
+    if token < tokens.len() {
+        tokens[token].place
+    } else {
+        end_of(source)
+    }
+}
+
+/// The place after the last byte.
+fn end_of(source: &[u8]) -> Place
+    requires { length source.now ≤ MAX_SOURCE }
+    ensures { result ≡ end_of source.now }
+{
+    let mut place = FIRST;
+    let mut rest = source;
+    while let [byte, after @ ..] = rest {
+        place = place_after(place, *byte);
+        rest = after;
+    }
+    place
+}
+
+/// The place after a byte; a line feed alone ends a line.
+fn place_after(place: Place, byte: u8) -> Place
+    requires line { place.line ≤ MAX_SOURCE }
+    requires column { place.column ≤ MAX_SOURCE }
+    ensures { result ≡ place_after place byte }
+{
+    if byte == b'\n' {
+        Place {
+            line: place.line + 1,
+            column: 1,
+        }
+    } else {
+        Place {
+            line: place.line,
+            column: place.column + 1,
+        }
+    }
+}

@@ -1,0 +1,94 @@
+-- Which outcome has a status, and what was noted on it.
+use Rattle.std.proofs.Common.{◌≡◌, ◌≢◌, ◌≤◌, ◌⊎◌, inl, inr, ℕ, List, Option, Some, None, refl, sym, subst, ◌∙◌, arith}
+use Rattle.trace_text.specs.declared.events.Ended.{Ended as Stop}
+use Rattle.trace_text.specs.declared.events.Ended.TheVariants as why
+use Rattle.ada_front.specs.declared.refusing.Refusal.{Refusal}
+use Rattle.commands.specs.declared.outcomes.Outcome.{Outcome}
+use Rattle.commands.specs.declared.outcomes.Outcome.TheVariants.{Ended, Accepted, WordsRefused, SourceRefused, ReadFault, WriteFault, NoMemory}
+use Rattle.commands.specs.Outside.{SinkChange, SinkFailed, GainedPrefix}
+use Rattle.commands.specs.Outcomes.{stop_status, status_of, note_of, IsNoted, IsNotedInPart, Concludes}
+
+pub stop_status-small : (stop : Stop) → stop_status stop ≤ 3
+stop_status-small why.Completed = omega arith
+stop_status-small (why.Exception name) = omega arith
+stop_status-small why.Stuck = omega arith
+stop_status-small why.Bound = omega arith
+
+-- ---- the outcome of a status
+
+pub is_refused : (o : Outcome) → status_of o ≡ 4 → (refusal : Refusal) × (o ≡ SourceRefused refusal)
+is_refused (Ended stop) e = absurd (omega (arith, stop_status-small stop, e))
+is_refused Accepted e = absurd (omega (arith, e))
+is_refused WordsRefused e = absurd (omega (arith, e))
+is_refused (SourceRefused refusal) e = (refusal, refl)
+is_refused ReadFault e = absurd (omega (arith, e))
+is_refused WriteFault e = absurd (omega (arith, e))
+is_refused NoMemory e = absurd (omega (arith, e))
+
+pub is_words : (o : Outcome) → status_of o ≡ 6 → o ≡ WordsRefused
+is_words (Ended stop) e = absurd (omega (arith, stop_status-small stop, e))
+is_words Accepted e = absurd (omega (arith, e))
+is_words WordsRefused e = refl
+is_words (SourceRefused refusal) e = absurd (omega (arith, e))
+is_words ReadFault e = absurd (omega (arith, e))
+is_words WriteFault e = absurd (omega (arith, e))
+is_words NoMemory e = absurd (omega (arith, e))
+
+pub is_read_fault : (o : Outcome) → status_of o ≡ 7 → o ≡ ReadFault
+is_read_fault (Ended stop) e = absurd (omega (arith, stop_status-small stop, e))
+is_read_fault Accepted e = absurd (omega (arith, e))
+is_read_fault WordsRefused e = absurd (omega (arith, e))
+is_read_fault (SourceRefused refusal) e = absurd (omega (arith, e))
+is_read_fault ReadFault e = refl
+is_read_fault WriteFault e = absurd (omega (arith, e))
+is_read_fault NoMemory e = absurd (omega (arith, e))
+
+pub is_write_fault : (o : Outcome) → status_of o ≡ 8 → o ≡ WriteFault
+is_write_fault (Ended stop) e = absurd (omega (arith, stop_status-small stop, e))
+is_write_fault Accepted e = absurd (omega (arith, e))
+is_write_fault WordsRefused e = absurd (omega (arith, e))
+is_write_fault (SourceRefused refusal) e = absurd (omega (arith, e))
+is_write_fault ReadFault e = absurd (omega (arith, e))
+is_write_fault WriteFault e = refl
+is_write_fault NoMemory e = absurd (omega (arith, e))
+
+pub is_memory : (o : Outcome) → status_of o ≡ 9 → o ≡ NoMemory
+is_memory (Ended stop) e = absurd (omega (arith, stop_status-small stop, e))
+is_memory Accepted e = absurd (omega (arith, e))
+is_memory WordsRefused e = absurd (omega (arith, e))
+is_memory (SourceRefused refusal) e = absurd (omega (arith, e))
+is_memory ReadFault e = absurd (omega (arith, e))
+is_memory WriteFault e = absurd (omega (arith, e))
+is_memory NoMemory e = refl
+
+-- ---- what was noted
+
+-- a status other than 8 is that of the outcome, and the note is written whole
+pub concluded : (o : Outcome) (notes : SinkChange) (status : ℕ) → Concludes o notes status → status ≢ 8 → (status ≡ status_of o) × IsNoted (note_of o) notes
+concluded o notes status (inl c) other = c
+concluded o notes status (inr c) other = absurd (other c.0)
+
+-- each status is that of the outcome, or 8
+pub known : (o : Outcome) (notes : SinkChange) (status : ℕ) → Concludes o notes status → (status ≡ status_of o) ⊎ (status ≡ 8)
+known o notes status (inl c) = inl c.0
+known o notes status (inr c) = inr c.0
+
+abbrev pub FailedNote : Option (List ℕ) → SinkChange → Type 0
+FailedNote written notes = (note : List ℕ) × (written ≡ Some note) × SinkFailed notes × GainedPrefix notes note
+
+failed_note : (note : Option (List ℕ)) (notes : SinkChange) → SinkFailed notes → IsNotedInPart note notes → FailedNote note notes
+failed_note None notes fault cut = absurd cut
+failed_note (Some note) notes fault cut = (note, refl, fault, cut)
+
+-- status 8 is that of the outcome, or the note was not written
+pub failed : (o : Outcome) (notes : SinkChange) (status : ℕ) → Concludes o notes status → status ≡ 8 → (status_of o ≡ 8) ⊎ FailedNote (note_of o) notes
+failed o notes status (inl c) e = inl (sym c.0 ∙ e)
+failed o notes status (inr c) e = inr (failed_note (note_of o) notes c.1 c.2)
+
+-- what is concluded of a known outcome
+pub concludes_as : (o is : Outcome) (notes : SinkChange) (status : ℕ) → o ≡ is → Concludes is notes status → Concludes o notes status
+concludes_as o is notes status same c = subst (λ x. Concludes x notes status) (sym same) c
+
+-- a low status is no fault of a stream
+pub low : (status : ℕ) → status ≤ 7 → status ≢ 8
+low status small e = omega (arith, small, e)

@@ -1,0 +1,3 @@
+pub mod Serving
+pub mod Conclusions
+pub mod StatusesTold

@@ -1,0 +1,97 @@
+-- From an image to the bytes of its source, from these to the words.
+use Rattle.std.proofs.Common.{◌≡◌, ◌<◌, ◌+◌, ◌⊎◌, inl, inr, ℕ, List, Some, Result, Ok, Err, sym, ap, subst, ◌∙◌, length, take, arith}
+use Rattle.std.proofs.lemmas.Bool.{cases_lt}
+use Rattle.std.proofs.lemmas.List.{take_all, length-take-le}
+use Rattle.ann_base.specs.declared.faults.OrMemory.{OrMemory}
+use Rattle.ann_base.specs.declared.faults.OrMemory.TheVariants as answer
+use Rattle.ann_base.specs.Answers.{Answers}
+use Rattle.outside_bytes.specs.Files.{ToldFile, Untold, Missing, Holds, told, WhereTold}
+use Rattle.ada_lex.specs.declared.lexing.TheConstants.{MAX_SOURCE}
+use Rattle.ada_names.specs.declared.image.Image.{Image}
+use Rattle.ada_front.specs.declared.refusing.Refusal.{Refusal}
+use Rattle.ada_front.specs.Accepted.{Accepted as IsAccepted, judged, LongSourcesAreRefused}
+use Rattle.commands.specs.declared.outcomes.Outcome.{Outcome}
+use Rattle.commands.specs.declared.outcomes.Outcome.TheVariants.{Ended, Accepted, WordsRefused, SourceRefused, ReadFault, WriteFault, NoMemory}
+use Rattle.commands.specs.Requests.{Asked, source_of}
+use Rattle.commands.specs.Outside.{ShelfChange, SinkChange, IsKept}
+use Rattle.commands.specs.Performed.{without_image, ServesImage, ServesBytes, Performs, IsDone, IsRefused, IsCutShort}
+
+-- ---- from an image to the bytes
+
+abbrev accepted_as : Image → Result Image Refusal
+accepted_as image = Ok image
+
+abbrev image_in : Image → Result Image Refusal → Image
+image_in other (Ok image) = image
+image_in other (Err refusal) = other
+
+same_image : (a b : Image) → accepted_as a ≡ Ok b → a ≡ b
+same_image a b h = ap (image_in a) h
+
+-- what is done with the image of accepted bytes is done with the bytes
+pub accepted_served : (asked : Asked) (bytes : List ℕ) (image : Image) (out : SinkChange) (o : Outcome) → IsAccepted bytes image →
+    ((other : Image) → IsAccepted bytes other → accepted_as other ≡ Ok image) → ServesImage asked image out o → ServesBytes asked bytes out o
+accepted_served asked bytes image out (Ended stop) accepted only h =
+    (record { image = image; accepted = accepted; only = λ other fits. same_image other image (only other fits); text = h.0; outcome_is = h.1 }, h.2)
+accepted_served asked bytes image out Accepted accepted only h =
+    record { image = image; accepted = accepted; only = λ other fits. same_image other image (only other fits); text = h.0; outcome_is = h.1 }
+accepted_served asked bytes image out WordsRefused accepted only h = h
+accepted_served asked bytes image out (SourceRefused refusal) accepted only h = absurd h
+accepted_served asked bytes image out ReadFault accepted only h = h
+accepted_served asked bytes image out WriteFault accepted only h = (h.0, (image, accepted, h.1))
+accepted_served asked bytes image out NoMemory accepted only h = inr (image, accepted, h)
+
+never : (image : Image) (refusal : Refusal) → accepted_as image ≡ Err refusal → ⊥
+never image refusal h = cc
+
+-- bytes that are refused are not accepted; where memory ran out nothing is written
+pub refused_served : (asked : Asked) (bytes : List ℕ) (refused : OrMemory Refusal) (out : SinkChange) → Answers {X = Image} (Err refused) (judged bytes) →
+    ((image : Image) → IsAccepted bytes image → Answers {X = Image} (Err refused) (accepted_as image)) → IsKept out → ServesBytes asked bytes out (without_image refused)
+refused_served asked bytes (answer.Fault refusal) out reason only kept = (record { reason = reason; never = λ image fits. never image refusal (only image fits) }, kept)
+refused_served asked bytes answer.Memory out reason only kept = inl kept
+
+-- ---- from the bytes that were read to those of the file
+
+-- they are the same, or both are too long
+pub read_as : (bytes file : List ℕ) → bytes ≡ take (MAX_SOURCE + 1) file → (bytes ≡ file) ⊎ ((MAX_SOURCE < length bytes) × (MAX_SOURCE < length file))
+read_as bytes file read = elim (cases_lt MAX_SOURCE (length file)) [
+  | inl long ↦ inr (omega (arith, ap length read, length-take-le (MAX_SOURCE + 1) file (omega (arith, long))), long)
+  | inr short ↦ inl (read ∙ take_all (MAX_SOURCE + 1) file (omega (arith, short)))
+]
+
+-- what is refused of the bytes is refused of the file
+refused_file : (bytes file : List ℕ) (refusal : Refusal) → LongSourcesAreRefused → (bytes ≡ file) ⊎ ((MAX_SOURCE < length bytes) × (MAX_SOURCE < length file)) → IsRefused bytes refusal → IsRefused file refusal
+refused_file bytes file refusal law (inl same) refused = subst (λ source. IsRefused source refusal) same refused
+refused_file bytes file refusal law (inr long) refused = record { reason = (law file long.1).0 ∙ sym (law bytes long.0).0 ∙ refused.reason; never = (law file long.1).1 }
+
+done_file : (asked : Asked) (bytes file : List ℕ) (out : SinkChange) (o : Outcome) → LongSourcesAreRefused → (bytes ≡ file) ⊎ ((MAX_SOURCE < length bytes) × (MAX_SOURCE < length file)) → IsDone asked bytes out o → IsDone asked file out o
+done_file asked bytes file out o law (inl same) done = subst (λ source. IsDone asked source out o) same done
+done_file asked bytes file out o law (inr long) done = absurd ((law bytes long.0).1 done.image done.accepted)
+
+cut_file : (asked : Asked) (bytes file : List ℕ) (out : SinkChange) → LongSourcesAreRefused → (bytes ≡ file) ⊎ ((MAX_SOURCE < length bytes) × (MAX_SOURCE < length file)) → IsCutShort asked bytes out → IsCutShort asked file out
+cut_file asked bytes file out law (inl same) cut = subst (λ source. IsCutShort asked source out) same cut
+cut_file asked bytes file out law (inr long) cut = absurd ((law bytes long.0).1 cut.0 cut.1)
+
+-- a fact of the bytes that were read is one of the file
+where_told : (file : ToldFile) (bytes : List ℕ) (F : List ℕ → Type 0) → WhereTold file (λ source. bytes ≡ take (MAX_SOURCE + 1) source) →
+    ((source : List ℕ) → (bytes ≡ source) ⊎ ((MAX_SOURCE < length bytes) × (MAX_SOURCE < length source)) → F source) → WhereTold file F
+where_told Untold bytes F read holds = tt
+where_told Missing bytes F read holds = read
+where_told (Holds source) bytes F read holds = holds source (read_as bytes source read)
+
+-- what is done with the bytes that were read is done for the words
+pub bytes_served : (asked : Asked) (shelf : ShelfChange) (out : SinkChange) (bytes : List ℕ) (o : Outcome) → LongSourcesAreRefused →
+    WhereTold (told shelf.files (source_of asked)) (λ source. bytes ≡ take (MAX_SOURCE + 1) source) → ServesBytes asked bytes out o → Performs (Some asked) shelf out o
+bytes_served asked shelf out bytes (Ended stop) law read h =
+    (where_told (told shelf.files (source_of asked)) bytes (λ source. IsDone asked source out (Ended stop)) read (λ source same. done_file asked bytes source out (Ended stop) law same h.0), h.1)
+bytes_served asked shelf out bytes Accepted law read h =
+    where_told (told shelf.files (source_of asked)) bytes (λ source. IsDone asked source out Accepted) read (λ source same. done_file asked bytes source out Accepted law same h)
+bytes_served asked shelf out bytes WordsRefused law read h = absurd h
+bytes_served asked shelf out bytes (SourceRefused refusal) law read h =
+    (where_told (told shelf.files (source_of asked)) bytes (λ source. IsRefused source refusal) read (λ source same. refused_file bytes source refusal law same h.0), h.1)
+bytes_served asked shelf out bytes ReadFault law read h = absurd h
+bytes_served asked shelf out bytes WriteFault law read h =
+    (h.0, where_told (told shelf.files (source_of asked)) bytes (λ source. IsCutShort asked source out) read (λ source same. cut_file asked bytes source out law same h.1))
+bytes_served asked shelf out bytes NoMemory law read (inl kept) = inl kept
+bytes_served asked shelf out bytes NoMemory law read (inr cut) =
+    inr (where_told (told shelf.files (source_of asked)) bytes (λ source. IsCutShort asked source out) read (λ source same. cut_file asked bytes source out law same cut))

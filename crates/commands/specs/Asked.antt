@@ -1,0 +1,48 @@
+-- What words ask for: `run SOURCE`, `run SOURCE --ticks N` and `accept SOURCE`. SOURCE is not empty and does not begin
+-- with a hyphen. N is from 1 to 1,000,000,000, in plain decimal without leading zeros.
+use Rattle.std.specs.Prelude.{ℕ, ◌+◌, ◌-◌, ◌*◌, ◌==◌, nat_le, Bool, ◌&&◌, if◌then◌else◌, List, [], ◌∷◌, Option, Some, None, codes}
+use Rattle.std.specs.Option.{option_map}
+use Rattle.std.specs.Str.{bytes_eq}
+use Rattle.std.specs.Global.{Vec}
+use Rattle.commands.specs.declared.requests.TheConstants.{DEFAULT_TICKS, MOST_TICKS}
+use Rattle.commands.specs.Requests.{Asked, RunAsked, AcceptAsked}
+
+abbrev pub name_of : List ℕ → Option (List ℕ)
+name_of [] = None
+name_of (byte ∷ bytes) = if byte == 45 then None else Some (byte ∷ bytes)
+
+-- the bytes from 48 to 57 are the digits 0 to 9
+abbrev pub is_digit : ℕ → Bool
+is_digit byte = nat_le 48 byte && nat_le byte 57
+
+abbrev pub ticks_from : ℕ → List ℕ → Option ℕ
+ticks_from so_far [] = Some so_far
+ticks_from so_far (digit ∷ digits) =
+    if is_digit digit && nat_le (so_far * 10 + (digit - 48)) MOST_TICKS then ticks_from (so_far * 10 + (digit - 48)) digits else None
+
+abbrev pub ticks_of : List ℕ → Option ℕ
+ticks_of [] = None
+ticks_of (first ∷ digits) = if nat_le 49 first && nat_le first 57 then ticks_from (first - 48) digits else None
+
+abbrev pub run_up_to : List ℕ → Option ℕ → Option Asked
+run_up_to source None = None
+run_up_to source (Some ticks) = option_map (λ name. RunAsked name ticks) (name_of source)
+
+abbrev pub run_of : List (Vec ℕ) → Option Asked
+run_of [] = None
+run_of (source ∷ []) = run_up_to source.items (Some DEFAULT_TICKS)
+run_of (source ∷ option ∷ []) = None
+run_of (source ∷ option ∷ ticks ∷ []) =
+    if bytes_eq option.items (codes "--ticks") then run_up_to source.items (ticks_of ticks.items) else None
+run_of (source ∷ option ∷ ticks ∷ more ∷ rest) = None
+
+abbrev pub accept_of : List (Vec ℕ) → Option Asked
+accept_of [] = None
+accept_of (source ∷ []) = option_map (λ name. AcceptAsked name) (name_of source.items)
+accept_of (source ∷ more ∷ rest) = None
+
+abbrev pub asked_of : List (Vec ℕ) → Option Asked
+asked_of [] = None
+asked_of (command ∷ rest) =
+    if bytes_eq command.items (codes "run") then run_of rest
+    else (if bytes_eq command.items (codes "accept") then accept_of rest else None)

@@ -1,0 +1,7 @@
+pub mod Requests
+pub mod Asked
+pub mod Outside
+pub mod Runs
+pub mod Outcomes
+pub mod Performed
+pub mod Statuses

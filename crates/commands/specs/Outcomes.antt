@@ -1,0 +1,58 @@
+-- The status and the note of each outcome.
+use Rattle.std.specs.Prelude.{◌≡◌, ◌⊎◌, ℕ, List, ◌++◌, ◌∷◌, [], Option, Some, None, codes, decimal}
+use Rattle.trace_text.specs.declared.events.Ended.{Ended as Stop}
+use Rattle.trace_text.specs.declared.events.Ended.TheVariants as why
+use Rattle.ada_front.specs.declared.refusing.Refusal.{Refusal}
+use Rattle.ada_front.specs.Refusals.{letter_of, number_of}
+use Rattle.commands.specs.declared.outcomes.Outcome.{Outcome}
+use Rattle.commands.specs.declared.outcomes.Outcome.TheVariants.{Ended, Accepted, WordsRefused, SourceRefused, ReadFault, WriteFault, NoMemory}
+use Rattle.commands.specs.Outside.{SinkChange, SinkFailed, IsKept, Gained, GainedPrefix}
+
+abbrev pub stop_status : Stop → ℕ
+stop_status why.Completed = 0
+stop_status (why.Exception name) = 1
+stop_status why.Stuck = 2
+stop_status why.Bound = 3
+
+abbrev pub status_of : Outcome → ℕ
+status_of (Ended stop) = stop_status stop
+status_of Accepted = 0
+status_of WordsRefused = 6
+status_of (SourceRefused refusal) = 4
+status_of ReadFault = 7
+status_of WriteFault = 8
+status_of NoMemory = 9
+
+-- `source refused LINE:COLUMN CODE` and a line feed
+abbrev pub refusal_text : Refusal → List ℕ
+refusal_text refusal =
+    ((codes "source refused " ++ decimal refusal.place.line) ++ (codes ":" ++ decimal refusal.place.column))
+    ++ ((codes " " ++ letter_of refusal.code ∷ []) ++ (decimal (number_of refusal.code) ++ codes "\n"))
+
+-- what is noted, where the command was not done
+abbrev pub note_of : Outcome → Option (List ℕ)
+note_of (Ended stop) = None
+note_of Accepted = None
+note_of WordsRefused = Some (codes "words refused\n")
+note_of (SourceRefused refusal) = Some (refusal_text refusal)
+note_of ReadFault = Some (codes "read fault\n")
+note_of WriteFault = Some (codes "write fault\n")
+note_of NoMemory = Some (codes "no memory\n")
+
+-- the note is written whole, or in part; where there is none, notes stays as it was
+abbrev pub IsNoted : Option (List ℕ) → SinkChange → Type 0
+IsNoted None notes = IsKept notes
+IsNoted (Some note) notes = Gained notes note
+
+abbrev pub IsNotedInPart : Option (List ℕ) → SinkChange → Type 0
+IsNotedInPart None notes = ⊥
+IsNotedInPart (Some note) notes = GainedPrefix notes note
+
+-- The status is this one and the note is written whole; or writing the note failed, and the status is 8.
+abbrev pub ConcludesWith : Option (List ℕ) → ℕ → SinkChange → ℕ → Type 0
+ConcludesWith note wanted notes status =
+    ((status ≡ wanted) × IsNoted note notes) ⊎ ((status ≡ 8) × SinkFailed notes × IsNotedInPart note notes)
+
+-- the same with the status and the note of an outcome
+abbrev pub Concludes : Outcome → SinkChange → ℕ → Type 0
+Concludes outcome notes status = ConcludesWith (note_of outcome) (status_of outcome) notes status

@@ -1,0 +1,109 @@
+//! What the words ask for.
+ghost use Rattle.std.specs.Prelude.{◌≡◌, ◌≤◌, ◌<◌, IfSome};
+ghost use Rattle.std.specs.Option.{option_map, option_copied};
+ghost use Rattle.commands.specs.Requests.{seen, HasTicks};
+ghost use Rattle.commands.specs.Asked.{asked_of, run_of, run_up_to, accept_of, name_of, ticks_of, ticks_from};
+
+use crate::requests::{DEFAULT_TICKS, MOST_TICKS, Request};
+
+/// What the words behind the program's name ask for; None for words that are refused.
+pub fn asked(words: &[Vec<u8>]) -> Option<Request>
+    ensures asked { option_map seen result ≡ asked_of words.now }
+    // A run has from 1 to `MOST_TICKS` ticks.
+    ensures ticks { IfSome result (λ request. HasTicks (seen request)) }
+{
+    match words {
+        [] => None,
+        [command, rest @ ..] => {
+            if command.as_slice() == b"run".as_slice() {
+                run_of(rest)
+            } else if command.as_slice() == b"accept".as_slice() {
+                accept_of(rest)
+            } else {
+                None
+            }
+        }
+    }
+}
+
+/// `SOURCE`, or `SOURCE --ticks N`.
+fn run_of(words: &[Vec<u8>]) -> Option<Request>
+    ensures asked { option_map seen result ≡ run_of words.now }
+    ensures ticks { IfSome result (λ request. HasTicks (seen request)) }
+{
+    match words {
+        [source] => run_up_to(source, Some(DEFAULT_TICKS)),
+        [source, option, ticks] if option.as_slice() == b"--ticks".as_slice() => {
+            run_up_to(source, ticks_of(ticks))
+        }
+        _ => None,
+    }
+}
+
+/// A run of the named source, where there is a number of ticks.
+fn run_up_to(word: &[u8], ticks: Option<u64>) -> Option<Request>
+    requires { IfSome ticks (λ n. (0 < n) × (n ≤ MOST_TICKS)) }
+    ensures asked { option_map seen result ≡ run_up_to word.now ticks }
+    ensures ticks { IfSome result (λ request. HasTicks (seen request)) }
+{
+    let ticks = ticks?;
+    let source = file_name(word)?;
+    Some(Request::Run { source, ticks })
+}
+
+/// `SOURCE`.
+fn accept_of(words: &[Vec<u8>]) -> Option<Request>
+    ensures asked { option_map seen result ≡ accept_of words.now }
+    ensures ticks { IfSome result (λ request. HasTicks (seen request)) }
+{
+    match words {
+        [word] => {
+            let source = file_name(word)?;
+            Some(Request::Accept { source })
+        }
+        _ => None,
+    }
+}
+
+/// A file is named by a word that is not empty and does not begin with a hyphen.
+fn file_name(word: &[u8]) -> Option<&[u8]>
+    ensures { option_copied result ≡ name_of word.now }
+{
+    match word {
+        [] => None,
+        [b'-', ..] => None,
+        _ => Some(word),
+    }
+}
+
+/// A number of ticks in plain decimal, from 1 to `MOST_TICKS`, without leading zeros.
+fn ticks_of(word: &[u8]) -> Option<u64>
+    ensures ticks { result ≡ ticks_of word.now }
+    ensures bounds { IfSome result (λ n. (0 < n) × (n ≤ MOST_TICKS)) }
+{
+    match word {
+        [first @ b'1'..=b'9', digits @ ..] => ticks_from((*first - b'0') as u64, digits),
+        _ => None,
+    }
+}
+
+/// The number with these digits behind a number, up to `MOST_TICKS`.
+fn ticks_from(so_far: u64, digits: &[u8]) -> Option<u64>
+    requires positive { 0 < so_far }
+    requires bounded { so_far ≤ MOST_TICKS }
+    ensures ticks { result ≡ ticks_from so_far digits.now }
+    ensures bounds { IfSome result (λ n. (0 < n) × (n ≤ MOST_TICKS)) }
+{
+    match digits {
+        [] => Some(so_far),
+        [digit @ b'0'..=b'9', rest @ ..] => {
+            let more = so_far * 10 + (*digit - b'0') as u64;
+            if more <= MOST_TICKS {
+                ticks_from(more, rest)
+            } else {
+                None
+            }
+        }
+        _ => None,
+    }
+}

@@ -3,10 +3,13 @@
 
 mod noting;
 mod performing;
+mod reporting;
 mod running;
+mod testing;
 #[cfg(test)]
 mod tests;
 mod whole;
+mod words;
 
 use ann_base::{HostShelf, HostSink};
 use commands::Outcome;

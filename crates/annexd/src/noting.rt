@@ -3,13 +3,16 @@ ghost use Rattle.std.specs.Prelude.{◌≡◌, ◌≤◌, Some, OnOk, OnErr};
 ghost use Rattle.ann_base.specs.Outside.{Rose, extended};
 ghost use Rattle.outside_bytes.specs.Pieces.{HoldsPrefix};
 ghost use Rattle.commands.specs.Outside.{sink_of};
+ghost use Rattle.sched_tests.specs.Reports.{table_note};
 ghost use Rattle.commands.specs.Outcomes.{Concludes, ConcludesWith, refusal_text};
 
+use crate::words::write_labelled;
 use ada_front::Refusal;
 use ann_base::{Failed, Sink};
 use commands::Outcome;
 use itoa::Buffer;
 use outside_bytes::{write_all, write_four};
+use sched_tests::TableFault;
 
 /// The status of an outcome. It is noted where the command was not done; where the note cannot be written the status
 /// is 8.
@@ -21,8 +24,10 @@ pub fn conclude<K: Sink>(notes: &mut K, outcome: Outcome) -> u8
     match outcome {
         Outcome::Ended(_) => status,
         Outcome::Accepted => status,
+        Outcome::Tested { .. } => status,
         Outcome::WordsRefused => note(notes, b"words refused\n", status),
         Outcome::SourceRefused(refusal) => note_refusal(notes, refusal, status),
+        Outcome::TableRefused(fault) => note_table(notes, fault, status),
         Outcome::ReadFault => note(notes, b"read fault\n", status),
         Outcome::WriteFault => note(notes, b"write fault\n", status),
         Outcome::NoMemory => note(notes, b"no memory\n", status),
@@ -53,6 +58,18 @@ fn note_refusal<K: Sink>(notes: &mut K, refusal: Refusal, status: u8) -> u8
     }
 }
 
+/// The same of the note on a refused table.
+fn note_table<K: Sink>(notes: &mut K, fault: TableFault, status: u8) -> u8
+    ensures concluded { ConcludesWith (Some (table_note fault)) status
+        (sink_of K.held K.faults notes.old notes.new) result }
+    ensures monotone { K.faults notes.old ≤ K.faults notes.new }
+{
+    match write_table_fault(notes, fault) {
+        Ok(()) => status,
+        Err(_) => 8,
+    }
+}
+
 /// Writes `source refused LINE:COLUMN CODE` and a line feed. After a failure a prefix of it was written.
 fn write_refusal<K: Sink>(notes: &mut K, refusal: Refusal) -> Result<(), Failed>
     ensures written { OnOk result (K.held notes.new ≡ extended (K.held notes.old) (refusal_text refusal)) }
@@ -66,4 +83,17 @@ fn write_refusal<K: Sink>(notes: &mut K, refusal: Refusal) -> Result<(), Failed>
     let number = number.format(refusal.code.number()).as_bytes();
     write_four(notes, b"source refused ", line, b":", column)?;
     write_four(notes, b" ", &[refusal.code.letter()], number, b"\n")
+}
+
+/// Writes `table refused LINE KIND` and a line feed. After a failure a prefix of it was written.
+fn write_table_fault<K: Sink>(notes: &mut K, fault: TableFault) -> Result<(), Failed>
+    ensures written { OnOk result (K.held notes.new ≡ extended (K.held notes.old) (table_note fault)) }
+    ensures monotone { K.faults notes.old ≤ K.faults notes.new }
+    ensures cause { OnErr result (Rose (K.faults notes.old) (K.faults notes.new)) }
+    ensures prefix { OnErr result (HoldsPrefix (K.held notes.old) (K.held notes.new) (table_note fault)) }
+{
+    let (mut line, mut kind) = (Buffer::new(), Buffer::new());
+    let line = line.format(fault.line).as_bytes();
+    let kind = kind.format(fault.kind.number()).as_bytes();
+    write_labelled(notes, b"table refused ", line, kind)
 }

@@ -1,16 +1,17 @@
 //! What is done for the words.
 ghost use Rattle.std.specs.Prelude.{◌≡◌, ◌≤◌, Some};
-ghost use Rattle.commands.specs.Requests.{seen, HasTicks};
+ghost use Rattle.commands.specs.Requests.{SourceAsked, seen, HasTicks, IsWork};
 ghost use Rattle.commands.specs.Asked.{asked_of};
 ghost use Rattle.commands.specs.Outside.{shelf_of, sink_of};
 ghost use Rattle.commands.specs.Performed.{Performs, ServesBytes, ServesImage, without_image};
 
 use crate::running::{accepted, run};
+use crate::testing::serve_table;
 use ada_front::{Refusal, accept, long_sources_are_refused};
 use ada_lex::MAX_SOURCE;
 use ada_static::Checked;
 use ann_base::{OrMemory, Shelf, Sink};
-use commands::{Outcome, Request, asked};
+use commands::{Outcome, Request, Work, asked};
 use outside_bytes::read_file;
 use std::alloc::Global;
 
@@ -36,7 +37,7 @@ pub fn perform<S: Shelf, K: Sink>(
     }
 }
 
-/// Reads the source that a request names, and serves it.
+/// Serves a request with the file that it names.
 fn serve<S: Shelf, K: Sink>(alloc: Global, request: Request, shelf: &mut S, out: &mut K) -> Outcome
     requires { HasTicks (seen request) }
     ensures performed { Performs (Some (seen request.entry))
@@ -45,24 +46,45 @@ fn serve<S: Shelf, K: Sink>(alloc: Global, request: Request, shelf: &mut S, out:
     ensures monotone_shelf { S.faults shelf.old ≤ S.faults shelf.new }
     ensures monotone_out { K.faults out.old ≤ K.faults out.new }
 {
+    match request {
+        Request::Source { source, work } => serve_source(alloc, source, work, shelf, out),
+        Request::Table { table, test } => serve_table(alloc, table, test, shelf, out),
+    }
+}
+
+/// Reads the named source, and does with it what is asked.
+fn serve_source<S: Shelf, K: Sink>(
+    alloc: Global,
+    source: &[u8],
+    work: Work,
+    shelf: &mut S,
+    out: &mut K,
+) -> Outcome
+    requires { IsWork work }
+    ensures performed { Performs (Some (SourceAsked source.now work))
+        (shelf_of S.files S.faults shelf.old shelf.new)
+        (sink_of K.held K.faults out.old out.new) result }
+    ensures monotone_shelf { S.faults shelf.old ≤ S.faults shelf.new }
+    ensures monotone_out { K.faults out.old ≤ K.faults out.new }
+{
     // A source that was not read to its end is refused as the whole of it is.
     long_sources_are_refused();
-    match read_file(alloc, shelf, request.source(), BYTES) {
-        Ok(bytes) => serve_bytes(alloc, request, &bytes, out),
+    match read_file(alloc, shelf, source, BYTES) {
+        Ok(bytes) => serve_bytes(alloc, work, &bytes, out),
         Err(OrMemory::Fault(_)) => Outcome::ReadFault,
         Err(OrMemory::Memory) => Outcome::NoMemory,
     }
 }
 
-/// Serves a request with the bytes of its source.
-fn serve_bytes<K: Sink>(alloc: Global, request: Request, bytes: &[u8], out: &mut K) -> Outcome
-    requires { HasTicks (seen request) }
-    ensures served { ServesBytes (seen request.entry) bytes.now
+/// Does what is asked with the bytes of a source.
+fn serve_bytes<K: Sink>(alloc: Global, work: Work, bytes: &[u8], out: &mut K) -> Outcome
+    requires { IsWork work }
+    ensures served { ServesBytes work bytes.now
         (sink_of K.held K.faults out.old out.new) result }
     ensures monotone_out { K.faults out.old ≤ K.faults out.new }
 {
     match accept(alloc, bytes) {
-        Ok(checked) => serve_image(alloc, request, checked, out),
+        Ok(checked) => serve_image(alloc, work, checked, out),
         Err(refused) => without_image(refused),
     }
 }
@@ -77,20 +99,20 @@ fn without_image(refused: OrMemory<Refusal>) -> Outcome
     }
 }
 
-/// Serves a request with the image of its source.
-fn serve_image<K: Sink>(alloc: Global, request: Request, checked: Checked, out: &mut K) -> Outcome
-    requires { HasTicks (seen request) }
-    ensures served { ServesImage (seen request.entry) checked
+/// Does what is asked with the image of a source.
+fn serve_image<K: Sink>(alloc: Global, work: Work, checked: Checked, out: &mut K) -> Outcome
+    requires { IsWork work }
+    ensures served { ServesImage work checked
         (sink_of K.held K.faults out.old out.new) result }
     ensures monotone_out { K.faults out.old ≤ K.faults out.new }
 {
-    match request {
-        Request::Run { ticks, .. } => match run(alloc, checked, ticks, out) {
+    match work {
+        Work::Run { ticks } => match run(alloc, checked, ticks, out) {
             Ok(stop) => Outcome::Ended(stop),
             Err(OrMemory::Fault(_)) => Outcome::WriteFault,
             Err(OrMemory::Memory) => Outcome::NoMemory,
         },
-        Request::Accept { .. } => match accepted(out) {
+        Work::Accept => match accepted(out) {
             Ok(()) => Outcome::Accepted,
             Err(_) => Outcome::WriteFault,
         },

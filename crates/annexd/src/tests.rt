@@ -252,7 +252,7 @@ fn each_write_fails_in_turn(rt: HostRuntime) -> Result<(), Fail> {
 }
 
 /// Words that are not asked for; the shelf has a file `source`.
-const REFUSED_WORDS: [&[&[u8]]; 15] = [
+const REFUSED_WORDS: [&[&[u8]]; 19] = [
     &[],
     &[b"run"],
     &[b"accept"],
@@ -268,6 +268,10 @@ const REFUSED_WORDS: [&[&[u8]]; 15] = [
     &[b"run", b"source", b"--ticks", b"05"],
     &[b"run", b"source", b"--ticks", b"5x"],
     &[b"run", b"source", b"--ticks", b"1000000001"],
+    &[b"rta"],
+    &[b"rta", b"-source"],
+    &[b"demand", b""],
+    &[b"demand", b"source", b"source"],
 ];
 
 #[test]
@@ -349,6 +353,51 @@ fn what_is_not_accepted_is_refused_with_its_place(rt: HostRuntime) -> Result<(),
         assert_eq!(rt; got.status, 4);
         assert_eq!(rt; got.notes.held(), note);
         assert_eq!(rt; got.out.held(), b"".as_slice());
+    }
+    Ok(())
+}
+
+/// Tables with the test that is asked for, what is written, the note and the status.
+const TABLES: [(&[u8], &[u8], &[u8], &[u8], u8); 6] = [
+    (
+        b"rta",
+        b"a 3 7 7 0 3\nb 3 12 12 0 2\nc 5 20 20 0 1\n",
+        b"a 3\nb 6\nc 20\n",
+        b"",
+        0,
+    ),
+    (
+        b"rta",
+        b"a 3 7 7 0 3\nb 3 12 12 0 2\nc 5 20 19 0 1\n",
+        b"a 3\nb 6\nc miss\n",
+        b"",
+        12,
+    ),
+    (
+        b"demand",
+        b"a 2 4 4 0 1\nb 3 6 6 0 1\n",
+        b"within 10000000\nbusy 12\n",
+        b"",
+        0,
+    ),
+    (
+        b"demand",
+        b"a 2 4 4 0 1\nb 3 6 4 0 1\n",
+        b"over 4 5\n",
+        b"",
+        12,
+    ),
+    (b"rta", b"a 3 7 8 0 3\n", b"", b"table refused 1 2\n", 13),
+    (b"rta", b"-- a comment\n", b"", b"table refused 0 5\n", 13),
+];
+
+#[test]
+fn tables_are_tested(rt: HostRuntime) -> Result<(), Fail> {
+    for (test, table, lines, note, status) in TABLES {
+        let got = answer(rt.alloc(), &[test, b"source"], table, 5, &[], &[])?;
+        assert_eq!(rt; got.status, status);
+        assert_eq!(rt; got.out.held(), lines);
+        assert_eq!(rt; got.notes.held(), note);
     }
     Ok(())
 }

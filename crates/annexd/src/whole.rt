@@ -4,17 +4,18 @@ ghost use Rattle.ann_base.specs.Outside.{Rose, extended};
 ghost use Rattle.commands.specs.Asked.{asked_of};
 ghost use Rattle.commands.specs.Outside.{shelf_of, sink_of};
 ghost use Rattle.commands.specs.Performed.{IsUnread};
-ghost use Rattle.commands.specs.Statuses.{Headline, AcceptanceTold, DoneTold, NotAccepted, RefusalTold, PrefixTold, NoteTried, IsStatus};
+ghost use Rattle.commands.specs.Statuses.{Headline, AcceptanceTold, TableTold, BeyondTold, DoneTold, NotAccepted, RefusalTold, FailureTold, TableRefusalTold, PrefixTold, NoteTried, IsStatus};
 
 use crate::noting::conclude;
 use crate::performing::perform;
 use ann_base::{Shelf, Sink};
 use std::alloc::Global;
 
-/// Does what the words ask for, and answers the status with which the program ends: 0 a run is completed or a source is
-/// accepted, 1 a run ended by an exception, 2 it is stuck, 3 its bound was reached, 4 the source is refused, 6 the words
-/// are refused, 7 the source could not be read, 8 something could not be written, 9 memory ran out. What was asked for
-/// goes to `out`, and notes on statuses 4 to 9 to `notes`.
+/// Does what the words ask for, and answers the status with which the program ends: 0 a run is completed, a source is
+/// accepted or a table passes its test, 1 a run ended by an exception, 2 it is stuck, 3 its bound was reached, 4 the
+/// source is refused, 6 the words are refused, 7 the file could not be read, 8 something could not be written, 9 memory
+/// ran out, 12 a table fails its test, 13 the table is refused. What was asked for goes to `out`, and notes on statuses
+/// 4 to 9 and 13 to `notes`.
 pub fn top<S: Shelf, K: Sink>(
     alloc: Global,
     words: &[Vec<u8>],
@@ -32,6 +33,14 @@ pub fn top<S: Shelf, K: Sink>(
         (shelf_of S.files S.faults shelf.old shelf.new)
         (sink_of K.held K.faults out.old out.new)
         (sink_of K.held K.faults notes.old notes.new) result }
+    // A table is tested where that was asked for, or is refused.
+    ensures tested { TableTold (asked_of words.now)
+        (shelf_of S.files S.faults shelf.old shelf.new)
+        (sink_of K.held K.faults out.old out.new)
+        (sink_of K.held K.faults notes.old notes.new) result }
+    // Where a busy period is written, no window of any length is overrun.
+    ensures beyond { BeyondTold (asked_of words.now)
+        (shelf_of S.files S.faults shelf.old shelf.new) result }
     // The statuses: 0 to 3 come only where what was asked for was done.
     ensures statuses { IsStatus result }
     ensures run { result ≤ 3 → DoneTold (asked_of words.now)
@@ -73,6 +82,16 @@ pub fn top<S: Shelf, K: Sink>(
         (sink_of K.held K.faults out.old out.new) }
     ensures note_9 { result ≡ 9 →
         K.held notes.new ≡ extended (K.held notes.old) (codes "no memory\n") }
+    // 12: a table fails its test.
+    ensures failed_test { result ≡ 12 → FailureTold (asked_of words.now)
+        (shelf_of S.files S.faults shelf.old shelf.new)
+        (sink_of K.held K.faults out.old out.new) result }
+    ensures quiet_12 { result ≡ 12 → K.held notes.new ≡ K.held notes.old }
+    // 13: the table is refused.
+    ensures refused_table { result ≡ 13 → TableRefusalTold (asked_of words.now)
+        (shelf_of S.files S.faults shelf.old shelf.new)
+        (sink_of K.held K.faults notes.old notes.new) }
+    ensures kept_13 { result ≡ 13 → K.held out.new ≡ K.held out.old }
     // Counts of faults do not fall.
     ensures monotone_shelf { S.faults shelf.old ≤ S.faults shelf.new }
     ensures monotone_out { K.faults out.old ≤ K.faults out.new }

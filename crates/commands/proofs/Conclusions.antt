@@ -1,10 +1,11 @@
 -- Which outcome has a status, and what was noted on it.
-use Rattle.std.proofs.Common.{◌≡◌, ◌≢◌, ◌≤◌, ◌⊎◌, inl, inr, ℕ, List, Option, Some, None, refl, sym, subst, ◌∙◌, arith}
+use Rattle.std.proofs.Common.{◌≡◌, ◌≢◌, ◌≤◌, ◌⊎◌, inl, inr, ℕ, true, false, List, Option, Some, None, refl, sym, subst, ◌∙◌, arith}
 use Rattle.trace_text.specs.declared.events.Ended.{Ended as Stop}
 use Rattle.trace_text.specs.declared.events.Ended.TheVariants as why
 use Rattle.ada_front.specs.declared.refusing.Refusal.{Refusal}
+use Rattle.sched_tests.specs.declared.duties.TableFault.{TableFault}
 use Rattle.commands.specs.declared.outcomes.Outcome.{Outcome}
-use Rattle.commands.specs.declared.outcomes.Outcome.TheVariants.{Ended, Accepted, WordsRefused, SourceRefused, ReadFault, WriteFault, NoMemory}
+use Rattle.commands.specs.declared.outcomes.Outcome.TheVariants.{Ended, Accepted, Tested, WordsRefused, SourceRefused, TableRefused, ReadFault, WriteFault, NoMemory}
 use Rattle.commands.specs.Outside.{SinkChange, SinkFailed, GainedPrefix}
 use Rattle.commands.specs.Outcomes.{stop_status, status_of, note_of, IsNoted, IsNotedInPart, Concludes}
 
@@ -19,17 +20,47 @@ stop_status-small why.Bound = omega arith
 pub is_refused : (o : Outcome) → status_of o ≡ 4 → (refusal : Refusal) × (o ≡ SourceRefused refusal)
 is_refused (Ended stop) e = absurd (omega (arith, stop_status-small stop, e))
 is_refused Accepted e = absurd (omega (arith, e))
+is_refused (Tested true) e = absurd (omega (arith, e))
+is_refused (Tested false) e = absurd (omega (arith, e))
 is_refused WordsRefused e = absurd (omega (arith, e))
 is_refused (SourceRefused refusal) e = (refusal, refl)
+is_refused (TableRefused fault) e = absurd (omega (arith, e))
 is_refused ReadFault e = absurd (omega (arith, e))
 is_refused WriteFault e = absurd (omega (arith, e))
 is_refused NoMemory e = absurd (omega (arith, e))
 
+pub is_failed_test : (o : Outcome) → status_of o ≡ 12 → o ≡ Tested true
+is_failed_test (Ended stop) e = absurd (omega (arith, stop_status-small stop, e))
+is_failed_test Accepted e = absurd (omega (arith, e))
+is_failed_test (Tested true) e = refl
+is_failed_test (Tested false) e = absurd (omega (arith, e))
+is_failed_test WordsRefused e = absurd (omega (arith, e))
+is_failed_test (SourceRefused refusal) e = absurd (omega (arith, e))
+is_failed_test (TableRefused fault) e = absurd (omega (arith, e))
+is_failed_test ReadFault e = absurd (omega (arith, e))
+is_failed_test WriteFault e = absurd (omega (arith, e))
+is_failed_test NoMemory e = absurd (omega (arith, e))
+
+pub is_refused_table : (o : Outcome) → status_of o ≡ 13 → (fault : TableFault) × (o ≡ TableRefused fault)
+is_refused_table (Ended stop) e = absurd (omega (arith, stop_status-small stop, e))
+is_refused_table Accepted e = absurd (omega (arith, e))
+is_refused_table (Tested true) e = absurd (omega (arith, e))
+is_refused_table (Tested false) e = absurd (omega (arith, e))
+is_refused_table WordsRefused e = absurd (omega (arith, e))
+is_refused_table (SourceRefused refusal) e = absurd (omega (arith, e))
+is_refused_table (TableRefused fault) e = (fault, refl)
+is_refused_table ReadFault e = absurd (omega (arith, e))
+is_refused_table WriteFault e = absurd (omega (arith, e))
+is_refused_table NoMemory e = absurd (omega (arith, e))
+
 pub is_words : (o : Outcome) → status_of o ≡ 6 → o ≡ WordsRefused
 is_words (Ended stop) e = absurd (omega (arith, stop_status-small stop, e))
 is_words Accepted e = absurd (omega (arith, e))
+is_words (Tested true) e = absurd (omega (arith, e))
+is_words (Tested false) e = absurd (omega (arith, e))
 is_words WordsRefused e = refl
 is_words (SourceRefused refusal) e = absurd (omega (arith, e))
+is_words (TableRefused fault) e = absurd (omega (arith, e))
 is_words ReadFault e = absurd (omega (arith, e))
 is_words WriteFault e = absurd (omega (arith, e))
 is_words NoMemory e = absurd (omega (arith, e))
@@ -37,8 +68,11 @@ is_words NoMemory e = absurd (omega (arith, e))
 pub is_read_fault : (o : Outcome) → status_of o ≡ 7 → o ≡ ReadFault
 is_read_fault (Ended stop) e = absurd (omega (arith, stop_status-small stop, e))
 is_read_fault Accepted e = absurd (omega (arith, e))
+is_read_fault (Tested true) e = absurd (omega (arith, e))
+is_read_fault (Tested false) e = absurd (omega (arith, e))
 is_read_fault WordsRefused e = absurd (omega (arith, e))
 is_read_fault (SourceRefused refusal) e = absurd (omega (arith, e))
+is_read_fault (TableRefused fault) e = absurd (omega (arith, e))
 is_read_fault ReadFault e = refl
 is_read_fault WriteFault e = absurd (omega (arith, e))
 is_read_fault NoMemory e = absurd (omega (arith, e))
@@ -46,8 +80,11 @@ is_read_fault NoMemory e = absurd (omega (arith, e))
 pub is_write_fault : (o : Outcome) → status_of o ≡ 8 → o ≡ WriteFault
 is_write_fault (Ended stop) e = absurd (omega (arith, stop_status-small stop, e))
 is_write_fault Accepted e = absurd (omega (arith, e))
+is_write_fault (Tested true) e = absurd (omega (arith, e))
+is_write_fault (Tested false) e = absurd (omega (arith, e))
 is_write_fault WordsRefused e = absurd (omega (arith, e))
 is_write_fault (SourceRefused refusal) e = absurd (omega (arith, e))
+is_write_fault (TableRefused fault) e = absurd (omega (arith, e))
 is_write_fault ReadFault e = absurd (omega (arith, e))
 is_write_fault WriteFault e = refl
 is_write_fault NoMemory e = absurd (omega (arith, e))
@@ -55,8 +92,11 @@ is_write_fault NoMemory e = absurd (omega (arith, e))
 pub is_memory : (o : Outcome) → status_of o ≡ 9 → o ≡ NoMemory
 is_memory (Ended stop) e = absurd (omega (arith, stop_status-small stop, e))
 is_memory Accepted e = absurd (omega (arith, e))
+is_memory (Tested true) e = absurd (omega (arith, e))
+is_memory (Tested false) e = absurd (omega (arith, e))
 is_memory WordsRefused e = absurd (omega (arith, e))
 is_memory (SourceRefused refusal) e = absurd (omega (arith, e))
+is_memory (TableRefused fault) e = absurd (omega (arith, e))
 is_memory ReadFault e = absurd (omega (arith, e))
 is_memory WriteFault e = absurd (omega (arith, e))
 is_memory NoMemory e = refl

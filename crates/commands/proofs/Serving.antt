@@ -1,5 +1,5 @@
--- From an image to the bytes of its source, from these to the words.
-use Rattle.std.proofs.Common.{◌≡◌, ◌<◌, ◌+◌, ◌⊎◌, inl, inr, ℕ, List, Some, Result, Ok, Err, sym, ap, subst, ◌∙◌, length, take, arith}
+-- From an image or duties to the bytes of a file, from these to the words.
+use Rattle.std.proofs.Common.{◌≡◌, ◌<◌, ◌+◌, ◌⊎◌, inl, inr, ℕ, Bool, List, Some, Result, Ok, Err, sym, ap, subst, ◌∙◌, length, take, arith}
 use Rattle.std.proofs.lemmas.Bool.{cases_lt}
 use Rattle.std.proofs.lemmas.List.{take_all, length-take-le}
 use Rattle.ann_base.specs.declared.faults.OrMemory.{OrMemory}
@@ -10,11 +10,16 @@ use Rattle.ada_lex.specs.declared.lexing.TheConstants.{MAX_SOURCE}
 use Rattle.ada_names.specs.declared.image.Image.{Image}
 use Rattle.ada_front.specs.declared.refusing.Refusal.{Refusal}
 use Rattle.ada_front.specs.Accepted.{Accepted as IsAccepted, judged, LongSourcesAreRefused}
+use Rattle.sched_tests.specs.declared.duties.TheConstants.{TABLE_BYTES}
+use Rattle.sched_tests.specs.declared.duties.Duty.{Duty}
+use Rattle.sched_tests.specs.Reading.{table_of, CutTablesAreReadAlike}
 use Rattle.commands.specs.declared.outcomes.Outcome.{Outcome}
-use Rattle.commands.specs.declared.outcomes.Outcome.TheVariants.{Ended, Accepted, WordsRefused, SourceRefused, ReadFault, WriteFault, NoMemory}
-use Rattle.commands.specs.Requests.{Asked, source_of}
+use Rattle.commands.specs.declared.outcomes.Outcome.TheVariants.{Ended, Accepted, Tested, WordsRefused, SourceRefused, TableRefused, ReadFault, WriteFault, NoMemory}
+use Rattle.commands.specs.declared.requests.Work.{Work}
+use Rattle.commands.specs.declared.requests.TableTest.{TableTest}
+use Rattle.commands.specs.Requests.{SourceAsked, TableAsked}
 use Rattle.commands.specs.Outside.{ShelfChange, SinkChange, IsKept}
-use Rattle.commands.specs.Performed.{without_image, ServesImage, ServesBytes, Performs, IsDone, IsRefused, IsCutShort}
+use Rattle.commands.specs.Performed.{without_image, ServesImage, ServesBytes, TestsDuties, TestsBytes, Performs, IsDone, IsRefused, IsCutShort, IsTested, IsNoTable, IsTestCutShort}
 
 -- ---- from an image to the bytes
 
@@ -29,14 +34,16 @@ same_image : (a b : Image) → accepted_as a ≡ Ok b → a ≡ b
 same_image a b h = ap (image_in a) h
 
 -- what is done with the image of accepted bytes is done with the bytes
-pub accepted_served : (asked : Asked) (bytes : List ℕ) (image : Image) (out : SinkChange) (o : Outcome) → IsAccepted bytes image →
+pub accepted_served : (asked : Work) (bytes : List ℕ) (image : Image) (out : SinkChange) (o : Outcome) → IsAccepted bytes image →
     ((other : Image) → IsAccepted bytes other → accepted_as other ≡ Ok image) → ServesImage asked image out o → ServesBytes asked bytes out o
 accepted_served asked bytes image out (Ended stop) accepted only h =
     (record { image = image; accepted = accepted; only = λ other fits. same_image other image (only other fits); text = h.0; outcome_is = h.1 }, h.2)
 accepted_served asked bytes image out Accepted accepted only h =
     record { image = image; accepted = accepted; only = λ other fits. same_image other image (only other fits); text = h.0; outcome_is = h.1 }
+accepted_served asked bytes image out (Tested failed) accepted only h = h
 accepted_served asked bytes image out WordsRefused accepted only h = h
 accepted_served asked bytes image out (SourceRefused refusal) accepted only h = absurd h
+accepted_served asked bytes image out (TableRefused fault) accepted only h = h
 accepted_served asked bytes image out ReadFault accepted only h = h
 accepted_served asked bytes image out WriteFault accepted only h = (h.0, (image, accepted, h.1))
 accepted_served asked bytes image out NoMemory accepted only h = inr (image, accepted, h)
@@ -45,7 +52,7 @@ never : (image : Image) (refusal : Refusal) → accepted_as image ≡ Err refusa
 never image refusal h = cc
 
 -- bytes that are refused are not accepted; where memory ran out nothing is written
-pub refused_served : (asked : Asked) (bytes : List ℕ) (refused : OrMemory Refusal) (out : SinkChange) → Answers {X = Image} (Err refused) (judged bytes) →
+pub refused_served : (asked : Work) (bytes : List ℕ) (refused : OrMemory Refusal) (out : SinkChange) → Answers {X = Image} (Err refused) (judged bytes) →
     ((image : Image) → IsAccepted bytes image → Answers {X = Image} (Err refused) (accepted_as image)) → IsKept out → ServesBytes asked bytes out (without_image refused)
 refused_served asked bytes (answer.Fault refusal) out reason only kept = (record { reason = reason; never = λ image fits. never image refusal (only image fits) }, kept)
 refused_served asked bytes answer.Memory out reason only kept = inl kept
@@ -64,11 +71,11 @@ refused_file : (bytes file : List ℕ) (refusal : Refusal) → LongSourcesAreRef
 refused_file bytes file refusal law (inl same) refused = subst (λ source. IsRefused source refusal) same refused
 refused_file bytes file refusal law (inr long) refused = record { reason = (law file long.1).0 ∙ sym (law bytes long.0).0 ∙ refused.reason; never = (law file long.1).1 }
 
-done_file : (asked : Asked) (bytes file : List ℕ) (out : SinkChange) (o : Outcome) → LongSourcesAreRefused → (bytes ≡ file) ⊎ ((MAX_SOURCE < length bytes) × (MAX_SOURCE < length file)) → IsDone asked bytes out o → IsDone asked file out o
+done_file : (asked : Work) (bytes file : List ℕ) (out : SinkChange) (o : Outcome) → LongSourcesAreRefused → (bytes ≡ file) ⊎ ((MAX_SOURCE < length bytes) × (MAX_SOURCE < length file)) → IsDone asked bytes out o → IsDone asked file out o
 done_file asked bytes file out o law (inl same) done = subst (λ source. IsDone asked source out o) same done
 done_file asked bytes file out o law (inr long) done = absurd ((law bytes long.0).1 done.image done.accepted)
 
-cut_file : (asked : Asked) (bytes file : List ℕ) (out : SinkChange) → LongSourcesAreRefused → (bytes ≡ file) ⊎ ((MAX_SOURCE < length bytes) × (MAX_SOURCE < length file)) → IsCutShort asked bytes out → IsCutShort asked file out
+cut_file : (asked : Work) (bytes file : List ℕ) (out : SinkChange) → LongSourcesAreRefused → (bytes ≡ file) ⊎ ((MAX_SOURCE < length bytes) × (MAX_SOURCE < length file)) → IsCutShort asked bytes out → IsCutShort asked file out
 cut_file asked bytes file out law (inl same) cut = subst (λ source. IsCutShort asked source out) same cut
 cut_file asked bytes file out law (inr long) cut = absurd ((law bytes long.0).1 cut.0 cut.1)
 
@@ -80,18 +87,62 @@ where_told Missing bytes F read holds = read
 where_told (Holds source) bytes F read holds = holds source (read_as bytes source read)
 
 -- what is done with the bytes that were read is done for the words
-pub bytes_served : (asked : Asked) (shelf : ShelfChange) (out : SinkChange) (bytes : List ℕ) (o : Outcome) → LongSourcesAreRefused →
-    WhereTold (told shelf.files (source_of asked)) (λ source. bytes ≡ take (MAX_SOURCE + 1) source) → ServesBytes asked bytes out o → Performs (Some asked) shelf out o
-bytes_served asked shelf out bytes (Ended stop) law read h =
-    (where_told (told shelf.files (source_of asked)) bytes (λ source. IsDone asked source out (Ended stop)) read (λ source same. done_file asked bytes source out (Ended stop) law same h.0), h.1)
-bytes_served asked shelf out bytes Accepted law read h =
-    where_told (told shelf.files (source_of asked)) bytes (λ source. IsDone asked source out Accepted) read (λ source same. done_file asked bytes source out Accepted law same h)
-bytes_served asked shelf out bytes WordsRefused law read h = absurd h
-bytes_served asked shelf out bytes (SourceRefused refusal) law read h =
-    (where_told (told shelf.files (source_of asked)) bytes (λ source. IsRefused source refusal) read (λ source same. refused_file bytes source refusal law same h.0), h.1)
-bytes_served asked shelf out bytes ReadFault law read h = absurd h
-bytes_served asked shelf out bytes WriteFault law read h =
-    (h.0, where_told (told shelf.files (source_of asked)) bytes (λ source. IsCutShort asked source out) read (λ source same. cut_file asked bytes source out law same h.1))
-bytes_served asked shelf out bytes NoMemory law read (inl kept) = inl kept
-bytes_served asked shelf out bytes NoMemory law read (inr cut) =
-    inr (where_told (told shelf.files (source_of asked)) bytes (λ source. IsCutShort asked source out) read (λ source same. cut_file asked bytes source out law same cut))
+pub bytes_served : (source : List ℕ) (asked : Work) (shelf : ShelfChange) (out : SinkChange) (bytes : List ℕ) (o : Outcome) → LongSourcesAreRefused →
+    WhereTold (told shelf.files source) (λ file. bytes ≡ take (MAX_SOURCE + 1) file) → ServesBytes asked bytes out o → Performs (Some (SourceAsked source asked)) shelf out o
+bytes_served source asked shelf out bytes (Ended stop) law read h =
+    (where_told (told shelf.files source) bytes (λ file. IsDone asked file out (Ended stop)) read (λ file same. done_file asked bytes file out (Ended stop) law same h.0), h.1)
+bytes_served source asked shelf out bytes Accepted law read h =
+    where_told (told shelf.files source) bytes (λ file. IsDone asked file out Accepted) read (λ file same. done_file asked bytes file out Accepted law same h)
+bytes_served source asked shelf out bytes (Tested failed) law read h = absurd h
+bytes_served source asked shelf out bytes WordsRefused law read h = absurd h
+bytes_served source asked shelf out bytes (SourceRefused refusal) law read h =
+    (where_told (told shelf.files source) bytes (λ file. IsRefused file refusal) read (λ file same. refused_file bytes file refusal law same h.0), h.1)
+bytes_served source asked shelf out bytes (TableRefused fault) law read h = absurd h
+bytes_served source asked shelf out bytes ReadFault law read h = absurd h
+bytes_served source asked shelf out bytes WriteFault law read h =
+    (h.0, where_told (told shelf.files source) bytes (λ file. IsCutShort asked file out) read (λ file same. cut_file asked bytes file out law same h.1))
+bytes_served source asked shelf out bytes NoMemory law read (inl kept) = inl kept
+bytes_served source asked shelf out bytes NoMemory law read (inr cut) =
+    inr (where_told (told shelf.files source) bytes (λ file. IsCutShort asked file out) read (λ file same. cut_file asked bytes file out law same cut))
+
+-- ---- tables
+
+-- what is done with the duties of a table is done with its bytes
+pub duties_tested : (test : TableTest) (bytes : List ℕ) (duties : List Duty) (out : SinkChange) (o : Outcome) → table_of bytes ≡ Ok duties → TestsDuties test duties out o → TestsBytes test bytes out o
+duties_tested test bytes duties out (Ended stop) read h = h
+duties_tested test bytes duties out Accepted read h = h
+duties_tested test bytes duties out (Tested failed) read h = record { duties = duties; read = read; text = h.0; failed_is = h.1; beyond = h.2 }
+duties_tested test bytes duties out WordsRefused read h = h
+duties_tested test bytes duties out (SourceRefused refusal) read h = h
+duties_tested test bytes duties out (TableRefused fault) read h = absurd h
+duties_tested test bytes duties out ReadFault read h = h
+duties_tested test bytes duties out WriteFault read h = (h.0, (duties, read, h.1))
+duties_tested test bytes duties out NoMemory read h = absurd h
+
+-- the bytes that were read say the same as those of the file
+same_table : (bytes file : List ℕ) → CutTablesAreReadAlike → bytes ≡ take (TABLE_BYTES + 1) file → table_of bytes ≡ table_of file
+same_table bytes file law read = ap table_of read ∙ law file
+
+tested_file : (test : TableTest) (bytes file : List ℕ) (out : SinkChange) (failed : Bool) → table_of bytes ≡ table_of file → IsTested test bytes out failed → IsTested test file out failed
+tested_file test bytes file out failed same h = record { duties = h.duties; read = sym same ∙ h.read; text = h.text; failed_is = h.failed_is; beyond = h.beyond }
+
+table_told : (file : ToldFile) (bytes : List ℕ) (F : List ℕ → Type 0) → CutTablesAreReadAlike → WhereTold file (λ table. bytes ≡ take (TABLE_BYTES + 1) table) →
+    ((table : List ℕ) → table_of bytes ≡ table_of table → F table) → WhereTold file F
+table_told Untold bytes F law read holds = tt
+table_told Missing bytes F law read holds = read
+table_told (Holds table) bytes F law read holds = holds table (same_table bytes table law read)
+
+pub bytes_tested : (table : List ℕ) (test : TableTest) (shelf : ShelfChange) (out : SinkChange) (bytes : List ℕ) (o : Outcome) → CutTablesAreReadAlike →
+    WhereTold (told shelf.files table) (λ file. bytes ≡ take (TABLE_BYTES + 1) file) → TestsBytes test bytes out o → Performs (Some (TableAsked table test)) shelf out o
+bytes_tested table test shelf out bytes (Ended stop) law read h = absurd h
+bytes_tested table test shelf out bytes Accepted law read h = absurd h
+bytes_tested table test shelf out bytes (Tested failed) law read h =
+    table_told (told shelf.files table) bytes (λ file. IsTested test file out failed) law read (λ file same. tested_file test bytes file out failed same h)
+bytes_tested table test shelf out bytes WordsRefused law read h = absurd h
+bytes_tested table test shelf out bytes (SourceRefused refusal) law read h = absurd h
+bytes_tested table test shelf out bytes (TableRefused fault) law read h =
+    (table_told (told shelf.files table) bytes (λ file. IsNoTable fault file) law read (λ file same. sym same ∙ h.0), h.1)
+bytes_tested table test shelf out bytes ReadFault law read h = absurd h
+bytes_tested table test shelf out bytes WriteFault law read h =
+    (h.0, table_told (told shelf.files table) bytes (λ file. IsTestCutShort test file out) law read (λ file same. (h.1.0, sym same ∙ h.1.1, h.1.2)))
+bytes_tested table test shelf out bytes NoMemory law read h = inl h

@@ -1,5 +1,5 @@
 -- What each status tells, from what was performed and how it was concluded.
-use Rattle.std.proofs.Common.{◌≡◌, ◌≢◌, ◌≤◌, ◌⊎◌, inl, inr, ℕ, List, [], Option, Some, None, refl, sym, ap, subst, ◌∙◌, append-nil, arith, codes, rules}
+use Rattle.std.proofs.Common.{◌≡◌, ◌≢◌, ◌≤◌, ◌⊎◌, inl, inr, ℕ, Bool, true, false, List, [], Option, Some, None, Result, Ok, Err, if◌then◌else◌, is_some, refl, sym, ap, subst, ◌∙◌, append-nil, arith, codes, rules}
 use Rattle.outside_bytes.specs.Files.{ToldFile, Untold, Missing, Holds, told, WhereTold}
 use Rattle.trace_text.specs.declared.events.Ended.{Ended as Stop}
 use Rattle.trace_text.specs.declared.events.Ended.TheVariants as why
@@ -7,28 +7,53 @@ use Rattle.ada_names.specs.declared.image.Image.{Image}
 use Rattle.ada_front.specs.declared.refusing.Refusal.{Refusal}
 use Rattle.ada_front.specs.Accepted.{Accepted as IsAccepted}
 use Rattle.ann_kernel.specs.Next.{IsPlainStop}
+use Rattle.sched_tests.specs.declared.duties.Duty.{Duty}
+use Rattle.sched_tests.specs.declared.duties.TableFault.{TableFault}
+use Rattle.sched_tests.specs.Demand.{first_over_of, busy_of}
+use Rattle.sched_tests.specs.Reading.{table_of}
+use Rattle.sched_tests.specs.Reports.{table_note}
 use Rattle.commands.specs.declared.outcomes.Outcome.{Outcome}
-use Rattle.commands.specs.declared.outcomes.Outcome.TheVariants.{Ended, Accepted, WordsRefused, SourceRefused, ReadFault, WriteFault, NoMemory}
-use Rattle.commands.specs.Requests.{Asked, RunAsked, AcceptAsked, source_of}
+use Rattle.commands.specs.declared.outcomes.Outcome.TheVariants.{Ended, Accepted, Tested, WordsRefused, SourceRefused, TableRefused, ReadFault, WriteFault, NoMemory}
+use Rattle.commands.specs.declared.requests.Work.{Work}
+use Rattle.commands.specs.declared.requests.Work.TheVariants as work
+use Rattle.commands.specs.declared.requests.TableTest.{TableTest}
+use Rattle.commands.specs.declared.requests.TableTest.TheVariants as test
+use Rattle.commands.specs.Requests.{Asked, SourceAsked, TableAsked}
+use Rattle.commands.specs.Tests.{test_status, is_failed, NeverOver}
 use Rattle.commands.specs.Outside.{ShelfChange, SinkChange, SinkFailed, IsKept, Gained, GainedPrefix}
 use Rattle.commands.specs.Outcomes.{stop_status, status_of, note_of, refusal_text, IsNoted, Concludes}
-use Rattle.commands.specs.Performed.{text_for, outcome_for, OfAsked, OfSource, IsDone, IsRefused, IsCutShort, IsUnread, Performs}
-use Rattle.commands.specs.Statuses.{IsUndisturbed, Headline, AcceptanceTold, DoneTold, IsStatus, NotAccepted, RefusalTold, IsCause, NoteTried, PrefixTold}
-use Rattle.commands.proofs.Conclusions.{stop_status-small, is_refused, is_words, is_read_fault, is_write_fault, is_memory, concluded, known, FailedNote, failed, low}
+use Rattle.commands.specs.Performed.{text_for, outcome_for, OfAsked, OfSource, OfTable, IsDone, IsRefused, IsTested, IsNoTable, IsFileCutShort, IsUnread, Performs}
+use Rattle.commands.specs.Statuses.{IsUndisturbed, Headline, AcceptanceTold, IsAnswer, TableTold, BeyondTold, IsPrinted, DoneTold, IsStatus, NotAccepted, RefusalTold, FailureTold, TableRefusalTold, IsCause, NoteTried, PrefixTold}
+use Rattle.commands.proofs.Conclusions.{stop_status-small, is_refused, is_failed_test, is_refused_table, is_words, is_read_fault, is_write_fault, is_memory, concluded, known, FailedNote, failed, low}
 
--- ---- sources
+-- ---- files
 
-at_source : (asked : Option Asked) (shelf : ShelfChange) (a : Asked) (bytes : List ℕ) (F : Asked → List ℕ → Type 0) → asked ≡ Some a → told shelf.files (source_of a) ≡ Holds bytes → OfSource asked shelf F → F a bytes
-at_source asked shelf a bytes F is there h = subst (λ file. WhereTold file (F a)) there (subst (λ x. OfSource x shelf F) is h)
+at_source : (asked : Option Asked) (shelf : ShelfChange) (source : List ℕ) (a : Work) (bytes : List ℕ) (F : Work → List ℕ → Type 0) → asked ≡ Some (SourceAsked source a) → told shelf.files source ≡ Holds bytes → OfSource asked shelf F → F a bytes
+at_source asked shelf source a bytes F is there h = subst (λ file. WhereTold file (F a)) there (subst (λ x. OfSource x shelf F) is h)
+
+at_table : (asked : Option Asked) (shelf : ShelfChange) (table : List ℕ) (t : TableTest) (bytes : List ℕ) (F : TableTest → List ℕ → Type 0) → asked ≡ Some (TableAsked table t) → told shelf.files table ≡ Holds bytes → OfTable asked shelf F → F t bytes
+at_table asked shelf table t bytes F is there h = subst (λ file. WhereTold file (F t)) there (subst (λ x. OfTable x shelf F) is h)
+
+no_table : (asked : Option Asked) (shelf : ShelfChange) (source : List ℕ) (a : Work) (F : TableTest → List ℕ → Type 0) → asked ≡ Some (SourceAsked source a) → OfTable asked shelf F → ⊥
+no_table asked shelf source a F is h = subst (λ x. OfTable x shelf F) is h
+
+no_source : (asked : Option Asked) (shelf : ShelfChange) (table : List ℕ) (t : TableTest) (F : Work → List ℕ → Type 0) → asked ≡ Some (TableAsked table t) → OfSource asked shelf F → ⊥
+no_source asked shelf table t F is h = subst (λ x. OfSource x shelf F) is h
 
 told_map : (file : ToldFile) (F G : List ℕ → Type 0) → ((bytes : List ℕ) → F bytes → G bytes) → WhereTold file F → WhereTold file G
 told_map Untold F G f h = tt
 told_map Missing F G f h = h
 told_map (Holds bytes) F G f h = f bytes h
 
-source_map : (asked : Option Asked) (shelf : ShelfChange) (F G : Asked → List ℕ → Type 0) → ((a : Asked) (bytes : List ℕ) → F a bytes → G a bytes) → OfSource asked shelf F → OfSource asked shelf G
+source_map : (asked : Option Asked) (shelf : ShelfChange) (F G : Work → List ℕ → Type 0) → ((a : Work) (bytes : List ℕ) → F a bytes → G a bytes) → OfSource asked shelf F → OfSource asked shelf G
 source_map None shelf F G f h = h
-source_map (Some a) shelf F G f h = told_map (told shelf.files (source_of a)) (F a) (G a) (f a) h
+source_map (Some (SourceAsked source a)) shelf F G f h = told_map (told shelf.files source) (F a) (G a) (f a) h
+source_map (Some (TableAsked table t)) shelf F G f h = h
+
+table_map : (asked : Option Asked) (shelf : ShelfChange) (F G : TableTest → List ℕ → Type 0) → ((t : TableTest) (bytes : List ℕ) → F t bytes → G t bytes) → OfTable asked shelf F → OfTable asked shelf G
+table_map None shelf F G f h = h
+table_map (Some (SourceAsked source a)) shelf F G f h = h
+table_map (Some (TableAsked table t)) shelf F G f h = told_map (told shelf.files table) (F t) (G t) (f t) h
 
 nothing_asked : (asked : Option Asked) (F : Asked → Type 0) → asked ≡ None → OfAsked asked F → ⊥
 nothing_asked asked F none h = subst (λ a. OfAsked a F) none h
@@ -38,7 +63,7 @@ no_request asked a none is = cc
 
 -- ---- what is accepted is done
 
-served : (a : Asked) (bytes : List ℕ) (image : Image) (out notes : SinkChange) (o : Outcome) (status : ℕ) → IsDone a bytes out o → IsAccepted bytes image → status ≡ status_of o → IsKept notes →
+served : (a : Work) (bytes : List ℕ) (image : Image) (out notes : SinkChange) (o : Outcome) (status : ℕ) → IsDone a bytes out o → IsAccepted bytes image → status ≡ status_of o → IsKept notes →
     Gained out (text_for a image) × (status ≡ status_of (outcome_for a image)) × IsKept notes
 served a bytes image out notes o status done fits is kept =
     let same = sym (done.only image fits) in
@@ -48,34 +73,122 @@ disturbed : (o : Outcome) (notes : SinkChange) (status : ℕ) (fault : ℕ) → 
 disturbed o notes status fault c is other stream = other ((concluded o notes status c stream).0 ∙ is)
 
 undisturbed : (asked : Option Asked) (shelf : ShelfChange) (out notes : SinkChange) (o : Outcome) (status : ℕ) → Performs asked shelf out o → Concludes o notes status →
-    (a : Asked) (bytes : List ℕ) (image : Image) → asked ≡ Some a → told shelf.files (source_of a) ≡ Holds bytes → IsAccepted bytes image → IsUndisturbed status →
+    (source : List ℕ) (a : Work) (bytes : List ℕ) (image : Image) → asked ≡ Some (SourceAsked source a) → told shelf.files source ≡ Holds bytes → IsAccepted bytes image → IsUndisturbed status →
     Gained out (text_for a image) × (status ≡ status_of (outcome_for a image)) × IsKept notes
-undisturbed asked shelf out notes (Ended stop) status p c a bytes image is there fits u =
+undisturbed asked shelf out notes (Ended stop) status p c source a bytes image is there fits u =
     let told = concluded (Ended stop) notes status c u.1 in
-    served a bytes image out notes (Ended stop) status (at_source asked shelf a bytes (λ x b. IsDone x b out (Ended stop)) is there p.0) fits told.0 told.1
-undisturbed asked shelf out notes Accepted status p c a bytes image is there fits u =
+    served a bytes image out notes (Ended stop) status (at_source asked shelf source a bytes (λ x b. IsDone x b out (Ended stop)) is there p.0) fits told.0 told.1
+undisturbed asked shelf out notes Accepted status p c source a bytes image is there fits u =
     let told = concluded Accepted notes status c u.1 in
-    served a bytes image out notes Accepted status (at_source asked shelf a bytes (λ x b. IsDone x b out Accepted) is there p) fits told.0 told.1
-undisturbed asked shelf out notes WordsRefused status p c a bytes image is there fits u = absurd (no_request asked a p.0 is)
-undisturbed asked shelf out notes (SourceRefused refusal) status p c a bytes image is there fits u =
-    absurd ((at_source asked shelf a bytes (λ x b. IsRefused b refusal) is there p.0).never image fits)
-undisturbed asked shelf out notes ReadFault status p c a bytes image is there fits u = absurd (disturbed ReadFault notes status 7 c refl u.0 u.1)
-undisturbed asked shelf out notes WriteFault status p c a bytes image is there fits u = absurd (disturbed WriteFault notes status 8 c refl u.1 u.1)
-undisturbed asked shelf out notes NoMemory status p c a bytes image is there fits u = absurd (disturbed NoMemory notes status 9 c refl u.2 u.1)
+    served a bytes image out notes Accepted status (at_source asked shelf source a bytes (λ x b. IsDone x b out Accepted) is there p) fits told.0 told.1
+undisturbed asked shelf out notes (Tested failed) status p c source a bytes image is there fits u =
+    absurd (no_table asked shelf source a (λ t b. IsTested t b out failed) is p)
+undisturbed asked shelf out notes WordsRefused status p c source a bytes image is there fits u = absurd (no_request asked (SourceAsked source a) p.0 is)
+undisturbed asked shelf out notes (SourceRefused refusal) status p c source a bytes image is there fits u =
+    absurd ((at_source asked shelf source a bytes (λ x b. IsRefused b refusal) is there p.0).never image fits)
+undisturbed asked shelf out notes (TableRefused fault) status p c source a bytes image is there fits u =
+    absurd (no_table asked shelf source a (λ t b. IsNoTable fault b) is p.0)
+undisturbed asked shelf out notes ReadFault status p c source a bytes image is there fits u = absurd (disturbed ReadFault notes status 7 c refl u.0 u.1)
+undisturbed asked shelf out notes WriteFault status p c source a bytes image is there fits u = absurd (disturbed WriteFault notes status 8 c refl u.1 u.1)
+undisturbed asked shelf out notes NoMemory status p c source a bytes image is there fits u = absurd (disturbed NoMemory notes status 9 c refl u.2 u.1)
 
 pub headline : (asked : Option Asked) (shelf : ShelfChange) (out notes : SinkChange) (o : Outcome) (status : ℕ) → Performs asked shelf out o → Concludes o notes status → Headline asked shelf out notes status
-headline asked shelf out notes o status p c source bytes ticks image is there fits u = undisturbed asked shelf out notes o status p c (RunAsked source ticks) bytes image is there fits u
+headline asked shelf out notes o status p c source bytes ticks image is there fits u = undisturbed asked shelf out notes o status p c source (work.Run ticks) bytes image is there fits u
 
 pub acceptance : (asked : Option Asked) (shelf : ShelfChange) (out notes : SinkChange) (o : Outcome) (status : ℕ) → Performs asked shelf out o → Concludes o notes status → AcceptanceTold asked shelf out notes status
-acceptance asked shelf out notes o status p c source bytes image is there fits u = undisturbed asked shelf out notes o status p c (AcceptAsked source) bytes image is there fits u
+acceptance asked shelf out notes o status p c source bytes image is there fits u = undisturbed asked shelf out notes o status p c source work.Accept bytes image is there fits u
+
+-- ---- what is a table is tested
+
+status_by : (t : TableTest) (duties : List Duty) (failed : Bool) → is_failed t duties ≡ failed → status_of (Tested failed) ≡ test_status t duties
+status_by test.ResponseTimes duties failed is = ap (λ b. if b then 12 else 0) (sym is)
+status_by test.Demand duties failed is = ap (λ b. if b then 12 else 0) (sym is)
+
+answered : (t : TableTest) (bytes : List ℕ) (out notes : SinkChange) (failed : Bool) (status : ℕ) → IsTested t bytes out failed → status ≡ status_of (Tested failed) → IsKept notes → IsAnswer t (table_of bytes) out notes status
+answered t bytes out notes failed status h is kept =
+    subst (λ read. IsAnswer t read out notes status) (sym h.read) (h.text, is ∙ status_by t h.duties failed h.failed_is, kept)
+
+refused_answer : (t : TableTest) (bytes : List ℕ) (out notes : SinkChange) (fault : TableFault) (status : ℕ) → IsNoTable fault bytes → IsKept out → status ≡ 13 → Gained notes (table_note fault) → IsAnswer t (table_of bytes) out notes status
+refused_answer t bytes out notes fault status h kept is note = subst (λ read. IsAnswer t read out notes status) (sym h) (kept, is, note)
+
+pub table_told : (asked : Option Asked) (shelf : ShelfChange) (out notes : SinkChange) (o : Outcome) (status : ℕ) → Performs asked shelf out o → Concludes o notes status → TableTold asked shelf out notes status
+table_told asked shelf out notes (Ended stop) status p c table bytes t is there u = absurd (no_source asked shelf table t (λ x b. IsDone x b out (Ended stop)) is p.0)
+table_told asked shelf out notes Accepted status p c table bytes t is there u = absurd (no_source asked shelf table t (λ x b. IsDone x b out Accepted) is p)
+table_told asked shelf out notes (Tested failed) status p c table bytes t is there u =
+    let told = concluded (Tested failed) notes status c u.1 in
+    answered t bytes out notes failed status (at_table asked shelf table t bytes (λ x b. IsTested x b out failed) is there p) told.0 told.1
+table_told asked shelf out notes WordsRefused status p c table bytes t is there u = absurd (no_request asked (TableAsked table t) p.0 is)
+table_told asked shelf out notes (SourceRefused refusal) status p c table bytes t is there u = absurd (no_source asked shelf table t (λ x b. IsRefused b refusal) is p.0)
+table_told asked shelf out notes (TableRefused fault) status p c table bytes t is there u =
+    let told = concluded (TableRefused fault) notes status c u.1 in
+    refused_answer t bytes out notes fault status (at_table asked shelf table t bytes (λ x b. IsNoTable fault b) is there p.0) p.1 told.0 told.1
+table_told asked shelf out notes ReadFault status p c table bytes t is there u = absurd (disturbed ReadFault notes status 7 c refl u.0 u.1)
+table_told asked shelf out notes WriteFault status p c table bytes t is there u = absurd (disturbed WriteFault notes status 8 c refl u.1 u.1)
+table_told asked shelf out notes NoMemory status p c table bytes t is there u = absurd (disturbed NoMemory notes status 9 c refl u.2 u.1)
+
+-- ---- beyond the longest window
+
+abbrev read_as : List Duty → Result (List Duty) TableFault
+read_as duties = Ok duties
+
+abbrev duties_in : List Duty → Result (List Duty) TableFault → List Duty
+duties_in other (Ok duties) = duties
+duties_in other (Err fault) = other
+
+same_duties : (a b : List Duty) → read_as a ≡ Ok b → a ≡ b
+same_duties a b h = ap (duties_in a) h
+
+abbrev over_status : Option ℕ → ℕ
+over_status over = if is_some over then 12 else 0
+
+none_over : (over : Option ℕ) → over_status over ≡ 0 → over ≡ None
+none_over None e = refl
+none_over (Some window) e = absurd (omega (arith, e))
+
+never_over : (bytes : List ℕ) (duties : List Duty) (busy : ℕ) (out : SinkChange) (failed : Bool) (status : ℕ) → IsTested test.Demand bytes out failed → table_of bytes ≡ Ok duties → status ≡ status_of (Tested failed) → status ≡ 0 → busy_of duties ≡ Some busy → NeverOver duties
+never_over bytes duties busy out failed status h read is zero_is busy_is =
+    let same : h.duties ≡ duties = same_duties h.duties duties (sym h.read ∙ read) in
+    let none : first_over_of h.duties ≡ None = none_over (first_over_of h.duties) (sym (status_by test.Demand h.duties failed h.failed_is) ∙ sym is ∙ zero_is) in
+    subst NeverOver same (h.beyond busy none (ap busy_of same ∙ busy_is))
+
+pub beyond : (asked : Option Asked) (shelf : ShelfChange) (out notes : SinkChange) (o : Outcome) (status : ℕ) → Performs asked shelf out o → Concludes o notes status → BeyondTold asked shelf status
+beyond asked shelf out notes (Ended stop) status p c table bytes duties busy is there read zero_is busy_is = absurd (no_source asked shelf table test.Demand (λ x b. IsDone x b out (Ended stop)) is p.0)
+beyond asked shelf out notes Accepted status p c table bytes duties busy is there read zero_is busy_is = absurd (no_source asked shelf table test.Demand (λ x b. IsDone x b out Accepted) is p)
+beyond asked shelf out notes (Tested failed) status p c table bytes duties busy is there read zero_is busy_is =
+    never_over bytes duties busy out failed status (at_table asked shelf table test.Demand bytes (λ x b. IsTested x b out failed) is there p) read
+    (concluded (Tested failed) notes status c (low status (omega (arith, zero_is)))).0 zero_is busy_is
+beyond asked shelf out notes WordsRefused status p c table bytes duties busy is there read zero_is busy_is = absurd (no_request asked (TableAsked table test.Demand) p.0 is)
+beyond asked shelf out notes (SourceRefused refusal) status p c table bytes duties busy is there read zero_is busy_is = absurd (no_source asked shelf table test.Demand (λ x b. IsRefused b refusal) is p.0)
+beyond asked shelf out notes (TableRefused fault) status p c table bytes duties busy is there read zero_is busy_is = absurd (omega (arith, (concluded (TableRefused fault) notes status c (low status (omega (arith, zero_is)))).0, zero_is))
+beyond asked shelf out notes ReadFault status p c table bytes duties busy is there read zero_is busy_is = absurd (omega (arith, (concluded ReadFault notes status c (low status (omega (arith, zero_is)))).0, zero_is))
+beyond asked shelf out notes WriteFault status p c table bytes duties busy is there read zero_is busy_is = absurd (omega (arith, (concluded WriteFault notes status c (low status (omega (arith, zero_is)))).0, zero_is))
+beyond asked shelf out notes NoMemory status p c table bytes duties busy is there read zero_is busy_is = absurd (omega (arith, (concluded NoMemory notes status c (low status (omega (arith, zero_is)))).0, zero_is))
 
 -- ---- 0 to 3
 
+done_source : (asked : Option Asked) (shelf : ShelfChange) (out : SinkChange) (o : Outcome) (status : ℕ) → OfSource asked shelf (λ a bytes. IsDone a bytes out o) → status ≡ status_of o → DoneTold asked shelf out status
+done_source None shelf out o status h is = h
+done_source (Some (SourceAsked source a)) shelf out o status h is =
+    told_map (told shelf.files source) (λ bytes. IsDone a bytes out o) (λ bytes. (o : Outcome) × IsDone a bytes out o × (status ≡ status_of o)) (λ bytes done. (o, done, is)) h
+done_source (Some (TableAsked table t)) shelf out o status h is = absurd h
+
+printed : (t : TableTest) (bytes : List ℕ) (out : SinkChange) (failed : Bool) (status : ℕ) → status ≡ status_of (Tested failed) → IsTested t bytes out failed → IsPrinted t bytes out status
+printed t bytes out failed status is h = (h.duties, h.read, h.text, is ∙ status_by t h.duties failed h.failed_is)
+
+done_table : (asked : Option Asked) (shelf : ShelfChange) (out : SinkChange) (failed : Bool) (status : ℕ) → OfTable asked shelf (λ t bytes. IsTested t bytes out failed) → status ≡ status_of (Tested failed) → status ≡ 0 → DoneTold asked shelf out status
+done_table None shelf out failed status h is zero_is = h
+done_table (Some (SourceAsked source a)) shelf out failed status h is zero_is = absurd h
+done_table (Some (TableAsked table t)) shelf out failed status h is zero_is =
+    (zero_is, told_map (told shelf.files table) (λ bytes. IsTested t bytes out failed) (λ bytes. IsPrinted t bytes out status) (λ bytes h. printed t bytes out failed status is h) h)
+
 done_by : (asked : Option Asked) (shelf : ShelfChange) (out : SinkChange) (o : Outcome) (status : ℕ) → Performs asked shelf out o → status ≡ status_of o → status ≤ 3 → DoneTold asked shelf out status
-done_by asked shelf out (Ended stop) status p is small = source_map asked shelf (λ a bytes. IsDone a bytes out (Ended stop)) (λ a bytes. (o : Outcome) × IsDone a bytes out o × (status ≡ status_of o)) (λ a bytes done. (Ended stop, done, is)) p.0
-done_by asked shelf out Accepted status p is small = source_map asked shelf (λ a bytes. IsDone a bytes out Accepted) (λ a bytes. (o : Outcome) × IsDone a bytes out o × (status ≡ status_of o)) (λ a bytes done. (Accepted, done, is)) p
+done_by asked shelf out (Ended stop) status p is small = done_source asked shelf out (Ended stop) status p.0 is
+done_by asked shelf out Accepted status p is small = done_source asked shelf out Accepted status p is
+done_by asked shelf out (Tested true) status p is small = absurd (omega (arith, is, small))
+done_by asked shelf out (Tested false) status p is small = done_table asked shelf out false status p is is
 done_by asked shelf out WordsRefused status p is small = absurd (omega (arith, is, small))
 done_by asked shelf out (SourceRefused refusal) status p is small = absurd (omega (arith, is, small))
+done_by asked shelf out (TableRefused fault) status p is small = absurd (omega (arith, is, small))
 done_by asked shelf out ReadFault status p is small = absurd (omega (arith, is, small))
 done_by asked shelf out WriteFault status p is small = absurd (omega (arith, is, small))
 done_by asked shelf out NoMemory status p is small = absurd (omega (arith, is, small))
@@ -86,8 +199,10 @@ done_told asked shelf out notes o status p c small = done_by asked shelf out o s
 quiet_by : (o : Outcome) (notes : SinkChange) (status : ℕ) → (status ≡ status_of o) × IsNoted (note_of o) notes → status ≤ 3 → IsKept notes
 quiet_by (Ended stop) notes status c small = c.1
 quiet_by Accepted notes status c small = c.1
+quiet_by (Tested failed) notes status c small = c.1
 quiet_by WordsRefused notes status c small = absurd (omega (arith, c.0, small))
 quiet_by (SourceRefused refusal) notes status c small = absurd (omega (arith, c.0, small))
+quiet_by (TableRefused fault) notes status c small = absurd (omega (arith, c.0, small))
 quiet_by ReadFault notes status c small = absurd (omega (arith, c.0, small))
 quiet_by WriteFault notes status c small = absurd (omega (arith, c.0, small))
 quiet_by NoMemory notes status c small = absurd (omega (arith, c.0, small))
@@ -106,8 +221,11 @@ plain_status why.Bound plain = search rules
 outcome_status : (asked : Option Asked) (shelf : ShelfChange) (out : SinkChange) (o : Outcome) → Performs asked shelf out o → IsStatus (status_of o)
 outcome_status asked shelf out (Ended stop) p = plain_status stop p.1
 outcome_status asked shelf out Accepted p = search rules
+outcome_status asked shelf out (Tested true) p = search rules
+outcome_status asked shelf out (Tested false) p = search rules
 outcome_status asked shelf out WordsRefused p = search rules
 outcome_status asked shelf out (SourceRefused refusal) p = search rules
+outcome_status asked shelf out (TableRefused fault) p = search rules
 outcome_status asked shelf out ReadFault p = search rules
 outcome_status asked shelf out WriteFault p = search rules
 outcome_status asked shelf out NoMemory p = search rules
@@ -133,23 +251,28 @@ refused_source asked shelf out notes o status p c e =
     (λ a bytes refused. (is.0, refused, noted)) (subst (Performs asked shelf out) is.1 p).0
 
 pub not_accepted : (asked : Option Asked) (shelf : ShelfChange) (out notes : SinkChange) (o : Outcome) (status : ℕ) → Performs asked shelf out o → Concludes o notes status → NotAccepted asked shelf status
-not_accepted asked shelf out notes (Ended stop) status p c a bytes is there none u =
-    let done = at_source asked shelf a bytes (λ x b. IsDone x b out (Ended stop)) is there p.0 in absurd (none done.image done.accepted)
-not_accepted asked shelf out notes Accepted status p c a bytes is there none u =
-    let done = at_source asked shelf a bytes (λ x b. IsDone x b out Accepted) is there p in absurd (none done.image done.accepted)
-not_accepted asked shelf out notes WordsRefused status p c a bytes is there none u = absurd (no_request asked a p.0 is)
-not_accepted asked shelf out notes (SourceRefused refusal) status p c a bytes is there none u = (concluded (SourceRefused refusal) notes status c u.1).0
-not_accepted asked shelf out notes ReadFault status p c a bytes is there none u = absurd (disturbed ReadFault notes status 7 c refl u.0 u.1)
-not_accepted asked shelf out notes WriteFault status p c a bytes is there none u = absurd (disturbed WriteFault notes status 8 c refl u.1 u.1)
-not_accepted asked shelf out notes NoMemory status p c a bytes is there none u = absurd (disturbed NoMemory notes status 9 c refl u.2 u.1)
+not_accepted asked shelf out notes (Ended stop) status p c source bytes a is there none u =
+    let done = at_source asked shelf source a bytes (λ x b. IsDone x b out (Ended stop)) is there p.0 in absurd (none done.image done.accepted)
+not_accepted asked shelf out notes Accepted status p c source bytes a is there none u =
+    let done = at_source asked shelf source a bytes (λ x b. IsDone x b out Accepted) is there p in absurd (none done.image done.accepted)
+not_accepted asked shelf out notes (Tested failed) status p c source bytes a is there none u = absurd (no_table asked shelf source a (λ t b. IsTested t b out failed) is p)
+not_accepted asked shelf out notes WordsRefused status p c source bytes a is there none u = absurd (no_request asked (SourceAsked source a) p.0 is)
+not_accepted asked shelf out notes (SourceRefused refusal) status p c source bytes a is there none u = (concluded (SourceRefused refusal) notes status c u.1).0
+not_accepted asked shelf out notes (TableRefused fault) status p c source bytes a is there none u = absurd (no_table asked shelf source a (λ t b. IsNoTable fault b) is p.0)
+not_accepted asked shelf out notes ReadFault status p c source bytes a is there none u = absurd (disturbed ReadFault notes status 7 c refl u.0 u.1)
+not_accepted asked shelf out notes WriteFault status p c source bytes a is there none u = absurd (disturbed WriteFault notes status 8 c refl u.1 u.1)
+not_accepted asked shelf out notes NoMemory status p c source bytes a is there none u = absurd (disturbed NoMemory notes status 9 c refl u.2 u.1)
 
 -- ---- 4 to 7: nothing is written to out
 
 kept_by : (asked : Option Asked) (shelf : ShelfChange) (out : SinkChange) (o : Outcome) (status : ℕ) → Performs asked shelf out o → status ≡ status_of o → 4 ≤ status → status ≤ 7 → IsKept out
 kept_by asked shelf out (Ended stop) status p is from to = absurd (omega (arith, is, stop_status-small stop, from))
 kept_by asked shelf out Accepted status p is from to = absurd (omega (arith, is, from))
+kept_by asked shelf out (Tested true) status p is from to = absurd (omega (arith, is, to))
+kept_by asked shelf out (Tested false) status p is from to = absurd (omega (arith, is, from))
 kept_by asked shelf out WordsRefused status p is from to = p.1
 kept_by asked shelf out (SourceRefused refusal) status p is from to = p.1
+kept_by asked shelf out (TableRefused fault) status p is from to = p.1
 kept_by asked shelf out ReadFault status p is from to = p.1
 kept_by asked shelf out WriteFault status p is from to = absurd (omega (arith, is, to))
 kept_by asked shelf out NoMemory status p is from to = absurd (omega (arith, is, to))
@@ -164,13 +287,15 @@ words asked shelf out notes o status p c e =
     (subst (Performs asked shelf out) (is_words o (sym (concluded o notes status c (low status (omega (arith, e)))).0 ∙ e)) p).0
 
 refused_by : (asked : Option Asked) (shelf : ShelfChange) (out : SinkChange) (o : Outcome) → Performs asked shelf out o → asked ≡ None → (status_of o ≡ 8) ⊎ (status_of o ≡ 6)
-refused_by asked shelf out (Ended stop) p none = absurd (nothing_asked asked (λ a. WhereTold (told shelf.files (source_of a)) (λ bytes. IsDone a bytes out (Ended stop))) none p.0)
-refused_by asked shelf out Accepted p none = absurd (nothing_asked asked (λ a. WhereTold (told shelf.files (source_of a)) (λ bytes. IsDone a bytes out Accepted)) none p)
+refused_by asked shelf out (Ended stop) p none = absurd (subst (λ x. OfSource x shelf (λ a bytes. IsDone a bytes out (Ended stop))) none p.0)
+refused_by asked shelf out Accepted p none = absurd (subst (λ x. OfSource x shelf (λ a bytes. IsDone a bytes out Accepted)) none p)
+refused_by asked shelf out (Tested failed) p none = absurd (subst (λ x. OfTable x shelf (λ t bytes. IsTested t bytes out failed)) none p)
 refused_by asked shelf out WordsRefused p none = inr refl
-refused_by asked shelf out (SourceRefused refusal) p none = absurd (nothing_asked asked (λ a. WhereTold (told shelf.files (source_of a)) (λ bytes. IsRefused bytes refusal)) none p.0)
+refused_by asked shelf out (SourceRefused refusal) p none = absurd (subst (λ x. OfSource x shelf (λ a bytes. IsRefused bytes refusal)) none p.0)
+refused_by asked shelf out (TableRefused fault) p none = absurd (subst (λ x. OfTable x shelf (λ t bytes. IsNoTable fault bytes)) none p.0)
 refused_by asked shelf out ReadFault p none = absurd (subst (λ x. IsUnread x shelf) none p.0)
 refused_by asked shelf out WriteFault p none = inl refl
-refused_by asked shelf out NoMemory p none = absurd (nothing_asked asked (λ a. IsKept out ⊎ WhereTold (told shelf.files (source_of a)) (λ bytes. IsCutShort a bytes out)) none p)
+refused_by asked shelf out NoMemory p none = absurd (nothing_asked asked (λ a. IsKept out ⊎ IsFileCutShort a shelf out) none p)
 
 six_by : (status wanted : ℕ) → status ≡ wanted → status ≢ 8 → (wanted ≡ 8) ⊎ (wanted ≡ 6) → status ≡ 6
 six_by status wanted is other (inl e) = absurd (other (is ∙ e))
@@ -207,8 +332,10 @@ write_fault asked shelf out notes o status p c e = fault_by asked shelf out note
 cause_of : (asked : Option Asked) (shelf : ShelfChange) (out : SinkChange) (o : Outcome) (note : List ℕ) → Performs asked shelf out o → note_of o ≡ Some note → IsCause asked shelf out o
 cause_of asked shelf out (Ended stop) note p is = cc
 cause_of asked shelf out Accepted note p is = cc
+cause_of asked shelf out (Tested failed) note p is = cc
 cause_of asked shelf out WordsRefused note p is = p.0
 cause_of asked shelf out (SourceRefused refusal) note p is = p.0
+cause_of asked shelf out (TableRefused fault) note p is = p.0
 cause_of asked shelf out ReadFault note p is = p.0
 cause_of asked shelf out WriteFault note p is = p.0
 cause_of asked shelf out NoMemory note p is = tt
@@ -229,17 +356,21 @@ note_tried asked shelf out notes o status p c e = tried_by asked shelf out notes
 
 -- ---- 8 and 9: out gained nothing, or a prefix of the text
 
-cut_asked : (asked : Option Asked) (shelf : ShelfChange) (out : SinkChange) → OfAsked asked (λ a. IsKept out ⊎ WhereTold (told shelf.files (source_of a)) (λ bytes. IsCutShort a bytes out)) → PrefixTold asked shelf out
+cut_asked : (asked : Option Asked) (shelf : ShelfChange) (out : SinkChange) → OfAsked asked (λ a. IsKept out ⊎ IsFileCutShort a shelf out) → PrefixTold asked shelf out
 cut_asked None shelf out h = absurd h
 cut_asked (Some a) shelf out h = h
 
-pub prefix_told : (asked : Option Asked) (shelf : ShelfChange) (out notes : SinkChange) (o : Outcome) (status : ℕ) → Performs asked shelf out o → Concludes o notes status → 8 ≤ status → PrefixTold asked shelf out
+pub prefix_told : (asked : Option Asked) (shelf : ShelfChange) (out notes : SinkChange) (o : Outcome) (status : ℕ) → Performs asked shelf out o → Concludes o notes status → (status ≡ 8) ⊎ (status ≡ 9) → PrefixTold asked shelf out
 prefix_told asked shelf out notes (Ended stop) status p (inl c) high = absurd (omega (arith, c.0, stop_status-small stop, high))
 prefix_told asked shelf out notes (Ended stop) status p (inr c) high = absurd c.2
 prefix_told asked shelf out notes Accepted status p (inl c) high = absurd (omega (arith, c.0, high))
 prefix_told asked shelf out notes Accepted status p (inr c) high = absurd c.2
+prefix_told asked shelf out notes (Tested true) status p (inl c) high = absurd (omega (arith, c.0, high))
+prefix_told asked shelf out notes (Tested false) status p (inl c) high = absurd (omega (arith, c.0, high))
+prefix_told asked shelf out notes (Tested failed) status p (inr c) high = absurd c.2
 prefix_told asked shelf out notes WordsRefused status p c high = inl p.1
 prefix_told asked shelf out notes (SourceRefused refusal) status p c high = inl p.1
+prefix_told asked shelf out notes (TableRefused fault) status p c high = inl p.1
 prefix_told asked shelf out notes ReadFault status p c high = inl p.1
 prefix_told asked shelf out notes WriteFault status p c high = inr p.1
 prefix_told asked shelf out notes NoMemory status p c high = cut_asked asked shelf out p
@@ -250,3 +381,32 @@ pub note_memory : (o : Outcome) (notes : SinkChange) (status : ℕ) → Conclude
 note_memory o notes status c e =
     let told = concluded o notes status c (λ h. omega (arith, e, h)) in
     subst (λ x. IsNoted (note_of x) notes) (is_memory o (sym told.0 ∙ e)) told.1
+
+-- ---- 12
+
+pub failure : (asked : Option Asked) (shelf : ShelfChange) (out notes : SinkChange) (o : Outcome) (status : ℕ) → Performs asked shelf out o → Concludes o notes status → status ≡ 12 → FailureTold asked shelf out status
+failure asked shelf out notes o status p c e =
+    let told = concluded o notes status c (λ h. omega (arith, e, h)) in
+    let is = is_failed_test o (sym told.0 ∙ e) in
+    table_map asked shelf (λ t bytes. IsTested t bytes out true) (λ t bytes. IsPrinted t bytes out status)
+    (λ t bytes h. printed t bytes out true status e h) (subst (Performs asked shelf out) is p)
+
+pub quiet_failure : (o : Outcome) (notes : SinkChange) (status : ℕ) → Concludes o notes status → status ≡ 12 → IsKept notes
+quiet_failure o notes status c e =
+    let told = concluded o notes status c (λ h. omega (arith, e, h)) in
+    subst (λ x. IsNoted (note_of x) notes) (is_failed_test o (sym told.0 ∙ e)) told.1
+
+-- ---- 13
+
+pub refused_table : (asked : Option Asked) (shelf : ShelfChange) (out notes : SinkChange) (o : Outcome) (status : ℕ) → Performs asked shelf out o → Concludes o notes status → status ≡ 13 → TableRefusalTold asked shelf notes
+refused_table asked shelf out notes o status p c e =
+    let told = concluded o notes status c (λ h. omega (arith, e, h)) in
+    let is = is_refused_table o (sym told.0 ∙ e) in
+    let noted : Gained notes (table_note is.0) = subst (λ x. IsNoted (note_of x) notes) is.1 told.1 in
+    table_map asked shelf (λ t bytes. IsNoTable is.0 bytes) (λ t bytes. (fault : TableFault) × IsNoTable fault bytes × Gained notes (table_note fault))
+    (λ t bytes refused. (is.0, refused, noted)) (subst (Performs asked shelf out) is.1 p).0
+
+pub kept_refused_table : (asked : Option Asked) (shelf : ShelfChange) (out notes : SinkChange) (o : Outcome) (status : ℕ) → Performs asked shelf out o → Concludes o notes status → status ≡ 13 → IsKept out
+kept_refused_table asked shelf out notes o status p c e =
+    let told = concluded o notes status c (λ h. omega (arith, e, h)) in
+    (subst (Performs asked shelf out) (is_refused_table o (sym told.0 ∙ e)).1 p).1

@@ -1,11 +1,14 @@
--- What words ask for: `run SOURCE`, `run SOURCE --ticks N` and `accept SOURCE`. SOURCE is not empty and does not begin
--- with a hyphen. N is from 1 to 1,000,000,000, in plain decimal without leading zeros.
+-- What words ask for: `run SOURCE`, `run SOURCE --ticks N`, `accept SOURCE`, `rta TABLE` and `demand TABLE`. A name is
+-- not empty and does not begin with a hyphen. N is from 1 to 1,000,000,000, in plain decimal without leading zeros.
 use Rattle.std.specs.Prelude.{ℕ, ◌+◌, ◌-◌, ◌*◌, ◌==◌, nat_le, Bool, ◌&&◌, if◌then◌else◌, List, [], ◌∷◌, Option, Some, None, codes}
 use Rattle.std.specs.Option.{option_map}
 use Rattle.std.specs.Str.{bytes_eq}
 use Rattle.std.specs.Global.{Vec}
 use Rattle.commands.specs.declared.requests.TheConstants.{DEFAULT_TICKS, MOST_TICKS}
-use Rattle.commands.specs.Requests.{Asked, RunAsked, AcceptAsked}
+use Rattle.commands.specs.declared.requests.Work.TheVariants as work
+use Rattle.commands.specs.declared.requests.TableTest.{TableTest}
+use Rattle.commands.specs.declared.requests.TableTest.TheVariants as test
+use Rattle.commands.specs.Requests.{Asked, SourceAsked, TableAsked}
 
 abbrev pub name_of : List ℕ → Option (List ℕ)
 name_of [] = None
@@ -26,7 +29,7 @@ ticks_of (first ∷ digits) = if nat_le 49 first && nat_le first 57 then ticks_f
 
 abbrev pub run_up_to : List ℕ → Option ℕ → Option Asked
 run_up_to source None = None
-run_up_to source (Some ticks) = option_map (λ name. RunAsked name ticks) (name_of source)
+run_up_to source (Some ticks) = option_map (λ name. SourceAsked name (work.Run ticks)) (name_of source)
 
 abbrev pub run_of : List (Vec ℕ) → Option Asked
 run_of [] = None
@@ -38,11 +41,18 @@ run_of (source ∷ option ∷ ticks ∷ more ∷ rest) = None
 
 abbrev pub accept_of : List (Vec ℕ) → Option Asked
 accept_of [] = None
-accept_of (source ∷ []) = option_map (λ name. AcceptAsked name) (name_of source.items)
+accept_of (source ∷ []) = option_map (λ name. SourceAsked name work.Accept) (name_of source.items)
 accept_of (source ∷ more ∷ rest) = None
+
+abbrev pub test_of : TableTest → List (Vec ℕ) → Option Asked
+test_of wanted [] = None
+test_of wanted (table ∷ []) = option_map (λ name. TableAsked name wanted) (name_of table.items)
+test_of wanted (table ∷ more ∷ rest) = None
 
 abbrev pub asked_of : List (Vec ℕ) → Option Asked
 asked_of [] = None
 asked_of (command ∷ rest) =
     if bytes_eq command.items (codes "run") then run_of rest
-    else (if bytes_eq command.items (codes "accept") then accept_of rest else None)
+    else (if bytes_eq command.items (codes "accept") then accept_of rest
+    else (if bytes_eq command.items (codes "rta") then test_of test.ResponseTimes rest
+    else (if bytes_eq command.items (codes "demand") then test_of test.Demand rest else None)))

@@ -1,11 +1,12 @@
 -- The status and the note of each outcome.
-use Rattle.std.specs.Prelude.{◌≡◌, ◌⊎◌, ℕ, List, ◌++◌, ◌∷◌, [], Option, Some, None, codes, decimal}
+use Rattle.std.specs.Prelude.{◌≡◌, ◌⊎◌, ℕ, List, ◌++◌, ◌∷◌, [], if◌then◌else◌, Option, Some, None, codes, decimal}
 use Rattle.trace_text.specs.declared.events.Ended.{Ended as Stop}
 use Rattle.trace_text.specs.declared.events.Ended.TheVariants as why
 use Rattle.ada_front.specs.declared.refusing.Refusal.{Refusal}
 use Rattle.ada_front.specs.Refusals.{letter_of, number_of}
+use Rattle.sched_tests.specs.Reports.{table_note}
 use Rattle.commands.specs.declared.outcomes.Outcome.{Outcome}
-use Rattle.commands.specs.declared.outcomes.Outcome.TheVariants.{Ended, Accepted, WordsRefused, SourceRefused, ReadFault, WriteFault, NoMemory}
+use Rattle.commands.specs.declared.outcomes.Outcome.TheVariants.{Ended, Accepted, Tested, WordsRefused, SourceRefused, TableRefused, ReadFault, WriteFault, NoMemory}
 use Rattle.commands.specs.Outside.{SinkChange, SinkFailed, IsKept, Gained, GainedPrefix}
 
 abbrev pub stop_status : Stop → ℕ
@@ -17,8 +18,10 @@ stop_status why.Bound = 3
 abbrev pub status_of : Outcome → ℕ
 status_of (Ended stop) = stop_status stop
 status_of Accepted = 0
+status_of (Tested failed) = if failed then 12 else 0
 status_of WordsRefused = 6
 status_of (SourceRefused refusal) = 4
+status_of (TableRefused fault) = 13
 status_of ReadFault = 7
 status_of WriteFault = 8
 status_of NoMemory = 9
@@ -33,8 +36,10 @@ refusal_text refusal =
 abbrev pub note_of : Outcome → Option (List ℕ)
 note_of (Ended stop) = None
 note_of Accepted = None
+note_of (Tested failed) = None
 note_of WordsRefused = Some (codes "words refused\n")
 note_of (SourceRefused refusal) = Some (refusal_text refusal)
+note_of (TableRefused fault) = Some (table_note fault)
 note_of ReadFault = Some (codes "read fault\n")
 note_of WriteFault = Some (codes "write fault\n")
 note_of NoMemory = Some (codes "no memory\n")

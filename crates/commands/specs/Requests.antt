@@ -1,24 +1,31 @@
 -- What a command may ask for, with the names of its files as bytes.
 use Rattle.std.specs.Prelude.{◌<◌, ◌≤◌, ℕ, List}
+use Rattle.commands.specs.declared.requests.Work.{Work}
+use Rattle.commands.specs.declared.requests.Work.TheVariants as work
+use Rattle.commands.specs.declared.requests.TableTest.{TableTest}
 use Rattle.commands.specs.declared.requests.Request.{Request}
 use Rattle.commands.specs.declared.requests.Request.TheVariants as request
 use Rattle.commands.specs.declared.requests.TheConstants.{MOST_TICKS}
 
 pub data Asked : Type 0 where
-  RunAsked : List ℕ → ℕ → Asked
-  AcceptAsked : List ℕ → Asked
+  SourceAsked : List ℕ → Work → Asked
+  TableAsked : List ℕ → TableTest → Asked
 
 -- a request of the code
 abbrev pub seen : Request → Asked
-seen (request.Run source ticks) = RunAsked source.now ticks
-seen (request.Accept source) = AcceptAsked source.now
+seen (request.Source source work) = SourceAsked source.now work
+seen (request.Table table test) = TableAsked table.now test
 
 -- the name of the file that a request needs
-abbrev pub source_of : Asked → List ℕ
-source_of (RunAsked source ticks) = source
-source_of (AcceptAsked source) = source
+abbrev pub file_of : Asked → List ℕ
+file_of (SourceAsked source work) = source
+file_of (TableAsked table test) = table
 
 -- a run has from 1 to MOST_TICKS ticks
+abbrev pub IsWork : Work → Type 0
+IsWork (work.Run ticks) = (0 < ticks) × (ticks ≤ MOST_TICKS)
+IsWork work.Accept = Unit {0}
+
 abbrev pub HasTicks : Asked → Type 0
-HasTicks (RunAsked source ticks) = (0 < ticks) × (ticks ≤ MOST_TICKS)
-HasTicks (AcceptAsked source) = Unit {0}
+HasTicks (SourceAsked source work) = IsWork work
+HasTicks (TableAsked table test) = Unit {0}

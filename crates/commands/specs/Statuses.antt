@@ -1,16 +1,26 @@
 -- What each status of the program tells: the words of the clauses of `top`.
-use Rattle.std.specs.Prelude.{◌≡◌, ◌≢◌, ◌≤◌, ◌⊎◌, ℕ, List, Option, Some, None, codes}
-use Rattle.outside_bytes.specs.Files.{told, Holds}
+use Rattle.std.specs.Prelude.{◌≡◌, ◌≢◌, ◌≤◌, ◌⊎◌, ℕ, List, Option, Some, None, Result, Ok, Err, codes}
+use Rattle.outside_bytes.specs.Files.{told, Holds, WhereTold}
 use Rattle.ada_names.specs.declared.image.Image.{Image}
 use Rattle.ada_front.specs.declared.refusing.Refusal.{Refusal}
 use Rattle.ada_front.specs.Accepted.{Accepted as IsAccepted}
+use Rattle.sched_tests.specs.declared.duties.Duty.{Duty}
+use Rattle.sched_tests.specs.declared.duties.TableFault.{TableFault}
+use Rattle.sched_tests.specs.Demand.{busy_of}
+use Rattle.sched_tests.specs.Reading.{table_of}
+use Rattle.sched_tests.specs.Reports.{table_note}
+use Rattle.commands.specs.declared.requests.Work.{Work}
+use Rattle.commands.specs.declared.requests.Work.TheVariants as work
+use Rattle.commands.specs.declared.requests.TableTest.{TableTest}
+use Rattle.commands.specs.declared.requests.TableTest.TheVariants as test
 use Rattle.commands.specs.declared.outcomes.Outcome.{Outcome}
-use Rattle.commands.specs.declared.outcomes.Outcome.TheVariants.{Ended, Accepted, WordsRefused, SourceRefused, ReadFault, WriteFault, NoMemory}
-use Rattle.commands.specs.Requests.{Asked, RunAsked, AcceptAsked, source_of}
+use Rattle.commands.specs.declared.outcomes.Outcome.TheVariants.{Ended, Accepted, Tested, WordsRefused, SourceRefused, TableRefused, ReadFault, WriteFault, NoMemory}
+use Rattle.commands.specs.Requests.{Asked, SourceAsked, TableAsked}
 use Rattle.commands.specs.Outside.{ShelfChange, SinkChange, SinkFailed, IsKept, Gained, GainedPrefix}
 use Rattle.commands.specs.Runs.{text_of_run, stop_of}
+use Rattle.commands.specs.Tests.{test_text, test_status, NeverOver}
 use Rattle.commands.specs.Outcomes.{stop_status, status_of, note_of, refusal_text}
-use Rattle.commands.specs.Performed.{OfSource, IsDone, IsRefused, IsCutShort, IsUnread}
+use Rattle.commands.specs.Performed.{OfAsked, OfSource, OfTable, IsDone, IsRefused, IsNoTable, IsFileCutShort, IsUnread}
 
 -- neither a fault of the outside nor want of memory
 abbrev pub IsUndisturbed : ℕ → Type 0
@@ -22,7 +32,7 @@ IsUndisturbed status = (status ≢ 7) × (status ≢ 8) × (status ≢ 9)
 abbrev pub Headline : Option Asked → ShelfChange → SinkChange → SinkChange → ℕ → Type 0
 Headline asked shelf out notes status =
     (source bytes : List ℕ) (ticks : ℕ) (image : Image) →
-    asked ≡ Some (RunAsked source ticks) → told shelf.files source ≡ Holds bytes → IsAccepted bytes image →
+    asked ≡ Some (SourceAsked source (work.Run ticks)) → told shelf.files source ≡ Holds bytes → IsAccepted bytes image →
     IsUndisturbed status →
     Gained out (text_of_run image ticks) × (status ≡ stop_status (stop_of image ticks)) × IsKept notes
 
@@ -30,48 +40,88 @@ Headline asked shelf out notes status =
 abbrev pub AcceptanceTold : Option Asked → ShelfChange → SinkChange → SinkChange → ℕ → Type 0
 AcceptanceTold asked shelf out notes status =
     (source bytes : List ℕ) (image : Image) →
-    asked ≡ Some (AcceptAsked source) → told shelf.files source ≡ Holds bytes → IsAccepted bytes image →
+    asked ≡ Some (SourceAsked source work.Accept) → told shelf.files source ≡ Holds bytes → IsAccepted bytes image →
     IsUndisturbed status →
     Gained out (codes "accepted\n") × (status ≡ 0) × IsKept notes
 
--- A status of 0 to 3 comes where the file is there, its bytes are accepted, and the text that was asked for was written
--- whole; it is that of the run's stop, and 0 where no run was asked for.
-abbrev pub DoneTold : Option Asked → ShelfChange → SinkChange → ℕ → Type 0
-DoneTold asked shelf out status =
-    OfSource asked shelf (λ a bytes. (outcome : Outcome) × IsDone a bytes out outcome × (status ≡ status_of outcome))
+-- The same where they ask for a test of a table: its lines are written and the status is 0 where every duty passes, else
+-- 12; or the table is refused with status 13 and the note on its first line that is refused.
+abbrev pub IsAnswer : TableTest → Result (List Duty) TableFault → SinkChange → SinkChange → ℕ → Type 0
+IsAnswer test (Ok duties) out notes status = Gained out (test_text test duties) × (status ≡ test_status test duties) × IsKept notes
+IsAnswer test (Err fault) out notes status = IsKept out × (status ≡ 13) × Gained notes (table_note fault)
 
--- 0 and 3 for the run of a program of today's forms, 4 and 6 to 9 where a command was not done
+abbrev pub TableTold : Option Asked → ShelfChange → SinkChange → SinkChange → ℕ → Type 0
+TableTold asked shelf out notes status =
+    (table bytes : List ℕ) (test : TableTest) →
+    asked ≡ Some (TableAsked table test) → told shelf.files table ≡ Holds bytes → IsUndisturbed status →
+    IsAnswer test (table_of bytes) out notes status
+
+-- Where the demand test ends with status 0 and there is a busy period, which it then prints, no window of any length is
+-- overrun.
+abbrev pub BeyondTold : Option Asked → ShelfChange → ℕ → Type 0
+BeyondTold asked shelf status =
+    (table bytes : List ℕ) (duties : List Duty) (busy : ℕ) →
+    asked ≡ Some (TableAsked table test.Demand) → told shelf.files table ≡ Holds bytes → table_of bytes ≡ Ok duties →
+    status ≡ 0 → busy_of duties ≡ Some busy → NeverOver duties
+
+-- the lines of the test that is asked for are written, and it ends with this status
+abbrev pub IsPrinted : TableTest → List ℕ → SinkChange → ℕ → Type 0
+IsPrinted test bytes out status =
+    (duties : List Duty) × (table_of bytes ≡ Ok duties) × Gained out (test_text test duties) × (status ≡ test_status test duties)
+
+-- A status of 0 to 3 comes where the file is there and what was asked for was written whole: of a source whose bytes are
+-- accepted with the status of the run's stop, and 0 where no run was asked for; of a table with that of the test.
+abbrev pub DoneTold : Option Asked → ShelfChange → SinkChange → ℕ → Type 0
+DoneTold None shelf out status = ⊥
+DoneTold (Some (SourceAsked source work)) shelf out status =
+    WhereTold (told shelf.files source) (λ bytes. (outcome : Outcome) × IsDone work bytes out outcome × (status ≡ status_of outcome))
+DoneTold (Some (TableAsked table test)) shelf out status =
+    (status ≡ 0) × WhereTold (told shelf.files table) (λ bytes. IsPrinted test bytes out status)
+
+-- 0 and 3 for the run of a program of today's forms, 4, 6 to 9 and 13 where a command was not done, 12 where a test fails
 abbrev pub IsStatus : ℕ → Type 0
-IsStatus status = (status ≤ 9) × (status ≢ 1) × (status ≢ 2) × (status ≢ 5)
+IsStatus status = (status ≤ 13) × (status ≢ 1) × (status ≢ 2) × (status ≢ 5) × (status ≢ 10) × (status ≢ 11)
 
 -- A source that is not accepted has status 4.
 abbrev pub NotAccepted : Option Asked → ShelfChange → ℕ → Type 0
 NotAccepted asked shelf status =
-    (a : Asked) (bytes : List ℕ) → asked ≡ Some a → told shelf.files (source_of a) ≡ Holds bytes →
+    (source bytes : List ℕ) (work : Work) → asked ≡ Some (SourceAsked source work) → told shelf.files source ≡ Holds bytes →
     ((image : Image) → IsAccepted bytes image → ⊥) → IsUndisturbed status → status ≡ 4
 
--- Status 4 comes only where the file is there and its bytes are not accepted, and the note tells the first reason.
+-- Status 4 comes only where a source is asked for, it is there, and its bytes are not accepted, and the note tells the
+-- first reason.
 abbrev pub RefusalTold : Option Asked → ShelfChange → SinkChange → Type 0
 RefusalTold asked shelf notes =
-    OfSource asked shelf (λ a bytes. (refusal : Refusal) × IsRefused bytes refusal × Gained notes (refusal_text refusal))
+    OfSource asked shelf (λ work bytes. (refusal : Refusal) × IsRefused bytes refusal × Gained notes (refusal_text refusal))
+
+-- Status 12 comes only where a test is asked for, its table is there and the test fails, and its lines are written.
+abbrev pub FailureTold : Option Asked → ShelfChange → SinkChange → ℕ → Type 0
+FailureTold asked shelf out status = OfTable asked shelf (λ test bytes. IsPrinted test bytes out status)
+
+-- Status 13 comes only where a test is asked for, its table is there and is refused, and the note tells the first line.
+abbrev pub TableRefusalTold : Option Asked → ShelfChange → SinkChange → Type 0
+TableRefusalTold asked shelf notes =
+    OfTable asked shelf (λ test bytes. (fault : TableFault) × IsNoTable fault bytes × Gained notes (table_note fault))
 
 -- the cause of an outcome that is noted
 abbrev pub IsCause : Option Asked → ShelfChange → SinkChange → Outcome → Type 0
 IsCause asked shelf out (Ended stop) = ⊥
 IsCause asked shelf out Accepted = ⊥
+IsCause asked shelf out (Tested failed) = ⊥
 IsCause asked shelf out WordsRefused = asked ≡ None
-IsCause asked shelf out (SourceRefused refusal) = OfSource asked shelf (λ a bytes. IsRefused bytes refusal)
+IsCause asked shelf out (SourceRefused refusal) = OfSource asked shelf (λ work bytes. IsRefused bytes refusal)
+IsCause asked shelf out (TableRefused fault) = OfTable asked shelf (λ test bytes. IsNoTable fault bytes)
 IsCause asked shelf out ReadFault = IsUnread asked shelf
 IsCause asked shelf out WriteFault = SinkFailed out
 IsCause asked shelf out NoMemory = Unit {0}
 
 -- Where a stream failed notes gained a prefix of the note that was being written: that on the fault of out, or the one
--- that the words, the shelf, the source or the memory gave cause for.
+-- that the words, the shelf, the file or the memory gave cause for.
 abbrev pub NoteTried : Option Asked → ShelfChange → SinkChange → SinkChange → Type 0
 NoteTried asked shelf out notes =
     (outcome : Outcome) × (note : List ℕ) × IsCause asked shelf out outcome × (note_of outcome ≡ Some note) × GainedPrefix notes note
 
 -- After a fault of writing and want of memory out gained nothing, or a prefix of the text that the words ask for, of the
--- file that is there and accepted.
+-- file that is there and accepted, or is a table.
 abbrev pub PrefixTold : Option Asked → ShelfChange → SinkChange → Type 0
-PrefixTold asked shelf out = IsKept out ⊎ OfSource asked shelf (λ a bytes. IsCutShort a bytes out)
+PrefixTold asked shelf out = IsKept out ⊎ OfAsked asked (λ a. IsFileCutShort a shelf out)

@@ -2,9 +2,9 @@
 ghost use Rattle.std.specs.Prelude.{◌≡◌, ◌≤◌, ◌<◌, IfSome};
 ghost use Rattle.std.specs.Option.{option_map, option_copied};
 ghost use Rattle.commands.specs.Requests.{seen, HasTicks};
-ghost use Rattle.commands.specs.Asked.{asked_of, run_of, run_up_to, accept_of, name_of, ticks_of, ticks_from};
+ghost use Rattle.commands.specs.Asked.{asked_of, run_of, run_up_to, accept_of, test_of, name_of, ticks_of, ticks_from};
 
-use crate::requests::{DEFAULT_TICKS, MOST_TICKS, Request};
+use crate::requests::{DEFAULT_TICKS, MOST_TICKS, Request, TableTest, Work};
 
 /// What the words behind the program's name ask for; None for words that are refused.
 pub fn asked(words: &[Vec<u8>]) -> Option<Request>
@@ -19,6 +19,10 @@ pub fn asked(words: &[Vec<u8>]) -> Option<Request>
                 run_of(rest)
             } else if command.as_slice() == b"accept".as_slice() {
                 accept_of(rest)
+            } else if command.as_slice() == b"rta".as_slice() {
+                test_of(TableTest::ResponseTimes, rest)
+            } else if command.as_slice() == b"demand".as_slice() {
+                test_of(TableTest::Demand, rest)
             } else {
                 None
             }
@@ -48,7 +52,8 @@ fn run_up_to(word: &[u8], ticks: Option<u64>) -> Option<Request>
 {
     let ticks = ticks?;
     let source = file_name(word)?;
-    Some(Request::Run { source, ticks })
+    let work = Work::Run { ticks };
+    Some(Request::Source { source, work })
 }
 
 /// `SOURCE`.
@@ -59,7 +64,22 @@ fn accept_of(words: &[Vec<u8>]) -> Option<Request>
     match words {
         [word] => {
             let source = file_name(word)?;
-            Some(Request::Accept { source })
+            let work = Work::Accept;
+            Some(Request::Source { source, work })
+        }
+        _ => None,
+    }
+}
+
+/// `TABLE`.
+fn test_of(test: TableTest, words: &[Vec<u8>]) -> Option<Request>
+    ensures asked { option_map seen result ≡ test_of test words.now }
+    ensures ticks { IfSome result (λ request. HasTicks (seen request)) }
+{
+    match words {
+        [word] => {
+            let table = file_name(word)?;
+            Some(Request::Table { table, test })
         }
         _ => None,
     }

@@ -1,9 +1,10 @@
 //! How a command ends.
-ghost use Rattle.std.specs.Prelude.{◌≡◌};
+ghost use Rattle.std.specs.Prelude.{◌≡◌, if◌then◌else◌};
 ghost use Rattle.commands.specs.Outcomes.{status_of, stop_status};
 
 use ada_front::Refusal;
 use ann_kernel::Stop;
+use sched_tests::TableFault;
 
 /// How a command ended.
 #[derive(Drop)]
@@ -12,10 +13,17 @@ pub enum Outcome {
     Ended(Stop),
     /// The source is accepted.
     Accepted,
+    /// The lines of a test of a table were written.
+    Tested {
+        /// Whether a duty may miss its deadline.
+        failed: bool,
+    },
     /// The words are not asked for.
     WordsRefused,
     /// The source is not accepted.
     SourceRefused(Refusal),
+    /// The file is not a table.
+    TableRefused(TableFault),
     /// A file could not be read.
     ReadFault,
     /// Standard output could not be written.
@@ -25,21 +33,30 @@ pub enum Outcome {
 }
 
 impl Outcome {
-    /// The status with which the program ends: 0 to 3 as a run stopped, 0 where a source is accepted, 4 to 9 where the
-    /// command was not done.
+    /// The status with which the program ends: 0 to 3 as a run stopped, 0 where a source is accepted, 0 or 12 as a test
+    /// ended, 4 to 9 and 13 where the command was not done.
     pub fn status(&self) -> u8
         ensures { result ≡ status_of self.now }
     {
         match self {
             Outcome::Ended(stop) => stop_status(stop),
             Outcome::Accepted => 0,
+            Outcome::Tested { failed } => tested_status(*failed),
             Outcome::WordsRefused => 6,
             Outcome::SourceRefused(_) => 4,
+            Outcome::TableRefused(_) => 13,
             Outcome::ReadFault => 7,
             Outcome::WriteFault => 8,
             Outcome::NoMemory => 9,
         }
     }
+}
+
+/// The status of a test: 12 where a duty may miss its deadline.
+fn tested_status(failed: bool) -> u8
+    ensures { result ≡ if failed then 12 else 0 }
+{
+    if failed { 12 } else { 0 }
 }
 
 /// The status of a run that stopped so.

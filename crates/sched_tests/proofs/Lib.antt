@@ -4,6 +4,7 @@ pub mod Deadlines
 pub mod Dues
 pub mod Floors
 pub mod Leasts
+pub mod LongTables
 pub mod Needs
 pub mod Numerals
 pub mod Quotients

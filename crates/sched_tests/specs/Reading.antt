@@ -1,5 +1,5 @@
 -- What a table says: its duties, or its first line that is refused.
-use Rattle.std.specs.Prelude.{ℕ, ◌*◌, ◌+◌, ◌-◌, ◌==◌, ◌&&◌, ◌||◌, not, Bool, true, false, nat_le, nat_lt, if◌then◌else◌, List, [], ◌∷◌, ◌++◌, length, slice_index, Option, Some, None, Result, Ok, Err}
+use Rattle.std.specs.Prelude.{◌≡◌, ℕ, ◌*◌, ◌+◌, ◌-◌, ◌==◌, ◌&&◌, ◌||◌, not, Bool, true, false, nat_le, nat_lt, if◌then◌else◌, List, [], ◌∷◌, ◌++◌, length, take, slice_index, Option, Some, None, Result, Ok, Err}
 use Rattle.std.specs.List.{list_all, list_any, fold}
 use Rattle.std.specs.Str.{bytes_eq}
 use Rattle.sched_tests.specs.declared.duties.TheConstants.{TABLE_BYTES, MOST_DUTIES, NAME_LENGTH, LONGEST, MOST_PRIORITY}
@@ -149,3 +149,7 @@ not_empty (Ok (duty ∷ duties)) = Ok (duty ∷ duties)
 -- the duties of a table, or its first line that is refused
 abbrev pub table_of : List ℕ → Result (List Duty) TableFault
 table_of bytes = not_empty (fold read_line (Ok []) (lines_of bytes))
+
+-- A table that is too long is refused by its first 65,537 bytes, as by all of them.
+abbrev pub CutTablesAreReadAlike : Type 0
+CutTablesAreReadAlike = (bytes : List ℕ) → table_of (take (TABLE_BYTES + 1) bytes) ≡ table_of bytes

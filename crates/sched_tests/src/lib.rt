@@ -5,6 +5,7 @@
 
 mod demands;
 mod duties;
+mod laws;
 mod lines;
 mod reading;
 mod responses;
@@ -16,5 +17,6 @@ pub use duties::{
     Duty, LONGEST, MOST_DUTIES, MOST_PRIORITY, NAME_LENGTH, TABLE_BYTES, Table, TableFault,
     TableFaultKind,
 };
+pub use laws::cut_tables_are_read_alike;
 pub use reading::read_table;
 pub use responses::response;

@@ -1,7 +1,7 @@
-use Rattle.std.proofs.Common.{arith}
+use Rattle.std.proofs.Common.{inl, inr, arith}
 use Rattle.commands.specs.Asked.{asked_of}
 use Rattle.commands.specs.Outside.{shelf_of, sink_of}
-use Rattle.commands.proofs.StatusesTold.{headline, acceptance, known_status, done_told, quiet, refused_source, not_accepted, kept, words, refused_words, note_words, read_fault, note_read, write_fault, prefix_told, note_tried, note_memory}
+use Rattle.commands.proofs.StatusesTold.{headline, acceptance, table_told, beyond, known_status, done_told, quiet, refused_source, not_accepted, kept, words, refused_words, note_words, read_fault, note_read, write_fault, prefix_told, note_tried, note_memory, failure, quiet_failure, refused_table, kept_refused_table}
 use Rattle.annexd.proofs.whole.top.Goals as goal
 
 pub returns : goal.returns
@@ -17,6 +17,8 @@ returns g c =
     record {
       headline = headline asked shelf out notes o status p n;
       accepted = acceptance asked shelf out notes o status p n;
+      tested = table_told asked shelf out notes o status p n;
+      beyond = beyond asked shelf out notes o status p n;
       statuses = known_status asked shelf out notes o status p n;
       run = done_told asked shelf out notes o status p n;
       quiet = quiet o notes status n;
@@ -31,10 +33,14 @@ returns g c =
       kept_7 = λ e. kept asked shelf out notes o status p n (omega (arith, e)) (omega (arith, e));
       note_7 = note_read o notes status n;
       write_fault = write_fault asked shelf out notes o status p n;
-      prefix_8 = λ e. prefix_told asked shelf out notes o status p n (omega (arith, e));
+      prefix_8 = λ e. prefix_told asked shelf out notes o status p n (inl e);
       note_8 = note_tried asked shelf out notes o status p n;
-      prefix_9 = λ e. prefix_told asked shelf out notes o status p n (omega (arith, e));
+      prefix_9 = λ e. prefix_told asked shelf out notes o status p n (inr e);
       note_9 = note_memory o notes status n;
+      failed_test = failure asked shelf out notes o status p n;
+      quiet_12 = quiet_failure o notes status n;
+      refused_table = refused_table asked shelf out notes o status p n;
+      kept_13 = kept_refused_table asked shelf out notes o status p n;
       monotone_shelf = c.perform-outcome.ensures.monotone_shelf;
       monotone_out = c.perform-outcome.ensures.monotone_out;
       monotone_notes = c.conclude.ensures.monotone;

@@ -40,7 +40,9 @@ fn formed(alloc: Global, form: ExpressionForm<Expression>) -> Result<Expression,
     })
 }
 
-impl<F: Fn(Global, &mut Cursor<'_>, usize) -> Result<Expression, OrMemory<Stuck>>> ExpressionReader<F> {
+impl<F: Fn(Global, &mut Cursor<'_>, usize) -> Result<Expression, OrMemory<Stuck>>> ExpressionReader<
+    F,
+> {
     /// An expression one level further in.
     fn inner(&self, cursor: &mut Cursor<'_>) -> Result<Expression, OrMemory<Stuck>>
         requires reads { ReadsInside self.now.left (F.pre self.now.read) (F.post self.now.read) }

@@ -52,14 +52,14 @@ use Rattle.profile_machine.specs.Handlers.{call_handler, set_event, cancel_event
 
 -- ---- the environment task calls the main procedure (10.2)
 
-abbrev pub call_main : Image → Who → StatementNo → Step
+unfoldable pub call_main : Image → Who → StatementNo → Step
 call_main p name s =
     with_room p name (marks_of p p.main.scope) (scope_of p p.main.scope).size
     (goes name (next_of p s) ▷ looks (λ w. changes (open_scope p name p.main.scope (plainly (innermost w name)) (opened_for.Subprogram [] bound_for.Nowhere))))
 
 -- ---- calls of subprograms and protected operations (6.4, 9.5.1)
 
-abbrev pub call : Image → Who → StatementNo → Callee → List Actual → Destination → Step
+unfoldable pub call : Image → Who → StatementNo → Callee → List Actual → Destination → Step
 call p name s (callee.Subprogram f) actuals to = call_subprogram p name s f actuals to
 call p name s (callee.Operation d f) actuals to = call_operation p name s d f actuals to
 call p name s (callee.OwnOperation f) actuals to = call_own_operation p name s f actuals to
@@ -96,11 +96,11 @@ keeping e (InInitialize l) = InInitialize l
 keeping e (InFinalize o) = InFinalize o
 keeping e (InAssign m) = InAssign m
 
-abbrev pub handle_or_pass : Image → Who → Raised → Option StatementNo → Step
+unfoldable pub handle_or_pass : Image → Who → Raised → Option StatementNo → Step
 handle_or_pass p name e None = pass_on p name (how.Exception e)
 handle_or_pass p name e (Some first) = changes (edit_top name (λ f. with_mark (keeping e f.mark) f)) ▷ goes name (Some first)
 
-abbrev pub behind_handled : Image → Who → StatementNo → Leaving → Step
+unfoldable pub behind_handled : Image → Who → StatementNo → Leaving → Step
 behind_handled p name s (how.Exception e) = handle_or_pass p name e (handler_for e (handlers_in (form_of p s)))
 behind_handled p name s how.End = nothing
 behind_handled p name s how.Return = pass_on p name how.Return
@@ -108,18 +108,18 @@ behind_handled p name s (how.Exit loop) = pass_on p name (how.Exit loop)
 behind_handled p name s how.Abort = pass_on p name how.Abort
 behind_handled p name s how.Terminate = pass_on p name how.Terminate
 
-abbrev pub end_handled : Image → Who → StatementNo → Leaving → Step
+unfoldable pub end_handled : Image → Who → StatementNo → Leaving → Step
 end_handled p name s leaving = changes (pop name) ▷ behind_handled p name s leaving
 
 -- ---- the end of an abortable part (9.7.4): cancellation of the trigger is attempted first
 
-abbrev pub end_top : Image → Who → Step
+unfoldable pub end_top : Image → Who → Step
 end_top p name = looks (λ w. end_top_abortable p own name (frames_of w name))
 
 abbrev pub waiting_mark : AbortableMark → AbortableMark
 waiting_mark m = record m { waits = true }
 
-abbrev pub wait_for_trigger : Image → Who → Call → Leaving → Step
+unfoldable pub wait_for_trigger : Image → Who → Call → Leaving → Step
 wait_for_trigger p name c leaving =
     changes (edit_top name (λ f. with_mark (edit_abortable waiting_mark f.mark) (record f { left_as = Some leaving })))
     ▷ block the_block name (waits_for.EndOfCall c.number)
@@ -132,18 +132,18 @@ drop_trigger who.Agent depth = λ w. w
 abbrev pub below : List Frame → ℕ
 below frames = length frames - 1
 
-abbrev pub end_abortable_by : Image → Who → AbortableMark → Leaving → Step
+unfoldable pub end_abortable_by : Image → Who → AbortableMark → Leaving → Step
 end_abortable_by p name m leaving = elim m.call [
   | None ↦ looks (λ w. changes (drop_trigger name (below (frames_of w name)))) ▷ end_top p name
   | Some c ↦ with_call c (λ d. attempt_with p own d (end_top p name) (wait_for_trigger p name d leaving))
 ]
 
-abbrev pub end_in_abortable : Image → Who → AbortableMark → Leaving → Step
+unfoldable pub end_in_abortable : Image → Who → AbortableMark → Leaving → Step
 end_in_abortable p name m leaving = cond m.triggered (end_top p name) (end_abortable_by p name m leaving)
 
 -- ---- by the first item: a statement
 
-abbrev pub act_statement : Image → Who → StatementNo → StatementForm → Step
+unfoldable pub act_statement : Image → Who → StatementNo → StatementForm → Step
 act_statement p name s (form.Declare object) = declare p name s object
 act_statement p name s (form.Initialize object) = initialize p name s object
 act_statement p name s (form.CreateTask object declarative_part) = create p name s object declarative_part
@@ -197,7 +197,7 @@ act_statement p name s (form.DelayUntilAndSetDeadline until offset) = delay_and_
 
 -- ---- or the end of the top mark, in whichever way it is left
 
-abbrev pub end_mark : Image → Who → Frame → Mark → Step
+unfoldable pub end_mark : Image → Who → Frame → Mark → Step
 end_mark p name f (Scope m) = end_scope_mark p name m (leaving_of f)
 end_mark p name f (Handled s) = end_handled p name s (leaving_of f)
 end_mark p name f (InProtected m) = end_in_protected p name m (leaving_of f)
@@ -207,18 +207,18 @@ end_mark p name f (InInitialize l) = end_in_initialize p name l (leaving_of f)
 end_mark p name f (InFinalize o) = end_in_finalize p name (leaving_of f)
 end_mark p name f (InAssign m) = end_in_assign p name m f.left_as
 
-abbrev pub act_frame : Image → Who → Frame → Option StatementNo → Step
+unfoldable pub act_frame : Image → Who → Frame → Option StatementNo → Step
 act_frame p name f (Some s) = act_statement p name s (form_of p s)
 act_frame p name f None = end_mark p name f f.mark
 
 -- the agent without a rest calls the handler of the release that it serves
-abbrev pub act_without : Image → Option Release → Step
+unfoldable pub act_without : Image → Option Release → Step
 act_without p None = nothing
 act_without p (Some r) = call_handler p r
 
-abbrev pub act_top : Image → Who → Option Frame → Step
+unfoldable pub act_top : Image → Who → Option Frame → Step
 act_top p name None = looks (λ w. act_without p w.serving)
 act_top p name (Some f) = act_frame p name f f.onward
 
-abbrev pub act : Image → Who → Step
+unfoldable pub act : Image → Who → Step
 act p name = looks (λ w. act_top p name (top_of w name))

@@ -57,14 +57,14 @@ otherwise_in p _ next = next
 abbrev pub onward_when_cancelled : Image → StatementNo → Option StatementNo
 onward_when_cancelled p s = otherwise_in p (form_of p s) (next_of p s)
 
-abbrev pub go_by_outcome : Image → Part → Who → StatementNo → Outcome → Step
+unfoldable pub go_by_outcome : Image → Part → Who → StatementNo → Outcome → Step
 go_by_outcome p part name s call_ended.Finished = goes name (onward_when_done p s)
 go_by_outcome p part name s call_ended.Cancelled = goes name (onward_when_cancelled p s)
 go_by_outcome p part name s (call_ended.ToRaise e) = raises p part name e
 go_by_outcome p part name s (call_ended.WasRaised e) = leaves name (how.Exception e)
 
 -- the caller goes on behind its call, which is no longer among the calls
-abbrev pub resume : Image → Part → Call → Outcome → Step
+unfoldable pub resume : Image → Part → Call → Outcome → Step
 resume p part c outcome =
     changes (forget_call c.number) ▷ go_by_outcome p part (who.Task c.caller) c.statement outcome
 
@@ -144,7 +144,7 @@ abbrev pub triggered_mark : AbortableMark → AbortableMark
 triggered_mark m = record m { triggered = true }
 
 -- a trigger completes while its abortable part is open: `trigger`, and the part is struck
-abbrev pub trigger_at : Image → Part → TaskNo → ℕ → Step
+unfoldable pub trigger_at : Image → Part → TaskNo → ℕ → Step
 trigger_at p part t depth =
     changes (edit_abortable_at (who.Task t) depth triggered_mark) ▷ says part (line.Trigger t)
     ▷ changes (edit_frame (who.Task t) depth struck_frame)
@@ -162,7 +162,7 @@ forget_trigger None = λ w. w
 forget_trigger (Some c) = forget_call c
 
 -- the triggering statements, or the trigger's exception in their place
-abbrev pub run_triggered : Image → Part → Who → StatementNo → Outcome → Step
+unfoldable pub run_triggered : Image → Part → Who → StatementNo → Outcome → Step
 run_triggered p part name select call_ended.Finished = goes name (onward_when_done p select)
 run_triggered p part name select call_ended.Cancelled = nothing
 run_triggered p part name select (call_ended.ToRaise e) = raises p part name e
@@ -188,11 +188,11 @@ is_own_abort how.Terminate struck outer = false
 abbrev pub ended_by_itself : Frame → List Frame → Bool
 ended_by_itself f below = is_end (leaving_of f) || is_own_abort (leaving_of f) f.struck (any_struck below)
 
-abbrev pub behind_abortable : Image → Part → Who → AbortableMark → Outcome → Step
+unfoldable pub behind_abortable : Image → Part → Who → AbortableMark → Outcome → Step
 behind_abortable p part name m outcome = when m.triggered (run_triggered p part name m.select outcome)
 
 -- an abortable part on top has ended, and its trigger no longer runs
-abbrev pub end_abortable : Image → Part → Who → AbortableMark → Frame → List Frame → Step
+unfoldable pub end_abortable : Image → Part → Who → AbortableMark → Frame → List Frame → Step
 end_abortable p part name m f below =
     looks (λ w. changes (pop name) ▷ changes (forget_trigger m.call)
     ▷ elim (ended_by_itself f below) [
@@ -200,11 +200,11 @@ end_abortable p part name m f below =
       | false ↦ pass_on p name (leaving_of f)
     ])
 
-abbrev pub end_abortable_in : Image → Part → Who → Frame → List Frame → Mark → Step
+unfoldable pub end_abortable_in : Image → Part → Who → Frame → List Frame → Mark → Step
 end_abortable_in p part name f below (Abortable m) = end_abortable p part name m f below
 end_abortable_in p part name f below _ = nothing
 
-abbrev pub end_top_abortable : Image → Part → Who → List Frame → Step
+unfoldable pub end_top_abortable : Image → Part → Who → List Frame → Step
 end_top_abortable p part name [] = nothing
 end_top_abortable p part name (f ∷ below) = end_abortable_in p part name f below f.mark
 
@@ -218,7 +218,7 @@ is_cancelled call_ended.Cancelled = true
 is_cancelled (call_ended.ToRaise e) = false
 is_cancelled (call_ended.WasRaised e) = false
 
-abbrev pub end_wait : Image → Part → Call → ℕ → Outcome → Step
+unfoldable pub end_wait : Image → Part → Call → ℕ → Outcome → Step
 end_wait p part c depth outcome =
     ready p part (who.Task c.caller)
     ▷ changes (edit_abortable_at (who.Task c.caller) depth (waited_mark (not (is_cancelled outcome))))
@@ -237,7 +237,7 @@ waits_for_end c (Some (waits_for.EndOfCall d)) = same_call c d
 waits_for_end c _ = false
 
 -- its abortable part is open: it is triggered, or its wait ends
-abbrev pub end_for_abortable : Image → Part → Call → ℕ → Outcome → Step
+unfoldable pub end_for_abortable : Image → Part → Call → ℕ → Outcome → Step
 end_for_abortable p part c depth outcome =
     looks (λ w. elim (waits_for_end c.number (waiting_of w (who.Task c.caller))) [
       | true ↦ end_wait p part c depth outcome
@@ -245,34 +245,34 @@ end_for_abortable p part c depth outcome =
     ])
 
 -- the caller is blocked for it and becomes ready; one that holds the object goes on at the release
-abbrev pub end_for_caller : Image → Part → Call → Outcome → Step
+unfoldable pub end_for_caller : Image → Part → Call → Outcome → Step
 end_for_caller p part c outcome =
     looks (λ w. when (waits_for_call c.number (waiting_of w (who.Task c.caller)))
     (ready p part (who.Task c.caller) ▷ resume p part c outcome ▷ open_sequence p part (who.Task c.caller)))
 
-abbrev pub end_for : Image → Part → Call → Outcome → Option ℕ → Step
+unfoldable pub end_for : Image → Part → Call → Outcome → Option ℕ → Step
 end_for p part c outcome (Some depth) = end_for_abortable p part c depth outcome
 end_for p part c outcome None = end_for_caller p part c outcome
 
 abbrev pub with_outcome : Outcome → Call → Call
 with_outcome outcome c = record c { outcome = Some outcome; sending = None }
 
-abbrev pub end_with : Image → Part → Call → Outcome → Step
+unfoldable pub end_with : Image → Part → Call → Outcome → Step
 end_with p part c outcome =
     changes (edit_call c.number (with_outcome outcome)) ▷ looks (λ w. end_for p part c outcome (abortable_depth w c))
 
 -- the call has ended; its caller is not unwound yet
-abbrev pub end_call : Image → Part → Call → Outcome → Step
+unfoldable pub end_call : Image → Part → Call → Outcome → Step
 end_call p part c outcome =
     looks (λ w.
     let r = with_results p c outcome w in
     changes (λ _. r.0) ▷ end_with p part c r.1)
 
 -- the call has ended, and its caller is unwound where it is struck
-abbrev pub deliver : Image → Part → CallNo → Outcome → Step
+unfoldable pub deliver : Image → Part → CallNo → Outcome → Step
 deliver p part c outcome =
     with_call c (λ d. end_call p part d outcome ▷ unwind p part (who.Task d.caller))
 
 -- Tasking_Error, for the callee is not callable or was aborted in the rendezvous: `gone`
-abbrev pub gone : Image → Part → Call → Step
+unfoldable pub gone : Image → Part → Call → Step
 gone p part c = changes (unqueued p c) ▷ says part (line.Gone c.caller c.number)

@@ -52,7 +52,7 @@ abbrev pub name_of_entry : Image → Owner → EntryNo → EntryName
 name_of_entry p (owned_by.Task t) e = called.OfTask t (entry_of p e).name
 name_of_entry p (owned_by.Object o) e = called.OfObject o (entry_of p e).name
 
-abbrev pub says_call : Image → Part → Call → Step
+unfoldable pub says_call : Image → Part → Call → Step
 says_call p part c = says part (line.Call c.caller c.number (name_of_entry p c.owner c.entry) c.priority)
 
 -- ---- parameters: a body that takes a call has those of its own entry alone, also where the call was sent on to an
@@ -104,7 +104,7 @@ take_call c = without (same_call c)
 abbrev pub enqueued : Image → Call → World → World
 enqueued p c w = edit_queue c.owner (place_of_entry p c.entry) (put_call p.policies.queuing w c.number c.priority) (edit_call c.number (λ d. record d { begun = false }) w)
 
-abbrev pub enqueue : Image → CallNo → Step
+unfoldable pub enqueue : Image → CallNo → Step
 enqueue p c = with_call c (λ d. changes (enqueued p d))
 
 -- a call is in no queue and has no time-out any more
@@ -150,7 +150,7 @@ abbrev pub is_cancellable : Call → Bool
 is_cancellable c = not c.begun && not c.firm && is_none c.outcome
 
 -- cancellation is attempted: `cancel` where the call is cancellable, which is then out of its queue
-abbrev pub attempt_on : Image → Part → Call → Step
+unfoldable pub attempt_on : Image → Part → Call → Step
 attempt_on p part c =
     elim (is_cancellable c) [
       | true ↦ changes (unqueued p c) ▷ says part (line.Cancel c.caller c.number)

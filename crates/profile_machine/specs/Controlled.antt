@@ -54,7 +54,7 @@ first_place p l = (declaration_of p l.declared).place
 abbrev pub operation_beginning : Image → World → Who → SubprogramNo → Located → Beginning
 operation_beginning p w name f l = record { outer = option_and_then (λ outer. home w outer (innermost w name)) (scope_of p (subprogram_of p f).scope).outer; object = None; subject = Some l; values = read_cell w l.within (first_place p l) ∷ [] }
 
-abbrev pub open_operation : Image → Who → SubprogramNo → Located → Step
+unfoldable pub open_operation : Image → Who → SubprogramNo → Located → Step
 open_operation p name f l =
     looks (λ w. changes (open_scope p name (subprogram_of p f).scope (operation_beginning p w name f l) (opened_for.Subprogram [] bound_for.Nowhere)))
 
@@ -80,7 +80,7 @@ abbrev pub registered_as : ℕ → RegionNo → Located → World → World
 registered_as n r l w = record w { registered = record { object = n; region = r; located = l } ∷ w.registered; drawn = controlled_drawn w.drawn }
 
 -- the object is registered in the region of the scope on top
-abbrev pub register : Image → Who → Located → Step
+unfoldable pub register : Image → Who → Located → Step
 register p name l =
     looks (λ w.
     let n = suc w.drawn.controlled in
@@ -89,13 +89,13 @@ register p name l =
 
 -- ---- Initialize (7.6): without an override the object is registered at once
 
-abbrev pub initialize_by : Image → Who → StatementNo → Located → Option SubprogramNo → Step
+unfoldable pub initialize_by : Image → Who → StatementNo → Located → Option SubprogramNo → Step
 initialize_by p name s l None = goes name (next_of p s) ▷ register p name l
 initialize_by p name s l (Some f) =
     with_room p name (1 + marks_of_operation p f) (size_of_operation p f)
     (goes name (next_of p s) ▷ changes (push name (new_frame (InInitialize l) None)) ▷ open_operation p name f l)
 
-abbrev pub initialize : Image → Who → StatementNo → DeclNo → Step
+unfoldable pub initialize : Image → Who → StatementNo → DeclNo → Step
 initialize p name s d =
     sees p name (λ q. given p own name (located q d) (λ l. initialize_by p name s l (type_of p l).initialize))
 
@@ -108,7 +108,7 @@ registers (how.Exit loop) = true
 registers how.Abort = true
 registers how.Terminate = true
 
-abbrev pub end_in_initialize : Image → Who → Located → Leaving → Step
+unfoldable pub end_in_initialize : Image → Who → Located → Leaving → Step
 end_in_initialize p name l leaving =
     changes (pop name) ▷ cond (registers leaving) (register p name l) (pass_on p name leaving)
 
@@ -133,14 +133,14 @@ edit_top_scope name f = edit_top name (λ x. with_mark (edit_scope_mark f x.mark
 abbrev pub finalize_has_raised : ScopeMark → ScopeMark
 finalize_has_raised m = record m { finalize_raised = true }
 
-abbrev pub open_finalize : Image → Who → ℕ → Located → SubprogramNo → Step
+unfoldable pub open_finalize : Image → Who → ℕ → Located → SubprogramNo → Step
 open_finalize p name n l f = changes (push name (new_frame (InFinalize n) None)) ▷ open_operation p name f l
 
 abbrev pub has_room_to_finalize : Image → World → Who → SubprogramNo → Bool
 has_room_to_finalize p w name f = has_room w name (1 + marks_of_operation p f) (size_of_operation p f)
 
 -- without room it counts as one that raised
-abbrev pub finalize_by : Image → Who → Registered → Option SubprogramNo → Step
+unfoldable pub finalize_by : Image → Who → Registered → Option SubprogramNo → Step
 finalize_by p name r None = nothing
 finalize_by p name r (Some f) =
     looks (λ w. elim (has_room_to_finalize p w name f) [
@@ -151,7 +151,7 @@ finalize_by p name r (Some f) =
 abbrev pub no_longer_registered : ℕ → World → World
 no_longer_registered n w = record w { registered = without (is_number n) w.registered }
 
-abbrev pub finalize : Image → Who → Registered → Step
+unfoldable pub finalize : Image → Who → Registered → Step
 finalize p name r =
     says own (line.Final name r.object) ▷ changes (no_longer_registered r.object) ▷ finalize_by p name r (type_of p r.located).finalize
 
@@ -174,7 +174,7 @@ abbrev pub is_assignment : Option Frame → Bool
 is_assignment None = false
 is_assignment (Some f) = is_assign_mark f.mark
 
-abbrev pub behind_finalize : Image → Who → Leaving → Bool → Step
+unfoldable pub behind_finalize : Image → Who → Leaving → Bool → Step
 behind_finalize p name (how.Exception e) true = pass_on p name (how.Exception e)
 behind_finalize p name (how.Exception e) false = changes (edit_top_scope name finalize_has_raised)
 behind_finalize p name how.End of_assignment = nothing
@@ -183,7 +183,7 @@ behind_finalize p name (how.Exit loop) of_assignment = nothing
 behind_finalize p name how.Abort of_assignment = nothing
 behind_finalize p name how.Terminate of_assignment = nothing
 
-abbrev pub end_in_finalize : Image → Who → Leaving → Step
+unfoldable pub end_in_finalize : Image → Who → Leaving → Step
 end_in_finalize p name leaving =
     changes (pop name) ▷ looks (λ w. behind_finalize p name leaving (is_assignment (top_of w name)))
 
@@ -201,24 +201,24 @@ registered_at p w l = find (is_located l) w.registered
 abbrev pub new_assign_mark : ℕ → ℕ → Mark
 new_assign_mark target source = InAssign (record { target = target; source = source; step = assigning.FinalizeTarget })
 
-abbrev pub begin_assignment : Image → Who → StatementNo → ℕ → ℕ → Step
+unfoldable pub begin_assignment : Image → Who → StatementNo → ℕ → ℕ → Step
 begin_assignment p name s target source =
     with_room p name 1 0
     (goes name (next_of p s) ▷ says own (line.Replace name target) ▷ changes (push name (new_frame (new_assign_mark target source) None)))
 
 -- a target or a source that is not registered raises Program_Error (own)
-abbrev pub assign_registered : Image → Who → StatementNo → Option Registered → Option Registered → Step
+unfoldable pub assign_registered : Image → Who → StatementNo → Option Registered → Option Registered → Step
 assign_registered p name s (Some target) (Some source) = begin_assignment p name s target.object source.object
 assign_registered p name s (Some target) None = raises p own name exception.Program
 assign_registered p name s None source = raises p own name exception.Program
 
 -- to itself it does nothing (own)
-abbrev pub assign_located : Image → Who → StatementNo → Located → Located → Step
+unfoldable pub assign_located : Image → Who → StatementNo → Located → Located → Step
 assign_located p name s target source =
     cond (same_located target source) (goes name (next_of p s))
     (looks (λ w. assign_registered p name s (registered_at p w target) (registered_at p w source)))
 
-abbrev pub assign_controlled : Image → Who → StatementNo → DeclNo → DeclNo → Step
+unfoldable pub assign_controlled : Image → Who → StatementNo → DeclNo → DeclNo → Step
 assign_controlled p name s target source =
     sees p name (λ q. given p own name (located q target) (λ t. given p own name (located q source) (λ f. assign_located p name s t f)))
 
@@ -244,10 +244,10 @@ abbrev pub registered_object : World → ℕ → Option Registered
 registered_object w n = find (is_number n) w.registered
 
 -- without room a Finalize or Adjust counts as one that raised
-abbrev pub leave_without_room : Who → Step
+unfoldable pub leave_without_room : Who → Step
 leave_without_room name = leaves name (how.Exception exception.Storage)
 
-abbrev pub finalize_target_by : Image → Who → Registered → Option SubprogramNo → Step
+unfoldable pub finalize_target_by : Image → Who → Registered → Option SubprogramNo → Step
 finalize_target_by p name r None = nothing
 finalize_target_by p name r (Some f) =
     looks (λ w. elim (has_room_to_finalize p w name f) [ true ↦ open_finalize p name r.object r.located f | false ↦ leave_without_room name ])
@@ -255,7 +255,7 @@ finalize_target_by p name r (Some f) =
 abbrev pub has_room_to_adjust : Image → World → Who → SubprogramNo → Bool
 has_room_to_adjust p w name f = has_room w name (marks_of_operation p f) (size_of_operation p f)
 
-abbrev pub adjust_by : Image → Who → Registered → Option SubprogramNo → Step
+unfoldable pub adjust_by : Image → Who → Registered → Option SubprogramNo → Step
 adjust_by p name r None = nothing
 adjust_by p name r (Some f) =
     looks (λ w. elim (has_room_to_adjust p w name f) [ true ↦ open_operation p name f r.located | false ↦ leave_without_room name ])
@@ -289,6 +289,6 @@ step_with p name step (Some target) None = changes (pop name)
 step_with p name step None source = changes (pop name)
 
 -- InAssign that is left by an exception goes on with Program_Error; else its next step is done
-abbrev pub end_in_assign : Image → Who → AssignMark → Option Leaving → Step
+unfoldable pub end_in_assign : Image → Who → AssignMark → Option Leaving → Step
 end_in_assign p name m (Some (how.Exception e)) = changes (pop name) ▷ raises p own name exception.Program
 end_in_assign p name m _ = looks (λ w. step_with p name m.step (registered_object w m.target) (registered_object w m.source))

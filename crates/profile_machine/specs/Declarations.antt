@@ -24,7 +24,7 @@ use Rattle.profile_machine.specs.declared.world.scopes.Variable.{Variable}
 use Rattle.profile_machine.specs.declared.world.objects.Object.{Object}
 use Rattle.profile_machine.specs.declared.world.Drawn.{Drawn}
 use Rattle.profile_machine.specs.Program.{declaration_of, next_of, scope_of, protected_unit_of, controlled_of, initial_cells}
-use Rattle.profile_machine.specs.Steps.{Step, own, says, changes, ◌▷◌}
+use Rattle.profile_machine.specs.Steps.{Step, own, says, changes, looks, ◌▷◌}
 use Rattle.profile_machine.specs.Frames.{goes, given}
 use Rattle.profile_machine.specs.Scopes.{write_cell, edit_cells, scope_in_use}
 use Rattle.profile_machine.specs.Operators.{Valued, ◌>>=◌, unless}
@@ -98,11 +98,11 @@ with_object p l u w =
     set_thing p l (Thing n) (record w { objects = new_object p l u n ∷ w.objects; drawn = object_drawn w.drawn })
 
 -- `new` with the ceiling
-abbrev pub says_object : Image → Located → ProtectedUnitNo → Step
-says_object p l u w =
-    says own (line.New (created.Object (record { 0 = w.drawn.objects })) (declaration_of p l.declared).expanded (protected_unit_of p u).ceiling) w
+unfoldable pub says_object : Image → Located → ProtectedUnitNo → Step
+says_object p l u =
+    looks (λ w. says own (line.New (created.Object (record { 0 = w.drawn.objects })) (declaration_of p l.declared).expanded (protected_unit_of p u).ceiling))
 
-abbrev pub declare_protected : Image → Who → StatementNo → DeclNo → ProtectedUnitNo → Step
+unfoldable pub declare_protected : Image → Who → StatementNo → DeclNo → ProtectedUnitNo → Step
 declare_protected p name s d u =
     sees p name (λ q. given p own name (located_here q d) (λ l.
     given p own name (components_initialized q protected_cells l (protected_unit_of p u).components q.world) (λ next.
@@ -154,11 +154,11 @@ declared q d kind.Budget = budget_declared q d
 declared q d kind.Parameter = Ok q.world
 declared q d kind.Other = Ok q.world
 
-abbrev pub declare_quietly : Image → Who → StatementNo → DeclNo → Step
+unfoldable pub declare_quietly : Image → Who → StatementNo → DeclNo → Step
 declare_quietly p name s d =
     sees p name (λ q. given p own name (declared q d (declaration_of p d).kind) (λ next. changes (λ _. next) ▷ goes name (next_of p s)))
 
-abbrev pub declare_by : Image → Who → StatementNo → DeclNo → DeclarationKind → Step
+unfoldable pub declare_by : Image → Who → StatementNo → DeclNo → DeclarationKind → Step
 declare_by p name s d (kind.Protected u) = declare_protected p name s d u
 declare_by p name s d (kind.Object i) = declare_quietly p name s d
 declare_by p name s d (kind.Task u) = declare_quietly p name s d
@@ -169,5 +169,5 @@ declare_by p name s d kind.Budget = declare_quietly p name s d
 declare_by p name s d kind.Parameter = declare_quietly p name s d
 declare_by p name s d kind.Other = declare_quietly p name s d
 
-abbrev pub declare : Image → Who → StatementNo → DeclNo → Step
+unfoldable pub declare : Image → Who → StatementNo → DeclNo → Step
 declare p name s d = declare_by p name s d (declaration_of p d).kind

@@ -17,7 +17,7 @@ use Rattle.profile_machine.specs.declared.world.tasks.Waiting.TheVariants as wai
 use Rattle.profile_machine.specs.declared.world.tasks.State.TheVariants.{Runnable, Blocked}
 use Rattle.profile_machine.specs.Words.{greatest_of, some_where}
 use Rattle.profile_machine.specs.Program.{is_edf_level, is_robin_level, edf_low}
-use Rattle.profile_machine.specs.Steps.{Part, Step, says, changes, ◌▷◌}
+use Rattle.profile_machine.specs.Steps.{Part, Step, says, changes, looks, ◌▷◌}
 use Rattle.profile_machine.specs.Tasks.{task_of, edit_task, with_state, is_runnable, is_who}
 
 -- ---- active priorities (D.1, D.2.6)
@@ -100,9 +100,9 @@ abbrev pub deadline_shown : Image → Task → Option ℤ
 deadline_shown p t = some_where (is_edf_level p (active p t)) t.deadline
 
 -- the `ready` line, which places
-abbrev pub says_ready : Image → Part → Who → QueueEnd → Step
-says_ready p part name end w =
-    says part (line.Ready name (active p (task_of w name)) end (deadline_shown p (task_of w name))) w
+unfoldable pub says_ready : Image → Part → Who → QueueEnd → Step
+says_ready p part name end =
+    looks (λ w. says part (line.Ready name (active p (task_of w name)) end (deadline_shown p (task_of w name))))
 
 -- a task at the tail of its base level gets the level's full quantum, where that is round robin
 abbrev pub granted : Image → List ℕ → Task → Task
@@ -111,14 +111,14 @@ granted p quanta t = cond (eqb (active p t) t.base && is_robin_level p t.base) (
 abbrev pub grant_quantum : Image → Who → World → World
 grant_quantum p name w = edit_task name (granted p w.quanta) w
 
-abbrev pub to_tail : Image → Part → Who → Step
+unfoldable pub to_tail : Image → Part → Who → Step
 to_tail p part name = changes (grant_quantum p name) ▷ says_ready p part name Tail
 
-abbrev pub to_head : Image → Part → Who → Step
+unfoldable pub to_head : Image → Part → Who → Step
 to_head p part name = says_ready p part name Head
 
 -- a task, or the agent, becomes ready: it goes to the tail
-abbrev pub ready : Image → Part → Who → Step
+unfoldable pub ready : Image → Part → Who → Step
 ready p part name =
     changes (edit_task name (with_state Runnable)) ▷ changes (keep_level p name) ▷ to_tail p part name
 
@@ -137,12 +137,12 @@ word_of waits_for.Release = word.Release
 abbrev pub without_kept_level : Task → Task
 without_kept_level t = record t { kept_level = None }
 
-abbrev pub says_block : Part → Who → Waiting → Step
+unfoldable pub says_block : Part → Who → Waiting → Step
 says_block part name waiting =
     changes (edit_task name without_kept_level) ▷ says part (line.Block name (word_of waiting))
 
 -- a task, or the agent, blocks: it leaves the ready queues and keeps no level
-abbrev pub block : Part → Who → Waiting → Step
+unfoldable pub block : Part → Who → Waiting → Step
 block part name waiting =
     changes (edit_task name (with_state (Blocked waiting))) ▷ says_block part name waiting
 

@@ -137,22 +137,22 @@ make_call p c step =
     ▷ looks (λ w. changes (add_call c) ▷ says_call p the_call (numbered (suc w.drawn.calls) c) ▷ step (numbered (suc w.drawn.calls) c))
 
 -- it ends at once with an exception
-abbrev pub end_at_once : Image → Part → Call → Raised → Step
+unfoldable pub end_at_once : Image → Part → Call → Raised → Step
 end_at_once p part c e = changes (forget_call c.number) ▷ raises p part (who.Task c.caller) e
 
 -- ---- a call of a task's entry (9.5.3)
 
-abbrev pub call_gone : Image → Call → Step
+unfoldable pub call_gone : Image → Call → Step
 call_gone p c = gone p own c ▷ end_at_once p own c exception.Tasking
 
 -- the callee waits for it: the rendezvous begins, and the caller blocks
-abbrev pub call_meets : Image → TaskNo → StatementNo → Call → Step
+unfoldable pub call_meets : Image → TaskNo → StatementNo → Call → Step
 call_meets p t s c =
     meet p (of_other (who.Task t)) (who.Task t) s c
     (block the_block (who.Task c.caller) (waits_for.Call c.number))
     (end_at_once p the_finish c exception.Storage)
 
-abbrev pub call_queues : Image → Call → Step
+unfoldable pub call_queues : Image → Call → Step
 call_queues p c = enqueue p c.number ▷ not_accepted p own c c.kind
 
 -- a triggering call needs a mark where it is queued
@@ -162,30 +162,30 @@ marks_if_queued call_kind.Conditional = 0
 marks_if_queued call_kind.Timed = 0
 marks_if_queued call_kind.Triggering = 1
 
-abbrev pub call_not_met : Image → Call → Bool → Step
+unfoldable pub call_not_met : Image → Call → Bool → Step
 call_not_met p c true = make_call p c (λ d. end_at_once p own d exception.Program)
 call_not_met p c false = with_room p (who.Task c.caller) (marks_if_queued c.kind) 0 (make_call p c (call_queues p))
 
-abbrev pub call_accepted_by : Image → TaskNo → Call → Option StatementNo → Step
+unfoldable pub call_accepted_by : Image → TaskNo → Call → Option StatementNo → Step
 call_accepted_by p t c (Some s) = make_call p c (call_meets p t s)
 call_accepted_by p t c None = looks (λ w. call_not_met p c (is_full p w c.owner c.entry))
 
-abbrev pub call_callable : Image → TaskNo → Call → Bool → Step
+unfoldable pub call_callable : Image → TaskNo → Call → Bool → Step
 call_callable p t c false = make_call p c (call_gone p)
 call_callable p t c true = looks (λ w. call_accepted_by p t c (accept_for p c.entry (waiting_of w (who.Task t))))
 
-abbrev pub call_task : Image → TaskNo → Call → Step
+unfoldable pub call_task : Image → TaskNo → Call → Step
 call_task p t c = looks (λ w. call_callable p t c (is_callable w t))
 
 -- ---- a call of a protected entry (9.5.3): tested first, then made; it runs at once where the barrier is open
 
-abbrev pub call_runs : Image → ObjectNo → Call → Step
+unfoldable pub call_runs : Image → ObjectNo → Call → Step
 call_runs p o c =
     begin_action_on p (who.Task c.caller) o Write (Some c.number) None
     ▷ serve_call p own (who.Task c.caller) o c nothing nothing
 
 -- without room the body starts and finishes at once, and nothing is placed
-abbrev pub call_without_room : Image → ObjectNo → Call → Step
+unfoldable pub call_without_room : Image → ObjectNo → Call → Step
 call_without_room p o c =
     says own (line.Enter (who.Task c.caller) o Write) ▷ says own (line.Start (who.Task c.caller) c.number)
     ▷ says own (line.Finish (who.Task c.caller) c.number (finished.Raised (exception_name p exception.Storage)))
@@ -195,40 +195,40 @@ abbrev pub has_room_for_action : Image → World → Call → Bool
 has_room_for_action p w c =
     has_room w (who.Task c.caller) (1 + marks_of p (body_scope_of p c.entry)) (scope_of p (body_scope_of p c.entry)).size
 
-abbrev pub call_runs_if_room : Image → ObjectNo → Call → Step
+unfoldable pub call_runs_if_room : Image → ObjectNo → Call → Step
 call_runs_if_room p o c =
     looks (λ w. elim (has_room_for_action p w c) [ true ↦ call_runs p o c | false ↦ call_without_room p o c ])
 
 -- it is queued: the action ends at once, and nothing is placed
-abbrev pub call_passes : Image → ObjectNo → Call → Step
+unfoldable pub call_passes : Image → ObjectNo → Call → Step
 call_passes p o c =
     says own (line.Enter (who.Task c.caller) o Write) ▷ enqueue p c.number ▷ says own (line.Exit (who.Task c.caller) o)
     ▷ not_accepted p own c c.kind
 
-abbrev pub call_refused : Image → ObjectNo → Call → Step
+unfoldable pub call_refused : Image → ObjectNo → Call → Step
 call_refused p o c =
     says own (line.Enter (who.Task c.caller) o Write) ▷ says own (line.Exit (who.Task c.caller) o) ▷ end_at_once p own c exception.Program
 
-abbrev pub call_closed : Image → ObjectNo → Call → Bool → Step
+unfoldable pub call_closed : Image → ObjectNo → Call → Bool → Step
 call_closed p o c true = make_call p c (call_refused p o)
 call_closed p o c false = with_room p (who.Task c.caller) (marks_if_queued c.kind) 0 (make_call p c (call_passes p o))
 
-abbrev pub call_by_barrier : Image → ObjectNo → Call → Bool → Step
+unfoldable pub call_by_barrier : Image → ObjectNo → Call → Bool → Step
 call_by_barrier p o c true = with_room p (who.Task c.caller) 1 0 (make_call p c (call_runs_if_room p o))
 call_by_barrier p o c false = looks (λ w. call_closed p o c (is_full p w c.owner c.entry))
 
-abbrev pub call_object : Image → ObjectNo → Call → Step
+unfoldable pub call_object : Image → ObjectNo → Call → Step
 call_object p o c =
     where_let_inside p (who.Task c.caller) o Write
     (looks (λ w. call_by_barrier p o c (is_barrier_open p w (who.Task c.caller) o c.entry)))
 
-abbrev pub call_owner : Image → Call → Owner → Step
+unfoldable pub call_owner : Image → Call → Owner → Step
 call_owner p c (owned_by.Task t) = call_task p t c
 call_owner p c (owned_by.Object o) = call_object p o c
 
 -- ---- the entry call of a statement
 
-abbrev pub call_named : Image → TaskNo → CallKind → StatementNo → NamedCall → Step
+unfoldable pub call_named : Image → TaskNo → CallKind → StatementNo → NamedCall → Step
 call_named p t kind s n =
     sees p (who.Task t) (λ q. given p own (who.Task t) (owner_of_entry q n.entry n.owner) (λ o.
     given p own (who.Task t) (entry_parameters q (entry_of p n.entry).formals n.actuals) (λ parameters.
@@ -239,7 +239,7 @@ call_named p t kind s n =
 abbrev pub is_forbidden : World → Who → CallKind → Bool
 is_forbidden w name kind = in_protected w name || (is_triggering kind && is_deferred w name)
 
-abbrev pub entry_call : Image → Who → CallKind → StatementNo → Step
+unfoldable pub entry_call : Image → Who → CallKind → StatementNo → Step
 entry_call p (who.Task t) kind s =
     looks (λ w. raise_if p (who.Task t) (is_forbidden w (who.Task t) kind) exception.Program (call_named p t kind s (named_call p s)))
 entry_call p who.Agent kind s = raises p own who.Agent exception.Program
@@ -251,22 +251,22 @@ appoint_trigger (who.Task t) depth m = appoint (due_for.Trigger t depth) m
 appoint_trigger who.Agent depth m = λ w. w
 
 -- a delay that is not in the future completes at once
-abbrev pub trigger_delay : Image → Who → StatementNo → StatementNo → ℤ → Bool → Step
+unfoldable pub trigger_delay : Image → Who → StatementNo → StatementNo → ℤ → Bool → Step
 trigger_delay p name s trigger m false = goes name (next_of p trigger)
 trigger_delay p name s trigger m true =
     with_room p name 1 0
     (goes name (next_of p s) ▷ looks (λ w. changes (open_abortable p name s None) ▷ changes (appoint_trigger name (length (frames_of w name)) m)))
 
-abbrev pub async_delay : Image → Who → StatementNo → StatementNo → Step
+unfoldable pub async_delay : Image → Who → StatementNo → StatementNo → Step
 async_delay p name s trigger =
     sees p name (λ q. raise_if p name (is_forbidden q.world name call_kind.Triggering) exception.Program
     (given p own name (delay_moment q trigger) (λ m. trigger_delay p name s trigger m (int_lt (pos q.world.time) m))))
 
-abbrev pub async_by_trigger : Image → Who → StatementNo → StatementNo → StatementForm → Step
+unfoldable pub async_by_trigger : Image → Who → StatementNo → StatementNo → StatementForm → Step
 async_by_trigger p name s trigger (form.EntryCall entry owner actuals) = entry_call p name call_kind.Triggering s
 async_by_trigger p name s trigger _ = async_delay p name s trigger
 
-abbrev pub asynchronous_select : Image → Who → StatementNo → StatementNo → Step
+unfoldable pub asynchronous_select : Image → Who → StatementNo → StatementNo → Step
 asynchronous_select p name s trigger = async_by_trigger p name s trigger (form_of p trigger)
 
 -- ---- requeue (9.5.4): the call of the accept or entry body in which it stands is to be sent on
@@ -278,7 +278,7 @@ abbrev pub mark_sending : Option CallNo → Owner → EntryNo → Bool → World
 mark_sending None o e with_abort = λ w. w
 mark_sending (Some c) o e with_abort = edit_call c (with_sending o e with_abort)
 
-abbrev pub requeue : Image → Who → EntryNo → EntryOwner → Bool → Step
+unfoldable pub requeue : Image → Who → EntryNo → EntryOwner → Bool → Step
 requeue p name e o with_abort =
     sees p name (λ q. given p own name (owner_of_entry q e o) (λ target.
     changes (mark_sending (call_that_returns (frames_of q.world name)) target e with_abort) ▷ leaves name how.Return))

@@ -45,7 +45,7 @@ goes_on onward f = record f { onward = onward }
 
 -- The task goes on with this action, or with the end of what is open. Who blocks goes on first: what its frame then
 -- names is what it does once its wait is over, unless the wait's end says otherwise.
-abbrev pub goes : Who → Option StatementNo → Step
+unfoldable pub goes : Who → Option StatementNo → Step
 goes name onward = changes (edit_top name (goes_on onward))
 
 abbrev pub push : Who → Frame → World → World
@@ -71,7 +71,7 @@ abbrev pub leaving_of : Frame → Leaving
 leaving_of f = option_or_else f.left_as how.End
 
 -- the marks are left from the top: what stands above the top mark is dropped
-abbrev pub leaves : Who → Leaving → Step
+unfoldable pub leaves : Who → Leaving → Step
 leaves name leaving = changes (edit_top name (left_so leaving))
 
 -- ---- exceptions (11.3, 11.4)
@@ -87,7 +87,7 @@ exception_name p exception.DispatchingPolicy = codes "dispatching_policy_error"
 exception_name p (exception.User d) = (declaration_of p (record { 0 = d })).expanded
 
 -- an exception is raised: `raise`, and the marks are left with it
-abbrev pub raises : Image → Part → Who → Raised → Step
+unfoldable pub raises : Image → Part → Who → Raised → Step
 raises p part name e = says part (line.Raise name (exception_name p e)) ▷ leaves name (how.Exception e)
 
 -- ---- room (own): marks of a task and of all, and cells
@@ -110,7 +110,7 @@ handlers_in (form.Handled handlers first) = handlers
 handlers_in _ = []
 
 -- the sequence with handlers that begins here, if one does: it is opened at no cost
-abbrev pub open_handled : Image → Part → Who → StatementNo → StatementForm → Step
+unfoldable pub open_handled : Image → Part → Who → StatementNo → StatementForm → Step
 open_handled p part name s (form.Handled handlers first) =
     looks (λ w. elim (has_room w name 1 0) [
       | true ↦ goes name (next_of p s) ▷ changes (push name (new_frame (Handled s) (Some first)))
@@ -118,7 +118,7 @@ open_handled p part name s (form.Handled handlers first) =
     ])
 open_handled p part name s _ = nothing
 
-abbrev pub open_at : Image → Part → Who → Option StatementNo → Step
+unfoldable pub open_at : Image → Part → Who → Option StatementNo → Step
 open_at p part name None = nothing
 open_at p part name (Some s) = open_handled p part name s (form_of p s)
 
@@ -127,11 +127,11 @@ onward_of w name = option_and_then (λ f. f.onward) (top_of w name)
 
 -- A task that is ready opens the sequence to which it has come: behind the effect of its action, or, where it has
 -- waited, in the effect that ends the wait. With an exception it has come to the end of a mark, and opens nothing.
-abbrev pub open_sequence : Image → Part → Who → Step
+unfoldable pub open_sequence : Image → Part → Who → Step
 open_sequence p part name = looks (λ w. open_at p part name (onward_of w name))
 
 -- behind the effect of an action: who has blocked opens nothing
-abbrev pub open_if_ready : Image → Who → Step
+unfoldable pub open_if_ready : Image → Who → Step
 open_if_ready p name = looks (λ w. when (is_runnable (task_of w name)) (open_sequence p own name))
 
 -- ---- going on behind a mark that has ended
@@ -165,12 +165,12 @@ stands_in p loop None = true
 stands_in p loop (Some f) = same_option same_statement (within_of (form_of p loop)) (statement_of_mark f.mark)
 
 -- an exit goes on behind its loop, once the marks inside the loop are left (5.7)
-abbrev pub exit_loop : Image → Who → StatementNo → Step
+unfoldable pub exit_loop : Image → Who → StatementNo → Step
 exit_loop p name loop =
     looks (λ w. elim (stands_in p loop (top_of w name)) [ true ↦ goes name (next_of p loop) | false ↦ leaves name (how.Exit loop) ])
 
 -- a mark has ended, and the task goes on as the mark was left
-abbrev pub pass_on : Image → Who → Leaving → Step
+unfoldable pub pass_on : Image → Who → Leaving → Step
 pass_on p name how.End = nothing
 pass_on p name how.Return = leaves name how.Return
 pass_on p name (how.Exit loop) = exit_loop p name loop

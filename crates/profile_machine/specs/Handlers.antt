@@ -59,15 +59,16 @@ release_drawn d = record d { releases = suc d.releases }
 abbrev pub add_release : HandlerOf → Option ℕ → World → World
 add_release h argument w = record w { releases = w.releases ++ record { number = suc w.drawn.releases; handler = h; argument = argument } ∷ []; drawn = release_drawn w.drawn }
 
-abbrev pub says_release : Image → Part → HandlerOf → Step
-says_release p part h w = says part (line.Release w.drawn.releases h.object (subprogram_of p h.procedure).name) w
+unfoldable pub says_release : Image → Part → HandlerOf → Step
+says_release p part h =
+    looks (λ w. says part (line.Release w.drawn.releases h.object (subprogram_of p h.procedure).name))
 
-abbrev pub wake_agent : Image → Part → State → Step
+unfoldable pub wake_agent : Image → Part → State → Step
 wake_agent p part (Blocked waiting) = ready p part who.Agent
 wake_agent p part Runnable = nothing
 wake_agent p part Made = nothing
 
-abbrev pub release : Image → Part → HandlerOf → Option ℕ → Step
+unfoldable pub release : Image → Part → HandlerOf → Option ℕ → Step
 release p part h argument =
     changes (add_release h argument) ▷ says_release p part h ▷ looks (λ w. wake_agent p part w.agent.state)
 
@@ -88,24 +89,24 @@ argument_values (Some n) = Thing n ∷ []
 abbrev pub scope_size_of : Image → SubprogramNo → ℕ
 scope_size_of p f = (scope_of p (subprogram_of p f).scope).size
 
-abbrev pub begin_handler : Image → Release → Step
+unfoldable pub begin_handler : Image → Release → Step
 begin_handler p r =
     begin_action_on p who.Agent r.handler.object Write None (Some r.number)
     ▷ looks (λ w. changes (open_scope p who.Agent (subprogram_of p r.handler.procedure).scope (body_of_object p w (subprogram_of p r.handler.procedure).scope r.handler.object None (argument_values r.argument)) (opened_for.Subprogram [] bound_for.Nowhere)))
 
 -- without room it is served at once
-abbrev pub begin_handler_if_room : Image → Release → Step
+unfoldable pub begin_handler_if_room : Image → Release → Step
 begin_handler_if_room p r =
     looks (λ w. elim (has_room w who.Agent (1 + marks_of p (subprogram_of p r.handler.procedure).scope) (scope_size_of p r.handler.procedure))
     [ true ↦ begin_handler p r | false ↦ end_release p r.number ])
 
-abbrev pub enter_handler : Image → Release → Entering → Step
+unfoldable pub enter_handler : Image → Release → Entering → Step
 enter_handler p r same_object_again = end_release p r.number
 enter_handler p r above_ceiling = end_release p r.number
 enter_handler p r held_by_another = find_held p who.Agent r.handler.object Write
 enter_handler p r let_inside = begin_handler_if_room p r
 
-abbrev pub call_handler : Image → Release → Step
+unfoldable pub call_handler : Image → Release → Step
 call_handler p r = looks (λ w. enter_handler p r (entering p w who.Agent r.handler.object Write))
 
 -- ---- an interrupt releases the handler that is attached to it, once its object is there (C.3.1)
@@ -121,7 +122,7 @@ abbrev pub handler_attached : Image → ℕ → List Object → Option HandlerOf
 handler_attached p n [] = None
 handler_attached p n (o ∷ os) = elim (handler_in p n o) [ None ↦ handler_attached p n os | Some h ↦ Some h ]
 
-abbrev pub interrupt : Image → ℕ → Step
+unfoldable pub interrupt : Image → ℕ → Step
 interrupt p n =
     says own (line.Interrupt n) ▷ looks (λ w. for_some (handler_attached p n w.objects) (λ h. release p own h None))
 
@@ -152,7 +153,7 @@ setting_of p name q base set handler step =
     (given p own name (set_value q base set) (λ v. raise_if p name (not (is_interrupt_handler p q.world h)) exception.Program (step h v))))
 
 -- a variable gets whether something was set
-abbrev pub answer : Image → Who → Variable → Bool → Step
+unfoldable pub answer : Image → Who → Variable → Bool → Step
 answer p name v b = looks (λ w. given p own name (store p v (Truth b) w) (λ next. changes (λ _. next)))
 
 -- ---- timing events (D.15)
@@ -161,20 +162,20 @@ abbrev pub cancel_event_setting : ℕ → World → World
 cancel_event_setting e = drop_appointment (is_event e)
 
 -- setting replaces; a moment that is not in the future releases at once, and no handler clears
-abbrev pub appoint_event : Image → ℕ → HandlerOf → ℤ → Bool → Step
+unfoldable pub appoint_event : Image → ℕ → HandlerOf → ℤ → Bool → Step
 appoint_event p e h m true = changes (appoint (due_for.Event e h) m)
 appoint_event p e h m false = release p own h (Some e)
 
-abbrev pub event_set_to : Image → ℕ → Option HandlerOf → ℤ → Step
+unfoldable pub event_set_to : Image → ℕ → Option HandlerOf → ℤ → Step
 event_set_to p e None m = nothing
 event_set_to p e (Some h) m = looks (λ w. appoint_event p e h m (int_lt (pos w.time) m))
 
-abbrev pub set_event : Image → Who → StatementNo → DeclNo → Setting → Option HandlerName → Step
+unfoldable pub set_event : Image → Who → StatementNo → DeclNo → Setting → Option HandlerName → Step
 set_event p name s d set handler =
     sees p name (λ q. given p own name (number_of_thing q d) (λ e. setting_of p name q (pos q.world.time) set handler
     (λ h m. goes name (next_of p s) ▷ changes (cancel_event_setting e) ▷ event_set_to p e h m)))
 
-abbrev pub cancel_event : Image → Who → StatementNo → DeclNo → VariableName → Step
+unfoldable pub cancel_event : Image → Who → StatementNo → DeclNo → VariableName → Step
 cancel_event p name s d target =
     sees p name (λ q. given p own name (number_of_thing q d) (λ e. given p own name (variable q target) (λ v.
     goes name (next_of p s) ▷ changes (cancel_event_setting e) ▷ answer p name v (is_appointed (is_event e) q.world))))
@@ -195,18 +196,18 @@ abbrev pub with_timer_set : ℕ → HandlerOf → ℤ → World → World
 with_timer_set k h v w = record w { timers = edit_at k (with_setting (Some (record { value = v; handler = h }))) w.timers; timers_set = w.timers_set ++ k ∷ [] }
 
 -- a value that is already reached releases at once
-abbrev pub timer_set_beyond : Image → ℕ → HandlerOf → ℤ → Bool → Step
+unfoldable pub timer_set_beyond : Image → ℕ → HandlerOf → ℤ → Bool → Step
 timer_set_beyond p k h v true = changes (with_timer_set k h v)
 timer_set_beyond p k h v false = release p own h (Some k)
 
-abbrev pub timer_set_to : Image → ℕ → ℕ → Option HandlerOf → ℤ → Step
+unfoldable pub timer_set_to : Image → ℕ → ℕ → Option HandlerOf → ℤ → Step
 timer_set_to p k clock None v = nothing
 timer_set_to p k clock (Some h) v = timer_set_beyond p k h v (int_lt (pos clock) v)
 
 abbrev pub clock_of_timer : Seen → ℕ → Valued ℕ
 clock_of_timer q k = live_task q.world (Some (timer_of q.world k).task) >>= λ t. Ok t.cpu_ticks
 
-abbrev pub set_timer : Image → Who → StatementNo → DeclNo → Setting → Option HandlerName → Step
+unfoldable pub set_timer : Image → Who → StatementNo → DeclNo → Setting → Option HandlerName → Step
 set_timer p name s d set handler =
     sees p name (λ q. given p own name (number_of_thing q d) (λ k. given p own name (clock_of_timer q k) (λ clock.
     setting_of p name q (pos clock) set handler
@@ -215,7 +216,7 @@ set_timer p name s d set handler =
 abbrev pub is_set_timer : World → ℕ → Bool
 is_set_timer w k = is_given (timer_of w k).setting
 
-abbrev pub cancel_timer : Image → Who → StatementNo → DeclNo → VariableName → Step
+unfoldable pub cancel_timer : Image → Who → StatementNo → DeclNo → VariableName → Step
 cancel_timer p name s d target =
     sees p name (λ q. given p own name (number_of_thing q d) (λ k. given p own name (clock_of_timer q k) (λ clock.
     given p own name (variable q target) (λ v.
@@ -234,19 +235,19 @@ is_the_budget b None = false
 is_the_budget b (Some c) = eqb b c
 
 -- a task is a member of at most one group budget, else Group_Budget_Error is raised
-abbrev pub change_member : Image → Who → StatementNo → world.Task → Bool → Option ℕ → Step
+unfoldable pub change_member : Image → Who → StatementNo → world.Task → Bool → Option ℕ → Step
 change_member p name s t is_right b =
     raise_if p name (not is_right) exception.GroupBudget (goes name (next_of p s) ▷ changes (edit_task t.who (member_of b)))
 
 abbrev pub named_live : Seen → ExprNo → Valued world.Task
 named_live q e = value q e >>= λ v. live_task q.world (task_in v)
 
-abbrev pub add_member : Image → Who → StatementNo → DeclNo → ExprNo → Step
+unfoldable pub add_member : Image → Who → StatementNo → DeclNo → ExprNo → Step
 add_member p name s d e =
     sees p name (λ q. given p own name (number_of_thing q d) (λ b. given p own name (named_live q e) (λ t.
     change_member p name s t (is_none t.budget) (Some b))))
 
-abbrev pub remove_member : Image → Who → StatementNo → DeclNo → ExprNo → Step
+unfoldable pub remove_member : Image → Who → StatementNo → DeclNo → ExprNo → Step
 remove_member p name s d e =
     sees p name (λ q. given p own name (number_of_thing q d) (λ b. given p own name (named_live q e) (λ t.
     change_member p name s t (is_the_budget b t.budget) None)))
@@ -259,29 +260,29 @@ abbrev pub raised_by : ℤ → Budget → Budget
 raised_by amount b = record b { remaining = held_moment (b.remaining +ℤ amount) }
 
 -- an amount that is not positive raises Group_Budget_Error
-abbrev pub fill_budget : Image → Who → StatementNo → DeclNo → ExprNo → (ℤ → Budget → Budget) → Step
+unfoldable pub fill_budget : Image → Who → StatementNo → DeclNo → ExprNo → (ℤ → Budget → Budget) → Step
 fill_budget p name s d e f =
     sees p name (λ q. given p own name (number_of_thing q d) (λ b. with_room_for_release p name true
     (given p own name (moment q e) (λ amount. raise_if p name (int_le amount (pos 0)) exception.GroupBudget
     (goes name (next_of p s) ▷ changes (edit_budget b (f amount)))))))
 
-abbrev pub replenish : Image → Who → StatementNo → DeclNo → ExprNo → Step
+unfoldable pub replenish : Image → Who → StatementNo → DeclNo → ExprNo → Step
 replenish p name s d e = fill_budget p name s d e loaded
 
-abbrev pub add_to_budget : Image → Who → StatementNo → DeclNo → ExprNo → Step
+unfoldable pub add_to_budget : Image → Who → StatementNo → DeclNo → ExprNo → Step
 add_to_budget p name s d e = fill_budget p name s d e raised_by
 
 abbrev pub with_handler : Option HandlerOf → Budget → Budget
 with_handler h b = record b { handler = h }
 
-abbrev pub set_budget : Image → Who → StatementNo → DeclNo → Option HandlerName → Step
+unfoldable pub set_budget : Image → Who → StatementNo → DeclNo → Option HandlerName → Step
 set_budget p name s d handler =
     sees p name (λ q. given p own name (number_of_thing q d) (λ b. given p own name (handler_named q handler) (λ h.
     with_room_for_release p name (is_given h)
     (raise_if p name (not (is_interrupt_handler p q.world h)) exception.Program
     (goes name (next_of p s) ▷ changes (edit_budget b (with_handler h)))))))
 
-abbrev pub cancel_budget : Image → Who → StatementNo → DeclNo → VariableName → Step
+unfoldable pub cancel_budget : Image → Who → StatementNo → DeclNo → VariableName → Step
 cancel_budget p name s d target =
     sees p name (λ q. given p own name (number_of_thing q d) (λ b. given p own name (variable q target) (λ v.
     goes name (next_of p s) ▷ changes (edit_budget b (with_handler None)) ▷ answer p name v (is_given (budget_of q.world b).handler))))

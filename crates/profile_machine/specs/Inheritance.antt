@@ -35,11 +35,11 @@ abbrev pub falls : Image → Who → World → World → Bool
 falls p name before after = ltb (active_of p after name) (active_of p before name)
 
 -- the running task inherits: it goes to the head where its active priority rises (D.2.3)
-abbrev pub inherit_running : Image → Who → Cause → ℕ → Step
+unfoldable pub inherit_running : Image → Who → Cause → ℕ → Step
 inherit_running p name cause level =
     looks (λ w. changes (inherit name cause level) ▷ when (rises p name w (inherit name cause level w)) (to_head p the_placing name))
 
 -- it loses an inherited priority: it goes to the head where its active priority falls
-abbrev pub lose_running : Image → Who → Cause → Step
+unfoldable pub lose_running : Image → Who → Cause → Step
 lose_running p name cause =
     looks (λ w. changes (lose name cause) ▷ when (falls p name w (lose name cause w)) (to_head p the_placing name))

@@ -18,7 +18,7 @@ use Rattle.profile_machine.specs.declared.world.calls.Outcome.TheVariants as cal
 use Rattle.profile_machine.specs.declared.world.tasks.Waiting.TheVariants as waits_for
 use Rattle.profile_machine.specs.Words.{edit_at, is_empty}
 use Rattle.profile_machine.specs.Program.{next_of, is_robin_level}
-use Rattle.profile_machine.specs.Steps.{own, Step, Move, says, changes, looks, when, nothing, for_some, for_each, settles, ◌▷◌}
+use Rattle.profile_machine.specs.Steps.{own, Step, Move, says, changes, looks, when, nothing, for_some, for_each, settles, rests, watches, ◌▷◌, ◌▶◌}
 use Rattle.profile_machine.specs.Tasks.{task_of, edit_task, with_ticks, is_runnable, waiting_of}
 use Rattle.profile_machine.specs.Dispatching.{active, ready, to_tail}
 use Rattle.profile_machine.specs.Frames.{open_if_ready, open_sequence, goes, any_protected}
@@ -33,7 +33,7 @@ use Rattle.profile_machine.specs.Act.{act}
 
 -- ---- 1: the effect of the action that ended, and what it brings about elsewhere
 
-abbrev pub effect : Image → Who → Step
+unfoldable pub effect : Image → Who → Step
 effect p name =
     changes (edit_task name (with_ticks None)) ▷ act p name ▷ open_if_ready p name ▷ take_terminates p name ▷ unwind_all p name
 
@@ -42,11 +42,11 @@ is_over None = false
 is_over (Some ticks) = eqb ticks 0
 
 abbrev pub effect_of_runner : Image → Option Who → Move
-effect_of_runner p None = nothing
-effect_of_runner p (Some name) = looks (λ w. elim (is_over (task_of w name).ticks_left) [ true ↦ settles (effect p name) | false ↦ nothing ])
+effect_of_runner p None = rests
+effect_of_runner p (Some name) = watches (λ w. elim (is_over (task_of w name).ticks_left) [ true ↦ settles (effect p name) | false ↦ rests ])
 
 abbrev pub finish_action : Image → Move
-finish_action p = looks (λ w. effect_of_runner p w.ran)
+finish_action p = watches (λ w. effect_of_runner p w.ran)
 
 -- ---- 2: items of the script, by moment and then by line
 
@@ -63,16 +63,16 @@ abbrev pub with_kept_interrupt : ℕ → Bool → World → World
 with_kept_interrupt n flag w = record w { kept_interrupts = edit_at n (λ _. flag) w.kept_interrupts }
 
 -- an interrupt that is masked is kept; one at most is kept
-abbrev pub interrupt_comes : Image → ℕ → Bool → Step
+unfoldable pub interrupt_comes : Image → ℕ → Bool → Step
 interrupt_comes p n true = says own (line.Masked n) ▷ changes (with_kept_interrupt n true)
 interrupt_comes p n false = interrupt p n
 
 -- one that was kept is delivered at once
-abbrev pub deliver_kept_interrupt : Image → ℕ → Bool → Step
+unfoldable pub deliver_kept_interrupt : Image → ℕ → Bool → Step
 deliver_kept_interrupt p n true = changes (with_kept_interrupt n false) ▷ interrupt p n
 deliver_kept_interrupt p n false = nothing
 
-abbrev pub script_item : Image → Item → Step
+unfoldable pub script_item : Image → Item → Step
 script_item p (item.Interrupt n) = looks (λ w. interrupt_comes p n (is_flag w.masked n))
 script_item p (item.Port n value) = changes (with_port n value) ▷ says own (line.Port n value)
 script_item p (item.Mask n) = changes (with_masked n true) ▷ says own (line.Mask n)
@@ -95,15 +95,15 @@ script_items p = settles (looks (λ w. items_due p w.time w.script))
 -- order in which they were set
 
 -- a task's moment has come; at a select the delay alternative is taken
-abbrev pub take_delay : Image → Who → Option Waiting → Step
+unfoldable pub take_delay : Image → Who → Option Waiting → Step
 take_delay p name (Some (waits_for.Select accepts (Some delay) terminate)) = goes name (next_of p delay)
 take_delay p name _ = nothing
 
-abbrev pub end_delay : Image → Who → Step
+unfoldable pub end_delay : Image → Who → Step
 end_delay p name = looks (λ w. take_delay p name (waiting_of w name)) ▷ ready p own name ▷ open_sequence p own name
 
 -- a timed call that has not begun is cancelled
-abbrev pub time_out : Image → CallNo → Step
+unfoldable pub time_out : Image → CallNo → Step
 time_out p c =
     with_call c (λ d. changes (unqueued p d) ▷ says own (line.Cancel d.caller c) ▷ deliver p own c call_ended.Cancelled)
 
@@ -113,7 +113,7 @@ is_the_same_due (due_for.Delay t) d = is_delay_of t d
 is_the_same_due (due_for.Timeout c) d = is_timeout_of c d
 is_the_same_due (due_for.Trigger t depth) d = is_trigger_of t depth d
 
-abbrev pub come_due : Image → Due → Step
+unfoldable pub come_due : Image → Due → Step
 come_due p (due_for.Event n h) = release p own h (Some n)
 come_due p (due_for.Delay t) = end_delay p (who.Task t)
 come_due p (due_for.Timeout c) = time_out p c
@@ -139,11 +139,11 @@ moments_due p = appointments_due p false
 
 -- ---- 5: timers whose value the last tick reached; each is then clear
 
-abbrev pub expire : Image → ℕ → Option TimerSetting → Step
+unfoldable pub expire : Image → ℕ → Option TimerSetting → Step
 expire p k None = nothing
 expire p k (Some s) = changes (clear_timer k) ▷ release p own s.handler (Some k)
 
-abbrev pub expire_timer : Image → ℕ → Step
+unfoldable pub expire_timer : Image → ℕ → Step
 expire_timer p k = looks (λ w. expire p k (timer_of w k).setting)
 
 abbrev pub no_timers_due : World → World
@@ -154,7 +154,7 @@ timers_due p = settles (looks (λ w. for_each w.timers_due (expire_timer p)) ▷
 
 -- ---- 6: the budget that the last tick brought to zero; its handler stays set
 
-abbrev pub run_out : Image → ℕ → Step
+unfoldable pub run_out : Image → ℕ → Step
 run_out p b = looks (λ w. for_some (budget_of w b).handler (λ h. release p own h (Some b)))
 
 abbrev pub no_budget_due : World → World
@@ -182,4 +182,4 @@ quantum_spent p = settles (looks (λ w. spend_quantum p w.ran))
 
 abbrev pub instant : Image → Move
 instant p =
-    finish_action p ▷ script_items p ▷ events_due p ▷ moments_due p ▷ timers_due p ▷ budgets_due p ▷ quantum_spent p
+    finish_action p ▶ script_items p ▶ events_due p ▶ moments_due p ▶ timers_due p ▶ budgets_due p ▶ quantum_spent p

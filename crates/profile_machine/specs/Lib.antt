@@ -29,6 +29,7 @@ pub mod Handlers
 pub mod Act
 pub mod Instant
 pub mod Run
+pub mod Computing
 pub mod WellFormed
 pub mod Releases
 pub mod Rows

@@ -116,7 +116,7 @@ abbrev pub queued_calls : World → Task → List Call
 queued_calls w t = calls_in_order (calls_there w (flat_map (λ q. q) t.queues))
 
 -- only when all have got it is it asked who is unwound
-abbrev pub gone_by_completion : Image → Who → Call → Step
+unfoldable pub gone_by_completion : Image → Who → Call → Step
 gone_by_completion p actor c =
     gone p (part_of actor (who.Task c.caller)) c ▷ end_call p (part_of actor (who.Task c.caller)) c (call_ended.ToRaise exception.Tasking)
 
@@ -137,12 +137,12 @@ waits_for_activation (Some waits_for.Activation) = true
 waits_for_activation _ = false
 
 -- Tasking_Error is raised once in the activator where a task of the group failed
-abbrev pub wake_activator : Image → Part → Who → Step
+unfoldable pub wake_activator : Image → Part → Who → Step
 wake_activator p part name =
     looks (λ w. ready p part name ▷ when (task_of w name).group_failed (raises p part name exception.Tasking) ▷ open_sequence p part name)
 
 -- behind the last of the group the activator is ready, if it still waits for this activation
-abbrev pub end_group : Image → Who → Who → Step
+unfoldable pub end_group : Image → Who → Who → Step
 end_group p actor activator =
     looks (λ w. when (not (has_activating w activator) && waits_for_activation (waiting_of w activator)) (wake_activator p (part_of actor activator) activator))
 
@@ -150,13 +150,13 @@ abbrev pub not_activating : Task → Task
 not_activating t = record t { activator = None }
 
 -- a task's activation ends: it loses the inherited priority
-abbrev pub end_activation_by : Image → Who → Who → Bool → Option Who → Step
+unfoldable pub end_activation_by : Image → Who → Who → Bool → Option Who → Step
 end_activation_by p actor name failed None = nothing
 end_activation_by p actor name failed (Some activator) =
     changes (edit_task name not_activating) ▷ changes (lose name inherited_by.Activation)
     ▷ changes (edit_task activator (with_failure failed)) ▷ end_group p actor activator
 
-abbrev pub end_activation : Image → Who → Who → Bool → Step
+unfoldable pub end_activation : Image → Who → Who → Bool → Step
 end_activation p actor name failed = looks (λ w. end_activation_by p actor name failed (task_of w name).activator)
 
 -- ---- a task is completed, and terminates
@@ -180,12 +180,12 @@ last_left_as (f ∷ g ∷ rest) = last_left_as (g ∷ rest)
 abbrev pub has_failed : Task → Bool
 has_failed t = is_exception (last_left_as t.frames) && not t.abnormal
 
-abbrev pub complete_with : Image → Who → Who → List Call → Bool → Step
+unfoldable pub complete_with : Image → Who → Who → List Call → Bool → Step
 complete_with p actor name calls failed =
     changes (edit_task name completed_task) ▷ for_each calls (gone_by_completion p actor) ▷ end_activation p actor name failed
 
 -- a task is completed: no call on it is accepted any more
-abbrev pub complete : Image → Who → Who → Step
+unfoldable pub complete : Image → Who → Who → Step
 complete p actor name =
     looks (λ w. when (not (task_of w name).completed) (complete_with p actor name (queued_calls w (task_of w name)) (has_failed (task_of w name))))
 
@@ -197,7 +197,7 @@ abbrev pub waits_for_dependents : RegionNo → Task → Bool
 waits_for_dependents r t = waits_in r (waiting_in t.state)
 
 -- a master that waits becomes ready when the last task that depends on it has terminated
-abbrev pub wake_master : Image → Who → RegionNo → Step
+unfoldable pub wake_master : Image → Who → RegionNo → Step
 wake_master p actor r =
     looks (λ w. when (not (has_dependents w r)) (for_some (find (waits_for_dependents r) w.tasks) (λ t. ready p (part_of actor t.who) t.who)))
 
@@ -205,7 +205,7 @@ abbrev pub forget_task : Who → World → World
 forget_task name w = record w { tasks = without (is_who name) w.tasks }
 
 -- it is completed if it was not, and is no longer there
-abbrev pub terminate : Image → Who → Who → Step
+unfoldable pub terminate : Image → Who → Who → Step
 terminate p actor name =
     looks (λ w. complete p actor name ▷ changes (drop_delay name) ▷ changes (forget_task name) ▷ for_some (task_of w name).master (wake_master p actor))
 
@@ -226,7 +226,7 @@ abbrev pub may_terminate : World → Task → Bool
 may_terminate w t = is_at_terminate t && list_any (λ r. is_region_being_left w r && all_at_terminate w r) (masters_of w t)
 
 -- one that waits becomes ready; who comes to its select in this effect does not even block
-abbrev pub leave_by_terminate : Image → Who → Task → Step
+unfoldable pub leave_by_terminate : Image → Who → Task → Step
 leave_by_terminate p actor t =
     changes (drop_delay t.who)
     ▷ cond (same_who actor t.who) (changes (edit_task t.who (with_state Runnable))) (ready p (of_other t.who) t.who)

@@ -44,7 +44,7 @@ placed_anew queuing.Fifo p c level w = w
 placed_anew queuing.Priority p c level w =
     edit_queue c.owner (place_of_entry p c.entry) (λ q. put_call queuing.Priority w c.number level (take_call c.number q)) w
 
-abbrev pub reprioritize : Image → ℕ → Call → Step
+unfoldable pub reprioritize : Image → ℕ → Call → Step
 reprioritize p level c =
     when (is_queued c) (changes (edit_call c.number (with_priority level)) ▷ changes (placed_anew p.policies.queuing p c level))
 
@@ -58,28 +58,28 @@ call_waited_for (waits_for.Select accepts delay terminate) = None
 call_waited_for (waits_for.Dependents r) = None
 call_waited_for waits_for.Release = None
 
-abbrev pub reprioritize_own : Image → Who → Waiting → Step
+unfoldable pub reprioritize_own : Image → Who → Waiting → Step
 reprioritize_own p name waiting =
     looks (λ w. for_some (call_waited_for waiting) (λ c. with_call c (reprioritize p (active_of p w name))))
 
 -- a ready task goes to the tail of its level, whether the level changes or not
-abbrev pub replace_in : Image → Part → Who → State → Step
+unfoldable pub replace_in : Image → Part → Who → State → Step
 replace_in p part name Made = nothing
 replace_in p part name Runnable = to_tail p part name
 replace_in p part name (Blocked waiting) = reprioritize_own p name waiting
 
-abbrev pub says_base : Part → Who → ℕ → Step
+unfoldable pub says_base : Part → Who → ℕ → Step
 says_base part (who.Task t) level = says part (line.Base t level)
 says_base part who.Agent level = nothing
 
-abbrev pub set_base : Image → Part → Part → Who → ℕ → Step
+unfoldable pub set_base : Image → Part → Part → Who → ℕ → Step
 set_base p part placing name level =
     changes (edit_task name (λ t. record t { base = level })) ▷ says_base part name level
     ▷ looks (λ w. replace_in p placing name (task_of w name).state)
 
 -- ---- deadlines
 
-abbrev pub says_deadline : Part → Who → ℤ → Step
+unfoldable pub says_deadline : Part → Who → ℤ → Step
 says_deadline part (who.Task t) d = says part (line.Deadline t d)
 says_deadline part who.Agent d = nothing
 
@@ -89,22 +89,22 @@ is_runnable_at_edf p w name Runnable = is_edf_level p (active_of p w name)
 is_runnable_at_edf p w name (Blocked waiting) = false
 
 -- a ready task on an EDF level goes to the tail, with the new deadline
-abbrev pub set_deadline : Image → Part → Part → Who → ℤ → Step
+unfoldable pub set_deadline : Image → Part → Part → Who → ℤ → Step
 set_deadline p part placing name d =
     changes (edit_task name (λ t. record t { deadline = d })) ▷ says_deadline part name d
     ▷ looks (λ w. when (is_runnable_at_edf p w name (task_of w name).state) (to_tail p placing name))
 
 -- ---- what was deferred is set at the end of the outermost protected action: the base priority, then the deadline
 
-abbrev pub take_base : Image → Who → Option ℕ → Step
+unfoldable pub take_base : Image → Who → Option ℕ → Step
 take_base p name None = nothing
 take_base p name (Some level) = changes (edit_task name (λ t. record t { deferred_base = None })) ▷ set_base p the_placing the_placing name level
 
-abbrev pub take_deadline : Image → Who → Option ℤ → Step
+unfoldable pub take_deadline : Image → Who → Option ℤ → Step
 take_deadline p name None = nothing
 take_deadline p name (Some d) = changes (edit_task name (λ t. record t { deferred_deadline = None })) ▷ set_deadline p the_placing the_placing name d
 
-abbrev pub set_deferred : Image → Who → Step
+unfoldable pub set_deferred : Image → Who → Step
 set_deferred p name =
     looks (λ w. when (not (in_protected w name)) (take_base p name (task_of w name).deferred_base ▷ take_deadline p name (task_of w name).deferred_deadline))
 
@@ -118,15 +118,15 @@ placing_of actor name = cond (same_who actor name) the_placing (part_of actor na
 abbrev pub is_edf_base : Image → ℕ → Bool
 is_edf_base p level = is_some (edf_low p level)
 
-abbrev pub defer_base : Image → Who → ℕ → Step
+unfoldable pub defer_base : Image → Who → ℕ → Step
 defer_base p name level = changes (edit_task name (λ t. record t { deferred_base = Some level }))
 
 -- it is deferred while its target is inside a protected action
-abbrev pub set_or_defer_base : Image → Who → Who → ℕ → Step
+unfoldable pub set_or_defer_base : Image → Who → Who → ℕ → Step
 set_or_defer_base p actor name level =
     looks (λ w. elim (in_protected w name) [ true ↦ defer_base p name level | false ↦ set_base p (part_of actor name) (placing_of actor name) name level ])
 
-abbrev pub set_base_of : Image → Who → StatementNo → ℕ → Option world.Task → Step
+unfoldable pub set_base_of : Image → Who → StatementNo → ℕ → Option world.Task → Step
 set_base_of p actor s level None = goes actor (next_of p s)
 set_base_of p actor s level (Some t) =
     raise_if p actor (is_edf_base p t.base || is_edf_base p level) exception.Program
@@ -140,7 +140,7 @@ must_be_task None = Err exception.Program
 must_be_task (Some t) = Ok t
 
 -- on a task that has terminated it has no effect
-abbrev pub set_priority : Image → Who → StatementNo → ExprNo → Option ExprNo → Step
+unfoldable pub set_priority : Image → Who → StatementNo → ExprNo → Option ExprNo → Step
 set_priority p name s e task =
     sees p name (λ q. given p own name (optional_task q task >>= must_be_task) (λ t.
     given p own name (value q e >>= λ v. priority_in_range p (interrupt_priority p) (whole_in v)) (λ level.
@@ -154,7 +154,7 @@ quantum_in_range n = int_le (pos 1) n && int_le n (pos 1000000000)
 abbrev pub quantum_of : Image → ℕ → ℤ → Valued ℕ
 quantum_of p level n = unless (is_robin_level p level && quantum_in_range n) exception.DispatchingPolicy (nat_abs n)
 
-abbrev pub set_quantum : Image → Who → StatementNo → ExprNo → ExprNo → Step
+unfoldable pub set_quantum : Image → Who → StatementNo → ExprNo → ExprNo → Step
 set_quantum p name s level quantum =
     sees p name (λ q. given p own name (value q level) (λ v. given p own name (moment q quantum) (λ n.
     given p own name (priority_in_range p p.policies.last_priority (whole_in v)) (λ l.
@@ -163,26 +163,26 @@ set_quantum p name s level quantum =
 
 -- ---- Set_Deadline, Delay_Until_And_Set_Deadline (D.2.6)
 
-abbrev pub defer_deadline : Who → ℤ → Step
+unfoldable pub defer_deadline : Who → ℤ → Step
 defer_deadline name d = changes (edit_task name (λ t. record t { deferred_deadline = Some d }))
 
 -- in a source with an EDF range it is deferred while its target is inside a protected action
-abbrev pub set_or_defer_deadline : Image → Who → Who → ℤ → Step
+unfoldable pub set_or_defer_deadline : Image → Who → Who → ℤ → Step
 set_or_defer_deadline p actor name d =
     looks (λ w. elim (in_protected w name && has_edf p) [ true ↦ defer_deadline name d | false ↦ set_deadline p (part_of actor name) (placing_of actor name) name d ])
 
-abbrev pub set_deadline_of : Image → Who → StatementNo → ExprNo → Option ExprNo → Step
+unfoldable pub set_deadline_of : Image → Who → StatementNo → ExprNo → Option ExprNo → Step
 set_deadline_of p name s e task =
     sees p name (λ q. given p own name (optional_task q task >>= λ t. live_task q.world t) (λ t.
     given p own name (moment q e) (λ d. goes name (next_of p s) ▷ set_or_defer_deadline p name t.who d)))
 
-abbrev pub delay_with_deadline : Image → Who → StatementNo → ℤ → ℤ → Step
+unfoldable pub delay_with_deadline : Image → Who → StatementNo → ℤ → ℤ → Step
 delay_with_deadline p name s until offset =
     goes name (next_of p s) ▷ changes (edit_task name (λ t. record t { deadline = held_moment (until +ℤ offset) }))
     ▷ says_deadline own name (held_moment (until +ℤ offset)) ▷ delay_to p name until
 
 -- it is a delay, so inside a protected action it raises Program_Error (own)
-abbrev pub delay_and_set_deadline : Image → Who → StatementNo → ExprNo → ExprNo → Step
+unfoldable pub delay_and_set_deadline : Image → Who → StatementNo → ExprNo → ExprNo → Step
 delay_and_set_deadline p name s until offset =
     sees p name (λ q. raise_if p name (in_protected q.world name) exception.Program
     (given p own name (moment q until) (λ m. given p own name (moment q offset) (λ o. delay_with_deadline p name s m o))))

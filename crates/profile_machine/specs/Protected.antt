@@ -90,7 +90,7 @@ abbrev pub entering : Image → World → Who → ObjectNo → Mode → Entering
 entering p w name o mode = entering_option p w name (object_of w o) mode
 
 -- who finds the object held goes to the tail of its level, and does the whole action again (own)
-abbrev pub find_held : Image → Who → ObjectNo → Mode → Step
+unfoldable pub find_held : Image → Who → ObjectNo → Mode → Step
 find_held p name o mode = says own (line.Held name o mode) ▷ to_tail p the_placing name
 
 abbrev pub enter_or : Image → Who → ObjectNo → Mode → Step → Entering → Step
@@ -114,7 +114,7 @@ abbrev pub ceiling_of : Option Object → ℕ
 ceiling_of None = 0
 ceiling_of (Some o) = o.ceiling
 
-abbrev pub begin_action_on : Image → Who → ObjectNo → Mode → Option CallNo → Option ℕ → Step
+unfoldable pub begin_action_on : Image → Who → ObjectNo → Mode → Option CallNo → Option ℕ → Step
 begin_action_on p name o mode call release =
     says own (line.Enter name o mode) ▷ changes (open_action name o mode)
     ▷ looks (λ w. inherit_running p name (inherited_by.Ceiling o) (ceiling_of (object_of w o)))
@@ -133,7 +133,7 @@ body_of_object p w scope o subject values = record { outer = outer_of_body p w s
 abbrev pub mode_of : Subprogram → Mode
 mode_of s = elim s.result [ None ↦ Write | Some range ↦ Read ]
 
-abbrev pub begin_operation : Image → Who → StatementNo → SubprogramNo → ObjectNo → Handed → ResultTo → Step
+unfoldable pub begin_operation : Image → Who → StatementNo → SubprogramNo → ObjectNo → Handed → ResultTo → Step
 begin_operation p name s f o h to =
     goes name (next_of p s) ▷ begin_action_on p name o (mode_of (subprogram_of p f)) None None
     ▷ looks (λ w. changes (open_scope p name (subprogram_of p f).scope (body_of_object p w (subprogram_of p f).scope o h.subject h.values) (opened_for.Subprogram h.back to)))
@@ -142,18 +142,18 @@ abbrev pub has_object_open : World → Who → ObjectNo → Bool
 has_object_open w name o = elim (object_of w o) [ None ↦ false | Some x ↦ has_open name x.actions ]
 
 -- first the object and whether it is the own one, then room, then the parameters, then the ceiling and whether it is held
-abbrev pub call_operation_of : Image → Who → StatementNo → SubprogramNo → List Actual → Destination → ObjectNo → Step
+unfoldable pub call_operation_of : Image → Who → StatementNo → SubprogramNo → List Actual → Destination → ObjectNo → Step
 call_operation_of p name s f actuals to o =
     looks (λ w. raise_if p name (has_object_open w name o) exception.Program
     (with_room p name (1 + marks_of p (subprogram_of p f).scope) (scope_of p (subprogram_of p f).scope).size
     (handing p name f actuals to (λ h r. where_let_inside p name o (mode_of (subprogram_of p f)) (begin_operation p name s f o h r)))))
 
-abbrev pub call_operation : Image → Who → StatementNo → DeclNo → SubprogramNo → List Actual → Destination → Step
+unfoldable pub call_operation : Image → Who → StatementNo → DeclNo → SubprogramNo → List Actual → Destination → Step
 call_operation p name s d f actuals to =
     sees p name (λ q. given p own name (object_number q d) (call_operation_of p name s f actuals to))
 
 -- an internal call: no action begins
-abbrev pub begin_own_operation : Image → Who → StatementNo → SubprogramNo → Option ObjectNo → Handed → ResultTo → Step
+unfoldable pub begin_own_operation : Image → Who → StatementNo → SubprogramNo → Option ObjectNo → Handed → ResultTo → Step
 begin_own_operation p name s f None h to = raises p own name exception.Program
 begin_own_operation p name s f (Some o) h to =
     looks (λ w. begin_body p name s f (body_of_object p w (subprogram_of p f).scope o h.subject h.values) h to)
@@ -161,7 +161,7 @@ begin_own_operation p name s f (Some o) h to =
 abbrev pub unit_of_operation : Subprogram → ProtectedUnitNo
 unit_of_operation s = option_or_else s.unit (record { 0 = 0 })
 
-abbrev pub call_own_operation : Image → Who → StatementNo → SubprogramNo → List Actual → Destination → Step
+unfoldable pub call_own_operation : Image → Who → StatementNo → SubprogramNo → List Actual → Destination → Step
 call_own_operation p name s f actuals to =
     with_room p name (marks_of p (subprogram_of p f).scope) (scope_of p (subprogram_of p f).scope).size
     (handing p name f actuals to (λ h r. sees p name (λ q. begin_own_operation p name s f (own_object q (unit_of_operation (subprogram_of p f))) h r)))
@@ -216,11 +216,11 @@ abbrev pub begun_call : Call → Call
 begun_call c = record c { begun = true }
 
 -- a call begins: it is out of its queue and loses its time-out
-abbrev pub begin_call : Image → Part → Who → Call → Step
+unfoldable pub begin_call : Image → Part → Who → Call → Step
 begin_call p part name c =
     changes (unqueued p c) ▷ changes (edit_call c.number begun_call) ▷ says part (line.Start name c.number)
 
-abbrev pub body_opens : Image → Who → ObjectNo → Call → Step
+unfoldable pub body_opens : Image → Who → ObjectNo → Call → Step
 body_opens p name o c =
     changes (edit_top_protected name (λ m. record m { serves = Some c.number }))
     ▷ looks (λ w. changes (open_scope p name (body_scope_of p c.entry) (body_of_object p w (body_scope_of p c.entry) o None (parameters_of p c)) (opened_for.EntryBody c.number)))

@@ -20,7 +20,7 @@ use Rattle.profile_machine.specs.declared.world.appointments.TimerSetting.{Timer
 use Rattle.profile_machine.specs.declared.world.appointments.Due.TheVariants as due_for
 use Rattle.profile_machine.specs.Words.{same_moment, edit_at}
 use Rattle.profile_machine.specs.Program.{subprogram_of, form_of}
-use Rattle.profile_machine.specs.Steps.{Move, ◌▷◌}
+use Rattle.profile_machine.specs.Steps.{Move, ◌▶◌}
 use Rattle.profile_machine.specs.Frames.{onward_of}
 use Rattle.profile_machine.specs.Values.{timer_of, budget_of}
 use Rattle.profile_machine.specs.Handlers.{handler_attached}
@@ -133,7 +133,7 @@ due_in p w =
 
 abbrev pub later_steps : Image → Move
 later_steps p =
-    script_items p ▷ events_due p ▷ moments_due p ▷ timers_due p ▷ budgets_due p ▷ quantum_spent p
+    script_items p ▶ events_due p ▶ moments_due p ▶ timers_due p ▶ budgets_due p ▶ quantum_spent p
 
 -- ---- a setting that was due at once: the effect of a Set_Handler releases at most one handler, another effect none
 

@@ -92,22 +92,22 @@ has_room_for_accept p w name s =
     has_room w name (marks_of p (accept_scope (form_of p s))) (scope_of p (accept_scope (form_of p s))).size
 
 -- the call begins, and the acceptor will go on behind its accept
-abbrev pub begin_accept : Image → Part → Who → StatementNo → Call → Step
+unfoldable pub begin_accept : Image → Part → Who → StatementNo → Call → Step
 begin_accept p part name s c = begin_call p part name c ▷ goes name (next_of p s)
 
 -- without room for the accept body it finishes at once with Storage_Error
-abbrev pub finish_without_room : Image → Part → Who → Call → Step
+unfoldable pub finish_without_room : Image → Part → Who → Call → Step
 finish_without_room p part name c =
     says part (line.Finish name c.number (finished.Raised (exception_name p exception.Storage)))
 
 -- the acceptor acts: it goes to the head where its active priority rises
-abbrev pub accept_with_room : Image → Who → StatementNo → Call → Bool → Step
+unfoldable pub accept_with_room : Image → Who → StatementNo → Call → Bool → Step
 accept_with_room p name s c true =
     changes (open_accept p name s c) ▷ inherit_running p name (inherited_by.Rendezvous c.number) c.priority
 accept_with_room p name s c false =
     finish_without_room p own name c ▷ deliver p own c.number (call_ended.ToRaise exception.Storage) ▷ raises p own name exception.Storage
 
-abbrev pub accept_call : Image → Who → StatementNo → CallNo → Step
+unfoldable pub accept_call : Image → Who → StatementNo → CallNo → Step
 accept_call p name s c =
     with_call c (λ d. begin_accept p own name s d ▷ looks (λ w. accept_with_room p name s d (has_room_for_accept p w name s)))
 
@@ -134,11 +134,11 @@ abbrev pub own_queue : World → Who → ℕ → List CallNo
 own_queue w (who.Task t) place = queue_of w (owned_by.Task t) place
 own_queue w who.Agent place = []
 
-abbrev pub accept_or_wait : Image → Who → StatementNo → Option CallNo → Step
+unfoldable pub accept_or_wait : Image → Who → StatementNo → Option CallNo → Step
 accept_or_wait p name s (Some c) = accept_call p name s c
 accept_or_wait p name s None = goes name (next_of p s) ▷ block the_block name (waits_for.Accept s)
 
-abbrev pub accept : Image → Who → StatementNo → EntryNo → Step
+unfoldable pub accept : Image → Who → StatementNo → EntryNo → Step
 accept p name s e =
     looks (λ w. raise_if p name (in_protected w name) exception.Program
     (accept_or_wait p name s (next_call p w (own_queue w name (place_of_entry p e) ∷ []))))
@@ -207,12 +207,12 @@ abbrev pub queues_of_accepts : Image → World → Who → List StatementNo → 
 queues_of_accepts p w name = map (λ s. queue_of_accept p w name (form_of p s))
 
 -- the alternative that accepts the call; of two for one entry the first in the text
-abbrev pub accept_chosen : Image → Who → List StatementNo → CallNo → Step
+unfoldable pub accept_chosen : Image → Who → List StatementNo → CallNo → Step
 accept_chosen p name accepts c =
     with_call c (λ d. for_some (first_accept p d.entry accepts) (λ s. accept_call p name s c))
 
 -- a task at an open terminate alternative says that it blocks when it is sure that it need not end at once
-abbrev pub wait_at_select : Who → List StatementNo → Option StatementNo → Bool → Step
+unfoldable pub wait_at_select : Who → List StatementNo → Option StatementNo → Bool → Step
 wait_at_select name accepts delay true = changes (edit_task name (with_state (Blocked (waits_for.Select accepts delay true))))
 wait_at_select name accepts delay false = block the_block name (waits_for.Select accepts delay false)
 
@@ -221,21 +221,21 @@ appoint_delay (who.Task t) m = appoint (due_for.Delay t) m
 appoint_delay who.Agent m = λ w. w
 
 -- without a call: the else part, the delay that has come, or a wait
-abbrev pub select_delay : Image → Who → StatementNo → List StatementNo → Moment → Bool → Bool → Step
+unfoldable pub select_delay : Image → Who → StatementNo → List StatementNo → Moment → Bool → Bool → Step
 select_delay p name s accepts m terminate true = goes name (next_of p m.delay)
 select_delay p name s accepts m terminate false =
     goes name (next_of p s) ▷ changes (appoint_delay name m.at) ▷ wait_at_select name accepts (Some m.delay) terminate
 
-abbrev pub select_wait : Image → Who → StatementNo → List StatementNo → Bool → Option Moment → Step
+unfoldable pub select_wait : Image → Who → StatementNo → List StatementNo → Bool → Option Moment → Step
 select_wait p name s accepts terminate None = goes name (next_of p s) ▷ wait_at_select name accepts None terminate
 select_wait p name s accepts terminate (Some m) =
     looks (λ w. select_delay p name s accepts m terminate (int_le m.at (pos w.time)))
 
-abbrev pub select_otherwise : Image → Who → StatementNo → List SelectKind → Option Moment → Option StatementNo → Step
+unfoldable pub select_otherwise : Image → Who → StatementNo → List SelectKind → Option Moment → Option StatementNo → Step
 select_otherwise p name s kinds m (Some otherwise) = goes name (Some otherwise)
 select_otherwise p name s kinds m None = select_wait p name s (open_accepts kinds) (has_terminate kinds) m
 
-abbrev pub select_by_call : Image → Who → StatementNo → List SelectKind → Option Moment → Option StatementNo → Option CallNo → Step
+unfoldable pub select_by_call : Image → Who → StatementNo → List SelectKind → Option Moment → Option StatementNo → Option CallNo → Step
 select_by_call p name s kinds m otherwise (Some c) = accept_chosen p name (open_accepts kinds) c
 select_by_call p name s kinds m otherwise None = select_otherwise p name s kinds m otherwise
 
@@ -245,12 +245,12 @@ is_closed [] None = true
 is_closed [] (Some s) = false
 is_closed (kind ∷ kinds) otherwise = false
 
-abbrev pub select_open : Image → Who → StatementNo → Option StatementNo → List SelectKind → List Moment → Step
+unfoldable pub select_open : Image → Who → StatementNo → Option StatementNo → List SelectKind → List Moment → Step
 select_open p name s otherwise kinds moments =
     raise_if p name (is_closed kinds otherwise) exception.Program
     (looks (λ w. select_by_call p name s kinds (least_delay moments) otherwise (next_call p w (queues_of_accepts p w name (open_accepts kinds)))))
 
-abbrev pub selective_accept : Image → Who → StatementNo → List SelectAlternative → Option StatementNo → Step
+unfoldable pub selective_accept : Image → Who → StatementNo → List SelectAlternative → Option StatementNo → Step
 selective_accept p name s alternatives otherwise =
     sees p name (λ q. raise_if p name (in_protected q.world name) exception.Program
     (given p own name (open_alternatives q alternatives) (λ kinds. given p own name (open_delays q kinds) (select_open p name s otherwise kinds))))
@@ -266,31 +266,31 @@ abbrev pub is_callable : World → TaskNo → Bool
 is_callable w t = is_callable_task (found_task (who.Task t) w.tasks)
 
 -- the call is sent on to an entry of a task: it is gone, begins, or is queued
-abbrev pub gone_sent : Image → Call → Step
+unfoldable pub gone_sent : Image → Call → Step
 gone_sent p c = gone p the_finish c ▷ deliver p the_finish c.number (call_ended.ToRaise exception.Tasking)
 
-abbrev pub meet_sent : Image → TaskNo → Call → Option StatementNo → Step
+unfoldable pub meet_sent : Image → TaskNo → Call → Option StatementNo → Step
 meet_sent p t c (Some s) =
     meet p the_finish (who.Task t) s c (begin_abortable p c.number) (deliver p the_finish c.number (call_ended.ToRaise exception.Storage))
 meet_sent p t c None = enqueue p c.number ▷ sent_not_begun p c.number
 
-abbrev pub arrive_at : Image → TaskNo → Call → Bool → Step
+unfoldable pub arrive_at : Image → TaskNo → Call → Bool → Step
 arrive_at p t c false = gone_sent p c
 arrive_at p t c true = looks (λ w. meet_sent p t c (accept_for p c.entry (waiting_of w (who.Task t))))
 
 -- a requeue from an accept names an entry of a task
-abbrev pub arrive : Image → Call → Owner → Step
+unfoldable pub arrive : Image → Call → Owner → Step
 arrive p c (owned_by.Task t) = looks (λ w. arrive_at p t c (is_callable w t))
 arrive p c (owned_by.Object o) = gone_sent p c
 
-abbrev pub finish_accept : Image → Who → Call → Option Sending → Step
+unfoldable pub finish_accept : Image → Who → Call → Option Sending → Step
 finish_accept p name c None =
     says the_finish (line.Finish name c.number finished.Ok) ▷ deliver p the_finish c.number call_ended.Finished
 finish_accept p name c (Some s) =
     says the_finish (line.Finish name c.number finished.Requeue) ▷ send_on p c.number s ▷ with_call c.number (λ d. arrive p d d.owner)
 
 -- an exception is raised in the caller too; where the acceptor is aborted the caller gets Tasking_Error
-abbrev pub finish_rendezvous : Image → Who → Call → Leaving → Step
+unfoldable pub finish_rendezvous : Image → Who → Call → Leaving → Step
 finish_rendezvous p name c (how.Exception e) =
     says the_finish (line.Finish name c.number (finished.Raised (exception_name p e))) ▷ deliver p the_finish c.number (call_ended.ToRaise e)
 finish_rendezvous p name c how.Abort =
@@ -301,7 +301,7 @@ finish_rendezvous p name c (how.Exit loop) = finish_accept p name c c.sending
 finish_rendezvous p name c how.Terminate = finish_accept p name c c.sending
 
 -- a return ends at the accept
-abbrev pub behind_accept : Image → Who → Leaving → Step
+unfoldable pub behind_accept : Image → Who → Leaving → Step
 behind_accept p name how.End = nothing
 behind_accept p name how.Return = nothing
 behind_accept p name (how.Exit loop) = pass_on p name (how.Exit loop)
@@ -313,7 +313,7 @@ abbrev pub finished_call : Image → List Value → Leaving → Call → Call
 finished_call p cells leaving c = keeps_sending leaving (with_values cells (formals_count p c) c)
 
 -- InAccept finishes the call, and the acceptor loses the inherited priority
-abbrev pub end_in_accept : Image → Who → AcceptMark → Leaving → Step
+unfoldable pub end_in_accept : Image → Who → AcceptMark → Leaving → Step
 end_in_accept p name m leaving =
     looks (λ w. changes (pop name) ▷ changes (end_scope m.within)
     ▷ changes (edit_call m.call (finished_call p (cells_of (scope_in_use w m.within)) leaving))

@@ -20,7 +20,7 @@ use Rattle.profile_machine.specs.declared.world.tasks.Waiting.TheVariants as wai
 use Rattle.profile_machine.specs.declared.world.tasks.State.TheVariants.{Runnable, Blocked}
 use Rattle.profile_machine.specs.Words.{same_who, same_option, is_empty}
 use Rattle.profile_machine.specs.Program.{interrupt_priority}
-use Rattle.profile_machine.specs.Steps.{own, Step, Move, says, changes, looks, nothing, settles, ◌▷◌}
+use Rattle.profile_machine.specs.Steps.{own, Step, Move, says, changes, settles, rests, watches, ◌▷◌, ◌▶◌}
 use Rattle.profile_machine.specs.Tasks.{task_of, edit_task, with_ticks, new_task}
 use Rattle.profile_machine.specs.Dispatching.{choose, to_tail}
 use Rattle.profile_machine.specs.Frames.{open_sequence, exception_name}
@@ -49,7 +49,7 @@ abbrev pub environment : Who
 environment = who.Task (record { 0 = 0 })
 
 -- the environment task is created and ready, and the program's elaboration is its rest (10.2)
-abbrev pub opens : Image → Step
+unfoldable pub opens : Image → Step
 opens p =
     changes (open_scope p environment p.environment (plainly None) opened_for.Task)
     ▷ says own (line.New (created.Task (record { 0 = 0 })) p.main.name p.main.priority)
@@ -92,27 +92,27 @@ silently f w = (f w, [])
 
 -- `run` for somebody who did not run the tick before
 abbrev pub says_run : Who → Option Who → Move
-says_run name ran = cond (same_option same_who ran (Some name)) nothing (say (line.Run name))
+says_run name ran = cond (same_option same_who ran (Some name)) rests (say (line.Run name))
 
 -- the agent without a rest begins the first release that is pending (own)
 abbrev pub with_serving : Release → List Release → World → World
 with_serving r rest w = record w { releases = rest; serving = Some r }
 
 abbrev pub begin_release : Release → List Release → Move
-begin_release r rest = silently (with_serving r rest) ▷ say (line.Serve r.number)
+begin_release r rest = silently (with_serving r rest) ▶ say (line.Serve r.number)
 
 abbrev pub serve_first : List Release → Move
-serve_first [] = nothing
+serve_first [] = rests
 serve_first (r ∷ rest) = begin_release r rest
 
 abbrev pub serve_if_free : Option Release → List Frame → List Release → Move
 serve_if_free None [] releases = serve_first releases
-serve_if_free None (f ∷ fs) releases = nothing
-serve_if_free (Some r) frames releases = nothing
+serve_if_free None (f ∷ fs) releases = rests
+serve_if_free (Some r) frames releases = rests
 
 abbrev pub serve : Who → Move
-serve (who.Task t) = nothing
-serve who.Agent = looks (λ w. serve_if_free w.serving w.agent.frames w.releases)
+serve (who.Task t) = rests
+serve who.Agent = watches (λ w. serve_if_free w.serving w.agent.frames w.releases)
 
 -- an action begins when its task is chosen and has no ticks left
 abbrev pub ticks_or : Option ℕ → ℕ → ℕ
@@ -135,23 +135,23 @@ next_tick ran w = record w { time = suc w.time; ran = ran }
 -- one tick of who is chosen
 abbrev pub tick_of : Image → Who → Move
 tick_of p name =
-    looks (λ w. says_run name w.ran) ▷ serve name ▷ silently (begin_action p name) ▷ silently (charge p name)
-    ▷ silently (spend_tick name) ▷ silently (next_tick (Some name))
+    watches (λ w. says_run name w.ran) ▶ serve name ▶ silently (begin_action p name) ▶ silently (charge p name)
+    ▶ silently (spend_tick name) ▶ silently (next_tick (Some name))
 
 -- a tick at which nobody runs
 abbrev pub says_idle : Option Who → Move
-says_idle None = nothing
+says_idle None = rests
 says_idle (Some name) = say line.Idle
 
 abbrev pub idle_tick : Move
-idle_tick = looks (λ w. says_idle w.ran) ▷ silently (next_tick None)
+idle_tick = watches (λ w. says_idle w.ran) ▶ silently (next_tick None)
 
 abbrev pub tock_of : Image → Option Who → Move
 tock_of p None = idle_tick
 tock_of p (Some name) = tick_of p name
 
 abbrev pub tock : Image → Move
-tock p = looks (λ w. tock_of p (choose w))
+tock p = watches (λ w. tock_of p (choose w))
 
 -- ---- the run
 

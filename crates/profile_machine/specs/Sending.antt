@@ -46,21 +46,21 @@ is_not_future now None = false
 is_not_future now (Some moment) = int_le moment (pos now)
 
 -- a conditional call, and a timed one whose moment has come, is cancelled
-abbrev pub cancel_at_once : Image → Part → Call → Step
+unfoldable pub cancel_at_once : Image → Part → Call → Step
 cancel_at_once p part c = attempt_with p part c (resume p part c call_ended.Cancelled) nothing
 
 abbrev pub appoint_timeout : CallNo → Option ℤ → World → World
 appoint_timeout c None = λ w. w
 appoint_timeout c (Some moment) = appoint (due_for.Timeout c) moment
 
-abbrev pub wait_for_call : Image → Call → Step
+unfoldable pub wait_for_call : Image → Call → Step
 wait_for_call p c = block the_block (who.Task c.caller) (waits_for.Call c.number)
 
-abbrev pub wait_or_cancel : Image → Part → Call → Bool → Step
+unfoldable pub wait_or_cancel : Image → Part → Call → Bool → Step
 wait_or_cancel p part c true = cancel_at_once p part c
 wait_or_cancel p part c false = changes (appoint_timeout c.number c.moment) ▷ wait_for_call p c
 
-abbrev pub not_accepted : Image → Part → Call → CallKind → Step
+unfoldable pub not_accepted : Image → Part → Call → CallKind → Step
 not_accepted p part c call_kind.Plain = wait_for_call p c
 not_accepted p part c call_kind.Conditional = cancel_at_once p part c
 not_accepted p part c call_kind.Timed = looks (λ w. wait_or_cancel p part c (is_not_future w.time c.moment))
@@ -72,7 +72,7 @@ abbrev pub sent_call : Sending → Call → Call
 sent_call s c = record c { owner = s.owner; entry = s.entry; firm = not s.with_abort; sent_with_abort = c.sent_with_abort || s.with_abort; sending = None }
 
 -- its new entry, and its `call` line
-abbrev pub send_on : Image → CallNo → Sending → Step
+unfoldable pub send_on : Image → CallNo → Sending → Step
 send_on p c s = changes (edit_call c (sent_call s)) ▷ with_call c (says_call p the_finish)
 
 -- sent on with abort and not begun at once: a conditional call, one whose cancellation was attempted, and a timed one
@@ -86,7 +86,7 @@ is_conditional call_kind.Triggering = false
 abbrev pub is_to_be_cancelled : ℕ → Call → Bool
 is_to_be_cancelled now c = not c.firm && (is_conditional c.kind || c.attempted || is_not_future now c.moment)
 
-abbrev pub cancel_sent : Image → Call → Step
+unfoldable pub cancel_sent : Image → Call → Step
 cancel_sent p c =
     changes (unqueued p c) ▷ says the_finish (line.Cancel c.caller c.number) ▷ deliver p the_finish c.number call_ended.Cancelled
 
@@ -103,7 +103,7 @@ may_begin_abortable w c =
     && waits_for_call c.number (waiting_of w (who.Task c.caller)) && has_room w (who.Task c.caller) 1 0
 
 -- its abortable part begins, and the caller becomes ready; without room the caller waits on
-abbrev pub begin_abortable : Image → CallNo → Step
+unfoldable pub begin_abortable : Image → CallNo → Step
 begin_abortable p c =
     with_call c (λ d. looks (λ w. when (may_begin_abortable w d)
     (changes (open_abortable p (who.Task d.caller) d.statement (Some d.number)) ▷ ready p the_finish (who.Task d.caller))))
@@ -112,9 +112,9 @@ begin_abortable p c =
 abbrev pub timeout_again : Call → World → World
 timeout_again c = cond c.firm (λ w. w) (appoint_timeout c.number c.moment)
 
-abbrev pub sent_not_begun_by : Image → Call → Bool → Step
+unfoldable pub sent_not_begun_by : Image → Call → Bool → Step
 sent_not_begun_by p c true = cancel_sent p c
 sent_not_begun_by p c false = changes (timeout_again c) ▷ begin_abortable p c.number
 
-abbrev pub sent_not_begun : Image → CallNo → Step
+unfoldable pub sent_not_begun : Image → CallNo → Step
 sent_not_begun p c = with_call c (λ d. looks (λ w. sent_not_begun_by p d (is_to_be_cancelled w.time d)))

@@ -43,7 +43,7 @@ abbrev pub serves_nothing : World → World
 serves_nothing w = record w { serving = None }
 
 -- `served`; where nothing is pending the agent blocks
-abbrev pub end_release : Image → ℕ → Step
+unfoldable pub end_release : Image → ℕ → Step
 end_release p n =
     says own (line.Served n) ▷ changes serves_nothing
     ▷ looks (λ w. when (is_empty w.releases) (block the_block who.Agent waits_for.Release))
@@ -57,26 +57,26 @@ close_action name o = edit_object o (λ x. record x { actions = without (is_acti
 abbrev pub may_open_abortable : World → Who → Call → Bool
 may_open_abortable w name c = is_triggering c.kind && c.sent_with_abort && not c.attempted && has_room w name 1 0
 
-abbrev pub wait_or_unwind : Image → Who → Call → Bool → Step
+unfoldable pub wait_or_unwind : Image → Who → Call → Bool → Step
 wait_or_unwind p name c true = attempt_with p own c (changes (forget_call c.number) ▷ leaves name how.Abort) (wait_for_call p c)
 wait_or_unwind p name c false = wait_for_call p c
 
-abbrev pub wait_for_own : Image → Who → Call → Bool → Step
+unfoldable pub wait_for_own : Image → Who → Call → Bool → Step
 wait_for_own p name c true = changes (open_abortable p name c.statement (Some c.number))
 wait_for_own p name c false = looks (λ w. wait_or_unwind p name c (may_unwind (frames_of w name)))
 
-abbrev pub resume_own : Image → Who → Call → Option Outcome → Step
+unfoldable pub resume_own : Image → Who → Call → Option Outcome → Step
 resume_own p name c (Some outcome) = resume p the_block c outcome
 resume_own p name c None = looks (λ w. wait_for_own p name c (may_open_abortable w name c))
 
 -- the task goes on as the body was left, or behind its own entry call; the agent has served its release
-abbrev pub behind_action : Image → Who → ProtectedMark → Option ℕ → Option CallNo → Step
+unfoldable pub behind_action : Image → Who → ProtectedMark → Option ℕ → Option CallNo → Step
 behind_action p name m (Some release) call = end_release p release
 behind_action p name m None None = pass_on p name m.body_left
 behind_action p name m None (Some c) = with_call c (λ d. resume_own p name d d.outcome)
 
 -- the ceiling is lost first, then what was deferred is set
-abbrev pub release_object : Image → Who → ProtectedMark → Step
+unfoldable pub release_object : Image → Who → ProtectedMark → Step
 release_object p name m =
     says own (line.Exit name m.object) ▷ changes (pop name) ▷ changes (close_action name m.object)
     ▷ lose_running p name (inherited_by.Ceiling m.object) ▷ set_deferred p name ▷ behind_action p name m m.release m.own_call
@@ -92,12 +92,12 @@ part_of_start true = the_finish
 part_of_start false = own
 
 -- a call that was sent on and is not the one that is served
-abbrev pub settle_sent : Image → Option CallNo → Bool → Step
+unfoldable pub settle_sent : Image → Option CallNo → Bool → Step
 settle_sent p None is_served = nothing
 settle_sent p (Some c) true = nothing
 settle_sent p (Some c) false = sent_not_begun p c
 
-abbrev pub begins_part : Image → Bool → CallNo → Step
+unfoldable pub begins_part : Image → Bool → CallNo → Step
 begins_part p true c = begin_abortable p c
 begins_part p false c = nothing
 
@@ -112,7 +112,7 @@ serve_chosen p name m is_sent again (Some c) =
     (deliver p (part_of_start is_sent) c (call_ended.ToRaise exception.Storage) ▷ again))
 
 -- the choice is made with the call that was sent on in its queue; each turn without room ends a call
-abbrev pub serve_next : ℕ → Image → Who → ProtectedMark → Option CallNo → Step
+unfoldable pub serve_next : ℕ → Image → Who → ProtectedMark → Option CallNo → Step
 serve_next zero p name m sent = release_object p name m
 serve_next (suc fuel) p name m sent =
     looks (λ w.
@@ -120,13 +120,13 @@ serve_next (suc fuel) p name m sent =
     settle_sent p sent (chosen_is_sent sent chosen)
     ▷ serve_chosen p name m (chosen_is_sent sent chosen) (serve_next fuel p name m None) chosen)
 
-abbrev pub serve_calls : Image → Who → ProtectedMark → Option CallNo → Step
+unfoldable pub serve_calls : Image → Who → ProtectedMark → Option CallNo → Step
 serve_calls p name m sent = looks (λ w. serve_next (suc (length w.calls)) p name m sent)
 
 -- ---- a body in the action has ended
 
 -- the body of the called operation: a function's action ends, behind a procedure queued calls are served
-abbrev pub go_on_by_mode : Image → Who → ProtectedMark → Mode → Step
+unfoldable pub go_on_by_mode : Image → Who → ProtectedMark → Mode → Step
 go_on_by_mode p name m Read = release_object p name m
 go_on_by_mode p name m Write = serve_calls p name m None
 
@@ -136,7 +136,7 @@ with_body_left leaving m = record m { body_left = leaving; serves = None }
 abbrev pub not_left : Frame → Frame
 not_left f = record f { left_as = None }
 
-abbrev pub end_operation : Image → Who → ProtectedMark → Leaving → Step
+unfoldable pub end_operation : Image → Who → ProtectedMark → Leaving → Step
 end_operation p name m leaving =
     changes (edit_top_protected name (with_body_left leaving)) ▷ changes (edit_top name not_left)
     ▷ go_on_by_mode p name (with_body_left leaving m) m.mode
@@ -149,18 +149,18 @@ abbrev pub outcome_by : Bool → Raised → Outcome
 outcome_by true e = call_ended.WasRaised e
 outcome_by false e = call_ended.ToRaise e
 
-abbrev pub finish_raised : Image → Who → ProtectedMark → Call → Raised → Step
+unfoldable pub finish_raised : Image → Who → ProtectedMark → Call → Raised → Step
 finish_raised p name m c e =
     says the_finish (line.Finish name c.number (finished.Raised (exception_name p e)))
     ▷ deliver p the_finish c.number (outcome_by (is_own_call name m.own_call c) e) ▷ serve_calls p name m None
 
-abbrev pub finish_well : Image → Who → ProtectedMark → Call → Option Sending → Step
+unfoldable pub finish_well : Image → Who → ProtectedMark → Call → Option Sending → Step
 finish_well p name m c None =
     says the_finish (line.Finish name c.number finished.Ok) ▷ deliver p the_finish c.number call_ended.Finished ▷ serve_calls p name m None
 finish_well p name m c (Some s) =
     says the_finish (line.Finish name c.number finished.Requeue) ▷ send_on p c.number s ▷ enqueue p c.number ▷ serve_calls p name m (Some c.number)
 
-abbrev pub finish_call : Image → Who → ProtectedMark → Leaving → Call → Step
+unfoldable pub finish_call : Image → Who → ProtectedMark → Leaving → Call → Step
 finish_call p name m (how.Exception e) c = finish_raised p name m c e
 finish_call p name m how.End c = finish_well p name m c c.sending
 finish_call p name m how.Return c = finish_well p name m c c.sending
@@ -171,17 +171,17 @@ finish_call p name m how.Terminate c = finish_well p name m c c.sending
 abbrev pub no_longer_serves : ProtectedMark → ProtectedMark
 no_longer_serves m = record m { serves = None }
 
-abbrev pub end_entry_body : Image → Who → ProtectedMark → Leaving → CallNo → Step
+unfoldable pub end_entry_body : Image → Who → ProtectedMark → Leaving → CallNo → Step
 end_entry_body p name m leaving c =
     changes (edit_top_protected name no_longer_serves) ▷ changes (edit_top name not_left)
     ▷ with_call c (finish_call p name (no_longer_serves m) leaving)
 
-abbrev pub end_in_protected_by : Image → Who → ProtectedMark → Leaving → Option CallNo → Step
+unfoldable pub end_in_protected_by : Image → Who → ProtectedMark → Leaving → Option CallNo → Step
 end_in_protected_by p name m leaving None = end_operation p name m leaving
 end_in_protected_by p name m leaving (Some c) = end_entry_body p name m leaving c
 
 -- InProtected first finishes the call that was served; it then starts the next or releases the object
-abbrev pub end_in_protected : Image → Who → ProtectedMark → Leaving → Step
+unfoldable pub end_in_protected : Image → Who → ProtectedMark → Leaving → Step
 end_in_protected p name m leaving = end_in_protected_by p name m leaving m.serves
 
 -- ---- the scope of an entry body has ended: the parameters' present values are the call's
@@ -189,7 +189,7 @@ end_in_protected p name m leaving = end_in_protected_by p name m leaving m.serve
 abbrev pub with_values : List Value → ℕ → Call → Call
 with_values cells count c = record c { values = take count cells ++ drop count c.values }
 
-abbrev pub keep_values : Image → CallNo → List Value → Step
+unfoldable pub keep_values : Image → CallNo → List Value → Step
 keep_values p c cells = with_call c (λ d. changes (edit_call c (with_values cells (formals_count p d))))
 
 -- a requeue is under way only where the body was left by it
@@ -201,5 +201,5 @@ keeps_sending (how.Exception e) c = without_sending c
 keeps_sending how.Abort c = without_sending c
 keeps_sending how.Terminate c = without_sending c
 
-abbrev pub end_body_of_entry : Image → CallNo → List Value → Leaving → Step
+unfoldable pub end_body_of_entry : Image → CallNo → List Value → Leaving → Step
 end_body_of_entry p c cells leaving = changes (edit_call c (keeps_sending leaving)) ▷ keep_values p c cells

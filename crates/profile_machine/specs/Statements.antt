@@ -44,16 +44,16 @@ abbrev pub sees : Image → Who → (Seen → Step) → Step
 sees p name f = looks (λ w. f (seen_by p w name))
 
 -- the world behind an effect on cells, or the exception
-abbrev pub becomes : Image → Part → Who → Valued World → Step
+unfoldable pub becomes : Image → Part → Who → Valued World → Step
 becomes p part name result = given p part name result (λ next. changes (λ _. next))
 
 -- ---- null (5.1), assignment (5.2)
 
-abbrev pub null : Image → Who → StatementNo → Step
+unfoldable pub null : Image → Who → StatementNo → Step
 null p name s = goes name (next_of p s)
 
 -- the place of the target is found first, then the value
-abbrev pub assign : Image → Who → StatementNo → VariableName → ExprNo → Step
+unfoldable pub assign : Image → Who → StatementNo → VariableName → ExprNo → Step
 assign p name s target e =
     sees p name (λ q. given p own name (variable q target >>= λ v. value q e >>= λ x. store p v x q.world) (λ next. changes (λ _. next) ▷ goes name (next_of p s)))
 
@@ -73,7 +73,7 @@ copy_cells p target source w =
 abbrev pub array_copied : Image → Seen → ObjectName → ObjectName → Valued World
 array_copied p q target source = object_cell q target >>= λ t. object_cell q source >>= λ f. Ok (copy_cells p t f q.world)
 
-abbrev pub assign_array : Image → Who → StatementNo → ObjectName → ObjectName → Step
+unfoldable pub assign_array : Image → Who → StatementNo → ObjectName → ObjectName → Step
 assign_array p name s target source =
     sees p name (λ q. given p own name (array_copied p q target source) (λ next. changes (λ _. next) ▷ goes name (next_of p s)))
 
@@ -83,7 +83,7 @@ abbrev pub branch : Bool → StatementNo → Option StatementNo → Option State
 branch true first otherwise = Some first
 branch false first otherwise = otherwise
 
-abbrev pub if_statement : Image → Who → ExprNo → StatementNo → Option StatementNo → Step
+unfoldable pub if_statement : Image → Who → ExprNo → StatementNo → Option StatementNo → Step
 if_statement p name e first otherwise =
     sees p name (λ q. given p own name (condition q e) (λ b. goes name (branch b first otherwise)))
 
@@ -105,17 +105,17 @@ chosen_alternative v [] = None
 chosen_alternative v (a ∷ as') = cond (any_chosen v a.choices) (Some a.first) (chosen_alternative v as')
 
 -- a value that no choice covers raises Constraint_Error
-abbrev pub go_to_alternative : Image → Who → Option StatementNo → Step
+unfoldable pub go_to_alternative : Image → Who → Option StatementNo → Step
 go_to_alternative p name None = raises p own name exception.Constraint
 go_to_alternative p name (Some first) = goes name (Some first)
 
-abbrev pub case_statement : Image → Who → ExprNo → List CaseAlternative → Step
+unfoldable pub case_statement : Image → Who → ExprNo → List CaseAlternative → Step
 case_statement p name e alternatives =
     sees p name (λ q. given p own name (value q e) (λ v. go_to_alternative p name (chosen_alternative v alternatives)))
 
 -- ---- loops (5.5): into the body, or past the loop
 
-abbrev pub while_turn : Image → Who → StatementNo → ExprNo → StatementNo → Step
+unfoldable pub while_turn : Image → Who → StatementNo → ExprNo → StatementNo → Step
 while_turn p name s e body =
     sees p name (λ q. given p own name (condition q e) (λ b. goes name (branch b body (next_of p s))))
 
@@ -141,7 +141,7 @@ bounds_set q d reverse low high =
     value q low >>= λ l. value q high >>= λ h. loop_cell q d 0 >>= λ x. loop_cell q d 1 >>= λ y.
     Ok (put y (last_bound reverse l h) (put x (first_bound reverse l h) q.world))
 
-abbrev pub for_bounds : Image → Who → DeclNo → Bool → ExprNo → ExprNo → StatementNo → Step
+unfoldable pub for_bounds : Image → Who → DeclNo → Bool → ExprNo → ExprNo → StatementNo → Step
 for_bounds p name d reverse low high turn =
     sees p name (λ q. given p own name (bounds_set q d reverse low high) (λ next. changes (λ _. next) ▷ goes name (Some turn)))
 
@@ -150,7 +150,7 @@ abbrev pub is_past : Bool → Value → Value → Valued Bool
 is_past false x last = is_less last x
 is_past true x last = is_less x last
 
-abbrev pub first_turn : Image → Who → StatementNo → DeclNo → Bool → StatementNo → Step
+unfoldable pub first_turn : Image → Who → StatementNo → DeclNo → Bool → StatementNo → Step
 first_turn p name s d reverse body =
     sees p name (λ q. given p own name (loop_cell q d 0 >>= λ x. loop_cell q d 1 >>= λ y. is_past reverse (read q.world x) (read q.world y))
     (λ past. goes name (branch (not past) body (next_of p s))))
@@ -166,29 +166,29 @@ stepped reverse (Ticks n) = Ticks n
 stepped reverse (Task t) = Task t
 stepped reverse (Thing n) = Thing n
 
-abbrev pub advance : Who → Variable → Bool → Value → StatementNo → Option StatementNo → Bool → Step
+unfoldable pub advance : Who → Variable → Bool → Value → StatementNo → Option StatementNo → Bool → Step
 advance name x reverse v body past true = goes name past
 advance name x reverse v body past false = changes (put x (stepped reverse v)) ▷ goes name (Some body)
 
 -- a later turn: past the loop at the last value, else on to the next one
-abbrev pub later_turn : Image → Who → StatementNo → DeclNo → Bool → StatementNo → Step
+unfoldable pub later_turn : Image → Who → StatementNo → DeclNo → Bool → StatementNo → Step
 later_turn p name s d reverse body =
     sees p name (λ q. given p own name (loop_cell q d 0) (λ x. given p own name (loop_cell q d 1 >>= λ y. same_value (read q.world x) (read q.world y))
     (advance name x reverse (read q.world x) body (next_of p s))))
 
 -- ---- exit (5.7)
 
-abbrev pub exit_where : Image → Who → StatementNo → StatementNo → Bool → Step
+unfoldable pub exit_where : Image → Who → StatementNo → StatementNo → Bool → Step
 exit_where p name s loop true = exit_loop p name loop
 exit_where p name s loop false = goes name (next_of p s)
 
-abbrev pub exit_statement : Image → Who → StatementNo → StatementNo → Option ExprNo → Step
+unfoldable pub exit_statement : Image → Who → StatementNo → StatementNo → Option ExprNo → Step
 exit_statement p name s loop None = exit_loop p name loop
 exit_statement p name s loop (Some e) = sees p name (λ q. given p own name (condition q e) (exit_where p name s loop))
 
 -- ---- block (5.6)
 
-abbrev pub block_statement : Image → Who → StatementNo → ScopeNo → Step
+unfoldable pub block_statement : Image → Who → StatementNo → ScopeNo → Step
 block_statement p name s scope =
     with_room p name (marks_of p scope) (scope_of p scope).size
     (goes name (next_of p s) ▷ looks (λ w. changes (open_scope p name scope (plainly (innermost w name)) (opened_for.Block s))))
@@ -214,21 +214,21 @@ abbrev pub exception_handled : Seen → ScopeNo → Valued Raised
 exception_handled q scope =
     or_misfit (home q.world scope q.within) >>= λ id. or_misfit (handled_in id (frames_of q.world q.who))
 
-abbrev pub raise_again : Image → Who → ScopeNo → Step
+unfoldable pub raise_again : Image → Who → ScopeNo → Step
 raise_again p name scope = sees p name (λ q. given p own name (exception_handled q scope) (raises p own name))
 
 -- ---- delays (9.6): inside a protected action Program_Error is raised (own)
 
 -- a task that waits for a moment blocks; where the moment is not in the future it goes to the tail (D.2.1)
-abbrev pub wait_until : Image → Who → ℤ → Bool → Step
+unfoldable pub wait_until : Image → Who → ℤ → Bool → Step
 wait_until p (who.Task t) until true = changes (appoint (due_for.Delay t) until) ▷ block the_block (who.Task t) waits_for.Moment
 wait_until p (who.Task t) until false = to_tail p the_placing (who.Task t)
 wait_until p who.Agent until future = nothing
 
-abbrev pub delay_to : Image → Who → ℤ → Step
+unfoldable pub delay_to : Image → Who → ℤ → Step
 delay_to p name until = looks (λ w. wait_until p name until (int_lt (pos w.time) until))
 
-abbrev pub delay_until : Image → Who → StatementNo → Valued ℤ → Step
+unfoldable pub delay_until : Image → Who → StatementNo → Valued ℤ → Step
 delay_until p name s until =
     looks (λ w. raise_if p name (in_protected w name) exception.Program (given p own name until (λ m. goes name (next_of p s) ▷ delay_to p name m)))
 
@@ -251,6 +251,6 @@ abbrev pub text_of_pieces : Seen → List Piece → Valued (List ℕ)
 text_of_pieces q [] = Ok []
 text_of_pieces q (x ∷ xs) = piece_text q x >>= λ text. text_of_pieces q xs >>= λ rest. Ok (text ++ rest)
 
-abbrev pub put_line : Image → Who → StatementNo → List Piece → Step
+unfoldable pub put_line : Image → Who → StatementNo → List Piece → Step
 put_line p name s pieces =
     sees p name (λ q. given p own name (text_of_pieces q pieces) (λ text. goes name (next_of p s) ▷ says own (line.Put name text)))

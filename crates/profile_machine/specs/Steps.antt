@@ -27,36 +27,41 @@ pub record Said : Type 0 where
   pub part : Part
   pub event : Event
 
--- a step of an effect
+-- what a step leads to: the world behind it, and all that the effect has said up to its end
+pub data Done : Type 0 where
+  done : World → List Said → Done
+
+-- A step of an effect goes on from a world and from what the effect has said before it. The steps that have names are
+-- opaque: a proof opens the one that it speaks of, and `computing` opens them all.
 abbrev pub Step : Type 0
-Step = World → World × List Said
+Step = World → List Said → Done
 
 -- a part of an instant: its lines are in order, and the ready queues have followed them
 abbrev pub Move : Type 0
 Move = World → World × List Event
 
 -- one after the other
+abbrev pub goes_on_with : Step → Done → Done
+goes_on_with g (done w said) = g w said
+
 infixr 20 ◌▷◌
-abbrev pub ◌▷◌ : {X : Type 0} → (World → World × List X) → (World → World × List X) → World → World × List X
-(f ▷ g) w =
-    let a = f w in
-    let b = g a.0 in
-    (b.0, a.1 ++ b.1)
+abbrev pub ◌▷◌ : Step → Step → Step
+(f ▷ g) w said = goes_on_with g (f w said)
 
 -- nothing is done
-abbrev pub nothing : {X : Type 0} → World → World × List X
-nothing w = (w, [])
+abbrev pub nothing : Step
+nothing w said = done w said
 
 -- the world changes and nothing is said
 abbrev pub changes : (World → World) → Step
-changes f w = (f w, [])
+changes f w said = done (f w) said
 
 -- a line is said
 abbrev pub says : Part → Event → Step
-says part event w = (w, record { part = part; event = event } ∷ [])
+says part event w said = done w (said ++ record { part = part; event = event } ∷ [])
 
 -- a step that looks at the world in which it is done
-abbrev pub looks : {X : Type 0} → (World → World → World × List X) → World → World × List X
+abbrev pub looks : (World → Step) → Step
 looks f w = f w w
 
 -- the step is done where the test holds
@@ -153,8 +158,29 @@ abbrev pub placed_by : List Event → World → World
 placed_by lines w = record w { places = places_after_all lines w.places }
 
 -- its lines are put in order, and the ready queues follow them
+abbrev pub settled : Done → World × List Event
+settled (done w said) =
+    let lines = map (λ x. x.event) (in_order said) in
+    (placed_by lines w, lines)
+
+-- an effect is a move: a step that begins with nothing said
 abbrev pub settles : Step → Move
-settles step w =
-    let done = step w in
-    let lines = map (λ said. said.event) (in_order done.1) in
-    (placed_by lines done.0, lines)
+settles step w = settled (step w [])
+
+-- ---- moves that are put together
+
+-- one after the other
+infixr 20 ◌▶◌
+abbrev pub ◌▶◌ : Move → Move → Move
+(f ▶ g) w =
+    let a = f w in
+    let b = g a.0 in
+    (b.0, a.1 ++ b.1)
+
+-- nothing is done
+abbrev pub rests : Move
+rests w = (w, [])
+
+-- a move that looks at the world in which it is made
+abbrev pub watches : (World → Move) → Move
+watches f w = f w w

@@ -84,7 +84,7 @@ result_to q (destination.Return f) = Ok (bound_for.Return f)
 abbrev pub beginning_of : Seen → SubprogramNo → Handed → Beginning
 beginning_of q s h = record { outer = option_and_then (λ outer. home q.world outer q.within) (scope_of q.program (subprogram_of q.program s).scope).outer; object = None; subject = h.subject; values = h.values }
 
-abbrev pub begin_body : Image → Who → StatementNo → SubprogramNo → Beginning → Handed → ResultTo → Step
+unfoldable pub begin_body : Image → Who → StatementNo → SubprogramNo → Beginning → Handed → ResultTo → Step
 begin_body p name s f b h to =
     goes name (next_of p s) ▷ changes (open_scope p name (subprogram_of p f).scope b (opened_for.Subprogram h.back to))
 
@@ -93,7 +93,7 @@ abbrev pub handing : Image → Who → SubprogramNo → List Actual → Destinat
 handing p name f actuals to step =
     sees p name (λ q. given p own name (result_to q to) (λ r. given p own name (handed q 0 (subprogram_of p f).formals actuals) (λ h. step h r)))
 
-abbrev pub call_subprogram : Image → Who → StatementNo → SubprogramNo → List Actual → Destination → Step
+unfoldable pub call_subprogram : Image → Who → StatementNo → SubprogramNo → List Actual → Destination → Step
 call_subprogram p name s f actuals to =
     with_room p name (marks_of p (subprogram_of p f).scope) (scope_of p (subprogram_of p f).scope).size
     (handing p name f actuals to (λ h r. sees p name (λ q. begin_body p name s f (beginning_of q f h) h r)))
@@ -111,11 +111,11 @@ result_kept q f v =
     Ok (write_cell id (result_place q.program f) x q.world)
 
 -- a function's result, range checked, is kept, and the marks are left to its body
-abbrev pub return_result : Image → Who → SubprogramNo → Value → Step
+unfoldable pub return_result : Image → Who → SubprogramNo → Value → Step
 return_result p name f v =
     sees p name (λ q. given p own name (result_kept q f v) (λ next. changes (λ _. next) ▷ leaves name how.Return))
 
-abbrev pub return_value : Image → Who → SubprogramNo → ExprNo → Step
+unfoldable pub return_value : Image → Who → SubprogramNo → ExprNo → Step
 return_value p name f e = sees p name (λ q. given p own name (value q e) (return_result p name f))
 
 -- what a return ends: a body or an accept, with the call that it serves; a block is left on the way
@@ -153,7 +153,7 @@ abbrev pub drop_sending : Option CallNo → World → World
 drop_sending None = λ w. w
 drop_sending (Some c) = edit_call c without_sending
 
-abbrev pub return : Who → Step
+unfoldable pub return : Who → Step
 return name = looks (λ w. changes (drop_sending (call_that_returns (frames_of w name))) ▷ leaves name how.Return)
 
 -- ---- the end of a subprogram's scope: parameters are copied back in order, then a function's value is stored
@@ -181,12 +181,12 @@ falls_through (how.Exception e) to = false
 falls_through how.Abort to = false
 falls_through how.Terminate to = false
 
-abbrev pub store_result : Image → Who → List Value → ResultTo → Step
+unfoldable pub store_result : Image → Who → List Value → ResultTo → Step
 store_result p name cells bound_for.Nowhere = nothing
 store_result p name cells (bound_for.Variable v) = looks (λ w. becomes p own name (store p v (last_cell cells) w))
 store_result p name cells (bound_for.Return f) = return_result p name f (last_cell cells)
 
 -- `cells` are those of the scope that has ended
-abbrev pub end_subprogram : Image → Who → List Value → List CopyBack → ResultTo → Leaving → Step
+unfoldable pub end_subprogram : Image → Who → List Value → List CopyBack → ResultTo → Leaving → Step
 end_subprogram p name cells back to leaving =
     raise_if p name (falls_through leaving to) exception.Program (copy_parameters p name cells back (store_result p name cells to))

@@ -88,17 +88,18 @@ task_drawn d = record d { tasks = suc d.tasks }
 abbrev pub add_task : world.Task → World → World
 add_task t w = record w { tasks = w.tasks ++ t ∷ []; drawn = task_drawn w.drawn }
 
-abbrev pub says_created : Image → DeclNo → world.Task → Step
-says_created p d t w = says own (line.New (created.Task (record { 0 = w.drawn.tasks - 1 })) (declaration_of p d).expanded t.base) w
+unfoldable pub says_created : Image → DeclNo → world.Task → Step
+says_created p d t =
+    looks (λ w. says own (line.New (created.Task (record { 0 = w.drawn.tasks - 1 })) (declaration_of p d).expanded t.base))
 
-abbrev pub create_task : Image → Who → StatementNo → DeclNo → Option ScopeId → world.Task → Step
+unfoldable pub create_task : Image → Who → StatementNo → DeclNo → Option ScopeId → world.Task → Step
 create_task p name s d id t =
     goes name (next_of p s) ▷ changes (add_task t)
     ▷ for_some id (λ within. looks (λ w. changes (set_thing p (record { within = within; declared = d }) (value_of.Task (Some (record { 0 = w.drawn.tasks - 1 }))))))
     ▷ says_created p d t
 
 -- Program_Error inside a protected action and wherever abort is deferred; Storage_Error while 256 tasks are live (own)
-abbrev pub create : Image → Who → StatementNo → DeclNo → ℕ → Step
+unfoldable pub create : Image → Who → StatementNo → DeclNo → ℕ → Step
 create p name s d declarative_part =
     sees p name (λ q. raise_if p name (in_protected q.world name || is_deferred q.world name) exception.Program
     (raise_if p name (leb 256 (length q.world.tasks)) exception.Storage
@@ -114,7 +115,7 @@ abbrev pub top_region_of_scope : World → Who → RegionNo
 top_region_of_scope w name = region_or_none (region_of_frames (frames_of w name))
 
 -- who acts goes to the head where its active priority has fallen since this world
-abbrev pub fall_from : Image → Who → World → Step
+unfoldable pub fall_from : Image → Who → World → Step
 fall_from p name before = looks (λ w. when (falls p name before w) (to_head p the_placing name))
 
 -- ---- activation (9.2): the tasks that the declarative part made become ready in order
@@ -133,31 +134,31 @@ deadline_at now (Some span) old_deadline = held_moment (pos now +ℤ span)
 abbrev pub activated_task : Who → ℕ → world.Task → world.Task
 activated_task activator now t = record t { activator = Some activator; deadline = deadline_at now t.relative_deadline t.deadline }
 
-abbrev pub begin_task : Image → Who → ℕ → world.Task → Step
+unfoldable pub begin_task : Image → Who → ℕ → world.Task → Step
 begin_task p activator level t =
     looks (λ w. changes (open_scope p t.who (unit_of_task p t).scope (plainly t.outer) opened_for.Task)
     ▷ changes (edit_task t.who (activated_task activator w.time)) ▷ changes (inherit t.who inherited_by.Activation level) ▷ ready p (of_other t.who) t.who)
 
 -- a task without room prints `raise` and `done`, and counts as failed
-abbrev pub says_done : Part → Who → Step
+unfoldable pub says_done : Part → Who → Step
 says_done part (who.Task t) = says part (line.Done t)
 says_done part who.Agent = nothing
 
 abbrev pub group_fails : world.Task → world.Task
 group_fails t = record t { group_failed = true }
 
-abbrev pub fail_to_begin : Image → Who → world.Task → Step
+unfoldable pub fail_to_begin : Image → Who → world.Task → Step
 fail_to_begin p activator t =
     says (of_other t.who) (line.Raise t.who (exception_name p exception.Storage)) ▷ says_done (of_other t.who) t.who
     ▷ changes (edit_task activator group_fails) ▷ terminate p activator t.who
 
-abbrev pub activate_one : Image → Who → ℕ → world.Task → Step
+unfoldable pub activate_one : Image → Who → ℕ → world.Task → Step
 activate_one p activator level t =
     looks (λ w. elim (has_room w t.who 1 (scope_of p (unit_of_task p t).scope).size)
     [ true ↦ begin_task p activator level t | false ↦ fail_to_begin p activator t ])
 
 -- the activator blocks where some task begins; else Tasking_Error is raised in it at once, if one failed
-abbrev pub await_group : Image → Who → Bool → Bool → Step
+unfoldable pub await_group : Image → Who → Bool → Bool → Step
 await_group p name true failed = block the_block name waits_for.Activation
 await_group p name false true = raises p the_block name exception.Tasking
 await_group p name false false = nothing
@@ -165,14 +166,14 @@ await_group p name false false = nothing
 abbrev pub no_failure : world.Task → world.Task
 no_failure t = record t { group_failed = false }
 
-abbrev pub activate : Image → Who → StatementNo → ℕ → Step
+unfoldable pub activate : Image → Who → StatementNo → ℕ → Step
 activate p name s declarative_part =
     looks (λ w. goes name (next_of p s) ▷ changes (edit_task name no_failure)
     ▷ for_each (filter (is_to_activate (top_region_of_scope w name) declarative_part) w.tasks) (activate_one p name (active_of p w name)))
     ▷ looks (λ w. await_group p name (has_activating w name) (task_of w name).group_failed)
 
 -- the end of a task's own activation: it goes to the head where its active priority falls
-abbrev pub end_own_activation : Image → Who → StatementNo → Step
+unfoldable pub end_own_activation : Image → Who → StatementNo → Step
 end_own_activation p name s =
     looks (λ w. goes name (next_of p s) ▷ end_activation p name name false ▷ fall_from p name w)
 
@@ -190,7 +191,7 @@ abbrev pub is_made_in : RegionNo → world.Task → Bool
 is_made_in r t = is_made t && is_the same_region t.master r
 
 -- tasks that were made there and not activated terminate
-abbrev pub end_made : Image → Who → world.Task → Step
+unfoldable pub end_made : Image → Who → world.Task → Step
 end_made p actor t = says_done (of_other t.who) t.who ▷ terminate p actor t.who
 
 abbrev pub being_left_mark : ScopeMark → ScopeMark
@@ -206,14 +207,14 @@ is_task_scope (opened_for.EntryBody c) = false
 is_task_scope opened_for.Task = true
 
 -- a task whose outermost scope is kept is completed here
-abbrev pub complete_if_task : Image → Who → Purpose → Step
+unfoldable pub complete_if_task : Image → Who → Purpose → Step
 complete_if_task p name purpose =
     looks (λ w. when (is_task_scope purpose) (complete p name name ▷ fall_from p name w))
 
-abbrev pub wait_for_dependents : Who → RegionNo → Step
+unfoldable pub wait_for_dependents : Who → RegionNo → Step
 wait_for_dependents name r = looks (λ w. when (has_dependents w r) (block the_block name (waits_for.Dependents r)))
 
-abbrev pub leave_region : Image → Who → ScopeMark → Leaving → RegionNo → Step
+unfoldable pub leave_region : Image → Who → ScopeMark → Leaving → RegionNo → Step
 leave_region p name m leaving r =
     changes (edit_top_scope name being_left_mark) ▷ changes (edit_top name (left_so_frame leaving))
     ▷ says own (line.Leave name r (leaves_as leaving))
@@ -241,7 +242,7 @@ end_environment leaving w = record w { ended = Some (exception_in leaving) }
 abbrev pub fails_by : World → Who → Leaving → Bool
 fails_by w name leaving = is_some (exception_in leaving) && not (task_of w name).abnormal
 
-abbrev pub end_task : Image → Who → Leaving → Step
+unfoldable pub end_task : Image → Who → Leaving → Step
 end_task p name leaving =
     says_done own name ▷ looks (λ w. end_activation p name name (fails_by w name leaving)) ▷ terminate p name name
     ▷ when (is_environment name) (changes (end_environment leaving))
@@ -258,7 +259,7 @@ is_normal how.Terminate = false
 abbrev pub end_body : Image → Who → Leaving → Step → Step
 end_body p name leaving normally = elim (is_normal leaving) [ true ↦ normally | false ↦ pass_on p name leaving ]
 
-abbrev pub behind_scope : Image → Who → Purpose → List Value → Leaving → Step
+unfoldable pub behind_scope : Image → Who → Purpose → List Value → Leaving → Step
 behind_scope p name (opened_for.Block s) cells leaving = pass_on p name leaving
 behind_scope p name (opened_for.Subprogram back to) cells leaving = end_body p name leaving (end_subprogram p name cells back to leaving)
 behind_scope p name (opened_for.EntryBody c) cells leaving = end_body p name leaving (end_body_of_entry p c cells leaving)
@@ -279,26 +280,26 @@ raises_behind m leaving = m.finalize_raised && not (is_dropped leaving)
 abbrev pub left_by : ScopeMark → Leaving → Leaving
 left_by m leaving = cond (raises_behind m leaving) (how.Exception exception.Program) leaving
 
-abbrev pub says_left : Image → Who → ScopeMark → Leaving → Step
+unfoldable pub says_left : Image → Who → ScopeMark → Leaving → Step
 says_left p name m leaving =
     for_some m.region (λ r. says own (line.Left name r)) ▷ when (raises_behind m leaving) (says own (line.Raise name (exception_name p exception.Program)))
 
-abbrev pub end_of_scope : Image → Who → ScopeMark → Leaving → Step
+unfoldable pub end_of_scope : Image → Who → ScopeMark → Leaving → Step
 end_of_scope p name m leaving =
     looks (λ w. changes (pop name) ▷ changes (end_scope m.within) ▷ says_left p name m leaving
     ▷ behind_scope p name m.purpose (cells_of (scope_in_use w m.within)) (left_by m leaving))
 
 -- a kept scope's leaving begins, finalizes one object, or has ended
-abbrev pub go_on_leaving : Image → Who → ScopeMark → Leaving → RegionNo → Bool → Step
+unfoldable pub go_on_leaving : Image → Who → ScopeMark → Leaving → RegionNo → Bool → Step
 go_on_leaving p name m leaving r false = leave_region p name m leaving r
 go_on_leaving p name m leaving r true =
     looks (λ w. elim (next_to_finalize w r) [ None ↦ end_of_scope p name m leaving | Some x ↦ finalize p name x ])
 
-abbrev pub end_scope_mark_of : Image → Who → ScopeMark → Leaving → Option RegionNo → Step
+unfoldable pub end_scope_mark_of : Image → Who → ScopeMark → Leaving → Option RegionNo → Step
 end_scope_mark_of p name m leaving None = end_of_scope p name m leaving
 end_scope_mark_of p name m leaving (Some r) = go_on_leaving p name m leaving r m.being_left
 
-abbrev pub end_scope_mark : Image → Who → ScopeMark → Leaving → Step
+unfoldable pub end_scope_mark : Image → Who → ScopeMark → Leaving → Step
 end_scope_mark p name m leaving = end_scope_mark_of p name m leaving m.region
 
 -- ---- abort (9.8): the named tasks and all that depend on them become abnormal
@@ -317,24 +318,24 @@ is_to_abort w aborted t = not t.abnormal && list_any (λ n. same_who (who.Task n
 abbrev pub abnormal_task : world.Task → world.Task
 abnormal_task t = record t { abnormal = true }
 
-abbrev pub says_abort : Who → Who → Step
+unfoldable pub says_abort : Who → Who → Step
 says_abort (who.Task actor) (who.Task t) = says own (line.Abort actor t)
 says_abort (who.Task actor) who.Agent = nothing
 says_abort who.Agent t = nothing
 
 -- a task that is made and not activated terminates at once; another's outermost scope is struck
-abbrev pub abort_one : Image → Who → world.Task → Step
+unfoldable pub abort_one : Image → Who → world.Task → Step
 abort_one p actor t =
     says_abort actor t.who ▷ cond (is_made t) (end_made p actor t) (changes (strike_outermost t.who))
 
-abbrev pub unwind_one : Image → Who → world.Task → Step
+unfoldable pub unwind_one : Image → Who → world.Task → Step
 unwind_one p actor t = unwind p (part_of actor t.who) t.who
 
-abbrev pub abort_all : Image → Who → List world.Task → Step
+unfoldable pub abort_all : Image → Who → List world.Task → Step
 abort_all p actor tasks =
     for_each tasks (λ t. changes (edit_task t.who abnormal_task)) ▷ for_each tasks (abort_one p actor) ▷ for_each tasks (unwind_one p actor)
 
-abbrev pub abort_statement : Image → Who → StatementNo → List DeclNo → Step
+unfoldable pub abort_statement : Image → Who → StatementNo → List DeclNo → Step
 abort_statement p name s tasks =
     sees p name (λ q. raise_if p name (in_protected q.world name) exception.Program
     (given p own name (named_tasks q tasks) (λ aborted. goes name (next_of p s) ▷ looks (λ w. abort_all p name (filter (is_to_abort w aborted) w.tasks)))))
@@ -342,15 +343,15 @@ abort_statement p name s tasks =
 -- ---- what an effect brings about elsewhere
 
 -- a task that has come to its select with an open terminate alternative blocks there
-abbrev pub block_at_terminate : Who → Option Waiting → Step
+unfoldable pub block_at_terminate : Who → Option Waiting → Step
 block_at_terminate name None = nothing
 block_at_terminate name (Some waiting) = when (waits_at_terminate (Some waiting)) (says_block the_block name waiting)
 
 -- tasks at open terminate alternatives that may end become ready, in order of number
-abbrev pub take_terminates : Image → Who → Step
+unfoldable pub take_terminates : Image → Who → Step
 take_terminates p actor =
     looks (λ w. for_each (filter (may_terminate w) w.tasks) (leave_by_terminate p actor)) ▷ looks (λ w. block_at_terminate actor (waiting_of w actor))
 
 -- tasks whose struck constructs may be left now
-abbrev pub unwind_all : Image → Who → Step
+unfoldable pub unwind_all : Image → Who → Step
 unwind_all p actor = looks (λ w. for_each (filter (λ t. any_struck t.frames) w.tasks) (unwind_one p actor))

@@ -72,18 +72,18 @@ may_unwind frames = may_leave_struck frames && not (is_unwinding frames)
 -- ---- unwinding
 
 -- an action that has begun is dropped, and marks are left with Abort from the top
-abbrev pub leave_by_abort : Who → Step
+unfoldable pub leave_by_abort : Who → Step
 leave_by_abort name = changes (edit_task name (with_ticks None)) ▷ leaves name how.Abort
 
 -- a blocked task stops waiting and becomes ready
-abbrev pub stop_waiting : Image → Part → Who → Step
+unfoldable pub stop_waiting : Image → Part → Who → Step
 stop_waiting p part name = changes (drop_delay name) ▷ ready p part name
 
-abbrev pub wake_and_leave : Image → Part → Who → Step
+unfoldable pub wake_and_leave : Image → Part → Who → Step
 wake_and_leave p part name = stop_waiting p part name ▷ leave_by_abort name
 
 -- who waits for a call tries to cancel it, and waits on where that fails
-abbrev pub unwind_blocked : Image → Part → Who → Waiting → Step
+unfoldable pub unwind_blocked : Image → Part → Who → Waiting → Step
 unwind_blocked p part name (waits_for.Call c) = attempt p part c (changes (forget_call c) ▷ wake_and_leave p part name) nothing
 unwind_blocked p part name (waits_for.EndOfCall c) = nothing
 unwind_blocked p part name waits_for.Activation = wake_and_leave p part name
@@ -93,11 +93,11 @@ unwind_blocked p part name (waits_for.Select accepts delay terminate) = wake_and
 unwind_blocked p part name (waits_for.Dependents r) = wake_and_leave p part name
 unwind_blocked p part name waits_for.Release = nothing
 
-abbrev pub unwind_in : Image → Part → Who → State → Step
+unfoldable pub unwind_in : Image → Part → Who → State → Step
 unwind_in p part name Made = nothing
 unwind_in p part name Runnable = leave_by_abort name
 unwind_in p part name (Blocked waiting) = unwind_blocked p part name waiting
 
 -- a task is unwound where its struck construct may be left
-abbrev pub unwind : Image → Part → Who → Step
+unfoldable pub unwind : Image → Part → Who → Step
 unwind p part name = looks (λ w. when (may_unwind (frames_of w name)) (unwind_in p part name (task_of w name).state))

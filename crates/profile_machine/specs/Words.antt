@@ -1,5 +1,5 @@
 -- Small words on numbers, options and lists that the definitions share.
-use Rattle.std.specs.Prelude.{ℕ, zero, suc, max, cond, ℤ, Bool, true, false, not, ◌&&◌, ◌||◌, List, [], ◌∷◌, Option, Some, None, eqb, int_le, filter}
+use Rattle.std.specs.Prelude.{ℕ, zero, suc, max, cond, ℤ, Bool, true, false, not, ◌&&◌, ◌||◌, List, [], ◌∷◌, Option, Some, None, eqb, int_le, filter, find}
 use Rattle.ann_base.specs.declared.identities.TaskNo.{TaskNo}
 use Rattle.ann_base.specs.declared.identities.CallNo.{CallNo}
 use Rattle.ann_base.specs.declared.identities.ObjectNo.{ObjectNo}
@@ -90,10 +90,19 @@ first_of_list (x ∷ xs) = Some x
 abbrev pub without : {X : Type 0} → (X → Bool) → List X → List X
 without test = filter (λ x. not (test x))
 
--- f at the items for which the test holds
+-- x in the place of the first item for which the test holds
+abbrev pub set_where : {X : Type 0} → (X → Bool) → X → List X → List X
+set_where test x [] = []
+set_where test x (y ∷ ys) = cond (test y) (x ∷ ys) (y ∷ set_where test x ys)
+
+-- f at the item that was found
+abbrev pub edit_found : {X : Type 0} → (X → Bool) → (X → X) → List X → Option X → List X
+edit_found test f xs None = xs
+edit_found test f xs (Some x) = set_where test (f x) xs
+
+-- f at the first item for which the test holds
 abbrev pub edit_where : {X : Type 0} → (X → Bool) → (X → X) → List X → List X
-edit_where test f [] = []
-edit_where test f (x ∷ xs) = cond (test x) (f x) x ∷ edit_where test f xs
+edit_where test f xs = edit_found test f xs (find test xs)
 
 -- f at the item with this number, counted from 0
 abbrev pub edit_at : {X : Type 0} → ℕ → (X → X) → List X → List X

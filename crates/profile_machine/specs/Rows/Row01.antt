@@ -11,6 +11,7 @@ use Rattle.profile_machine.specs.declared.statements.StatementForm.TheVariants a
 use Rattle.profile_machine.specs.declared.statements.Piece.TheVariants as piece
 use Rattle.profile_machine.specs.Rows.Notation.{stmt, scope, task, t, statement, scope_text, policies, main_procedure}
 use Rattle.profile_machine.specs.Run.{run_of}
+use Rattle.profile_machine.specs.Computing.{computing}
 use Rattle.std.specs.Fmt.{digits}
 use Rattle.std.specs.Prelude.{Bool}
 use Rattle.profile_machine.specs.WellFormed.{run_is_well_formed}
@@ -60,7 +61,7 @@ row_01_trace =
     ∷ []
 
 pub row_01_runs : row_01_lines ≡ row_01_trace
-unfolding row_01_lines row_01_trace digits
+unfolding row_01_lines row_01_trace digits computing
 row_01_runs = refl
 
 -- whether every world of its run is well formed
@@ -68,7 +69,7 @@ unfoldable pub row_01_worlds : Bool
 row_01_worlds = run_is_well_formed row_01_program row_01_script 10
 
 pub row_01_keeps : row_01_worlds ≡ true
-unfolding row_01_worlds
+unfolding row_01_worlds computing
 row_01_keeps = refl
 
 -- whether each handler is released at its tick
@@ -76,5 +77,5 @@ unfoldable pub row_01_handlers : Bool
 row_01_handlers = releases_ok row_01_program row_01_script 10
 
 pub row_01_releases : row_01_handlers ≡ true
-unfolding row_01_handlers
+unfolding row_01_handlers computing
 row_01_releases = refl

@@ -17,6 +17,7 @@ use Rattle.profile_machine.specs.declared.statements.StatementForm.TheVariants a
 use Rattle.profile_machine.specs.declared.statements.Piece.TheVariants as piece
 use Rattle.profile_machine.specs.Rows.Notation.{decl, expr, stmt, scope, task_unit, task, region, t, declaration, statement, scope_text, task_unit_text, policies, main_procedure}
 use Rattle.profile_machine.specs.Run.{run_of}
+use Rattle.profile_machine.specs.Computing.{computing}
 use Rattle.std.specs.Fmt.{digits}
 use Rattle.std.specs.Prelude.{Bool}
 use Rattle.profile_machine.specs.WellFormed.{run_is_well_formed}
@@ -113,7 +114,7 @@ row_03_trace =
     ∷ []
 
 pub row_03_runs : row_03_lines ≡ row_03_trace
-unfolding row_03_lines row_03_trace digits
+unfolding row_03_lines row_03_trace digits computing
 row_03_runs = refl
 
 -- whether every world of its run is well formed
@@ -121,7 +122,7 @@ unfoldable pub row_03_worlds : Bool
 row_03_worlds = run_is_well_formed row_03_program row_03_script 36
 
 pub row_03_keeps : row_03_worlds ≡ true
-unfolding row_03_worlds
+unfolding row_03_worlds computing
 row_03_keeps = refl
 
 -- whether each handler is released at its tick
@@ -129,5 +130,5 @@ unfoldable pub row_03_handlers : Bool
 row_03_handlers = releases_ok row_03_program row_03_script 36
 
 pub row_03_releases : row_03_handlers ≡ true
-unfolding row_03_handlers
+unfolding row_03_handlers computing
 row_03_releases = refl

@@ -16,6 +16,7 @@ use Rattle.profile_machine.specs.declared.declarations.DeclarationKind.TheVarian
 use Rattle.profile_machine.specs.declared.statements.StatementForm.TheVariants as form
 use Rattle.profile_machine.specs.Rows.Notation.{decl, expr, stmt, scope, task_unit, task, region, t, declaration, statement, scope_text, task_unit_text, policies, main_procedure}
 use Rattle.profile_machine.specs.Run.{run_of}
+use Rattle.profile_machine.specs.Computing.{computing}
 use Rattle.std.specs.Fmt.{digits}
 use Rattle.std.specs.Prelude.{Bool}
 use Rattle.profile_machine.specs.WellFormed.{run_is_well_formed}
@@ -88,7 +89,7 @@ row_04_trace =
     ∷ []
 
 pub row_04_runs : row_04_lines ≡ row_04_trace
-unfolding row_04_lines row_04_trace digits
+unfolding row_04_lines row_04_trace digits computing
 row_04_runs = refl
 
 -- whether every world of its run is well formed
@@ -96,7 +97,7 @@ unfoldable pub row_04_worlds : Bool
 row_04_worlds = run_is_well_formed row_04_program row_04_script 15
 
 pub row_04_keeps : row_04_worlds ≡ true
-unfolding row_04_worlds
+unfolding row_04_worlds computing
 row_04_keeps = refl
 
 -- whether each handler is released at its tick
@@ -104,5 +105,5 @@ unfoldable pub row_04_handlers : Bool
 row_04_handlers = releases_ok row_04_program row_04_script 15
 
 pub row_04_releases : row_04_handlers ≡ true
-unfolding row_04_handlers
+unfolding row_04_handlers computing
 row_04_releases = refl

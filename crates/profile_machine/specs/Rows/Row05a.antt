@@ -14,6 +14,7 @@ use Rattle.profile_machine.specs.declared.statements.Callee.TheVariants as calle
 use Rattle.profile_machine.specs.declared.statements.Destination.TheVariants as destination
 use Rattle.profile_machine.specs.Rows.Notation.{decl, stmt, scope, subprogram, protected_unit, task, p, t, declaration, statement, scope_text, subprogram_text, protected_unit_text, policies, main_procedure}
 use Rattle.profile_machine.specs.Run.{run_of}
+use Rattle.profile_machine.specs.Computing.{computing}
 use Rattle.std.specs.Fmt.{digits}
 use Rattle.std.specs.Prelude.{Bool}
 use Rattle.profile_machine.specs.WellFormed.{run_is_well_formed}
@@ -72,7 +73,7 @@ row_05a_trace =
     ∷ []
 
 pub row_05a_runs : row_05a_lines ≡ row_05a_trace
-unfolding row_05a_lines row_05a_trace digits
+unfolding row_05a_lines row_05a_trace digits computing
 row_05a_runs = refl
 
 -- whether every world of its run is well formed
@@ -80,7 +81,7 @@ unfoldable pub row_05a_worlds : Bool
 row_05a_worlds = run_is_well_formed row_05a_program row_05a_script 8
 
 pub row_05a_keeps : row_05a_worlds ≡ true
-unfolding row_05a_worlds
+unfolding row_05a_worlds computing
 row_05a_keeps = refl
 
 -- whether each handler is released at its tick
@@ -88,5 +89,5 @@ unfoldable pub row_05a_handlers : Bool
 row_05a_handlers = releases_ok row_05a_program row_05a_script 8
 
 pub row_05a_releases : row_05a_handlers ≡ true
-unfolding row_05a_handlers
+unfolding row_05a_handlers computing
 row_05a_releases = refl

@@ -15,6 +15,7 @@ use Rattle.profile_machine.specs.declared.statements.Callee.TheVariants as calle
 use Rattle.profile_machine.specs.declared.statements.Destination.TheVariants as destination
 use Rattle.profile_machine.specs.Rows.Notation.{decl, stmt, scope, subprogram, protected_unit, task, p, t, declaration, statement, scope_text, subprogram_text, protected_unit_text, policies, main_procedure}
 use Rattle.profile_machine.specs.Run.{run_of}
+use Rattle.profile_machine.specs.Computing.{computing}
 use Rattle.std.specs.Fmt.{digits}
 use Rattle.std.specs.Prelude.{Bool}
 use Rattle.profile_machine.specs.WellFormed.{run_is_well_formed}
@@ -76,7 +77,7 @@ row_05b_trace =
     ∷ []
 
 pub row_05b_runs : row_05b_lines ≡ row_05b_trace
-unfolding row_05b_lines row_05b_trace digits
+unfolding row_05b_lines row_05b_trace digits computing
 row_05b_runs = refl
 
 -- whether every world of its run is well formed
@@ -84,7 +85,7 @@ unfoldable pub row_05b_worlds : Bool
 row_05b_worlds = run_is_well_formed row_05b_program row_05b_script 11
 
 pub row_05b_keeps : row_05b_worlds ≡ true
-unfolding row_05b_worlds
+unfolding row_05b_worlds computing
 row_05b_keeps = refl
 
 -- whether each handler is released at its tick
@@ -92,5 +93,5 @@ unfoldable pub row_05b_handlers : Bool
 row_05b_handlers = releases_ok row_05b_program row_05b_script 11
 
 pub row_05b_releases : row_05b_handlers ≡ true
-unfolding row_05b_handlers
+unfolding row_05b_handlers computing
 row_05b_releases = refl

@@ -15,6 +15,7 @@ use Rattle.profile_machine.specs.declared.statements.Callee.TheVariants as calle
 use Rattle.profile_machine.specs.declared.statements.Destination.TheVariants as destination
 use Rattle.profile_machine.specs.Rows.Notation.{decl, stmt, scope, subprogram, protected_unit, task, p, t, declaration, statement, scope_text, subprogram_text, protected_unit_text, policies, main_procedure}
 use Rattle.profile_machine.specs.Run.{run_of}
+use Rattle.profile_machine.specs.Computing.{computing}
 use Rattle.std.specs.Fmt.{digits}
 use Rattle.std.specs.Prelude.{Bool}
 use Rattle.profile_machine.specs.WellFormed.{run_is_well_formed}
@@ -74,7 +75,7 @@ row_05c_trace =
     ∷ []
 
 pub row_05c_runs : row_05c_lines ≡ row_05c_trace
-unfolding row_05c_lines row_05c_trace digits
+unfolding row_05c_lines row_05c_trace digits computing
 row_05c_runs = refl
 
 -- whether every world of its run is well formed
@@ -82,7 +83,7 @@ unfoldable pub row_05c_worlds : Bool
 row_05c_worlds = run_is_well_formed row_05c_program row_05c_script 11
 
 pub row_05c_keeps : row_05c_worlds ≡ true
-unfolding row_05c_worlds
+unfolding row_05c_worlds computing
 row_05c_keeps = refl
 
 -- whether each handler is released at its tick
@@ -90,5 +91,5 @@ unfoldable pub row_05c_handlers : Bool
 row_05c_handlers = releases_ok row_05c_program row_05c_script 11
 
 pub row_05c_releases : row_05c_handlers ≡ true
-unfolding row_05c_handlers
+unfolding row_05c_handlers computing
 row_05c_releases = refl

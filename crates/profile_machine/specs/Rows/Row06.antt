@@ -22,6 +22,7 @@ use Rattle.profile_machine.specs.declared.statements.Destination.TheVariants as 
 use Rattle.profile_machine.specs.declared.statements.EntryOwner.TheVariants as owner
 use Rattle.profile_machine.specs.Rows.Notation.{decl, expr, stmt, scope, subprogram, task_unit, protected_unit, entry, task, call, p, region, t, of_task, declaration, statement, scope_text, subprogram_text, task_unit_text, protected_unit_text, entry_text, policies, main_procedure}
 use Rattle.profile_machine.specs.Run.{run_of}
+use Rattle.profile_machine.specs.Computing.{computing}
 use Rattle.std.specs.Fmt.{digits}
 use Rattle.std.specs.Prelude.{Bool}
 use Rattle.profile_machine.specs.WellFormed.{run_is_well_formed}
@@ -154,7 +155,7 @@ row_06_trace =
     ∷ []
 
 pub row_06_runs : row_06_lines ≡ row_06_trace
-unfolding row_06_lines row_06_trace digits
+unfolding row_06_lines row_06_trace digits computing
 row_06_runs = refl
 
 -- whether every world of its run is well formed
@@ -162,7 +163,7 @@ unfoldable pub row_06_worlds : Bool
 row_06_worlds = run_is_well_formed row_06_program row_06_script 45
 
 pub row_06_keeps : row_06_worlds ≡ true
-unfolding row_06_worlds
+unfolding row_06_worlds computing
 row_06_keeps = refl
 
 -- whether each handler is released at its tick
@@ -170,5 +171,5 @@ unfoldable pub row_06_handlers : Bool
 row_06_handlers = releases_ok row_06_program row_06_script 45
 
 pub row_06_releases : row_06_handlers ≡ true
-unfolding row_06_handlers
+unfolding row_06_handlers computing
 row_06_releases = refl

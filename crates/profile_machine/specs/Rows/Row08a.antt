@@ -20,6 +20,7 @@ use Rattle.profile_machine.specs.declared.statements.EntryOwner.TheVariants as o
 use Rattle.profile_machine.specs.declared.statements.Piece.TheVariants as piece
 use Rattle.profile_machine.specs.Rows.Notation.{decl, expr, stmt, scope, task_unit, entry, task, call, region, t, of_task, declaration, statement, scope_text, task_unit_text, entry_text, policies, main_procedure}
 use Rattle.profile_machine.specs.Run.{run_of}
+use Rattle.profile_machine.specs.Computing.{computing}
 use Rattle.std.specs.Fmt.{digits}
 use Rattle.std.specs.Prelude.{Bool}
 use Rattle.profile_machine.specs.WellFormed.{run_is_well_formed}
@@ -110,7 +111,7 @@ row_08a_trace =
     ∷ []
 
 pub row_08a_runs : row_08a_lines ≡ row_08a_trace
-unfolding row_08a_lines row_08a_trace digits
+unfolding row_08a_lines row_08a_trace digits computing
 row_08a_runs = refl
 
 -- whether every world of its run is well formed
@@ -118,7 +119,7 @@ unfoldable pub row_08a_worlds : Bool
 row_08a_worlds = run_is_well_formed row_08a_program row_08a_script 22
 
 pub row_08a_keeps : row_08a_worlds ≡ true
-unfolding row_08a_worlds
+unfolding row_08a_worlds computing
 row_08a_keeps = refl
 
 -- whether each handler is released at its tick
@@ -126,5 +127,5 @@ unfoldable pub row_08a_handlers : Bool
 row_08a_handlers = releases_ok row_08a_program row_08a_script 22
 
 pub row_08a_releases : row_08a_handlers ≡ true
-unfolding row_08a_handlers
+unfolding row_08a_handlers computing
 row_08a_releases = refl

@@ -19,6 +19,7 @@ use Rattle.profile_machine.specs.declared.statements.EntryOwner.TheVariants as o
 use Rattle.profile_machine.specs.declared.statements.Piece.TheVariants as piece
 use Rattle.profile_machine.specs.Rows.Notation.{decl, expr, stmt, scope, task_unit, entry, task, call, region, t, of_task, declaration, statement, scope_text, task_unit_text, entry_text, policies, main_procedure}
 use Rattle.profile_machine.specs.Run.{run_of}
+use Rattle.profile_machine.specs.Computing.{computing}
 use Rattle.std.specs.Fmt.{digits}
 use Rattle.std.specs.Prelude.{Bool}
 use Rattle.profile_machine.specs.WellFormed.{run_is_well_formed}
@@ -102,7 +103,7 @@ row_08b_trace =
     ∷ []
 
 pub row_08b_runs : row_08b_lines ≡ row_08b_trace
-unfolding row_08b_lines row_08b_trace digits
+unfolding row_08b_lines row_08b_trace digits computing
 row_08b_runs = refl
 
 -- whether every world of its run is well formed
@@ -110,7 +111,7 @@ unfoldable pub row_08b_worlds : Bool
 row_08b_worlds = run_is_well_formed row_08b_program row_08b_script 18
 
 pub row_08b_keeps : row_08b_worlds ≡ true
-unfolding row_08b_worlds
+unfolding row_08b_worlds computing
 row_08b_keeps = refl
 
 -- whether each handler is released at its tick
@@ -118,5 +119,5 @@ unfoldable pub row_08b_handlers : Bool
 row_08b_handlers = releases_ok row_08b_program row_08b_script 18
 
 pub row_08b_releases : row_08b_handlers ≡ true
-unfolding row_08b_handlers
+unfolding row_08b_handlers computing
 row_08b_releases = refl

@@ -20,6 +20,7 @@ use Rattle.profile_machine.specs.declared.statements.StatementForm.TheVariants a
 use Rattle.profile_machine.specs.declared.statements.Piece.TheVariants as piece
 use Rattle.profile_machine.specs.Rows.Notation.{decl, expr, stmt, scope, task_unit, task, region, t, declaration, statement, handler, cell_run, scope_text, task_unit_text, policies, main_procedure}
 use Rattle.profile_machine.specs.Run.{run_of}
+use Rattle.profile_machine.specs.Computing.{computing}
 use Rattle.std.specs.Fmt.{digits}
 use Rattle.std.specs.Prelude.{Bool}
 use Rattle.profile_machine.specs.WellFormed.{run_is_well_formed}
@@ -104,7 +105,7 @@ row_09b_trace =
     ∷ []
 
 pub row_09b_runs : row_09b_lines ≡ row_09b_trace
-unfolding row_09b_lines row_09b_trace digits
+unfolding row_09b_lines row_09b_trace digits computing
 row_09b_runs = refl
 
 -- whether every world of its run is well formed
@@ -112,7 +113,7 @@ unfoldable pub row_09b_worlds : Bool
 row_09b_worlds = run_is_well_formed row_09b_program row_09b_script 22
 
 pub row_09b_keeps : row_09b_worlds ≡ true
-unfolding row_09b_worlds
+unfolding row_09b_worlds computing
 row_09b_keeps = refl
 
 -- whether each handler is released at its tick
@@ -120,5 +121,5 @@ unfoldable pub row_09b_handlers : Bool
 row_09b_handlers = releases_ok row_09b_program row_09b_script 22
 
 pub row_09b_releases : row_09b_handlers ≡ true
-unfolding row_09b_handlers
+unfolding row_09b_handlers computing
 row_09b_releases = refl

@@ -16,6 +16,7 @@ use Rattle.profile_machine.specs.declared.statements.StatementForm.TheVariants a
 use Rattle.profile_machine.specs.declared.statements.SelectKind.TheVariants as select
 use Rattle.profile_machine.specs.Rows.Notation.{decl, stmt, scope, task_unit, entry, task, region, t, declaration, statement, select_alternative, scope_text, task_unit_text, entry_text, policies, main_procedure}
 use Rattle.profile_machine.specs.Run.{run_of}
+use Rattle.profile_machine.specs.Computing.{computing}
 use Rattle.std.specs.Fmt.{digits}
 use Rattle.std.specs.Prelude.{Bool}
 use Rattle.profile_machine.specs.WellFormed.{run_is_well_formed}
@@ -91,7 +92,7 @@ row_10_trace =
     ∷ []
 
 pub row_10_runs : row_10_lines ≡ row_10_trace
-unfolding row_10_lines row_10_trace digits
+unfolding row_10_lines row_10_trace digits computing
 row_10_runs = refl
 
 -- whether every world of its run is well formed
@@ -99,7 +100,7 @@ unfoldable pub row_10_worlds : Bool
 row_10_worlds = run_is_well_formed row_10_program row_10_script 17
 
 pub row_10_keeps : row_10_worlds ≡ true
-unfolding row_10_worlds
+unfolding row_10_worlds computing
 row_10_keeps = refl
 
 -- whether each handler is released at its tick
@@ -107,5 +108,5 @@ unfoldable pub row_10_handlers : Bool
 row_10_handlers = releases_ok row_10_program row_10_script 17
 
 pub row_10_releases : row_10_handlers ≡ true
-unfolding row_10_handlers
+unfolding row_10_handlers computing
 row_10_releases = refl

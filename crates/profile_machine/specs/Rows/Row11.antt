@@ -16,6 +16,7 @@ use Rattle.profile_machine.specs.declared.statements.StatementForm.TheVariants a
 use Rattle.profile_machine.specs.declared.statements.Piece.TheVariants as piece
 use Rattle.profile_machine.specs.Rows.Notation.{decl, expr, stmt, scope, subprogram, controlled_type, task, region, t, declaration, statement, scope_text, formal, subprogram_text, controlled_text, policies, main_procedure}
 use Rattle.profile_machine.specs.Run.{run_of}
+use Rattle.profile_machine.specs.Computing.{computing}
 use Rattle.std.specs.Fmt.{digits}
 use Rattle.std.specs.Prelude.{Bool}
 use Rattle.profile_machine.specs.WellFormed.{run_is_well_formed}
@@ -97,7 +98,7 @@ row_11_trace =
     ∷ []
 
 pub row_11_runs : row_11_lines ≡ row_11_trace
-unfolding row_11_lines row_11_trace digits
+unfolding row_11_lines row_11_trace digits computing
 row_11_runs = refl
 
 -- whether every world of its run is well formed
@@ -105,7 +106,7 @@ unfoldable pub row_11_worlds : Bool
 row_11_worlds = run_is_well_formed row_11_program row_11_script 35
 
 pub row_11_keeps : row_11_worlds ≡ true
-unfolding row_11_worlds
+unfolding row_11_worlds computing
 row_11_keeps = refl
 
 -- whether each handler is released at its tick
@@ -113,5 +114,5 @@ unfoldable pub row_11_handlers : Bool
 row_11_handlers = releases_ok row_11_program row_11_script 35
 
 pub row_11_releases : row_11_handlers ≡ true
-unfolding row_11_handlers
+unfolding row_11_handlers computing
 row_11_releases = refl

@@ -16,6 +16,7 @@ use Rattle.profile_machine.specs.declared.declarations.DeclarationKind.TheVarian
 use Rattle.profile_machine.specs.declared.statements.StatementForm.TheVariants as form
 use Rattle.profile_machine.specs.Rows.Notation.{decl, expr, stmt, scope, subprogram, task_unit, controlled_type, task, region, t, declaration, statement, scope_text, formal, subprogram_text, task_unit_text, controlled_text, policies, main_procedure}
 use Rattle.profile_machine.specs.Run.{run_of}
+use Rattle.profile_machine.specs.Computing.{computing}
 use Rattle.std.specs.Fmt.{digits}
 use Rattle.std.specs.Prelude.{Bool}
 use Rattle.profile_machine.specs.WellFormed.{run_is_well_formed}
@@ -115,7 +116,7 @@ row_12_trace =
     ∷ []
 
 pub row_12_runs : row_12_lines ≡ row_12_trace
-unfolding row_12_lines row_12_trace digits
+unfolding row_12_lines row_12_trace digits computing
 row_12_runs = refl
 
 -- whether every world of its run is well formed
@@ -123,7 +124,7 @@ unfoldable pub row_12_worlds : Bool
 row_12_worlds = run_is_well_formed row_12_program row_12_script 38
 
 pub row_12_keeps : row_12_worlds ≡ true
-unfolding row_12_worlds
+unfolding row_12_worlds computing
 row_12_keeps = refl
 
 -- whether each handler is released at its tick
@@ -131,5 +132,5 @@ unfoldable pub row_12_handlers : Bool
 row_12_handlers = releases_ok row_12_program row_12_script 38
 
 pub row_12_releases : row_12_handlers ≡ true
-unfolding row_12_handlers
+unfolding row_12_handlers computing
 row_12_releases = refl

@@ -20,6 +20,7 @@ use Rattle.profile_machine.specs.declared.statements.Destination.TheVariants as 
 use Rattle.profile_machine.specs.declared.statements.Piece.TheVariants as piece
 use Rattle.profile_machine.specs.Rows.Notation.{decl, expr, stmt, scope, subprogram, task_unit, protected_unit, task, p, region, t, declaration, statement, scope_text, subprogram_text, task_unit_text, protected_unit_text, policies, main_procedure}
 use Rattle.profile_machine.specs.Run.{run_of}
+use Rattle.profile_machine.specs.Computing.{computing}
 use Rattle.std.specs.Fmt.{digits}
 use Rattle.std.specs.Prelude.{Bool}
 use Rattle.profile_machine.specs.WellFormed.{run_is_well_formed}
@@ -114,7 +115,7 @@ row_13_trace =
     ∷ []
 
 pub row_13_runs : row_13_lines ≡ row_13_trace
-unfolding row_13_lines row_13_trace digits
+unfolding row_13_lines row_13_trace digits computing
 row_13_runs = refl
 
 -- whether every world of its run is well formed
@@ -122,7 +123,7 @@ unfoldable pub row_13_worlds : Bool
 row_13_worlds = run_is_well_formed row_13_program row_13_script 24
 
 pub row_13_keeps : row_13_worlds ≡ true
-unfolding row_13_worlds
+unfolding row_13_worlds computing
 row_13_keeps = refl
 
 -- whether each handler is released at its tick
@@ -130,5 +131,5 @@ unfoldable pub row_13_handlers : Bool
 row_13_handlers = releases_ok row_13_program row_13_script 24
 
 pub row_13_releases : row_13_handlers ≡ true
-unfolding row_13_handlers
+unfolding row_13_handlers computing
 row_13_releases = refl

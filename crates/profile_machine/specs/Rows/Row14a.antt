@@ -15,6 +15,7 @@ use Rattle.profile_machine.specs.declared.declarations.EntryUnit.TheVariants as 
 use Rattle.profile_machine.specs.declared.statements.StatementForm.TheVariants as form
 use Rattle.profile_machine.specs.Rows.Notation.{decl, stmt, scope, task_unit, entry, task, region, t, declaration, statement, scope_text, task_unit_text, entry_text, policies, main_procedure}
 use Rattle.profile_machine.specs.Run.{run_of}
+use Rattle.profile_machine.specs.Computing.{computing}
 use Rattle.std.specs.Fmt.{digits}
 use Rattle.std.specs.Prelude.{Bool}
 use Rattle.profile_machine.specs.WellFormed.{run_is_well_formed}
@@ -82,7 +83,7 @@ row_14a_trace =
     ∷ []
 
 pub row_14a_runs : row_14a_lines ≡ row_14a_trace
-unfolding row_14a_lines row_14a_trace digits
+unfolding row_14a_lines row_14a_trace digits computing
 row_14a_runs = refl
 
 -- whether every world of its run is well formed
@@ -90,7 +91,7 @@ unfoldable pub row_14a_worlds : Bool
 row_14a_worlds = run_is_well_formed row_14a_program row_14a_script 12
 
 pub row_14a_keeps : row_14a_worlds ≡ true
-unfolding row_14a_worlds
+unfolding row_14a_worlds computing
 row_14a_keeps = refl
 
 -- whether each handler is released at its tick
@@ -98,5 +99,5 @@ unfoldable pub row_14a_handlers : Bool
 row_14a_handlers = releases_ok row_14a_program row_14a_script 12
 
 pub row_14a_releases : row_14a_handlers ≡ true
-unfolding row_14a_handlers
+unfolding row_14a_handlers computing
 row_14a_releases = refl

@@ -16,6 +16,7 @@ use Rattle.profile_machine.specs.declared.declarations.EntryUnit.TheVariants as 
 use Rattle.profile_machine.specs.declared.statements.StatementForm.TheVariants as form
 use Rattle.profile_machine.specs.Rows.Notation.{decl, stmt, scope, task_unit, entry, task, region, t, declaration, statement, scope_text, task_unit_text, entry_text, policies, main_procedure}
 use Rattle.profile_machine.specs.Run.{run_of}
+use Rattle.profile_machine.specs.Computing.{computing}
 use Rattle.std.specs.Fmt.{digits}
 
 -- Row 14b: its run stops before tick 501, so every greater bound gives the same trace.
@@ -84,5 +85,5 @@ row_14b_trace =
     ∷ []
 
 pub row_14b_runs : row_14b_lines ≡ row_14b_trace
-unfolding row_14b_lines row_14b_trace digits
+unfolding row_14b_lines row_14b_trace digits computing
 row_14b_runs = refl

@@ -11,6 +11,7 @@ use Rattle.profile_machine.specs.declared.statements.StatementForm.TheVariants a
 use Rattle.profile_machine.specs.declared.statements.Piece.TheVariants as piece
 use Rattle.profile_machine.specs.Rows.Notation.{stmt, scope, task, t, statement, scope_text, policies, main_procedure}
 use Rattle.profile_machine.specs.Run.{run_of}
+use Rattle.profile_machine.specs.Computing.{computing}
 use Rattle.std.specs.Fmt.{digits}
 use Rattle.std.specs.Prelude.{Bool}
 use Rattle.profile_machine.specs.WellFormed.{run_is_well_formed}
@@ -58,7 +59,7 @@ row_15a_trace =
     ∷ []
 
 pub row_15a_runs : row_15a_lines ≡ row_15a_trace
-unfolding row_15a_lines row_15a_trace digits
+unfolding row_15a_lines row_15a_trace digits computing
 row_15a_runs = refl
 
 -- whether every world of its run is well formed
@@ -66,7 +67,7 @@ unfoldable pub row_15a_worlds : Bool
 row_15a_worlds = run_is_well_formed row_15a_program row_15a_script 1
 
 pub row_15a_keeps : row_15a_worlds ≡ true
-unfolding row_15a_worlds
+unfolding row_15a_worlds computing
 row_15a_keeps = refl
 
 -- whether each handler is released at its tick
@@ -74,5 +75,5 @@ unfoldable pub row_15a_handlers : Bool
 row_15a_handlers = releases_ok row_15a_program row_15a_script 1
 
 pub row_15a_releases : row_15a_handlers ≡ true
-unfolding row_15a_handlers
+unfolding row_15a_handlers computing
 row_15a_releases = refl

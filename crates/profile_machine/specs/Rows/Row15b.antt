@@ -11,6 +11,7 @@ use Rattle.profile_machine.specs.declared.statements.StatementForm.TheVariants a
 use Rattle.profile_machine.specs.declared.statements.Piece.TheVariants as piece
 use Rattle.profile_machine.specs.Rows.Notation.{stmt, scope, task, t, statement, scope_text, policies, main_procedure}
 use Rattle.profile_machine.specs.Run.{run_of}
+use Rattle.profile_machine.specs.Computing.{computing}
 use Rattle.std.specs.Fmt.{digits}
 use Rattle.std.specs.Prelude.{Bool}
 use Rattle.profile_machine.specs.WellFormed.{run_is_well_formed}
@@ -59,7 +60,7 @@ row_15b_trace =
     ∷ []
 
 pub row_15b_runs : row_15b_lines ≡ row_15b_trace
-unfolding row_15b_lines row_15b_trace digits
+unfolding row_15b_lines row_15b_trace digits computing
 row_15b_runs = refl
 
 -- whether every world of its run is well formed
@@ -67,7 +68,7 @@ unfoldable pub row_15b_worlds : Bool
 row_15b_worlds = run_is_well_formed row_15b_program row_15b_script 8
 
 pub row_15b_keeps : row_15b_worlds ≡ true
-unfolding row_15b_worlds
+unfolding row_15b_worlds computing
 row_15b_keeps = refl
 
 -- whether each handler is released at its tick
@@ -75,5 +76,5 @@ unfoldable pub row_15b_handlers : Bool
 row_15b_handlers = releases_ok row_15b_program row_15b_script 8
 
 pub row_15b_releases : row_15b_handlers ≡ true
-unfolding row_15b_handlers
+unfolding row_15b_handlers computing
 row_15b_releases = refl

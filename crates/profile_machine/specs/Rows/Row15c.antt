@@ -11,6 +11,7 @@ use Rattle.profile_machine.specs.declared.statements.StatementForm.TheVariants a
 use Rattle.profile_machine.specs.declared.statements.Piece.TheVariants as piece
 use Rattle.profile_machine.specs.Rows.Notation.{stmt, scope, task, t, statement, scope_text, policies, main_procedure}
 use Rattle.profile_machine.specs.Run.{run_of}
+use Rattle.profile_machine.specs.Computing.{computing}
 use Rattle.std.specs.Fmt.{digits}
 use Rattle.std.specs.Prelude.{Bool}
 use Rattle.profile_machine.specs.WellFormed.{run_is_well_formed}
@@ -60,7 +61,7 @@ row_15c_trace =
     ∷ []
 
 pub row_15c_runs : row_15c_lines ≡ row_15c_trace
-unfolding row_15c_lines row_15c_trace digits
+unfolding row_15c_lines row_15c_trace digits computing
 row_15c_runs = refl
 
 -- whether every world of its run is well formed
@@ -68,7 +69,7 @@ unfoldable pub row_15c_worlds : Bool
 row_15c_worlds = run_is_well_formed row_15c_program row_15c_script 9
 
 pub row_15c_keeps : row_15c_worlds ≡ true
-unfolding row_15c_worlds
+unfolding row_15c_worlds computing
 row_15c_keeps = refl
 
 -- whether each handler is released at its tick
@@ -76,5 +77,5 @@ unfoldable pub row_15c_handlers : Bool
 row_15c_handlers = releases_ok row_15c_program row_15c_script 9
 
 pub row_15c_releases : row_15c_handlers ≡ true
-unfolding row_15c_handlers
+unfolding row_15c_handlers computing
 row_15c_releases = refl

@@ -15,6 +15,7 @@ use Rattle.profile_machine.specs.declared.expressions.Expression.TheVariants.{Kn
 use Rattle.profile_machine.specs.declared.statements.StatementForm.TheVariants as form
 use Rattle.profile_machine.specs.Rows.Notation.{expr, stmt, scope, task, t, statement, scope_text, policies, main_procedure}
 use Rattle.profile_machine.specs.Run.{run_of}
+use Rattle.profile_machine.specs.Computing.{computing}
 use Rattle.std.specs.Fmt.{digits}
 use Rattle.std.specs.Prelude.{Bool}
 use Rattle.profile_machine.specs.WellFormed.{run_is_well_formed}
@@ -68,7 +69,7 @@ row_15d_trace =
     ∷ []
 
 pub row_15d_runs : row_15d_lines ≡ row_15d_trace
-unfolding row_15d_lines row_15d_trace digits
+unfolding row_15d_lines row_15d_trace digits computing
 row_15d_runs = refl
 
 -- whether every world of its run is well formed
@@ -76,7 +77,7 @@ unfoldable pub row_15d_worlds : Bool
 row_15d_worlds = run_is_well_formed row_15d_program row_15d_script 50
 
 pub row_15d_keeps : row_15d_worlds ≡ true
-unfolding row_15d_worlds
+unfolding row_15d_worlds computing
 row_15d_keeps = refl
 
 -- whether each handler is released at its tick
@@ -84,5 +85,5 @@ unfoldable pub row_15d_handlers : Bool
 row_15d_handlers = releases_ok row_15d_program row_15d_script 50
 
 pub row_15d_releases : row_15d_handlers ≡ true
-unfolding row_15d_handlers
+unfolding row_15d_handlers computing
 row_15d_releases = refl

@@ -21,6 +21,7 @@ use Rattle.profile_machine.specs.declared.statements.Piece.TheVariants as piece
 use Rattle.profile_machine.specs.declared.statements.Setting.TheVariants as setting
 use Rattle.profile_machine.specs.Rows.Notation.{decl, expr, stmt, scope, subprogram, protected_unit, task, p, t, agent, declaration, variable, statement, handler_name, cell_run, scope_text, formal, subprogram_text, protected_unit_text, policies, main_procedure}
 use Rattle.profile_machine.specs.Run.{run_of}
+use Rattle.profile_machine.specs.Computing.{computing}
 use Rattle.std.specs.Fmt.{digits}
 use Rattle.std.specs.Prelude.{Bool}
 use Rattle.profile_machine.specs.WellFormed.{run_is_well_formed}
@@ -114,7 +115,7 @@ row_16_trace =
     ∷ []
 
 pub row_16_runs : row_16_lines ≡ row_16_trace
-unfolding row_16_lines row_16_trace digits
+unfolding row_16_lines row_16_trace digits computing
 row_16_runs = refl
 
 -- whether every world of its run is well formed
@@ -122,7 +123,7 @@ unfoldable pub row_16_worlds : Bool
 row_16_worlds = run_is_well_formed row_16_program row_16_script 32
 
 pub row_16_keeps : row_16_worlds ≡ true
-unfolding row_16_worlds
+unfolding row_16_worlds computing
 row_16_keeps = refl
 
 -- whether each handler is released at its tick
@@ -130,5 +131,5 @@ unfoldable pub row_16_handlers : Bool
 row_16_handlers = releases_ok row_16_program row_16_script 32
 
 pub row_16_releases : row_16_handlers ≡ true
-unfolding row_16_handlers
+unfolding row_16_handlers computing
 row_16_releases = refl

@@ -12,6 +12,7 @@ use Rattle.profile_machine.specs.declared.statements.Callee.TheVariants as calle
 use Rattle.profile_machine.specs.declared.statements.Destination.TheVariants as destination
 use Rattle.profile_machine.specs.Rows.Notation.{stmt, scope, subprogram, task, t, statement, scope_text, subprogram_text, policies, main_procedure}
 use Rattle.profile_machine.specs.Run.{run_of}
+use Rattle.profile_machine.specs.Computing.{computing}
 use Rattle.std.specs.Fmt.{digits}
 
 -- Row 19: its run stops before tick 3001, so every greater bound gives the same trace.
@@ -61,5 +62,5 @@ row_19_trace =
     ∷ []
 
 pub row_19_runs : row_19_lines ≡ row_19_trace
-unfolding row_19_lines row_19_trace digits
+unfolding row_19_lines row_19_trace digits computing
 row_19_runs = refl

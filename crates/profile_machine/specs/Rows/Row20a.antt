@@ -17,6 +17,7 @@ use Rattle.profile_machine.specs.declared.declarations.Initial.TheVariants as in
 use Rattle.profile_machine.specs.declared.statements.StatementForm.TheVariants as form
 use Rattle.profile_machine.specs.Rows.Notation.{decl, expr, stmt, scope, task, t, declaration, variable, statement, scope_text, policies, main_procedure}
 use Rattle.profile_machine.specs.Run.{run_of}
+use Rattle.profile_machine.specs.Computing.{computing}
 use Rattle.std.specs.Fmt.{digits}
 use Rattle.std.specs.Prelude.{Bool}
 use Rattle.profile_machine.specs.WellFormed.{run_is_well_formed}
@@ -73,7 +74,7 @@ row_20a_trace =
     ∷ []
 
 pub row_20a_runs : row_20a_lines ≡ row_20a_trace
-unfolding row_20a_lines row_20a_trace digits
+unfolding row_20a_lines row_20a_trace digits computing
 row_20a_runs = refl
 
 -- whether every world of its run is well formed
@@ -81,7 +82,7 @@ unfoldable pub row_20a_worlds : Bool
 row_20a_worlds = run_is_well_formed row_20a_program row_20a_script 8
 
 pub row_20a_keeps : row_20a_worlds ≡ true
-unfolding row_20a_worlds
+unfolding row_20a_worlds computing
 row_20a_keeps = refl
 
 -- whether each handler is released at its tick
@@ -89,5 +90,5 @@ unfoldable pub row_20a_handlers : Bool
 row_20a_handlers = releases_ok row_20a_program row_20a_script 8
 
 pub row_20a_releases : row_20a_handlers ≡ true
-unfolding row_20a_handlers
+unfolding row_20a_handlers computing
 row_20a_releases = refl

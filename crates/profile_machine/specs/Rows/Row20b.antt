@@ -14,6 +14,7 @@ use Rattle.profile_machine.specs.declared.statements.StatementForm.TheVariants a
 use Rattle.profile_machine.specs.declared.statements.Piece.TheVariants as piece
 use Rattle.profile_machine.specs.Rows.Notation.{expr, stmt, scope, task, t, statement, scope_text, policies, main_procedure}
 use Rattle.profile_machine.specs.Run.{run_of}
+use Rattle.profile_machine.specs.Computing.{computing}
 use Rattle.std.specs.Fmt.{digits}
 use Rattle.std.specs.Prelude.{Bool}
 use Rattle.profile_machine.specs.WellFormed.{run_is_well_formed}
@@ -64,7 +65,7 @@ row_20b_trace =
     ∷ []
 
 pub row_20b_runs : row_20b_lines ≡ row_20b_trace
-unfolding row_20b_lines row_20b_trace digits
+unfolding row_20b_lines row_20b_trace digits computing
 row_20b_runs = refl
 
 -- whether every world of its run is well formed
@@ -72,7 +73,7 @@ unfoldable pub row_20b_worlds : Bool
 row_20b_worlds = run_is_well_formed row_20b_program row_20b_script 10
 
 pub row_20b_keeps : row_20b_worlds ≡ true
-unfolding row_20b_worlds
+unfolding row_20b_worlds computing
 row_20b_keeps = refl
 
 -- whether each handler is released at its tick
@@ -80,5 +81,5 @@ unfoldable pub row_20b_handlers : Bool
 row_20b_handlers = releases_ok row_20b_program row_20b_script 10
 
 pub row_20b_releases : row_20b_handlers ≡ true
-unfolding row_20b_handlers
+unfolding row_20b_handlers computing
 row_20b_releases = refl

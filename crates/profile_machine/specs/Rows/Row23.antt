@@ -28,6 +28,7 @@ use Rattle.profile_machine.specs.declared.statements.EntryOwner.TheVariants as o
 use Rattle.profile_machine.specs.declared.statements.Setting.TheVariants as setting
 use Rattle.profile_machine.specs.Rows.Notation.{decl, expr, stmt, scope, subprogram, task_unit, protected_unit, entry, task, call, p, region, t, of_object, declaration, variable, statement, handler_name, cell_run, scope_text, formal, subprogram_text, task_unit_text, attachment, protected_unit_text, entry_body, entry_text, policies, main_procedure}
 use Rattle.profile_machine.specs.Run.{run_of}
+use Rattle.profile_machine.specs.Computing.{computing}
 use Rattle.std.specs.Fmt.{digits}
 
 -- Row 23: its run up to tick 20300.
@@ -233,5 +234,5 @@ row_23_trace =
     ∷ []
 
 pub row_23_runs : row_23_lines ≡ row_23_trace
-unfolding row_23_lines row_23_trace digits
+unfolding row_23_lines row_23_trace digits computing
 row_23_runs = refl

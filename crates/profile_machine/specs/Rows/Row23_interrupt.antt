@@ -27,6 +27,7 @@ use Rattle.profile_machine.specs.declared.statements.EntryOwner.TheVariants as o
 use Rattle.profile_machine.specs.declared.statements.Setting.TheVariants as setting
 use Rattle.profile_machine.specs.Rows.Notation.{decl, expr, stmt, scope, subprogram, task_unit, protected_unit, entry, task, p, region, t, agent, declaration, variable, statement, handler_name, cell_run, scope_text, formal, subprogram_text, task_unit_text, attachment, protected_unit_text, entry_body, entry_text, policies, main_procedure}
 use Rattle.profile_machine.specs.Run.{run_of}
+use Rattle.profile_machine.specs.Computing.{computing}
 use Rattle.std.specs.Fmt.{digits}
 
 -- Row 23.interrupt: its run up to tick 600.
@@ -216,5 +217,5 @@ row_23_interrupt_trace =
     ∷ []
 
 pub row_23_interrupt_runs : row_23_interrupt_lines ≡ row_23_interrupt_trace
-unfolding row_23_interrupt_lines row_23_interrupt_trace digits
+unfolding row_23_interrupt_lines row_23_interrupt_trace digits computing
 row_23_interrupt_runs = refl

@@ -20,6 +20,7 @@ use Rattle.profile_machine.specs.declared.statements.EntryOwner.TheVariants as o
 use Rattle.profile_machine.specs.declared.statements.Piece.TheVariants as piece
 use Rattle.profile_machine.specs.Rows.Notation.{decl, expr, stmt, scope, task_unit, entry, task, call, region, t, of_task, declaration, statement, scope_text, task_unit_text, entry_text, policies, main_procedure}
 use Rattle.profile_machine.specs.Run.{run_of}
+use Rattle.profile_machine.specs.Computing.{computing}
 use Rattle.std.specs.Fmt.{digits}
 use Rattle.std.specs.Prelude.{Bool}
 use Rattle.profile_machine.specs.WellFormed.{run_is_well_formed}
@@ -139,7 +140,7 @@ row_abort_action_trace =
     ∷ []
 
 pub row_abort_action_runs : row_abort_action_lines ≡ row_abort_action_trace
-unfolding row_abort_action_lines row_abort_action_trace digits
+unfolding row_abort_action_lines row_abort_action_trace digits computing
 row_abort_action_runs = refl
 
 -- whether every world of its run is well formed
@@ -147,7 +148,7 @@ unfoldable pub row_abort_action_worlds : Bool
 row_abort_action_worlds = run_is_well_formed row_abort_action_program row_abort_action_script 41
 
 pub row_abort_action_keeps : row_abort_action_worlds ≡ true
-unfolding row_abort_action_worlds
+unfolding row_abort_action_worlds computing
 row_abort_action_keeps = refl
 
 -- whether each handler is released at its tick
@@ -155,5 +156,5 @@ unfoldable pub row_abort_action_handlers : Bool
 row_abort_action_handlers = releases_ok row_abort_action_program row_abort_action_script 41
 
 pub row_abort_action_releases : row_abort_action_handlers ≡ true
-unfolding row_abort_action_handlers
+unfolding row_abort_action_handlers computing
 row_abort_action_releases = refl

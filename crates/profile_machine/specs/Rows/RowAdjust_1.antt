@@ -19,6 +19,7 @@ use Rattle.profile_machine.specs.declared.statements.StatementForm.TheVariants a
 use Rattle.profile_machine.specs.declared.statements.Piece.TheVariants as piece
 use Rattle.profile_machine.specs.Rows.Notation.{decl, expr, stmt, scope, subprogram, controlled_type, task, region, t, declaration, variable, statement, scope_text, formal, subprogram_text, controlled_text, policies, main_procedure}
 use Rattle.profile_machine.specs.Run.{run_of}
+use Rattle.profile_machine.specs.Computing.{computing}
 use Rattle.std.specs.Fmt.{digits}
 use Rattle.std.specs.Prelude.{Bool}
 use Rattle.profile_machine.specs.WellFormed.{run_is_well_formed}
@@ -102,7 +103,7 @@ row_adjust_1_trace =
     ∷ []
 
 pub row_adjust_1_runs : row_adjust_1_lines ≡ row_adjust_1_trace
-unfolding row_adjust_1_lines row_adjust_1_trace digits
+unfolding row_adjust_1_lines row_adjust_1_trace digits computing
 row_adjust_1_runs = refl
 
 -- whether every world of its run is well formed
@@ -110,7 +111,7 @@ unfoldable pub row_adjust_1_worlds : Bool
 row_adjust_1_worlds = run_is_well_formed row_adjust_1_program row_adjust_1_script 41
 
 pub row_adjust_1_keeps : row_adjust_1_worlds ≡ true
-unfolding row_adjust_1_worlds
+unfolding row_adjust_1_worlds computing
 row_adjust_1_keeps = refl
 
 -- whether each handler is released at its tick
@@ -118,5 +119,5 @@ unfoldable pub row_adjust_1_handlers : Bool
 row_adjust_1_handlers = releases_ok row_adjust_1_program row_adjust_1_script 41
 
 pub row_adjust_1_releases : row_adjust_1_handlers ≡ true
-unfolding row_adjust_1_handlers
+unfolding row_adjust_1_handlers computing
 row_adjust_1_releases = refl

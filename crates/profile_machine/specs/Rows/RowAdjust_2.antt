@@ -19,6 +19,7 @@ use Rattle.profile_machine.specs.declared.statements.StatementForm.TheVariants a
 use Rattle.profile_machine.specs.declared.statements.Piece.TheVariants as piece
 use Rattle.profile_machine.specs.Rows.Notation.{decl, expr, stmt, scope, subprogram, controlled_type, task, region, t, declaration, variable, statement, scope_text, formal, subprogram_text, controlled_text, policies, main_procedure}
 use Rattle.profile_machine.specs.Run.{run_of}
+use Rattle.profile_machine.specs.Computing.{computing}
 use Rattle.std.specs.Fmt.{digits}
 use Rattle.std.specs.Prelude.{Bool}
 use Rattle.profile_machine.specs.WellFormed.{run_is_well_formed}
@@ -101,7 +102,7 @@ row_adjust_2_trace =
     ∷ []
 
 pub row_adjust_2_runs : row_adjust_2_lines ≡ row_adjust_2_trace
-unfolding row_adjust_2_lines row_adjust_2_trace digits
+unfolding row_adjust_2_lines row_adjust_2_trace digits computing
 row_adjust_2_runs = refl
 
 -- whether every world of its run is well formed
@@ -109,7 +110,7 @@ unfoldable pub row_adjust_2_worlds : Bool
 row_adjust_2_worlds = run_is_well_formed row_adjust_2_program row_adjust_2_script 38
 
 pub row_adjust_2_keeps : row_adjust_2_worlds ≡ true
-unfolding row_adjust_2_worlds
+unfolding row_adjust_2_worlds computing
 row_adjust_2_keeps = refl
 
 -- whether each handler is released at its tick
@@ -117,5 +118,5 @@ unfoldable pub row_adjust_2_handlers : Bool
 row_adjust_2_handlers = releases_ok row_adjust_2_program row_adjust_2_script 38
 
 pub row_adjust_2_releases : row_adjust_2_handlers ≡ true
-unfolding row_adjust_2_handlers
+unfolding row_adjust_2_handlers computing
 row_adjust_2_releases = refl

@@ -16,6 +16,7 @@ use Rattle.profile_machine.specs.declared.statements.StatementForm.TheVariants a
 use Rattle.profile_machine.specs.declared.statements.EntryOwner.TheVariants as owner
 use Rattle.profile_machine.specs.Rows.Notation.{decl, stmt, scope, task_unit, entry, task, call, region, t, of_task, declaration, statement, scope_text, task_unit_text, entry_text, policies, main_procedure}
 use Rattle.profile_machine.specs.Run.{run_of}
+use Rattle.profile_machine.specs.Computing.{computing}
 use Rattle.std.specs.Fmt.{digits}
 use Rattle.std.specs.Prelude.{Bool}
 use Rattle.profile_machine.specs.WellFormed.{run_is_well_formed}
@@ -88,7 +89,7 @@ row_budgets_1_trace =
     ∷ []
 
 pub row_budgets_1_runs : row_budgets_1_lines ≡ row_budgets_1_trace
-unfolding row_budgets_1_lines row_budgets_1_trace digits
+unfolding row_budgets_1_lines row_budgets_1_trace digits computing
 row_budgets_1_runs = refl
 
 -- whether every world of its run is well formed
@@ -96,7 +97,7 @@ unfoldable pub row_budgets_1_worlds : Bool
 row_budgets_1_worlds = run_is_well_formed row_budgets_1_program row_budgets_1_script 14
 
 pub row_budgets_1_keeps : row_budgets_1_worlds ≡ true
-unfolding row_budgets_1_worlds
+unfolding row_budgets_1_worlds computing
 row_budgets_1_keeps = refl
 
 -- whether each handler is released at its tick
@@ -104,5 +105,5 @@ unfoldable pub row_budgets_1_handlers : Bool
 row_budgets_1_handlers = releases_ok row_budgets_1_program row_budgets_1_script 14
 
 pub row_budgets_1_releases : row_budgets_1_handlers ≡ true
-unfolding row_budgets_1_handlers
+unfolding row_budgets_1_handlers computing
 row_budgets_1_releases = refl

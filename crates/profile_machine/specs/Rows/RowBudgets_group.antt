@@ -21,6 +21,7 @@ use Rattle.profile_machine.specs.declared.statements.StatementForm.TheVariants a
 use Rattle.profile_machine.specs.declared.statements.Piece.TheVariants as piece
 use Rattle.profile_machine.specs.Rows.Notation.{decl, expr, stmt, scope, subprogram, protected_unit, task, p, t, agent, declaration, variable, statement, handler, handler_name, cell_run, scope_text, formal, subprogram_text, protected_unit_text, policies, main_procedure}
 use Rattle.profile_machine.specs.Run.{run_of}
+use Rattle.profile_machine.specs.Computing.{computing}
 use Rattle.std.specs.Fmt.{digits}
 use Rattle.std.specs.Prelude.{Bool}
 use Rattle.profile_machine.specs.WellFormed.{run_is_well_formed}
@@ -132,7 +133,7 @@ row_budgets_group_trace =
     ∷ []
 
 pub row_budgets_group_runs : row_budgets_group_lines ≡ row_budgets_group_trace
-unfolding row_budgets_group_lines row_budgets_group_trace digits
+unfolding row_budgets_group_lines row_budgets_group_trace digits computing
 row_budgets_group_runs = refl
 
 -- whether every world of its run is well formed
@@ -140,7 +141,7 @@ unfoldable pub row_budgets_group_worlds : Bool
 row_budgets_group_worlds = run_is_well_formed row_budgets_group_program row_budgets_group_script 53
 
 pub row_budgets_group_keeps : row_budgets_group_worlds ≡ true
-unfolding row_budgets_group_worlds
+unfolding row_budgets_group_worlds computing
 row_budgets_group_keeps = refl
 
 -- whether each handler is released at its tick
@@ -148,5 +149,5 @@ unfoldable pub row_budgets_group_handlers : Bool
 row_budgets_group_handlers = releases_ok row_budgets_group_program row_budgets_group_script 53
 
 pub row_budgets_group_releases : row_budgets_group_handlers ≡ true
-unfolding row_budgets_group_handlers
+unfolding row_budgets_group_handlers computing
 row_budgets_group_releases = refl

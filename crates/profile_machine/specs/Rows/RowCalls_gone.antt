@@ -19,6 +19,7 @@ use Rattle.profile_machine.specs.declared.statements.StatementForm.TheVariants a
 use Rattle.profile_machine.specs.declared.statements.EntryOwner.TheVariants as owner
 use Rattle.profile_machine.specs.Rows.Notation.{decl, expr, stmt, scope, task_unit, entry, task, call, t, of_task, declaration, statement, handler, scope_text, task_unit_text, entry_text, policies, main_procedure}
 use Rattle.profile_machine.specs.Run.{run_of}
+use Rattle.profile_machine.specs.Computing.{computing}
 use Rattle.std.specs.Fmt.{digits}
 use Rattle.std.specs.Prelude.{Bool}
 use Rattle.profile_machine.specs.WellFormed.{run_is_well_formed}
@@ -140,7 +141,7 @@ row_calls_gone_trace =
     ∷ []
 
 pub row_calls_gone_runs : row_calls_gone_lines ≡ row_calls_gone_trace
-unfolding row_calls_gone_lines row_calls_gone_trace digits
+unfolding row_calls_gone_lines row_calls_gone_trace digits computing
 row_calls_gone_runs = refl
 
 -- whether every world of its run is well formed
@@ -148,7 +149,7 @@ unfoldable pub row_calls_gone_worlds : Bool
 row_calls_gone_worlds = run_is_well_formed row_calls_gone_program row_calls_gone_script 40
 
 pub row_calls_gone_keeps : row_calls_gone_worlds ≡ true
-unfolding row_calls_gone_worlds
+unfolding row_calls_gone_worlds computing
 row_calls_gone_keeps = refl
 
 -- whether each handler is released at its tick
@@ -156,5 +157,5 @@ unfoldable pub row_calls_gone_handlers : Bool
 row_calls_gone_handlers = releases_ok row_calls_gone_program row_calls_gone_script 40
 
 pub row_calls_gone_releases : row_calls_gone_handlers ≡ true
-unfolding row_calls_gone_handlers
+unfolding row_calls_gone_handlers computing
 row_calls_gone_releases = refl

@@ -26,6 +26,7 @@ use Rattle.profile_machine.specs.declared.statements.EntryOwner.TheVariants as o
 use Rattle.profile_machine.specs.declared.statements.Piece.TheVariants as piece
 use Rattle.profile_machine.specs.Rows.Notation.{decl, expr, stmt, scope, task_unit, entry, task, call, region, t, of_task, declaration, variable, statement, handler, cell_run, scope_text, formal, task_unit_text, entry_text, policies, main_procedure}
 use Rattle.profile_machine.specs.Run.{run_of}
+use Rattle.profile_machine.specs.Computing.{computing}
 use Rattle.std.specs.Fmt.{digits}
 use Rattle.std.specs.Prelude.{Bool}
 use Rattle.profile_machine.specs.WellFormed.{run_is_well_formed}
@@ -158,7 +159,7 @@ row_calls_results_trace =
     ∷ []
 
 pub row_calls_results_runs : row_calls_results_lines ≡ row_calls_results_trace
-unfolding row_calls_results_lines row_calls_results_trace digits
+unfolding row_calls_results_lines row_calls_results_trace digits computing
 row_calls_results_runs = refl
 
 -- whether every world of its run is well formed
@@ -166,7 +167,7 @@ unfoldable pub row_calls_results_worlds : Bool
 row_calls_results_worlds = run_is_well_formed row_calls_results_program row_calls_results_script 39
 
 pub row_calls_results_keeps : row_calls_results_worlds ≡ true
-unfolding row_calls_results_worlds
+unfolding row_calls_results_worlds computing
 row_calls_results_keeps = refl
 
 -- whether each handler is released at its tick
@@ -174,5 +175,5 @@ unfoldable pub row_calls_results_handlers : Bool
 row_calls_results_handlers = releases_ok row_calls_results_program row_calls_results_script 39
 
 pub row_calls_results_releases : row_calls_results_handlers ≡ true
-unfolding row_calls_results_handlers
+unfolding row_calls_results_handlers computing
 row_calls_results_releases = refl

@@ -15,6 +15,7 @@ use Rattle.profile_machine.specs.declared.declarations.DeclarationKind.TheVarian
 use Rattle.profile_machine.specs.declared.statements.StatementForm.TheVariants as form
 use Rattle.profile_machine.specs.Rows.Notation.{decl, stmt, scope, subprogram, controlled_type, task, region, t, declaration, statement, scope_text, formal, subprogram_text, controlled_text, policies, main_procedure}
 use Rattle.profile_machine.specs.Run.{run_of}
+use Rattle.profile_machine.specs.Computing.{computing}
 use Rattle.std.specs.Fmt.{digits}
 use Rattle.std.specs.Prelude.{Bool}
 use Rattle.profile_machine.specs.WellFormed.{run_is_well_formed}
@@ -85,7 +86,7 @@ row_controlled_1_trace =
     ∷ []
 
 pub row_controlled_1_runs : row_controlled_1_lines ≡ row_controlled_1_trace
-unfolding row_controlled_1_lines row_controlled_1_trace digits
+unfolding row_controlled_1_lines row_controlled_1_trace digits computing
 row_controlled_1_runs = refl
 
 -- whether every world of its run is well formed
@@ -93,7 +94,7 @@ unfoldable pub row_controlled_1_worlds : Bool
 row_controlled_1_worlds = run_is_well_formed row_controlled_1_program row_controlled_1_script 23
 
 pub row_controlled_1_keeps : row_controlled_1_worlds ≡ true
-unfolding row_controlled_1_worlds
+unfolding row_controlled_1_worlds computing
 row_controlled_1_keeps = refl
 
 -- whether each handler is released at its tick
@@ -101,5 +102,5 @@ unfoldable pub row_controlled_1_handlers : Bool
 row_controlled_1_handlers = releases_ok row_controlled_1_program row_controlled_1_script 23
 
 pub row_controlled_1_releases : row_controlled_1_handlers ≡ true
-unfolding row_controlled_1_handlers
+unfolding row_controlled_1_handlers computing
 row_controlled_1_releases = refl

@@ -21,6 +21,7 @@ use Rattle.profile_machine.specs.declared.statements.StatementForm.TheVariants a
 use Rattle.profile_machine.specs.declared.statements.Piece.TheVariants as piece
 use Rattle.profile_machine.specs.Rows.Notation.{decl, expr, stmt, scope, subprogram, controlled_type, task, region, t, declaration, variable, statement, handler, scope_text, formal, subprogram_text, controlled_text, policies, main_procedure}
 use Rattle.profile_machine.specs.Run.{run_of}
+use Rattle.profile_machine.specs.Computing.{computing}
 use Rattle.std.specs.Fmt.{digits}
 use Rattle.std.specs.Prelude.{Bool}
 use Rattle.profile_machine.specs.WellFormed.{run_is_well_formed}
@@ -119,7 +120,7 @@ row_controlled_assign_trace =
     ∷ []
 
 pub row_controlled_assign_runs : row_controlled_assign_lines ≡ row_controlled_assign_trace
-unfolding row_controlled_assign_lines row_controlled_assign_trace digits
+unfolding row_controlled_assign_lines row_controlled_assign_trace digits computing
 row_controlled_assign_runs = refl
 
 -- whether every world of its run is well formed
@@ -127,7 +128,7 @@ unfoldable pub row_controlled_assign_worlds : Bool
 row_controlled_assign_worlds = run_is_well_formed row_controlled_assign_program row_controlled_assign_script 57
 
 pub row_controlled_assign_keeps : row_controlled_assign_worlds ≡ true
-unfolding row_controlled_assign_worlds
+unfolding row_controlled_assign_worlds computing
 row_controlled_assign_keeps = refl
 
 -- whether each handler is released at its tick
@@ -135,5 +136,5 @@ unfoldable pub row_controlled_assign_handlers : Bool
 row_controlled_assign_handlers = releases_ok row_controlled_assign_program row_controlled_assign_script 57
 
 pub row_controlled_assign_releases : row_controlled_assign_handlers ≡ true
-unfolding row_controlled_assign_handlers
+unfolding row_controlled_assign_handlers computing
 row_controlled_assign_releases = refl

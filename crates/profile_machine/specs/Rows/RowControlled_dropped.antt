@@ -19,6 +19,7 @@ use Rattle.profile_machine.specs.declared.statements.StatementForm.TheVariants a
 use Rattle.profile_machine.specs.declared.statements.SelectKind.TheVariants as select
 use Rattle.profile_machine.specs.Rows.Notation.{decl, stmt, scope, subprogram, task_unit, entry, controlled_type, task, region, t, declaration, statement, select_alternative, handler, scope_text, formal, subprogram_text, task_unit_text, entry_text, controlled_text, policies, main_procedure}
 use Rattle.profile_machine.specs.Run.{run_of}
+use Rattle.profile_machine.specs.Computing.{computing}
 use Rattle.std.specs.Fmt.{digits}
 use Rattle.std.specs.Prelude.{Bool}
 use Rattle.profile_machine.specs.WellFormed.{run_is_well_formed}
@@ -124,7 +125,7 @@ row_controlled_dropped_trace =
     ∷ []
 
 pub row_controlled_dropped_runs : row_controlled_dropped_lines ≡ row_controlled_dropped_trace
-unfolding row_controlled_dropped_lines row_controlled_dropped_trace digits
+unfolding row_controlled_dropped_lines row_controlled_dropped_trace digits computing
 row_controlled_dropped_runs = refl
 
 -- whether every world of its run is well formed
@@ -132,7 +133,7 @@ unfoldable pub row_controlled_dropped_worlds : Bool
 row_controlled_dropped_worlds = run_is_well_formed row_controlled_dropped_program row_controlled_dropped_script 39
 
 pub row_controlled_dropped_keeps : row_controlled_dropped_worlds ≡ true
-unfolding row_controlled_dropped_worlds
+unfolding row_controlled_dropped_worlds computing
 row_controlled_dropped_keeps = refl
 
 -- whether each handler is released at its tick
@@ -140,5 +141,5 @@ unfoldable pub row_controlled_dropped_handlers : Bool
 row_controlled_dropped_handlers = releases_ok row_controlled_dropped_program row_controlled_dropped_script 39
 
 pub row_controlled_dropped_releases : row_controlled_dropped_handlers ≡ true
-unfolding row_controlled_dropped_handlers
+unfolding row_controlled_dropped_handlers computing
 row_controlled_dropped_releases = refl

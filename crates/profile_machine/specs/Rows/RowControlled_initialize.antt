@@ -20,6 +20,7 @@ use Rattle.profile_machine.specs.declared.declarations.ExceptionChoice.TheVarian
 use Rattle.profile_machine.specs.declared.statements.StatementForm.TheVariants as form
 use Rattle.profile_machine.specs.Rows.Notation.{decl, expr, stmt, scope, subprogram, controlled_type, task, region, t, declaration, variable, statement, handler, scope_text, formal, subprogram_text, controlled_text, policies, main_procedure}
 use Rattle.profile_machine.specs.Run.{run_of}
+use Rattle.profile_machine.specs.Computing.{computing}
 use Rattle.std.specs.Fmt.{digits}
 use Rattle.std.specs.Prelude.{Bool}
 use Rattle.profile_machine.specs.WellFormed.{run_is_well_formed}
@@ -106,7 +107,7 @@ row_controlled_initialize_trace =
     ∷ []
 
 pub row_controlled_initialize_runs : row_controlled_initialize_lines ≡ row_controlled_initialize_trace
-unfolding row_controlled_initialize_lines row_controlled_initialize_trace digits
+unfolding row_controlled_initialize_lines row_controlled_initialize_trace digits computing
 row_controlled_initialize_runs = refl
 
 -- whether every world of its run is well formed
@@ -114,7 +115,7 @@ unfoldable pub row_controlled_initialize_worlds : Bool
 row_controlled_initialize_worlds = run_is_well_formed row_controlled_initialize_program row_controlled_initialize_script 31
 
 pub row_controlled_initialize_keeps : row_controlled_initialize_worlds ≡ true
-unfolding row_controlled_initialize_worlds
+unfolding row_controlled_initialize_worlds computing
 row_controlled_initialize_keeps = refl
 
 -- whether each handler is released at its tick
@@ -122,5 +123,5 @@ unfoldable pub row_controlled_initialize_handlers : Bool
 row_controlled_initialize_handlers = releases_ok row_controlled_initialize_program row_controlled_initialize_script 31
 
 pub row_controlled_initialize_releases : row_controlled_initialize_handlers ≡ true
-unfolding row_controlled_initialize_handlers
+unfolding row_controlled_initialize_handlers computing
 row_controlled_initialize_releases = refl

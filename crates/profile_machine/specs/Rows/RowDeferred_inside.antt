@@ -20,6 +20,7 @@ use Rattle.profile_machine.specs.declared.statements.StatementForm.TheVariants a
 use Rattle.profile_machine.specs.declared.statements.EntryOwner.TheVariants as owner
 use Rattle.profile_machine.specs.Rows.Notation.{decl, expr, stmt, scope, subprogram, task_unit, entry, controlled_type, task, call, region, t, of_task, declaration, statement, handler, scope_text, formal, subprogram_text, task_unit_text, entry_text, controlled_text, policies, main_procedure}
 use Rattle.profile_machine.specs.Run.{run_of}
+use Rattle.profile_machine.specs.Computing.{computing}
 use Rattle.std.specs.Fmt.{digits}
 use Rattle.std.specs.Prelude.{Bool}
 use Rattle.profile_machine.specs.WellFormed.{run_is_well_formed}
@@ -137,7 +138,7 @@ row_deferred_inside_trace =
     ∷ []
 
 pub row_deferred_inside_runs : row_deferred_inside_lines ≡ row_deferred_inside_trace
-unfolding row_deferred_inside_lines row_deferred_inside_trace digits
+unfolding row_deferred_inside_lines row_deferred_inside_trace digits computing
 row_deferred_inside_runs = refl
 
 -- whether every world of its run is well formed
@@ -145,7 +146,7 @@ unfoldable pub row_deferred_inside_worlds : Bool
 row_deferred_inside_worlds = run_is_well_formed row_deferred_inside_program row_deferred_inside_script 38
 
 pub row_deferred_inside_keeps : row_deferred_inside_worlds ≡ true
-unfolding row_deferred_inside_worlds
+unfolding row_deferred_inside_worlds computing
 row_deferred_inside_keeps = refl
 
 -- whether each handler is released at its tick
@@ -153,5 +154,5 @@ unfoldable pub row_deferred_inside_handlers : Bool
 row_deferred_inside_handlers = releases_ok row_deferred_inside_program row_deferred_inside_script 38
 
 pub row_deferred_inside_releases : row_deferred_inside_handlers ≡ true
-unfolding row_deferred_inside_handlers
+unfolding row_deferred_inside_handlers computing
 row_deferred_inside_releases = refl

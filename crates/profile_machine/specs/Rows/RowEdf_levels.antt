@@ -20,6 +20,7 @@ use Rattle.profile_machine.specs.declared.statements.Callee.TheVariants as calle
 use Rattle.profile_machine.specs.declared.statements.Destination.TheVariants as destination
 use Rattle.profile_machine.specs.Rows.Notation.{decl, expr, stmt, scope, subprogram, task_unit, protected_unit, task, p, region, t, declaration, statement, scope_text, subprogram_text, task_unit_text, protected_unit_text, dispatching_range, policies, main_procedure}
 use Rattle.profile_machine.specs.Run.{run_of}
+use Rattle.profile_machine.specs.Computing.{computing}
 use Rattle.std.specs.Fmt.{digits}
 use Rattle.std.specs.Prelude.{Bool}
 use Rattle.profile_machine.specs.WellFormed.{run_is_well_formed}
@@ -149,7 +150,7 @@ row_edf_levels_trace =
     ∷ []
 
 pub row_edf_levels_runs : row_edf_levels_lines ≡ row_edf_levels_trace
-unfolding row_edf_levels_lines row_edf_levels_trace digits
+unfolding row_edf_levels_lines row_edf_levels_trace digits computing
 row_edf_levels_runs = refl
 
 -- whether every world of its run is well formed
@@ -157,7 +158,7 @@ unfoldable pub row_edf_levels_worlds : Bool
 row_edf_levels_worlds = run_is_well_formed row_edf_levels_program row_edf_levels_script 40
 
 pub row_edf_levels_keeps : row_edf_levels_worlds ≡ true
-unfolding row_edf_levels_worlds
+unfolding row_edf_levels_worlds computing
 row_edf_levels_keeps = refl
 
 -- whether each handler is released at its tick
@@ -165,5 +166,5 @@ unfoldable pub row_edf_levels_handlers : Bool
 row_edf_levels_handlers = releases_ok row_edf_levels_program row_edf_levels_script 40
 
 pub row_edf_levels_releases : row_edf_levels_handlers ≡ true
-unfolding row_edf_levels_handlers
+unfolding row_edf_levels_handlers computing
 row_edf_levels_releases = refl

@@ -21,6 +21,7 @@ use Rattle.profile_machine.specs.declared.statements.Callee.TheVariants as calle
 use Rattle.profile_machine.specs.declared.statements.Destination.TheVariants as destination
 use Rattle.profile_machine.specs.Rows.Notation.{decl, expr, stmt, scope, subprogram, task_unit, task, region, t, declaration, statement, scope_text, subprogram_text, task_unit_text, dispatching_range, policies, main_procedure}
 use Rattle.profile_machine.specs.Run.{run_of}
+use Rattle.profile_machine.specs.Computing.{computing}
 use Rattle.std.specs.Fmt.{digits}
 use Rattle.std.specs.Prelude.{Bool}
 use Rattle.profile_machine.specs.WellFormed.{run_is_well_formed}
@@ -131,7 +132,7 @@ row_edf_made_trace =
     ∷ []
 
 pub row_edf_made_runs : row_edf_made_lines ≡ row_edf_made_trace
-unfolding row_edf_made_lines row_edf_made_trace digits
+unfolding row_edf_made_lines row_edf_made_trace digits computing
 row_edf_made_runs = refl
 
 -- whether every world of its run is well formed
@@ -139,7 +140,7 @@ unfoldable pub row_edf_made_worlds : Bool
 row_edf_made_worlds = run_is_well_formed row_edf_made_program row_edf_made_script 42
 
 pub row_edf_made_keeps : row_edf_made_worlds ≡ true
-unfolding row_edf_made_worlds
+unfolding row_edf_made_worlds computing
 row_edf_made_keeps = refl
 
 -- whether each handler is released at its tick
@@ -147,5 +148,5 @@ unfoldable pub row_edf_made_handlers : Bool
 row_edf_made_handlers = releases_ok row_edf_made_program row_edf_made_script 42
 
 pub row_edf_made_releases : row_edf_made_handlers ≡ true
-unfolding row_edf_made_handlers
+unfolding row_edf_made_handlers computing
 row_edf_made_releases = refl

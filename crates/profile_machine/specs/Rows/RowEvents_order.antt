@@ -19,6 +19,7 @@ use Rattle.profile_machine.specs.declared.statements.StatementForm.TheVariants a
 use Rattle.profile_machine.specs.declared.statements.Setting.TheVariants as setting
 use Rattle.profile_machine.specs.Rows.Notation.{decl, expr, stmt, scope, subprogram, task_unit, protected_unit, task, p, region, t, agent, declaration, statement, handler_name, scope_text, formal, subprogram_text, task_unit_text, protected_unit_text, policies, main_procedure}
 use Rattle.profile_machine.specs.Run.{run_of}
+use Rattle.profile_machine.specs.Computing.{computing}
 use Rattle.std.specs.Fmt.{digits}
 use Rattle.std.specs.Prelude.{Bool}
 use Rattle.profile_machine.specs.WellFormed.{run_is_well_formed}
@@ -135,7 +136,7 @@ row_events_order_trace =
     ∷ []
 
 pub row_events_order_runs : row_events_order_lines ≡ row_events_order_trace
-unfolding row_events_order_lines row_events_order_trace digits
+unfolding row_events_order_lines row_events_order_trace digits computing
 row_events_order_runs = refl
 
 -- whether every world of its run is well formed
@@ -143,7 +144,7 @@ unfoldable pub row_events_order_worlds : Bool
 row_events_order_worlds = run_is_well_formed row_events_order_program row_events_order_script 42
 
 pub row_events_order_keeps : row_events_order_worlds ≡ true
-unfolding row_events_order_worlds
+unfolding row_events_order_worlds computing
 row_events_order_keeps = refl
 
 -- whether each handler is released at its tick
@@ -151,5 +152,5 @@ unfoldable pub row_events_order_handlers : Bool
 row_events_order_handlers = releases_ok row_events_order_program row_events_order_script 42
 
 pub row_events_order_releases : row_events_order_handlers ≡ true
-unfolding row_events_order_handlers
+unfolding row_events_order_handlers computing
 row_events_order_releases = refl

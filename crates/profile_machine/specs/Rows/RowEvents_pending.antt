@@ -21,6 +21,7 @@ use Rattle.profile_machine.specs.declared.statements.EntryOwner.TheVariants as o
 use Rattle.profile_machine.specs.declared.statements.Setting.TheVariants as setting
 use Rattle.profile_machine.specs.Rows.Notation.{decl, expr, stmt, scope, subprogram, task_unit, protected_unit, entry, task, call, p, region, t, of_task, declaration, variable, statement, handler_name, cell_run, scope_text, formal, subprogram_text, task_unit_text, protected_unit_text, entry_text, policies, main_procedure}
 use Rattle.profile_machine.specs.Run.{run_of}
+use Rattle.profile_machine.specs.Computing.{computing}
 use Rattle.std.specs.Fmt.{digits}
 use Rattle.std.specs.Prelude.{Bool}
 use Rattle.profile_machine.specs.WellFormed.{run_is_well_formed}
@@ -164,7 +165,7 @@ row_events_pending_trace =
     ∷ []
 
 pub row_events_pending_runs : row_events_pending_lines ≡ row_events_pending_trace
-unfolding row_events_pending_lines row_events_pending_trace digits
+unfolding row_events_pending_lines row_events_pending_trace digits computing
 row_events_pending_runs = refl
 
 -- whether every world of its run is well formed
@@ -172,7 +173,7 @@ unfoldable pub row_events_pending_worlds : Bool
 row_events_pending_worlds = run_is_well_formed row_events_pending_program row_events_pending_script 48
 
 pub row_events_pending_keeps : row_events_pending_worlds ≡ true
-unfolding row_events_pending_worlds
+unfolding row_events_pending_worlds computing
 row_events_pending_keeps = refl
 
 -- whether each handler is released at its tick
@@ -180,5 +181,5 @@ unfoldable pub row_events_pending_handlers : Bool
 row_events_pending_handlers = releases_ok row_events_pending_program row_events_pending_script 48
 
 pub row_events_pending_releases : row_events_pending_handlers ≡ true
-unfolding row_events_pending_handlers
+unfolding row_events_pending_handlers computing
 row_events_pending_releases = refl

@@ -22,6 +22,7 @@ use Rattle.profile_machine.specs.declared.statements.StatementForm.TheVariants a
 use Rattle.profile_machine.specs.declared.statements.SelectKind.TheVariants as select
 use Rattle.profile_machine.specs.Rows.Notation.{decl, expr, stmt, scope, task_unit, entry, task, region, t, declaration, variable, statement, select_alternative, handler, cell_run, scope_text, task_unit_text, entry_text, policies, main_procedure}
 use Rattle.profile_machine.specs.Run.{run_of}
+use Rattle.profile_machine.specs.Computing.{computing}
 use Rattle.std.specs.Fmt.{digits}
 use Rattle.std.specs.Prelude.{Bool}
 use Rattle.profile_machine.specs.WellFormed.{run_is_well_formed}
@@ -122,7 +123,7 @@ row_exceptions_raised_trace =
     ∷ []
 
 pub row_exceptions_raised_runs : row_exceptions_raised_lines ≡ row_exceptions_raised_trace
-unfolding row_exceptions_raised_lines row_exceptions_raised_trace digits
+unfolding row_exceptions_raised_lines row_exceptions_raised_trace digits computing
 row_exceptions_raised_runs = refl
 
 -- whether every world of its run is well formed
@@ -130,7 +131,7 @@ unfoldable pub row_exceptions_raised_worlds : Bool
 row_exceptions_raised_worlds = run_is_well_formed row_exceptions_raised_program row_exceptions_raised_script 33
 
 pub row_exceptions_raised_keeps : row_exceptions_raised_worlds ≡ true
-unfolding row_exceptions_raised_worlds
+unfolding row_exceptions_raised_worlds computing
 row_exceptions_raised_keeps = refl
 
 -- whether each handler is released at its tick
@@ -138,5 +139,5 @@ unfoldable pub row_exceptions_raised_handlers : Bool
 row_exceptions_raised_handlers = releases_ok row_exceptions_raised_program row_exceptions_raised_script 33
 
 pub row_exceptions_raised_releases : row_exceptions_raised_handlers ≡ true
-unfolding row_exceptions_raised_handlers
+unfolding row_exceptions_raised_handlers computing
 row_exceptions_raised_releases = refl

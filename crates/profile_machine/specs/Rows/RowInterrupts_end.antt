@@ -16,6 +16,7 @@ use Rattle.profile_machine.specs.declared.statements.StatementForm.TheVariants a
 use Rattle.profile_machine.specs.declared.statements.Setting.TheVariants as setting
 use Rattle.profile_machine.specs.Rows.Notation.{decl, expr, stmt, scope, subprogram, protected_unit, task, p, t, agent, declaration, statement, handler_name, scope_text, formal, subprogram_text, attachment, protected_unit_text, policies, main_procedure}
 use Rattle.profile_machine.specs.Run.{run_of}
+use Rattle.profile_machine.specs.Computing.{computing}
 use Rattle.std.specs.Fmt.{digits}
 use Rattle.std.specs.Prelude.{Bool}
 use Rattle.profile_machine.specs.WellFormed.{run_is_well_formed}
@@ -88,7 +89,7 @@ row_interrupts_end_trace =
     ∷ []
 
 pub row_interrupts_end_runs : row_interrupts_end_lines ≡ row_interrupts_end_trace
-unfolding row_interrupts_end_lines row_interrupts_end_trace digits
+unfolding row_interrupts_end_lines row_interrupts_end_trace digits computing
 row_interrupts_end_runs = refl
 
 -- whether every world of its run is well formed
@@ -96,7 +97,7 @@ unfoldable pub row_interrupts_end_worlds : Bool
 row_interrupts_end_worlds = run_is_well_formed row_interrupts_end_program row_interrupts_end_script 10
 
 pub row_interrupts_end_keeps : row_interrupts_end_worlds ≡ true
-unfolding row_interrupts_end_worlds
+unfolding row_interrupts_end_worlds computing
 row_interrupts_end_keeps = refl
 
 -- whether each handler is released at its tick
@@ -104,5 +105,5 @@ unfoldable pub row_interrupts_end_handlers : Bool
 row_interrupts_end_handlers = releases_ok row_interrupts_end_program row_interrupts_end_script 10
 
 pub row_interrupts_end_releases : row_interrupts_end_handlers ≡ true
-unfolding row_interrupts_end_handlers
+unfolding row_interrupts_end_handlers computing
 row_interrupts_end_releases = refl

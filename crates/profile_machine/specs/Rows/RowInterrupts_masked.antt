@@ -18,6 +18,7 @@ use Rattle.profile_machine.specs.declared.statements.StatementForm.TheVariants a
 use Rattle.profile_machine.specs.declared.statements.Piece.TheVariants as piece
 use Rattle.profile_machine.specs.Rows.Notation.{decl, expr, stmt, scope, subprogram, protected_unit, task, p, t, agent, declaration, statement, scope_text, subprogram_text, attachment, protected_unit_text, policies, main_procedure}
 use Rattle.profile_machine.specs.Run.{run_of}
+use Rattle.profile_machine.specs.Computing.{computing}
 use Rattle.std.specs.Fmt.{digits}
 use Rattle.std.specs.Prelude.{Bool}
 use Rattle.profile_machine.specs.WellFormed.{run_is_well_formed}
@@ -115,7 +116,7 @@ row_interrupts_masked_trace =
     ∷ []
 
 pub row_interrupts_masked_runs : row_interrupts_masked_lines ≡ row_interrupts_masked_trace
-unfolding row_interrupts_masked_lines row_interrupts_masked_trace digits
+unfolding row_interrupts_masked_lines row_interrupts_masked_trace digits computing
 row_interrupts_masked_runs = refl
 
 -- whether every world of its run is well formed
@@ -123,7 +124,7 @@ unfoldable pub row_interrupts_masked_worlds : Bool
 row_interrupts_masked_worlds = run_is_well_formed row_interrupts_masked_program row_interrupts_masked_script 43
 
 pub row_interrupts_masked_keeps : row_interrupts_masked_worlds ≡ true
-unfolding row_interrupts_masked_worlds
+unfolding row_interrupts_masked_worlds computing
 row_interrupts_masked_keeps = refl
 
 -- whether each handler is released at its tick
@@ -131,5 +132,5 @@ unfoldable pub row_interrupts_masked_handlers : Bool
 row_interrupts_masked_handlers = releases_ok row_interrupts_masked_program row_interrupts_masked_script 43
 
 pub row_interrupts_masked_releases : row_interrupts_masked_handlers ≡ true
-unfolding row_interrupts_masked_handlers
+unfolding row_interrupts_masked_handlers computing
 row_interrupts_masked_releases = refl

@@ -17,6 +17,7 @@ use Rattle.profile_machine.specs.declared.declarations.DeclarationKind.TheVarian
 use Rattle.profile_machine.specs.declared.statements.StatementForm.TheVariants as form
 use Rattle.profile_machine.specs.Rows.Notation.{decl, expr, stmt, scope, task_unit, task, region, t, declaration, statement, scope_text, task_unit_text, dispatching_range, policies, main_procedure}
 use Rattle.profile_machine.specs.Run.{run_of}
+use Rattle.profile_machine.specs.Computing.{computing}
 use Rattle.std.specs.Fmt.{digits}
 use Rattle.std.specs.Prelude.{Bool}
 use Rattle.profile_machine.specs.WellFormed.{run_is_well_formed}
@@ -110,7 +111,7 @@ row_policies_1_trace =
     ∷ []
 
 pub row_policies_1_runs : row_policies_1_lines ≡ row_policies_1_trace
-unfolding row_policies_1_lines row_policies_1_trace digits
+unfolding row_policies_1_lines row_policies_1_trace digits computing
 row_policies_1_runs = refl
 
 -- whether every world of its run is well formed
@@ -118,7 +119,7 @@ unfoldable pub row_policies_1_worlds : Bool
 row_policies_1_worlds = run_is_well_formed row_policies_1_program row_policies_1_script 29
 
 pub row_policies_1_keeps : row_policies_1_worlds ≡ true
-unfolding row_policies_1_worlds
+unfolding row_policies_1_worlds computing
 row_policies_1_keeps = refl
 
 -- whether each handler is released at its tick
@@ -126,5 +127,5 @@ unfoldable pub row_policies_1_handlers : Bool
 row_policies_1_handlers = releases_ok row_policies_1_program row_policies_1_script 29
 
 pub row_policies_1_releases : row_policies_1_handlers ≡ true
-unfolding row_policies_1_handlers
+unfolding row_policies_1_handlers computing
 row_policies_1_releases = refl

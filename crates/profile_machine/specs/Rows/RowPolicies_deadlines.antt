@@ -28,6 +28,7 @@ use Rattle.profile_machine.specs.declared.statements.Destination.TheVariants as 
 use Rattle.profile_machine.specs.declared.statements.EntryOwner.TheVariants as owner
 use Rattle.profile_machine.specs.Rows.Notation.{decl, expr, stmt, scope, subprogram, task_unit, protected_unit, entry, task, p, region, t, declaration, variable, statement, handler, cell_run, scope_text, formal, subprogram_text, task_unit_text, protected_unit_text, entry_body, entry_text, dispatching_range, policies, main_procedure}
 use Rattle.profile_machine.specs.Run.{run_of}
+use Rattle.profile_machine.specs.Computing.{computing}
 use Rattle.std.specs.Fmt.{digits}
 use Rattle.std.specs.Prelude.{Bool}
 use Rattle.profile_machine.specs.WellFormed.{run_is_well_formed}
@@ -267,7 +268,7 @@ row_policies_deadlines_trace =
     ∷ []
 
 pub row_policies_deadlines_runs : row_policies_deadlines_lines ≡ row_policies_deadlines_trace
-unfolding row_policies_deadlines_lines row_policies_deadlines_trace digits
+unfolding row_policies_deadlines_lines row_policies_deadlines_trace digits computing
 row_policies_deadlines_runs = refl
 
 -- whether every world of its run is well formed
@@ -275,7 +276,7 @@ unfoldable pub row_policies_deadlines_worlds : Bool
 row_policies_deadlines_worlds = run_is_well_formed row_policies_deadlines_program row_policies_deadlines_script 233
 
 pub row_policies_deadlines_keeps : row_policies_deadlines_worlds ≡ true
-unfolding row_policies_deadlines_worlds
+unfolding row_policies_deadlines_worlds computing
 row_policies_deadlines_keeps = refl
 
 -- whether each handler is released at its tick
@@ -283,5 +284,5 @@ unfoldable pub row_policies_deadlines_handlers : Bool
 row_policies_deadlines_handlers = releases_ok row_policies_deadlines_program row_policies_deadlines_script 233
 
 pub row_policies_deadlines_releases : row_policies_deadlines_handlers ≡ true
-unfolding row_policies_deadlines_handlers
+unfolding row_policies_deadlines_handlers computing
 row_policies_deadlines_releases = refl

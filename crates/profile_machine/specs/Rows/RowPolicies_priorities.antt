@@ -31,6 +31,7 @@ use Rattle.profile_machine.specs.declared.statements.SelectKind.TheVariants as s
 use Rattle.profile_machine.specs.declared.statements.Piece.TheVariants as piece
 use Rattle.profile_machine.specs.Rows.Notation.{decl, expr, stmt, scope, subprogram, task_unit, protected_unit, entry, task, call, p, region, t, of_task, declaration, variable, statement, select_alternative, handler, scope_text, formal, subprogram_text, task_unit_text, protected_unit_text, entry_text, dispatching_range, policies, main_procedure}
 use Rattle.profile_machine.specs.Run.{run_of}
+use Rattle.profile_machine.specs.Computing.{computing}
 use Rattle.std.specs.Fmt.{digits}
 use Rattle.std.specs.Prelude.{Bool}
 use Rattle.profile_machine.specs.WellFormed.{run_is_well_formed}
@@ -316,7 +317,7 @@ row_policies_priorities_trace =
     ∷ []
 
 pub row_policies_priorities_runs : row_policies_priorities_lines ≡ row_policies_priorities_trace
-unfolding row_policies_priorities_lines row_policies_priorities_trace digits
+unfolding row_policies_priorities_lines row_policies_priorities_trace digits computing
 row_policies_priorities_runs = refl
 
 -- whether every world of its run is well formed
@@ -324,7 +325,7 @@ unfoldable pub row_policies_priorities_worlds : Bool
 row_policies_priorities_worlds = run_is_well_formed row_policies_priorities_program row_policies_priorities_script 158
 
 pub row_policies_priorities_keeps : row_policies_priorities_worlds ≡ true
-unfolding row_policies_priorities_worlds
+unfolding row_policies_priorities_worlds computing
 row_policies_priorities_keeps = refl
 
 -- whether each handler is released at its tick
@@ -332,5 +333,5 @@ unfoldable pub row_policies_priorities_handlers : Bool
 row_policies_priorities_handlers = releases_ok row_policies_priorities_program row_policies_priorities_script 158
 
 pub row_policies_priorities_releases : row_policies_priorities_handlers ≡ true
-unfolding row_policies_priorities_handlers
+unfolding row_policies_priorities_handlers computing
 row_policies_priorities_releases = refl

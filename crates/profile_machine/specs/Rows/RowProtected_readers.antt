@@ -24,6 +24,7 @@ use Rattle.profile_machine.specs.declared.statements.Destination.TheVariants as 
 use Rattle.profile_machine.specs.declared.statements.EntryOwner.TheVariants as owner
 use Rattle.profile_machine.specs.Rows.Notation.{decl, expr, stmt, scope, subprogram, task_unit, protected_unit, entry, task, call, p, region, t, of_task, declaration, variable, statement, scope_text, subprogram_text, task_unit_text, protected_unit_text, entry_text, policies, main_procedure}
 use Rattle.profile_machine.specs.Run.{run_of}
+use Rattle.profile_machine.specs.Computing.{computing}
 use Rattle.std.specs.Fmt.{digits}
 use Rattle.std.specs.Prelude.{Bool}
 use Rattle.profile_machine.specs.WellFormed.{run_is_well_formed}
@@ -167,7 +168,7 @@ row_protected_readers_trace =
     ∷ []
 
 pub row_protected_readers_runs : row_protected_readers_lines ≡ row_protected_readers_trace
-unfolding row_protected_readers_lines row_protected_readers_trace digits
+unfolding row_protected_readers_lines row_protected_readers_trace digits computing
 row_protected_readers_runs = refl
 
 -- whether every world of its run is well formed
@@ -175,7 +176,7 @@ unfoldable pub row_protected_readers_worlds : Bool
 row_protected_readers_worlds = run_is_well_formed row_protected_readers_program row_protected_readers_script 52
 
 pub row_protected_readers_keeps : row_protected_readers_worlds ≡ true
-unfolding row_protected_readers_worlds
+unfolding row_protected_readers_worlds computing
 row_protected_readers_keeps = refl
 
 -- whether each handler is released at its tick
@@ -183,5 +184,5 @@ unfoldable pub row_protected_readers_handlers : Bool
 row_protected_readers_handlers = releases_ok row_protected_readers_program row_protected_readers_script 52
 
 pub row_protected_readers_releases : row_protected_readers_handlers ≡ true
-unfolding row_protected_readers_handlers
+unfolding row_protected_readers_handlers computing
 row_protected_readers_releases = refl

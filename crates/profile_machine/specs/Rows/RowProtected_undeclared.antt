@@ -20,6 +20,7 @@ use Rattle.profile_machine.specs.declared.statements.Callee.TheVariants as calle
 use Rattle.profile_machine.specs.declared.statements.Destination.TheVariants as destination
 use Rattle.profile_machine.specs.Rows.Notation.{decl, expr, stmt, scope, subprogram, protected_unit, task, p, t, declaration, statement, handler, scope_text, subprogram_text, protected_unit_text, policies, main_procedure}
 use Rattle.profile_machine.specs.Run.{run_of}
+use Rattle.profile_machine.specs.Computing.{computing}
 use Rattle.std.specs.Fmt.{digits}
 use Rattle.std.specs.Prelude.{Bool}
 use Rattle.profile_machine.specs.WellFormed.{run_is_well_formed}
@@ -97,7 +98,7 @@ row_protected_undeclared_trace =
     ∷ []
 
 pub row_protected_undeclared_runs : row_protected_undeclared_lines ≡ row_protected_undeclared_trace
-unfolding row_protected_undeclared_lines row_protected_undeclared_trace digits
+unfolding row_protected_undeclared_lines row_protected_undeclared_trace digits computing
 row_protected_undeclared_runs = refl
 
 -- whether every world of its run is well formed
@@ -105,7 +106,7 @@ unfoldable pub row_protected_undeclared_worlds : Bool
 row_protected_undeclared_worlds = run_is_well_formed row_protected_undeclared_program row_protected_undeclared_script 21
 
 pub row_protected_undeclared_keeps : row_protected_undeclared_worlds ≡ true
-unfolding row_protected_undeclared_worlds
+unfolding row_protected_undeclared_worlds computing
 row_protected_undeclared_keeps = refl
 
 -- whether each handler is released at its tick
@@ -113,5 +114,5 @@ unfoldable pub row_protected_undeclared_handlers : Bool
 row_protected_undeclared_handlers = releases_ok row_protected_undeclared_program row_protected_undeclared_script 21
 
 pub row_protected_undeclared_releases : row_protected_undeclared_handlers ≡ true
-unfolding row_protected_undeclared_handlers
+unfolding row_protected_undeclared_handlers computing
 row_protected_undeclared_releases = refl

@@ -24,6 +24,7 @@ use Rattle.profile_machine.specs.declared.statements.Destination.TheVariants as 
 use Rattle.profile_machine.specs.declared.statements.EntryOwner.TheVariants as owner
 use Rattle.profile_machine.specs.Rows.Notation.{decl, expr, stmt, scope, subprogram, task_unit, protected_unit, entry, task, call, p, region, t, of_task, declaration, variable, statement, scope_text, subprogram_text, task_unit_text, protected_unit_text, entry_text, policies, main_procedure}
 use Rattle.profile_machine.specs.Run.{run_of}
+use Rattle.profile_machine.specs.Computing.{computing}
 use Rattle.std.specs.Fmt.{digits}
 use Rattle.std.specs.Prelude.{Bool}
 use Rattle.profile_machine.specs.WellFormed.{run_is_well_formed}
@@ -161,7 +162,7 @@ row_protected_writer_trace =
     ∷ []
 
 pub row_protected_writer_runs : row_protected_writer_lines ≡ row_protected_writer_trace
-unfolding row_protected_writer_lines row_protected_writer_trace digits
+unfolding row_protected_writer_lines row_protected_writer_trace digits computing
 row_protected_writer_runs = refl
 
 -- whether every world of its run is well formed
@@ -169,7 +170,7 @@ unfoldable pub row_protected_writer_worlds : Bool
 row_protected_writer_worlds = run_is_well_formed row_protected_writer_program row_protected_writer_script 43
 
 pub row_protected_writer_keeps : row_protected_writer_worlds ≡ true
-unfolding row_protected_writer_worlds
+unfolding row_protected_writer_worlds computing
 row_protected_writer_keeps = refl
 
 -- whether each handler is released at its tick
@@ -177,5 +178,5 @@ unfoldable pub row_protected_writer_handlers : Bool
 row_protected_writer_handlers = releases_ok row_protected_writer_program row_protected_writer_script 43
 
 pub row_protected_writer_releases : row_protected_writer_handlers ≡ true
-unfolding row_protected_writer_handlers
+unfolding row_protected_writer_handlers computing
 row_protected_writer_releases = refl

@@ -18,6 +18,7 @@ use Rattle.profile_machine.specs.declared.statements.EntryOwner.TheVariants as o
 use Rattle.profile_machine.specs.declared.statements.Piece.TheVariants as piece
 use Rattle.profile_machine.specs.Rows.Notation.{decl, stmt, scope, task_unit, entry, task, call, region, t, of_task, declaration, statement, scope_text, task_unit_text, entry_text, policies, main_procedure}
 use Rattle.profile_machine.specs.Run.{run_of}
+use Rattle.profile_machine.specs.Computing.{computing}
 use Rattle.std.specs.Fmt.{digits}
 use Rattle.std.specs.Prelude.{Bool}
 use Rattle.profile_machine.specs.WellFormed.{run_is_well_formed}
@@ -105,7 +106,7 @@ row_requeue_1_trace =
     ∷ []
 
 pub row_requeue_1_runs : row_requeue_1_lines ≡ row_requeue_1_trace
-unfolding row_requeue_1_lines row_requeue_1_trace digits
+unfolding row_requeue_1_lines row_requeue_1_trace digits computing
 row_requeue_1_runs = refl
 
 -- whether every world of its run is well formed
@@ -113,7 +114,7 @@ unfoldable pub row_requeue_1_worlds : Bool
 row_requeue_1_worlds = run_is_well_formed row_requeue_1_program row_requeue_1_script 27
 
 pub row_requeue_1_keeps : row_requeue_1_worlds ≡ true
-unfolding row_requeue_1_worlds
+unfolding row_requeue_1_worlds computing
 row_requeue_1_keeps = refl
 
 -- whether each handler is released at its tick
@@ -121,5 +122,5 @@ unfoldable pub row_requeue_1_handlers : Bool
 row_requeue_1_handlers = releases_ok row_requeue_1_program row_requeue_1_script 27
 
 pub row_requeue_1_releases : row_requeue_1_handlers ≡ true
-unfolding row_requeue_1_handlers
+unfolding row_requeue_1_handlers computing
 row_requeue_1_releases = refl

@@ -22,6 +22,7 @@ use Rattle.profile_machine.specs.declared.statements.EntryOwner.TheVariants as o
 use Rattle.profile_machine.specs.declared.statements.Piece.TheVariants as piece
 use Rattle.profile_machine.specs.Rows.Notation.{decl, expr, stmt, scope, protected_unit, entry, task, call, p, t, of_object, declaration, variable, statement, cell_run, scope_text, protected_unit_text, entry_body, entry_text, policies, main_procedure}
 use Rattle.profile_machine.specs.Run.{run_of}
+use Rattle.profile_machine.specs.Computing.{computing}
 use Rattle.std.specs.Fmt.{digits}
 use Rattle.std.specs.Prelude.{Bool}
 use Rattle.profile_machine.specs.WellFormed.{run_is_well_formed}
@@ -105,7 +106,7 @@ row_requeue_2_trace =
     ∷ []
 
 pub row_requeue_2_runs : row_requeue_2_lines ≡ row_requeue_2_trace
-unfolding row_requeue_2_lines row_requeue_2_trace digits
+unfolding row_requeue_2_lines row_requeue_2_trace digits computing
 row_requeue_2_runs = refl
 
 -- whether every world of its run is well formed
@@ -113,7 +114,7 @@ unfoldable pub row_requeue_2_worlds : Bool
 row_requeue_2_worlds = run_is_well_formed row_requeue_2_program row_requeue_2_script 22
 
 pub row_requeue_2_keeps : row_requeue_2_worlds ≡ true
-unfolding row_requeue_2_worlds
+unfolding row_requeue_2_worlds computing
 row_requeue_2_keeps = refl
 
 -- whether each handler is released at its tick
@@ -121,5 +122,5 @@ unfoldable pub row_requeue_2_handlers : Bool
 row_requeue_2_handlers = releases_ok row_requeue_2_program row_requeue_2_script 22
 
 pub row_requeue_2_releases : row_requeue_2_handlers ≡ true
-unfolding row_requeue_2_handlers
+unfolding row_requeue_2_handlers computing
 row_requeue_2_releases = refl

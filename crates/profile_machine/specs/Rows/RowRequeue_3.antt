@@ -22,6 +22,7 @@ use Rattle.profile_machine.specs.declared.statements.EntryOwner.TheVariants as o
 use Rattle.profile_machine.specs.declared.statements.Piece.TheVariants as piece
 use Rattle.profile_machine.specs.Rows.Notation.{decl, expr, stmt, scope, protected_unit, entry, task, call, p, t, of_object, declaration, variable, statement, cell_run, scope_text, protected_unit_text, entry_body, entry_text, policies, main_procedure}
 use Rattle.profile_machine.specs.Run.{run_of}
+use Rattle.profile_machine.specs.Computing.{computing}
 use Rattle.std.specs.Fmt.{digits}
 use Rattle.std.specs.Prelude.{Bool}
 use Rattle.profile_machine.specs.WellFormed.{run_is_well_formed}
@@ -99,7 +100,7 @@ row_requeue_3_trace =
     ∷ []
 
 pub row_requeue_3_runs : row_requeue_3_lines ≡ row_requeue_3_trace
-unfolding row_requeue_3_lines row_requeue_3_trace digits
+unfolding row_requeue_3_lines row_requeue_3_trace digits computing
 row_requeue_3_runs = refl
 
 -- whether every world of its run is well formed
@@ -107,7 +108,7 @@ unfoldable pub row_requeue_3_worlds : Bool
 row_requeue_3_worlds = run_is_well_formed row_requeue_3_program row_requeue_3_script 10
 
 pub row_requeue_3_keeps : row_requeue_3_worlds ≡ true
-unfolding row_requeue_3_worlds
+unfolding row_requeue_3_worlds computing
 row_requeue_3_keeps = refl
 
 -- whether each handler is released at its tick
@@ -115,5 +116,5 @@ unfoldable pub row_requeue_3_handlers : Bool
 row_requeue_3_handlers = releases_ok row_requeue_3_program row_requeue_3_script 10
 
 pub row_requeue_3_releases : row_requeue_3_handlers ≡ true
-unfolding row_requeue_3_handlers
+unfolding row_requeue_3_handlers computing
 row_requeue_3_releases = refl

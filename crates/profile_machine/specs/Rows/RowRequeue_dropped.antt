@@ -23,6 +23,7 @@ use Rattle.profile_machine.specs.declared.statements.SelectKind.TheVariants as s
 use Rattle.profile_machine.specs.declared.statements.Piece.TheVariants as piece
 use Rattle.profile_machine.specs.Rows.Notation.{decl, expr, stmt, scope, subprogram, task_unit, entry, controlled_type, task, call, region, t, of_task, declaration, statement, select_alternative, handler, scope_text, formal, subprogram_text, task_unit_text, entry_text, controlled_text, policies, main_procedure}
 use Rattle.profile_machine.specs.Run.{run_of}
+use Rattle.profile_machine.specs.Computing.{computing}
 use Rattle.std.specs.Fmt.{digits}
 use Rattle.std.specs.Prelude.{Bool}
 use Rattle.profile_machine.specs.WellFormed.{run_is_well_formed}
@@ -140,7 +141,7 @@ row_requeue_dropped_trace =
     ∷ []
 
 pub row_requeue_dropped_runs : row_requeue_dropped_lines ≡ row_requeue_dropped_trace
-unfolding row_requeue_dropped_lines row_requeue_dropped_trace digits
+unfolding row_requeue_dropped_lines row_requeue_dropped_trace digits computing
 row_requeue_dropped_runs = refl
 
 -- whether every world of its run is well formed
@@ -148,7 +149,7 @@ unfoldable pub row_requeue_dropped_worlds : Bool
 row_requeue_dropped_worlds = run_is_well_formed row_requeue_dropped_program row_requeue_dropped_script 50
 
 pub row_requeue_dropped_keeps : row_requeue_dropped_worlds ≡ true
-unfolding row_requeue_dropped_worlds
+unfolding row_requeue_dropped_worlds computing
 row_requeue_dropped_keeps = refl
 
 -- whether each handler is released at its tick
@@ -156,5 +157,5 @@ unfoldable pub row_requeue_dropped_handlers : Bool
 row_requeue_dropped_handlers = releases_ok row_requeue_dropped_program row_requeue_dropped_script 50
 
 pub row_requeue_dropped_releases : row_requeue_dropped_handlers ≡ true
-unfolding row_requeue_dropped_handlers
+unfolding row_requeue_dropped_handlers computing
 row_requeue_dropped_releases = refl

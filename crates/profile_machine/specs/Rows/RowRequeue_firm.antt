@@ -19,6 +19,7 @@ use Rattle.profile_machine.specs.declared.statements.StatementForm.TheVariants a
 use Rattle.profile_machine.specs.declared.statements.EntryOwner.TheVariants as owner
 use Rattle.profile_machine.specs.Rows.Notation.{decl, expr, stmt, scope, task_unit, entry, task, call, region, t, of_task, declaration, statement, scope_text, task_unit_text, entry_text, policies, main_procedure}
 use Rattle.profile_machine.specs.Run.{run_of}
+use Rattle.profile_machine.specs.Computing.{computing}
 use Rattle.std.specs.Fmt.{digits}
 use Rattle.std.specs.Prelude.{Bool}
 use Rattle.profile_machine.specs.WellFormed.{run_is_well_formed}
@@ -137,7 +138,7 @@ row_requeue_firm_trace =
     ∷ []
 
 pub row_requeue_firm_runs : row_requeue_firm_lines ≡ row_requeue_firm_trace
-unfolding row_requeue_firm_lines row_requeue_firm_trace digits
+unfolding row_requeue_firm_lines row_requeue_firm_trace digits computing
 row_requeue_firm_runs = refl
 
 -- whether every world of its run is well formed
@@ -145,7 +146,7 @@ unfoldable pub row_requeue_firm_worlds : Bool
 row_requeue_firm_worlds = run_is_well_formed row_requeue_firm_program row_requeue_firm_script 39
 
 pub row_requeue_firm_keeps : row_requeue_firm_worlds ≡ true
-unfolding row_requeue_firm_worlds
+unfolding row_requeue_firm_worlds computing
 row_requeue_firm_keeps = refl
 
 -- whether each handler is released at its tick
@@ -153,5 +154,5 @@ unfoldable pub row_requeue_firm_handlers : Bool
 row_requeue_firm_handlers = releases_ok row_requeue_firm_program row_requeue_firm_script 39
 
 pub row_requeue_firm_releases : row_requeue_firm_handlers ≡ true
-unfolding row_requeue_firm_handlers
+unfolding row_requeue_firm_handlers computing
 row_requeue_firm_releases = refl

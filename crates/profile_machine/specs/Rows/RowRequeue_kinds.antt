@@ -19,6 +19,7 @@ use Rattle.profile_machine.specs.declared.statements.StatementForm.TheVariants a
 use Rattle.profile_machine.specs.declared.statements.EntryOwner.TheVariants as owner
 use Rattle.profile_machine.specs.Rows.Notation.{decl, expr, stmt, scope, task_unit, entry, task, call, region, t, of_task, declaration, statement, scope_text, task_unit_text, entry_text, policies, main_procedure}
 use Rattle.profile_machine.specs.Run.{run_of}
+use Rattle.profile_machine.specs.Computing.{computing}
 use Rattle.std.specs.Fmt.{digits}
 use Rattle.std.specs.Prelude.{Bool}
 use Rattle.profile_machine.specs.WellFormed.{run_is_well_formed}
@@ -140,7 +141,7 @@ row_requeue_kinds_trace =
     ∷ []
 
 pub row_requeue_kinds_runs : row_requeue_kinds_lines ≡ row_requeue_kinds_trace
-unfolding row_requeue_kinds_lines row_requeue_kinds_trace digits
+unfolding row_requeue_kinds_lines row_requeue_kinds_trace digits computing
 row_requeue_kinds_runs = refl
 
 -- whether every world of its run is well formed
@@ -148,7 +149,7 @@ unfoldable pub row_requeue_kinds_worlds : Bool
 row_requeue_kinds_worlds = run_is_well_formed row_requeue_kinds_program row_requeue_kinds_script 45
 
 pub row_requeue_kinds_keeps : row_requeue_kinds_worlds ≡ true
-unfolding row_requeue_kinds_worlds
+unfolding row_requeue_kinds_worlds computing
 row_requeue_kinds_keeps = refl
 
 -- whether each handler is released at its tick
@@ -156,5 +157,5 @@ unfoldable pub row_requeue_kinds_handlers : Bool
 row_requeue_kinds_handlers = releases_ok row_requeue_kinds_program row_requeue_kinds_script 45
 
 pub row_requeue_kinds_releases : row_requeue_kinds_handlers ≡ true
-unfolding row_requeue_kinds_handlers
+unfolding row_requeue_kinds_handlers computing
 row_requeue_kinds_releases = refl

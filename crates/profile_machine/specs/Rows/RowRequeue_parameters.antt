@@ -22,6 +22,7 @@ use Rattle.profile_machine.specs.declared.statements.EntryOwner.TheVariants as o
 use Rattle.profile_machine.specs.declared.statements.Piece.TheVariants as piece
 use Rattle.profile_machine.specs.Rows.Notation.{decl, expr, stmt, scope, protected_unit, entry, task, call, p, t, of_object, declaration, variable, statement, scope_text, formal, protected_unit_text, entry_body, entry_text, policies, main_procedure}
 use Rattle.profile_machine.specs.Run.{run_of}
+use Rattle.profile_machine.specs.Computing.{computing}
 use Rattle.std.specs.Fmt.{digits}
 use Rattle.std.specs.Prelude.{Bool}
 use Rattle.profile_machine.specs.WellFormed.{run_is_well_formed}
@@ -101,7 +102,7 @@ row_requeue_parameters_trace =
     ∷ []
 
 pub row_requeue_parameters_runs : row_requeue_parameters_lines ≡ row_requeue_parameters_trace
-unfolding row_requeue_parameters_lines row_requeue_parameters_trace digits
+unfolding row_requeue_parameters_lines row_requeue_parameters_trace digits computing
 row_requeue_parameters_runs = refl
 
 -- whether every world of its run is well formed
@@ -109,7 +110,7 @@ unfoldable pub row_requeue_parameters_worlds : Bool
 row_requeue_parameters_worlds = run_is_well_formed row_requeue_parameters_program row_requeue_parameters_script 19
 
 pub row_requeue_parameters_keeps : row_requeue_parameters_worlds ≡ true
-unfolding row_requeue_parameters_worlds
+unfolding row_requeue_parameters_worlds computing
 row_requeue_parameters_keeps = refl
 
 -- whether each handler is released at its tick
@@ -117,5 +118,5 @@ unfoldable pub row_requeue_parameters_handlers : Bool
 row_requeue_parameters_handlers = releases_ok row_requeue_parameters_program row_requeue_parameters_script 19
 
 pub row_requeue_parameters_releases : row_requeue_parameters_handlers ≡ true
-unfolding row_requeue_parameters_handlers
+unfolding row_requeue_parameters_handlers computing
 row_requeue_parameters_releases = refl

@@ -29,6 +29,7 @@ use Rattle.profile_machine.specs.declared.statements.SelectKind.TheVariants as s
 use Rattle.profile_machine.specs.declared.statements.Piece.TheVariants as piece
 use Rattle.profile_machine.specs.Rows.Notation.{decl, expr, stmt, scope, subprogram, task_unit, protected_unit, entry, task, call, p, region, t, of_task, of_object, declaration, variable, statement, select_alternative, handler, cell_run, scope_text, subprogram_text, task_unit_text, protected_unit_text, entry_body, entry_text, policies, main_procedure}
 use Rattle.profile_machine.specs.Run.{run_of}
+use Rattle.profile_machine.specs.Computing.{computing}
 use Rattle.std.specs.Fmt.{digits}
 use Rattle.std.specs.Prelude.{Bool}
 use Rattle.profile_machine.specs.WellFormed.{run_is_well_formed}
@@ -309,7 +310,7 @@ row_requeue_triggers_trace =
     ∷ []
 
 pub row_requeue_triggers_runs : row_requeue_triggers_lines ≡ row_requeue_triggers_trace
-unfolding row_requeue_triggers_lines row_requeue_triggers_trace digits
+unfolding row_requeue_triggers_lines row_requeue_triggers_trace digits computing
 row_requeue_triggers_runs = refl
 
 -- whether every world of its run is well formed
@@ -317,7 +318,7 @@ unfoldable pub row_requeue_triggers_worlds : Bool
 row_requeue_triggers_worlds = run_is_well_formed row_requeue_triggers_program row_requeue_triggers_script 172
 
 pub row_requeue_triggers_keeps : row_requeue_triggers_worlds ≡ true
-unfolding row_requeue_triggers_worlds
+unfolding row_requeue_triggers_worlds computing
 row_requeue_triggers_keeps = refl
 
 -- whether each handler is released at its tick
@@ -325,5 +326,5 @@ unfoldable pub row_requeue_triggers_handlers : Bool
 row_requeue_triggers_handlers = releases_ok row_requeue_triggers_program row_requeue_triggers_script 172
 
 pub row_requeue_triggers_releases : row_requeue_triggers_handlers ≡ true
-unfolding row_requeue_triggers_handlers
+unfolding row_requeue_triggers_handlers computing
 row_requeue_triggers_releases = refl

@@ -17,6 +17,7 @@ use Rattle.profile_machine.specs.declared.declarations.ExceptionChoice.TheVarian
 use Rattle.profile_machine.specs.declared.statements.StatementForm.TheVariants as form
 use Rattle.profile_machine.specs.Rows.Notation.{decl, stmt, scope, task_unit, task, region, t, declaration, statement, handler, scope_text, task_unit_text, policies, main_procedure}
 use Rattle.profile_machine.specs.Run.{run_of}
+use Rattle.profile_machine.specs.Computing.{computing}
 use Rattle.std.specs.Fmt.{digits}
 use Rattle.std.specs.Prelude.{Bool}
 use Rattle.profile_machine.specs.WellFormed.{run_is_well_formed}
@@ -113,7 +114,7 @@ row_room_activation_trace =
     ∷ []
 
 pub row_room_activation_runs : row_room_activation_lines ≡ row_room_activation_trace
-unfolding row_room_activation_lines row_room_activation_trace digits
+unfolding row_room_activation_lines row_room_activation_trace digits computing
 row_room_activation_runs = refl
 
 -- whether every world of its run is well formed
@@ -121,7 +122,7 @@ unfoldable pub row_room_activation_worlds : Bool
 row_room_activation_worlds = run_is_well_formed row_room_activation_program row_room_activation_script 12
 
 pub row_room_activation_keeps : row_room_activation_worlds ≡ true
-unfolding row_room_activation_worlds
+unfolding row_room_activation_worlds computing
 row_room_activation_keeps = refl
 
 -- whether each handler is released at its tick
@@ -129,5 +130,5 @@ unfoldable pub row_room_activation_handlers : Bool
 row_room_activation_handlers = releases_ok row_room_activation_program row_room_activation_script 12
 
 pub row_room_activation_releases : row_room_activation_handlers ≡ true
-unfolding row_room_activation_handlers
+unfolding row_room_activation_handlers computing
 row_room_activation_releases = refl

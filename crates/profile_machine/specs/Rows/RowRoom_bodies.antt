@@ -26,6 +26,7 @@ use Rattle.profile_machine.specs.declared.statements.Destination.TheVariants as 
 use Rattle.profile_machine.specs.declared.statements.EntryOwner.TheVariants as owner
 use Rattle.profile_machine.specs.Rows.Notation.{decl, expr, stmt, scope, subprogram, task_unit, protected_unit, entry, task, call, p, region, t, of_object, declaration, variable, statement, handler, cell_run, scope_text, subprogram_text, task_unit_text, protected_unit_text, entry_body, entry_text, policies, main_procedure}
 use Rattle.profile_machine.specs.Run.{run_of}
+use Rattle.profile_machine.specs.Computing.{computing}
 use Rattle.std.specs.Fmt.{digits}
 use Rattle.std.specs.Prelude.{Bool}
 use Rattle.profile_machine.specs.WellFormed.{run_is_well_formed}
@@ -207,7 +208,7 @@ row_room_bodies_trace =
     ∷ []
 
 pub row_room_bodies_runs : row_room_bodies_lines ≡ row_room_bodies_trace
-unfolding row_room_bodies_lines row_room_bodies_trace digits
+unfolding row_room_bodies_lines row_room_bodies_trace digits computing
 row_room_bodies_runs = refl
 
 -- whether every world of its run is well formed
@@ -215,7 +216,7 @@ unfoldable pub row_room_bodies_worlds : Bool
 row_room_bodies_worlds = run_is_well_formed row_room_bodies_program row_room_bodies_script 32
 
 pub row_room_bodies_keeps : row_room_bodies_worlds ≡ true
-unfolding row_room_bodies_worlds
+unfolding row_room_bodies_worlds computing
 row_room_bodies_keeps = refl
 
 -- whether each handler is released at its tick
@@ -223,5 +224,5 @@ unfoldable pub row_room_bodies_handlers : Bool
 row_room_bodies_handlers = releases_ok row_room_bodies_program row_room_bodies_script 32
 
 pub row_room_bodies_releases : row_room_bodies_handlers ≡ true
-unfolding row_room_bodies_handlers
+unfolding row_room_bodies_handlers computing
 row_room_bodies_releases = refl

@@ -20,6 +20,7 @@ use Rattle.profile_machine.specs.declared.statements.StatementForm.TheVariants a
 use Rattle.profile_machine.specs.declared.statements.Setting.TheVariants as setting
 use Rattle.profile_machine.specs.Rows.Notation.{decl, expr, stmt, scope, subprogram, protected_unit, controlled_type, task, p, region, t, agent, declaration, statement, handler, handler_name, scope_text, formal, subprogram_text, protected_unit_text, controlled_text, policies, main_procedure}
 use Rattle.profile_machine.specs.Run.{run_of}
+use Rattle.profile_machine.specs.Computing.{computing}
 use Rattle.std.specs.Fmt.{digits}
 use Rattle.std.specs.Prelude.{Bool}
 use Rattle.profile_machine.specs.WellFormed.{run_is_well_formed}
@@ -187,7 +188,7 @@ row_room_operations_trace =
     ∷ []
 
 pub row_room_operations_runs : row_room_operations_lines ≡ row_room_operations_trace
-unfolding row_room_operations_lines row_room_operations_trace digits
+unfolding row_room_operations_lines row_room_operations_trace digits computing
 row_room_operations_runs = refl
 
 -- whether every world of its run is well formed
@@ -195,7 +196,7 @@ unfoldable pub row_room_operations_worlds : Bool
 row_room_operations_worlds = run_is_well_formed row_room_operations_program row_room_operations_script 33
 
 pub row_room_operations_keeps : row_room_operations_worlds ≡ true
-unfolding row_room_operations_worlds
+unfolding row_room_operations_worlds computing
 row_room_operations_keeps = refl
 
 -- whether each handler is released at its tick
@@ -203,5 +204,5 @@ unfoldable pub row_room_operations_handlers : Bool
 row_room_operations_handlers = releases_ok row_room_operations_program row_room_operations_script 33
 
 pub row_room_operations_releases : row_room_operations_handlers ≡ true
-unfolding row_room_operations_handlers
+unfolding row_room_operations_handlers computing
 row_room_operations_releases = refl

@@ -26,6 +26,7 @@ use Rattle.profile_machine.specs.declared.statements.EntryOwner.TheVariants as o
 use Rattle.profile_machine.specs.declared.statements.Piece.TheVariants as piece
 use Rattle.profile_machine.specs.Rows.Notation.{decl, expr, stmt, scope, subprogram, task_unit, entry, controlled_type, task, call, region, t, of_task, declaration, variable, statement, handler, scope_text, formal, subprogram_text, task_unit_text, entry_text, controlled_text, policies, main_procedure}
 use Rattle.profile_machine.specs.Run.{run_of}
+use Rattle.profile_machine.specs.Computing.{computing}
 use Rattle.std.specs.Fmt.{digits}
 use Rattle.std.specs.Prelude.{Bool}
 use Rattle.profile_machine.specs.WellFormed.{run_is_well_formed}
@@ -185,7 +186,7 @@ row_scopes_exits_trace =
     ∷ []
 
 pub row_scopes_exits_runs : row_scopes_exits_lines ≡ row_scopes_exits_trace
-unfolding row_scopes_exits_lines row_scopes_exits_trace digits
+unfolding row_scopes_exits_lines row_scopes_exits_trace digits computing
 row_scopes_exits_runs = refl
 
 -- whether every world of its run is well formed
@@ -193,7 +194,7 @@ unfoldable pub row_scopes_exits_worlds : Bool
 row_scopes_exits_worlds = run_is_well_formed row_scopes_exits_program row_scopes_exits_script 94
 
 pub row_scopes_exits_keeps : row_scopes_exits_worlds ≡ true
-unfolding row_scopes_exits_worlds
+unfolding row_scopes_exits_worlds computing
 row_scopes_exits_keeps = refl
 
 -- whether each handler is released at its tick
@@ -201,5 +202,5 @@ unfoldable pub row_scopes_exits_handlers : Bool
 row_scopes_exits_handlers = releases_ok row_scopes_exits_program row_scopes_exits_script 94
 
 pub row_scopes_exits_releases : row_scopes_exits_handlers ≡ true
-unfolding row_scopes_exits_handlers
+unfolding row_scopes_exits_handlers computing
 row_scopes_exits_releases = refl

@@ -20,6 +20,7 @@ use Rattle.profile_machine.specs.declared.statements.Destination.TheVariants as 
 use Rattle.profile_machine.specs.declared.statements.Piece.TheVariants as piece
 use Rattle.profile_machine.specs.Rows.Notation.{decl, expr, stmt, scope, subprogram, controlled_type, task, region, t, declaration, statement, handler, scope_text, formal, subprogram_text, controlled_text, policies, main_procedure}
 use Rattle.profile_machine.specs.Run.{run_of}
+use Rattle.profile_machine.specs.Computing.{computing}
 use Rattle.std.specs.Fmt.{digits}
 use Rattle.std.specs.Prelude.{Bool}
 use Rattle.profile_machine.specs.WellFormed.{run_is_well_formed}
@@ -118,7 +119,7 @@ row_select_left_trace =
     ∷ []
 
 pub row_select_left_runs : row_select_left_lines ≡ row_select_left_trace
-unfolding row_select_left_lines row_select_left_trace digits
+unfolding row_select_left_lines row_select_left_trace digits computing
 row_select_left_runs = refl
 
 -- whether every world of its run is well formed
@@ -126,7 +127,7 @@ unfoldable pub row_select_left_worlds : Bool
 row_select_left_worlds = run_is_well_formed row_select_left_program row_select_left_script 43
 
 pub row_select_left_keeps : row_select_left_worlds ≡ true
-unfolding row_select_left_worlds
+unfolding row_select_left_worlds computing
 row_select_left_keeps = refl
 
 -- whether each handler is released at its tick
@@ -134,5 +135,5 @@ unfoldable pub row_select_left_handlers : Bool
 row_select_left_handlers = releases_ok row_select_left_program row_select_left_script 43
 
 pub row_select_left_releases : row_select_left_handlers ≡ true
-unfolding row_select_left_handlers
+unfolding row_select_left_handlers computing
 row_select_left_releases = refl

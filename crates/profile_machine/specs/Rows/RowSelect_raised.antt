@@ -21,6 +21,7 @@ use Rattle.profile_machine.specs.declared.statements.StatementForm.TheVariants a
 use Rattle.profile_machine.specs.declared.statements.EntryOwner.TheVariants as owner
 use Rattle.profile_machine.specs.Rows.Notation.{decl, expr, stmt, scope, task_unit, entry, task, call, region, t, of_task, declaration, statement, handler, scope_text, task_unit_text, entry_text, policies, main_procedure}
 use Rattle.profile_machine.specs.Run.{run_of}
+use Rattle.profile_machine.specs.Computing.{computing}
 use Rattle.std.specs.Fmt.{digits}
 use Rattle.std.specs.Prelude.{Bool}
 use Rattle.profile_machine.specs.WellFormed.{run_is_well_formed}
@@ -121,7 +122,7 @@ row_select_raised_trace =
     ∷ []
 
 pub row_select_raised_runs : row_select_raised_lines ≡ row_select_raised_trace
-unfolding row_select_raised_lines row_select_raised_trace digits
+unfolding row_select_raised_lines row_select_raised_trace digits computing
 row_select_raised_runs = refl
 
 -- whether every world of its run is well formed
@@ -129,7 +130,7 @@ unfoldable pub row_select_raised_worlds : Bool
 row_select_raised_worlds = run_is_well_formed row_select_raised_program row_select_raised_script 36
 
 pub row_select_raised_keeps : row_select_raised_worlds ≡ true
-unfolding row_select_raised_worlds
+unfolding row_select_raised_worlds computing
 row_select_raised_keeps = refl
 
 -- whether each handler is released at its tick
@@ -137,5 +138,5 @@ unfoldable pub row_select_raised_handlers : Bool
 row_select_raised_handlers = releases_ok row_select_raised_program row_select_raised_script 36
 
 pub row_select_raised_releases : row_select_raised_handlers ≡ true
-unfolding row_select_raised_handlers
+unfolding row_select_raised_handlers computing
 row_select_raised_releases = refl

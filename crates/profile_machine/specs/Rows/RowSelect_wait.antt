@@ -20,6 +20,7 @@ use Rattle.profile_machine.specs.declared.statements.StatementForm.TheVariants a
 use Rattle.profile_machine.specs.declared.statements.EntryOwner.TheVariants as owner
 use Rattle.profile_machine.specs.Rows.Notation.{decl, expr, stmt, scope, task_unit, entry, task, call, region, t, of_task, declaration, statement, handler, scope_text, subprogram_text, task_unit_text, entry_text, policies, main_procedure}
 use Rattle.profile_machine.specs.Run.{run_of}
+use Rattle.profile_machine.specs.Computing.{computing}
 use Rattle.std.specs.Fmt.{digits}
 use Rattle.std.specs.Prelude.{Bool}
 use Rattle.profile_machine.specs.WellFormed.{run_is_well_formed}
@@ -127,7 +128,7 @@ row_select_wait_trace =
     ∷ []
 
 pub row_select_wait_runs : row_select_wait_lines ≡ row_select_wait_trace
-unfolding row_select_wait_lines row_select_wait_trace digits
+unfolding row_select_wait_lines row_select_wait_trace digits computing
 row_select_wait_runs = refl
 
 -- whether every world of its run is well formed
@@ -135,7 +136,7 @@ unfoldable pub row_select_wait_worlds : Bool
 row_select_wait_worlds = run_is_well_formed row_select_wait_program row_select_wait_script 37
 
 pub row_select_wait_keeps : row_select_wait_worlds ≡ true
-unfolding row_select_wait_worlds
+unfolding row_select_wait_worlds computing
 row_select_wait_keeps = refl
 
 -- whether each handler is released at its tick
@@ -143,5 +144,5 @@ unfoldable pub row_select_wait_handlers : Bool
 row_select_wait_handlers = releases_ok row_select_wait_program row_select_wait_script 37
 
 pub row_select_wait_releases : row_select_wait_handlers ≡ true
-unfolding row_select_wait_handlers
+unfolding row_select_wait_handlers computing
 row_select_wait_releases = refl

@@ -20,6 +20,7 @@ use Rattle.profile_machine.specs.declared.statements.StatementForm.TheVariants a
 use Rattle.profile_machine.specs.declared.statements.Piece.TheVariants as piece
 use Rattle.profile_machine.specs.Rows.Notation.{decl, expr, stmt, scope, task_unit, task, region, t, declaration, statement, handler, cell_run, scope_text, subprogram_text, task_unit_text, policies, main_procedure}
 use Rattle.profile_machine.specs.Run.{run_of}
+use Rattle.profile_machine.specs.Computing.{computing}
 use Rattle.std.specs.Fmt.{digits}
 use Rattle.std.specs.Prelude.{Bool}
 use Rattle.profile_machine.specs.WellFormed.{run_is_well_formed}
@@ -98,7 +99,7 @@ row_sequences_activation_trace =
     ∷ []
 
 pub row_sequences_activation_runs : row_sequences_activation_lines ≡ row_sequences_activation_trace
-unfolding row_sequences_activation_lines row_sequences_activation_trace digits
+unfolding row_sequences_activation_lines row_sequences_activation_trace digits computing
 row_sequences_activation_runs = refl
 
 -- whether every world of its run is well formed
@@ -106,7 +107,7 @@ unfoldable pub row_sequences_activation_worlds : Bool
 row_sequences_activation_worlds = run_is_well_formed row_sequences_activation_program row_sequences_activation_script 9
 
 pub row_sequences_activation_keeps : row_sequences_activation_worlds ≡ true
-unfolding row_sequences_activation_worlds
+unfolding row_sequences_activation_worlds computing
 row_sequences_activation_keeps = refl
 
 -- whether each handler is released at its tick
@@ -114,5 +115,5 @@ unfoldable pub row_sequences_activation_handlers : Bool
 row_sequences_activation_handlers = releases_ok row_sequences_activation_program row_sequences_activation_script 9
 
 pub row_sequences_activation_releases : row_sequences_activation_handlers ≡ true
-unfolding row_sequences_activation_handlers
+unfolding row_sequences_activation_handlers computing
 row_sequences_activation_releases = refl

@@ -19,6 +19,7 @@ use Rattle.profile_machine.specs.declared.statements.EntryOwner.TheVariants as o
 use Rattle.profile_machine.specs.declared.statements.Piece.TheVariants as piece
 use Rattle.profile_machine.specs.Rows.Notation.{decl, stmt, scope, task_unit, entry, task, call, region, t, of_task, declaration, statement, handler, scope_text, subprogram_text, task_unit_text, entry_text, policies, main_procedure}
 use Rattle.profile_machine.specs.Run.{run_of}
+use Rattle.profile_machine.specs.Computing.{computing}
 use Rattle.std.specs.Fmt.{digits}
 use Rattle.std.specs.Prelude.{Bool}
 use Rattle.profile_machine.specs.WellFormed.{run_is_well_formed}
@@ -105,7 +106,7 @@ row_sequences_call_trace =
     ∷ []
 
 pub row_sequences_call_runs : row_sequences_call_lines ≡ row_sequences_call_trace
-unfolding row_sequences_call_lines row_sequences_call_trace digits
+unfolding row_sequences_call_lines row_sequences_call_trace digits computing
 row_sequences_call_runs = refl
 
 -- whether every world of its run is well formed
@@ -113,7 +114,7 @@ unfoldable pub row_sequences_call_worlds : Bool
 row_sequences_call_worlds = run_is_well_formed row_sequences_call_program row_sequences_call_script 23
 
 pub row_sequences_call_keeps : row_sequences_call_worlds ≡ true
-unfolding row_sequences_call_worlds
+unfolding row_sequences_call_worlds computing
 row_sequences_call_keeps = refl
 
 -- whether each handler is released at its tick
@@ -121,5 +122,5 @@ unfoldable pub row_sequences_call_handlers : Bool
 row_sequences_call_handlers = releases_ok row_sequences_call_program row_sequences_call_script 23
 
 pub row_sequences_call_releases : row_sequences_call_handlers ≡ true
-unfolding row_sequences_call_handlers
+unfolding row_sequences_call_handlers computing
 row_sequences_call_releases = refl

@@ -21,6 +21,7 @@ use Rattle.profile_machine.specs.declared.statements.EntryOwner.TheVariants as o
 use Rattle.profile_machine.specs.declared.statements.Piece.TheVariants as piece
 use Rattle.profile_machine.specs.Rows.Notation.{decl, expr, stmt, scope, task_unit, entry, task, call, region, t, of_task, declaration, statement, handler, scope_text, subprogram_text, task_unit_text, entry_text, policies, main_procedure}
 use Rattle.profile_machine.specs.Run.{run_of}
+use Rattle.profile_machine.specs.Computing.{computing}
 use Rattle.std.specs.Fmt.{digits}
 use Rattle.std.specs.Prelude.{Bool}
 use Rattle.profile_machine.specs.WellFormed.{run_is_well_formed}
@@ -117,7 +118,7 @@ row_sequences_trigger_trace =
     ∷ []
 
 pub row_sequences_trigger_runs : row_sequences_trigger_lines ≡ row_sequences_trigger_trace
-unfolding row_sequences_trigger_lines row_sequences_trigger_trace digits
+unfolding row_sequences_trigger_lines row_sequences_trigger_trace digits computing
 row_sequences_trigger_runs = refl
 
 -- whether every world of its run is well formed
@@ -125,7 +126,7 @@ unfoldable pub row_sequences_trigger_worlds : Bool
 row_sequences_trigger_worlds = run_is_well_formed row_sequences_trigger_program row_sequences_trigger_script 45
 
 pub row_sequences_trigger_keeps : row_sequences_trigger_worlds ≡ true
-unfolding row_sequences_trigger_worlds
+unfolding row_sequences_trigger_worlds computing
 row_sequences_trigger_keeps = refl
 
 -- whether each handler is released at its tick
@@ -133,5 +134,5 @@ unfoldable pub row_sequences_trigger_handlers : Bool
 row_sequences_trigger_handlers = releases_ok row_sequences_trigger_program row_sequences_trigger_script 45
 
 pub row_sequences_trigger_releases : row_sequences_trigger_handlers ≡ true
-unfolding row_sequences_trigger_handlers
+unfolding row_sequences_trigger_handlers computing
 row_sequences_trigger_releases = refl

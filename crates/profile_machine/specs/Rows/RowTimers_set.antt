@@ -20,6 +20,7 @@ use Rattle.profile_machine.specs.declared.statements.Piece.TheVariants as piece
 use Rattle.profile_machine.specs.declared.statements.Setting.TheVariants as setting
 use Rattle.profile_machine.specs.Rows.Notation.{decl, expr, stmt, scope, subprogram, protected_unit, task, p, t, agent, declaration, variable, statement, handler_name, cell_run, scope_text, formal, subprogram_text, protected_unit_text, policies, main_procedure}
 use Rattle.profile_machine.specs.Run.{run_of}
+use Rattle.profile_machine.specs.Computing.{computing}
 use Rattle.std.specs.Fmt.{digits}
 use Rattle.std.specs.Prelude.{Bool}
 use Rattle.profile_machine.specs.WellFormed.{run_is_well_formed}
@@ -137,7 +138,7 @@ row_timers_set_trace =
     ∷ []
 
 pub row_timers_set_runs : row_timers_set_lines ≡ row_timers_set_trace
-unfolding row_timers_set_lines row_timers_set_trace digits
+unfolding row_timers_set_lines row_timers_set_trace digits computing
 row_timers_set_runs = refl
 
 -- whether every world of its run is well formed
@@ -145,7 +146,7 @@ unfoldable pub row_timers_set_worlds : Bool
 row_timers_set_worlds = run_is_well_formed row_timers_set_program row_timers_set_script 50
 
 pub row_timers_set_keeps : row_timers_set_worlds ≡ true
-unfolding row_timers_set_worlds
+unfolding row_timers_set_worlds computing
 row_timers_set_keeps = refl
 
 -- whether each handler is released at its tick
@@ -153,5 +154,5 @@ unfoldable pub row_timers_set_handlers : Bool
 row_timers_set_handlers = releases_ok row_timers_set_program row_timers_set_script 50
 
 pub row_timers_set_releases : row_timers_set_handlers ≡ true
-unfolding row_timers_set_handlers
+unfolding row_timers_set_handlers computing
 row_timers_set_releases = refl

@@ -21,6 +21,7 @@ use Rattle.profile_machine.specs.declared.statements.Choice.TheVariants as choic
 use Rattle.profile_machine.specs.declared.statements.Piece.TheVariants as piece
 use Rattle.profile_machine.specs.Rows.Notation.{decl, expr, stmt, scope, task, t, declaration, variable, statement, alternative, handler, cell_run, scope_text, policies, main_procedure}
 use Rattle.profile_machine.specs.Run.{run_of}
+use Rattle.profile_machine.specs.Computing.{computing}
 use Rattle.std.specs.Fmt.{digits}
 use Rattle.std.specs.Prelude.{Bool}
 use Rattle.profile_machine.specs.WellFormed.{run_is_well_formed}
@@ -111,7 +112,7 @@ row_values_bounds_trace =
     ∷ []
 
 pub row_values_bounds_runs : row_values_bounds_lines ≡ row_values_bounds_trace
-unfolding row_values_bounds_lines row_values_bounds_trace digits
+unfolding row_values_bounds_lines row_values_bounds_trace digits computing
 row_values_bounds_runs = refl
 
 -- whether every world of its run is well formed
@@ -119,7 +120,7 @@ unfoldable pub row_values_bounds_worlds : Bool
 row_values_bounds_worlds = run_is_well_formed row_values_bounds_program row_values_bounds_script 21
 
 pub row_values_bounds_keeps : row_values_bounds_worlds ≡ true
-unfolding row_values_bounds_worlds
+unfolding row_values_bounds_worlds computing
 row_values_bounds_keeps = refl
 
 -- whether each handler is released at its tick
@@ -127,5 +128,5 @@ unfoldable pub row_values_bounds_handlers : Bool
 row_values_bounds_handlers = releases_ok row_values_bounds_program row_values_bounds_script 21
 
 pub row_values_bounds_releases : row_values_bounds_handlers ≡ true
-unfolding row_values_bounds_handlers
+unfolding row_values_bounds_handlers computing
 row_values_bounds_releases = refl

@@ -23,6 +23,7 @@ use Rattle.profile_machine.specs.declared.statements.EntryOwner.TheVariants as o
 use Rattle.profile_machine.specs.declared.statements.Piece.TheVariants as piece
 use Rattle.profile_machine.specs.Rows.Notation.{decl, expr, stmt, scope, task_unit, entry, task, call, region, t, of_task, declaration, variable, statement, alternative, cell_run, scope_text, formal, task_unit_text, entry_text, policies, main_procedure}
 use Rattle.profile_machine.specs.Run.{run_of}
+use Rattle.profile_machine.specs.Computing.{computing}
 use Rattle.std.specs.Fmt.{digits}
 use Rattle.std.specs.Prelude.{Bool}
 use Rattle.profile_machine.specs.WellFormed.{run_is_well_formed}
@@ -119,7 +120,7 @@ row_values_case_trace =
     ∷ []
 
 pub row_values_case_runs : row_values_case_lines ≡ row_values_case_trace
-unfolding row_values_case_lines row_values_case_trace digits
+unfolding row_values_case_lines row_values_case_trace digits computing
 row_values_case_runs = refl
 
 -- whether every world of its run is well formed
@@ -127,7 +128,7 @@ unfoldable pub row_values_case_worlds : Bool
 row_values_case_worlds = run_is_well_formed row_values_case_program row_values_case_script 23
 
 pub row_values_case_keeps : row_values_case_worlds ≡ true
-unfolding row_values_case_worlds
+unfolding row_values_case_worlds computing
 row_values_case_keeps = refl
 
 -- whether each handler is released at its tick
@@ -135,5 +136,5 @@ unfoldable pub row_values_case_handlers : Bool
 row_values_case_handlers = releases_ok row_values_case_program row_values_case_script 23
 
 pub row_values_case_releases : row_values_case_handlers ≡ true
-unfolding row_values_case_handlers
+unfolding row_values_case_handlers computing
 row_values_case_releases = refl

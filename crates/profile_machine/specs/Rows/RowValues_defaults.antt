@@ -19,6 +19,7 @@ use Rattle.profile_machine.specs.declared.statements.Destination.TheVariants as 
 use Rattle.profile_machine.specs.declared.statements.Piece.TheVariants as piece
 use Rattle.profile_machine.specs.Rows.Notation.{decl, expr, stmt, scope, subprogram, task, t, declaration, variable, statement, scope_text, subprogram_text, policies, main_procedure}
 use Rattle.profile_machine.specs.Run.{run_of}
+use Rattle.profile_machine.specs.Computing.{computing}
 use Rattle.std.specs.Fmt.{digits}
 use Rattle.std.specs.Prelude.{Bool}
 use Rattle.profile_machine.specs.WellFormed.{run_is_well_formed}
@@ -81,7 +82,7 @@ row_values_defaults_trace =
     ∷ []
 
 pub row_values_defaults_runs : row_values_defaults_lines ≡ row_values_defaults_trace
-unfolding row_values_defaults_lines row_values_defaults_trace digits
+unfolding row_values_defaults_lines row_values_defaults_trace digits computing
 row_values_defaults_runs = refl
 
 -- whether every world of its run is well formed
@@ -89,7 +90,7 @@ unfoldable pub row_values_defaults_worlds : Bool
 row_values_defaults_worlds = run_is_well_formed row_values_defaults_program row_values_defaults_script 15
 
 pub row_values_defaults_keeps : row_values_defaults_worlds ≡ true
-unfolding row_values_defaults_worlds
+unfolding row_values_defaults_worlds computing
 row_values_defaults_keeps = refl
 
 -- whether each handler is released at its tick
@@ -97,5 +98,5 @@ unfoldable pub row_values_defaults_handlers : Bool
 row_values_defaults_handlers = releases_ok row_values_defaults_program row_values_defaults_script 15
 
 pub row_values_defaults_releases : row_values_defaults_handlers ≡ true
-unfolding row_values_defaults_handlers
+unfolding row_values_defaults_handlers computing
 row_values_defaults_releases = refl

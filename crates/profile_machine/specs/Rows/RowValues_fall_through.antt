@@ -22,6 +22,7 @@ use Rattle.profile_machine.specs.declared.statements.Destination.TheVariants as 
 use Rattle.profile_machine.specs.declared.statements.Piece.TheVariants as piece
 use Rattle.profile_machine.specs.Rows.Notation.{decl, expr, stmt, scope, subprogram, controlled_type, task, region, t, declaration, variable, statement, handler, scope_text, formal, subprogram_text, controlled_text, policies, main_procedure}
 use Rattle.profile_machine.specs.Run.{run_of}
+use Rattle.profile_machine.specs.Computing.{computing}
 use Rattle.std.specs.Fmt.{digits}
 use Rattle.std.specs.Prelude.{Bool}
 use Rattle.profile_machine.specs.WellFormed.{run_is_well_formed}
@@ -108,7 +109,7 @@ row_values_fall_through_trace =
     ∷ []
 
 pub row_values_fall_through_runs : row_values_fall_through_lines ≡ row_values_fall_through_trace
-unfolding row_values_fall_through_lines row_values_fall_through_trace digits
+unfolding row_values_fall_through_lines row_values_fall_through_trace digits computing
 row_values_fall_through_runs = refl
 
 -- whether every world of its run is well formed
@@ -116,7 +117,7 @@ unfoldable pub row_values_fall_through_worlds : Bool
 row_values_fall_through_worlds = run_is_well_formed row_values_fall_through_program row_values_fall_through_script 34
 
 pub row_values_fall_through_keeps : row_values_fall_through_worlds ≡ true
-unfolding row_values_fall_through_worlds
+unfolding row_values_fall_through_worlds computing
 row_values_fall_through_keeps = refl
 
 -- whether each handler is released at its tick
@@ -124,5 +125,5 @@ unfoldable pub row_values_fall_through_handlers : Bool
 row_values_fall_through_handlers = releases_ok row_values_fall_through_program row_values_fall_through_script 34
 
 pub row_values_fall_through_releases : row_values_fall_through_handlers ≡ true
-unfolding row_values_fall_through_handlers
+unfolding row_values_fall_through_handlers computing
 row_values_fall_through_releases = refl

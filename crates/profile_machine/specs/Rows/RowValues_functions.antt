@@ -28,6 +28,7 @@ use Rattle.profile_machine.specs.declared.statements.EntryOwner.TheVariants as o
 use Rattle.profile_machine.specs.declared.statements.Piece.TheVariants as piece
 use Rattle.profile_machine.specs.Rows.Notation.{decl, expr, stmt, scope, subprogram, protected_unit, entry, enumeration, task, call, p, t, of_object, declaration, variable, statement, alternative, handler, cell_run, scope_text, formal, subprogram_text, protected_unit_text, entry_body, entry_text, enumeration_text, policies, main_procedure}
 use Rattle.profile_machine.specs.Run.{run_of}
+use Rattle.profile_machine.specs.Computing.{computing}
 use Rattle.std.specs.Fmt.{digits}
 use Rattle.std.specs.Prelude.{Bool}
 use Rattle.profile_machine.specs.WellFormed.{run_is_well_formed}
@@ -262,7 +263,7 @@ row_values_functions_trace =
     ∷ []
 
 pub row_values_functions_runs : row_values_functions_lines ≡ row_values_functions_trace
-unfolding row_values_functions_lines row_values_functions_trace digits
+unfolding row_values_functions_lines row_values_functions_trace digits computing
 row_values_functions_runs = refl
 
 -- whether every world of its run is well formed
@@ -270,7 +271,7 @@ unfoldable pub row_values_functions_worlds : Bool
 row_values_functions_worlds = run_is_well_formed row_values_functions_program row_values_functions_script 243
 
 pub row_values_functions_keeps : row_values_functions_worlds ≡ true
-unfolding row_values_functions_worlds
+unfolding row_values_functions_worlds computing
 row_values_functions_keeps = refl
 
 -- whether each handler is released at its tick
@@ -278,5 +279,5 @@ unfoldable pub row_values_functions_handlers : Bool
 row_values_functions_handlers = releases_ok row_values_functions_program row_values_functions_script 243
 
 pub row_values_functions_releases : row_values_functions_handlers ≡ true
-unfolding row_values_functions_handlers
+unfolding row_values_functions_handlers computing
 row_values_functions_releases = refl

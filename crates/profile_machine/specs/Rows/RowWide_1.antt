@@ -15,6 +15,7 @@ use Rattle.profile_machine.specs.declared.expressions.Expression.TheVariants.{Kn
 use Rattle.profile_machine.specs.declared.statements.StatementForm.TheVariants as form
 use Rattle.profile_machine.specs.Rows.Notation.{expr, stmt, scope, task, t, statement, scope_text, policies, main_procedure}
 use Rattle.profile_machine.specs.Run.{run_of}
+use Rattle.profile_machine.specs.Computing.{computing}
 use Rattle.std.specs.Fmt.{digits}
 use Rattle.std.specs.Prelude.{Bool}
 use Rattle.profile_machine.specs.WellFormed.{run_is_well_formed}
@@ -77,7 +78,7 @@ row_wide_1_trace =
     ∷ []
 
 pub row_wide_1_runs : row_wide_1_lines ≡ row_wide_1_trace
-unfolding row_wide_1_lines row_wide_1_trace digits
+unfolding row_wide_1_lines row_wide_1_trace digits computing
 row_wide_1_runs = refl
 
 -- whether every world of its run is well formed
@@ -85,7 +86,7 @@ unfoldable pub row_wide_1_worlds : Bool
 row_wide_1_worlds = run_is_well_formed row_wide_1_program row_wide_1_script 70
 
 pub row_wide_1_keeps : row_wide_1_worlds ≡ true
-unfolding row_wide_1_worlds
+unfolding row_wide_1_worlds computing
 row_wide_1_keeps = refl
 
 -- whether each handler is released at its tick
@@ -93,5 +94,5 @@ unfoldable pub row_wide_1_handlers : Bool
 row_wide_1_handlers = releases_ok row_wide_1_program row_wide_1_script 70
 
 pub row_wide_1_releases : row_wide_1_handlers ≡ true
-unfolding row_wide_1_handlers
+unfolding row_wide_1_handlers computing
 row_wide_1_releases = refl

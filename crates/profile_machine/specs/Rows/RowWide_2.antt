@@ -11,6 +11,7 @@ use Rattle.profile_machine.specs.declared.statements.StatementForm.TheVariants a
 use Rattle.profile_machine.specs.declared.statements.Piece.TheVariants as piece
 use Rattle.profile_machine.specs.Rows.Notation.{stmt, scope, task, t, statement, scope_text, policies, main_procedure}
 use Rattle.profile_machine.specs.Run.{run_of}
+use Rattle.profile_machine.specs.Computing.{computing}
 use Rattle.std.specs.Fmt.{digits}
 use Rattle.std.specs.Prelude.{Bool}
 use Rattle.profile_machine.specs.WellFormed.{run_is_well_formed}
@@ -60,7 +61,7 @@ row_wide_2_trace =
     ∷ []
 
 pub row_wide_2_runs : row_wide_2_lines ≡ row_wide_2_trace
-unfolding row_wide_2_lines row_wide_2_trace digits
+unfolding row_wide_2_lines row_wide_2_trace digits computing
 row_wide_2_runs = refl
 
 -- whether every world of its run is well formed
@@ -68,7 +69,7 @@ unfoldable pub row_wide_2_worlds : Bool
 row_wide_2_worlds = run_is_well_formed row_wide_2_program row_wide_2_script 10
 
 pub row_wide_2_keeps : row_wide_2_worlds ≡ true
-unfolding row_wide_2_worlds
+unfolding row_wide_2_worlds computing
 row_wide_2_keeps = refl
 
 -- whether each handler is released at its tick
@@ -76,5 +77,5 @@ unfoldable pub row_wide_2_handlers : Bool
 row_wide_2_handlers = releases_ok row_wide_2_program row_wide_2_script 10
 
 pub row_wide_2_releases : row_wide_2_handlers ≡ true
-unfolding row_wide_2_handlers
+unfolding row_wide_2_handlers computing
 row_wide_2_releases = refl

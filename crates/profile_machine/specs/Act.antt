@@ -30,7 +30,8 @@ use Rattle.profile_machine.specs.declared.world.marks.ResultTo.TheVariants as bo
 use Rattle.profile_machine.specs.declared.world.tasks.Waiting.TheVariants as waits_for
 use Rattle.profile_machine.specs.declared.world.marks.Mark.TheVariants.{Scope, Handled, InProtected, InAccept, Abortable, InInitialize, InFinalize, InAssign}
 use Rattle.profile_machine.specs.Program.{form_of, next_of, scope_of, marks_of}
-use Rattle.profile_machine.specs.Steps.{Step, own, the_block, changes, looks, nothing, ◌▷◌}
+use Rattle.profile_machine.specs.declared.world.lines.Part.TheVariants.{Own, TheBlock}
+use Rattle.profile_machine.specs.Steps.{Step, changes, looks, nothing, ◌▷◌}
 use Rattle.profile_machine.specs.Dispatching.{block}
 use Rattle.profile_machine.specs.Frames.{frames_of, top_of, edit_top, goes, raises, leaving_of, with_room, with_mark, pop, pass_on, handlers_in}
 use Rattle.profile_machine.specs.Scopes.{open_scope, plainly, innermost}
@@ -114,7 +115,7 @@ end_handled p name s leaving = changes (pop name) ▷ behind_handled p name s le
 -- ---- the end of an abortable part (9.7.4): cancellation of the trigger is attempted first
 
 unfoldable pub end_top : Image → Who → Step
-end_top p name = looks (λ w. end_top_abortable p own name (frames_of w name))
+end_top p name = looks (λ w. end_top_abortable p Own name (frames_of w name))
 
 abbrev pub waiting_mark : AbortableMark → AbortableMark
 waiting_mark m = record m { waits = true }
@@ -122,7 +123,7 @@ waiting_mark m = record m { waits = true }
 unfoldable pub wait_for_trigger : Image → Who → Call → Leaving → Step
 wait_for_trigger p name c leaving =
     changes (edit_top name (λ f. with_mark (edit_abortable waiting_mark f.mark) (record f { left_as = Some leaving })))
-    ▷ block the_block name (waits_for.EndOfCall c.number)
+    ▷ block TheBlock name (waits_for.EndOfCall c.number)
 
 -- a call that is no longer there needs no wait
 abbrev pub drop_trigger : Who → ℕ → World → World
@@ -135,7 +136,7 @@ below frames = length frames - 1
 unfoldable pub end_abortable_by : Image → Who → AbortableMark → Leaving → Step
 end_abortable_by p name m leaving = elim m.call [
   | None ↦ looks (λ w. changes (drop_trigger name (below (frames_of w name)))) ▷ end_top p name
-  | Some c ↦ with_call c (λ d. attempt_with p own d (end_top p name) (wait_for_trigger p name d leaving))
+  | Some c ↦ with_call c (λ d. attempt_with p Own d (end_top p name) (wait_for_trigger p name d leaving))
 ]
 
 unfoldable pub end_in_abortable : Image → Who → AbortableMark → Leaving → Step
@@ -166,7 +167,7 @@ act_statement p name s (form.Exit condition of_loop) = exit_statement p name s o
 act_statement p name s (form.Block scope) = block_statement p name s scope
 act_statement p name s form.Return = return name
 act_statement p name s (form.ReturnValue function e) = return_value p name function e
-act_statement p name s (form.Raise e) = raises p own name e
+act_statement p name s (form.Raise e) = raises p Own name e
 act_statement p name s (form.RaiseAgain scope) = raise_again p name scope
 act_statement p name s (form.Delay e) = sees p name (λ q. delay_until p name s (relative_moment q e))
 act_statement p name s (form.DelayUntil e) = sees p name (λ q. delay_until p name s (moment q e))

@@ -2,9 +2,7 @@
 use Rattle.std.specs.Prelude.{ℕ, suc, Bool, true, false, cond, not, ◌&&◌, List, [], ◌∷◌, ◌++◌, Option, Some, None, ltb, leb, find, length, take, is_none}
 use Rattle.ann_base.specs.declared.identities.CallNo.{CallNo}
 use Rattle.ann_base.specs.declared.identities.ObjectNo.{ObjectNo}
-use Rattle.trace_text.specs.declared.events.Event.TheVariants as line
-use Rattle.trace_text.specs.declared.events.EntryName.{EntryName}
-use Rattle.trace_text.specs.declared.events.EntryName.TheVariants as called
+use Rattle.profile_machine.specs.declared.world.lines.Line.TheVariants as line
 use Rattle.trace_text.specs.declared.events.Who.TheVariants as who
 use Rattle.profile_machine.specs.declared.image.Image.{Image}
 use Rattle.profile_machine.specs.declared.image.Queuing.{Queuing}
@@ -19,7 +17,8 @@ use Rattle.profile_machine.specs.declared.world.Drawn.{Drawn}
 use Rattle.profile_machine.specs.declared.world.calls.Owner.TheVariants as owned_by
 use Rattle.profile_machine.specs.Words.{same_call, without, edit_where, edit_at}
 use Rattle.profile_machine.specs.Program.{entry_of}
-use Rattle.profile_machine.specs.Steps.{Step, Part, says, changes, looks, for_some, ◌▷◌}
+use Rattle.profile_machine.specs.declared.world.lines.Part.{Part}
+use Rattle.profile_machine.specs.Steps.{Step, says, changes, looks, for_some, ◌▷◌}
 use Rattle.profile_machine.specs.Tasks.{task_of, edit_task}
 use Rattle.profile_machine.specs.Values.{object_of, is_object, queue_at, queues_of}
 use Rattle.profile_machine.specs.Appointments.{drop_appointment, is_timeout_of}
@@ -48,12 +47,8 @@ call_drawn d = record d { calls = suc d.calls }
 
 -- ---- names in lines
 
-abbrev pub name_of_entry : Image → Owner → EntryNo → EntryName
-name_of_entry p (owned_by.Task t) e = called.OfTask t (entry_of p e).name
-name_of_entry p (owned_by.Object o) e = called.OfObject o (entry_of p e).name
-
 unfoldable pub says_call : Image → Part → Call → Step
-says_call p part c = says part (line.Call c.caller c.number (name_of_entry p c.owner c.entry) c.priority)
+says_call p part c = says part (line.Call c.caller c.number c.owner c.entry c.priority)
 
 -- ---- parameters: a body that takes a call has those of its own entry alone, also where the call was sent on to an
 -- entry without any; the call keeps its values (9.5.4)

@@ -2,7 +2,7 @@
 use Rattle.std.specs.Prelude.{ℕ, suc, ◌+◌, ◌-◌, Bool, true, false, cond, ◌&&◌, [], ◌∷◌, Option, Some, None, eqb, find, option_and_then}
 use Rattle.ann_base.specs.declared.identities.RegionNo.{RegionNo}
 use Rattle.ann_base.specs.declared.exceptions.Raised.TheVariants as exception
-use Rattle.trace_text.specs.declared.events.Event.TheVariants as line
+use Rattle.profile_machine.specs.declared.world.lines.Line.TheVariants as line
 use Rattle.trace_text.specs.declared.events.Who.{Who}
 use Rattle.profile_machine.specs.declared.image.Image.{Image}
 use Rattle.profile_machine.specs.declared.numbers.DeclNo.{DeclNo}
@@ -30,7 +30,8 @@ use Rattle.profile_machine.specs.declared.world.marks.ResultTo.TheVariants as bo
 use Rattle.profile_machine.specs.declared.world.marks.Mark.TheVariants.{Scope, Handled, InProtected, InAccept, Abortable, InInitialize, InFinalize, InAssign}
 use Rattle.profile_machine.specs.Words.{same_id, without}
 use Rattle.profile_machine.specs.Program.{declaration_of, next_of, scope_of, marks_of, subprogram_of, controlled_of, no_controlled}
-use Rattle.profile_machine.specs.Steps.{Step, own, says, changes, looks, nothing, ◌▷◌}
+use Rattle.profile_machine.specs.declared.world.lines.Part.TheVariants.{Own}
+use Rattle.profile_machine.specs.Steps.{Step, says, changes, looks, nothing, ◌▷◌}
 use Rattle.profile_machine.specs.Frames.{top_of, edit_top, push, pop, new_frame, goes, leaves, raises, given, with_room, has_room, with_mark, pass_on}
 use Rattle.profile_machine.specs.Scopes.{home, read_cell, write_cell, open_scope, edit_cells, Beginning, innermost}
 use Rattle.profile_machine.specs.Values.{located, controlled_cells}
@@ -85,7 +86,7 @@ register p name l =
     looks (λ w.
     let n = suc w.drawn.controlled in
     changes (registered_as n (top_region w name) l) ▷ changes (write_cell l.within (first_place p l) (Thing n))
-    ▷ says own (line.Init name n (top_region w name) (declaration_of p l.declared).name))
+    ▷ says Own (line.Init name n (top_region w name) l.declared))
 
 -- ---- Initialize (7.6): without an override the object is registered at once
 
@@ -97,7 +98,7 @@ initialize_by p name s l (Some f) =
 
 unfoldable pub initialize : Image → Who → StatementNo → DeclNo → Step
 initialize p name s d =
-    sees p name (λ q. given p own name (located q d) (λ l. initialize_by p name s l (type_of p l).initialize))
+    sees p name (λ q. given p Own name (located q d) (λ l. initialize_by p name s l (type_of p l).initialize))
 
 -- InInitialize registers the object, but not where it is left by an exception
 abbrev pub registers : Leaving → Bool
@@ -153,7 +154,7 @@ no_longer_registered n w = record w { registered = without (is_number n) w.regis
 
 unfoldable pub finalize : Image → Who → Registered → Step
 finalize p name r =
-    says own (line.Final name r.object) ▷ changes (no_longer_registered r.object) ▷ finalize_by p name r (type_of p r.located).finalize
+    says Own (line.Final name r.object) ▷ changes (no_longer_registered r.object) ▷ finalize_by p name r (type_of p r.located).finalize
 
 -- the one of the region with the greatest number
 abbrev pub next_to_finalize : World → RegionNo → Option Registered
@@ -204,13 +205,13 @@ new_assign_mark target source = InAssign (record { target = target; source = sou
 unfoldable pub begin_assignment : Image → Who → StatementNo → ℕ → ℕ → Step
 begin_assignment p name s target source =
     with_room p name 1 0
-    (goes name (next_of p s) ▷ says own (line.Replace name target) ▷ changes (push name (new_frame (new_assign_mark target source) None)))
+    (goes name (next_of p s) ▷ says Own (line.Replace name target) ▷ changes (push name (new_frame (new_assign_mark target source) None)))
 
 -- a target or a source that is not registered raises Program_Error (own)
 unfoldable pub assign_registered : Image → Who → StatementNo → Option Registered → Option Registered → Step
 assign_registered p name s (Some target) (Some source) = begin_assignment p name s target.object source.object
-assign_registered p name s (Some target) None = raises p own name exception.Program
-assign_registered p name s None source = raises p own name exception.Program
+assign_registered p name s (Some target) None = raises p Own name exception.Program
+assign_registered p name s None source = raises p Own name exception.Program
 
 -- to itself it does nothing (own)
 unfoldable pub assign_located : Image → Who → StatementNo → Located → Located → Step
@@ -220,7 +221,7 @@ assign_located p name s target source =
 
 unfoldable pub assign_controlled : Image → Who → StatementNo → DeclNo → DeclNo → Step
 assign_controlled p name s target source =
-    sees p name (λ q. given p own name (located q target) (λ t. given p own name (located q source) (λ f. assign_located p name s t f)))
+    sees p name (λ q. given p Own name (located q target) (λ t. given p Own name (located q source) (λ f. assign_located p name s t f)))
 
 -- ---- the steps of an assignment
 
@@ -290,5 +291,5 @@ step_with p name step None source = changes (pop name)
 
 -- InAssign that is left by an exception goes on with Program_Error; else its next step is done
 unfoldable pub end_in_assign : Image → Who → AssignMark → Option Leaving → Step
-end_in_assign p name m (Some (how.Exception e)) = changes (pop name) ▷ raises p own name exception.Program
+end_in_assign p name m (Some (how.Exception e)) = changes (pop name) ▷ raises p Own name exception.Program
 end_in_assign p name m _ = looks (λ w. step_with p name m.step (registered_object w m.target) (registered_object w m.source))

@@ -2,7 +2,7 @@
 use Rattle.std.specs.Prelude.{ℕ, suc, not, List, [], ◌∷◌, ◌++◌, Option, Some, None, Ok, Err, leb, length, take, drop}
 use Rattle.ann_base.specs.declared.identities.TaskNo.{TaskNo}
 use Rattle.ann_base.specs.declared.exceptions.Raised.TheVariants as exception
-use Rattle.trace_text.specs.declared.events.Event.TheVariants as line
+use Rattle.profile_machine.specs.declared.world.lines.Line.TheVariants as line
 use Rattle.trace_text.specs.declared.events.Created.TheVariants as created
 use Rattle.trace_text.specs.declared.events.Who.{Who}
 use Rattle.profile_machine.specs.declared.image.Image.{Image}
@@ -24,7 +24,8 @@ use Rattle.profile_machine.specs.declared.world.scopes.Variable.{Variable}
 use Rattle.profile_machine.specs.declared.world.objects.Object.{Object}
 use Rattle.profile_machine.specs.declared.world.Drawn.{Drawn}
 use Rattle.profile_machine.specs.Program.{declaration_of, next_of, scope_of, protected_unit_of, controlled_of, initial_cells}
-use Rattle.profile_machine.specs.Steps.{Step, own, says, changes, looks, ◌▷◌}
+use Rattle.profile_machine.specs.declared.world.lines.Part.TheVariants.{Own}
+use Rattle.profile_machine.specs.Steps.{Step, says, changes, looks, ◌▷◌}
 use Rattle.profile_machine.specs.Frames.{goes, given}
 use Rattle.profile_machine.specs.Scopes.{write_cell, edit_cells, scope_in_use}
 use Rattle.profile_machine.specs.Operators.{Valued, ◌>>=◌, unless}
@@ -100,12 +101,12 @@ with_object p l u w =
 -- `new` with the ceiling
 unfoldable pub says_object : Image → Located → ProtectedUnitNo → Step
 says_object p l u =
-    looks (λ w. says own (line.New (created.Object (record { 0 = w.drawn.objects })) (declaration_of p l.declared).expanded (protected_unit_of p u).ceiling))
+    looks (λ w. says Own (line.New (created.Object (record { 0 = w.drawn.objects })) (Some l.declared) (protected_unit_of p u).ceiling))
 
 unfoldable pub declare_protected : Image → Who → StatementNo → DeclNo → ProtectedUnitNo → Step
 declare_protected p name s d u =
-    sees p name (λ q. given p own name (located_here q d) (λ l.
-    given p own name (components_initialized q protected_cells l (protected_unit_of p u).components q.world) (λ next.
+    sees p name (λ q. given p Own name (located_here q d) (λ l.
+    given p Own name (components_initialized q protected_cells l (protected_unit_of p u).components q.world) (λ next.
     changes (λ _. next) ▷ goes name (next_of p s) ▷ changes (with_object p l u) ▷ says_object p l u)))
 
 -- a controlled object is made; it is registered behind its Initialize
@@ -156,7 +157,7 @@ declared q d kind.Other = Ok q.world
 
 unfoldable pub declare_quietly : Image → Who → StatementNo → DeclNo → Step
 declare_quietly p name s d =
-    sees p name (λ q. given p own name (declared q d (declaration_of p d).kind) (λ next. changes (λ _. next) ▷ goes name (next_of p s)))
+    sees p name (λ q. given p Own name (declared q d (declaration_of p d).kind) (λ next. changes (λ _. next) ▷ goes name (next_of p s)))
 
 unfoldable pub declare_by : Image → Who → StatementNo → DeclNo → DeclarationKind → Step
 declare_by p name s d (kind.Protected u) = declare_protected p name s d u

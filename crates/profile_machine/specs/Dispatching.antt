@@ -1,6 +1,6 @@
 -- Active priorities, places, and the choice of who runs (D.1, D.2).
 use Rattle.std.specs.Prelude.{ℕ, ℤ, Bool, true, cond, not, ◌&&◌, List, [], ◌∷◌, ◌++◌, Option, Some, None, eqb, ltb, leb, int_lt, filter, map, max, slice_index_or}
-use Rattle.trace_text.specs.declared.events.Event.TheVariants as line
+use Rattle.profile_machine.specs.declared.world.lines.Line.TheVariants as line
 use Rattle.trace_text.specs.declared.events.Who.{Who}
 use Rattle.trace_text.specs.declared.events.QueueEnd.{QueueEnd}
 use Rattle.trace_text.specs.declared.events.QueueEnd.TheVariants.{Head, Tail}
@@ -17,7 +17,8 @@ use Rattle.profile_machine.specs.declared.world.tasks.Waiting.TheVariants as wai
 use Rattle.profile_machine.specs.declared.world.tasks.State.TheVariants.{Runnable, Blocked}
 use Rattle.profile_machine.specs.Words.{greatest_of, some_where}
 use Rattle.profile_machine.specs.Program.{is_edf_level, is_robin_level, edf_low}
-use Rattle.profile_machine.specs.Steps.{Part, Step, says, changes, looks, ◌▷◌}
+use Rattle.profile_machine.specs.declared.world.lines.Part.{Part}
+use Rattle.profile_machine.specs.Steps.{Step, says, changes, looks, ◌▷◌}
 use Rattle.profile_machine.specs.Tasks.{task_of, edit_task, with_state, is_runnable, is_who}
 
 -- ---- active priorities (D.1, D.2.6)

@@ -5,8 +5,8 @@ use Rattle.ann_base.specs.declared.identities.ObjectNo.{ObjectNo}
 use Rattle.ann_base.specs.declared.identities.TaskNo.{TaskNo}
 use Rattle.ann_base.specs.declared.exceptions.Raised.{Raised}
 use Rattle.ann_base.specs.declared.exceptions.Raised.TheVariants as exception
-use Rattle.trace_text.specs.declared.events.Event.TheVariants as line
-use Rattle.trace_text.specs.declared.events.Finished.TheVariants as finished
+use Rattle.profile_machine.specs.declared.world.lines.Line.TheVariants as line
+use Rattle.profile_machine.specs.declared.world.lines.MeetingEnd.TheVariants as meeting
 use Rattle.trace_text.specs.declared.events.Mode.TheVariants.{Write}
 use Rattle.trace_text.specs.declared.events.Who.{Who}
 use Rattle.trace_text.specs.declared.events.Who.TheVariants as who
@@ -34,10 +34,12 @@ use Rattle.profile_machine.specs.declared.world.appointments.Due.TheVariants as 
 use Rattle.profile_machine.specs.declared.world.calls.Owner.TheVariants as owned_by
 use Rattle.profile_machine.specs.declared.world.tasks.Waiting.TheVariants as waits_for
 use Rattle.profile_machine.specs.Program.{form_of, next_of, scope_of, marks_of, entry_of, task_unit_of}
-use Rattle.profile_machine.specs.Steps.{Step, Part, the_call, the_finish, own, of_other, the_block, says, changes, looks, nothing, ◌▷◌}
+use Rattle.profile_machine.specs.declared.world.lines.Part.{Part}
+use Rattle.profile_machine.specs.declared.world.lines.Part.TheVariants.{TheCall, TheFinish, Own, OfOther, TheBlock}
+use Rattle.profile_machine.specs.Steps.{Step, says, changes, looks, nothing, ◌▷◌}
 use Rattle.profile_machine.specs.Tasks.{waiting_of, number_of}
 use Rattle.profile_machine.specs.Dispatching.{active_of, block}
-use Rattle.profile_machine.specs.Frames.{frames_of, goes, leaves, raises, given, raise_if, with_room, has_room, in_protected, is_deferred, exception_name}
+use Rattle.profile_machine.specs.Frames.{frames_of, goes, leaves, raises, given, raise_if, with_room, has_room, in_protected, is_deferred}
 use Rattle.profile_machine.specs.Scopes.{home, scope_in_use}
 use Rattle.profile_machine.specs.Operators.{Valued, ◌>>=◌, checked}
 use Rattle.profile_machine.specs.Values.{Seen, value, variable, read, thing, thing_number, task_in, or_misfit, moment, own_object}
@@ -134,7 +136,7 @@ add_call c w = record w { calls = numbered (suc w.drawn.calls) c ∷ w.calls; dr
 abbrev pub make_call : Image → Call → (Call → Step) → Step
 make_call p c step =
     goes (who.Task c.caller) (next_of p c.statement)
-    ▷ looks (λ w. changes (add_call c) ▷ says_call p the_call (numbered (suc w.drawn.calls) c) ▷ step (numbered (suc w.drawn.calls) c))
+    ▷ looks (λ w. changes (add_call c) ▷ says_call p TheCall (numbered (suc w.drawn.calls) c) ▷ step (numbered (suc w.drawn.calls) c))
 
 -- it ends at once with an exception
 unfoldable pub end_at_once : Image → Part → Call → Raised → Step
@@ -143,17 +145,17 @@ end_at_once p part c e = changes (forget_call c.number) ▷ raises p part (who.T
 -- ---- a call of a task's entry (9.5.3)
 
 unfoldable pub call_gone : Image → Call → Step
-call_gone p c = gone p own c ▷ end_at_once p own c exception.Tasking
+call_gone p c = gone p Own c ▷ end_at_once p Own c exception.Tasking
 
 -- the callee waits for it: the rendezvous begins, and the caller blocks
 unfoldable pub call_meets : Image → TaskNo → StatementNo → Call → Step
 call_meets p t s c =
-    meet p (of_other (who.Task t)) (who.Task t) s c
-    (block the_block (who.Task c.caller) (waits_for.Call c.number))
-    (end_at_once p the_finish c exception.Storage)
+    meet p (OfOther (who.Task t)) (who.Task t) s c
+    (block TheBlock (who.Task c.caller) (waits_for.Call c.number))
+    (end_at_once p TheFinish c exception.Storage)
 
 unfoldable pub call_queues : Image → Call → Step
-call_queues p c = enqueue p c.number ▷ not_accepted p own c c.kind
+call_queues p c = enqueue p c.number ▷ not_accepted p Own c c.kind
 
 -- a triggering call needs a mark where it is queued
 abbrev pub marks_if_queued : CallKind → ℕ
@@ -163,7 +165,7 @@ marks_if_queued call_kind.Timed = 0
 marks_if_queued call_kind.Triggering = 1
 
 unfoldable pub call_not_met : Image → Call → Bool → Step
-call_not_met p c true = make_call p c (λ d. end_at_once p own d exception.Program)
+call_not_met p c true = make_call p c (λ d. end_at_once p Own d exception.Program)
 call_not_met p c false = with_room p (who.Task c.caller) (marks_if_queued c.kind) 0 (make_call p c (call_queues p))
 
 unfoldable pub call_accepted_by : Image → TaskNo → Call → Option StatementNo → Step
@@ -182,14 +184,14 @@ call_task p t c = looks (λ w. call_callable p t c (is_callable w t))
 unfoldable pub call_runs : Image → ObjectNo → Call → Step
 call_runs p o c =
     begin_action_on p (who.Task c.caller) o Write (Some c.number) None
-    ▷ serve_call p own (who.Task c.caller) o c nothing nothing
+    ▷ serve_call p Own (who.Task c.caller) o c nothing nothing
 
 -- without room the body starts and finishes at once, and nothing is placed
 unfoldable pub call_without_room : Image → ObjectNo → Call → Step
 call_without_room p o c =
-    says own (line.Enter (who.Task c.caller) o Write) ▷ says own (line.Start (who.Task c.caller) c.number)
-    ▷ says own (line.Finish (who.Task c.caller) c.number (finished.Raised (exception_name p exception.Storage)))
-    ▷ says own (line.Exit (who.Task c.caller) o) ▷ end_at_once p own c exception.Storage
+    says Own (line.Enter (who.Task c.caller) o Write) ▷ says Own (line.Start (who.Task c.caller) c.number)
+    ▷ says Own (line.Finish (who.Task c.caller) c.number (meeting.Raised exception.Storage))
+    ▷ says Own (line.Exit (who.Task c.caller) o) ▷ end_at_once p Own c exception.Storage
 
 abbrev pub has_room_for_action : Image → World → Call → Bool
 has_room_for_action p w c =
@@ -202,12 +204,12 @@ call_runs_if_room p o c =
 -- it is queued: the action ends at once, and nothing is placed
 unfoldable pub call_passes : Image → ObjectNo → Call → Step
 call_passes p o c =
-    says own (line.Enter (who.Task c.caller) o Write) ▷ enqueue p c.number ▷ says own (line.Exit (who.Task c.caller) o)
-    ▷ not_accepted p own c c.kind
+    says Own (line.Enter (who.Task c.caller) o Write) ▷ enqueue p c.number ▷ says Own (line.Exit (who.Task c.caller) o)
+    ▷ not_accepted p Own c c.kind
 
 unfoldable pub call_refused : Image → ObjectNo → Call → Step
 call_refused p o c =
-    says own (line.Enter (who.Task c.caller) o Write) ▷ says own (line.Exit (who.Task c.caller) o) ▷ end_at_once p own c exception.Program
+    says Own (line.Enter (who.Task c.caller) o Write) ▷ says Own (line.Exit (who.Task c.caller) o) ▷ end_at_once p Own c exception.Program
 
 unfoldable pub call_closed : Image → ObjectNo → Call → Bool → Step
 call_closed p o c true = make_call p c (call_refused p o)
@@ -230,9 +232,9 @@ call_owner p c (owned_by.Object o) = call_object p o c
 
 unfoldable pub call_named : Image → TaskNo → CallKind → StatementNo → NamedCall → Step
 call_named p t kind s n =
-    sees p (who.Task t) (λ q. given p own (who.Task t) (owner_of_entry q n.entry n.owner) (λ o.
-    given p own (who.Task t) (entry_parameters q (entry_of p n.entry).formals n.actuals) (λ parameters.
-    given p own (who.Task t) (timed_moment q (form_of p s)) (λ m.
+    sees p (who.Task t) (λ q. given p Own (who.Task t) (owner_of_entry q n.entry n.owner) (λ o.
+    given p Own (who.Task t) (entry_parameters q (entry_of p n.entry).formals n.actuals) (λ parameters.
+    given p Own (who.Task t) (timed_moment q (form_of p s)) (λ m.
     call_owner p (new_call t kind s n o (active_of p q.world (who.Task t)) parameters m) o))))
 
 -- inside a protected action Program_Error is raised, and for a trigger wherever abort is deferred (own)
@@ -242,7 +244,7 @@ is_forbidden w name kind = in_protected w name || (is_triggering kind && is_defe
 unfoldable pub entry_call : Image → Who → CallKind → StatementNo → Step
 entry_call p (who.Task t) kind s =
     looks (λ w. raise_if p (who.Task t) (is_forbidden w (who.Task t) kind) exception.Program (call_named p t kind s (named_call p s)))
-entry_call p who.Agent kind s = raises p own who.Agent exception.Program
+entry_call p who.Agent kind s = raises p Own who.Agent exception.Program
 
 -- ---- the asynchronous select (9.7.4): the trigger is issued first
 
@@ -260,7 +262,7 @@ trigger_delay p name s trigger m true =
 unfoldable pub async_delay : Image → Who → StatementNo → StatementNo → Step
 async_delay p name s trigger =
     sees p name (λ q. raise_if p name (is_forbidden q.world name call_kind.Triggering) exception.Program
-    (given p own name (delay_moment q trigger) (λ m. trigger_delay p name s trigger m (int_lt (pos q.world.time) m))))
+    (given p Own name (delay_moment q trigger) (λ m. trigger_delay p name s trigger m (int_lt (pos q.world.time) m))))
 
 unfoldable pub async_by_trigger : Image → Who → StatementNo → StatementNo → StatementForm → Step
 async_by_trigger p name s trigger (form.EntryCall entry owner actuals) = entry_call p name call_kind.Triggering s
@@ -280,5 +282,5 @@ mark_sending (Some c) o e with_abort = edit_call c (with_sending o e with_abort)
 
 unfoldable pub requeue : Image → Who → EntryNo → EntryOwner → Bool → Step
 requeue p name e o with_abort =
-    sees p name (λ q. given p own name (owner_of_entry q e o) (λ target.
+    sees p name (λ q. given p Own name (owner_of_entry q e o) (λ target.
     changes (mark_sending (call_that_returns (frames_of q.world name)) target e with_abort) ▷ leaves name how.Return))

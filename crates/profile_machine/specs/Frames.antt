@@ -1,8 +1,8 @@
 -- Open constructs: opening them, leaving them, and going on (clauses 5, 6, 7.6.1, 11).
-use Rattle.std.specs.Prelude.{ℕ, ◌+◌, Bool, true, false, cond, ◌&&◌, List, [], ◌∷◌, Option, Some, None, leb, length, option_and_then, sum_by, codes, Result, Ok, Err}
+use Rattle.std.specs.Prelude.{ℕ, ◌+◌, Bool, true, false, cond, ◌&&◌, List, [], ◌∷◌, Option, Some, None, leb, length, option_and_then, sum_by, Result, Ok, Err}
 use Rattle.ann_base.specs.declared.exceptions.Raised.{Raised}
 use Rattle.ann_base.specs.declared.exceptions.Raised.TheVariants as exception
-use Rattle.trace_text.specs.declared.events.Event.TheVariants as line
+use Rattle.profile_machine.specs.declared.world.lines.Line.TheVariants as line
 use Rattle.trace_text.specs.declared.events.Who.{Who}
 use Rattle.profile_machine.specs.declared.image.Image.{Image}
 use Rattle.profile_machine.specs.declared.numbers.StatementNo.{StatementNo}
@@ -19,7 +19,9 @@ use Rattle.profile_machine.specs.declared.world.marks.Purpose.TheVariants as ope
 use Rattle.profile_machine.specs.declared.world.marks.Mark.TheVariants.{Scope, Handled, InProtected, InAccept, Abortable, InInitialize, InFinalize, InAssign}
 use Rattle.profile_machine.specs.Words.{same_statement, same_option, first_of_list, option_or_else}
 use Rattle.profile_machine.specs.Program.{declaration_of, form_of, next_of}
-use Rattle.profile_machine.specs.Steps.{Part, own, Step, says, changes, looks, when, nothing, ◌▷◌}
+use Rattle.profile_machine.specs.declared.world.lines.Part.{Part}
+use Rattle.profile_machine.specs.declared.world.lines.Part.TheVariants.{Own}
+use Rattle.profile_machine.specs.Steps.{Step, says, changes, looks, when, nothing, ◌▷◌}
 use Rattle.profile_machine.specs.Tasks.{task_of, edit_task, with_frames, is_runnable}
 
 -- ---- the top of a rest
@@ -76,19 +78,9 @@ leaves name leaving = changes (edit_top name (left_so leaving))
 
 -- ---- exceptions (11.3, 11.4)
 
-abbrev pub exception_name : Image → Raised → List ℕ
-exception_name p exception.Constraint = codes "constraint_error"
-exception_name p exception.Program = codes "program_error"
-exception_name p exception.Storage = codes "storage_error"
-exception_name p exception.Tasking = codes "tasking_error"
-exception_name p exception.TimerResource = codes "timer_resource_error"
-exception_name p exception.GroupBudget = codes "group_budget_error"
-exception_name p exception.DispatchingPolicy = codes "dispatching_policy_error"
-exception_name p (exception.User d) = (declaration_of p (record { 0 = d })).expanded
-
 -- an exception is raised: `raise`, and the marks are left with it
 unfoldable pub raises : Image → Part → Who → Raised → Step
-raises p part name e = says part (line.Raise name (exception_name p e)) ▷ leaves name (how.Exception e)
+raises p part name e = says part (line.Raise name e) ▷ leaves name (how.Exception e)
 
 -- ---- room (own): marks of a task and of all, and cells
 
@@ -132,7 +124,7 @@ open_sequence p part name = looks (λ w. open_at p part name (onward_of w name))
 
 -- behind the effect of an action: who has blocked opens nothing
 unfoldable pub open_if_ready : Image → Who → Step
-open_if_ready p name = looks (λ w. when (is_runnable (task_of w name)) (open_sequence p own name))
+open_if_ready p name = looks (λ w. when (is_runnable (task_of w name)) (open_sequence p Own name))
 
 -- ---- going on behind a mark that has ended
 
@@ -224,10 +216,10 @@ given p part name (Err e) f = raises p part name e
 
 -- the exception is raised where the test holds, else the step is done
 abbrev pub raise_if : Image → Who → Bool → Raised → Step → Step
-raise_if p name true e step = raises p own name e
+raise_if p name true e step = raises p Own name e
 raise_if p name false e step = step
 
 -- without room for marks and cells Storage_Error is raised
 abbrev pub with_room : Image → Who → ℕ → ℕ → Step → Step
 with_room p name marks cells step =
-    looks (λ w. elim (has_room w name marks cells) [ true ↦ step | false ↦ raises p own name exception.Storage ])
+    looks (λ w. elim (has_room w name marks cells) [ true ↦ step | false ↦ raises p Own name exception.Storage ])

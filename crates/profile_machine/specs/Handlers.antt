@@ -2,7 +2,7 @@
 use Rattle.std.specs.Prelude.{ℕ, suc, ◌+◌, ◌-◌, ℤ, pos, negsuc, ◌+ℤ◌, int_le, int_lt, Bool, true, false, cond, not, ◌&&◌, List, [], ◌∷◌, ◌++◌, Option, Some, None, Ok, eqb, leb, length, filter, is_none, option_map}
 use Rattle.ann_base.specs.declared.identities.TaskNo.{TaskNo}
 use Rattle.ann_base.specs.declared.exceptions.Raised.TheVariants as exception
-use Rattle.trace_text.specs.declared.events.Event.TheVariants as line
+use Rattle.profile_machine.specs.declared.world.lines.Line.TheVariants as line
 use Rattle.trace_text.specs.declared.events.Mode.TheVariants.{Write}
 use Rattle.trace_text.specs.declared.events.Who.{Who}
 use Rattle.trace_text.specs.declared.events.Who.TheVariants as who
@@ -38,7 +38,9 @@ use Rattle.profile_machine.specs.declared.world.tasks.State.TheVariants.{Made, R
 use Rattle.profile_machine.specs.declared.world.tasks.Task as world
 use Rattle.profile_machine.specs.Words.{same_task, edit_at, without}
 use Rattle.profile_machine.specs.Program.{is_robin_level, next_of, scope_of, marks_of, subprogram_of, protected_unit_of, interrupt_priority}
-use Rattle.profile_machine.specs.Steps.{Step, Part, own, says, changes, looks, nothing, for_some, ◌▷◌}
+use Rattle.profile_machine.specs.declared.world.lines.Part.{Part}
+use Rattle.profile_machine.specs.declared.world.lines.Part.TheVariants.{Own}
+use Rattle.profile_machine.specs.Steps.{Step, says, changes, looks, nothing, for_some, ◌▷◌}
 use Rattle.profile_machine.specs.Tasks.{task_of, edit_task}
 use Rattle.profile_machine.specs.Dispatching.{ready}
 use Rattle.profile_machine.specs.Frames.{goes, given, raise_if, has_room}
@@ -61,7 +63,7 @@ add_release h argument w = record w { releases = w.releases ++ record { number =
 
 unfoldable pub says_release : Image → Part → HandlerOf → Step
 says_release p part h =
-    looks (λ w. says part (line.Release w.drawn.releases h.object (subprogram_of p h.procedure).name))
+    looks (λ w. says part (line.Release w.drawn.releases h))
 
 unfoldable pub wake_agent : Image → Part → State → Step
 wake_agent p part (Blocked waiting) = ready p part who.Agent
@@ -124,7 +126,7 @@ handler_attached p n (o ∷ os) = elim (handler_in p n o) [ None ↦ handler_att
 
 unfoldable pub interrupt : Image → ℕ → Step
 interrupt p n =
-    says own (line.Interrupt n) ▷ looks (λ w. for_some (handler_attached p n w.objects) (λ h. release p own h None))
+    says Own (line.Interrupt n) ▷ looks (λ w. for_some (handler_attached p n w.objects) (λ h. release p Own h None))
 
 -- ---- handlers and moments that a setting names
 
@@ -149,12 +151,12 @@ is_given (Some x) = true
 -- with the handler, and the value once there is room for a release
 abbrev pub setting_of : Image → Who → Seen → ℤ → Setting → Option HandlerName → (Option HandlerOf → ℤ → Step) → Step
 setting_of p name q base set handler step =
-    given p own name (handler_named q handler) (λ h. with_room_for_release p name (is_given h)
-    (given p own name (set_value q base set) (λ v. raise_if p name (not (is_interrupt_handler p q.world h)) exception.Program (step h v))))
+    given p Own name (handler_named q handler) (λ h. with_room_for_release p name (is_given h)
+    (given p Own name (set_value q base set) (λ v. raise_if p name (not (is_interrupt_handler p q.world h)) exception.Program (step h v))))
 
 -- a variable gets whether something was set
 unfoldable pub answer : Image → Who → Variable → Bool → Step
-answer p name v b = looks (λ w. given p own name (store p v (Truth b) w) (λ next. changes (λ _. next)))
+answer p name v b = looks (λ w. given p Own name (store p v (Truth b) w) (λ next. changes (λ _. next)))
 
 -- ---- timing events (D.15)
 
@@ -164,7 +166,7 @@ cancel_event_setting e = drop_appointment (is_event e)
 -- setting replaces; a moment that is not in the future releases at once, and no handler clears
 unfoldable pub appoint_event : Image → ℕ → HandlerOf → ℤ → Bool → Step
 appoint_event p e h m true = changes (appoint (due_for.Event e h) m)
-appoint_event p e h m false = release p own h (Some e)
+appoint_event p e h m false = release p Own h (Some e)
 
 unfoldable pub event_set_to : Image → ℕ → Option HandlerOf → ℤ → Step
 event_set_to p e None m = nothing
@@ -172,12 +174,12 @@ event_set_to p e (Some h) m = looks (λ w. appoint_event p e h m (int_lt (pos w.
 
 unfoldable pub set_event : Image → Who → StatementNo → DeclNo → Setting → Option HandlerName → Step
 set_event p name s d set handler =
-    sees p name (λ q. given p own name (number_of_thing q d) (λ e. setting_of p name q (pos q.world.time) set handler
+    sees p name (λ q. given p Own name (number_of_thing q d) (λ e. setting_of p name q (pos q.world.time) set handler
     (λ h m. goes name (next_of p s) ▷ changes (cancel_event_setting e) ▷ event_set_to p e h m)))
 
 unfoldable pub cancel_event : Image → Who → StatementNo → DeclNo → VariableName → Step
 cancel_event p name s d target =
-    sees p name (λ q. given p own name (number_of_thing q d) (λ e. given p own name (variable q target) (λ v.
+    sees p name (λ q. given p Own name (number_of_thing q d) (λ e. given p Own name (variable q target) (λ v.
     goes name (next_of p s) ▷ changes (cancel_event_setting e) ▷ answer p name v (is_appointed (is_event e) q.world))))
 
 -- ---- timers (D.14.1)
@@ -198,7 +200,7 @@ with_timer_set k h v w = record w { timers = edit_at k (with_setting (Some (reco
 -- a value that is already reached releases at once
 unfoldable pub timer_set_beyond : Image → ℕ → HandlerOf → ℤ → Bool → Step
 timer_set_beyond p k h v true = changes (with_timer_set k h v)
-timer_set_beyond p k h v false = release p own h (Some k)
+timer_set_beyond p k h v false = release p Own h (Some k)
 
 unfoldable pub timer_set_to : Image → ℕ → ℕ → Option HandlerOf → ℤ → Step
 timer_set_to p k clock None v = nothing
@@ -209,7 +211,7 @@ clock_of_timer q k = live_task q.world (Some (timer_of q.world k).task) >>= λ t
 
 unfoldable pub set_timer : Image → Who → StatementNo → DeclNo → Setting → Option HandlerName → Step
 set_timer p name s d set handler =
-    sees p name (λ q. given p own name (number_of_thing q d) (λ k. given p own name (clock_of_timer q k) (λ clock.
+    sees p name (λ q. given p Own name (number_of_thing q d) (λ k. given p Own name (clock_of_timer q k) (λ clock.
     setting_of p name q (pos clock) set handler
     (λ h v. goes name (next_of p s) ▷ changes (clear_timer k) ▷ timer_set_to p k clock h v))))
 
@@ -218,8 +220,8 @@ is_set_timer w k = is_given (timer_of w k).setting
 
 unfoldable pub cancel_timer : Image → Who → StatementNo → DeclNo → VariableName → Step
 cancel_timer p name s d target =
-    sees p name (λ q. given p own name (number_of_thing q d) (λ k. given p own name (clock_of_timer q k) (λ clock.
-    given p own name (variable q target) (λ v.
+    sees p name (λ q. given p Own name (number_of_thing q d) (λ k. given p Own name (clock_of_timer q k) (λ clock.
+    given p Own name (variable q target) (λ v.
     goes name (next_of p s) ▷ changes (clear_timer k) ▷ answer p name v (is_set_timer q.world k)))))
 
 -- ---- group budgets (D.14.2)
@@ -244,12 +246,12 @@ named_live q e = value q e >>= λ v. live_task q.world (task_in v)
 
 unfoldable pub add_member : Image → Who → StatementNo → DeclNo → ExprNo → Step
 add_member p name s d e =
-    sees p name (λ q. given p own name (number_of_thing q d) (λ b. given p own name (named_live q e) (λ t.
+    sees p name (λ q. given p Own name (number_of_thing q d) (λ b. given p Own name (named_live q e) (λ t.
     change_member p name s t (is_none t.budget) (Some b))))
 
 unfoldable pub remove_member : Image → Who → StatementNo → DeclNo → ExprNo → Step
 remove_member p name s d e =
-    sees p name (λ q. given p own name (number_of_thing q d) (λ b. given p own name (named_live q e) (λ t.
+    sees p name (λ q. given p Own name (number_of_thing q d) (λ b. given p Own name (named_live q e) (λ t.
     change_member p name s t (is_the_budget b t.budget) None)))
 
 abbrev pub loaded : ℤ → Budget → Budget
@@ -262,8 +264,8 @@ raised_by amount b = record b { remaining = held_moment (b.remaining +ℤ amount
 -- an amount that is not positive raises Group_Budget_Error
 unfoldable pub fill_budget : Image → Who → StatementNo → DeclNo → ExprNo → (ℤ → Budget → Budget) → Step
 fill_budget p name s d e f =
-    sees p name (λ q. given p own name (number_of_thing q d) (λ b. with_room_for_release p name true
-    (given p own name (moment q e) (λ amount. raise_if p name (int_le amount (pos 0)) exception.GroupBudget
+    sees p name (λ q. given p Own name (number_of_thing q d) (λ b. with_room_for_release p name true
+    (given p Own name (moment q e) (λ amount. raise_if p name (int_le amount (pos 0)) exception.GroupBudget
     (goes name (next_of p s) ▷ changes (edit_budget b (f amount)))))))
 
 unfoldable pub replenish : Image → Who → StatementNo → DeclNo → ExprNo → Step
@@ -277,14 +279,14 @@ with_handler h b = record b { handler = h }
 
 unfoldable pub set_budget : Image → Who → StatementNo → DeclNo → Option HandlerName → Step
 set_budget p name s d handler =
-    sees p name (λ q. given p own name (number_of_thing q d) (λ b. given p own name (handler_named q handler) (λ h.
+    sees p name (λ q. given p Own name (number_of_thing q d) (λ b. given p Own name (handler_named q handler) (λ h.
     with_room_for_release p name (is_given h)
     (raise_if p name (not (is_interrupt_handler p q.world h)) exception.Program
     (goes name (next_of p s) ▷ changes (edit_budget b (with_handler h)))))))
 
 unfoldable pub cancel_budget : Image → Who → StatementNo → DeclNo → VariableName → Step
 cancel_budget p name s d target =
-    sees p name (λ q. given p own name (number_of_thing q d) (λ b. given p own name (variable q target) (λ v.
+    sees p name (λ q. given p Own name (number_of_thing q d) (λ b. given p Own name (variable q target) (λ v.
     goes name (next_of p s) ▷ changes (edit_budget b (with_handler None)) ▷ answer p name v (is_given (budget_of q.world b).handler))))
 
 -- ---- one tick is charged (D.14, D.2.5)

@@ -6,7 +6,8 @@ use Rattle.profile_machine.specs.declared.world.World.{World}
 use Rattle.profile_machine.specs.declared.world.tasks.Cause.{Cause}
 use Rattle.profile_machine.specs.declared.world.tasks.Cause.TheVariants as inherited_by
 use Rattle.profile_machine.specs.Words.{same_call, same_object, without}
-use Rattle.profile_machine.specs.Steps.{Step, the_placing, changes, looks, when, ◌▷◌}
+use Rattle.profile_machine.specs.declared.world.lines.Part.TheVariants.{ThePlacing}
+use Rattle.profile_machine.specs.Steps.{Step, changes, looks, when, ◌▷◌}
 use Rattle.profile_machine.specs.Tasks.{edit_task}
 use Rattle.profile_machine.specs.Dispatching.{active_of, to_head}
 
@@ -37,9 +38,9 @@ falls p name before after = ltb (active_of p after name) (active_of p before nam
 -- the running task inherits: it goes to the head where its active priority rises (D.2.3)
 unfoldable pub inherit_running : Image → Who → Cause → ℕ → Step
 inherit_running p name cause level =
-    looks (λ w. changes (inherit name cause level) ▷ when (rises p name w (inherit name cause level w)) (to_head p the_placing name))
+    looks (λ w. changes (inherit name cause level) ▷ when (rises p name w (inherit name cause level w)) (to_head p ThePlacing name))
 
 -- it loses an inherited priority: it goes to the head where its active priority falls
 unfoldable pub lose_running : Image → Who → Cause → Step
 lose_running p name cause =
-    looks (λ w. changes (lose name cause) ▷ when (falls p name w (lose name cause w)) (to_head p the_placing name))
+    looks (λ w. changes (lose name cause) ▷ when (falls p name w (lose name cause w)) (to_head p ThePlacing name))

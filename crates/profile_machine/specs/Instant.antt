@@ -1,7 +1,7 @@
 -- The seven steps of an instant, in their order (this profile's choice).
 use Rattle.std.specs.Prelude.{ℕ, zero, suc, ℤ, pos, int_le, Bool, true, false, not, ◌&&◌, List, [], ◌∷◌, Option, Some, None, eqb, length, slice_index_or}
 use Rattle.ann_base.specs.declared.identities.CallNo.{CallNo}
-use Rattle.trace_text.specs.declared.events.Event.TheVariants as line
+use Rattle.profile_machine.specs.declared.world.lines.Line.TheVariants as line
 use Rattle.trace_text.specs.declared.events.Who.{Who}
 use Rattle.trace_text.specs.declared.events.Who.TheVariants as who
 use Rattle.profile_machine.specs.declared.image.Image.{Image}
@@ -18,7 +18,8 @@ use Rattle.profile_machine.specs.declared.world.calls.Outcome.TheVariants as cal
 use Rattle.profile_machine.specs.declared.world.tasks.Waiting.TheVariants as waits_for
 use Rattle.profile_machine.specs.Words.{edit_at, is_empty}
 use Rattle.profile_machine.specs.Program.{next_of, is_robin_level}
-use Rattle.profile_machine.specs.Steps.{own, Step, Move, says, changes, looks, when, nothing, for_some, for_each, settles, rests, watches, ◌▷◌, ◌▶◌}
+use Rattle.profile_machine.specs.declared.world.lines.Part.TheVariants.{Own}
+use Rattle.profile_machine.specs.Steps.{Step, Move, says, changes, looks, when, nothing, for_some, for_each, settles, rests, watches, ◌▷◌, ◌▶◌}
 use Rattle.profile_machine.specs.Tasks.{task_of, edit_task, with_ticks, is_runnable, waiting_of}
 use Rattle.profile_machine.specs.Dispatching.{active, ready, to_tail}
 use Rattle.profile_machine.specs.Frames.{open_if_ready, open_sequence, goes, any_protected}
@@ -43,7 +44,7 @@ is_over (Some ticks) = eqb ticks 0
 
 abbrev pub effect_of_runner : Image → Option Who → Move
 effect_of_runner p None = rests
-effect_of_runner p (Some name) = watches (λ w. elim (is_over (task_of w name).ticks_left) [ true ↦ settles (effect p name) | false ↦ rests ])
+effect_of_runner p (Some name) = watches (λ w. elim (is_over (task_of w name).ticks_left) [ true ↦ settles p (effect p name) | false ↦ rests ])
 
 abbrev pub finish_action : Image → Move
 finish_action p = watches (λ w. effect_of_runner p w.ran)
@@ -64,7 +65,7 @@ with_kept_interrupt n flag w = record w { kept_interrupts = edit_at n (λ _. fla
 
 -- an interrupt that is masked is kept; one at most is kept
 unfoldable pub interrupt_comes : Image → ℕ → Bool → Step
-interrupt_comes p n true = says own (line.Masked n) ▷ changes (with_kept_interrupt n true)
+interrupt_comes p n true = says Own (line.Masked n) ▷ changes (with_kept_interrupt n true)
 interrupt_comes p n false = interrupt p n
 
 -- one that was kept is delivered at once
@@ -74,10 +75,10 @@ deliver_kept_interrupt p n false = nothing
 
 unfoldable pub script_item : Image → Item → Step
 script_item p (item.Interrupt n) = looks (λ w. interrupt_comes p n (is_flag w.masked n))
-script_item p (item.Port n value) = changes (with_port n value) ▷ says own (line.Port n value)
-script_item p (item.Mask n) = changes (with_masked n true) ▷ says own (line.Mask n)
+script_item p (item.Port n value) = changes (with_port n value) ▷ says Own (line.Port n value)
+script_item p (item.Mask n) = changes (with_masked n true) ▷ says Own (line.Mask n)
 script_item p (item.Unmask n) =
-    changes (with_masked n false) ▷ says own (line.Unmask n) ▷ looks (λ w. deliver_kept_interrupt p n (is_flag w.kept_interrupts n))
+    changes (with_masked n false) ▷ says Own (line.Unmask n) ▷ looks (λ w. deliver_kept_interrupt p n (is_flag w.kept_interrupts n))
 
 abbrev pub with_script : List (ℤ × Item) → World → World
 with_script script w = record w { script = script }
@@ -89,7 +90,7 @@ items_due p now (x ∷ xs) =
     elim (int_le x.0 (pos now)) [ true ↦ changes (with_script xs) ▷ script_item p x.1 ▷ items_due p now xs | false ↦ nothing ]
 
 abbrev pub script_items : Image → Move
-script_items p = settles (looks (λ w. items_due p w.time w.script))
+script_items p = settles p (looks (λ w. items_due p w.time w.script))
 
 -- ---- 3 and 4: appointments whose moment is now: timing events, then delays, time-outs and triggers, each in the
 -- order in which they were set
@@ -100,12 +101,12 @@ take_delay p name (Some (waits_for.Select accepts (Some delay) terminate)) = goe
 take_delay p name _ = nothing
 
 unfoldable pub end_delay : Image → Who → Step
-end_delay p name = looks (λ w. take_delay p name (waiting_of w name)) ▷ ready p own name ▷ open_sequence p own name
+end_delay p name = looks (λ w. take_delay p name (waiting_of w name)) ▷ ready p Own name ▷ open_sequence p Own name
 
 -- a timed call that has not begun is cancelled
 unfoldable pub time_out : Image → CallNo → Step
 time_out p c =
-    with_call c (λ d. changes (unqueued p d) ▷ says own (line.Cancel d.caller c) ▷ deliver p own c call_ended.Cancelled)
+    with_call c (λ d. changes (unqueued p d) ▷ says Own (line.Cancel d.caller c) ▷ deliver p Own c call_ended.Cancelled)
 
 abbrev pub is_the_same_due : Due → Due → Bool
 is_the_same_due (due_for.Event n h) d = is_event n d
@@ -114,10 +115,10 @@ is_the_same_due (due_for.Timeout c) d = is_timeout_of c d
 is_the_same_due (due_for.Trigger t depth) d = is_trigger_of t depth d
 
 unfoldable pub come_due : Image → Due → Step
-come_due p (due_for.Event n h) = release p own h (Some n)
+come_due p (due_for.Event n h) = release p Own h (Some n)
 come_due p (due_for.Delay t) = end_delay p (who.Task t)
 come_due p (due_for.Timeout c) = time_out p c
-come_due p (due_for.Trigger t depth) = trigger_at p own t depth ▷ unwind p own (who.Task t)
+come_due p (due_for.Trigger t depth) = trigger_at p Own t depth ▷ unwind p Own (who.Task t)
 
 abbrev pub take_due : Image → Step → Option Appointment → Step
 take_due p again None = nothing
@@ -129,7 +130,7 @@ all_due zero p events = nothing
 all_due (suc fuel) p events = looks (λ w. take_due p (all_due fuel p events) (first_due events w.time w.appointments))
 
 abbrev pub appointments_due : Image → Bool → Move
-appointments_due p events = settles (looks (λ w. all_due (length w.appointments) p events))
+appointments_due p events = settles p (looks (λ w. all_due (length w.appointments) p events))
 
 abbrev pub events_due : Image → Move
 events_due p = appointments_due p true
@@ -141,7 +142,7 @@ moments_due p = appointments_due p false
 
 unfoldable pub expire : Image → ℕ → Option TimerSetting → Step
 expire p k None = nothing
-expire p k (Some s) = changes (clear_timer k) ▷ release p own s.handler (Some k)
+expire p k (Some s) = changes (clear_timer k) ▷ release p Own s.handler (Some k)
 
 unfoldable pub expire_timer : Image → ℕ → Step
 expire_timer p k = looks (λ w. expire p k (timer_of w k).setting)
@@ -150,18 +151,18 @@ abbrev pub no_timers_due : World → World
 no_timers_due w = record w { timers_due = [] }
 
 abbrev pub timers_due : Image → Move
-timers_due p = settles (looks (λ w. for_each w.timers_due (expire_timer p)) ▷ changes no_timers_due)
+timers_due p = settles p (looks (λ w. for_each w.timers_due (expire_timer p)) ▷ changes no_timers_due)
 
 -- ---- 6: the budget that the last tick brought to zero; its handler stays set
 
 unfoldable pub run_out : Image → ℕ → Step
-run_out p b = looks (λ w. for_some (budget_of w b).handler (λ h. release p own h (Some b)))
+run_out p b = looks (λ w. for_some (budget_of w b).handler (λ h. release p Own h (Some b)))
 
 abbrev pub no_budget_due : World → World
 no_budget_due w = record w { budget_due = None }
 
 abbrev pub budgets_due : Image → Move
-budgets_due p = settles (looks (λ w. for_some w.budget_due (run_out p)) ▷ changes no_budget_due)
+budgets_due p = settles p (looks (λ w. for_some w.budget_due (run_out p)) ▷ changes no_budget_due)
 
 -- ---- 7: a task that ran and has spent its quantum goes to the tail, if it inherits nothing and has no action open (D.2.5)
 
@@ -173,10 +174,10 @@ abbrev pub spend_quantum : Image → Option Who → Step
 spend_quantum p None = nothing
 spend_quantum p (Some who.Agent) = nothing
 spend_quantum p (Some (who.Task t)) =
-    looks (λ w. when (has_spent_quantum p (task_of w (who.Task t))) (says own (line.Quantum t) ▷ to_tail p own (who.Task t)))
+    looks (λ w. when (has_spent_quantum p (task_of w (who.Task t))) (says Own (line.Quantum t) ▷ to_tail p Own (who.Task t)))
 
 abbrev pub quantum_spent : Image → Move
-quantum_spent p = settles (looks (λ w. spend_quantum p w.ran))
+quantum_spent p = settles p (looks (λ w. spend_quantum p w.ran))
 
 -- ---- the instant
 

@@ -1,5 +1,6 @@
 pub mod Words
 pub mod Program
+pub mod Lines
 pub mod Steps
 pub mod Tasks
 pub mod Dispatching

@@ -21,7 +21,9 @@ use Rattle.profile_machine.specs.declared.world.tasks.Waiting.TheVariants as wai
 use Rattle.profile_machine.specs.declared.world.marks.Mark.TheVariants.{Scope, Handled, InProtected, InAccept, Abortable, InInitialize, InFinalize, InAssign}
 use Rattle.profile_machine.specs.declared.world.tasks.State.TheVariants.{Runnable}
 use Rattle.profile_machine.specs.Words.{same_who, same_region, is_the, has, without}
-use Rattle.profile_machine.specs.Steps.{Step, Part, own, of_other, changes, looks, when, nothing, for_some, for_each, ◌▷◌}
+use Rattle.profile_machine.specs.declared.world.lines.Part.{Part}
+use Rattle.profile_machine.specs.declared.world.lines.Part.TheVariants.{Own, OfOther}
+use Rattle.profile_machine.specs.Steps.{Step, changes, looks, when, nothing, for_some, for_each, ◌▷◌}
 use Rattle.profile_machine.specs.Tasks.{task_of, edit_task, with_state, is_who, waiting_in, waiting_of}
 use Rattle.profile_machine.specs.Dispatching.{ready}
 use Rattle.profile_machine.specs.Frames.{raises, leaves, open_sequence}
@@ -32,7 +34,7 @@ use Rattle.profile_machine.specs.CallEnds.{gone, end_call}
 
 -- the part of an effect for the lines of somebody: of who acts, or of another
 abbrev pub part_of : Who → Who → Part
-part_of actor name = cond (same_who actor name) own (of_other name)
+part_of actor name = cond (same_who actor name) Own (OfOther name)
 
 -- ---- regions and who owns them
 
@@ -229,5 +231,5 @@ may_terminate w t = is_at_terminate t && list_any (λ r. is_region_being_left w 
 unfoldable pub leave_by_terminate : Image → Who → Task → Step
 leave_by_terminate p actor t =
     changes (drop_delay t.who)
-    ▷ cond (same_who actor t.who) (changes (edit_task t.who (with_state Runnable))) (ready p (of_other t.who) t.who)
+    ▷ cond (same_who actor t.who) (changes (edit_task t.who (with_state Runnable))) (ready p (OfOther t.who) t.who)
     ▷ leaves t.who how.Terminate

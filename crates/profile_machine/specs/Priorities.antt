@@ -3,7 +3,7 @@ use Rattle.std.specs.Prelude.{ℕ, ℤ, pos, ◌+ℤ◌, int_le, nat_abs, Bool, 
 use Rattle.ann_base.specs.declared.identities.TaskNo.{TaskNo}
 use Rattle.ann_base.specs.declared.identities.CallNo.{CallNo}
 use Rattle.ann_base.specs.declared.exceptions.Raised.TheVariants as exception
-use Rattle.trace_text.specs.declared.events.Event.TheVariants as line
+use Rattle.profile_machine.specs.declared.world.lines.Line.TheVariants as line
 use Rattle.trace_text.specs.declared.events.Who.{Who}
 use Rattle.trace_text.specs.declared.events.Who.TheVariants as who
 use Rattle.profile_machine.specs.declared.image.Image.{Image}
@@ -20,7 +20,9 @@ use Rattle.profile_machine.specs.declared.world.tasks.State.TheVariants.{Made, R
 use Rattle.profile_machine.specs.declared.world.tasks.Task as world
 use Rattle.profile_machine.specs.Words.{same_who, edit_at}
 use Rattle.profile_machine.specs.Program.{next_of, edf_low, has_edf, interrupt_priority, is_edf_level, is_robin_level}
-use Rattle.profile_machine.specs.Steps.{Step, Part, own, the_placing, says, changes, looks, when, nothing, for_some, ◌▷◌}
+use Rattle.profile_machine.specs.declared.world.lines.Part.{Part}
+use Rattle.profile_machine.specs.declared.world.lines.Part.TheVariants.{Own, ThePlacing}
+use Rattle.profile_machine.specs.Steps.{Step, says, changes, looks, when, nothing, for_some, ◌▷◌}
 use Rattle.profile_machine.specs.Tasks.{task_of, edit_task, found_task}
 use Rattle.profile_machine.specs.Dispatching.{active_of, to_tail}
 use Rattle.profile_machine.specs.Frames.{goes, given, raise_if, in_protected}
@@ -98,11 +100,11 @@ set_deadline p part placing name d =
 
 unfoldable pub take_base : Image → Who → Option ℕ → Step
 take_base p name None = nothing
-take_base p name (Some level) = changes (edit_task name (λ t. record t { deferred_base = None })) ▷ set_base p the_placing the_placing name level
+take_base p name (Some level) = changes (edit_task name (λ t. record t { deferred_base = None })) ▷ set_base p ThePlacing ThePlacing name level
 
 unfoldable pub take_deadline : Image → Who → Option ℤ → Step
 take_deadline p name None = nothing
-take_deadline p name (Some d) = changes (edit_task name (λ t. record t { deferred_deadline = None })) ▷ set_deadline p the_placing the_placing name d
+take_deadline p name (Some d) = changes (edit_task name (λ t. record t { deferred_deadline = None })) ▷ set_deadline p ThePlacing ThePlacing name d
 
 unfoldable pub set_deferred : Image → Who → Step
 set_deferred p name =
@@ -112,7 +114,7 @@ set_deferred p name =
 
 -- the part for the placing of somebody: of who acts, or of another
 abbrev pub placing_of : Who → Who → Part
-placing_of actor name = cond (same_who actor name) the_placing (part_of actor name)
+placing_of actor name = cond (same_who actor name) ThePlacing (part_of actor name)
 
 -- from or into an EDF range Program_Error is raised (own)
 abbrev pub is_edf_base : Image → ℕ → Bool
@@ -142,8 +144,8 @@ must_be_task (Some t) = Ok t
 -- on a task that has terminated it has no effect
 unfoldable pub set_priority : Image → Who → StatementNo → ExprNo → Option ExprNo → Step
 set_priority p name s e task =
-    sees p name (λ q. given p own name (optional_task q task >>= must_be_task) (λ t.
-    given p own name (value q e >>= λ v. priority_in_range p (interrupt_priority p) (whole_in v)) (λ level.
+    sees p name (λ q. given p Own name (optional_task q task >>= must_be_task) (λ t.
+    given p Own name (value q e >>= λ v. priority_in_range p (interrupt_priority p) (whole_in v)) (λ level.
     set_base_of p name s level (found_task (who.Task t) q.world.tasks))))
 
 -- ---- Set_Quantum (D.2.5)
@@ -156,9 +158,9 @@ quantum_of p level n = unless (is_robin_level p level && quantum_in_range n) exc
 
 unfoldable pub set_quantum : Image → Who → StatementNo → ExprNo → ExprNo → Step
 set_quantum p name s level quantum =
-    sees p name (λ q. given p own name (value q level) (λ v. given p own name (moment q quantum) (λ n.
-    given p own name (priority_in_range p p.policies.last_priority (whole_in v)) (λ l.
-    given p own name (quantum_of p l n) (λ ticks.
+    sees p name (λ q. given p Own name (value q level) (λ v. given p Own name (moment q quantum) (λ n.
+    given p Own name (priority_in_range p p.policies.last_priority (whole_in v)) (λ l.
+    given p Own name (quantum_of p l n) (λ ticks.
     goes name (next_of p s) ▷ changes (λ w. record w { quanta = edit_at l (λ _. ticks) w.quanta }))))))
 
 -- ---- Set_Deadline, Delay_Until_And_Set_Deadline (D.2.6)
@@ -173,16 +175,16 @@ set_or_defer_deadline p actor name d =
 
 unfoldable pub set_deadline_of : Image → Who → StatementNo → ExprNo → Option ExprNo → Step
 set_deadline_of p name s e task =
-    sees p name (λ q. given p own name (optional_task q task >>= λ t. live_task q.world t) (λ t.
-    given p own name (moment q e) (λ d. goes name (next_of p s) ▷ set_or_defer_deadline p name t.who d)))
+    sees p name (λ q. given p Own name (optional_task q task >>= λ t. live_task q.world t) (λ t.
+    given p Own name (moment q e) (λ d. goes name (next_of p s) ▷ set_or_defer_deadline p name t.who d)))
 
 unfoldable pub delay_with_deadline : Image → Who → StatementNo → ℤ → ℤ → Step
 delay_with_deadline p name s until offset =
     goes name (next_of p s) ▷ changes (edit_task name (λ t. record t { deadline = held_moment (until +ℤ offset) }))
-    ▷ says_deadline own name (held_moment (until +ℤ offset)) ▷ delay_to p name until
+    ▷ says_deadline Own name (held_moment (until +ℤ offset)) ▷ delay_to p name until
 
 -- it is a delay, so inside a protected action it raises Program_Error (own)
 unfoldable pub delay_and_set_deadline : Image → Who → StatementNo → ExprNo → ExprNo → Step
 delay_and_set_deadline p name s until offset =
     sees p name (λ q. raise_if p name (in_protected q.world name) exception.Program
-    (given p own name (moment q until) (λ m. given p own name (moment q offset) (λ o. delay_with_deadline p name s m o))))
+    (given p Own name (moment q until) (λ m. given p Own name (moment q offset) (λ o. delay_with_deadline p name s m o))))

@@ -4,8 +4,8 @@ use Rattle.std.specs.List.{list_all}
 use Rattle.ann_base.specs.declared.exceptions.Raised.TheVariants as exception
 use Rattle.ann_base.specs.declared.identities.ObjectNo.{ObjectNo}
 use Rattle.ann_base.specs.declared.identities.CallNo.{CallNo}
-use Rattle.trace_text.specs.declared.events.Event.TheVariants as line
-use Rattle.trace_text.specs.declared.events.Finished.TheVariants as finished
+use Rattle.profile_machine.specs.declared.world.lines.Line.TheVariants as line
+use Rattle.profile_machine.specs.declared.world.lines.MeetingEnd.TheVariants as meeting
 use Rattle.trace_text.specs.declared.events.Mode.{Mode}
 use Rattle.trace_text.specs.declared.events.Mode.TheVariants.{Read, Write}
 use Rattle.trace_text.specs.declared.events.Who.{Who}
@@ -36,10 +36,12 @@ use Rattle.profile_machine.specs.declared.world.marks.Purpose.TheVariants as ope
 use Rattle.profile_machine.specs.declared.world.marks.Mark.TheVariants.{Scope, Handled, InProtected, InAccept, Abortable, InInitialize, InFinalize, InAssign}
 use Rattle.profile_machine.specs.Words.{same_who, without, option_or_else, is_empty}
 use Rattle.profile_machine.specs.Program.{next_of, scope_of, marks_of, subprogram_of, protected_unit_of, entry_of, has_edf}
-use Rattle.profile_machine.specs.Steps.{Step, Part, own, the_placing, says, changes, looks, ◌▷◌}
+use Rattle.profile_machine.specs.declared.world.lines.Part.{Part}
+use Rattle.profile_machine.specs.declared.world.lines.Part.TheVariants.{Own, ThePlacing}
+use Rattle.profile_machine.specs.Steps.{Step, says, changes, looks, ◌▷◌}
 use Rattle.profile_machine.specs.Tasks.{task_of}
 use Rattle.profile_machine.specs.Dispatching.{active_of, to_tail}
-use Rattle.profile_machine.specs.Frames.{edit_top, push, new_frame, goes, raises, given, raise_if, with_room, has_room, with_mark, exception_name}
+use Rattle.profile_machine.specs.Frames.{edit_top, push, new_frame, goes, raises, given, raise_if, with_room, has_room, with_mark}
 use Rattle.profile_machine.specs.Scopes.{home, open_scope, Beginning}
 use Rattle.profile_machine.specs.Operators.{Valued}
 use Rattle.profile_machine.specs.Values.{Seen, condition, object_of, object_number, own_object, queue_at}
@@ -91,11 +93,11 @@ entering p w name o mode = entering_option p w name (object_of w o) mode
 
 -- who finds the object held goes to the tail of its level, and does the whole action again (own)
 unfoldable pub find_held : Image → Who → ObjectNo → Mode → Step
-find_held p name o mode = says own (line.Held name o mode) ▷ to_tail p the_placing name
+find_held p name o mode = says Own (line.Held name o mode) ▷ to_tail p ThePlacing name
 
 abbrev pub enter_or : Image → Who → ObjectNo → Mode → Step → Entering → Step
-enter_or p name o mode step same_object_again = raises p own name exception.Program
-enter_or p name o mode step above_ceiling = raises p own name exception.Program
+enter_or p name o mode step same_object_again = raises p Own name exception.Program
+enter_or p name o mode step above_ceiling = raises p Own name exception.Program
 enter_or p name o mode step held_by_another = find_held p name o mode
 enter_or p name o mode step let_inside = step
 
@@ -116,7 +118,7 @@ ceiling_of (Some o) = o.ceiling
 
 unfoldable pub begin_action_on : Image → Who → ObjectNo → Mode → Option CallNo → Option ℕ → Step
 begin_action_on p name o mode call release =
-    says own (line.Enter name o mode) ▷ changes (open_action name o mode)
+    says Own (line.Enter name o mode) ▷ changes (open_action name o mode)
     ▷ looks (λ w. inherit_running p name (inherited_by.Ceiling o) (ceiling_of (object_of w o)))
     ▷ changes (push name (new_frame (new_protected_mark o mode call release) None))
 
@@ -150,11 +152,11 @@ call_operation_of p name s f actuals to o =
 
 unfoldable pub call_operation : Image → Who → StatementNo → DeclNo → SubprogramNo → List Actual → Destination → Step
 call_operation p name s d f actuals to =
-    sees p name (λ q. given p own name (object_number q d) (call_operation_of p name s f actuals to))
+    sees p name (λ q. given p Own name (object_number q d) (call_operation_of p name s f actuals to))
 
 -- an internal call: no action begins
 unfoldable pub begin_own_operation : Image → Who → StatementNo → SubprogramNo → Option ObjectNo → Handed → ResultTo → Step
-begin_own_operation p name s f None h to = raises p own name exception.Program
+begin_own_operation p name s f None h to = raises p Own name exception.Program
 begin_own_operation p name s f (Some o) h to =
     looks (λ w. begin_body p name s f (body_of_object p w (subprogram_of p f).scope o h.subject h.values) h to)
 
@@ -234,5 +236,5 @@ serve_call p part name o c then_ otherwise =
     looks (λ w. begin_call p part name c
     ▷ elim (has_room_for_body p w name c.entry) [
       | true ↦ body_opens p name o c ▷ then_
-      | false ↦ says part (line.Finish name c.number (finished.Raised (exception_name p exception.Storage))) ▷ otherwise
+      | false ↦ says part (line.Finish name c.number (meeting.Raised exception.Storage)) ▷ otherwise
     ])

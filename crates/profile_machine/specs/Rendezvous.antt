@@ -3,8 +3,8 @@ use Rattle.std.specs.Prelude.{ℕ, ℤ, pos, int_lt, int_le, Bool, true, false, 
 use Rattle.ann_base.specs.declared.identities.CallNo.{CallNo}
 use Rattle.ann_base.specs.declared.identities.TaskNo.{TaskNo}
 use Rattle.ann_base.specs.declared.exceptions.Raised.TheVariants as exception
-use Rattle.trace_text.specs.declared.events.Event.TheVariants as line
-use Rattle.trace_text.specs.declared.events.Finished.TheVariants as finished
+use Rattle.profile_machine.specs.declared.world.lines.Line.TheVariants as line
+use Rattle.profile_machine.specs.declared.world.lines.MeetingEnd.TheVariants as meeting
 use Rattle.trace_text.specs.declared.events.Who.{Who}
 use Rattle.trace_text.specs.declared.events.Who.TheVariants as who
 use Rattle.profile_machine.specs.declared.image.Image.{Image}
@@ -41,10 +41,12 @@ use Rattle.profile_machine.specs.declared.world.tasks.State.TheVariants.{Made, R
 use Rattle.profile_machine.specs.declared.world.tasks.Task as world
 use Rattle.profile_machine.specs.Words.{same_entry}
 use Rattle.profile_machine.specs.Program.{form_of, next_of, scope_of, marks_of}
-use Rattle.profile_machine.specs.Steps.{Step, Part, own, the_finish, the_block, says, changes, looks, nothing, for_some, ◌▷◌}
+use Rattle.profile_machine.specs.declared.world.lines.Part.{Part}
+use Rattle.profile_machine.specs.declared.world.lines.Part.TheVariants.{Own, TheFinish, TheBlock}
+use Rattle.profile_machine.specs.Steps.{Step, says, changes, looks, nothing, for_some, ◌▷◌}
 use Rattle.profile_machine.specs.Tasks.{edit_task, with_state, found_task, waiting_of}
 use Rattle.profile_machine.specs.Dispatching.{ready, block}
-use Rattle.profile_machine.specs.Frames.{push, pop, new_frame, goes, raises, given, raise_if, has_room, pass_on, in_protected, exception_name, open_sequence}
+use Rattle.profile_machine.specs.Frames.{push, pop, new_frame, goes, raises, given, raise_if, has_room, pass_on, in_protected, open_sequence}
 use Rattle.profile_machine.specs.Scopes.{begin_scope, end_scope, cells_of, scope_in_use, next_id, plainly, innermost}
 use Rattle.profile_machine.specs.Operators.{Valued, ◌>>=◌}
 use Rattle.profile_machine.specs.Values.{Seen, condition, moment}
@@ -98,18 +100,18 @@ begin_accept p part name s c = begin_call p part name c ▷ goes name (next_of p
 -- without room for the accept body it finishes at once with Storage_Error
 unfoldable pub finish_without_room : Image → Part → Who → Call → Step
 finish_without_room p part name c =
-    says part (line.Finish name c.number (finished.Raised (exception_name p exception.Storage)))
+    says part (line.Finish name c.number (meeting.Raised exception.Storage))
 
 -- the acceptor acts: it goes to the head where its active priority rises
 unfoldable pub accept_with_room : Image → Who → StatementNo → Call → Bool → Step
 accept_with_room p name s c true =
     changes (open_accept p name s c) ▷ inherit_running p name (inherited_by.Rendezvous c.number) c.priority
 accept_with_room p name s c false =
-    finish_without_room p own name c ▷ deliver p own c.number (call_ended.ToRaise exception.Storage) ▷ raises p own name exception.Storage
+    finish_without_room p Own name c ▷ deliver p Own c.number (call_ended.ToRaise exception.Storage) ▷ raises p Own name exception.Storage
 
 unfoldable pub accept_call : Image → Who → StatementNo → CallNo → Step
 accept_call p name s c =
-    with_call c (λ d. begin_accept p own name s d ▷ looks (λ w. accept_with_room p name s d (has_room_for_accept p w name s)))
+    with_call c (λ d. begin_accept p Own name s d ▷ looks (λ w. accept_with_room p name s d (has_room_for_accept p w name s)))
 
 -- the acceptor waited: it becomes ready, behind the `start`
 abbrev pub meet_with_room : Image → Part → Who → StatementNo → Call → Step → Step
@@ -120,7 +122,7 @@ meet_with_room p part name s c then_ =
 -- without room the call has ended at once: its lines and its caller's come first, then those of the acceptor
 abbrev pub meet_without_room : Image → Part → Who → StatementNo → Call → Step → Step
 meet_without_room p part name s c otherwise =
-    begin_accept p the_finish name s c ▷ finish_without_room p the_finish name c
+    begin_accept p TheFinish name s c ▷ finish_without_room p TheFinish name c
     ▷ otherwise ▷ ready p part name ▷ raises p part name exception.Storage
 
 abbrev pub meet : Image → Part → Who → StatementNo → Call → Step → Step → Step
@@ -136,7 +138,7 @@ own_queue w who.Agent place = []
 
 unfoldable pub accept_or_wait : Image → Who → StatementNo → Option CallNo → Step
 accept_or_wait p name s (Some c) = accept_call p name s c
-accept_or_wait p name s None = goes name (next_of p s) ▷ block the_block name (waits_for.Accept s)
+accept_or_wait p name s None = goes name (next_of p s) ▷ block TheBlock name (waits_for.Accept s)
 
 unfoldable pub accept : Image → Who → StatementNo → EntryNo → Step
 accept p name s e =
@@ -214,7 +216,7 @@ accept_chosen p name accepts c =
 -- a task at an open terminate alternative says that it blocks when it is sure that it need not end at once
 unfoldable pub wait_at_select : Who → List StatementNo → Option StatementNo → Bool → Step
 wait_at_select name accepts delay true = changes (edit_task name (with_state (Blocked (waits_for.Select accepts delay true))))
-wait_at_select name accepts delay false = block the_block name (waits_for.Select accepts delay false)
+wait_at_select name accepts delay false = block TheBlock name (waits_for.Select accepts delay false)
 
 abbrev pub appoint_delay : Who → ℤ → World → World
 appoint_delay (who.Task t) m = appoint (due_for.Delay t) m
@@ -253,7 +255,7 @@ select_open p name s otherwise kinds moments =
 unfoldable pub selective_accept : Image → Who → StatementNo → List SelectAlternative → Option StatementNo → Step
 selective_accept p name s alternatives otherwise =
     sees p name (λ q. raise_if p name (in_protected q.world name) exception.Program
-    (given p own name (open_alternatives q alternatives) (λ kinds. given p own name (open_delays q kinds) (select_open p name s otherwise kinds))))
+    (given p Own name (open_alternatives q alternatives) (λ kinds. given p Own name (open_delays q kinds) (select_open p name s otherwise kinds))))
 
 -- ---- the end of an accept (9.5.2, 9.5.4)
 
@@ -267,11 +269,11 @@ is_callable w t = is_callable_task (found_task (who.Task t) w.tasks)
 
 -- the call is sent on to an entry of a task: it is gone, begins, or is queued
 unfoldable pub gone_sent : Image → Call → Step
-gone_sent p c = gone p the_finish c ▷ deliver p the_finish c.number (call_ended.ToRaise exception.Tasking)
+gone_sent p c = gone p TheFinish c ▷ deliver p TheFinish c.number (call_ended.ToRaise exception.Tasking)
 
 unfoldable pub meet_sent : Image → TaskNo → Call → Option StatementNo → Step
 meet_sent p t c (Some s) =
-    meet p the_finish (who.Task t) s c (begin_abortable p c.number) (deliver p the_finish c.number (call_ended.ToRaise exception.Storage))
+    meet p TheFinish (who.Task t) s c (begin_abortable p c.number) (deliver p TheFinish c.number (call_ended.ToRaise exception.Storage))
 meet_sent p t c None = enqueue p c.number ▷ sent_not_begun p c.number
 
 unfoldable pub arrive_at : Image → TaskNo → Call → Bool → Step
@@ -285,16 +287,16 @@ arrive p c (owned_by.Object o) = gone_sent p c
 
 unfoldable pub finish_accept : Image → Who → Call → Option Sending → Step
 finish_accept p name c None =
-    says the_finish (line.Finish name c.number finished.Ok) ▷ deliver p the_finish c.number call_ended.Finished
+    says TheFinish (line.Finish name c.number meeting.Ok) ▷ deliver p TheFinish c.number call_ended.Finished
 finish_accept p name c (Some s) =
-    says the_finish (line.Finish name c.number finished.Requeue) ▷ send_on p c.number s ▷ with_call c.number (λ d. arrive p d d.owner)
+    says TheFinish (line.Finish name c.number meeting.Requeue) ▷ send_on p c.number s ▷ with_call c.number (λ d. arrive p d d.owner)
 
 -- an exception is raised in the caller too; where the acceptor is aborted the caller gets Tasking_Error
 unfoldable pub finish_rendezvous : Image → Who → Call → Leaving → Step
 finish_rendezvous p name c (how.Exception e) =
-    says the_finish (line.Finish name c.number (finished.Raised (exception_name p e))) ▷ deliver p the_finish c.number (call_ended.ToRaise e)
+    says TheFinish (line.Finish name c.number (meeting.Raised e)) ▷ deliver p TheFinish c.number (call_ended.ToRaise e)
 finish_rendezvous p name c how.Abort =
-    says the_finish (line.Gone c.caller c.number) ▷ deliver p the_finish c.number (call_ended.ToRaise exception.Tasking)
+    says TheFinish (line.Gone c.caller c.number) ▷ deliver p TheFinish c.number (call_ended.ToRaise exception.Tasking)
 finish_rendezvous p name c how.End = finish_accept p name c c.sending
 finish_rendezvous p name c how.Return = finish_accept p name c c.sending
 finish_rendezvous p name c (how.Exit loop) = finish_accept p name c c.sending

@@ -20,10 +20,13 @@ use Rattle.profile_machine.specs.declared.world.tasks.Waiting.TheVariants as wai
 use Rattle.profile_machine.specs.declared.world.tasks.State.TheVariants.{Runnable, Blocked}
 use Rattle.profile_machine.specs.Words.{same_who, same_option, is_empty}
 use Rattle.profile_machine.specs.Program.{interrupt_priority}
-use Rattle.profile_machine.specs.Steps.{own, Step, Move, says, changes, settles, rests, watches, ◌▷◌, ◌▶◌}
+use Rattle.profile_machine.specs.declared.world.lines.Line.TheVariants.{New}
+use Rattle.profile_machine.specs.declared.world.lines.Part.TheVariants.{Own}
+use Rattle.profile_machine.specs.Steps.{Step, Move, says, changes, settles, rests, watches, ◌▷◌, ◌▶◌}
 use Rattle.profile_machine.specs.Tasks.{task_of, edit_task, with_ticks, new_task}
 use Rattle.profile_machine.specs.Dispatching.{choose, to_tail}
-use Rattle.profile_machine.specs.Frames.{open_sequence, exception_name}
+use Rattle.profile_machine.specs.Frames.{open_sequence}
+use Rattle.profile_machine.specs.Lines.{exception_name}
 use Rattle.profile_machine.specs.Scopes.{open_scope, plainly}
 use Rattle.profile_machine.specs.Cost.{cost}
 use Rattle.profile_machine.specs.Handlers.{charge}
@@ -52,12 +55,12 @@ environment = who.Task (record { 0 = 0 })
 unfoldable pub opens : Image → Step
 opens p =
     changes (open_scope p environment p.environment (plainly None) opened_for.Task)
-    ▷ says own (line.New (created.Task (record { 0 = 0 })) p.main.name p.main.priority)
-    ▷ to_tail p own environment
-    ▷ open_sequence p own environment
+    ▷ says Own (New (created.Task (record { 0 = 0 })) None p.main.priority)
+    ▷ to_tail p Own environment
+    ▷ open_sequence p Own environment
 
 abbrev pub opening : Image → List (ℤ × Item) → World × List Event
-opening p script = settles (opens p) (blank_world p script)
+opening p script = settles p (opens p) (blank_world p script)
 
 -- ---- the stop (own)
 

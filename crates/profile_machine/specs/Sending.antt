@@ -1,7 +1,7 @@
 -- Calls that are sent on, abortable parts that begin, and calls that are not accepted at once (9.5.4, 9.7).
 use Rattle.std.specs.Prelude.{ℕ, ℤ, pos, int_le, Bool, true, false, cond, not, ◌&&◌, ◌||◌, Option, Some, None, is_none}
 use Rattle.ann_base.specs.declared.identities.CallNo.{CallNo}
-use Rattle.trace_text.specs.declared.events.Event.TheVariants as line
+use Rattle.profile_machine.specs.declared.world.lines.Line.TheVariants as line
 use Rattle.trace_text.specs.declared.events.Who.{Who}
 use Rattle.trace_text.specs.declared.events.Who.TheVariants as who
 use Rattle.profile_machine.specs.declared.image.Image.{Image}
@@ -19,7 +19,9 @@ use Rattle.profile_machine.specs.declared.world.calls.Outcome.TheVariants as cal
 use Rattle.profile_machine.specs.declared.world.tasks.Waiting.TheVariants as waits_for
 use Rattle.profile_machine.specs.declared.world.marks.Mark.TheVariants.{Abortable}
 use Rattle.profile_machine.specs.Program.{form_of}
-use Rattle.profile_machine.specs.Steps.{Step, Part, the_finish, the_block, says, changes, looks, when, nothing, ◌▷◌}
+use Rattle.profile_machine.specs.declared.world.lines.Part.{Part}
+use Rattle.profile_machine.specs.declared.world.lines.Part.TheVariants.{TheFinish, TheBlock}
+use Rattle.profile_machine.specs.Steps.{Step, says, changes, looks, when, nothing, ◌▷◌}
 use Rattle.profile_machine.specs.Tasks.{waiting_of}
 use Rattle.profile_machine.specs.Dispatching.{ready, block}
 use Rattle.profile_machine.specs.Frames.{push, new_frame, has_room}
@@ -54,7 +56,7 @@ appoint_timeout c None = λ w. w
 appoint_timeout c (Some moment) = appoint (due_for.Timeout c) moment
 
 unfoldable pub wait_for_call : Image → Call → Step
-wait_for_call p c = block the_block (who.Task c.caller) (waits_for.Call c.number)
+wait_for_call p c = block TheBlock (who.Task c.caller) (waits_for.Call c.number)
 
 unfoldable pub wait_or_cancel : Image → Part → Call → Bool → Step
 wait_or_cancel p part c true = cancel_at_once p part c
@@ -73,7 +75,7 @@ sent_call s c = record c { owner = s.owner; entry = s.entry; firm = not s.with_a
 
 -- its new entry, and its `call` line
 unfoldable pub send_on : Image → CallNo → Sending → Step
-send_on p c s = changes (edit_call c (sent_call s)) ▷ with_call c (says_call p the_finish)
+send_on p c s = changes (edit_call c (sent_call s)) ▷ with_call c (says_call p TheFinish)
 
 -- sent on with abort and not begun at once: a conditional call, one whose cancellation was attempted, and a timed one
 -- whose moment has come
@@ -88,7 +90,7 @@ is_to_be_cancelled now c = not c.firm && (is_conditional c.kind || c.attempted |
 
 unfoldable pub cancel_sent : Image → Call → Step
 cancel_sent p c =
-    changes (unqueued p c) ▷ says the_finish (line.Cancel c.caller c.number) ▷ deliver p the_finish c.number call_ended.Cancelled
+    changes (unqueued p c) ▷ says TheFinish (line.Cancel c.caller c.number) ▷ deliver p TheFinish c.number call_ended.Cancelled
 
 -- a triggering call whose abortable part has not begun, and whose cancellation was not attempted
 abbrev pub is_triggering : CallKind → Bool
@@ -106,7 +108,7 @@ may_begin_abortable w c =
 unfoldable pub begin_abortable : Image → CallNo → Step
 begin_abortable p c =
     with_call c (λ d. looks (λ w. when (may_begin_abortable w d)
-    (changes (open_abortable p (who.Task d.caller) d.statement (Some d.number)) ▷ ready p the_finish (who.Task d.caller))))
+    (changes (open_abortable p (who.Task d.caller) d.statement (Some d.number)) ▷ ready p TheFinish (who.Task d.caller))))
 
 -- queued on: a timed call has its time-out again for its first moment
 abbrev pub timeout_again : Call → World → World

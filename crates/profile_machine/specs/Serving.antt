@@ -4,8 +4,8 @@ use Rattle.ann_base.specs.declared.identities.CallNo.{CallNo}
 use Rattle.ann_base.specs.declared.identities.ObjectNo.{ObjectNo}
 use Rattle.ann_base.specs.declared.exceptions.Raised.{Raised}
 use Rattle.ann_base.specs.declared.exceptions.Raised.TheVariants as exception
-use Rattle.trace_text.specs.declared.events.Event.TheVariants as line
-use Rattle.trace_text.specs.declared.events.Finished.TheVariants as finished
+use Rattle.profile_machine.specs.declared.world.lines.Line.TheVariants as line
+use Rattle.profile_machine.specs.declared.world.lines.MeetingEnd.TheVariants as meeting
 use Rattle.trace_text.specs.declared.events.Mode.{Mode}
 use Rattle.trace_text.specs.declared.events.Mode.TheVariants.{Read, Write}
 use Rattle.trace_text.specs.declared.events.Who.{Who}
@@ -24,9 +24,11 @@ use Rattle.profile_machine.specs.declared.world.tasks.Cause.TheVariants as inher
 use Rattle.profile_machine.specs.declared.world.calls.Outcome.TheVariants as call_ended
 use Rattle.profile_machine.specs.declared.world.tasks.Waiting.TheVariants as waits_for
 use Rattle.profile_machine.specs.Words.{same_call, same_who, is_the, without, is_empty}
-use Rattle.profile_machine.specs.Steps.{Step, Part, own, the_finish, the_block, says, changes, looks, when, nothing, ◌▷◌}
+use Rattle.profile_machine.specs.declared.world.lines.Part.{Part}
+use Rattle.profile_machine.specs.declared.world.lines.Part.TheVariants.{Own, TheFinish, TheBlock}
+use Rattle.profile_machine.specs.Steps.{Step, says, changes, looks, when, nothing, ◌▷◌}
 use Rattle.profile_machine.specs.Dispatching.{block}
-use Rattle.profile_machine.specs.Frames.{frames_of, edit_top, pop, leaves, pass_on, exception_name, has_room}
+use Rattle.profile_machine.specs.Frames.{frames_of, edit_top, pop, leaves, pass_on, has_room}
 use Rattle.profile_machine.specs.Inheritance.{lose_running}
 use Rattle.profile_machine.specs.Calls.{edit_call, with_call, edit_object, enqueue, attempt_with, forget_call, formals_count}
 use Rattle.profile_machine.specs.Unwinding.{may_unwind}
@@ -45,8 +47,8 @@ serves_nothing w = record w { serving = None }
 -- `served`; where nothing is pending the agent blocks
 unfoldable pub end_release : Image → ℕ → Step
 end_release p n =
-    says own (line.Served n) ▷ changes serves_nothing
-    ▷ looks (λ w. when (is_empty w.releases) (block the_block who.Agent waits_for.Release))
+    says Own (line.Served n) ▷ changes serves_nothing
+    ▷ looks (λ w. when (is_empty w.releases) (block TheBlock who.Agent waits_for.Release))
 
 -- ---- the release of an object
 
@@ -58,7 +60,7 @@ abbrev pub may_open_abortable : World → Who → Call → Bool
 may_open_abortable w name c = is_triggering c.kind && c.sent_with_abort && not c.attempted && has_room w name 1 0
 
 unfoldable pub wait_or_unwind : Image → Who → Call → Bool → Step
-wait_or_unwind p name c true = attempt_with p own c (changes (forget_call c.number) ▷ leaves name how.Abort) (wait_for_call p c)
+wait_or_unwind p name c true = attempt_with p Own c (changes (forget_call c.number) ▷ leaves name how.Abort) (wait_for_call p c)
 wait_or_unwind p name c false = wait_for_call p c
 
 unfoldable pub wait_for_own : Image → Who → Call → Bool → Step
@@ -66,7 +68,7 @@ wait_for_own p name c true = changes (open_abortable p name c.statement (Some c.
 wait_for_own p name c false = looks (λ w. wait_or_unwind p name c (may_unwind (frames_of w name)))
 
 unfoldable pub resume_own : Image → Who → Call → Option Outcome → Step
-resume_own p name c (Some outcome) = resume p the_block c outcome
+resume_own p name c (Some outcome) = resume p TheBlock c outcome
 resume_own p name c None = looks (λ w. wait_for_own p name c (may_open_abortable w name c))
 
 -- the task goes on as the body was left, or behind its own entry call; the agent has served its release
@@ -78,7 +80,7 @@ behind_action p name m None (Some c) = with_call c (λ d. resume_own p name d d.
 -- the ceiling is lost first, then what was deferred is set
 unfoldable pub release_object : Image → Who → ProtectedMark → Step
 release_object p name m =
-    says own (line.Exit name m.object) ▷ changes (pop name) ▷ changes (close_action name m.object)
+    says Own (line.Exit name m.object) ▷ changes (pop name) ▷ changes (close_action name m.object)
     ▷ lose_running p name (inherited_by.Ceiling m.object) ▷ set_deferred p name ▷ behind_action p name m m.release m.own_call
 
 -- ---- the next call is served, or the object is released (9.5.3)
@@ -88,8 +90,8 @@ is_the_call sent c = is_the same_call sent c
 
 -- the `start` of a call that was sent on stands directly behind its `call`
 abbrev pub part_of_start : Bool → Part
-part_of_start true = the_finish
-part_of_start false = own
+part_of_start true = TheFinish
+part_of_start false = Own
 
 -- a call that was sent on and is not the one that is served
 unfoldable pub settle_sent : Image → Option CallNo → Bool → Step
@@ -151,14 +153,14 @@ outcome_by false e = call_ended.ToRaise e
 
 unfoldable pub finish_raised : Image → Who → ProtectedMark → Call → Raised → Step
 finish_raised p name m c e =
-    says the_finish (line.Finish name c.number (finished.Raised (exception_name p e)))
-    ▷ deliver p the_finish c.number (outcome_by (is_own_call name m.own_call c) e) ▷ serve_calls p name m None
+    says TheFinish (line.Finish name c.number (meeting.Raised e))
+    ▷ deliver p TheFinish c.number (outcome_by (is_own_call name m.own_call c) e) ▷ serve_calls p name m None
 
 unfoldable pub finish_well : Image → Who → ProtectedMark → Call → Option Sending → Step
 finish_well p name m c None =
-    says the_finish (line.Finish name c.number finished.Ok) ▷ deliver p the_finish c.number call_ended.Finished ▷ serve_calls p name m None
+    says TheFinish (line.Finish name c.number meeting.Ok) ▷ deliver p TheFinish c.number call_ended.Finished ▷ serve_calls p name m None
 finish_well p name m c (Some s) =
-    says the_finish (line.Finish name c.number finished.Requeue) ▷ send_on p c.number s ▷ enqueue p c.number ▷ serve_calls p name m (Some c.number)
+    says TheFinish (line.Finish name c.number meeting.Requeue) ▷ send_on p c.number s ▷ enqueue p c.number ▷ serve_calls p name m (Some c.number)
 
 unfoldable pub finish_call : Image → Who → ProtectedMark → Leaving → Call → Step
 finish_call p name m (how.Exception e) c = finish_raised p name m c e

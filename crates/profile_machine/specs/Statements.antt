@@ -2,7 +2,7 @@
 use Rattle.std.specs.Prelude.{ℕ, suc, ◌+◌, ◌-◌, ℤ, pos, negsuc, ◌+ℤ◌, int_lt, Bool, true, false, cond, not, ◌&&◌, List, [], ◌∷◌, ◌++◌, Option, Some, None, Ok, Err, take, drop, slice_set}
 use Rattle.ann_base.specs.declared.exceptions.Raised.{Raised}
 use Rattle.ann_base.specs.declared.exceptions.Raised.TheVariants as exception
-use Rattle.trace_text.specs.declared.events.Event.TheVariants as line
+use Rattle.profile_machine.specs.declared.world.lines.Line.TheVariants as line
 use Rattle.trace_text.specs.declared.events.Who.{Who}
 use Rattle.trace_text.specs.declared.events.Who.TheVariants as who
 use Rattle.profile_machine.specs.declared.image.Image.{Image}
@@ -30,7 +30,9 @@ use Rattle.profile_machine.specs.declared.world.tasks.Waiting.TheVariants as wai
 use Rattle.profile_machine.specs.declared.world.marks.Mark.TheVariants.{Scope, Handled, InProtected, InAccept, Abortable, InInitialize, InFinalize, InAssign}
 use Rattle.profile_machine.specs.Words.{same_id}
 use Rattle.profile_machine.specs.Program.{declaration_of, next_of, scope_of, marks_of, literals_of}
-use Rattle.profile_machine.specs.Steps.{Step, Part, own, the_placing, the_block, says, changes, looks, nothing, ◌▷◌}
+use Rattle.profile_machine.specs.declared.world.lines.Part.{Part}
+use Rattle.profile_machine.specs.declared.world.lines.Part.TheVariants.{Own, ThePlacing, TheBlock}
+use Rattle.profile_machine.specs.Steps.{Step, says, changes, looks, nothing, ◌▷◌}
 use Rattle.profile_machine.specs.Dispatching.{block, to_tail}
 use Rattle.profile_machine.specs.Frames.{frames_of, goes, raises, given, raise_if, with_room, exit_loop, in_protected}
 use Rattle.profile_machine.specs.Scopes.{home, write_cell, edit_cells, cells_of, scope_in_use, open_scope, plainly, innermost}
@@ -55,7 +57,7 @@ null p name s = goes name (next_of p s)
 -- the place of the target is found first, then the value
 unfoldable pub assign : Image → Who → StatementNo → VariableName → ExprNo → Step
 assign p name s target e =
-    sees p name (λ q. given p own name (variable q target >>= λ v. value q e >>= λ x. store p v x q.world) (λ next. changes (λ _. next) ▷ goes name (next_of p s)))
+    sees p name (λ q. given p Own name (variable q target >>= λ v. value q e >>= λ x. store p v x q.world) (λ next. changes (λ _. next) ▷ goes name (next_of p s)))
 
 -- the cells of a whole array
 abbrev pub cells_from : World → Variable → ℕ → List Value
@@ -75,7 +77,7 @@ array_copied p q target source = object_cell q target >>= λ t. object_cell q so
 
 unfoldable pub assign_array : Image → Who → StatementNo → ObjectName → ObjectName → Step
 assign_array p name s target source =
-    sees p name (λ q. given p own name (array_copied p q target source) (λ next. changes (λ _. next) ▷ goes name (next_of p s)))
+    sees p name (λ q. given p Own name (array_copied p q target source) (λ next. changes (λ _. next) ▷ goes name (next_of p s)))
 
 -- ---- if and case (5.3, 5.4)
 
@@ -85,7 +87,7 @@ branch false first otherwise = otherwise
 
 unfoldable pub if_statement : Image → Who → ExprNo → StatementNo → Option StatementNo → Step
 if_statement p name e first otherwise =
-    sees p name (λ q. given p own name (condition q e) (λ b. goes name (branch b first otherwise)))
+    sees p name (λ q. given p Own name (condition q e) (λ b. goes name (branch b first otherwise)))
 
 abbrev pub holds : Valued Bool → Bool
 holds (Ok b) = b
@@ -106,18 +108,18 @@ chosen_alternative v (a ∷ as') = cond (any_chosen v a.choices) (Some a.first) 
 
 -- a value that no choice covers raises Constraint_Error
 unfoldable pub go_to_alternative : Image → Who → Option StatementNo → Step
-go_to_alternative p name None = raises p own name exception.Constraint
+go_to_alternative p name None = raises p Own name exception.Constraint
 go_to_alternative p name (Some first) = goes name (Some first)
 
 unfoldable pub case_statement : Image → Who → ExprNo → List CaseAlternative → Step
 case_statement p name e alternatives =
-    sees p name (λ q. given p own name (value q e) (λ v. go_to_alternative p name (chosen_alternative v alternatives)))
+    sees p name (λ q. given p Own name (value q e) (λ v. go_to_alternative p name (chosen_alternative v alternatives)))
 
 -- ---- loops (5.5): into the body, or past the loop
 
 unfoldable pub while_turn : Image → Who → StatementNo → ExprNo → StatementNo → Step
 while_turn p name s e body =
-    sees p name (λ q. given p own name (condition q e) (λ b. goes name (branch b body (next_of p s))))
+    sees p name (λ q. given p Own name (condition q e) (λ b. goes name (branch b body (next_of p s))))
 
 -- the parameter, and the cell behind it that keeps the last value
 abbrev pub loop_cell : Seen → DeclNo → ℕ → Valued Variable
@@ -143,7 +145,7 @@ bounds_set q d reverse low high =
 
 unfoldable pub for_bounds : Image → Who → DeclNo → Bool → ExprNo → ExprNo → StatementNo → Step
 for_bounds p name d reverse low high turn =
-    sees p name (λ q. given p own name (bounds_set q d reverse low high) (λ next. changes (λ _. next) ▷ goes name (Some turn)))
+    sees p name (λ q. given p Own name (bounds_set q d reverse low high) (λ next. changes (λ _. next) ▷ goes name (Some turn)))
 
 -- the first turn finds an empty range
 abbrev pub is_past : Bool → Value → Value → Valued Bool
@@ -152,7 +154,7 @@ is_past true x last = is_less x last
 
 unfoldable pub first_turn : Image → Who → StatementNo → DeclNo → Bool → StatementNo → Step
 first_turn p name s d reverse body =
-    sees p name (λ q. given p own name (loop_cell q d 0 >>= λ x. loop_cell q d 1 >>= λ y. is_past reverse (read q.world x) (read q.world y))
+    sees p name (λ q. given p Own name (loop_cell q d 0 >>= λ x. loop_cell q d 1 >>= λ y. is_past reverse (read q.world x) (read q.world y))
     (λ past. goes name (branch (not past) body (next_of p s))))
 
 -- the next value in the direction of the loop
@@ -173,7 +175,7 @@ advance name x reverse v body past false = changes (put x (stepped reverse v)) �
 -- a later turn: past the loop at the last value, else on to the next one
 unfoldable pub later_turn : Image → Who → StatementNo → DeclNo → Bool → StatementNo → Step
 later_turn p name s d reverse body =
-    sees p name (λ q. given p own name (loop_cell q d 0) (λ x. given p own name (loop_cell q d 1 >>= λ y. same_value (read q.world x) (read q.world y))
+    sees p name (λ q. given p Own name (loop_cell q d 0) (λ x. given p Own name (loop_cell q d 1 >>= λ y. same_value (read q.world x) (read q.world y))
     (advance name x reverse (read q.world x) body (next_of p s))))
 
 -- ---- exit (5.7)
@@ -184,7 +186,7 @@ exit_where p name s loop false = goes name (next_of p s)
 
 unfoldable pub exit_statement : Image → Who → StatementNo → StatementNo → Option ExprNo → Step
 exit_statement p name s loop None = exit_loop p name loop
-exit_statement p name s loop (Some e) = sees p name (λ q. given p own name (condition q e) (exit_where p name s loop))
+exit_statement p name s loop (Some e) = sees p name (λ q. given p Own name (condition q e) (exit_where p name s loop))
 
 -- ---- block (5.6)
 
@@ -215,14 +217,14 @@ exception_handled q scope =
     or_misfit (home q.world scope q.within) >>= λ id. or_misfit (handled_in id (frames_of q.world q.who))
 
 unfoldable pub raise_again : Image → Who → ScopeNo → Step
-raise_again p name scope = sees p name (λ q. given p own name (exception_handled q scope) (raises p own name))
+raise_again p name scope = sees p name (λ q. given p Own name (exception_handled q scope) (raises p Own name))
 
 -- ---- delays (9.6): inside a protected action Program_Error is raised (own)
 
 -- a task that waits for a moment blocks; where the moment is not in the future it goes to the tail (D.2.1)
 unfoldable pub wait_until : Image → Who → ℤ → Bool → Step
-wait_until p (who.Task t) until true = changes (appoint (due_for.Delay t) until) ▷ block the_block (who.Task t) waits_for.Moment
-wait_until p (who.Task t) until false = to_tail p the_placing (who.Task t)
+wait_until p (who.Task t) until true = changes (appoint (due_for.Delay t) until) ▷ block TheBlock (who.Task t) waits_for.Moment
+wait_until p (who.Task t) until false = to_tail p ThePlacing (who.Task t)
 wait_until p who.Agent until future = nothing
 
 unfoldable pub delay_to : Image → Who → ℤ → Step
@@ -230,7 +232,7 @@ delay_to p name until = looks (λ w. wait_until p name until (int_lt (pos w.time
 
 unfoldable pub delay_until : Image → Who → StatementNo → Valued ℤ → Step
 delay_until p name s until =
-    looks (λ w. raise_if p name (in_protected w name) exception.Program (given p own name until (λ m. goes name (next_of p s) ▷ delay_to p name m)))
+    looks (λ w. raise_if p name (in_protected w name) exception.Program (given p Own name until (λ m. goes name (next_of p s) ▷ delay_to p name m)))
 
 -- a relative delay's moment
 abbrev pub from_now : World → ℤ → ℤ
@@ -253,4 +255,4 @@ text_of_pieces q (x ∷ xs) = piece_text q x >>= λ text. text_of_pieces q xs >>
 
 unfoldable pub put_line : Image → Who → StatementNo → List Piece → Step
 put_line p name s pieces =
-    sees p name (λ q. given p own name (text_of_pieces q pieces) (λ text. goes name (next_of p s) ▷ says own (line.Put name text)))
+    sees p name (λ q. given p Own name (text_of_pieces q pieces) (λ text. goes name (next_of p s) ▷ says Own (line.Put name text)))

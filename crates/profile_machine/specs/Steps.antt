@@ -2,30 +2,22 @@
 -- it is over, and then the ready queues follow them.
 use Rattle.std.specs.Prelude.{ℕ, ℤ, Bool, true, false, cond, ◌&&◌, ◌||◌, List, [], ◌∷◌, ◌++◌, Option, Some, None, eqb, ltb, int_lt, map}
 use Rattle.trace_text.specs.declared.events.Event.{Event}
-use Rattle.trace_text.specs.declared.events.Event.TheVariants as line
+use Rattle.trace_text.specs.declared.events.Event.TheVariants as written
 use Rattle.trace_text.specs.declared.events.Who.{Who}
 use Rattle.trace_text.specs.declared.events.Who.TheVariants.{Task, Agent}
 use Rattle.trace_text.specs.declared.events.QueueEnd.{QueueEnd}
 use Rattle.trace_text.specs.declared.events.QueueEnd.TheVariants.{Head, Tail}
+use Rattle.profile_machine.specs.declared.image.Image.{Image}
 use Rattle.profile_machine.specs.declared.world.World.{World}
+use Rattle.profile_machine.specs.declared.world.lines.Line.{Line}
+use Rattle.profile_machine.specs.declared.world.lines.Part.{Part}
+use Rattle.profile_machine.specs.declared.world.lines.Part.TheVariants.{TheCall, TheFinish, Own, OfOther, ThePlacing, TheBlock}
+use Rattle.profile_machine.specs.declared.world.lines.Said.{Said}
 use Rattle.profile_machine.specs.declared.world.tasks.Placed.{Placed}
 use Rattle.profile_machine.specs.Words.{same_who, without}
+use Rattle.profile_machine.specs.Lines.{event_of}
 
--- ---- lines of an effect
-
--- The parts of an effect's lines, in their order (own): the call that is made; a call that ended, with its caller's
--- lines; the action's own lines; those of other tasks by number; the placing of who acts; its block.
-pub data Part : Type 0 where
-  the_call : Part
-  the_finish : Part
-  own : Part
-  of_other : Who → Part
-  the_placing : Part
-  the_block : Part
-
-pub record Said : Type 0 where
-  pub part : Part
-  pub event : Event
+-- ---- what a step leads to
 
 -- what a step leads to: the world behind it, and all that the effect has said up to its end
 pub data Done : Type 0 where
@@ -57,8 +49,8 @@ abbrev pub changes : (World → World) → Step
 changes f w said = done (f w) said
 
 -- a line is said
-abbrev pub says : Part → Event → Step
-says part event w said = done w (said ++ record { part = part; event = event } ∷ [])
+abbrev pub says : Part → Line → Step
+says part line w said = done w (said ++ record { part = part; line = line } ∷ [])
 
 -- a step that looks at the world in which it is done
 abbrev pub looks : (World → Step) → Step
@@ -82,12 +74,12 @@ for_each (x ∷ xs) f = f x ▷ for_each xs f
 -- ---- their order
 
 abbrev pub rank_of : Part → ℕ
-rank_of the_call = 0
-rank_of the_finish = 1
-rank_of own = 2
-rank_of (of_other who) = 3
-rank_of the_placing = 4
-rank_of the_block = 5
+rank_of TheCall = 0
+rank_of TheFinish = 1
+rank_of Own = 2
+rank_of (OfOther who) = 3
+rank_of ThePlacing = 4
+rank_of TheBlock = 5
 
 -- tasks stand by number, and the agent behind them
 abbrev pub is_numbered_before : Who → Who → Bool
@@ -98,7 +90,7 @@ is_numbered_before Agent Agent = false
 
 -- whether lines of the first part stand before those of the second
 abbrev pub is_part_before : Part → Part → Bool
-is_part_before (of_other a) (of_other b) = is_numbered_before a b
+is_part_before (OfOther a) (OfOther b) = is_numbered_before a b
 is_part_before a b = ltb (rank_of a) (rank_of b)
 
 -- a line takes its place before the first that it does not stand behind
@@ -143,9 +135,9 @@ take_out who = without (λ x. same_who who x.who)
 
 -- the ready queues behind a line: `ready` places, `block` and `done` take out, no other line moves anybody
 abbrev pub places_after : Event → List Placed → List Placed
-places_after (line.Ready who level end deadline) places = put_at end (record { who = who; level = level; deadline = deadline }) (take_out who places)
-places_after (line.Block who waits) places = take_out who places
-places_after (line.Done task) places = take_out (Task task) places
+places_after (written.Ready who level end deadline) places = put_at end (record { who = who; level = level; deadline = deadline }) (take_out who places)
+places_after (written.Block who waits) places = take_out who places
+places_after (written.Done task) places = take_out (Task task) places
 places_after _ places = places
 
 abbrev pub places_after_all : List Event → List Placed → List Placed
@@ -157,15 +149,15 @@ places_after_all (x ∷ xs) places = places_after_all xs (places_after x places)
 abbrev pub placed_by : List Event → World → World
 placed_by lines w = record w { places = places_after_all lines w.places }
 
--- its lines are put in order, and the ready queues follow them
-abbrev pub settled : Done → World × List Event
-settled (done w said) =
-    let lines = map (λ x. x.event) (in_order said) in
+-- its lines are put in order and written with their names, and the ready queues follow them
+abbrev pub settled : Image → Done → World × List Event
+settled p (done w said) =
+    let lines = map (λ x. event_of p x.line) (in_order said) in
     (placed_by lines w, lines)
 
 -- an effect is a move: a step that begins with nothing said
-abbrev pub settles : Step → Move
-settles step w = settled (step w [])
+abbrev pub settles : Image → Step → Move
+settles p step w = settled p (step w [])
 
 -- ---- moves that are put together
 

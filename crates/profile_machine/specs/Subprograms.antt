@@ -30,7 +30,8 @@ use Rattle.profile_machine.specs.declared.world.marks.Purpose.TheVariants as ope
 use Rattle.profile_machine.specs.declared.world.marks.ResultTo.TheVariants as bound_for
 use Rattle.profile_machine.specs.declared.world.marks.Mark.TheVariants.{Scope, Handled, InProtected, InAccept, Abortable, InInitialize, InFinalize, InAssign}
 use Rattle.profile_machine.specs.Program.{next_of, scope_of, marks_of, subprogram_of}
-use Rattle.profile_machine.specs.Steps.{Step, own, changes, looks, nothing, ◌▷◌}
+use Rattle.profile_machine.specs.declared.world.lines.Part.TheVariants.{Own}
+use Rattle.profile_machine.specs.Steps.{Step, changes, looks, nothing, ◌▷◌}
 use Rattle.profile_machine.specs.Frames.{frames_of, goes, leaves, given, raise_if, with_room}
 use Rattle.profile_machine.specs.Scopes.{home, write_cell, open_scope, Beginning}
 use Rattle.profile_machine.specs.Operators.{Valued, ◌>>=◌, checked}
@@ -91,7 +92,7 @@ begin_body p name s f b h to =
 -- a step with what a call hands over, and where its result goes
 abbrev pub handing : Image → Who → SubprogramNo → List Actual → Destination → (Handed → ResultTo → Step) → Step
 handing p name f actuals to step =
-    sees p name (λ q. given p own name (result_to q to) (λ r. given p own name (handed q 0 (subprogram_of p f).formals actuals) (λ h. step h r)))
+    sees p name (λ q. given p Own name (result_to q to) (λ r. given p Own name (handed q 0 (subprogram_of p f).formals actuals) (λ h. step h r)))
 
 unfoldable pub call_subprogram : Image → Who → StatementNo → SubprogramNo → List Actual → Destination → Step
 call_subprogram p name s f actuals to =
@@ -113,10 +114,10 @@ result_kept q f v =
 -- a function's result, range checked, is kept, and the marks are left to its body
 unfoldable pub return_result : Image → Who → SubprogramNo → Value → Step
 return_result p name f v =
-    sees p name (λ q. given p own name (result_kept q f v) (λ next. changes (λ _. next) ▷ leaves name how.Return))
+    sees p name (λ q. given p Own name (result_kept q f v) (λ next. changes (λ _. next) ▷ leaves name how.Return))
 
 unfoldable pub return_value : Image → Who → SubprogramNo → ExprNo → Step
-return_value p name f e = sees p name (λ q. given p own name (value q e) (return_result p name f))
+return_value p name f e = sees p name (λ q. given p Own name (value q e) (return_result p name f))
 
 -- what a return ends: a body or an accept, with the call that it serves; a block is left on the way
 pub data Ended : Type 0 where
@@ -165,7 +166,7 @@ cell_in cells place = slice_index_or cells place (Whole (pos 0))
 abbrev pub copy_parameters : Image → Who → List Value → List CopyBack → Step → Step
 copy_parameters p name cells [] step = step
 copy_parameters p name cells (b ∷ bs) step =
-    looks (λ w. given p own name (store p b.target (cell_in cells b.place) w) (λ next. changes (λ _. next) ▷ copy_parameters p name cells bs step))
+    looks (λ w. given p Own name (store p b.target (cell_in cells b.place) w) (λ next. changes (λ _. next) ▷ copy_parameters p name cells bs step))
 
 abbrev pub last_cell : List Value → Value
 last_cell cells = cell_in cells (length cells - 1)
@@ -183,7 +184,7 @@ falls_through how.Terminate to = false
 
 unfoldable pub store_result : Image → Who → List Value → ResultTo → Step
 store_result p name cells bound_for.Nowhere = nothing
-store_result p name cells (bound_for.Variable v) = looks (λ w. becomes p own name (store p v (last_cell cells) w))
+store_result p name cells (bound_for.Variable v) = looks (λ w. becomes p Own name (store p v (last_cell cells) w))
 store_result p name cells (bound_for.Return f) = return_result p name f (last_cell cells)
 
 -- `cells` are those of the scope that has ended

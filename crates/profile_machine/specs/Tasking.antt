@@ -5,7 +5,7 @@ use Rattle.ann_base.specs.declared.identities.TaskNo.{TaskNo}
 use Rattle.ann_base.specs.declared.identities.RegionNo.{RegionNo}
 use Rattle.ann_base.specs.declared.exceptions.Raised.{Raised}
 use Rattle.ann_base.specs.declared.exceptions.Raised.TheVariants as exception
-use Rattle.trace_text.specs.declared.events.Event.TheVariants as line
+use Rattle.profile_machine.specs.declared.world.lines.Line.TheVariants as line
 use Rattle.trace_text.specs.declared.events.Created.TheVariants as created
 use Rattle.trace_text.specs.declared.events.Leaves.{Leaves}
 use Rattle.trace_text.specs.declared.events.Leaves.TheVariants as leaves_word
@@ -43,10 +43,12 @@ use Rattle.profile_machine.specs.declared.world.tasks.State.TheVariants.{Made, R
 use Rattle.profile_machine.specs.declared.world.tasks.Task as world
 use Rattle.profile_machine.specs.Words.{same_who, same_region, is_the, option_or_else}
 use Rattle.profile_machine.specs.Program.{declaration_of, next_of, scope_of, task_unit_of}
-use Rattle.profile_machine.specs.Steps.{Step, Part, own, of_other, the_placing, the_block, says, changes, looks, when, nothing, for_some, for_each, ◌▷◌}
+use Rattle.profile_machine.specs.declared.world.lines.Part.{Part}
+use Rattle.profile_machine.specs.declared.world.lines.Part.TheVariants.{Own, OfOther, ThePlacing, TheBlock}
+use Rattle.profile_machine.specs.Steps.{Step, says, changes, looks, when, nothing, for_some, for_each, ◌▷◌}
 use Rattle.profile_machine.specs.Tasks.{task_of, edit_task, new_task, is_made, waiting_of}
 use Rattle.profile_machine.specs.Dispatching.{active_of, ready, block, to_head, says_block}
-use Rattle.profile_machine.specs.Frames.{frames_of, edit_top, pop, goes, raises, given, raise_if, has_room, pass_on, in_protected, is_deferred, exception_name}
+use Rattle.profile_machine.specs.Frames.{frames_of, edit_top, pop, goes, raises, given, raise_if, has_room, pass_on, in_protected, is_deferred}
 use Rattle.profile_machine.specs.Scopes.{home, open_scope, plainly, end_scope, cells_of, scope_in_use}
 use Rattle.profile_machine.specs.Operators.{Valued, ◌>>=◌, held_moment}
 use Rattle.profile_machine.specs.Values.{Seen, moment, thing, task_in}
@@ -90,7 +92,7 @@ add_task t w = record w { tasks = w.tasks ++ t ∷ []; drawn = task_drawn w.draw
 
 unfoldable pub says_created : Image → DeclNo → world.Task → Step
 says_created p d t =
-    looks (λ w. says own (line.New (created.Task (record { 0 = w.drawn.tasks - 1 })) (declaration_of p d).expanded t.base))
+    looks (λ w. says Own (line.New (created.Task (record { 0 = w.drawn.tasks - 1 })) (Some d) t.base))
 
 unfoldable pub create_task : Image → Who → StatementNo → DeclNo → Option ScopeId → world.Task → Step
 create_task p name s d id t =
@@ -103,7 +105,7 @@ unfoldable pub create : Image → Who → StatementNo → DeclNo → ℕ → Ste
 create p name s d declarative_part =
     sees p name (λ q. raise_if p name (in_protected q.world name || is_deferred q.world name) exception.Program
     (raise_if p name (leb 256 (length q.world.tasks)) exception.Storage
-    (given p own name (optional_span q (task_unit_of p (unit_of_declaration p d)).relative_deadline) (λ span.
+    (given p Own name (optional_span q (task_unit_of p (unit_of_declaration p d)).relative_deadline) (λ span.
     create_task p name s d (home q.world (declaration_of p d).scope q.within) (created_task q d (unit_of_declaration p d) declarative_part span q.world.drawn.tasks)))))
 
 -- the region of the scope on top; a sequence with handlers may stand above it
@@ -116,7 +118,7 @@ top_region_of_scope w name = region_or_none (region_of_frames (frames_of w name)
 
 -- who acts goes to the head where its active priority has fallen since this world
 unfoldable pub fall_from : Image → Who → World → Step
-fall_from p name before = looks (λ w. when (falls p name before w) (to_head p the_placing name))
+fall_from p name before = looks (λ w. when (falls p name before w) (to_head p ThePlacing name))
 
 -- ---- activation (9.2): the tasks that the declarative part made become ready in order
 
@@ -137,7 +139,7 @@ activated_task activator now t = record t { activator = Some activator; deadline
 unfoldable pub begin_task : Image → Who → ℕ → world.Task → Step
 begin_task p activator level t =
     looks (λ w. changes (open_scope p t.who (unit_of_task p t).scope (plainly t.outer) opened_for.Task)
-    ▷ changes (edit_task t.who (activated_task activator w.time)) ▷ changes (inherit t.who inherited_by.Activation level) ▷ ready p (of_other t.who) t.who)
+    ▷ changes (edit_task t.who (activated_task activator w.time)) ▷ changes (inherit t.who inherited_by.Activation level) ▷ ready p (OfOther t.who) t.who)
 
 -- a task without room prints `raise` and `done`, and counts as failed
 unfoldable pub says_done : Part → Who → Step
@@ -149,7 +151,7 @@ group_fails t = record t { group_failed = true }
 
 unfoldable pub fail_to_begin : Image → Who → world.Task → Step
 fail_to_begin p activator t =
-    says (of_other t.who) (line.Raise t.who (exception_name p exception.Storage)) ▷ says_done (of_other t.who) t.who
+    says (OfOther t.who) (line.Raise t.who exception.Storage) ▷ says_done (OfOther t.who) t.who
     ▷ changes (edit_task activator group_fails) ▷ terminate p activator t.who
 
 unfoldable pub activate_one : Image → Who → ℕ → world.Task → Step
@@ -159,8 +161,8 @@ activate_one p activator level t =
 
 -- the activator blocks where some task begins; else Tasking_Error is raised in it at once, if one failed
 unfoldable pub await_group : Image → Who → Bool → Bool → Step
-await_group p name true failed = block the_block name waits_for.Activation
-await_group p name false true = raises p the_block name exception.Tasking
+await_group p name true failed = block TheBlock name waits_for.Activation
+await_group p name false true = raises p TheBlock name exception.Tasking
 await_group p name false false = nothing
 
 abbrev pub no_failure : world.Task → world.Task
@@ -192,7 +194,7 @@ is_made_in r t = is_made t && is_the same_region t.master r
 
 -- tasks that were made there and not activated terminate
 unfoldable pub end_made : Image → Who → world.Task → Step
-end_made p actor t = says_done (of_other t.who) t.who ▷ terminate p actor t.who
+end_made p actor t = says_done (OfOther t.who) t.who ▷ terminate p actor t.who
 
 abbrev pub being_left_mark : ScopeMark → ScopeMark
 being_left_mark m = record m { being_left = true }
@@ -212,12 +214,12 @@ complete_if_task p name purpose =
     looks (λ w. when (is_task_scope purpose) (complete p name name ▷ fall_from p name w))
 
 unfoldable pub wait_for_dependents : Who → RegionNo → Step
-wait_for_dependents name r = looks (λ w. when (has_dependents w r) (block the_block name (waits_for.Dependents r)))
+wait_for_dependents name r = looks (λ w. when (has_dependents w r) (block TheBlock name (waits_for.Dependents r)))
 
 unfoldable pub leave_region : Image → Who → ScopeMark → Leaving → RegionNo → Step
 leave_region p name m leaving r =
     changes (edit_top_scope name being_left_mark) ▷ changes (edit_top name (left_so_frame leaving))
-    ▷ says own (line.Leave name r (leaves_as leaving))
+    ▷ says Own (line.Leave name r (leaves_as leaving))
     ▷ looks (λ w. for_each (filter (is_made_in r) w.tasks) (end_made p name))
     ▷ complete_if_task p name m.purpose ▷ wait_for_dependents name r
 
@@ -244,7 +246,7 @@ fails_by w name leaving = is_some (exception_in leaving) && not (task_of w name)
 
 unfoldable pub end_task : Image → Who → Leaving → Step
 end_task p name leaving =
-    says_done own name ▷ looks (λ w. end_activation p name name (fails_by w name leaving)) ▷ terminate p name name
+    says_done Own name ▷ looks (λ w. end_activation p name name (fails_by w name leaving)) ▷ terminate p name name
     ▷ when (is_environment name) (changes (end_environment leaving))
 
 -- a body that was left by its end or by a return has ended normally
@@ -282,7 +284,7 @@ left_by m leaving = cond (raises_behind m leaving) (how.Exception exception.Prog
 
 unfoldable pub says_left : Image → Who → ScopeMark → Leaving → Step
 says_left p name m leaving =
-    for_some m.region (λ r. says own (line.Left name r)) ▷ when (raises_behind m leaving) (says own (line.Raise name (exception_name p exception.Program)))
+    for_some m.region (λ r. says Own (line.Left name r)) ▷ when (raises_behind m leaving) (says Own (line.Raise name exception.Program))
 
 unfoldable pub end_of_scope : Image → Who → ScopeMark → Leaving → Step
 end_of_scope p name m leaving =
@@ -319,7 +321,7 @@ abbrev pub abnormal_task : world.Task → world.Task
 abnormal_task t = record t { abnormal = true }
 
 unfoldable pub says_abort : Who → Who → Step
-says_abort (who.Task actor) (who.Task t) = says own (line.Abort actor t)
+says_abort (who.Task actor) (who.Task t) = says Own (line.Abort actor t)
 says_abort (who.Task actor) who.Agent = nothing
 says_abort who.Agent t = nothing
 
@@ -338,14 +340,14 @@ abort_all p actor tasks =
 unfoldable pub abort_statement : Image → Who → StatementNo → List DeclNo → Step
 abort_statement p name s tasks =
     sees p name (λ q. raise_if p name (in_protected q.world name) exception.Program
-    (given p own name (named_tasks q tasks) (λ aborted. goes name (next_of p s) ▷ looks (λ w. abort_all p name (filter (is_to_abort w aborted) w.tasks)))))
+    (given p Own name (named_tasks q tasks) (λ aborted. goes name (next_of p s) ▷ looks (λ w. abort_all p name (filter (is_to_abort w aborted) w.tasks)))))
 
 -- ---- what an effect brings about elsewhere
 
 -- a task that has come to its select with an open terminate alternative blocks there
 unfoldable pub block_at_terminate : Who → Option Waiting → Step
 block_at_terminate name None = nothing
-block_at_terminate name (Some waiting) = when (waits_at_terminate (Some waiting)) (says_block the_block name waiting)
+block_at_terminate name (Some waiting) = when (waits_at_terminate (Some waiting)) (says_block TheBlock name waiting)
 
 -- tasks at open terminate alternatives that may end become ready, in order of number
 unfoldable pub take_terminates : Image → Who → Step

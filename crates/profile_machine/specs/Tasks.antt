@@ -9,7 +9,7 @@ use Rattle.profile_machine.specs.declared.world.tasks.State.{State}
 use Rattle.profile_machine.specs.declared.world.tasks.Waiting.{Waiting}
 use Rattle.profile_machine.specs.declared.world.marks.Frame.{Frame}
 use Rattle.profile_machine.specs.declared.world.tasks.State.TheVariants.{Made, Runnable, Blocked}
-use Rattle.profile_machine.specs.Words.{same_who, option_or_else, edit_where}
+use Rattle.profile_machine.specs.Words.{same_who, option_or_else, set_where}
 
 -- the last moment of Time (D.8), as -2^62 and 2^62 - 1 are the ends of all times (own)
 abbrev pub time_last : ℤ
@@ -31,9 +31,13 @@ nobody = new_task who.Agent 0 Made
 abbrev pub found_task : Who → List Task → Option Task
 found_task name tasks = find (is_who name) tasks
 
+-- the task, or the agent, that has this name, if it is there
+abbrev pub task_at : World → Who → Option Task
+task_at w (who.Task t) = found_task (who.Task t) w.tasks
+task_at w who.Agent = Some w.agent
+
 abbrev pub task_of : World → Who → Task
-task_of w (who.Task t) = option_or_else (found_task (who.Task t) w.tasks) nobody
-task_of w who.Agent = w.agent
+task_of w name = option_or_else (task_at w name) nobody
 
 abbrev pub number_of : Who → Option TaskNo
 number_of (who.Task t) = Some t
@@ -65,9 +69,18 @@ waiting_of w name = waiting_in (task_of w name).state
 
 -- ---- changing
 
+-- the task t in the place of the one that has this name
+abbrev pub with_task : Who → Task → World → World
+with_task (who.Task n) t w = record w { tasks = set_where (is_who (who.Task n)) t w.tasks }
+with_task who.Agent t w = record w { agent = t }
+
+abbrev pub edit_task_found : Who → (Task → Task) → World → Option Task → World
+edit_task_found name f w None = w
+edit_task_found name f w (Some t) = with_task name (f t) w
+
+-- f at the task that has this name, where it is there
 abbrev pub edit_task : Who → (Task → Task) → World → World
-edit_task (who.Task t) f w = record w { tasks = edit_where (is_who (who.Task t)) f w.tasks }
-edit_task who.Agent f w = record w { agent = f w.agent }
+edit_task name f w = edit_task_found name f w (task_at w name)
 
 abbrev pub with_state : State → Task → Task
 with_state state t = record t { state = state }

@@ -2,6 +2,7 @@
 //! numbers, and the definitions of the machine speak of just these types.
 mod appointments;
 mod calls;
+mod lines;
 mod marks;
 mod objects;
 mod scopes;
@@ -13,6 +14,7 @@ pub use appointments::{
     Appointment, Budget, Due, HandlerOf, Registered, Release, Timer, TimerSetting,
 };
 pub use calls::{Call, CallKind, DelayMoment, EntryCallNamed, Outcome, Owner, Sending};
+pub use lines::{Line, MeetingEnd, Part, Said};
 pub use marks::{
     AbortableMark, AcceptMark, AssignMark, AssignStep, CopyBack, Frame, Mark, ProtectedMark,
     Purpose, ResultTo, ScopeMark,

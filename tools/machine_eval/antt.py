@@ -440,11 +440,11 @@ class Parser:
         if self.peek() != ("op", "{"): base = self.atom(env)
         self.expect("{")
         fs = []
-        while True:
+        while self.peek() != ("op", "}"):
             f = self.next()[1]; self.expect("=")
             fs.append((f, self.expr(env)))
-            if self.peek()[1] == ";": self.next(); continue
-            self.expect("}"); break
+            if self.peek() != ("op", "}"): self.expect(";")
+        self.expect("}")
         d = "{" + ", ".join(f"{f!r}: {e}" for f, e in fs) + "}"
         return f"Rec({d})" if base is None else f"({base}).up({d})"
 

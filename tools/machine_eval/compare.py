@@ -3,6 +3,8 @@
 
     compare.py --front-end FOLDER rows [--check] [NAME..]
         the rows of tools/rows, or some of them, with their traces
+    compare.py --front-end FOLDER laws [NAME..]
+        the laws of specs/Rows as they stand: the lines, the worlds and the releases of each row
     compare.py --front-end FOLDER seeds FIRST LAST [--size N] [--ticks N] [--check]
         generated programs with the interpreter's, LAST excluded
     compare.py --front-end FOLDER files [--ticks N] [--check] FILE..
@@ -18,6 +20,7 @@ import time
 
 import antt
 import mach
+import program_data
 
 
 def content(path, missing=None):
@@ -47,6 +50,28 @@ def row_names():
 def rows(a):
     for row in map(Row, a.names or row_names()):
         yield row.name, row.source, row.script, row.bound, lambda row=row: row.trace
+
+
+def law_fails(row):
+    """Which of the laws of a row's module do not hold."""
+    m = antt.load(f"profile_machine.specs.Rows.{program_data.module_of(row)}")
+    name = program_data.name_of(row)
+
+    def value(part):
+        return antt.GLOBALS[m.defs[f"{name}_{part}"].py]()
+
+    found = [] if repr(value("lines")) == repr(value("trace")) else ["runs"]
+    return found + [law for law, part in (("keeps", "worlds"), ("releases", "handlers"))
+                    if f"{name}_{part}" in m.defs and value(part) is not True]
+
+
+def laws(names):
+    failing = {row: law_fails(row) for row in names or row_names()}
+    for row, found in failing.items():
+        if found:
+            print(f"{row}: {', '.join(found)} fails")
+    print(f"{sum(not found for found in failing.values())} of {len(failing)} hold")
+    return any(failing.values())
 
 
 def by_interpreter(name, source, script, bound):
@@ -86,13 +111,16 @@ def each(cases, check):
 def main():
     words = argparse.ArgumentParser(description=__doc__, formatter_class=argparse.RawDescriptionHelpFormatter)
     words.add_argument("--front-end", required=True)
-    words.add_argument("kind", choices=("rows", "seeds", "files"))
+    words.add_argument("kind", choices=("rows", "laws", "seeds", "files"))
     words.add_argument("--size", type=int, default=3)
     words.add_argument("--ticks", type=int, default=300)
     words.add_argument("--check", action="store_true")
     words.add_argument("names", nargs="*")
     a = words.parse_intermixed_args()
     mach.start(a.front_end)
+    if a.kind == "laws":
+        status.append(1 if laws(a.names) else 0)
+        return
     status.append(1 if each({"rows": rows, "seeds": seeds, "files": files}[a.kind](a), a.check) else 0)
 
 

@@ -1,19 +1,36 @@
 //! Worked rows of priorities and policies, clocks, timers, budgets and interrupts.
 ghost use Rattle.std.specs.Prelude.{◌≡◌, IsTrue};
+ghost use Rattle.profile_machine.specs.Rows.RowAppointments_kinds.{row_appointments_kinds_lines, row_appointments_kinds_trace, row_appointments_kinds_worlds, row_appointments_kinds_handlers};
 ghost use Rattle.profile_machine.specs.Rows.RowBudgets_1.{row_budgets_1_lines, row_budgets_1_trace, row_budgets_1_worlds, row_budgets_1_handlers};
 ghost use Rattle.profile_machine.specs.Rows.RowBudgets_group.{row_budgets_group_lines, row_budgets_group_trace, row_budgets_group_worlds, row_budgets_group_handlers};
+ghost use Rattle.profile_machine.specs.Rows.RowClocks_read.{row_clocks_read_lines, row_clocks_read_trace, row_clocks_read_worlds, row_clocks_read_handlers};
+ghost use Rattle.profile_machine.specs.Rows.RowEdf_blocked.{row_edf_blocked_lines, row_edf_blocked_trace, row_edf_blocked_worlds, row_edf_blocked_handlers};
 ghost use Rattle.profile_machine.specs.Rows.RowEdf_levels.{row_edf_levels_lines, row_edf_levels_trace, row_edf_levels_worlds, row_edf_levels_handlers};
 ghost use Rattle.profile_machine.specs.Rows.RowEdf_made.{row_edf_made_lines, row_edf_made_trace, row_edf_made_worlds, row_edf_made_handlers};
+ghost use Rattle.profile_machine.specs.Rows.RowEdf_rivals.{row_edf_rivals_lines, row_edf_rivals_trace, row_edf_rivals_worlds, row_edf_rivals_handlers};
 ghost use Rattle.profile_machine.specs.Rows.RowEvents_order.{row_events_order_lines, row_events_order_trace, row_events_order_worlds, row_events_order_handlers};
 ghost use Rattle.profile_machine.specs.Rows.RowEvents_pending.{row_events_pending_lines, row_events_pending_trace, row_events_pending_worlds, row_events_pending_handlers};
+ghost use Rattle.profile_machine.specs.Rows.RowEvents_present.{row_events_present_lines, row_events_present_trace, row_events_present_worlds, row_events_present_handlers};
 ghost use Rattle.profile_machine.specs.Rows.RowInterrupts_end.{row_interrupts_end_lines, row_interrupts_end_trace, row_interrupts_end_worlds, row_interrupts_end_handlers};
 ghost use Rattle.profile_machine.specs.Rows.RowInterrupts_masked.{row_interrupts_masked_lines, row_interrupts_masked_trace, row_interrupts_masked_worlds, row_interrupts_masked_handlers};
 ghost use Rattle.profile_machine.specs.Rows.RowPolicies_1.{row_policies_1_lines, row_policies_1_trace, row_policies_1_worlds, row_policies_1_handlers};
 ghost use Rattle.profile_machine.specs.Rows.RowPolicies_deadlines.{row_policies_deadlines_lines, row_policies_deadlines_trace, row_policies_deadlines_worlds, row_policies_deadlines_handlers};
 ghost use Rattle.profile_machine.specs.Rows.RowPolicies_priorities.{row_policies_priorities_lines, row_policies_priorities_trace, row_policies_priorities_worlds, row_policies_priorities_handlers};
+ghost use Rattle.profile_machine.specs.Rows.RowPolicies_quanta.{row_policies_quanta_lines, row_policies_quanta_trace, row_policies_quanta_worlds, row_policies_quanta_handlers};
+ghost use Rattle.profile_machine.specs.Rows.RowPriorities_blocked.{row_priorities_blocked_lines, row_priorities_blocked_trace, row_priorities_blocked_worlds, row_priorities_blocked_handlers};
+ghost use Rattle.profile_machine.specs.Rows.RowPriorities_states.{row_priorities_states_lines, row_priorities_states_trace, row_priorities_states_worlds, row_priorities_states_handlers};
+ghost use Rattle.profile_machine.specs.Rows.RowTimers_other.{row_timers_other_lines, row_timers_other_trace, row_timers_other_worlds, row_timers_other_handlers};
 ghost use Rattle.profile_machine.specs.Rows.RowTimers_set.{row_timers_set_lines, row_timers_set_trace, row_timers_set_worlds, row_timers_set_handlers};
 ghost use Rattle.profile_machine.specs.Rows.RowWide_1.{row_wide_1_lines, row_wide_1_trace, row_wide_1_worlds, row_wide_1_handlers};
 ghost use Rattle.profile_machine.specs.Rows.RowWide_2.{row_wide_2_lines, row_wide_2_trace, row_wide_2_worlds, row_wide_2_handlers};
+
+/// Row appointments.kinds, up to tick 59.
+#[tactic(auto, using(crate::specs::Rows::RowAppointments_kinds::row_appointments_kinds_runs, crate::specs::Rows::RowAppointments_kinds::row_appointments_kinds_keeps, crate::specs::Rows::RowAppointments_kinds::row_appointments_kinds_releases))]
+pub fn row_appointments_kinds()
+    ensures runs { row_appointments_kinds_lines ≡ row_appointments_kinds_trace }
+    ensures keeps { IsTrue row_appointments_kinds_worlds }
+    ensures releases { IsTrue row_appointments_kinds_handlers }
+{}
 
 /// Row budgets.1, up to tick 14.
 #[tactic(auto, using(crate::specs::Rows::RowBudgets_1::row_budgets_1_runs, crate::specs::Rows::RowBudgets_1::row_budgets_1_keeps, crate::specs::Rows::RowBudgets_1::row_budgets_1_releases))]
@@ -29,6 +46,22 @@ pub fn row_budgets_group()
     ensures runs { row_budgets_group_lines ≡ row_budgets_group_trace }
     ensures keeps { IsTrue row_budgets_group_worlds }
     ensures releases { IsTrue row_budgets_group_handlers }
+{}
+
+/// Row clocks.read, up to tick 58.
+#[tactic(auto, using(crate::specs::Rows::RowClocks_read::row_clocks_read_runs, crate::specs::Rows::RowClocks_read::row_clocks_read_keeps, crate::specs::Rows::RowClocks_read::row_clocks_read_releases))]
+pub fn row_clocks_read()
+    ensures runs { row_clocks_read_lines ≡ row_clocks_read_trace }
+    ensures keeps { IsTrue row_clocks_read_worlds }
+    ensures releases { IsTrue row_clocks_read_handlers }
+{}
+
+/// Row edf.blocked, up to tick 46.
+#[tactic(auto, using(crate::specs::Rows::RowEdf_blocked::row_edf_blocked_runs, crate::specs::Rows::RowEdf_blocked::row_edf_blocked_keeps, crate::specs::Rows::RowEdf_blocked::row_edf_blocked_releases))]
+pub fn row_edf_blocked()
+    ensures runs { row_edf_blocked_lines ≡ row_edf_blocked_trace }
+    ensures keeps { IsTrue row_edf_blocked_worlds }
+    ensures releases { IsTrue row_edf_blocked_handlers }
 {}
 
 /// Row edf.levels, up to tick 40.
@@ -47,6 +80,14 @@ pub fn row_edf_made()
     ensures releases { IsTrue row_edf_made_handlers }
 {}
 
+/// Row edf.rivals, up to tick 57.
+#[tactic(auto, using(crate::specs::Rows::RowEdf_rivals::row_edf_rivals_runs, crate::specs::Rows::RowEdf_rivals::row_edf_rivals_keeps, crate::specs::Rows::RowEdf_rivals::row_edf_rivals_releases))]
+pub fn row_edf_rivals()
+    ensures runs { row_edf_rivals_lines ≡ row_edf_rivals_trace }
+    ensures keeps { IsTrue row_edf_rivals_worlds }
+    ensures releases { IsTrue row_edf_rivals_handlers }
+{}
+
 /// Row events.order, up to tick 42.
 #[tactic(auto, using(crate::specs::Rows::RowEvents_order::row_events_order_runs, crate::specs::Rows::RowEvents_order::row_events_order_keeps, crate::specs::Rows::RowEvents_order::row_events_order_releases))]
 pub fn row_events_order()
@@ -61,6 +102,14 @@ pub fn row_events_pending()
     ensures runs { row_events_pending_lines ≡ row_events_pending_trace }
     ensures keeps { IsTrue row_events_pending_worlds }
     ensures releases { IsTrue row_events_pending_handlers }
+{}
+
+/// Row events.present, up to tick 24.
+#[tactic(auto, using(crate::specs::Rows::RowEvents_present::row_events_present_runs, crate::specs::Rows::RowEvents_present::row_events_present_keeps, crate::specs::Rows::RowEvents_present::row_events_present_releases))]
+pub fn row_events_present()
+    ensures runs { row_events_present_lines ≡ row_events_present_trace }
+    ensures keeps { IsTrue row_events_present_worlds }
+    ensures releases { IsTrue row_events_present_handlers }
 {}
 
 /// Row interrupts.end, up to tick 10.
@@ -101,6 +150,38 @@ pub fn row_policies_priorities()
     ensures runs { row_policies_priorities_lines ≡ row_policies_priorities_trace }
     ensures keeps { IsTrue row_policies_priorities_worlds }
     ensures releases { IsTrue row_policies_priorities_handlers }
+{}
+
+/// Row policies.quanta, up to tick 35.
+#[tactic(auto, using(crate::specs::Rows::RowPolicies_quanta::row_policies_quanta_runs, crate::specs::Rows::RowPolicies_quanta::row_policies_quanta_keeps, crate::specs::Rows::RowPolicies_quanta::row_policies_quanta_releases))]
+pub fn row_policies_quanta()
+    ensures runs { row_policies_quanta_lines ≡ row_policies_quanta_trace }
+    ensures keeps { IsTrue row_policies_quanta_worlds }
+    ensures releases { IsTrue row_policies_quanta_handlers }
+{}
+
+/// Row priorities.blocked, up to tick 61.
+#[tactic(auto, using(crate::specs::Rows::RowPriorities_blocked::row_priorities_blocked_runs, crate::specs::Rows::RowPriorities_blocked::row_priorities_blocked_keeps, crate::specs::Rows::RowPriorities_blocked::row_priorities_blocked_releases))]
+pub fn row_priorities_blocked()
+    ensures runs { row_priorities_blocked_lines ≡ row_priorities_blocked_trace }
+    ensures keeps { IsTrue row_priorities_blocked_worlds }
+    ensures releases { IsTrue row_priorities_blocked_handlers }
+{}
+
+/// Row priorities.states, up to tick 45.
+#[tactic(auto, using(crate::specs::Rows::RowPriorities_states::row_priorities_states_runs, crate::specs::Rows::RowPriorities_states::row_priorities_states_keeps, crate::specs::Rows::RowPriorities_states::row_priorities_states_releases))]
+pub fn row_priorities_states()
+    ensures runs { row_priorities_states_lines ≡ row_priorities_states_trace }
+    ensures keeps { IsTrue row_priorities_states_worlds }
+    ensures releases { IsTrue row_priorities_states_handlers }
+{}
+
+/// Row timers.other, up to tick 28.
+#[tactic(auto, using(crate::specs::Rows::RowTimers_other::row_timers_other_runs, crate::specs::Rows::RowTimers_other::row_timers_other_keeps, crate::specs::Rows::RowTimers_other::row_timers_other_releases))]
+pub fn row_timers_other()
+    ensures runs { row_timers_other_lines ≡ row_timers_other_trace }
+    ensures keeps { IsTrue row_timers_other_worlds }
+    ensures releases { IsTrue row_timers_other_handlers }
 {}
 
 /// Row timers.set, up to tick 50.

@@ -142,7 +142,7 @@ pub fn row_protected_internal()
     ensures releases { IsTrue row_protected_internal_handlers }
 {}
 
-/// Row protected.raised, up to tick 50.
+/// Row protected.raised, up to tick 62.
 #[tactic(auto, using(crate::specs::Rows::RowProtected_raised::row_protected_raised_runs, crate::specs::Rows::RowProtected_raised::row_protected_raised_keeps, crate::specs::Rows::RowProtected_raised::row_protected_raised_releases))]
 pub fn row_protected_raised()
     ensures runs { row_protected_raised_lines ≡ row_protected_raised_trace }

@@ -5,19 +5,20 @@
                           --trace FILE [--title TEXT] --out FILE
     tools/program_data.py --front-end FOLDER --rows FOLDER --crate FOLDER
 
-The second form makes the modules of all worked rows of a crate, `specs/Rows/` with its list and `src/rows.rt`. A
+The second form makes the modules of all worked rows of a crate, `specs/Rows/` with its list, and `src/rows/`. A
 row is a folder with the files `source`, `script` (if it has one), `ticks` (the bound, if it matters) and `trace`.
 
 FOLDER holds a front end in Python with the modules `front` (accept), `tree`, `names`, `legal`, `values` and
 `script`. The output is a file of definitions in antt: the program, its script, the bound, the trace that FILE
 holds, and the law that the machine's run is this trace. The same input gives the same output, byte by byte.
 
-After the second form run `rt tidy` in the crate, which lays the files out and drops imports that a row does not need.
+The files are laid out as `rt fmt` does it, with the imports that each needs.
 
 Nothing is proved of this script. What it writes is checked in, and stands beside the source from which it came.
 """
 import argparse
 import os
+import re
 import sys
 
 
@@ -886,6 +887,7 @@ def trace_item(raw):
 
 # ---------------------------------------------------------------- output
 
+# all that a program and its trace may name
 HEAD = """\
 use Rattle.std.specs.Prelude.{◌≡◌, ℕ, ℤ, pos, negsuc, List, [], ◌∷◌, Some, None, true, false, codes, refl}
 use Rattle.ann_base.specs.declared.exceptions.Raised.TheVariants as exception
@@ -928,6 +930,27 @@ use Rattle.std.specs.Fmt.{digits}
 """
 
 
+SYMBOLS = {"◌≡◌": "≡", "◌∷◌": "∷", "[]": "[]"}
+
+
+def needed(line, words, prefixes, code):
+    """A line of imports without the names that the code does not have; None where it needs none of them."""
+    path, brace, names = line.partition(".{")
+    if not brace:
+        return line if line.rsplit(" ", 1)[1] in prefixes else None
+    kept = [n for n in names[:-1].split(", ") if (SYMBOLS[n] in code if n in SYMBOLS else n in words)]
+    return f"{path}.{{{', '.join(kept)}}}" if kept else None
+
+
+def with_imports(head, text_):
+    """The definitions behind the imports that they need."""
+    code = re.sub(r'"(?:\\.|[^"\\])*"', '""', re.sub(r"^--.*$", "", text_, flags=re.M))
+    words = set(re.findall(r"(?<![\w.])[^\W\d][\w']*", code))
+    prefixes = set(re.findall(r"(?<![\w.])([a-z_]+)\.(?=\w)", code))
+    lines = [needed(line, words, prefixes, code) for line in head.split("\n") if line]
+    return "\n".join(line for line in lines if line) + "\n\n" + text_
+
+
 def lines_of(parts, indent="    "):
     if not parts:
         return " []"
@@ -941,10 +964,10 @@ def law(name, program, script, bound, trace, title):
     if title:
         out.append(f"-- {title}")
     out.append(f"abbrev pub {name}_program : Image")
-    out.append(f"{name}_program =\n  record {{")
+    out.append(f"{name}_program =\n    record {{")
     for field, parts in fields:
-        out.append(f"    {field} ={lines_of(parts, '      ')};")
-    out.append(f"    policies = {policies};\n    environment = {environment};\n    main = {main} }}\n")
+        out.append(f"      {field} ={lines_of(parts, '          ')};")
+    out.append(f"      policies = {policies};\n      environment = {environment};\n      main = {main};\n    }}\n")
     out.append(f"abbrev pub {name}_script : List (ℤ × Item)")
     out.append(f"{name}_script ={lines_of([script_item(x) for x in script])}\n")
     out.append(f"-- the lines of its run up to tick {bound}")
@@ -1018,7 +1041,7 @@ def row_law(modules, folder, row):
     if bound <= TESTED:
         head += "use Rattle.std.specs.Prelude.{Bool}\nuse Rattle.profile_machine.specs.WellFormed.{run_is_well_formed}\nuse Rattle.profile_machine.specs.Releases.{releases_ok}\n"
         text_ += worlds_law(name_of(row), bound)
-    return head + "\n" + text_, bound
+    return with_imports(head, text_), bound
 
 
 def name_of(row):
@@ -1029,32 +1052,63 @@ def module_of(row):
     return "Row" + row.replace(".", "_").capitalize()
 
 
+# the files of `src/rows`, with what they say of their rows, and the areas of each; a row's area is the first part of its name
+FILES = {
+    "numbered": ("Worked rows that are known by a number.", ()),
+    "sequential": ("Worked rows of what a task does by itself: values, statements, subprograms, exceptions and controlled objects.",
+                   ("adjust", "bodies", "controlled", "exceptions", "loops", "room", "scopes", "values")),
+    "real_time": ("Worked rows of priorities and policies, clocks, timers, budgets and interrupts.",
+                  ("appointments", "budgets", "clocks", "edf", "events", "interrupts", "policies", "priorities", "timers", "wide")),
+    "tasking": ("Worked rows of tasks, protected objects, entry calls and select statements.", ()),
+}
+
+
+def file_of(row):
+    """The file of `src/rows` in which a row stands."""
+    area = row.partition(".")[0]
+    if area[0].isdigit():
+        return "numbered"
+    return next((name for name, (_, areas) in FILES.items() if area in areas), "tasking")
+
+
+def row_function(row, bound):
+    """The import of a row's function, and the function."""
+    name, tested = name_of(row), bound <= TESTED
+    words_ = f"{name}_lines, {name}_trace" + (f", {name}_worlds, {name}_handlers" if tested else "")
+    module = f"crate::specs::Rows::{module_of(row)}"
+    using = f"{module}::{name}_runs" + (f", {module}::{name}_keeps, {module}::{name}_releases" if tested else "")
+    runs = f"{{ {name}_lines ≡ {name}_trace }}"
+    clauses = f"    ensures {runs}\n"
+    if tested:
+        clauses = f"    ensures runs {runs}\n    ensures keeps {{ IsTrue {name}_worlds }}\n" \
+                  f"    ensures releases {{ IsTrue {name}_handlers }}\n"
+    return f"ghost use Rattle.profile_machine.specs.Rows.{module_of(row)}.{{{words_}}};", \
+        f"/// Row {row}, up to tick {bound}.\n#[tactic(auto, using({using}))]\npub fn {name}()\n{clauses}{{}}\n"
+
+
+def write(crate, path, text_):
+    target = os.path.join(crate, *path.split("/"))
+    os.makedirs(os.path.dirname(target), exist_ok=True)
+    with open(target, "w", encoding="utf-8") as f:
+        f.write(text_)
+
+
 def make_rows(modules, rows, crate):
     names = sorted(n for n in os.listdir(rows) if os.path.isdir(os.path.join(rows, n)))
-    listed = "-- Worked rows: programs with the traces of their runs, which the machine's runs are.\npub mod Notation\n"
-    code = ["//! Worked rows: the run of a program under its script and bound is the trace that was worked out by hand.",
-            "ghost use Rattle.std.specs.Prelude.{◌≡◌, IsTrue};"]
-    functions = []
+    functions = {name: [] for name in FILES}
     for row in names:
-        folder = os.path.join(rows, row)
-        text_, bound = row_law(modules, folder, row)
-        with open(os.path.join(crate, "specs", "Rows", module_of(row) + ".antt"), "w") as f:
-            f.write(text_)
-        listed += f"pub mod {module_of(row)}\n"
-        name = name_of(row)
-        tested = bound <= TESTED
-        words_ = f"{name}_lines, {name}_trace" + (f", {name}_worlds, {name}_handlers" if tested else "")
-        code.append(f"ghost use Rattle.profile_machine.specs.Rows.{module_of(row)}.{{{words_}}};")
-        module = f"crate::specs::Rows::{module_of(row)}"
-        using = f"{module}::{name}_runs" + (f", {module}::{name}_keeps, {module}::{name}_releases" if tested else "")
-        clauses = f"    ensures runs {{ {name}_lines ≡ {name}_trace }}\n    ensures keeps {{ IsTrue {name}_worlds }}\n    ensures releases {{ IsTrue {name}_handlers }}\n" if tested \
-            else f"    ensures {{ {name}_lines ≡ {name}_trace }}\n"
-        functions.append(f"/// Row {row}, up to tick {bound}.\n#[tactic(auto, using({using}))]\n"
-                         f"pub fn {name}()\n{clauses}{{\n}}\n")
-    with open(os.path.join(crate, "specs", "Rows.antt"), "w") as f:
-        f.write(listed)
-    with open(os.path.join(crate, "src", "rows.rt"), "w") as f:
-        f.write("\n".join(code) + "\n\n" + "\n".join(functions))
+        text_, bound = row_law(modules, os.path.join(rows, row), row)
+        write(crate, f"specs/Rows/{module_of(row)}.antt", text_)
+        functions[file_of(row)].append(row_function(row, bound))
+    listed = "-- Worked rows: programs with the traces of their runs, which the machine's runs are.\npub mod Notation\n"
+    write(crate, "specs/Rows.antt", listed + "".join(f"pub mod {module_of(row)}\n" for row in names))
+    title = "//! Worked rows: the run of a program under its script and bound is the trace that was worked out by hand.\n"
+    write(crate, "src/rows.rt", title + "".join(f"pub mod {name};\n" for name in sorted(FILES)))
+    for name, (about, _) in FILES.items():
+        imports = [line for line, _ in functions[name]]
+        write(crate, f"src/rows/{name}.rt",
+              f"//! {about}\nghost use Rattle.std.specs.Prelude.{{◌≡◌, IsTrue}};\n" + "\n".join(imports) + "\n\n"
+              + "\n".join(text_ for _, text_ in functions[name]))
 
 
 def main():
@@ -1082,7 +1136,7 @@ def main():
             script = modules["script"].script_of(f.read())
     with open(a.trace) as f:
         trace = f.read().split("\n")[:-1]
-    result = HEAD + "\n" + law(a.name, program, script, a.ticks, trace, a.title)
+    result = with_imports(HEAD, law(a.name, program, script, a.ticks, trace, a.title))
     with open(a.out, "w") as f:
         f.write(result)
 

@@ -1,0 +1,105 @@
+#!/usr/bin/env python3
+"""Changes of one line of the machine's definitions: which of them does a worked row tell?
+
+    mutants.py --front-end FOLDER COUNT SEED [--most TICKS]
+
+Each change is made by itself, in memory. A row tells it if its run is no longer its trace, if the changed definition
+cannot be read, or if the run does not end in two minutes. Rows with a greater bound than TICKS (400) are run up to
+it. What every row lets through is printed; the last line counts.
+"""
+import argparse
+import os
+import random
+import re
+import signal
+import sys
+
+import antt
+import compare
+import mach
+
+FILES = ("Act CallEnds Calls Controlled Cost Declarations Dispatching EntryCalls Frames Handlers Inheritance Instant Masters "
+         "Operators Priorities Protected Rendezvous Run Scopes Sending Serving Statements Steps Subprograms Tasking Tasks "
+         "Unwinding Values Appointments").split()
+SWAPS = [("Tail", "Head"), ("Head", "Tail"), ("true", "false"), ("false", "true"), ("ltb", "leb"), ("leb", "ltb"),
+         ("int_lt", "int_le"), ("int_le", "int_lt"), ("&&", "||"), ("||", "&&"), (" + 1", " + 2"), (" - 1", " - 0"),
+         ("exception.Program", "exception.Tasking"), ("exception.Constraint", "exception.Program"),
+         ("exception.Storage", "exception.Program"), ("to_tail", "to_head"), ("to_head", "to_tail"), ("t.base", "active p t")]
+SECONDS = 120
+
+
+def module(name):
+    return f"profile_machine.specs.{name}"
+
+
+def lines_of(name):
+    with open(antt.path_of(module(name)), encoding="utf-8") as f:
+        return f.read().split("\n")
+
+
+def candidates():
+    """All changes, as (file, line, place in it, what stands there, what it becomes)."""
+    out = []
+    for name in FILES:
+        for n, line in enumerate(lines_of(name)):
+            if line.startswith(("use ", "--", "abbrev", "unfoldable", "unfolding", "infix", "pub ")) or line.lstrip().startswith("--"):
+                continue
+            for a, b in SWAPS:
+                for m in re.finditer(r"(?<![\w.])" + re.escape(a) + r"(?!\w)", line):
+                    out.append((name, n, m.start(), a, b))
+            for m in re.finditer(r"(?<== )([^▷=]+?) ▷ ", line):
+                out.append((name, n, m.start(), m.group(0), ""))
+            for m in re.finditer(r" ▷ ([^▷]+?)$", line.rstrip()):
+                if line.count("(") == line.count(")"):
+                    out.append((name, n, m.start(), m.group(0), ""))
+    return out
+
+
+def is_told(name, text, cases):
+    """Whether a row tells the change: asked in a process of its own."""
+    child = os.fork()
+    if child == 0:
+        signal.alarm(SECONDS)
+        try:
+            antt.reload(module(name), text)
+            let_through = all(mach.difference(wanted, mach.run(program, items, bound)) is None
+                              for program, items, bound, wanted in cases)
+        except BaseException:
+            let_through = False
+        os._exit(0 if let_through else 1)
+    return os.waitpid(child, 0)[1] != 0
+
+
+def case_of(row, most):
+    """A row's image, bound and trace; one that is longer is cut, and ends by its bound."""
+    program, items = mach.image_of(row.source, row.script)
+    if row.bound <= most:
+        return program, items, row.bound, row.trace
+    return program, items, most, mach.interpreted(row.source, row.script, most)
+
+
+def main():
+    words = argparse.ArgumentParser(description=__doc__, formatter_class=argparse.RawDescriptionHelpFormatter)
+    words.add_argument("--front-end", required=True)
+    words.add_argument("--most", type=int, default=400)
+    words.add_argument("count", type=int)
+    words.add_argument("seed")
+    a = words.parse_args()
+    mach.start(a.front_end)
+    cases = [case_of(compare.Row(name), a.most) for name in compare.row_names()]
+    cases.sort(key=lambda case: len(case[3]))
+    assert all(mach.difference(wanted, mach.run(*case)) is None for *case, wanted in cases), "a row is not its trace"
+    told = 0
+    for name, n, at, before, after in random.Random(int(a.seed)).sample(candidates(), a.count):
+        lines = lines_of(name)
+        line = lines[n]
+        lines[n] = line[:at] + after + line[at + len(before):]
+        if is_told(name, "\n".join(lines), cases):
+            told += 1
+        else:
+            print(f"let through: {name}:{n + 1} {before.strip()!r} -> {after!r} in: {line.strip()}", flush=True)
+    print(f"{told} of {a.count} told", flush=True)
+
+
+if __name__ == "__main__":
+    mach.in_large_stack(main)

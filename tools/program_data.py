@@ -924,8 +924,9 @@ use Rattle.profile_machine.specs.declared.statements.EntryOwner.TheVariants as o
 use Rattle.profile_machine.specs.declared.statements.SelectKind.TheVariants as select
 use Rattle.profile_machine.specs.declared.statements.Piece.TheVariants as piece
 use Rattle.profile_machine.specs.declared.statements.Setting.TheVariants as setting
-use Rattle.profile_machine.specs.Rows.Notation.{decl, expr, stmt, scope, subprogram, task_unit, protected_unit, entry, controlled_type, enumeration, task, call, p, region, t, agent, of_task, of_object, declaration, variable, statement, alternative, select_alternative, handler, handler_name, cell_run, scope_text, formal, subprogram_text, task_unit_text, attachment, protected_unit_text, entry_body, entry_text, controlled_text, enumeration_text, dispatching_range, policies, main_procedure}
+use Rattle.profile_machine.specs.Notation.{decl, expr, stmt, scope, subprogram, task_unit, protected_unit, entry, controlled_type, enumeration, task, call, p, region, t, agent, of_task, of_object, declaration, variable, statement, alternative, select_alternative, handler, handler_name, cell_run, scope_text, formal, subprogram_text, task_unit_text, attachment, protected_unit_text, entry_body, entry_text, controlled_text, enumeration_text, dispatching_range, policies, main_procedure}
 use Rattle.profile_machine.specs.Run.{run_of}
+use Rattle.profile_machine.specs.Computing.{computing}
 use Rattle.std.specs.Fmt.{digits}
 """
 
@@ -976,7 +977,7 @@ def law(name, program, script, bound, trace, title):
     out.append(f"unfoldable pub {name}_trace : List (ℕ × Event)")
     out.append(f"{name}_trace ={lines_of([trace_item(x) for x in trace])}\n")
     out.append(f"pub {name}_runs : {name}_lines ≡ {name}_trace")
-    out.append(f"unfolding {name}_lines {name}_trace digits")
+    out.append(f"unfolding {name}_lines {name}_trace digits computing")
     out.append(f"{name}_runs = refl")
     return "\n".join(out) + "\n"
 
@@ -1012,7 +1013,7 @@ unfoldable pub {name}_worlds : Bool
 {name}_worlds = run_is_well_formed {name}_program {name}_script {bound}
 
 pub {name}_keeps : {name}_worlds ≡ true
-unfolding {name}_worlds
+unfolding {name}_worlds computing
 {name}_keeps = refl
 
 -- whether each handler is released at its tick
@@ -1020,7 +1021,7 @@ unfoldable pub {name}_handlers : Bool
 {name}_handlers = releases_ok {name}_program {name}_script {bound}
 
 pub {name}_releases : {name}_handlers ≡ true
-unfolding {name}_handlers
+unfolding {name}_handlers computing
 {name}_releases = refl
 """
 
@@ -1082,7 +1083,7 @@ def row_function(row, bound):
     if tested:
         clauses = f"    ensures runs {runs}\n    ensures keeps {{ IsTrue {name}_worlds }}\n" \
                   f"    ensures releases {{ IsTrue {name}_handlers }}\n"
-    return f"ghost use Rattle.profile_machine.specs.Rows.{module_of(row)}.{{{words_}}};", \
+    return f"ghost use Rattle.machine_rows.specs.Rows.{module_of(row)}.{{{words_}}};", \
         f"/// Row {row}, up to tick {bound}.\n#[tactic(auto, using({using}))]\npub fn {name}()\n{clauses}{{}}\n"
 
 
@@ -1100,9 +1101,9 @@ def make_rows(modules, rows, crate):
         text_, bound = row_law(modules, os.path.join(rows, row), row)
         write(crate, f"specs/Rows/{module_of(row)}.antt", text_)
         functions[file_of(row)].append(row_function(row, bound))
-    listed = "-- Worked rows: programs with the traces of their runs, which the machine's runs are.\npub mod Notation\n"
+    listed = "-- Worked rows: programs with the traces of their runs, which the machine's runs are.\n"
     write(crate, "specs/Rows.antt", listed + "".join(f"pub mod {module_of(row)}\n" for row in names))
-    title = "//! Worked rows: the run of a program under its script and bound is the trace that was worked out by hand.\n"
+    title = "//! The worked rows by their subjects.\n"
     write(crate, "src/rows.rt", title + "".join(f"pub mod {name};\n" for name in sorted(FILES)))
     for name, (about, _) in FILES.items():
         imports = [line for line, _ in functions[name]]

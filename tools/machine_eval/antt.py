@@ -85,7 +85,7 @@ B = {
  "flat_map": (2, _flat), "cond": (3, lambda c, a, b: a if c else b),
 }
 BCONS = {"Some", "None", "Ok", "Err"}
-TOK = re.compile(r'''\s+|--[^\n]*|(?P<str>"(?:\\.|[^"\\])*")|(?P<num>\d+)|(?P<op>\+ℤ|-ℤ|\*ℤ|>>=|\+\+|&&|\|\||▷|∷|↦|≡|→|×|==|[<≤≢⊎↔]|\+|-|\*|=|;|:|,|\(|\)|\[|\]|\{|\}|\||λ|\.)|(?P<id>[^\W\d][\w'ℕℤ₀-₉]*(?:\.[\w'₀-₉]+)*)|(?P<mix>◌\S+◌)''')
+TOK = re.compile(r'''\s+|--[^\n]*|(?P<str>"(?:\\.|[^"\\])*")|(?P<num>\d+)|(?P<op>\+ℤ|-ℤ|\*ℤ|>>=|\+\+|&&|\|\||▷|▶|∷|↦|≡|→|×|==|[<≤≢⊎↔]|\+|-|\*|=|;|:|,|\(|\)|\[|\]|\{|\}|\||λ|\.)|(?P<id>[^\W\d][\w'ℕℤ₀-₉]*(?:\.[\w'₀-₉]+)*)|(?P<mix>◌\S+◌)''')
 FIELD = re.compile(r"\.[\w']+")
 def tokens(s):
     out = []; i = 0
@@ -170,7 +170,7 @@ def read(m, text):
             elif t == ("op", "=") and depth == 0: eq = i; break
         if eq is None: raise SyntaxError(f"no = in {m.name}: {c[:200]}")
         lhs, rhs = toks[:eq], toks[eq+1:]
-        if any(t[0] == "op" and t[1] in ("▷", ">>=") for t in lhs): continue
+        if any(t[0] == "op" and t[1] in ("▷", "▶", ">>=") for t in lhs): continue
         groups.setdefault(lhs[0][1], []).append((lhs[1:], rhs))
     for fname in groups: m.names[fname] = ("def", m, fname)
     for fname, cl in groups.items(): m.defs[fname] = Def(m, fname, cl)
@@ -198,7 +198,7 @@ def do_use(m, c):
             if n in source.names: m.names[other] = source.names[n]
 
 LIBRARY = {"std", "core"}
-PREC = {"▷": (20, "r"), ">>=": (15, "l"), "||": (30, "r"), "&&": (36, "r"), "==": (40, "l"), "∷": (67, "r"), "++": (65, "r"), "+": (70, "l"), "-": (70, "l"), "+ℤ": (70, "l"), "-ℤ": (70, "l"), "*ℤ": (80, "l")}
+PREC = {"▷": (20, "r"), "▶": (20, "r"), ">>=": (15, "l"), "||": (30, "r"), "&&": (36, "r"), "==": (40, "l"), "∷": (67, "r"), "++": (65, "r"), "+": (70, "l"), "-": (70, "l"), "+ℤ": (70, "l"), "-ℤ": (70, "l"), "*ℤ": (80, "l")}
 def mang(n): return "v_" + n.replace("'", "_q")
 class MatchError(Exception): pass
 GLOBALS["MatchError"] = MatchError
@@ -323,7 +323,8 @@ class Parser:
             right = self.ops(env, p + 1 if a == "l" else p)
             left = self.binop(v, left, right)
     def binop(self, v, l, r):
-        if v == "▷": return f"SEQ({l}, {r})"
+        if v == "▷": return f"STEPS({l}, {r})"
+        if v == "▶": return f"MOVES({l}, {r})"
         if v == ">>=": return f"BIND({l}, {r})"
         if v == "||": return f"({l} or {r})"
         if v == "&&": return f"({l} and {r})"
@@ -453,10 +454,15 @@ B["codes"] = (1, lambda s: tuple(eval('"' + s[1:-1] + '"').encode("latin-1")))
 for n, b in B.items():
     if isinstance(b, tuple): GLOBALS["B_" + bname(n)] = b[1]
 def FAIL(s): raise MatchError(s)
-def SEQ(f, g):
+def STEPS(f, g):
+    def run(w, said):
+        a = ap(f, w, said)
+        return ap(g, a.a[0], a.a[1])
+    return Fn(2, run)
+def MOVES(f, g):
     def run(w):
         a = ap(f, w); b = ap(g, a.d['0'])
         return Rec({'0': b.d['0'], '1': a.d['1'] + b.d['1']})
     return Fn(1, run)
 def BIND(x, f): return ap(f, x.a[0]) if x.n == "Ok" else x
-GLOBALS.update(FAIL=FAIL, SEQ=SEQ, BIND=BIND)
+GLOBALS.update(FAIL=FAIL, STEPS=STEPS, MOVES=MOVES, BIND=BIND)

@@ -54,7 +54,7 @@ def rows(a):
 
 def law_fails(row):
     """Which of the laws of a row's module do not hold."""
-    m = antt.load(f"profile_machine.specs.Rows.{program_data.module_of(row)}")
+    m = antt.load(f"machine_rows.specs.Rows.{program_data.module_of(row)}")
     name = program_data.name_of(row)
 
     def value(part):

@@ -9,7 +9,7 @@ use Rattle.trace_text.specs.declared.events.Ended.TheVariants as end
 use Rattle.trace_text.specs.declared.events.QueueEnd.TheVariants.{Tail}
 use Rattle.trace_text.specs.declared.events.Waits.TheVariants as waits
 use Rattle.profile_machine.specs.declared.world.World.{World}
-use Rattle.profile_machine.specs.Rows.Notation.{task, t}
+use Rattle.profile_machine.specs.Notation.{task, t}
 use Rattle.profile_machine.specs.Instant.{instant}
 use Rattle.profile_machine.specs.Run.{opening, tock, then_runs, run_from}
 use Rattle.machine_laws.specs.Rows.RowRepresentation.{row_representation_program as program, row_representation_lines, row_representation_trace}

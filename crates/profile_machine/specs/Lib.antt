@@ -33,4 +33,4 @@ pub mod Run
 pub mod Computing
 pub mod WellFormed
 pub mod Releases
-pub mod Rows
+pub mod Notation

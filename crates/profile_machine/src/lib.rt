@@ -26,8 +26,6 @@ pub use numbers::{
     SubprogramNo, TaskUnitNo,
 };
 
-pub mod rows;
-
 pub use run_data::{Item, Leaving};
 pub use sequence::Sequence;
 pub use short::{Actuals, SelectAlternatives};

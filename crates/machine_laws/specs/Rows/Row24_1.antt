@@ -17,7 +17,7 @@ use Rattle.profile_machine.specs.declared.expressions.BinaryOperator.TheVariants
 use Rattle.profile_machine.specs.declared.declarations.DeclarationKind.TheVariants as kind
 use Rattle.profile_machine.specs.declared.declarations.Initial.TheVariants as initial
 use Rattle.profile_machine.specs.declared.statements.StatementForm.TheVariants as form
-use Rattle.profile_machine.specs.Rows.Notation.{decl, expr, stmt, scope, task_unit, task, region, t, declaration, variable, statement, cell_run, scope_text, task_unit_text, policies, main_procedure}
+use Rattle.profile_machine.specs.Notation.{decl, expr, stmt, scope, task_unit, task, region, t, declaration, variable, statement, cell_run, scope_text, task_unit_text, policies, main_procedure}
 use Rattle.profile_machine.specs.Run.{run_of}
 use Rattle.std.specs.Fmt.{digits}
 use Rattle.std.specs.Prelude.{Bool}

@@ -12,7 +12,7 @@ use Rattle.profile_machine.specs.declared.values.Value.TheVariants.{Ticks}
 use Rattle.profile_machine.specs.declared.values.Constraint.TheVariants.{Ticks}
 use Rattle.profile_machine.specs.declared.expressions.Expression.TheVariants.{Known}
 use Rattle.profile_machine.specs.declared.statements.StatementForm.TheVariants as form
-use Rattle.profile_machine.specs.Rows.Notation.{expr, stmt, scope, task, t, statement, scope_text, policies, main_procedure}
+use Rattle.profile_machine.specs.Notation.{expr, stmt, scope, task, t, statement, scope_text, policies, main_procedure}
 use Rattle.profile_machine.specs.Run.{run_of}
 
 -- Row representation: one delay of 900 seconds. Its run is computed up to the delay and behind it; between stands an idle

@@ -1,0 +1,109 @@
+use Rattle.std.specs.Prelude.{◌≡◌, ℕ, ℤ, pos, List, [], ◌∷◌, Some, None, true, false, codes, refl}
+use Rattle.trace_text.specs.declared.events.Event.{Event}
+use Rattle.trace_text.specs.declared.events.Event.TheVariants as line
+use Rattle.trace_text.specs.declared.events.Created.TheVariants as created
+use Rattle.trace_text.specs.declared.events.Ended.TheVariants as end
+use Rattle.trace_text.specs.declared.events.Leaves.TheVariants as leaves
+use Rattle.trace_text.specs.declared.events.QueueEnd.TheVariants.{Tail}
+use Rattle.trace_text.specs.declared.events.Waits.TheVariants as waits
+use Rattle.profile_machine.specs.declared.run_data.Item.{Item}
+use Rattle.profile_machine.specs.declared.image.Image.{Image}
+use Rattle.profile_machine.specs.declared.image.Queuing.TheVariants as queuing
+use Rattle.profile_machine.specs.declared.values.Value.TheVariants.{Ticks}
+use Rattle.profile_machine.specs.declared.values.Constraint.TheVariants.{Free, Ticks}
+use Rattle.profile_machine.specs.declared.expressions.Expression.TheVariants.{Known}
+use Rattle.profile_machine.specs.declared.declarations.DeclarationKind.TheVariants as kind
+use Rattle.profile_machine.specs.declared.statements.StatementForm.TheVariants as form
+use Rattle.profile_machine.specs.Notation.{decl, expr, stmt, scope, task_unit, task, region, t, declaration, statement, scope_text, task_unit_text, policies, main_procedure}
+use Rattle.profile_machine.specs.Run.{run_of}
+use Rattle.profile_machine.specs.Computing.{computing}
+use Rattle.std.specs.Fmt.{digits}
+use Rattle.std.specs.Prelude.{Bool}
+use Rattle.profile_machine.specs.WellFormed.{run_is_well_formed}
+use Rattle.profile_machine.specs.Releases.{releases_ok}
+
+-- Row 04: its run stops before tick 15, so every greater bound gives the same trace.
+abbrev pub row_04_program : Image
+row_04_program =
+    record {
+      declarations =
+          declaration (codes "t") (codes "main.t") (kind.Task (task_unit 0)) (scope 1) 0 1 Free None
+          ∷ [];
+      expressions =
+          Known (Ticks (pos 0))
+          ∷ [];
+      statements =
+          statement (form.CallMain) 0 None
+          ∷ statement (form.DelayUntil (expr 0)) 0 None
+          ∷ statement (form.EndActivation) 0 (Some (stmt 1))
+          ∷ statement (form.Null) 0 None
+          ∷ statement (form.Activate 0) 0 (Some (stmt 3))
+          ∷ statement (form.CreateTask (decl 0) 0) 0 (Some (stmt 4))
+          ∷ [];
+      scopes =
+          scope_text None 0 [] false (Some (stmt 0))
+          ∷ scope_text (Some (scope 0)) 1 [] true (Some (stmt 5))
+          ∷ scope_text (Some (scope 1)) 0 [] false (Some (stmt 2))
+          ∷ [];
+      subprograms = [];
+      task_units =
+          task_unit_text (scope 2) None None []
+          ∷ [];
+      protected_units = [];
+      entries = [];
+      controlled_types = [];
+      enumerations = [];
+      policies = (policies [] queuing.Fifo None 30);
+      environment = (scope 0);
+      main = (main_procedure (codes "main") 15 (scope 1));
+    }
+
+abbrev pub row_04_script : List (ℤ × Item)
+row_04_script = []
+
+-- the lines of its run up to tick 15
+unfoldable pub row_04_lines : List (ℕ × Event)
+row_04_lines = run_of row_04_program row_04_script 15
+
+unfoldable pub row_04_trace : List (ℕ × Event)
+row_04_trace =
+    (0, line.New (created.Task (task 0)) (codes "main") 15)
+    ∷ (0, line.Ready (t 0) 15 Tail None)
+    ∷ (0, line.Run (t 0))
+    ∷ (4, line.New (created.Task (task 1)) (codes "main.t") 15)
+    ∷ (6, line.Ready (t 1) 15 Tail None)
+    ∷ (6, line.Block (t 0) waits.Activation)
+    ∷ (6, line.Run (t 1))
+    ∷ (7, line.Ready (t 0) 15 Tail None)
+    ∷ (9, line.Ready (t 1) 15 Tail None)
+    ∷ (9, line.Run (t 0))
+    ∷ (11, line.Leave (t 0) (region 1) leaves.End)
+    ∷ (11, line.Block (t 0) waits.Dependents)
+    ∷ (11, line.Run (t 1))
+    ∷ (12, line.Done (task 1))
+    ∷ (12, line.Ready (t 0) 15 Tail None)
+    ∷ (12, line.Run (t 0))
+    ∷ (13, line.Left (t 0) (region 1))
+    ∷ (14, line.Done (task 0))
+    ∷ (14, line.End end.Completed)
+    ∷ []
+
+pub row_04_runs : row_04_lines ≡ row_04_trace
+unfolding row_04_lines row_04_trace digits computing
+row_04_runs = refl
+
+-- whether every world of its run is well formed
+unfoldable pub row_04_worlds : Bool
+row_04_worlds = run_is_well_formed row_04_program row_04_script 15
+
+pub row_04_keeps : row_04_worlds ≡ true
+unfolding row_04_worlds computing
+row_04_keeps = refl
+
+-- whether each handler is released at its tick
+unfoldable pub row_04_handlers : Bool
+row_04_handlers = releases_ok row_04_program row_04_script 15
+
+pub row_04_releases : row_04_handlers ≡ true
+unfolding row_04_handlers computing
+row_04_releases = refl

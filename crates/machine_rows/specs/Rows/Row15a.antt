@@ -1,0 +1,79 @@
+use Rattle.std.specs.Prelude.{◌≡◌, ℕ, ℤ, List, [], ◌∷◌, Some, None, true, false, codes, refl}
+use Rattle.trace_text.specs.declared.events.Event.{Event}
+use Rattle.trace_text.specs.declared.events.Event.TheVariants as line
+use Rattle.trace_text.specs.declared.events.Created.TheVariants as created
+use Rattle.trace_text.specs.declared.events.Ended.TheVariants as end
+use Rattle.trace_text.specs.declared.events.QueueEnd.TheVariants.{Tail}
+use Rattle.profile_machine.specs.declared.run_data.Item.{Item}
+use Rattle.profile_machine.specs.declared.image.Image.{Image}
+use Rattle.profile_machine.specs.declared.image.Queuing.TheVariants as queuing
+use Rattle.profile_machine.specs.declared.statements.StatementForm.TheVariants as form
+use Rattle.profile_machine.specs.declared.statements.Piece.TheVariants as piece
+use Rattle.profile_machine.specs.Notation.{stmt, scope, task, t, statement, scope_text, policies, main_procedure}
+use Rattle.profile_machine.specs.Run.{run_of}
+use Rattle.profile_machine.specs.Computing.{computing}
+use Rattle.std.specs.Fmt.{digits}
+use Rattle.std.specs.Prelude.{Bool}
+use Rattle.profile_machine.specs.WellFormed.{run_is_well_formed}
+use Rattle.profile_machine.specs.Releases.{releases_ok}
+
+-- Row 15a: its run up to tick 1.
+abbrev pub row_15a_program : Image
+row_15a_program =
+    record {
+      declarations = [];
+      expressions = [];
+      statements =
+          statement (form.CallMain) 0 None
+          ∷ statement (form.PutLine (piece.Text (codes "hi") ∷ [])) 0 None
+          ∷ statement (form.Null) 0 (Some (stmt 1))
+          ∷ [];
+      scopes =
+          scope_text None 0 [] false (Some (stmt 0))
+          ∷ scope_text (Some (scope 0)) 0 [] false (Some (stmt 2))
+          ∷ [];
+      subprograms = [];
+      task_units = [];
+      protected_units = [];
+      entries = [];
+      controlled_types = [];
+      enumerations = [];
+      policies = (policies [] queuing.Fifo None 30);
+      environment = (scope 0);
+      main = (main_procedure (codes "main") 15 (scope 1));
+    }
+
+abbrev pub row_15a_script : List (ℤ × Item)
+row_15a_script = []
+
+-- the lines of its run up to tick 1
+unfoldable pub row_15a_lines : List (ℕ × Event)
+row_15a_lines = run_of row_15a_program row_15a_script 1
+
+unfoldable pub row_15a_trace : List (ℕ × Event)
+row_15a_trace =
+    (0, line.New (created.Task (task 0)) (codes "main") 15)
+    ∷ (0, line.Ready (t 0) 15 Tail None)
+    ∷ (0, line.Run (t 0))
+    ∷ (1, line.End end.Bound)
+    ∷ []
+
+pub row_15a_runs : row_15a_lines ≡ row_15a_trace
+unfolding row_15a_lines row_15a_trace digits computing
+row_15a_runs = refl
+
+-- whether every world of its run is well formed
+unfoldable pub row_15a_worlds : Bool
+row_15a_worlds = run_is_well_formed row_15a_program row_15a_script 1
+
+pub row_15a_keeps : row_15a_worlds ≡ true
+unfolding row_15a_worlds computing
+row_15a_keeps = refl
+
+-- whether each handler is released at its tick
+unfoldable pub row_15a_handlers : Bool
+row_15a_handlers = releases_ok row_15a_program row_15a_script 1
+
+pub row_15a_releases : row_15a_handlers ≡ true
+unfolding row_15a_handlers computing
+row_15a_releases = refl

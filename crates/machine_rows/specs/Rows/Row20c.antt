@@ -1,0 +1,85 @@
+use Rattle.std.specs.Prelude.{◌≡◌, ℕ, ℤ, negsuc, List, [], ◌∷◌, Some, None, true, false, codes, refl}
+use Rattle.trace_text.specs.declared.events.Event.{Event}
+use Rattle.trace_text.specs.declared.events.Event.TheVariants as line
+use Rattle.trace_text.specs.declared.events.Created.TheVariants as created
+use Rattle.trace_text.specs.declared.events.Ended.TheVariants as end
+use Rattle.trace_text.specs.declared.events.QueueEnd.TheVariants.{Tail}
+use Rattle.profile_machine.specs.declared.run_data.Item.{Item}
+use Rattle.profile_machine.specs.declared.image.Image.{Image}
+use Rattle.profile_machine.specs.declared.image.Queuing.TheVariants as queuing
+use Rattle.profile_machine.specs.declared.values.Value.TheVariants.{Whole}
+use Rattle.profile_machine.specs.declared.values.Constraint.TheVariants.{Whole}
+use Rattle.profile_machine.specs.declared.expressions.Expression.TheVariants.{Known}
+use Rattle.profile_machine.specs.declared.statements.StatementForm.TheVariants as form
+use Rattle.profile_machine.specs.declared.statements.Piece.TheVariants as piece
+use Rattle.profile_machine.specs.Notation.{expr, stmt, scope, task, t, statement, scope_text, policies, main_procedure}
+use Rattle.profile_machine.specs.Run.{run_of}
+use Rattle.profile_machine.specs.Computing.{computing}
+use Rattle.std.specs.Fmt.{digits}
+use Rattle.std.specs.Prelude.{Bool}
+use Rattle.profile_machine.specs.WellFormed.{run_is_well_formed}
+use Rattle.profile_machine.specs.Releases.{releases_ok}
+
+-- Row 20c: its run stops before tick 9, so every greater bound gives the same trace.
+abbrev pub row_20c_program : Image
+row_20c_program =
+    record {
+      declarations = [];
+      expressions =
+          Known (Whole (negsuc 2147483647))
+          ∷ [];
+      statements =
+          statement (form.CallMain) 0 None
+          ∷ statement (form.PutLine (piece.Whole (expr 0) ∷ [])) 0 None
+          ∷ [];
+      scopes =
+          scope_text None 0 [] false (Some (stmt 0))
+          ∷ scope_text (Some (scope 0)) 0 [] false (Some (stmt 1))
+          ∷ [];
+      subprograms = [];
+      task_units = [];
+      protected_units = [];
+      entries = [];
+      controlled_types = [];
+      enumerations = [];
+      policies = (policies [] queuing.Fifo None 30);
+      environment = (scope 0);
+      main = (main_procedure (codes "main") 15 (scope 1));
+    }
+
+abbrev pub row_20c_script : List (ℤ × Item)
+row_20c_script = []
+
+-- the lines of its run up to tick 9
+unfoldable pub row_20c_lines : List (ℕ × Event)
+row_20c_lines = run_of row_20c_program row_20c_script 9
+
+unfoldable pub row_20c_trace : List (ℕ × Event)
+row_20c_trace =
+    (0, line.New (created.Task (task 0)) (codes "main") 15)
+    ∷ (0, line.Ready (t 0) 15 Tail None)
+    ∷ (0, line.Run (t 0))
+    ∷ (6, line.Put (t 0) (codes "-2147483648"))
+    ∷ (8, line.Done (task 0))
+    ∷ (8, line.End end.Completed)
+    ∷ []
+
+pub row_20c_runs : row_20c_lines ≡ row_20c_trace
+unfolding row_20c_lines row_20c_trace digits computing
+row_20c_runs = refl
+
+-- whether every world of its run is well formed
+unfoldable pub row_20c_worlds : Bool
+row_20c_worlds = run_is_well_formed row_20c_program row_20c_script 9
+
+pub row_20c_keeps : row_20c_worlds ≡ true
+unfolding row_20c_worlds computing
+row_20c_keeps = refl
+
+-- whether each handler is released at its tick
+unfoldable pub row_20c_handlers : Bool
+row_20c_handlers = releases_ok row_20c_program row_20c_script 9
+
+pub row_20c_releases : row_20c_handlers ≡ true
+unfolding row_20c_handlers computing
+row_20c_releases = refl

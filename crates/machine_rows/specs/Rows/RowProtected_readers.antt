@@ -1,0 +1,188 @@
+use Rattle.std.specs.Prelude.{◌≡◌, ℕ, ℤ, pos, negsuc, List, [], ◌∷◌, Some, None, true, false, codes, refl}
+use Rattle.trace_text.specs.declared.events.Event.{Event}
+use Rattle.trace_text.specs.declared.events.Event.TheVariants as line
+use Rattle.trace_text.specs.declared.events.Created.TheVariants as created
+use Rattle.trace_text.specs.declared.events.Ended.TheVariants as end
+use Rattle.trace_text.specs.declared.events.Finished.TheVariants as finished
+use Rattle.trace_text.specs.declared.events.Leaves.TheVariants as leaves
+use Rattle.trace_text.specs.declared.events.Mode.TheVariants.{Read, Write}
+use Rattle.trace_text.specs.declared.events.QueueEnd.TheVariants.{Head, Tail}
+use Rattle.trace_text.specs.declared.events.Waits.TheVariants as waits
+use Rattle.profile_machine.specs.declared.run_data.Item.{Item}
+use Rattle.profile_machine.specs.declared.image.Image.{Image}
+use Rattle.profile_machine.specs.declared.image.Queuing.TheVariants as queuing
+use Rattle.profile_machine.specs.declared.values.Value.TheVariants.{Whole, Ticks}
+use Rattle.profile_machine.specs.declared.values.Constraint.TheVariants.{Free, Whole, Ticks}
+use Rattle.profile_machine.specs.declared.expressions.Expression.TheVariants.{Known}
+use Rattle.profile_machine.specs.declared.expressions.ObjectName.TheVariants.{Declared}
+use Rattle.profile_machine.specs.declared.declarations.DeclarationKind.TheVariants as kind
+use Rattle.profile_machine.specs.declared.declarations.Initial.TheVariants as initial
+use Rattle.profile_machine.specs.declared.declarations.EntryUnit.TheVariants as unit
+use Rattle.profile_machine.specs.declared.statements.StatementForm.TheVariants as form
+use Rattle.profile_machine.specs.declared.statements.Callee.TheVariants as callee
+use Rattle.profile_machine.specs.declared.statements.Destination.TheVariants as destination
+use Rattle.profile_machine.specs.declared.statements.EntryOwner.TheVariants as owner
+use Rattle.profile_machine.specs.Notation.{decl, expr, stmt, scope, subprogram, task_unit, protected_unit, entry, task, call, p, region, t, of_task, declaration, variable, statement, scope_text, subprogram_text, task_unit_text, protected_unit_text, entry_text, policies, main_procedure}
+use Rattle.profile_machine.specs.Run.{run_of}
+use Rattle.profile_machine.specs.Computing.{computing}
+use Rattle.std.specs.Fmt.{digits}
+use Rattle.std.specs.Prelude.{Bool}
+use Rattle.profile_machine.specs.WellFormed.{run_is_well_formed}
+use Rattle.profile_machine.specs.Releases.{releases_ok}
+
+-- Row protected.readers: its run stops before tick 52, so every greater bound gives the same trace.
+abbrev pub row_protected_readers_program : Image
+row_protected_readers_program =
+    record {
+      declarations =
+          declaration (codes "p") (codes "main.p") (kind.Protected (protected_unit 0)) (scope 1) 0 16 Free None
+          ∷ declaration (codes "h") (codes "main.h") (kind.Task (task_unit 0)) (scope 1) 16 1 Free None
+          ∷ declaration (codes "a") (codes "main.a") (kind.Task (task_unit 1)) (scope 1) 17 1 Free None
+          ∷ declaration (codes "c") (codes "main.c") (kind.Task (task_unit 2)) (scope 1) 18 1 Free None
+          ∷ declaration (codes "n") (codes "main.h.n") (kind.Object initial.Default) (scope 4) 0 1 (Whole (negsuc 2147483647) (pos 2147483647)) None
+          ∷ declaration (codes "n") (codes "main.a.n") (kind.Object initial.Default) (scope 5) 0 1 (Whole (negsuc 2147483647) (pos 2147483647)) None
+          ∷ [];
+      expressions =
+          Known (Whole (pos 1))
+          ∷ Known (Ticks (pos 10))
+          ∷ [];
+      statements =
+          statement (form.CallMain) 0 None
+          ∷ statement (form.ReturnValue (subprogram 0) (expr 0)) 0 None
+          ∷ statement (form.Null) 0 (Some (stmt 1))
+          ∷ statement (form.Null) 0 (Some (stmt 2))
+          ∷ statement (form.Null) 0 None
+          ∷ statement (form.Call (callee.Operation (decl 0) (subprogram 0)) [] (destination.Variable (variable (Declared (decl 4)) None))) 0 None
+          ∷ statement (form.EndActivation) 0 (Some (stmt 5))
+          ∷ statement (form.Declare (decl 4)) 0 (Some (stmt 6))
+          ∷ statement (form.Call (callee.Operation (decl 0) (subprogram 1)) [] destination.Nowhere) 0 None
+          ∷ statement (form.Call (callee.Operation (decl 0) (subprogram 0)) [] (destination.Variable (variable (Declared (decl 5)) None))) 0 (Some (stmt 8))
+          ∷ statement (form.Accept (entry 0) (scope 6)) 0 (Some (stmt 9))
+          ∷ statement (form.EndActivation) 0 (Some (stmt 10))
+          ∷ statement (form.Declare (decl 5)) 0 (Some (stmt 11))
+          ∷ statement (form.EntryCall (entry 0) (owner.Object (decl 2)) []) 0 None
+          ∷ statement (form.Delay (expr 1)) 0 (Some (stmt 13))
+          ∷ statement (form.EndActivation) 0 (Some (stmt 14))
+          ∷ statement (form.Null) 0 None
+          ∷ statement (form.Activate 0) 0 (Some (stmt 16))
+          ∷ statement (form.CreateTask (decl 3) 0) 0 (Some (stmt 17))
+          ∷ statement (form.CreateTask (decl 2) 0) 0 (Some (stmt 18))
+          ∷ statement (form.CreateTask (decl 1) 0) 0 (Some (stmt 19))
+          ∷ statement (form.Declare (decl 0)) 0 (Some (stmt 20))
+          ∷ [];
+      scopes =
+          scope_text None 0 [] false (Some (stmt 0))
+          ∷ scope_text (Some (scope 0)) 19 [] true (Some (stmt 21))
+          ∷ scope_text (Some (scope 1)) 1 [] false (Some (stmt 3))
+          ∷ scope_text (Some (scope 1)) 0 [] false (Some (stmt 4))
+          ∷ scope_text (Some (scope 1)) 1 [] false (Some (stmt 7))
+          ∷ scope_text (Some (scope 1)) 1 [] false (Some (stmt 12))
+          ∷ scope_text (Some (scope 5)) 0 [] false None
+          ∷ scope_text (Some (scope 1)) 0 [] false (Some (stmt 15))
+          ∷ [];
+      subprograms =
+          subprogram_text (codes "f") (scope 2) [] (Some (Whole (negsuc 2147483647) (pos 2147483647))) (Some (protected_unit 0))
+          ∷ subprogram_text (codes "go") (scope 3) [] None (Some (protected_unit 0))
+          ∷ [];
+      task_units =
+          task_unit_text (scope 4) (Some 10) None []
+          ∷ task_unit_text (scope 5) (Some 10) None ((entry 0) ∷ [])
+          ∷ task_unit_text (scope 7) (Some 20) None []
+          ∷ [];
+      protected_units =
+          protected_unit_text 10 [] [] []
+          ∷ [];
+      entries =
+          entry_text (codes "e") (unit.Task (task_unit 1)) 0 [] None
+          ∷ [];
+      controlled_types = [];
+      enumerations = [];
+      policies = (policies [] queuing.Fifo None 30);
+      environment = (scope 0);
+      main = (main_procedure (codes "main") 15 (scope 1));
+    }
+
+abbrev pub row_protected_readers_script : List (ℤ × Item)
+row_protected_readers_script = []
+
+-- the lines of its run up to tick 52
+unfoldable pub row_protected_readers_lines : List (ℕ × Event)
+row_protected_readers_lines = run_of row_protected_readers_program row_protected_readers_script 52
+
+unfoldable pub row_protected_readers_trace : List (ℕ × Event)
+row_protected_readers_trace =
+    (0, line.New (created.Task (task 0)) (codes "main") 15)
+    ∷ (0, line.Ready (t 0) 15 Tail None)
+    ∷ (0, line.Run (t 0))
+    ∷ (3, line.New (created.Object (p 1)) (codes "main.p") 10)
+    ∷ (5, line.New (created.Task (task 1)) (codes "main.h") 10)
+    ∷ (7, line.New (created.Task (task 2)) (codes "main.a") 10)
+    ∷ (9, line.New (created.Task (task 3)) (codes "main.c") 20)
+    ∷ (11, line.Ready (t 1) 15 Tail None)
+    ∷ (11, line.Ready (t 2) 15 Tail None)
+    ∷ (11, line.Ready (t 3) 20 Tail None)
+    ∷ (11, line.Block (t 0) waits.Activation)
+    ∷ (11, line.Run (t 3))
+    ∷ (14, line.Block (t 3) waits.Delay)
+    ∷ (14, line.Run (t 1))
+    ∷ (16, line.Ready (t 1) 10 Head None)
+    ∷ (16, line.Run (t 2))
+    ∷ (18, line.Ready (t 0) 15 Tail None)
+    ∷ (18, line.Ready (t 2) 10 Head None)
+    ∷ (18, line.Run (t 0))
+    ∷ (20, line.Leave (t 0) (region 1) leaves.End)
+    ∷ (20, line.Block (t 0) waits.Dependents)
+    ∷ (20, line.Run (t 2))
+    ∷ (22, line.Block (t 2) waits.Accept)
+    ∷ (22, line.Run (t 1))
+    ∷ (24, line.Enter (t 1) (p 1) Read)
+    ∷ (24, line.Ready (t 3) 20 Tail None)
+    ∷ (24, line.Run (t 3))
+    ∷ (26, line.Call (task 3) (call 1) (of_task 2 (codes "e")) 20)
+    ∷ (26, line.Start (t 2) (call 1))
+    ∷ (26, line.Ready (t 2) 20 Tail None)
+    ∷ (26, line.Block (t 3) waits.Entry)
+    ∷ (26, line.Run (t 2))
+    ∷ (27, line.Finish (t 2) (call 1) finished.Ok)
+    ∷ (27, line.Ready (t 3) 20 Tail None)
+    ∷ (27, line.Ready (t 2) 10 Head None)
+    ∷ (27, line.Run (t 3))
+    ∷ (28, line.Done (task 3))
+    ∷ (28, line.Run (t 2))
+    ∷ (30, line.Enter (t 2) (p 1) Read)
+    ∷ (35, line.Exit (t 2) (p 1))
+    ∷ (37, line.Held (t 2) (p 1) Write)
+    ∷ (37, line.Ready (t 2) 10 Tail None)
+    ∷ (37, line.Run (t 1))
+    ∷ (42, line.Exit (t 1) (p 1))
+    ∷ (43, line.Done (task 1))
+    ∷ (43, line.Run (t 2))
+    ∷ (45, line.Enter (t 2) (p 1) Write)
+    ∷ (48, line.Exit (t 2) (p 1))
+    ∷ (49, line.Done (task 2))
+    ∷ (49, line.Ready (t 0) 15 Tail None)
+    ∷ (49, line.Run (t 0))
+    ∷ (50, line.Left (t 0) (region 1))
+    ∷ (51, line.Done (task 0))
+    ∷ (51, line.End end.Completed)
+    ∷ []
+
+pub row_protected_readers_runs : row_protected_readers_lines ≡ row_protected_readers_trace
+unfolding row_protected_readers_lines row_protected_readers_trace digits computing
+row_protected_readers_runs = refl
+
+-- whether every world of its run is well formed
+unfoldable pub row_protected_readers_worlds : Bool
+row_protected_readers_worlds = run_is_well_formed row_protected_readers_program row_protected_readers_script 52
+
+pub row_protected_readers_keeps : row_protected_readers_worlds ≡ true
+unfolding row_protected_readers_worlds computing
+row_protected_readers_keeps = refl
+
+-- whether each handler is released at its tick
+unfoldable pub row_protected_readers_handlers : Bool
+row_protected_readers_handlers = releases_ok row_protected_readers_program row_protected_readers_script 52
+
+pub row_protected_readers_releases : row_protected_readers_handlers ≡ true
+unfolding row_protected_readers_handlers computing
+row_protected_readers_releases = refl

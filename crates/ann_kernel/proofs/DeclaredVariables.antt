@@ -12,13 +12,13 @@ use Rattle.profile_machine.specs.declared.expressions.ObjectName.TheVariants as 
 use Rattle.profile_machine.specs.declared.world.World.{World}
 use Rattle.profile_machine.specs.Words.{scope_id}
 use Rattle.profile_machine.specs.Program.{declaration_of, next_of}
-use Rattle.profile_machine.specs.Steps.{own, changes, ◌▷◌}
+use Rattle.profile_machine.specs.Steps.{own, done, changes, ◌▷◌}
 use Rattle.profile_machine.specs.Frames.{edit_top, goes, goes_on, given}
 use Rattle.profile_machine.specs.Scopes.{write_cell, edit_cells}
 use Rattle.profile_machine.specs.Statements.{put_cells}
 use Rattle.profile_machine.specs.Operators.{◌>>=◌}
 use Rattle.profile_machine.specs.Values.{seen_by}
-use Rattle.profile_machine.specs.Declarations.{declare, declare_by, declared, default_cells, initialized}
+use Rattle.profile_machine.specs.Declarations.{declare, declare_by, declare_quietly, declared, default_cells, initialized}
 use Rattle.ada_names.specs.Simple.{IsVariableKind}
 use Rattle.ann_kernel.specs.declared.values.Store.{Store}
 use Rattle.ann_kernel.specs.Cells.{AreIntegers, store_of_kind}
@@ -47,13 +47,15 @@ kind-declared p w who cells count d _ m h defaults a i v = absurd v
 
 -- a variable is declared quietly
 quietly : (p : Image) (w : World) (who : Who) (s : StatementNo) (d : DeclNo) (k : DeclarationKind) → IsVariableKind k →
-    declare_by p who s d k w ≡ given p own who (declared (seen_by p w who) d (declaration_of p d).kind) (λ next. changes (λ _. next) ▷ goes who (next_of p s)) w
+    declare_by p who s d k w [] ≡ given p own who (declared (seen_by p w who) d (declaration_of p d).kind) (λ next. changes (λ _. next) ▷ goes who (next_of p s)) w []
+unfolding declare_by declare_quietly
 quietly p w who s d (kind.Object i) v = refl
 quietly p w who s d _ v = absurd v
 
 -- the initial value, if there is one, goes into the variable, and the task goes on
 pub declare-is : (p : Image) (w : World) (who : Who) (cells : List ℤ) (count : ℕ) (s : StatementNo) (d : DeclNo) → StandsInMain w who cells → HasVariables p count → HasDefaults p w count → AreIntegers cells → d.0 < count →
-    declare p who s d w ≡ (edit_top who (goes_on (next_of p s)) (world_stored (store_of_kind p cells d (declaration_of p d).kind) w), [])
+    declare p who s d w [] ≡ done (edit_top who (goes_on (next_of p s)) (world_stored (store_of_kind p cells d (declaration_of p d).kind) w)) []
+unfolding declare goes
 declare-is p w who cells count s d m h defaults a i =
     quietly p w who s d (declaration_of p d).kind (h.variables d.0 i).kind
-    ∙ ap (λ r. given p own who r (λ next. changes (λ _. next) ▷ goes who (next_of p s)) w) (kind-declared p w who cells count d (declaration_of p d).kind m h defaults a i (h.variables d.0 i).kind)
+    ∙ ap (λ r. given p own who r (λ next. changes (λ _. next) ▷ goes who (next_of p s)) w []) (kind-declared p w who cells count d (declaration_of p d).kind m h defaults a i (h.variables d.0 i).kind)

@@ -18,7 +18,9 @@ use Rattle.ann_kernel.specs.Next.{IfGoing, IfEnded}
 use Rattle.ann_kernel.specs.Reached.{stop_shown, is_in_time}
 use Rattle.ann_kernel.specs.declared.progress.Reached.TheVariants as reached
 use Rattle.ann_kernel.specs.declared.progress.Progress.{Progress}
+use Rattle.ann_kernel.specs.declared.progress.Progress.TheVariants.{Calling}
 use Rattle.ann_kernel.specs.declared.owed.Line.{Line}
+use Rattle.ann_kernel.specs.declared.owed.Line.TheVariants as owed
 use Rattle.ann_kernel.specs.Lines.{event_of, lines_of, stamped, stop_line}
 use Rattle.ann_kernel.specs.declared.values.Store.{Store}
 use Rattle.ann_kernel.specs.Cells.{with_store}
@@ -98,6 +100,20 @@ pub open-stop : (p : Image) (bound : ℕ) → IsLegal p → (r : Result Kernel N
 unfolding stop_to_come
 open-stop p bound legal (Ok k) e = ap stop_of e ∙ opened-stop p bound (ap (λ o. o.0.time) (opening-shown p [] legal.simple))
 open-stop p bound legal (Err fault) e = tt
+
+-- ---- the opening of the kernel
+
+-- what is shown behind an opening that led to this world with these lines
+opened_by : Image → ℕ → World × List Event → Shown
+opened_by p bound o = record { program = p; bound = bound; world = o.0; at_instant = true; stop = None; owed = at_tick 0 o.1 }
+
+-- a kernel that owes the first two lines shows the opening
+pub open-shown : (p : Image) (bound : ℕ) (cells : List ℤ) (lines : List (ℕ × Line)) → IsLegal p → lines ≡ (0, owed.New) ∷ (0, owed.Ready) ∷ [] →
+    record { program = p; bound = bound; world = world_at p 0 false None Calling cells; at_instant = true; stop = None; owed = lines_of p lines } ≡ opened p bound
+unfolding opened_by
+open-shown p bound cells lines legal e =
+    ap (λ xs. record { program = p; bound = bound; world = world_at p 0 false None Calling cells; at_instant = true; stop = None; owed = lines_of p xs }) e
+    ∙ sym (ap (opened_by p bound) (opening-shown p cells legal.simple))
 
 -- ---- an instant of the kernel
 

@@ -12,7 +12,8 @@ use Rattle.profile_machine.specs.declared.statements.StatementForm.TheVariants a
 use Rattle.profile_machine.specs.declared.world.World.{World}
 use Rattle.profile_machine.specs.Instant.{instant, effect}
 use Rattle.profile_machine.specs.Run.{tock, stop, opening, environment}
-use Rattle.profile_machine.specs.Steps.{settles, nothing}
+use Rattle.profile_machine.specs.Steps.{settles, rests}
+use Rattle.profile_machine.specs.Computing.{computing}
 use Rattle.profile_machine.specs.Cost.{cost_of_form, cost_of_statement}
 use Rattle.profile_machine.specs.Program.{statement_of, form_of}
 use Rattle.ada_names.specs.Simple.{IsSimple, IsBodyForm, simple_program}
@@ -31,6 +32,7 @@ use Rattle.ann_kernel.proofs.MainCall.{calling-acts}
 -- ---- the opening
 
 opening-shape : (name : List ℕ) (vs : List Declaration) (es : List Expression) (body : List Action) (cells : List ℤ) → let p = simple_program name vs es body in opening p [] ≡ (world_at p 0 false None Calling cells, event_of p owed.New ∷ event_of p owed.Ready ∷ [])
+unfolding computing
 opening-shape name vs es body cells = refl
 
 pub opening-shown : (p : Image) (cells : List ℤ) → IsSimple p → opening p [] ≡ (world_at p 0 false None Calling cells, event_of p owed.New ∷ event_of p owed.Ready ∷ [])
@@ -42,12 +44,20 @@ opening-shown p cells s = subst (λ q. opening q [] ≡ (world_at q 0 false None
 Acts : Image → ℕ → Progress → List ℤ → Type 0
 Acts p now progress cells = instant p (world_at p now true (Some 0) progress cells) ≡ (world_at p now true None (progress_after p progress) (with_store (store_after p cells progress) cells), map (event_of p) (lines_after p progress))
 
+scope-acts : (name : List ℕ) (vs : List Declaration) (es : List Expression) (body : List Action) (now : ℕ) (cells : List ℤ) → Acts (simple_program name vs es body) now (Inside None) cells
+unfolding Acts computing
+scope-acts name vs es body now cells = refl
+
+behind-acts : (name : List ℕ) (vs : List Declaration) (es : List Expression) (body : List Action) (now : ℕ) (cells : List ℤ) → Acts (simple_program name vs es body) now Behind cells
+unfolding Acts computing
+behind-acts name vs es body now cells = refl
+
 shape-acts : (name : List ℕ) (vs : List Declaration) (es : List Expression) (body : List Action) (now : ℕ) (progress : Progress) (cells : List ℤ) → AreSimple vs es body → is_inside progress ≡ true → AreCells (length vs) progress cells → Acts (simple_program name vs es body) now progress cells
 unfolding Acts
 shape-acts name vs es body now Calling cells a h c = calling-acts name vs es body now cells a (c.fresh refl)
-shape-acts name vs es body now (Inside None) cells a h c = refl
+shape-acts name vs es body now (Inside None) cells a h c = scope-acts name vs es body now cells
 shape-acts name vs es body now (Inside (Some s)) cells a h c = inside-acts name vs es body now s.0 cells a c.integers (ltb-true 0 s.0 h)
-shape-acts name vs es body now Behind cells a h c = refl
+shape-acts name vs es body now Behind cells a h c = behind-acts name vs es body now cells
 shape-acts name vs es body now Over cells a h c = refl
 
 pub instant-acts : (p : Image) (now : ℕ) (progress : Progress) (cells : List ℤ) → IsSimple p → is_inside progress ≡ true → AreCells (length p.declarations) progress cells → instant p (world_at p now true (Some 0) progress cells) ≡ (world_at p now true None (progress_after p progress) (with_store (store_after p cells progress) cells), map (event_of p) (lines_after p progress))
@@ -61,7 +71,7 @@ instant-unrun p now ticks progress cells = refl
 
 -- the first step of an instant by the test whether the action is over
 chosen : Image → World → Bool → World × List Event
-chosen p w over = let move : World → World × List Event = elim over [ true ↦ settles (effect p environment) | false ↦ nothing ] in move w
+chosen p w over = let move : World → World × List Event = elim over [ true ↦ settles (effect p environment) | false ↦ rests ] in move w
 
 -- nothing comes about
 Waits : Image → ℕ → Option ℕ → Progress → List ℤ → Type 0

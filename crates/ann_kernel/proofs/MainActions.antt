@@ -16,13 +16,14 @@ use Rattle.profile_machine.specs.declared.statements.Piece.{Piece}
 use Rattle.profile_machine.specs.declared.statements.Piece.TheVariants as piece
 use Rattle.profile_machine.specs.declared.world.World.{World}
 use Rattle.profile_machine.specs.Words.{scope_id}
-use Rattle.profile_machine.specs.Instant.{instant, script_items, events_due, moments_due, timers_due, budgets_due, quantum_spent}
+use Rattle.profile_machine.specs.Instant.{instant, effect, script_items, events_due, moments_due, timers_due, budgets_due, quantum_spent}
 use Rattle.profile_machine.specs.Run.{environment}
-use Rattle.profile_machine.specs.Steps.{Said, own, in_order, placed_by, ◌▷◌}
-use Rattle.profile_machine.specs.Frames.{edit_top, goes_on, open_handled, open_if_ready}
+use Rattle.profile_machine.specs.Steps.{Said, own, Done, done, goes_on_with, settled, ◌▷◌, ◌▶◌}
+use Rattle.profile_machine.specs.Frames.{edit_top, goes_on, open_handled, open_at, open_sequence, open_if_ready}
 use Rattle.profile_machine.specs.Scopes.{write_cell}
 use Rattle.profile_machine.specs.Tasking.{take_terminates, unwind_all}
-use Rattle.profile_machine.specs.Act.{act_statement}
+use Rattle.profile_machine.specs.Act.{act, act_top, act_frame, act_statement}
+use Rattle.profile_machine.specs.Computing.{computing}
 use Rattle.profile_machine.specs.Program.{form_of, next_of}
 use Rattle.ada_names.specs.Simple.{IsBodyForm, IsOneText, StaysInBody, simple_program, statement_no}
 use Rattle.ann_kernel.specs.declared.progress.Progress.TheVariants.{Inside}
@@ -85,10 +86,10 @@ put_said (form.PutLine pieces) = record { part = own; event = line.Put environme
 put_said _ = []
 
 Does : Image → ℕ → StatementNo → List ℤ → StatementForm → Type 0
-Does p now s cells f = act_statement p environment s f (inside p now (Some s) cells) ≡ (inside p now (next_of p s) (with_store (store_of_form p cells f) cells), put_said f)
+Does p now s cells f = act_statement p environment s f (inside p now (Some s) cells) [] ≡ done (inside p now (next_of p s) (with_store (store_of_form p cells f) cells)) (put_said f)
 
 text-does : (name : List ℕ) (vs : List Declaration) (es : List Expression) (body : List Action) (now : ℕ) (s : StatementNo) (cells : List ℤ) (pieces : List Piece) → IsOneText pieces → Does (simple_program name vs es body) now s cells (form.PutLine pieces)
-unfolding Does
+unfolding Does computing
 text-does name vs es body now s cells [] h = absurd h
 text-does name vs es body now s cells (piece.Text text ∷ []) h = refl
 text-does name vs es body now s cells (piece.Whole value ∷ []) h = absurd h
@@ -97,63 +98,55 @@ text-does name vs es body now s cells (piece.Literal value enumeration ∷ []) h
 text-does name vs es body now s cells (x ∷ y ∷ rest) h = absurd h
 
 null-does : (name : List ℕ) (vs : List Declaration) (es : List Expression) (body : List Action) (now : ℕ) (s : StatementNo) (cells : List ℤ) → Does (simple_program name vs es body) now s cells form.Null
-unfolding Does
+unfolding Does computing
 null-does name vs es body now s cells = refl
 
 form-does : (name : List ℕ) (vs : List Declaration) (es : List Expression) (body : List Action) (now : ℕ) (s : StatementNo) (cells : List ℤ) (f : StatementForm) → AreSimple vs es body → AreIntegers cells → IsBodyForm (length vs) f → Does (simple_program name vs es body) now s cells f
-unfolding Does
+unfolding Does act_statement
 form-does name vs es body now s cells form.Null a i h = null-does name vs es body now s cells
 form-does name vs es body now s cells (form.PutLine pieces) a i h = text-does name vs es body now s cells pieces h
 form-does name vs es body now s cells (form.Declare d) a i h =
     let p = simple_program name vs es body in
     declare-is p (inside p now (Some s) cells) environment cells (length vs) s d (stands-inside name vs es body now (Some s) cells) (has-variables name vs es body a) (defaults-inside name vs es body now (Some s) cells (has-variables name vs es body a)) i h
-    ∙ ap (λ w. (w, [])) (store-inside name vs es body now (Some s) (next_of p s) cells (store_of_form p cells (form.Declare d)))
+    ∙ ap (λ w. done w []) (store-inside name vs es body now (Some s) (next_of p s) cells (store_of_form p cells (form.Declare d)))
 form-does name vs es body now s cells (form.Assign target e) a i h =
     let p = simple_program name vs es body in
     assign-is p (inside p now (Some s) cells) environment cells (length vs) s target e (stands-inside name vs es body now (Some s) cells) (has-variables name vs es body a) i h
-    ∙ ap (λ w. (w, [])) (store-inside name vs es body now (Some s) (next_of p s) cells (store_of_form p cells (form.Assign target e)))
+    ∙ ap (λ w. done w []) (store-inside name vs es body now (Some s) (next_of p s) cells (store_of_form p cells (form.Assign target e)))
 form-does name vs es body now s cells _ a i h = absurd h
 
 -- ---- the rest of the instant
 
--- the other six steps of an instant
+-- the other six parts of an instant
 unfoldable pub others : Image → World × List Event → World × List Event
 others p a =
-    let b = (script_items p ▷ events_due p ▷ moments_due p ▷ timers_due p ▷ budgets_due p ▷ quantum_spent p) a.0 in
+    let b = (script_items p ▶ events_due p ▶ moments_due p ▶ timers_due p ▶ budgets_due p ▶ quantum_spent p) a.0 in
     (b.0, a.1 ++ b.1)
 
-unfoldable pub settled : World × List Said → World × List Event
-settled done =
-    let lines = map (λ said. said.event) (in_order done.1) in
-    (placed_by lines done.0, lines)
-
 -- behind what an action did: a sequence that opens, and the rest of the effect
-unfoldable pub behind : Image → World × List Said → World × List Event
-behind p a =
-    let b = (open_if_ready p environment ▷ take_terminates p environment ▷ unwind_all p environment) a.0 in
-    others p (settled (b.0, a.1 ++ b.1))
+unfoldable pub behind : Image → Done → World × List Event
+behind p d = others p (settled (goes_on_with (open_if_ready p environment ▷ take_terminates p environment ▷ unwind_all p environment) d))
 
-behind_opened : Image → List Said → World × List Said → World × List Event
-behind_opened p said o =
-    let b = (take_terminates p environment ▷ unwind_all p environment) o.0 in
-    others p (settled (b.0, said ++ (o.1 ++ b.1)))
+behind_opened : Image → Done → World × List Event
+behind_opened p d = others p (settled (goes_on_with (take_terminates p environment ▷ unwind_all p environment) d))
 
 -- no sequence with handlers begins at an action of the main procedure
-opens-nothing : (p : Image) (count : ℕ) (s : StatementNo) (f : StatementForm) (w : World) → IsBodyForm count f → open_handled p own environment s f w ≡ (w, [])
-opens-nothing p count s form.Null w h = refl
-opens-nothing p count s (form.Declare d) w h = refl
-opens-nothing p count s (form.Assign target e) w h = refl
-opens-nothing p count s (form.PutLine pieces) w h = refl
-opens-nothing p count s _ w h = absurd h
+opens-nothing : (p : Image) (count : ℕ) (s : StatementNo) (f : StatementForm) (w : World) (said : List Said) → IsBodyForm count f → open_handled p own environment s f w said ≡ done w said
+unfolding open_handled
+opens-nothing p count s form.Null w said h = refl
+opens-nothing p count s (form.Declare d) w said h = refl
+opens-nothing p count s (form.Assign target e) w said h = refl
+opens-nothing p count s (form.PutLine pieces) w said h = refl
+opens-nothing p count s _ w said h = absurd h
 
 abbrev pub events_put : StatementForm → List Event
 events_put f = map (λ said. said.event) (put_said f)
 
 Goes : Image → ℕ → Option StatementNo → List ℤ → StatementForm → Type 0
-Goes p now next cells f = behind p (inside p now next cells, put_said f) ≡ (inside p now next cells, events_put f)
+Goes p now next cells f = behind p (done (inside p now next cells) (put_said f)) ≡ (inside p now next cells, events_put f)
 
 goes-last : (name : List ℕ) (vs : List Declaration) (es : List Expression) (body : List Action) (now : ℕ) (cells : List ℤ) (count : ℕ) (f : StatementForm) → IsBodyForm count f → Goes (simple_program name vs es body) now None cells f
-unfolding Goes behind others settled
+unfolding Goes behind others computing
 goes-last name vs es body now cells count form.Null h = refl
 goes-last name vs es body now cells count (form.Declare d) h = refl
 goes-last name vs es body now cells count (form.Assign target e) h = refl
@@ -161,16 +154,16 @@ goes-last name vs es body now cells count (form.PutLine pieces) h = refl
 goes-last name vs es body now cells count _ h = absurd h
 
 goes-opened : (name : List ℕ) (vs : List Declaration) (es : List Expression) (body : List Action) (now : ℕ) (s : StatementNo) (cells : List ℤ) (count : ℕ) (f : StatementForm) → IsBodyForm count f → let p = simple_program name vs es body in
-    behind_opened p (put_said f) (inside p now (Some s) cells, []) ≡ (inside p now (Some s) cells, events_put f)
-unfolding behind_opened others settled
+    behind_opened p (done (inside p now (Some s) cells) (put_said f)) ≡ (inside p now (Some s) cells, events_put f)
+unfolding behind_opened others computing
 goes-opened name vs es body now s cells count form.Null h = refl
 goes-opened name vs es body now s cells count (form.Declare d) h = refl
 goes-opened name vs es body now s cells count (form.Assign target e) h = refl
 goes-opened name vs es body now s cells count (form.PutLine pieces) h = refl
 goes-opened name vs es body now s cells count _ h = absurd h
 
-behind-some : (p : Image) (now : ℕ) (s : StatementNo) (cells : List ℤ) (said : List Said) → behind p (inside p now (Some s) cells, said) ≡ behind_opened p said (open_handled p own environment s (form_of p s) (inside p now (Some s) cells))
-unfolding behind behind_opened
+behind-some : (p : Image) (now : ℕ) (s : StatementNo) (cells : List ℤ) (said : List Said) → behind p (done (inside p now (Some s) cells) said) ≡ behind_opened p (open_handled p own environment s (form_of p s) (inside p now (Some s) cells) said)
+unfolding behind behind_opened open_if_ready open_sequence open_at
 behind-some p now s cells said = refl
 
 -- the form of a statement behind the call of the main procedure
@@ -184,18 +177,18 @@ goes-next name vs es body now None cells f a h stays = goes-last name vs es body
 goes-next name vs es body now (Some s) cells f a h stays =
     let p = simple_program name vs es body in
     behind-some p now s cells (put_said f)
-    ∙ ap (behind_opened p (put_said f)) (opens-nothing p (length vs) s (form_of p s) (inside p now (Some s) cells) (form-inside name vs es body s.0 a stays))
+    ∙ ap (behind_opened p) (opens-nothing p (length vs) s (form_of p s) (inside p now (Some s) cells) (put_said f) (form-inside name vs es body s.0 a stays))
     ∙ goes-opened name vs es body now s cells (length vs) f h
 
 -- the task goes on with an action of the main procedure, and nothing comes about
 pub inside-goes : (name : List ℕ) (vs : List Declaration) (es : List Expression) (body : List Action) (now : ℕ) (next : Option StatementNo) (cells : List ℤ) → AreSimple vs es body → StaysInBody next → let p = simple_program name vs es body in
-    behind p (inside p now next cells, []) ≡ (inside p now next cells, [])
+    behind p (done (inside p now next cells) []) ≡ (inside p now next cells, [])
 unfolding Goes
 inside-goes name vs es body now next cells a stays = goes-next name vs es body now next cells form.Null a tt stays
 
 -- where an action of this form ends, the task goes on, and what it stores is stored
 pub form-ends : (name : List ℕ) (vs : List Declaration) (es : List Expression) (body : List Action) (now : ℕ) (s : StatementNo) (cells : List ℤ) (f : StatementForm) → AreSimple vs es body → AreIntegers cells → IsBodyForm (length vs) f → StaysInBody (next_of (simple_program name vs es body) s) → let p = simple_program name vs es body in
-    behind p (act_statement p environment s f (inside p now (Some s) cells)) ≡ (inside p now (next_of p s) (with_store (store_of_form p cells f) cells), events_put f)
+    behind p (act_statement p environment s f (inside p now (Some s) cells) []) ≡ (inside p now (next_of p s) (with_store (store_of_form p cells f) cells), events_put f)
 unfolding Does Goes
 form-ends name vs es body now s cells f a i h stays =
     let p = simple_program name vs es body in
@@ -210,8 +203,8 @@ put-event p s (form.Declare d) e = refl
 put-event p s (form.Assign target value) e = refl
 put-event p s _ e = refl
 
-instant-inside : (p : Image) (now : ℕ) (s : StatementNo) (cells : List ℤ) → instant p (world_at p now true (Some 0) (Inside (Some s)) cells) ≡ behind p (act_statement p environment s (form_of p s) (inside p now (Some s) cells))
-unfolding behind others settled
+instant-inside : (p : Image) (now : ℕ) (s : StatementNo) (cells : List ℤ) → instant p (world_at p now true (Some 0) (Inside (Some s)) cells) ≡ behind p (act_statement p environment s (form_of p s) (inside p now (Some s) cells) [])
+unfolding behind others effect act act_top act_frame
 instant-inside p now s cells = refl
 
 -- an instant at which an action of the main procedure ends

@@ -84,7 +84,7 @@ abbrev pub with_script : List (ℤ × Item) → World → World
 with_script script w = record w { script = script }
 
 -- all items whose moment has come
-abbrev pub items_due : Image → ℕ → List (ℤ × Item) → Step
+unfoldable pub items_due : Image → ℕ → List (ℤ × Item) → Step
 items_due p now [] = nothing
 items_due p now (x ∷ xs) =
     elim (int_le x.0 (pos now)) [ true ↦ changes (with_script xs) ▷ script_item p x.1 ▷ items_due p now xs | false ↦ nothing ]
@@ -125,7 +125,7 @@ take_due p again None = nothing
 take_due p again (Some a) = changes (drop_appointment (is_the_same_due a.due)) ▷ come_due p a.due ▷ again
 
 -- the fuel is the number of appointments
-abbrev pub all_due : ℕ → Image → Bool → Step
+unfoldable pub all_due : ℕ → Image → Bool → Step
 all_due zero p events = nothing
 all_due (suc fuel) p events = looks (λ w. take_due p (all_due fuel p events) (first_due events w.time w.appointments))
 
@@ -170,7 +170,7 @@ abbrev pub has_spent_quantum : Image → Task → Bool
 has_spent_quantum p t =
     is_runnable t && eqb t.quantum 0 && is_robin_level p t.base && eqb (active p t) t.base && is_empty t.inherited && not (any_protected t.frames)
 
-abbrev pub spend_quantum : Image → Option Who → Step
+unfoldable pub spend_quantum : Image → Option Who → Step
 spend_quantum p None = nothing
 spend_quantum p (Some who.Agent) = nothing
 spend_quantum p (Some (who.Task t)) =

@@ -5,10 +5,9 @@ use Rattle.trace_text.specs.declared.events.Who.{Who}
 use Rattle.trace_text.specs.declared.events.Who.TheVariants as who
 use Rattle.profile_machine.specs.declared.world.World.{World}
 use Rattle.profile_machine.specs.declared.world.tasks.Task.{Task}
-use Rattle.profile_machine.specs.Steps.{Step}
 use Rattle.profile_machine.specs.Tasks.{edit_task}
 use Rattle.machine_laws.proofs.Moves.{Moves}
-use Rattle.machine_laws.proofs.Kept.Combinators.{Keeps}
+use Rattle.machine_laws.proofs.Kept.Combinators.{Alters}
 
 -- the time, and who ran the tick before
 abbrev pub clock_of : World → ℕ × Option Who
@@ -65,7 +64,7 @@ at_once = record {
   cuts_script = λ script w. refl;
 }
 
--- so what was later before a step is later behind it
-pub later_behind : (step : Step) (w : World) (moment : ℤ) → Keeps AtOnce step → int_lt (pos w.time) moment ≡ true → int_lt (pos (step w).0.time) moment ≡ true
-unfolding Keeps
-later_behind step w moment kept later = subst (λ n. int_lt (pos n) moment ≡ true) (sym (ap (λ x. x.0) (kept w))) later
+-- so what was later before a change is later behind it
+pub later_behind : (f : World → World) (w : World) (moment : ℤ) → Alters AtOnce f → int_lt (pos w.time) moment ≡ true → int_lt (pos (f w).time) moment ≡ true
+unfolding Alters
+later_behind f w moment kept later = subst (λ n. int_lt (pos n) moment ≡ true) (sym (ap (λ x. x.0) (kept w))) later

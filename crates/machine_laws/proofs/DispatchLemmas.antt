@@ -15,7 +15,7 @@ use Rattle.profile_machine.specs.declared.world.World.{World}
 use Rattle.profile_machine.specs.declared.world.marks.Frame.{Frame}
 use Rattle.profile_machine.specs.declared.world.appointments.Release.{Release}
 use Rattle.profile_machine.specs.Words.{same_who, same_option}
-use Rattle.profile_machine.specs.Steps.{nothing, places_after_all}
+use Rattle.profile_machine.specs.Steps.{places_after_all, rests}
 use Rattle.profile_machine.specs.Dispatching as dispatching
 use Rattle.profile_machine.specs.Dispatching.{choose}
 use Rattle.profile_machine.specs.Instant.{instant}
@@ -86,7 +86,7 @@ ran-path : (ran : Option Who) (name : Who) → same_option same_who ran (Some na
 ran-path None name e = cc
 ran-path (Some other) name e = ap Some (same_who-path other name e)
 
-run-test : (same : Bool) (ran : Option Who) (name : Who) (w : World) → (same ≡ true → ran ≡ Some name) → runner_by ran (cond same nothing (say (line.Run name)) w).1 ≡ Some name
+run-test : (same : Bool) (ran : Option Who) (name : Who) (w : World) → (same ≡ true → ran ≡ Some name) → runner_by ran (cond same rests (say (line.Run name)) w).1 ≡ Some name
 unfolding runner_by
 run-test true ran name w k = k refl
 run-test false ran name w k = refl

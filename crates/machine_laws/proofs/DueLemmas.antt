@@ -15,17 +15,17 @@ use Rattle.profile_machine.specs.declared.world.appointments.Due.{Due}
 use Rattle.profile_machine.specs.declared.world.appointments.Appointment.{Appointment}
 use Rattle.profile_machine.specs.declared.world.appointments.Due.TheVariants as due_for
 use Rattle.profile_machine.specs.Words.{same_bool, without}
-use Rattle.profile_machine.specs.Steps.{Move, ◌▷◌}
+use Rattle.profile_machine.specs.Steps.{Move, Step, Done, done, Said, goes_on_with, settled, ◌▶◌}
 use Rattle.profile_machine.specs.Tasks.{edit_task}
 use Rattle.profile_machine.specs.Appointments.{drop_appointment, put_appointment, is_an_event, first_due}
 use Rattle.profile_machine.specs.Dispatching.{choose}
 use Rattle.profile_machine.specs.Instant.{is_the_same_due, come_due, take_due, all_due, appointments_due, events_due, moments_due, finish_action, script_items, timers_due, budgets_due, quantum_spent, instant}
-use Rattle.profile_machine.specs.Run.{opening, tock, blank_world}
+use Rattle.profile_machine.specs.Run.{opening, tock, blank_world, opens}
 use Rattle.machine_laws.specs.DueLaws.{all_later, none_before}
 use Rattle.machine_laws.specs.Reached.{Comes, opened, ticked, Reached, before, behind}
 use Rattle.machine_laws.proofs.ListLemmas.{both}
 use Rattle.machine_laws.proofs.Moves.{Moves, TockMoves}
-use Rattle.machine_laws.proofs.Kept.Combinators.{Keeps, Leads, then-leads}
+use Rattle.machine_laws.proofs.Kept.Combinators.{Keeps, Leads, then-leads, settles-leads, world_behind, kept-world}
 use Rattle.machine_laws.proofs.Kept.Appointments.{is_later}
 use Rattle.machine_laws.proofs.Kept.Instant.{come_due-keeps, moments_due-leads, timers_due-leads, budgets_due-leads, quantum_spent-leads}
 use Rattle.machine_laws.proofs.Kept.Run.{before_tick, tock-parts, before_tick-leads, opens-keeps}
@@ -221,32 +221,42 @@ module _ (events : Bool) (now : ℕ) (same : Appointment → Bool) (a : Appointm
   fewer (x ∷ xs) h = fewer_at x xs (is_due events now x) refl h (fewer xs)
 
 module _ (p : Image) (events : Bool) where
-  taken_if : (fuel : ℕ) (found : Option Appointment) (w : World) → first_due events w.time w.appointments ≡ found → due_in events w ≤ suc fuel
-      → ((v : World) → due_in events v ≤ fuel → due_in events (all_due fuel p events v).0 ≤ 0)
-      → due_in events (take_due p (all_due fuel p events) found w).0 ≤ 0
+  -- a step behind another
+  none_behind : (fuel : ℕ) (again : Step) (d : Done) → due_in events (world_behind d) ≤ fuel
+      → ((v : World) (said : List Said) → due_in events v ≤ fuel → due_in events (world_behind (again v said)) ≤ 0)
+      → due_in events (world_behind (goes_on_with again d)) ≤ 0
+  none_behind fuel again (done v said) most others = others v said most
+
+  -- the lines of an effect change no appointment
+  settled-none : (d : Done) → due_in events (world_behind d) ≤ 0 → due_in events (settled d).0 ≤ 0
+  settled-none (done w said) none = none
+
+  taken_if : (fuel : ℕ) (found : Option Appointment) (w : World) (said : List Said) → first_due events w.time w.appointments ≡ found → due_in events w ≤ suc fuel
+      → ((v : World) (said : List Said) → due_in events v ≤ fuel → due_in events (world_behind (all_due fuel p events v said)) ≤ 0)
+      → due_in events (world_behind (take_due p (all_due fuel p events) found w said)) ≤ 0
   unfolding Keeps
-  taken_if fuel None w is most others = none_found events w.time w.appointments is
-  taken_if fuel (Some a) w is most others =
+  taken_if fuel None w said is most others = none_found events w.time w.appointments is
+  taken_if fuel (Some a) w said is most others =
       let dropped = drop_appointment (is_the_same_due a.due) w in
       let less = fewer events w.time (λ x. is_the_same_due a.due x.due) a (is_itself a.due) w.appointments is in
-      let kept = (come_due-keeps (never_more events) p a.due dropped).1 in
-      others (come_due p a.due dropped).0 (omega (arith, less, kept, most))
+      let kept = (kept-world (NeverMore events) dropped said (come_due p a.due dropped said) (come_due-keeps (never_more events) p a.due dropped said)).1.1 in
+      none_behind fuel (all_due fuel p events) (come_due p a.due dropped said) (omega (arith, less, kept, most)) others
 
-  taken : (fuel : ℕ) (w : World) → due_in events w ≤ fuel → due_in events (all_due fuel p events w).0 ≤ 0
-  taken zero w most = most
-  taken (suc fuel) w most = taken_if fuel (first_due events w.time w.appointments) w refl most (taken fuel)
+  taken : (fuel : ℕ) (w : World) (said : List Said) → due_in events w ≤ fuel → due_in events (world_behind (all_due fuel p events w said)) ≤ 0
+  taken zero w said most = most
+  taken (suc fuel) w said most = taken_if fuel (first_due events w.time w.appointments) w said refl most (taken fuel)
 
   appointments_due-none : (w : World) → due_in events (appointments_due p events w).0 ≤ 0
-  appointments_due-none w = taken (length w.appointments) w (count_due-length events w.time w.appointments)
+  appointments_due-none w = settled-none (all_due (length w.appointments) p events w []) (taken (length w.appointments) w [] (count_due-length events w.time w.appointments))
 
 -- ---- instants
 
 abbrev behind_moments : Image → Move
-behind_moments p = timers_due p ▷ budgets_due p ▷ quantum_spent p
+behind_moments p = timers_due p ▶ budgets_due p ▶ quantum_spent p
 
 behind_moments-leads : (events : Bool) (p : Image) → Leads (NeverMore events) (behind_moments p)
 behind_moments-leads events p =
-    then-leads (never_more events) (timers_due p) (budgets_due p ▷ quantum_spent p) (timers_due-leads (never_more events) p)
+    then-leads (never_more events) (timers_due p) (budgets_due p ▶ quantum_spent p) (timers_due-leads (never_more events) p)
     (then-leads (never_more events) (budgets_due p) (quantum_spent p) (budgets_due-leads (never_more events) p) (quantum_spent-leads (never_more events) p))
 
 instant-none : (events : Bool) (p : Image) (w : World) → due_in events (instant p w).0 ≤ 0
@@ -309,11 +319,11 @@ later-none_before w h = all_too (λ a. int_lt (pos w.time) a.moment) (λ a. int_
 -- ---- of reached worlds
 
 opening-none : (p : Image) (script : List (ℤ × Item)) → none_before (opening p script).0 ≡ true
-unfolding Keeps
+unfolding Leads
 opening-none p script =
     let o = (opening p script).0 in
-    let events = (opens-keeps (never_more true) p (blank_world p script)).1 in
-    let others = (opens-keeps (never_more false) p (blank_world p script)).1 in
+    let events = (settles-leads (never_more true) (opens p) (opens-keeps (never_more true) p) (blank_world p script)).1 in
+    let others = (settles-leads (never_more false) (opens p) (opens-keeps (never_more false) p) (blank_world p script)).1 in
     later-none_before o (all_are_later o.time o.appointments events others)
 
 tock-none : (p : Image) (w : World) → due_in true w ≤ 0 → due_in false w ≤ 0 → none_before (tock p w).0 ≡ true

@@ -9,12 +9,11 @@ use Rattle.profile_machine.specs.declared.image.Image.{Image}
 use Rattle.profile_machine.specs.declared.world.World.{World}
 use Rattle.profile_machine.specs.declared.world.appointments.Appointment.{Appointment}
 use Rattle.profile_machine.specs.Words.{is_empty, same_bool}
-use Rattle.profile_machine.specs.Steps.{Said, placed_by, ◌▷◌}
+use Rattle.profile_machine.specs.Steps.{Said, done, settled, ◌▶◌}
 use Rattle.profile_machine.specs.Appointments.{first_due, is_an_event}
 use Rattle.profile_machine.specs.Instant.{take_due, all_due, appointments_due, events_due, moments_due, timers_due, budgets_due, quantum_spent, instant}
 use Rattle.profile_machine.specs.Run.{Ran, stop, or_else, stop_by_bound, stopped, then_runs, tock, run_from}
 use Rattle.machine_laws.specs.IdleLaws.{idle_at, NoneBefore}
-use Rattle.machine_laws.proofs.Moves.{lines_of}
 
 -- ---- nothing is due
 
@@ -30,28 +29,24 @@ first_due-none events n m [] a h = refl
 first_due-none events n m (x ∷ xs) a h =
     found-none (int_le x.moment (pos n)) (same_bool (is_an_event x.due) events) x (first_due events n xs) (not_due x.moment n m a h.0) (first_due-none events n m xs a h.1)
 
-all_due-none : (fuel : ℕ) (p : Image) (events : Bool) (w : World) → first_due events w.time w.appointments ≡ None → all_due fuel p events w ≡ (w, [])
-all_due-none zero p events w e = refl
-all_due-none (suc fuel) p events w e = ap (λ a. take_due p (all_due fuel p events) a w) e
-
-settled : World × List Said → World × List Event
-settled done = (placed_by (lines_of done.1) done.0, lines_of done.1)
+all_due-none : (fuel : ℕ) (p : Image) (events : Bool) (w : World) (said : List Said) → first_due events w.time w.appointments ≡ None → all_due fuel p events w said ≡ done w said
+all_due-none zero p events w said e = refl
+all_due-none (suc fuel) p events w said e = ap (λ a. take_due p (all_due fuel p events) a w said) e
 
 appointments_due-none : (p : Image) (events : Bool) (w : World) (n m : ℕ) → n < m → NoneBefore m w.appointments → appointments_due p events (idle_at w n) ≡ (idle_at w n, [])
-unfolding settled
 appointments_due-none p events w n m a h =
-    ap settled (all_due-none (length w.appointments) p events (idle_at w n) (first_due-none events n m w.appointments a h))
+    ap settled (all_due-none (length w.appointments) p events (idle_at w n) [] (first_due-none events n m w.appointments a h))
 
 -- ---- the instant
 
 behind_events : Image → World × List Event → World × List Event
 behind_events p a =
-    let b = (moments_due p ▷ timers_due p ▷ budgets_due p ▷ quantum_spent p) a.0 in
+    let b = (moments_due p ▶ timers_due p ▶ budgets_due p ▶ quantum_spent p) a.0 in
     (b.0, a.1 ++ b.1)
 
 behind_moments : Image → World × List Event → World × List Event
 behind_moments p a =
-    let b = (timers_due p ▷ budgets_due p ▷ quantum_spent p) a.0 in
+    let b = (timers_due p ▶ budgets_due p ▶ quantum_spent p) a.0 in
     (b.0, a.1 ++ b.1)
 
 instant-parts : (p : Image) (w : World) (n : ℕ) → instant p (idle_at w n) ≡ behind_events p (events_due p (idle_at w n))

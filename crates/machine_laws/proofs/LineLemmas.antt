@@ -9,7 +9,7 @@ use Rattle.profile_machine.specs.declared.world.World.{World}
 use Rattle.profile_machine.specs.declared.world.marks.Frame.{Frame}
 use Rattle.profile_machine.specs.declared.world.appointments.Release.{Release}
 use Rattle.profile_machine.specs.Words.{same_who, same_option}
-use Rattle.profile_machine.specs.Steps.{Said, is_part_before, put_in_order, in_order, nothing}
+use Rattle.profile_machine.specs.Steps.{Said, is_part_before, put_in_order, in_order, rests}
 use Rattle.profile_machine.specs.Dispatching.{choose}
 use Rattle.profile_machine.specs.Instant.{instant}
 use Rattle.profile_machine.specs.Run.{say, says_run, serve_if_free, serve, says_idle, opens, opening, blank_world, tock}
@@ -105,7 +105,7 @@ instants_say_effects p w = instant-leads of_effects p w
 
 -- ---- tocks
 
-says_run-lines : (same : Bool) (name : Who) (w : World) → AllAre is_of_tock (cond same nothing (say (line.Run name)) w).1
+says_run-lines : (same : Bool) (name : Who) (w : World) → AllAre is_of_tock (cond same rests (say (line.Run name)) w).1
 says_run-lines true name w = tt
 says_run-lines false name w = (refl, tt)
 

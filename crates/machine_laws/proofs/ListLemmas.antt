@@ -1,7 +1,8 @@
 -- Lists whose numbers fall, rise or follow one another, under the changes that the machine makes of its lists.
-use Rattle.std.proofs.Common.{◌≡◌, ℕ, suc, ◌<◌, ◌≤◌, Bool, true, false, cond, not, eqb, ltb, leb, ◌&&◌, List, [], ◌∷◌, ◌++◌, refl, sym, subst, arith}
+use Rattle.std.proofs.Common.{◌≡◌, ℕ, suc, ◌<◌, ◌≤◌, Bool, true, false, cond, not, eqb, ltb, leb, ◌&&◌, List, [], ◌∷◌, ◌++◌, refl, sym, subst, arith, Option, Some, None, ap, ◌∙◌}
+use Rattle.std.specs.Prelude.{find}
 use Rattle.std.specs.List.{list_all}
-use Rattle.profile_machine.specs.Words.{edit_where, without}
+use Rattle.profile_machine.specs.Words.{edit_where, without, edit_found, set_where}
 use Rattle.profile_machine.specs.WellFormed.{all_adjacent}
 
 -- ---- numbers that fall, the first below a top
@@ -22,15 +23,29 @@ pub Falls-without : {X : Type 0} (key : X → ℕ) (test : X → Bool) (top : �
 Falls-without key test top [] h = tt
 Falls-without key test top (x ∷ xs) h = kept_or_dropped key top (not (test x)) x (without test xs) h.0 (Falls-without key test (key x) xs h.1)
 
-edited-key : {X : Type 0} (key : X → ℕ) (f : X → X) → ((x : X) → key (f x) ≡ key x) → (b : Bool) (x : X) → key (cond b (f x) x) ≡ key x
-edited-key key f k true x = k x
-edited-key key f k false x = refl
+-- the one that was found is the first for which the test holds
+found-path : {X : Type 0} (x y : X) → Some x ≡ Some y → x ≡ y
+found-path x y e = cc
+
+-- one is set in the place of the one that was found, which has its number
+Falls-set : {X : Type 0} (key : X → ℕ) (test : X → Bool) (x y : X) (xs : List X) → key y ≡ key x → (top : ℕ) (b : Bool) (z : X) → cond b (Some z) (find test xs) ≡ Some x
+    → (find test xs ≡ Some x → Falls key (key z) (set_where test y xs)) → Falls key top (z ∷ xs) → Falls key top (cond b (y ∷ xs) (z ∷ set_where test y xs))
+Falls-set key test x y xs same top true z is onward h =
+    let alike : key y ≡ key z = same ∙ sym (ap key (found-path z x is)) in
+    (subst (λ n. n < top) (sym alike) h.0, subst (λ n. Falls key n xs) (sym alike) h.1)
+Falls-set key test x y xs same top false z is onward h = (h.0, onward is)
+
+Falls-set_where : {X : Type 0} (key : X → ℕ) (test : X → Bool) (x y : X) → key y ≡ key x → (top : ℕ) (xs : List X) → find test xs ≡ Some x → Falls key top xs → Falls key top (set_where test y xs)
+Falls-set_where key test x y same top [] is h = tt
+Falls-set_where key test x y same top (z ∷ zs) is h =
+    Falls-set key test x y zs same top (test z) z is (λ k. Falls-set_where key test x y same (key z) zs k h.1) h
+
+Falls-edit_found : {X : Type 0} (key : X → ℕ) (test : X → Bool) (f : X → X) → ((x : X) → key (f x) ≡ key x) → (top : ℕ) (xs : List X) (found : Option X) → find test xs ≡ found → Falls key top xs → Falls key top (edit_found test f xs found)
+Falls-edit_found key test f k top xs None is h = h
+Falls-edit_found key test f k top xs (Some x) is h = Falls-set_where key test x (f x) (k x) top xs is h
 
 pub Falls-edit_where : {X : Type 0} (key : X → ℕ) (test : X → Bool) (f : X → X) → ((x : X) → key (f x) ≡ key x) → (top : ℕ) (xs : List X) → Falls key top xs → Falls key top (edit_where test f xs)
-Falls-edit_where key test f k top [] h = tt
-Falls-edit_where key test f k top (x ∷ xs) h =
-    let same : key (cond (test x) (f x) x) ≡ key x = edited-key key f k (test x) x in
-    (subst (λ n. n < top) (sym same) h.0, subst (λ n. Falls key n (edit_where test f xs)) (sym same) (Falls-edit_where key test f k (key x) xs h.1))
+Falls-edit_where key test f k top xs h = Falls-edit_found key test f k top xs (find test xs) refl h
 
 pub both : (a b : Bool) → a ≡ true → b ≡ true → (a && b) ≡ true
 both true b p q = q
@@ -65,11 +80,24 @@ pub Rises-without : {X : Type 0} (key : X → ℕ) (test : X → Bool) (low top 
 Rises-without key test low top [] h = h
 Rises-without key test low top (x ∷ xs) h = kept_or_gone key low top (not (test x)) x (without test xs) h.0 (Rises-without key test (suc (key x)) top xs h.1)
 
+Rises-set : {X : Type 0} (key : X → ℕ) (test : X → Bool) (x y : X) (xs : List X) → key y ≡ key x → (low top : ℕ) (b : Bool) (z : X) → cond b (Some z) (find test xs) ≡ Some x
+    → (find test xs ≡ Some x → Rises key (suc (key z)) top (set_where test y xs)) → Rises key low top (z ∷ xs) → Rises key low top (cond b (y ∷ xs) (z ∷ set_where test y xs))
+Rises-set key test x y xs same low top true z is onward h =
+    let alike : key y ≡ key z = same ∙ sym (ap key (found-path z x is)) in
+    (subst (λ n. low ≤ n) (sym alike) h.0, subst (λ n. Rises key (suc n) top xs) (sym alike) h.1)
+Rises-set key test x y xs same low top false z is onward h = (h.0, onward is)
+
+Rises-set_where : {X : Type 0} (key : X → ℕ) (test : X → Bool) (x y : X) → key y ≡ key x → (low top : ℕ) (xs : List X) → find test xs ≡ Some x → Rises key low top xs → Rises key low top (set_where test y xs)
+Rises-set_where key test x y same low top [] is h = h
+Rises-set_where key test x y same low top (z ∷ zs) is h =
+    Rises-set key test x y zs same low top (test z) z is (λ k. Rises-set_where key test x y same (suc (key z)) top zs k h.1) h
+
+Rises-edit_found : {X : Type 0} (key : X → ℕ) (test : X → Bool) (f : X → X) → ((x : X) → key (f x) ≡ key x) → (low top : ℕ) (xs : List X) (found : Option X) → find test xs ≡ found → Rises key low top xs → Rises key low top (edit_found test f xs found)
+Rises-edit_found key test f k low top xs None is h = h
+Rises-edit_found key test f k low top xs (Some x) is h = Rises-set_where key test x (f x) (k x) low top xs is h
+
 pub Rises-edit_where : {X : Type 0} (key : X → ℕ) (test : X → Bool) (f : X → X) → ((x : X) → key (f x) ≡ key x) → (low top : ℕ) (xs : List X) → Rises key low top xs → Rises key low top (edit_where test f xs)
-Rises-edit_where key test f k low top [] h = h
-Rises-edit_where key test f k low top (x ∷ xs) h =
-    let same : key (cond (test x) (f x) x) ≡ key x = edited-key key f k (test x) x in
-    (subst (λ n. low ≤ n) (sym same) h.0, subst (λ n. Rises key (suc n) top (edit_where test f xs)) (sym same) (Rises-edit_where key test f k (suc (key x)) top xs h.1))
+Rises-edit_where key test f k low top xs h = Rises-edit_found key test f k low top xs (find test xs) refl h
 
 -- one at the top is put behind
 pub Rises-behind : {X : Type 0} (key : X → ℕ) (low top : ℕ) (xs : List X) (x : X) → key x ≡ top → Rises key low top xs → Rises key low (suc top) (xs ++ x ∷ [])

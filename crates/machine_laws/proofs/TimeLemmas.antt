@@ -3,12 +3,12 @@ use Rattle.std.proofs.Common.{◌≡◌, suc, List, None, ap, refl, ℤ, ◌∙�
 use Rattle.profile_machine.specs.declared.image.Image.{Image}
 use Rattle.profile_machine.specs.declared.world.World.{World}
 use Rattle.profile_machine.specs.Instant.{instant}
-use Rattle.profile_machine.specs.Run.{tock, opening, blank_world}
+use Rattle.profile_machine.specs.Run.{tock, opening, blank_world, opens}
 use Rattle.profile_machine.specs.declared.run_data.Item.{Item}
 use Rattle.profile_machine.specs.Dispatching.{choose}
 use Rattle.machine_laws.proofs.Kept.Run.{tock-parts, before_tick-leads, opens-keeps}
 use Rattle.machine_laws.proofs.AtOnce.{at_once}
-use Rattle.machine_laws.proofs.Kept.Combinators.{Keeps, Leads}
+use Rattle.machine_laws.proofs.Kept.Combinators.{Leads, settles-leads}
 use Rattle.machine_laws.proofs.Kept.Instant.{instant-leads}
 
 pub instants_take_no_time : (p : Image) (w : World) → (instant p w).0.time ≡ w.time
@@ -25,9 +25,9 @@ tocks_take_one_tick p w =
     ap (λ a. a.0.time) (tock-parts p w) ∙ ap (λ x. suc x.0) (before_tick-leads at_once (record { tells = λ event v k. refl; serves = λ r rest v k. refl }) p (choose w) w)
 
 pub opening-now : (p : Image) (script : List (ℤ × Item)) → (opening p script).0.time ≡ 0
-unfolding Keeps
-opening-now p script = ap (λ x. x.0) (opens-keeps at_once p (blank_world p script))
+unfolding Leads
+opening-now p script = ap (λ x. x.0) (settles-leads at_once (opens p) (opens-keeps at_once p) (blank_world p script))
 
 pub opening-runner : (p : Image) (script : List (ℤ × Item)) → (opening p script).0.ran ≡ None
-unfolding Keeps
-opening-runner p script = ap (λ x. x.1) (opens-keeps at_once p (blank_world p script))
+unfolding Leads
+opening-runner p script = ap (λ x. x.1) (settles-leads at_once (opens p) (opens-keeps at_once p) (blank_world p script))

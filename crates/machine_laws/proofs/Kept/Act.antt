@@ -45,18 +45,22 @@ use Rattle.machine_laws.proofs.Kept.Handlers.{call_handler-keeps, set_event-keep
 
 module _ {R : StepRelation} {Q : MoveRelation} (moves : Moves R Q) where
   pub call_main-keeps : (p : Image) (name : Who) (s : StatementNo) → Keeps R (call_main p name s)
+  unfolding call_main
   call_main-keeps p name s = search (with_room-keeps, goes-keeps, then-keeps, looks-keeps, changes-keeps, open_scope-alters)
 
   pub call-keeps : (p : Image) (name : Who) (s : StatementNo) (callee : Callee) (actuals : List Actual) (to : Destination) → Keeps R (call p name s callee actuals to)
+  unfolding call
   call-keeps p name s (callee.Subprogram f) actuals to = search (call_subprogram-keeps)
   call-keeps p name s (callee.Operation d f) actuals to = search (call_operation-keeps)
   call-keeps p name s (callee.OwnOperation f) actuals to = search (call_own_operation-keeps)
 
   pub handle_or_pass-keeps : (p : Image) (name : Who) (e : Raised) (next : Option StatementNo) → Keeps R (handle_or_pass p name e next)
+  unfolding handle_or_pass
   handle_or_pass-keeps p name e None = search (pass_on-keeps)
   handle_or_pass-keeps p name e (Some first) = search (changes-keeps, edit_top-alters, then-keeps, goes-keeps)
 
   pub behind_handled-keeps : (p : Image) (name : Who) (s : StatementNo) (leaving : Leaving) → Keeps R (behind_handled p name s leaving)
+  unfolding behind_handled
   behind_handled-keeps p name s (how.Exception e) = search (handle_or_pass-keeps)
   behind_handled-keeps p name s how.End = search (nothing-keeps)
   behind_handled-keeps p name s how.Return = search (pass_on-keeps)
@@ -65,12 +69,15 @@ module _ {R : StepRelation} {Q : MoveRelation} (moves : Moves R Q) where
   behind_handled-keeps p name s how.Terminate = search (pass_on-keeps)
 
   pub end_handled-keeps : (p : Image) (name : Who) (s : StatementNo) (leaving : Leaving) → Keeps R (end_handled p name s leaving)
+  unfolding end_handled
   end_handled-keeps p name s leaving = search (changes-keeps, pop-alters, then-keeps, behind_handled-keeps)
 
   pub end_top-keeps : (p : Image) (name : Who) → Keeps R (end_top p name)
+  unfolding end_top
   end_top-keeps p name = search (looks-keeps, end_top_abortable-keeps)
 
   pub wait_for_trigger-keeps : (p : Image) (name : Who) (c : Call) (leaving : Leaving) → Keeps R (wait_for_trigger p name c leaving)
+  unfolding wait_for_trigger
   wait_for_trigger-keeps p name c leaving = search (changes-keeps, edit_top-alters, then-keeps, block-keeps)
 
   pub drop_trigger-alters : (name : Who) (depth : ℕ) → Alters R (drop_trigger name depth)
@@ -78,12 +85,15 @@ module _ {R : StepRelation} {Q : MoveRelation} (moves : Moves R Q) where
   drop_trigger-alters who.Agent depth = search (unchanged-alters)
 
   pub end_abortable_by-keeps : (p : Image) (name : Who) (m : AbortableMark) (leaving : Leaving) → Keeps R (end_abortable_by p name m leaving)
+  unfolding end_abortable_by
   end_abortable_by-keeps p name m leaving = option-keeps moves m.call (looks (λ w. changes (drop_trigger name (below (frames_of w name)))) ▷ end_top p name) (λ c. with_call c (λ d. attempt_with p own d (end_top p name) (wait_for_trigger p name d leaving))) (search (looks-keeps, changes-keeps, drop_trigger-alters, then-keeps, end_top-keeps)) (λ c. search (with_call-keeps, attempt_with-keeps, end_top-keeps, wait_for_trigger-keeps))
 
   pub end_in_abortable-keeps : (p : Image) (name : Who) (m : AbortableMark) (leaving : Leaving) → Keeps R (end_in_abortable p name m leaving)
+  unfolding end_in_abortable
   end_in_abortable-keeps p name m leaving = search (cond-keeps, end_top-keeps, end_abortable_by-keeps)
 
   pub act_statement-keeps : (p : Image) (name : Who) (s : StatementNo) (form : StatementForm) → Keeps R (act_statement p name s form)
+  unfolding act_statement
   act_statement-keeps p name s (form.Declare object) = search (declare-keeps)
   act_statement-keeps p name s (form.Initialize object) = search (initialize-keeps)
   act_statement-keeps p name s (form.CreateTask object part) = search (create-keeps)
@@ -136,6 +146,7 @@ module _ {R : StepRelation} {Q : MoveRelation} (moves : Moves R Q) where
   act_statement-keeps p name s (form.DelayUntilAndSetDeadline until offset) = search (delay_and_set_deadline-keeps)
 
   pub end_mark-keeps : (p : Image) (name : Who) (f : Frame) (mark : Mark) → Keeps R (end_mark p name f mark)
+  unfolding end_mark
   end_mark-keeps p name f (Scope m) = search (end_scope_mark-keeps)
   end_mark-keeps p name f (Handled s) = search (end_handled-keeps)
   end_mark-keeps p name f (InProtected m) = search (end_in_protected-keeps)
@@ -146,16 +157,20 @@ module _ {R : StepRelation} {Q : MoveRelation} (moves : Moves R Q) where
   end_mark-keeps p name f (InAssign m) = search (end_in_assign-keeps)
 
   pub act_frame-keeps : (p : Image) (name : Who) (f : Frame) (next : Option StatementNo) → Keeps R (act_frame p name f next)
+  unfolding act_frame
   act_frame-keeps p name f (Some s) = search (act_statement-keeps)
   act_frame-keeps p name f None = search (end_mark-keeps)
 
   pub act_without-keeps : (p : Image) (release : Option Release) → Keeps R (act_without p release)
+  unfolding act_without
   act_without-keeps p None = search (nothing-keeps)
   act_without-keeps p (Some r) = search (call_handler-keeps)
 
   pub act_top-keeps : (p : Image) (name : Who) (f : Option Frame) → Keeps R (act_top p name f)
+  unfolding act_top
   act_top-keeps p name None = search (looks-keeps, act_without-keeps)
   act_top-keeps p name (Some f) = search (act_frame-keeps)
 
   pub act-keeps : (p : Image) (name : Who) → Keeps R (act p name)
+  unfolding act
   act-keeps p name = search (looks-keeps, act_top-keeps)

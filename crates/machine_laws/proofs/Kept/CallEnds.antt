@@ -25,7 +25,7 @@ use Rattle.profile_machine.specs.Operators.{Valued, checked}
 use Rattle.profile_machine.specs.CallEnds.{go_by_outcome, resume, store, or_stored, copy_back, with_results, edit_frame, edit_abortable_at, trigger_at, trigger_outcome, forget_trigger, run_triggered, ended_by_itself, behind_abortable, end_abortable, end_abortable_in, end_top_abortable, end_wait, waits_for_end, end_for_abortable, end_for_caller, end_for, end_with, end_call, deliver, gone}
 use Rattle.std.specs.Prelude.{slice_set}
 use Rattle.machine_laws.proofs.Moves.{StepRelation, MoveRelation, Moves}
-use Rattle.machine_laws.proofs.Kept.Combinators.{Keeps, Alters, Gives, bind-gives, branch-keeps, changes-keeps, looks-keeps, nothing-keeps, ok-gives, says-keeps, then-keeps, unchanged-alters, when-keeps}
+use Rattle.machine_laws.proofs.Kept.Combinators.{Keeps, Alters, Gives, bind-gives, branch-keeps, changes-keeps, looks-keeps, nothing-keeps, ok-gives, says-keeps, then-keeps, unchanged-alters, when-keeps, changes_then-from, keeps-from, looks-from}
 use Rattle.machine_laws.proofs.Kept.Tasks.{edit_task-alters}
 use Rattle.machine_laws.proofs.Kept.Dispatching.{ready-keeps}
 use Rattle.machine_laws.proofs.Kept.Frames.{goes-keeps, pop-alters, leaves-keeps, raises-keeps, pass_on-keeps, open_sequence-keeps}
@@ -34,12 +34,14 @@ use Rattle.machine_laws.proofs.Kept.Unwinding.{unwind-keeps}
 
 module _ {R : StepRelation} {Q : MoveRelation} (moves : Moves R Q) where
   pub go_by_outcome-keeps : (p : Image) (part : Part) (name : Who) (s : StatementNo) (outcome : Outcome) → Keeps R (go_by_outcome p part name s outcome)
+  unfolding go_by_outcome
   go_by_outcome-keeps p part name s call_ended.Finished = search (goes-keeps)
   go_by_outcome-keeps p part name s call_ended.Cancelled = search (goes-keeps)
   go_by_outcome-keeps p part name s (call_ended.ToRaise e) = search (raises-keeps)
   go_by_outcome-keeps p part name s (call_ended.WasRaised e) = search (leaves-keeps)
 
   pub resume-keeps : (p : Image) (part : Part) (c : Call) (outcome : Outcome) → Keeps R (resume p part c outcome)
+  unfolding resume
   resume-keeps p part c outcome = search (changes-keeps, forget_call-alters, then-keeps, go_by_outcome-keeps)
 
   pub store-gives : (p : Image) (v : Variable) (value : Value) (w : World) → Gives R w (store p v value w)
@@ -71,6 +73,7 @@ module _ {R : StepRelation} {Q : MoveRelation} (moves : Moves R Q) where
   edit_abortable_at-alters name depth f = search (edit_frame-alters)
 
   pub trigger_at-keeps : (p : Image) (part : Part) (t : TaskNo) (depth : ℕ) → Keeps R (trigger_at p part t depth)
+  unfolding trigger_at
   trigger_at-keeps p part t depth = search (changes-keeps, edit_abortable_at-alters, then-keeps, says-keeps, edit_frame-alters) depth 7
 
   pub forget_trigger-alters : (c : Option CallNo) → Alters R (forget_trigger c)
@@ -78,49 +81,61 @@ module _ {R : StepRelation} {Q : MoveRelation} (moves : Moves R Q) where
   forget_trigger-alters (Some c) = search (forget_call-alters)
 
   pub run_triggered-keeps : (p : Image) (part : Part) (name : Who) (select : StatementNo) (outcome : Outcome) → Keeps R (run_triggered p part name select outcome)
+  unfolding run_triggered
   run_triggered-keeps p part name select call_ended.Finished = search (goes-keeps)
   run_triggered-keeps p part name select call_ended.Cancelled = search (nothing-keeps)
   run_triggered-keeps p part name select (call_ended.ToRaise e) = search (raises-keeps)
   run_triggered-keeps p part name select (call_ended.WasRaised e) = search (leaves-keeps)
 
   pub behind_abortable-keeps : (p : Image) (part : Part) (name : Who) (m : AbortableMark) (outcome : Outcome) → Keeps R (behind_abortable p part name m outcome)
+  unfolding behind_abortable
   behind_abortable-keeps p part name m outcome = search (when-keeps, run_triggered-keeps)
 
   pub end_abortable-keeps : (p : Image) (part : Part) (name : Who) (m : AbortableMark) (f : Frame) (below : List Frame) → Keeps R (end_abortable p part name m f below)
+  unfolding end_abortable
   end_abortable-keeps p part name m f below = looks-keeps moves _ (λ w. then-keeps moves (changes (pop name)) _ (search (changes-keeps, pop-alters)) (then-keeps moves (changes (forget_trigger m.call)) _ (search (changes-keeps, forget_trigger-alters)) (branch-keeps moves (ended_by_itself f below) (behind_abortable p part name m (trigger_outcome w m.call)) (pass_on p name (leaving_of f)) (search (behind_abortable-keeps)) (search (pass_on-keeps)))))
 
   pub end_abortable_in-keeps : (p : Image) (part : Part) (name : Who) (f : Frame) (below : List Frame) (mark : Mark) → Keeps R (end_abortable_in p part name f below mark)
+  unfolding end_abortable_in
   end_abortable_in-keeps p part name f below (Abortable m) = search (end_abortable-keeps)
   end_abortable_in-keeps p part name f below _ = search (nothing-keeps)
 
   pub end_top_abortable-keeps : (p : Image) (part : Part) (name : Who) (frames : List Frame) → Keeps R (end_top_abortable p part name frames)
+  unfolding end_top_abortable
   end_top_abortable-keeps p part name [] = search (nothing-keeps)
   end_top_abortable-keeps p part name (f ∷ below) = search (end_abortable_in-keeps)
 
   pub end_wait-keeps : (p : Image) (part : Part) (c : Call) (depth : ℕ) (outcome : Outcome) → Keeps R (end_wait p part c depth outcome)
+  unfolding end_wait
   end_wait-keeps p part c depth outcome = search (ready-keeps, then-keeps, changes-keeps, edit_abortable_at-alters, looks-keeps, end_top_abortable-keeps, open_sequence-keeps) depth 7
 
   pub end_for_abortable-keeps : (p : Image) (part : Part) (c : Call) (depth : ℕ) (outcome : Outcome) → Keeps R (end_for_abortable p part c depth outcome)
+  unfolding end_for_abortable
   end_for_abortable-keeps p part c depth outcome = looks-keeps moves _ (λ w. branch-keeps moves (waits_for_end c.number (waiting_of w (who.Task c.caller))) (end_wait p part c depth outcome) (trigger_at p part c.caller depth) (search (end_wait-keeps)) (search (trigger_at-keeps)))
 
   pub end_for_caller-keeps : (p : Image) (part : Part) (c : Call) (outcome : Outcome) → Keeps R (end_for_caller p part c outcome)
+  unfolding end_for_caller
   end_for_caller-keeps p part c outcome = search (looks-keeps, when-keeps, ready-keeps, then-keeps, resume-keeps, open_sequence-keeps) depth 6
 
   pub end_for-keeps : (p : Image) (part : Part) (c : Call) (outcome : Outcome) (n : Option ℕ) → Keeps R (end_for p part c outcome n)
+  unfolding end_for
   end_for-keeps p part c outcome (Some depth) = search (end_for_abortable-keeps)
   end_for-keeps p part c outcome None = search (end_for_caller-keeps)
 
   pub end_with-keeps : (p : Image) (part : Part) (c : Call) (outcome : Outcome) → Keeps R (end_with p part c outcome)
+  unfolding end_with
   end_with-keeps p part c outcome = search (changes-keeps, edit_call-alters, then-keeps, looks-keeps, end_for-keeps)
 
   pub end_call-keeps : (p : Image) (part : Part) (c : Call) (outcome : Outcome) → Keeps R (end_call p part c outcome)
-  unfolding Keeps
-  end_call-keeps p part c outcome w =
-      let r = with_results p c outcome w in
-      moves.goes_on w r.0 (end_with p part c r.1 r.0).0 (with_results-world p c outcome w) (end_with-keeps p part c r.1 r.0)
+  unfolding end_call
+  end_call-keeps p part c outcome =
+      looks-from moves _ (λ w. let r = with_results p c outcome w in
+      changes_then-from moves (λ _. r.0) (end_with p part c r.1) w (with_results-world p c outcome w) (keeps-from moves (end_with p part c r.1) r.0 (end_with-keeps p part c r.1)))
 
   pub deliver-keeps : (p : Image) (part : Part) (c : CallNo) (outcome : Outcome) → Keeps R (deliver p part c outcome)
+  unfolding deliver
   deliver-keeps p part c outcome = search (with_call-keeps, end_call-keeps, then-keeps, unwind-keeps)
 
   pub gone-keeps : (p : Image) (part : Part) (c : Call) → Keeps R (gone p part c)
+  unfolding gone
   gone-keeps p part c = search (changes-keeps, unqueued-alters, then-keeps, says-keeps)

@@ -29,6 +29,7 @@ module _ {R : StepRelation} {Q : MoveRelation} (moves : Moves R Q) where
   with_call-keeps c f kept = search (looks-keeps, for_some-keeps)
 
   pub says_call-keeps : (p : Image) (part : Part) (c : Call) → Keeps R (says_call p part c)
+  unfolding says_call
   says_call-keeps p part c = search (says-keeps)
 
   pub edit_object-alters : (o : ObjectNo) (f : Object → Object) → ((x : Object) → (f x).number ≡ x.number) → Alters R (edit_object o f)
@@ -46,6 +47,7 @@ module _ {R : StepRelation} {Q : MoveRelation} (moves : Moves R Q) where
       moves.goes_on w unbegun (enqueued p c w) (moves.edits_call c.number (λ d. record d { begun = false }) w (λ d. refl)) (edit_queue-alters c.owner (place_of_entry p c.entry) (put_call p.policies.queuing w c.number c.priority) unbegun)
 
   pub enqueue-keeps : (p : Image) (c : CallNo) → Keeps R (enqueue p c)
+  unfolding enqueue
   enqueue-keeps p c = search (with_call-keeps, changes-keeps, enqueued-alters)
 
   pub unqueued-alters : (p : Image) (c : Call) → Alters R (unqueued p c)
@@ -55,6 +57,7 @@ module _ {R : StepRelation} {Q : MoveRelation} (moves : Moves R Q) where
       moves.goes_on w taken (unqueued p c w) (edit_queue-alters c.owner (place_of_entry p c.entry) (take_call c.number) w) (moves.drops_appointment (is_timeout_of c.number) taken)
 
   pub attempt_on-keeps : (p : Image) (part : Part) (c : Call) → Keeps R (attempt_on p part c)
+  unfolding attempt_on
   attempt_on-keeps p part c = branch-keeps moves (is_cancellable c) (changes (unqueued p c) ▷ says part (line.Cancel c.caller c.number)) (changes (edit_call c.number (λ d. record d { attempted = true }))) (search (changes-keeps, unqueued-alters, then-keeps, says-keeps)) (search (changes-keeps, edit_call-alters))
 
   pub attempt_with-keeps : (p : Image) (part : Part) (c : Call) (cancels stays : Step) → Keeps R cancels → Keeps R stays → Keeps R (attempt_with p part c cancels stays)

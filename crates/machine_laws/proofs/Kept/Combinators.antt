@@ -1,26 +1,30 @@
 -- Steps and moves that are put together of those that keep a relation keep it.
-use Rattle.std.proofs.Common.{◌≡◌, Bool, true, false, cond, List, [], ◌∷◌, Option, Some, None}
+use Rattle.std.proofs.Common.{◌≡◌, Bool, true, false, cond, List, [], ◌∷◌, ◌++◌, Option, Some, None, refl, sym, subst, ap, ◌∙◌, append_assoc, append-nil}
 use Rattle.std.specs.Prelude.{Ok, Err}
 use Rattle.trace_text.specs.declared.events.Event.{Event}
 use Rattle.trace_text.specs.declared.events.Who.{Who}
 use Rattle.profile_machine.specs.declared.image.Image.{Image}
 use Rattle.profile_machine.specs.declared.world.World.{World}
-use Rattle.profile_machine.specs.Steps.{Step, Move, Part, nothing, changes, says, looks, when, for_some, for_each, settles, ◌▷◌}
+use Rattle.profile_machine.specs.Steps.{Step, Move, Done, done, Part, Said, goes_on_with, nothing, changes, says, looks, when, for_some, for_each, placed_by, settled, settles, rests, watches, ◌▷◌, ◌▶◌}
 use Rattle.profile_machine.specs.Operators.{Valued, ◌>>=◌}
 use Rattle.profile_machine.specs.Values.{Seen, seen_by}
 use Rattle.profile_machine.specs.Statements.{sees}
-use Rattle.machine_laws.proofs.Moves.{StepRelation, MoveRelation, Moves}
+use Rattle.machine_laws.proofs.Moves.{StepRelation, MoveRelation, Moves, lines_of}
 use Rattle.machine_laws.specs.LineKinds.{is_of_effect}
 
 -- ---- what it is to keep a relation
 
--- a step leads from each world to one that stands so to it
+-- what a step has led to stands so to the world from which it went on, by the lines that it has said behind the others
+unfoldable pub Kept : StepRelation → World → List Said → Done → Type 0
+Kept R w said (done v ys) = (xs : List Said) × (ys ≡ said ++ xs) × R w xs v
+
+-- a step leads from each world, whatever was said before, to one that stands so to it
 unfoldable pub Keeps : StepRelation → Step → Type 0
-Keeps R step = (w : World) → R w (step w).1 (step w).0
+Keeps R step = (w : World) (said : List Said) → Kept R w said (step w said)
 
 -- the same from one world
 unfoldable pub From : StepRelation → World → Step → Type 0
-From R w step = R w (step w).1 (step w).0
+From R w step = (said : List Said) → Kept R w said (step w said)
 
 -- a change of the world
 unfoldable pub Alters : StepRelation → (World → World) → Type 0
@@ -35,36 +39,62 @@ Gives R w (Err e) = Unit {0}
 unfoldable pub Leads : MoveRelation → Move → Type 0
 Leads Q move = (w : World) → Q w (move w).1 (move w).0
 
+-- the world to which a step has led
+abbrev pub world_behind : Done → World
+world_behind (done w said) = w
+
+-- it stands so to the one before, by some lines
+pub kept-world : (R : StepRelation) (w : World) (said : List Said) (d : Done) → Kept R w said d → (xs : List Said) × R w xs (world_behind d)
+unfolding Kept
+kept-world R w said (done v ys) k = (k.0, k.2)
+
 module _ {R : StepRelation} {Q : MoveRelation} (moves : Moves R Q) where
+  -- ---- what steps lead to
+
+  -- a step that says nothing
+  pub silent-kept : (w v : World) (said : List Said) → R w [] v → Kept R w said (done v said)
+  unfolding Kept
+  silent-kept w v said a = ([], sym (append-nil said), a)
+
+  -- one step behind another
+  pub then-kept : (w v : World) (said ys : List Said) (d : Done) → Kept R w said (done v ys) → Kept R v ys d → Kept R w said d
+  unfolding Kept
+  then-kept w v said ys (done u zs) a b =
+      (a.0 ++ b.0, b.1 ∙ ap (λ xs. xs ++ b.0) a.1 ∙ append_assoc said a.0 b.0, moves.goes_on w v u a.2 b.2)
+
+  goes_on_with-kept : (g : Step) (w : World) (said : List Said) (d : Done) → Kept R w said d → Keeps R g → Kept R w said (goes_on_with g d)
+  unfolding Keeps
+  goes_on_with-kept g w said (done v ys) a b = then-kept w v said ys (g v ys) a (b v ys)
+
   -- ---- steps
 
   pub then-keeps : (f g : Step) → Keeps R f → Keeps R g → Keeps R (f ▷ g)
   unfolding Keeps
-  then-keeps f g a b w = moves.goes_on w (f w).0 (g (f w).0).0 (a w) (b (f w).0)
+  then-keeps f g a b w said = goes_on_with-kept g w said (f w said) (a w said) b
 
   pub nothing-keeps : Keeps R nothing
   unfolding Keeps
-  nothing-keeps w = moves.stays w
+  nothing-keeps w said = silent-kept w w said (moves.stays w)
 
   pub changes-keeps : (f : World → World) → Alters R f → Keeps R (changes f)
   unfolding Keeps Alters
-  changes-keeps f a w = a w
+  changes-keeps f a w said = silent-kept w (f w) said (a w)
 
   pub unchanged-alters : Alters R (λ w. w)
   unfolding Alters
   unchanged-alters w = moves.stays w
 
   pub says-keeps : (part : Part) (event : Event) → is_of_effect event ≡ true → Keeps R (says part event)
-  unfolding Keeps
-  says-keeps part event a w = moves.says part event w a
+  unfolding Keeps Kept
+  says-keeps part event a w said = (record { part = part; event = event } ∷ [], refl, moves.says part event w a)
 
   pub looks-keeps : (f : World → Step) → ((v : World) → Keeps R (f v)) → Keeps R (looks f)
   unfolding Keeps
-  looks-keeps f a w = a w w
+  looks-keeps f a w said = a w w said
 
   pub sees-keeps : (p : Image) (name : Who) (f : Seen → Step) → ((q : Seen) → Keeps R (f q)) → Keeps R (sees p name f)
   unfolding Keeps
-  sees-keeps p name f a w = a (seen_by p w name) w
+  sees-keeps p name f a w said = a (seen_by p w name) w said
 
   pub branch-keeps : (b : Bool) (f g : Step) → Keeps R f → Keeps R g → Keeps R (elim b as (λ _. Step) [ true ↦ f | false ↦ g ])
   branch-keeps true f g a b = a
@@ -94,27 +124,28 @@ module _ {R : StepRelation} {Q : MoveRelation} (moves : Moves R Q) where
 
   pub looks-from : (f : World → Step) → ((w : World) → From R w (f w)) → Keeps R (looks f)
   unfolding Keeps From
-  looks-from f a w = a w
+  looks-from f a w said = a w said
 
   pub keeps-from : (f : Step) (w : World) → Keeps R f → From R w f
   unfolding Keeps From
-  keeps-from f w a = a w
+  keeps-from f w a said = a w said
 
   pub looks_at-from : (f : World → Step) (w : World) → From R w (f w) → From R w (looks f)
   unfolding From
-  looks_at-from f w a = a
+  looks_at-from f w a said = a said
 
   pub then-from : (f g : Step) (w : World) → From R w f → Keeps R g → From R w (f ▷ g)
-  unfolding Keeps From
-  then-from f g w a b = moves.goes_on w (f w).0 (g (f w).0).0 a (b (f w).0)
-
-  pub then_on-from : (f g : Step) (w : World) → From R w f → From R (f w).0 g → From R w (f ▷ g)
   unfolding From
-  then_on-from f g w a b = moves.goes_on w (f w).0 (g (f w).0).0 a b
+  then-from f g w a b said = goes_on_with-kept g w said (f w said) (a said) b
 
   pub changes-from : (f : World → World) (w : World) → R w [] (f w) → From R w (changes f)
   unfolding From
-  changes-from f w a = a
+  changes-from f w a said = silent-kept w (f w) said a
+
+  -- a change, and a step from the world that it makes
+  pub changes_then-from : (f : World → World) (g : Step) (w : World) → R w [] (f w) → From R (f w) g → From R w (changes f ▷ g)
+  unfolding From
+  changes_then-from f g w a b said = then-kept w (f w) said said (g (f w) said) (silent-kept w (f w) said a) (b said)
 
   -- ---- worlds that may be exceptions
 
@@ -139,23 +170,27 @@ module _ {R : StepRelation} {Q : MoveRelation} (moves : Moves R Q) where
 
   -- ---- moves
 
-  pub then-leads : (f g : Move) → Leads Q f → Leads Q g → Leads Q (f ▷ g)
+  pub then-leads : (f g : Move) → Leads Q f → Leads Q g → Leads Q (f ▶ g)
   unfolding Leads
   then-leads f g a b w = moves.leads_on w (f w).0 (g (f w).0).0 (a w) (b (f w).0)
 
-  pub nothing-leads : Leads Q nothing
+  pub rests-leads : Leads Q rests
   unfolding Leads
-  nothing-leads w = moves.rests w
+  rests-leads w = moves.rests w
 
-  pub looks-leads : (f : World → Move) → ((v : World) → Leads Q (f v)) → Leads Q (looks f)
+  pub watches-leads : (f : World → Move) → ((v : World) → Leads Q (f v)) → Leads Q (watches f)
   unfolding Leads
-  looks-leads f a w = a w w
+  watches-leads f a w = a w w
 
   pub branch-leads : (b : Bool) (f g : Move) → Leads Q f → Leads Q g → Leads Q (elim b as (λ _. Move) [ true ↦ f | false ↦ g ])
   branch-leads true f g a b = a
   branch-leads false f g a b = b
 
   -- an effect is over
+  settled-kept : (w : World) (d : Done) → Kept R w [] d → Q w (settled d).1 (settled d).0
+  unfolding Kept
+  settled-kept w (done v ys) a = subst (λ xs. Q w (lines_of xs) (placed_by (lines_of xs) v)) (sym a.1) (moves.settles w v a.0 a.2)
+
   pub settles-leads : (step : Step) → Keeps R step → Leads Q (settles step)
   unfolding Keeps Leads
-  settles-leads step a w = moves.settles w (step w).0 (step w).1 (a w)
+  settles-leads step a w = settled-kept w (step w []) (a w [])

@@ -28,9 +28,11 @@ use Rattle.machine_laws.proofs.Kept.Scopes.{write_cell-alters, open_scope-alters
 
 module _ {R : StepRelation} {Q : MoveRelation} (moves : Moves R Q) where
   pub open_operation-keeps : (p : Image) (name : Who) (f : SubprogramNo) (l : Located) → Keeps R (open_operation p name f l)
+  unfolding open_operation
   open_operation-keeps p name f l = search (looks-keeps, changes-keeps, open_scope-alters)
 
   pub register-keeps : (p : Image) (name : Who) (l : Located) → Keeps R (register p name l)
+  unfolding register
   register-keeps p name l =
       looks-from moves _ (λ w. let n = suc w.drawn.controlled in
       then-from moves (changes (registered_as n (top_region w name) l)) (changes (write_cell l.within (first_place p l) (Thing n)) ▷ says own (line.Init name n (top_region w name) (declaration_of p l.declared).name)) w
@@ -38,22 +40,27 @@ module _ {R : StepRelation} {Q : MoveRelation} (moves : Moves R Q) where
       (search (then-keeps, changes-keeps, write_cell-alters, says-keeps)))
 
   pub initialize_by-keeps : (p : Image) (name : Who) (s : StatementNo) (l : Located) (f : Option SubprogramNo) → Keeps R (initialize_by p name s l f)
+  unfolding initialize_by
   initialize_by-keeps p name s l None = search (goes-keeps, then-keeps, register-keeps)
   initialize_by-keeps p name s l (Some f) = search (with_room-keeps, goes-keeps, then-keeps, changes-keeps, push-alters, open_operation-keeps)
 
   pub initialize-keeps : (p : Image) (name : Who) (s : StatementNo) (d : DeclNo) → Keeps R (initialize p name s d)
+  unfolding initialize
   initialize-keeps p name s d = search (sees-keeps, given-keeps, initialize_by-keeps) depth 6
 
   pub end_in_initialize-keeps : (p : Image) (name : Who) (l : Located) (leaving : Leaving) → Keeps R (end_in_initialize p name l leaving)
+  unfolding end_in_initialize
   end_in_initialize-keeps p name l leaving = search (changes-keeps, pop-alters, then-keeps, cond-keeps, register-keeps, pass_on-keeps)
 
   pub edit_top_scope-alters : (name : Who) (f : ScopeMark → ScopeMark) → Alters R (edit_top_scope name f)
   edit_top_scope-alters name f = search (edit_top-alters)
 
   pub open_finalize-keeps : (p : Image) (name : Who) (n : ℕ) (l : Located) (f : SubprogramNo) → Keeps R (open_finalize p name n l f)
+  unfolding open_finalize
   open_finalize-keeps p name n l f = search (changes-keeps, push-alters, then-keeps, open_operation-keeps)
 
   pub finalize_by-keeps : (p : Image) (name : Who) (r : Registered) (f : Option SubprogramNo) → Keeps R (finalize_by p name r f)
+  unfolding finalize_by
   finalize_by-keeps p name r None = search (nothing-keeps)
   finalize_by-keeps p name r (Some f) = looks-keeps moves _ (λ w. branch-keeps moves (has_room_to_finalize p w name f) (open_finalize p name r.object r.located f) (changes (edit_top_scope name finalize_has_raised)) (search (open_finalize-keeps)) (search (changes-keeps, edit_top_scope-alters)))
 
@@ -62,9 +69,11 @@ module _ {R : StepRelation} {Q : MoveRelation} (moves : Moves R Q) where
   no_longer_registered-alters n w = moves.unregisters n w
 
   pub finalize-keeps : (p : Image) (name : Who) (r : Registered) → Keeps R (finalize p name r)
+  unfolding finalize
   finalize-keeps p name r = search (says-keeps, then-keeps, changes-keeps, no_longer_registered-alters, finalize_by-keeps) depth 6
 
   pub behind_finalize-keeps : (p : Image) (name : Who) (leaving : Leaving) (test : Bool) → Keeps R (behind_finalize p name leaving test)
+  unfolding behind_finalize
   behind_finalize-keeps p name (how.Exception e) true = search (pass_on-keeps)
   behind_finalize-keeps p name (how.Exception e) false = search (changes-keeps, edit_top_scope-alters)
   behind_finalize-keeps p name how.End of_assignment = search (nothing-keeps)
@@ -74,33 +83,41 @@ module _ {R : StepRelation} {Q : MoveRelation} (moves : Moves R Q) where
   behind_finalize-keeps p name how.Terminate of_assignment = search (nothing-keeps)
 
   pub end_in_finalize-keeps : (p : Image) (name : Who) (leaving : Leaving) → Keeps R (end_in_finalize p name leaving)
+  unfolding end_in_finalize
   end_in_finalize-keeps p name leaving = search (changes-keeps, pop-alters, then-keeps, looks-keeps, behind_finalize-keeps)
 
   pub begin_assignment-keeps : (p : Image) (name : Who) (s : StatementNo) (target source : ℕ) → Keeps R (begin_assignment p name s target source)
+  unfolding begin_assignment
   begin_assignment-keeps p name s target source = search (with_room-keeps, goes-keeps, then-keeps, says-keeps, changes-keeps, push-alters) depth 6
 
   pub assign_registered-keeps : (p : Image) (name : Who) (s : StatementNo) (target source : Option Registered) → Keeps R (assign_registered p name s target source)
+  unfolding assign_registered
   assign_registered-keeps p name s (Some target) (Some source) = search (begin_assignment-keeps)
   assign_registered-keeps p name s (Some target) None = search (raises-keeps)
   assign_registered-keeps p name s None source = search (raises-keeps)
 
   pub assign_located-keeps : (p : Image) (name : Who) (s : StatementNo) (target source : Located) → Keeps R (assign_located p name s target source)
+  unfolding assign_located
   assign_located-keeps p name s target source = search (cond-keeps, goes-keeps, looks-keeps, assign_registered-keeps)
 
   pub assign_controlled-keeps : (p : Image) (name : Who) (s : StatementNo) (target source : DeclNo) → Keeps R (assign_controlled p name s target source)
+  unfolding assign_controlled
   assign_controlled-keeps p name s target source = search (sees-keeps, given-keeps, assign_located-keeps) depth 6
 
   pub edit_top_assign-alters : (name : Who) (f : AssignMark → AssignMark) → Alters R (edit_top_assign name f)
   edit_top_assign-alters name f = search (edit_top-alters)
 
   pub leave_without_room-keeps : (name : Who) → Keeps R (leave_without_room name)
+  unfolding leave_without_room
   leave_without_room-keeps name = search (leaves-keeps)
 
   pub finalize_target_by-keeps : (p : Image) (name : Who) (r : Registered) (f : Option SubprogramNo) → Keeps R (finalize_target_by p name r f)
+  unfolding finalize_target_by
   finalize_target_by-keeps p name r None = search (nothing-keeps)
   finalize_target_by-keeps p name r (Some f) = looks-keeps moves _ (λ w. branch-keeps moves (has_room_to_finalize p w name f) (open_finalize p name r.object r.located f) (leave_without_room name) (search (open_finalize-keeps)) (search (leave_without_room-keeps)))
 
   pub adjust_by-keeps : (p : Image) (name : Who) (r : Registered) (f : Option SubprogramNo) → Keeps R (adjust_by p name r f)
+  unfolding adjust_by
   adjust_by-keeps p name r None = search (nothing-keeps)
   adjust_by-keeps p name r (Some f) = looks-keeps moves _ (λ w. branch-keeps moves (has_room_to_adjust p w name f) (open_operation p name f r.located) (leave_without_room name) (search (open_operation-keeps)) (search (leave_without_room-keeps)))
 
@@ -123,5 +140,6 @@ module _ {R : StepRelation} {Q : MoveRelation} (moves : Moves R Q) where
   step_with-keeps p name step None source = search (changes-keeps, pop-alters)
 
   pub end_in_assign-keeps : (p : Image) (name : Who) (m : AssignMark) (leaving : Option Leaving) → Keeps R (end_in_assign p name m leaving)
+  unfolding end_in_assign
   end_in_assign-keeps p name m (Some (how.Exception e)) = search (changes-keeps, pop-alters, then-keeps, raises-keeps)
   end_in_assign-keeps p name m _ = search (looks-keeps, step_with-keeps)

@@ -30,7 +30,7 @@ use Rattle.profile_machine.specs.Declarations.{default_cells, set_defaults, init
 use Rattle.std.proofs.Common.{refl}
 use Rattle.profile_machine.specs.Values.{seen_by}
 use Rattle.machine_laws.proofs.Moves.{StepRelation, MoveRelation, Moves}
-use Rattle.machine_laws.proofs.Kept.Combinators.{Keeps, Alters, Gives, bind-gives, changes-keeps, looks-from, next-gives, ok-gives, then-keeps}
+use Rattle.machine_laws.proofs.Kept.Combinators.{Keeps, Alters, Gives, bind-gives, changes-keeps, looks-from, next-gives, ok-gives, then-keeps, looks-keeps, says-keeps}
 use Rattle.machine_laws.proofs.Kept.Frames.{given-from, given_world-from, goes-keeps}
 use Rattle.machine_laws.proofs.Kept.Scopes.{write_cell-alters}
 use Rattle.machine_laws.proofs.Kept.CallEnds.{store-gives}
@@ -70,10 +70,11 @@ module _ {R : StepRelation} {Q : MoveRelation} (moves : Moves R Q) where
       moves.goes_on w added (with_object p l u w) (moves.adds_object p l u w) (set_thing-alters p l (Thing n) added)
 
   says_object-keeps : (p : Image) (l : Located) (u : ProtectedUnitNo) → Keeps R (says_object p l u)
-  unfolding Keeps
-  says_object-keeps p l u w = moves.says own (line.New (created.Object (record { 0 = w.drawn.objects })) (declaration_of p l.declared).expanded (protected_unit_of p u).ceiling) w refl
+  unfolding says_object
+  says_object-keeps p l u = looks-keeps moves _ (λ w. says-keeps moves own (line.New (created.Object (record { 0 = w.drawn.objects })) (declaration_of p l.declared).expanded (protected_unit_of p u).ceiling) refl)
 
   pub declare_protected-keeps : (p : Image) (name : Who) (s : StatementNo) (d : DeclNo) (u : ProtectedUnitNo) → Keeps R (declare_protected p name s d u)
+  unfolding declare_protected
   declare_protected-keeps p name s d u =
       looks-from moves _ (λ w. let q = seen_by p w name in
       given-from moves p own name (located_here q d) _ w (λ l.
@@ -122,12 +123,14 @@ module _ {R : StepRelation} {Q : MoveRelation} (moves : Moves R Q) where
   declared-gives q d kind.Other = ok-gives moves q.world q.world (moves.stays q.world)
 
   pub declare_quietly-keeps : (p : Image) (name : Who) (s : StatementNo) (d : DeclNo) → Keeps R (declare_quietly p name s d)
+  unfolding declare_quietly
   declare_quietly-keeps p name s d =
       looks-from moves _ (λ w.
       given_world-from moves p own name (declared (seen_by p w name) d (declaration_of p d).kind) (λ _. goes name (next_of p s)) w
       (declared-gives (seen_by p w name) d (declaration_of p d).kind) (λ _. goes-keeps moves name (next_of p s)))
 
   pub declare_by-keeps : (p : Image) (name : Who) (s : StatementNo) (d : DeclNo) (kind : DeclarationKind) → Keeps R (declare_by p name s d kind)
+  unfolding declare_by
   declare_by-keeps p name s d (kind.Protected u) = search (declare_protected-keeps)
   declare_by-keeps p name s d (kind.Object i) = search (declare_quietly-keeps)
   declare_by-keeps p name s d (kind.Task u) = search (declare_quietly-keeps)
@@ -139,4 +142,5 @@ module _ {R : StepRelation} {Q : MoveRelation} (moves : Moves R Q) where
   declare_by-keeps p name s d kind.Other = search (declare_quietly-keeps)
 
   pub declare-keeps : (p : Image) (name : Who) (s : StatementNo) (d : DeclNo) → Keeps R (declare p name s d)
+  unfolding declare
   declare-keeps p name s d = search (declare_by-keeps)

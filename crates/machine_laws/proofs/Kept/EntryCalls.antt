@@ -21,14 +21,14 @@ use Rattle.profile_machine.specs.declared.world.appointments.Due.TheVariants as 
 use Rattle.profile_machine.specs.declared.world.calls.Owner.TheVariants as owned_by
 use Rattle.profile_machine.specs.Steps.{Step, Part, own, changes, looks, ◌▷◌}
 use Rattle.profile_machine.specs.Program.{next_of}
-use Rattle.profile_machine.specs.Frames.{frames_of, goes}
+use Rattle.profile_machine.specs.Frames.{frames_of, edit_top, goes_on}
 use Rattle.profile_machine.specs.Sending.{open_abortable}
 use Rattle.profile_machine.specs.EntryCalls.{add_call, make_call, end_at_once, call_gone, call_meets, call_queues, call_not_met, call_accepted_by, call_callable, call_task, call_runs, call_without_room, has_room_for_action, call_runs_if_room, call_passes, call_refused, call_closed, call_by_barrier, call_object, call_owner, call_named, entry_call, appoint_trigger, trigger_delay, async_delay, async_by_trigger, asynchronous_select, mark_sending, requeue, NamedCall}
 use Rattle.machine_laws.proofs.Moves.{StepRelation, MoveRelation, Moves}
-use Rattle.machine_laws.proofs.Kept.Combinators.{Keeps, From, Alters, branch-keeps, changes-keeps, keeps-from, looks-from, looks-keeps, looks_at-from, nothing-keeps, says-keeps, sees-keeps, then-keeps, then_on-from, unchanged-alters}
+use Rattle.machine_laws.proofs.Kept.Combinators.{Keeps, From, Alters, branch-keeps, changes-keeps, keeps-from, looks-from, looks-keeps, looks_at-from, nothing-keeps, says-keeps, sees-keeps, then-keeps, unchanged-alters, changes_then-from}
 use Rattle.machine_laws.proofs.AtOnce.{at_once, later_behind}
 use Rattle.machine_laws.proofs.Kept.Dispatching.{block-keeps}
-use Rattle.machine_laws.proofs.Kept.Frames.{goes-keeps, leaves-keeps, raises-keeps, given-from, given-keeps, raise_if-from, raise_if-keeps, with_room-from, with_room-keeps}
+use Rattle.machine_laws.proofs.Kept.Frames.{goes-keeps, leaves-keeps, raises-keeps, given-from, given-keeps, raise_if-from, raise_if-keeps, with_room-from, with_room-keeps, edit_top-alters, goes_then-from}
 use Rattle.machine_laws.proofs.Kept.Appointments.{appoint-from}
 use Rattle.machine_laws.proofs.Kept.Calls.{edit_call-alters, forget_call-alters, says_call-keeps, enqueue-keeps}
 use Rattle.machine_laws.proofs.Kept.CallEnds.{gone-keeps}
@@ -45,66 +45,85 @@ module _ {R : StepRelation} {Q : MoveRelation} (moves : Moves R Q) where
   make_call-keeps p c step kept = search (goes-keeps, then-keeps, looks-keeps, changes-keeps, add_call-alters, says_call-keeps) depth 7
 
   pub end_at_once-keeps : (p : Image) (part : Part) (c : Call) (e : Raised) → Keeps R (end_at_once p part c e)
+  unfolding end_at_once
   end_at_once-keeps p part c e = search (changes-keeps, forget_call-alters, then-keeps, raises-keeps)
 
   pub call_gone-keeps : (p : Image) (c : Call) → Keeps R (call_gone p c)
+  unfolding call_gone
   call_gone-keeps p c = search (gone-keeps, then-keeps, end_at_once-keeps)
 
   pub call_meets-keeps : (p : Image) (t : TaskNo) (s : StatementNo) (c : Call) → Keeps R (call_meets p t s c)
+  unfolding call_meets
   call_meets-keeps p t s c = search (meet-keeps, block-keeps, end_at_once-keeps)
 
   pub call_queues-keeps : (p : Image) (c : Call) → Keeps R (call_queues p c)
+  unfolding call_queues
   call_queues-keeps p c = search (enqueue-keeps, then-keeps, not_accepted-keeps)
 
   pub call_not_met-keeps : (p : Image) (c : Call) (test : Bool) → Keeps R (call_not_met p c test)
+  unfolding call_not_met
   call_not_met-keeps p c true = search (make_call-keeps, end_at_once-keeps)
   call_not_met-keeps p c false = search (with_room-keeps, make_call-keeps, call_queues-keeps)
 
   pub call_accepted_by-keeps : (p : Image) (t : TaskNo) (c : Call) (next : Option StatementNo) → Keeps R (call_accepted_by p t c next)
+  unfolding call_accepted_by
   call_accepted_by-keeps p t c (Some s) = search (make_call-keeps, call_meets-keeps)
   call_accepted_by-keeps p t c None = search (looks-keeps, call_not_met-keeps)
 
   pub call_callable-keeps : (p : Image) (t : TaskNo) (c : Call) (test : Bool) → Keeps R (call_callable p t c test)
+  unfolding call_callable
   call_callable-keeps p t c false = search (make_call-keeps, call_gone-keeps)
   call_callable-keeps p t c true = search (looks-keeps, call_accepted_by-keeps)
 
   pub call_task-keeps : (p : Image) (t : TaskNo) (c : Call) → Keeps R (call_task p t c)
+  unfolding call_task
   call_task-keeps p t c = search (looks-keeps, call_callable-keeps)
 
   pub call_runs-keeps : (p : Image) (o : ObjectNo) (c : Call) → Keeps R (call_runs p o c)
+  unfolding call_runs
   call_runs-keeps p o c = search (begin_action_on-keeps, then-keeps, serve_call-keeps, nothing-keeps)
 
   pub call_without_room-keeps : (p : Image) (o : ObjectNo) (c : Call) → Keeps R (call_without_room p o c)
+  unfolding call_without_room
   call_without_room-keeps p o c = search (says-keeps, then-keeps, end_at_once-keeps) depth 10
 
   pub call_runs_if_room-keeps : (p : Image) (o : ObjectNo) (c : Call) → Keeps R (call_runs_if_room p o c)
+  unfolding call_runs_if_room
   call_runs_if_room-keeps p o c = looks-keeps moves _ (λ w. branch-keeps moves (has_room_for_action p w c) (call_runs p o c) (call_without_room p o c) (search (call_runs-keeps)) (search (call_without_room-keeps)))
 
   pub call_passes-keeps : (p : Image) (o : ObjectNo) (c : Call) → Keeps R (call_passes p o c)
+  unfolding call_passes
   call_passes-keeps p o c = search (says-keeps, then-keeps, enqueue-keeps, not_accepted-keeps) depth 7
 
   pub call_refused-keeps : (p : Image) (o : ObjectNo) (c : Call) → Keeps R (call_refused p o c)
+  unfolding call_refused
   call_refused-keeps p o c = search (says-keeps, then-keeps, end_at_once-keeps) depth 6
 
   pub call_closed-keeps : (p : Image) (o : ObjectNo) (c : Call) (test : Bool) → Keeps R (call_closed p o c test)
+  unfolding call_closed
   call_closed-keeps p o c true = search (make_call-keeps, call_refused-keeps)
   call_closed-keeps p o c false = search (with_room-keeps, make_call-keeps, call_passes-keeps)
 
   pub call_by_barrier-keeps : (p : Image) (o : ObjectNo) (c : Call) (test : Bool) → Keeps R (call_by_barrier p o c test)
+  unfolding call_by_barrier
   call_by_barrier-keeps p o c true = search (with_room-keeps, make_call-keeps, call_runs_if_room-keeps)
   call_by_barrier-keeps p o c false = search (looks-keeps, call_closed-keeps)
 
   pub call_object-keeps : (p : Image) (o : ObjectNo) (c : Call) → Keeps R (call_object p o c)
+  unfolding call_object
   call_object-keeps p o c = search (where_let_inside-keeps, looks-keeps, call_by_barrier-keeps)
 
   pub call_owner-keeps : (p : Image) (c : Call) (owner : Owner) → Keeps R (call_owner p c owner)
+  unfolding call_owner
   call_owner-keeps p c (owned_by.Task t) = search (call_task-keeps)
   call_owner-keeps p c (owned_by.Object o) = search (call_object-keeps)
 
   pub call_named-keeps : (p : Image) (t : TaskNo) (kind : CallKind) (s : StatementNo) (n : NamedCall) → Keeps R (call_named p t kind s n)
+  unfolding call_named
   call_named-keeps p t kind s n = search (sees-keeps, given-keeps, call_owner-keeps) depth 6
 
   pub entry_call-keeps : (p : Image) (name : Who) (kind : CallKind) (s : StatementNo) → Keeps R (entry_call p name kind s)
+  unfolding entry_call
   entry_call-keeps p (who.Task t) kind s = search (looks-keeps, raise_if-keeps, call_named-keeps)
   entry_call-keeps p who.Agent kind s = search (raises-keeps)
 
@@ -114,27 +133,32 @@ module _ {R : StepRelation} {Q : MoveRelation} (moves : Moves R Q) where
 
   -- the abortable part opens, and the moment is set
   opens_until : (p : Image) (name : Who) (s : StatementNo) (m : ℤ) (w : World) → int_lt (pos w.time) m ≡ true → From R w (looks (λ v. changes (open_abortable p name s None) ▷ changes (appoint_trigger name (length (frames_of v name)) m)))
+  unfolding Alters
   opens_until p name s m w later =
       looks_at-from moves (λ v. changes (open_abortable p name s None) ▷ changes (appoint_trigger name (length (frames_of v name)) m)) w
-      (then_on-from moves (changes (open_abortable p name s None)) _ w (keeps-from moves _ w (search (changes-keeps, open_abortable-alters)))
-      (appoint_trigger-from name (length (frames_of w name)) m _ (later_behind (changes (open_abortable p name s None)) w m (changes-keeps at_once _ (open_abortable-alters at_once p name s None)) later)))
+      (changes_then-from moves (open_abortable p name s None) _ w (open_abortable-alters moves p name s None w)
+      (appoint_trigger-from name (length (frames_of w name)) m _ (later_behind (open_abortable p name s None) w m (open_abortable-alters at_once p name s None) later)))
 
   trigger_delay-from : (p : Image) (name : Who) (s trigger : StatementNo) (m : ℤ) (test : Bool) (w : World) → int_lt (pos w.time) m ≡ test → From R w (trigger_delay p name s trigger m test)
+  unfolding trigger_delay
   trigger_delay-from p name s trigger m false w is = keeps-from moves _ w (search (goes-keeps))
   trigger_delay-from p name s trigger m true w is =
       with_room-from moves p name 1 0 _ w
-      (then_on-from moves (goes name (next_of p s)) _ w (keeps-from moves (goes name (next_of p s)) w (goes-keeps moves name (next_of p s)))
-      (opens_until p name s m _ (later_behind (goes name (next_of p s)) w m (goes-keeps at_once name (next_of p s)) is)))
+      (goes_then-from moves name (next_of p s) _ w
+      (opens_until p name s m _ (later_behind (edit_top name (goes_on (next_of p s))) w m (edit_top-alters at_once name (goes_on (next_of p s))) is)))
 
   pub async_delay-keeps : (p : Image) (name : Who) (s trigger : StatementNo) → Keeps R (async_delay p name s trigger)
+  unfolding async_delay
   async_delay-keeps p name s trigger =
       looks-from moves _ (λ w. raise_if-from moves p name _ _ _ w (given-from moves p own name _ _ w (λ m. trigger_delay-from p name s trigger m (int_lt (pos w.time) m) w refl)))
 
   pub async_by_trigger-keeps : (p : Image) (name : Who) (s trigger : StatementNo) (form : StatementForm) → Keeps R (async_by_trigger p name s trigger form)
+  unfolding async_by_trigger
   async_by_trigger-keeps p name s trigger (form.EntryCall entry owner actuals) = search (entry_call-keeps)
   async_by_trigger-keeps p name s trigger _ = search (async_delay-keeps)
 
   pub asynchronous_select-keeps : (p : Image) (name : Who) (s trigger : StatementNo) → Keeps R (asynchronous_select p name s trigger)
+  unfolding asynchronous_select
   asynchronous_select-keeps p name s trigger = search (async_by_trigger-keeps)
 
   pub mark_sending-alters : (c : Option CallNo) (o : Owner) (e : EntryNo) (with_abort : Bool) → Alters R (mark_sending c o e with_abort)
@@ -142,4 +166,5 @@ module _ {R : StepRelation} {Q : MoveRelation} (moves : Moves R Q) where
   mark_sending-alters (Some c) o e with_abort = search (edit_call-alters)
 
   pub requeue-keeps : (p : Image) (name : Who) (e : EntryNo) (o : EntryOwner) (with_abort : Bool) → Keeps R (requeue p name e o with_abort)
+  unfolding requeue
   requeue-keeps p name e o with_abort = search (sees-keeps, given-keeps, changes-keeps, mark_sending-alters, then-keeps, leaves-keeps) depth 8

@@ -14,10 +14,10 @@ use Rattle.profile_machine.specs.declared.world.marks.Frame.{Frame}
 use Rattle.profile_machine.specs.declared.world.marks.Mark.TheVariants.{Handled}
 use Rattle.profile_machine.specs.Program.{next_of}
 use Rattle.profile_machine.specs.Steps.{Part, own, Step, changes, ◌▷◌}
-use Rattle.profile_machine.specs.Frames.{top_of, new_frame, edit_top, goes, push, pop, leaves, raises, has_room, open_handled, open_at, open_sequence, open_if_ready, stands_in, exit_loop, pass_on, given, raise_if, with_room}
+use Rattle.profile_machine.specs.Frames.{top_of, new_frame, edit_top, goes, push, pop, leaves, raises, has_room, open_handled, open_at, open_sequence, open_if_ready, stands_in, exit_loop, pass_on, given, raise_if, with_room, goes_on}
 use Rattle.profile_machine.specs.Operators.{Valued}
 use Rattle.machine_laws.proofs.Moves.{StepRelation, MoveRelation, Moves}
-use Rattle.machine_laws.proofs.Kept.Combinators.{Keeps, From, Alters, Gives, branch-keeps, changes-keeps, keeps-from, looks-keeps, looks_at-from, nothing-keeps, says-keeps, then-keeps, when-keeps}
+use Rattle.machine_laws.proofs.Kept.Combinators.{Keeps, From, Alters, Gives, branch-keeps, changes-keeps, keeps-from, looks-keeps, looks_at-from, nothing-keeps, says-keeps, then-keeps, when-keeps, changes-from, changes_then-from}
 use Rattle.machine_laws.proofs.Kept.Tasks.{edit_task-alters}
 
 module _ {R : StepRelation} {Q : MoveRelation} (moves : Moves R Q) where
@@ -25,6 +25,7 @@ module _ {R : StepRelation} {Q : MoveRelation} (moves : Moves R Q) where
   edit_top-alters name f = search (edit_task-alters)
 
   pub goes-keeps : (name : Who) (onward : Option StatementNo) → Keeps R (goes name onward)
+  unfolding goes
   goes-keeps name onward = search (changes-keeps, edit_top-alters)
 
   pub push-alters : (name : Who) (f : Frame) → Alters R (push name f)
@@ -34,29 +35,37 @@ module _ {R : StepRelation} {Q : MoveRelation} (moves : Moves R Q) where
   pop-alters name = search (edit_task-alters)
 
   pub leaves-keeps : (name : Who) (leaving : Leaving) → Keeps R (leaves name leaving)
+  unfolding leaves
   leaves-keeps name leaving = search (changes-keeps, edit_top-alters)
 
   pub raises-keeps : (p : Image) (part : Part) (name : Who) (e : Raised) → Keeps R (raises p part name e)
+  unfolding raises
   raises-keeps p part name e = search (says-keeps, then-keeps, leaves-keeps)
 
   pub open_handled-keeps : (p : Image) (part : Part) (name : Who) (s : StatementNo) (form : StatementForm) → Keeps R (open_handled p part name s form)
+  unfolding open_handled
   open_handled-keeps p part name s (form.Handled handlers first) = looks-keeps moves _ (λ w. branch-keeps moves (has_room w name 1 0) (goes name (next_of p s) ▷ changes (push name (new_frame (Handled s) (Some first)))) (raises p part name exception.Storage) (search (goes-keeps, then-keeps, changes-keeps, push-alters)) (search (raises-keeps)))
   open_handled-keeps p part name s _ = search (nothing-keeps)
 
   pub open_at-keeps : (p : Image) (part : Part) (name : Who) (next : Option StatementNo) → Keeps R (open_at p part name next)
+  unfolding open_at
   open_at-keeps p part name None = search (nothing-keeps)
   open_at-keeps p part name (Some s) = search (open_handled-keeps)
 
   pub open_sequence-keeps : (p : Image) (part : Part) (name : Who) → Keeps R (open_sequence p part name)
+  unfolding open_sequence
   open_sequence-keeps p part name = search (looks-keeps, open_at-keeps)
 
   pub open_if_ready-keeps : (p : Image) (name : Who) → Keeps R (open_if_ready p name)
+  unfolding open_if_ready
   open_if_ready-keeps p name = search (looks-keeps, when-keeps, open_sequence-keeps)
 
   pub exit_loop-keeps : (p : Image) (name : Who) (loop : StatementNo) → Keeps R (exit_loop p name loop)
+  unfolding exit_loop
   exit_loop-keeps p name loop = looks-keeps moves _ (λ w. branch-keeps moves (stands_in p loop (top_of w name)) (goes name (next_of p loop)) (leaves name (how.Exit loop)) (search (goes-keeps)) (search (leaves-keeps)))
 
   pub pass_on-keeps : (p : Image) (name : Who) (leaving : Leaving) → Keeps R (pass_on p name leaving)
+  unfolding pass_on
   pass_on-keeps p name how.End = search (nothing-keeps)
   pass_on-keeps p name how.Return = search (leaves-keeps)
   pass_on-keeps p name (how.Exit loop) = search (exit_loop-keeps)
@@ -78,16 +87,21 @@ module _ {R : StepRelation} {Q : MoveRelation} (moves : Moves R Q) where
   raise_if-from p name true e step w k = keeps-from moves (raises p own name e) w (raises-keeps p own name e)
   raise_if-from p name false e step w k = k
 
+  -- a step behind the going on
+  pub goes_then-from : (name : Who) (onward : Option StatementNo) (g : Step) (w : World) → From R (edit_top name (goes_on onward) w) g → From R w (goes name onward ▷ g)
+  unfolding goes Alters
+  goes_then-from name onward g w k = changes_then-from moves (edit_top name (goes_on onward)) g w (edit_top-alters name (goes_on onward) w) k
+
   -- the world that a value gives becomes the world
   pub given_world-from : (p : Image) (part : Part) (name : Who) (result : Valued World) (f : World → Step) (w : World) → Gives R w result → ((next : World) → Keeps R (f next)) → From R w (given p part name result (λ next. changes (λ _. next) ▷ f next))
-  unfolding From Gives Keeps
-  given_world-from p part name (Ok next) f w a k = moves.goes_on w next (f next next).0 a (k next next)
-  given_world-from p part name (Err e) f w a k = raises-keeps p part name e w
+  unfolding Gives
+  given_world-from p part name (Ok next) f w a k = changes_then-from moves (λ _. next) (f next) w a (keeps-from moves (f next) next (k next))
+  given_world-from p part name (Err e) f w a k = keeps-from moves (raises p part name e) w (raises-keeps p part name e)
 
   pub becomes-from : (p : Image) (part : Part) (name : Who) (result : Valued World) (w : World) → Gives R w result → From R w (given p part name result (λ next. changes (λ _. next)))
-  unfolding From Gives Keeps
-  becomes-from p part name (Ok next) w a = a
-  becomes-from p part name (Err e) w a = raises-keeps p part name e w
+  unfolding Gives
+  becomes-from p part name (Ok next) w a = changes-from moves (λ _. next) w a
+  becomes-from p part name (Err e) w a = keeps-from moves (raises p part name e) w (raises-keeps p part name e)
 
   branch-from : (p : Image) (name : Who) (test : Bool) (e : Raised) (step : Step) (w : World) → From R w step → From R w (elim test as (λ _. Step) [ true ↦ step | false ↦ raises p own name e ])
   branch-from p name true e step w k = k

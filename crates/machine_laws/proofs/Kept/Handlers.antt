@@ -15,19 +15,10 @@ use Rattle.profile_machine.specs.declared.values.Value.TheVariants.{Truth}
 use Rattle.profile_machine.specs.declared.world.World.{World}
 use Rattle.profile_machine.specs.declared.world.appointments.HandlerOf.{HandlerOf}
 use Rattle.profile_machine.specs.declared.world.appointments.Release.{Release}
-use Rattle.profile_machine.specs.declared.world.Drawn.{Drawn}
-use Rattle.profile_machine.specs.declared.world.objects.Object.{Object}
-use Rattle.profile_machine.specs.declared.world.appointments.Timer.{Timer}
-use Rattle.profile_machine.specs.declared.world.appointments.TimerSetting.{TimerSetting}
 use Rattle.profile_machine.specs.declared.world.appointments.Budget.{Budget}
 use Rattle.profile_machine.specs.declared.world.scopes.Variable.{Variable}
 use Rattle.profile_machine.specs.declared.world.tasks.State.{State}
-use Rattle.profile_machine.specs.declared.world.tasks.Waiting.{Waiting}
-use Rattle.profile_machine.specs.declared.world.appointments.Appointment.{Appointment}
-use Rattle.profile_machine.specs.declared.world.appointments.Due.{Due}
 use Rattle.profile_machine.specs.declared.world.appointments.Due.TheVariants as due_for
-use Rattle.profile_machine.specs.declared.world.marks.Purpose.TheVariants as opened_for
-use Rattle.profile_machine.specs.declared.world.marks.ResultTo.TheVariants as bound_for
 use Rattle.profile_machine.specs.declared.world.tasks.State.TheVariants.{Made, Runnable, Blocked}
 use Rattle.profile_machine.specs.declared.world.tasks.Task as world
 use Rattle.profile_machine.specs.Program.{is_robin_level, marks_of, subprogram_of}
@@ -58,59 +49,71 @@ module _ {R : StepRelation} {Q : MoveRelation} (moves : Moves R Q) where
   add_release-alters h argument w = moves.releases h argument w
 
   says_release-keeps : (p : Image) (part : Part) (h : HandlerOf) → Keeps R (says_release p part h)
-  unfolding Keeps
-  says_release-keeps p part h w = moves.says part (line.Release w.drawn.releases h.object (subprogram_of p h.procedure).name) w refl
+  unfolding says_release
+  says_release-keeps p part h = looks-keeps moves _ (λ w. says-keeps moves part (line.Release w.drawn.releases h.object (subprogram_of p h.procedure).name) refl)
 
   pub wake_agent-keeps : (p : Image) (part : Part) (state : State) → Keeps R (wake_agent p part state)
+  unfolding wake_agent
   wake_agent-keeps p part (Blocked waiting) = search (ready-keeps)
   wake_agent-keeps p part Runnable = search (nothing-keeps)
   wake_agent-keeps p part Made = search (nothing-keeps)
 
   pub release-keeps : (p : Image) (part : Part) (h : HandlerOf) (argument : Option ℕ) → Keeps R (release p part h argument)
+  unfolding release
   release-keeps p part h argument = search (changes-keeps, add_release-alters, then-keeps, says_release-keeps, looks-keeps, wake_agent-keeps) depth 6
 
   pub with_room_for_release-keeps : (p : Image) (name : Who) (needed : Bool) (step : Step) → Keeps R step → Keeps R (with_room_for_release p name needed step)
   with_room_for_release-keeps p name needed step kept = search (looks-keeps, raise_if-keeps)
 
   pub begin_handler-keeps : (p : Image) (r : Release) → Keeps R (begin_handler p r)
+  unfolding begin_handler
   begin_handler-keeps p r = search (begin_action_on-keeps, then-keeps, looks-keeps, changes-keeps, open_scope-alters)
 
   pub begin_handler_if_room-keeps : (p : Image) (r : Release) → Keeps R (begin_handler_if_room p r)
+  unfolding begin_handler_if_room
   begin_handler_if_room-keeps p r = looks-keeps moves _ (λ w. branch-keeps moves (has_room w who.Agent (1 + marks_of p (subprogram_of p r.handler.procedure).scope) (scope_size_of p r.handler.procedure)) (begin_handler p r) (end_release p r.number) (search (begin_handler-keeps)) (search (end_release-keeps)))
 
   pub enter_handler-keeps : (p : Image) (r : Release) (entering : Entering) → Keeps R (enter_handler p r entering)
+  unfolding enter_handler
   enter_handler-keeps p r same_object_again = search (end_release-keeps)
   enter_handler-keeps p r above_ceiling = search (end_release-keeps)
   enter_handler-keeps p r held_by_another = search (find_held-keeps)
   enter_handler-keeps p r let_inside = search (begin_handler_if_room-keeps)
 
   pub call_handler-keeps : (p : Image) (r : Release) → Keeps R (call_handler p r)
+  unfolding call_handler
   call_handler-keeps p r = search (looks-keeps, enter_handler-keeps)
 
   pub interrupt-keeps : (p : Image) (n : ℕ) → Keeps R (interrupt p n)
+  unfolding interrupt
   interrupt-keeps p n = search (says-keeps, then-keeps, looks-keeps, for_some-keeps, release-keeps) depth 6
 
   pub setting_of-keeps : (p : Image) (name : Who) (q : Seen) (base : ℤ) (set : Setting) (named : Option HandlerName) (step : Option HandlerOf → ℤ → Step) → ((x : Option HandlerOf) (y : ℤ) → Keeps R (step x y)) → Keeps R (setting_of p name q base set named step)
   setting_of-keeps p name q base set named step kept = search (given-keeps, with_room_for_release-keeps, raise_if-keeps)
 
   pub answer-keeps : (p : Image) (name : Who) (v : Variable) (b : Bool) → Keeps R (answer p name v b)
+  unfolding answer
   answer-keeps p name v b = looks-from moves _ (λ w. becomes-from moves p own name (store p v (Truth b) w) w (store-gives moves p v (Truth b) w))
 
   pub cancel_event_setting-alters : (e : ℕ) → Alters R (cancel_event_setting e)
   cancel_event_setting-alters e = search (drop_appointment-alters)
 
   appoint_event-from : (p : Image) (e : ℕ) (h : HandlerOf) (m : ℤ) (test : Bool) (w : World) → int_lt (pos w.time) m ≡ test → From R w (appoint_event p e h m test)
+  unfolding appoint_event
   appoint_event-from p e h m true w is = appoint-from moves (due_for.Event e h) m w is
   appoint_event-from p e h m false w is = keeps-from moves (release p own h (Some e)) w (release-keeps p own h (Some e))
 
   pub event_set_to-keeps : (p : Image) (e : ℕ) (h : Option HandlerOf) (m : ℤ) → Keeps R (event_set_to p e h m)
+  unfolding event_set_to
   event_set_to-keeps p e None m = search (nothing-keeps)
   event_set_to-keeps p e (Some h) m = looks-from moves _ (λ w. appoint_event-from p e h m (int_lt (pos w.time) m) w refl)
 
   pub set_event-keeps : (p : Image) (name : Who) (s : StatementNo) (d : DeclNo) (set : Setting) (named : Option HandlerName) → Keeps R (set_event p name s d set named)
+  unfolding set_event
   set_event-keeps p name s d set named = search (sees-keeps, given-keeps, setting_of-keeps, goes-keeps, then-keeps, changes-keeps, cancel_event_setting-alters, event_set_to-keeps) depth 9
 
   pub cancel_event-keeps : (p : Image) (name : Who) (s : StatementNo) (d : DeclNo) (target : VariableName) → Keeps R (cancel_event p name s d target)
+  unfolding cancel_event
   cancel_event-keeps p name s d target = search (sees-keeps, given-keeps, goes-keeps, then-keeps, changes-keeps, cancel_event_setting-alters, answer-keeps) depth 9
 
   pub clear_timer-alters : (k : ℕ) → Alters R (clear_timer k)
@@ -122,17 +125,21 @@ module _ {R : StepRelation} {Q : MoveRelation} (moves : Moves R Q) where
   with_timer_set-alters k h v w = moves.sets_timer k h v w
 
   pub timer_set_beyond-keeps : (p : Image) (k : ℕ) (h : HandlerOf) (v : ℤ) (test : Bool) → Keeps R (timer_set_beyond p k h v test)
+  unfolding timer_set_beyond
   timer_set_beyond-keeps p k h v true = search (changes-keeps, with_timer_set-alters)
   timer_set_beyond-keeps p k h v false = search (release-keeps)
 
   pub timer_set_to-keeps : (p : Image) (k clock : ℕ) (h : Option HandlerOf) (v : ℤ) → Keeps R (timer_set_to p k clock h v)
+  unfolding timer_set_to
   timer_set_to-keeps p k clock None v = search (nothing-keeps)
   timer_set_to-keeps p k clock (Some h) v = search (timer_set_beyond-keeps)
 
   pub set_timer-keeps : (p : Image) (name : Who) (s : StatementNo) (d : DeclNo) (set : Setting) (named : Option HandlerName) → Keeps R (set_timer p name s d set named)
+  unfolding set_timer
   set_timer-keeps p name s d set named = search (sees-keeps, given-keeps, setting_of-keeps, goes-keeps, then-keeps, changes-keeps, clear_timer-alters, timer_set_to-keeps) depth 9
 
   pub cancel_timer-keeps : (p : Image) (name : Who) (s : StatementNo) (d : DeclNo) (target : VariableName) → Keeps R (cancel_timer p name s d target)
+  unfolding cancel_timer
   cancel_timer-keeps p name s d target = search (sees-keeps, given-keeps, goes-keeps, then-keeps, changes-keeps, clear_timer-alters, answer-keeps) depth 9
 
   edit_budget-alters : (b : ℕ) (f : Budget → Budget) → Alters R (edit_budget b f)
@@ -140,27 +147,35 @@ module _ {R : StepRelation} {Q : MoveRelation} (moves : Moves R Q) where
   edit_budget-alters b f w = moves.edits_budget b f w
 
   pub change_member-keeps : (p : Image) (name : Who) (s : StatementNo) (t : world.Task) (is_right : Bool) (b : Option ℕ) → Keeps R (change_member p name s t is_right b)
+  unfolding change_member
   change_member-keeps p name s t is_right b = search (raise_if-keeps, goes-keeps, then-keeps, changes-keeps, edit_task-alters)
 
   pub add_member-keeps : (p : Image) (name : Who) (s : StatementNo) (d : DeclNo) (e : ExprNo) → Keeps R (add_member p name s d e)
+  unfolding add_member
   add_member-keeps p name s d e = search (sees-keeps, given-keeps, change_member-keeps) depth 6
 
   pub remove_member-keeps : (p : Image) (name : Who) (s : StatementNo) (d : DeclNo) (e : ExprNo) → Keeps R (remove_member p name s d e)
+  unfolding remove_member
   remove_member-keeps p name s d e = search (sees-keeps, given-keeps, change_member-keeps) depth 6
 
   pub fill_budget-keeps : (p : Image) (name : Who) (s : StatementNo) (d : DeclNo) (e : ExprNo) (f : ℤ → Budget → Budget) → Keeps R (fill_budget p name s d e f)
+  unfolding fill_budget
   fill_budget-keeps p name s d e f = search (sees-keeps, given-keeps, with_room_for_release-keeps, raise_if-keeps, goes-keeps, then-keeps, changes-keeps, edit_budget-alters) depth 8
 
   pub replenish-keeps : (p : Image) (name : Who) (s : StatementNo) (d : DeclNo) (e : ExprNo) → Keeps R (replenish p name s d e)
+  unfolding replenish
   replenish-keeps p name s d e = search (fill_budget-keeps)
 
   pub add_to_budget-keeps : (p : Image) (name : Who) (s : StatementNo) (d : DeclNo) (e : ExprNo) → Keeps R (add_to_budget p name s d e)
+  unfolding add_to_budget
   add_to_budget-keeps p name s d e = search (fill_budget-keeps)
 
   pub set_budget-keeps : (p : Image) (name : Who) (s : StatementNo) (d : DeclNo) (named : Option HandlerName) → Keeps R (set_budget p name s d named)
+  unfolding set_budget
   set_budget-keeps p name s d named = search (sees-keeps, given-keeps, with_room_for_release-keeps, raise_if-keeps, goes-keeps, then-keeps, changes-keeps, edit_budget-alters) depth 8
 
   pub cancel_budget-keeps : (p : Image) (name : Who) (s : StatementNo) (d : DeclNo) (target : VariableName) → Keeps R (cancel_budget p name s d target)
+  unfolding cancel_budget
   cancel_budget-keeps p name s d target = search (sees-keeps, given-keeps, goes-keeps, then-keeps, changes-keeps, edit_budget-alters, answer-keeps) depth 9
 
   pub charge_budget-alters : (n : Option ℕ) → Alters R (charge_budget n)

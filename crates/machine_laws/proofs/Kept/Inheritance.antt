@@ -17,7 +17,9 @@ module _ {R : StepRelation} {Q : MoveRelation} (moves : Moves R Q) where
   lose-alters name cause = search (edit_task-alters)
 
   pub inherit_running-keeps : (p : Image) (name : Who) (cause : Cause) (level : ℕ) → Keeps R (inherit_running p name cause level)
+  unfolding inherit_running
   inherit_running-keeps p name cause level = search (looks-keeps, changes-keeps, inherit-alters, then-keeps, when-keeps, to_head-keeps) depth 6
 
   pub lose_running-keeps : (p : Image) (name : Who) (cause : Cause) → Keeps R (lose_running p name cause)
+  unfolding lose_running
   lose_running-keeps p name cause = search (looks-keeps, changes-keeps, lose-alters, then-keeps, when-keeps, to_head-keeps) depth 6

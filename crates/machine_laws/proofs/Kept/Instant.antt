@@ -12,12 +12,12 @@ use Rattle.profile_machine.specs.declared.world.appointments.Appointment.{Appoin
 use Rattle.profile_machine.specs.declared.world.appointments.TimerSetting.{TimerSetting}
 use Rattle.profile_machine.specs.declared.world.appointments.Due.TheVariants as due_for
 use Rattle.profile_machine.specs.declared.world.tasks.Waiting.TheVariants as waits_for
-use Rattle.profile_machine.specs.Steps.{Step, changes, nothing, settles, ◌▷◌}
+use Rattle.profile_machine.specs.Steps.{Step, changes, nothing, settles, ◌▷◌, rests}
 use Rattle.profile_machine.specs.Tasks.{task_of}
 use Rattle.profile_machine.specs.Appointments.{first_due}
 use Rattle.profile_machine.specs.Instant.{effect, is_over, effect_of_runner, finish_action, with_port, with_masked, with_kept_interrupt, interrupt_comes, deliver_kept_interrupt, script_item, with_script, items_due, script_items, take_delay, end_delay, time_out, come_due, take_due, all_due, appointments_due, events_due, moments_due, expire, expire_timer, no_timers_due, timers_due, run_out, no_budget_due, budgets_due, spend_quantum, quantum_spent, instant}
 use Rattle.machine_laws.proofs.Moves.{StepRelation, MoveRelation, Moves}
-use Rattle.machine_laws.proofs.Kept.Combinators.{Keeps, Leads, Alters, branch-keeps, branch-leads, changes-keeps, for_each-keeps, for_some-keeps, looks-keeps, looks-leads, nothing-keeps, nothing-leads, says-keeps, settles-leads, then-keeps, then-leads, when-keeps}
+use Rattle.machine_laws.proofs.Kept.Combinators.{Keeps, Leads, Alters, branch-keeps, branch-leads, changes-keeps, for_each-keeps, for_some-keeps, looks-keeps, nothing-keeps, says-keeps, settles-leads, then-keeps, then-leads, when-keeps, rests-leads, watches-leads}
 use Rattle.machine_laws.proofs.Kept.Tasks.{edit_task-alters}
 use Rattle.machine_laws.proofs.Kept.Dispatching.{to_tail-keeps, ready-keeps}
 use Rattle.machine_laws.proofs.Kept.Frames.{goes-keeps, open_sequence-keeps, open_if_ready-keeps}
@@ -31,15 +31,16 @@ use Rattle.machine_laws.proofs.Kept.Act.{act-keeps}
 
 module _ {R : StepRelation} {Q : MoveRelation} (moves : Moves R Q) where
   pub effect-keeps : (p : Image) (name : Who) → Keeps R (effect p name)
+  unfolding effect
   effect-keeps p name = search (changes-keeps, edit_task-alters, then-keeps, act-keeps, open_if_ready-keeps, take_terminates-keeps, unwind_all-keeps) depth 7
 
   effect_of_runner-leads : (p : Image) (by : Option Who) → Leads Q (effect_of_runner p by)
-  effect_of_runner-leads p None = nothing-leads moves
+  effect_of_runner-leads p None = rests-leads moves
   effect_of_runner-leads p (Some name) =
-      looks-leads moves _ (λ w. branch-leads moves (is_over (task_of w name).ticks_left) (settles (effect p name)) nothing (search (settles-leads, effect-keeps)) (search (nothing-leads)))
+      watches-leads moves _ (λ w. branch-leads moves (is_over (task_of w name).ticks_left) (settles (effect p name)) rests (search (settles-leads, effect-keeps)) (search (rests-leads)))
 
   pub finish_action-leads : (p : Image) → Leads Q (finish_action p)
-  finish_action-leads p = search (looks-leads, effect_of_runner-leads)
+  finish_action-leads p = search (watches-leads, effect_of_runner-leads)
 
   with_port-alters : (n : ℕ) (value : ℤ) → Alters R (with_port n value)
   unfolding Alters
@@ -54,14 +55,17 @@ module _ {R : StepRelation} {Q : MoveRelation} (moves : Moves R Q) where
   with_kept_interrupt-alters n flag w = moves.keeps_interrupt n flag w
 
   pub interrupt_comes-keeps : (p : Image) (n : ℕ) (test : Bool) → Keeps R (interrupt_comes p n test)
+  unfolding interrupt_comes
   interrupt_comes-keeps p n true = search (says-keeps, then-keeps, changes-keeps, with_kept_interrupt-alters)
   interrupt_comes-keeps p n false = search (interrupt-keeps)
 
   pub deliver_kept_interrupt-keeps : (p : Image) (n : ℕ) (test : Bool) → Keeps R (deliver_kept_interrupt p n test)
+  unfolding deliver_kept_interrupt
   deliver_kept_interrupt-keeps p n true = search (changes-keeps, with_kept_interrupt-alters, then-keeps, interrupt-keeps)
   deliver_kept_interrupt-keeps p n false = search (nothing-keeps)
 
   pub script_item-keeps : (p : Image) (it : Item) → Keeps R (script_item p it)
+  unfolding script_item
   script_item-keeps p (item.Interrupt n) = search (looks-keeps, interrupt_comes-keeps)
   script_item-keeps p (item.Port n value) = search (changes-keeps, with_port-alters, then-keeps, says-keeps)
   script_item-keeps p (item.Mask n) = search (changes-keeps, with_masked-alters, then-keeps, says-keeps)
@@ -81,16 +85,20 @@ module _ {R : StepRelation} {Q : MoveRelation} (moves : Moves R Q) where
   script_items-leads p = search (settles-leads, looks-keeps, items_due-keeps)
 
   pub take_delay-keeps : (p : Image) (name : Who) (waiting : Option Waiting) → Keeps R (take_delay p name waiting)
+  unfolding take_delay
   take_delay-keeps p name (Some (waits_for.Select accepts (Some delay) terminate)) = search (goes-keeps)
   take_delay-keeps p name _ = search (nothing-keeps)
 
   pub end_delay-keeps : (p : Image) (name : Who) → Keeps R (end_delay p name)
+  unfolding end_delay
   end_delay-keeps p name = search (looks-keeps, take_delay-keeps, then-keeps, ready-keeps, open_sequence-keeps)
 
   pub time_out-keeps : (p : Image) (c : CallNo) → Keeps R (time_out p c)
+  unfolding time_out
   time_out-keeps p c = search (with_call-keeps, changes-keeps, unqueued-alters, then-keeps, says-keeps, deliver-keeps) depth 6
 
   pub come_due-keeps : (p : Image) (due : Due) → Keeps R (come_due p due)
+  unfolding come_due
   come_due-keeps p (due_for.Event n h) = search (release-keeps)
   come_due-keeps p (due_for.Delay t) = search (end_delay-keeps)
   come_due-keeps p (due_for.Timeout c) = search (time_out-keeps)
@@ -115,10 +123,12 @@ module _ {R : StepRelation} {Q : MoveRelation} (moves : Moves R Q) where
   moments_due-leads p = search (appointments_due-leads)
 
   pub expire-keeps : (p : Image) (k : ℕ) (setting : Option TimerSetting) → Keeps R (expire p k setting)
+  unfolding expire
   expire-keeps p k None = search (nothing-keeps)
   expire-keeps p k (Some s) = search (changes-keeps, clear_timer-alters, then-keeps, release-keeps)
 
   pub expire_timer-keeps : (p : Image) (k : ℕ) → Keeps R (expire_timer p k)
+  unfolding expire_timer
   expire_timer-keeps p k = search (looks-keeps, expire-keeps)
 
   no_timers_due-alters : Alters R no_timers_due
@@ -129,6 +139,7 @@ module _ {R : StepRelation} {Q : MoveRelation} (moves : Moves R Q) where
   timers_due-leads p = search (settles-leads, looks-keeps, for_each-keeps, expire_timer-keeps, then-keeps, changes-keeps, no_timers_due-alters) depth 7
 
   pub run_out-keeps : (p : Image) (b : ℕ) → Keeps R (run_out p b)
+  unfolding run_out
   run_out-keeps p b = search (looks-keeps, for_some-keeps, release-keeps)
 
   no_budget_due-alters : Alters R no_budget_due

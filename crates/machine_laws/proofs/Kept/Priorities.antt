@@ -7,11 +7,9 @@ use Rattle.profile_machine.specs.declared.image.Queuing.{Queuing}
 use Rattle.profile_machine.specs.declared.image.Queuing.TheVariants as queuing
 use Rattle.profile_machine.specs.declared.numbers.ExprNo.{ExprNo}
 use Rattle.profile_machine.specs.declared.numbers.StatementNo.{StatementNo}
-use Rattle.profile_machine.specs.declared.world.World.{World}
 use Rattle.profile_machine.specs.declared.world.calls.Call.{Call}
 use Rattle.profile_machine.specs.declared.world.tasks.State.{State}
 use Rattle.profile_machine.specs.declared.world.tasks.Waiting.{Waiting}
-use Rattle.profile_machine.specs.declared.world.tasks.Waiting.TheVariants as waits_for
 use Rattle.profile_machine.specs.declared.world.tasks.State.TheVariants.{Made, Runnable, Blocked}
 use Rattle.profile_machine.specs.declared.world.tasks.Task as world
 use Rattle.profile_machine.specs.Words.{edit_at}
@@ -38,75 +36,95 @@ module _ {R : StepRelation} {Q : MoveRelation} (moves : Moves R Q) where
       edit_queue-alters moves c.owner (place_of_entry p c.entry) (λ q. put_call queuing.Priority w c.number level (take_call c.number q)) w
 
   pub reprioritize-keeps : (p : Image) (level : ℕ) (c : Call) → Keeps R (reprioritize p level c)
+  unfolding reprioritize
   reprioritize-keeps p level c = search (when-keeps, changes-keeps, edit_call-alters, then-keeps, placed_anew-alters) depth 6
 
   pub reprioritize_own-keeps : (p : Image) (name : Who) (waiting : Waiting) → Keeps R (reprioritize_own p name waiting)
+  unfolding reprioritize_own
   reprioritize_own-keeps p name waiting = search (looks-keeps, for_some-keeps, with_call-keeps, reprioritize-keeps)
 
   pub replace_in-keeps : (p : Image) (part : Part) (name : Who) (state : State) → Keeps R (replace_in p part name state)
+  unfolding replace_in
   replace_in-keeps p part name Made = search (nothing-keeps)
   replace_in-keeps p part name Runnable = search (to_tail-keeps)
   replace_in-keeps p part name (Blocked waiting) = search (reprioritize_own-keeps)
 
   pub says_base-keeps : (part : Part) (name : Who) (level : ℕ) → Keeps R (says_base part name level)
+  unfolding says_base
   says_base-keeps part (who.Task t) level = search (says-keeps)
   says_base-keeps part who.Agent level = search (nothing-keeps)
 
   pub set_base-keeps : (p : Image) (part placing : Part) (name : Who) (level : ℕ) → Keeps R (set_base p part placing name level)
+  unfolding set_base
   set_base-keeps p part placing name level = search (changes-keeps, edit_task-alters, then-keeps, says_base-keeps, looks-keeps, replace_in-keeps) depth 6
 
   pub says_deadline-keeps : (part : Part) (name : Who) (d : ℤ) → Keeps R (says_deadline part name d)
+  unfolding says_deadline
   says_deadline-keeps part (who.Task t) d = search (says-keeps)
   says_deadline-keeps part who.Agent d = search (nothing-keeps)
 
   pub set_deadline-keeps : (p : Image) (part placing : Part) (name : Who) (d : ℤ) → Keeps R (set_deadline p part placing name d)
+  unfolding set_deadline
   set_deadline-keeps p part placing name d = search (changes-keeps, edit_task-alters, then-keeps, says_deadline-keeps, looks-keeps, when-keeps, to_tail-keeps) depth 7
 
   pub take_base-keeps : (p : Image) (name : Who) (n : Option ℕ) → Keeps R (take_base p name n)
+  unfolding take_base
   take_base-keeps p name None = search (nothing-keeps)
   take_base-keeps p name (Some level) = search (changes-keeps, edit_task-alters, then-keeps, set_base-keeps)
 
   pub take_deadline-keeps : (p : Image) (name : Who) (moment : Option ℤ) → Keeps R (take_deadline p name moment)
+  unfolding take_deadline
   take_deadline-keeps p name None = search (nothing-keeps)
   take_deadline-keeps p name (Some d) = search (changes-keeps, edit_task-alters, then-keeps, set_deadline-keeps)
 
   pub set_deferred-keeps : (p : Image) (name : Who) → Keeps R (set_deferred p name)
+  unfolding set_deferred
   set_deferred-keeps p name = search (looks-keeps, when-keeps, take_base-keeps, then-keeps, take_deadline-keeps)
 
   pub defer_base-keeps : (p : Image) (name : Who) (level : ℕ) → Keeps R (defer_base p name level)
+  unfolding defer_base
   defer_base-keeps p name level = search (changes-keeps, edit_task-alters)
 
   pub set_or_defer_base-keeps : (p : Image) (actor name : Who) (level : ℕ) → Keeps R (set_or_defer_base p actor name level)
+  unfolding set_or_defer_base
   set_or_defer_base-keeps p actor name level = looks-keeps moves _ (λ w. branch-keeps moves (in_protected w name) (defer_base p name level) (set_base p (part_of actor name) (placing_of actor name) name level) (search (defer_base-keeps)) (search (set_base-keeps)))
 
   pub set_base_of-keeps : (p : Image) (actor : Who) (s : StatementNo) (level : ℕ) (t : Option world.Task) → Keeps R (set_base_of p actor s level t)
+  unfolding set_base_of
   set_base_of-keeps p actor s level None = search (goes-keeps)
   set_base_of-keeps p actor s level (Some t) = search (raise_if-keeps, goes-keeps, then-keeps, set_or_defer_base-keeps)
 
   pub set_priority-keeps : (p : Image) (name : Who) (s : StatementNo) (e : ExprNo) (task : Option ExprNo) → Keeps R (set_priority p name s e task)
+  unfolding set_priority
   set_priority-keeps p name s e task = search (sees-keeps, given-keeps, set_base_of-keeps) depth 6
 
   set_level-keeps : (level ticks : ℕ) → Keeps R (changes (λ w. record w { quanta = edit_at level (λ _. ticks) w.quanta }))
-  unfolding Keeps
-  set_level-keeps level ticks w = moves.sets_quantum level ticks w
+  unfolding Alters
+  set_level-keeps level ticks = changes-keeps moves (λ w. record w { quanta = edit_at level (λ _. ticks) w.quanta }) (λ w. moves.sets_quantum level ticks w)
 
   pub set_quantum-keeps : (p : Image) (name : Who) (s : StatementNo) (level quantum : ExprNo) → Keeps R (set_quantum p name s level quantum)
+  unfolding set_quantum
   set_quantum-keeps p name s level quantum =
       sees-keeps moves p name _ (λ q. given-keeps moves p own name (value q level) _ (λ v. given-keeps moves p own name (moment q quantum) _ (λ n.
       given-keeps moves p own name (priority_in_range p p.policies.last_priority (whole_in v)) _ (λ l. given-keeps moves p own name (quantum_of p l n) _ (λ ticks.
       then-keeps moves (goes name (next_of p s)) _ (goes-keeps moves name (next_of p s)) (set_level-keeps l ticks))))))
 
   pub defer_deadline-keeps : (name : Who) (d : ℤ) → Keeps R (defer_deadline name d)
+  unfolding defer_deadline
   defer_deadline-keeps name d = search (changes-keeps, edit_task-alters)
 
   pub set_or_defer_deadline-keeps : (p : Image) (actor name : Who) (d : ℤ) → Keeps R (set_or_defer_deadline p actor name d)
+  unfolding set_or_defer_deadline
   set_or_defer_deadline-keeps p actor name d = looks-keeps moves _ (λ w. branch-keeps moves (in_protected w name && has_edf p) (defer_deadline name d) (set_deadline p (part_of actor name) (placing_of actor name) name d) (search (defer_deadline-keeps)) (search (set_deadline-keeps)))
 
   pub set_deadline_of-keeps : (p : Image) (name : Who) (s : StatementNo) (e : ExprNo) (task : Option ExprNo) → Keeps R (set_deadline_of p name s e task)
+  unfolding set_deadline_of
   set_deadline_of-keeps p name s e task = search (sees-keeps, given-keeps, goes-keeps, then-keeps, set_or_defer_deadline-keeps) depth 7
 
   pub delay_with_deadline-keeps : (p : Image) (name : Who) (s : StatementNo) (until offset : ℤ) → Keeps R (delay_with_deadline p name s until offset)
+  unfolding delay_with_deadline
   delay_with_deadline-keeps p name s until offset = search (goes-keeps, then-keeps, changes-keeps, edit_task-alters, says_deadline-keeps, delay_to-keeps) depth 6
 
   pub delay_and_set_deadline-keeps : (p : Image) (name : Who) (s : StatementNo) (until offset : ExprNo) → Keeps R (delay_and_set_deadline p name s until offset)
+  unfolding delay_and_set_deadline
   delay_and_set_deadline-keeps p name s until offset = search (sees-keeps, raise_if-keeps, given-keeps, delay_with_deadline-keeps) depth 6

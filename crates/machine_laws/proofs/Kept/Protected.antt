@@ -31,6 +31,7 @@ use Rattle.machine_laws.proofs.Kept.Subprograms.{begin_body-keeps, handing-keeps
 
 module _ {R : StepRelation} {Q : MoveRelation} (moves : Moves R Q) where
   pub find_held-keeps : (p : Image) (name : Who) (o : ObjectNo) (mode : Mode) → Keeps R (find_held p name o mode)
+  unfolding find_held
   find_held-keeps p name o mode = search (says-keeps, then-keeps, to_tail-keeps)
 
   pub enter_or-keeps : (p : Image) (name : Who) (o : ObjectNo) (mode : Mode) (step : Step) (entering : Entering) → Keeps R step → Keeps R (enter_or p name o mode step entering)
@@ -46,31 +47,39 @@ module _ {R : StepRelation} {Q : MoveRelation} (moves : Moves R Q) where
   open_action-alters name o mode = search (edit_object-alters)
 
   pub begin_action_on-keeps : (p : Image) (name : Who) (o : ObjectNo) (mode : Mode) (call : Option CallNo) (release : Option ℕ) → Keeps R (begin_action_on p name o mode call release)
+  unfolding begin_action_on
   begin_action_on-keeps p name o mode call release = search (says-keeps, then-keeps, changes-keeps, open_action-alters, looks-keeps, inherit_running-keeps, push-alters) depth 9
 
   pub begin_operation-keeps : (p : Image) (name : Who) (s : StatementNo) (f : SubprogramNo) (o : ObjectNo) (h : Handed) (to : ResultTo) → Keeps R (begin_operation p name s f o h to)
+  unfolding begin_operation
   begin_operation-keeps p name s f o h to = search (goes-keeps, then-keeps, begin_action_on-keeps, looks-keeps, changes-keeps, open_scope-alters) depth 6
 
   pub call_operation_of-keeps : (p : Image) (name : Who) (s : StatementNo) (f : SubprogramNo) (actuals : List Actual) (to : Destination) (o : ObjectNo) → Keeps R (call_operation_of p name s f actuals to o)
+  unfolding call_operation_of
   call_operation_of-keeps p name s f actuals to o = search (looks-keeps, raise_if-keeps, with_room-keeps, handing-keeps, where_let_inside-keeps, begin_operation-keeps) depth 9
 
   pub call_operation-keeps : (p : Image) (name : Who) (s : StatementNo) (d : DeclNo) (f : SubprogramNo) (actuals : List Actual) (to : Destination) → Keeps R (call_operation p name s d f actuals to)
+  unfolding call_operation
   call_operation-keeps p name s d f actuals to = search (sees-keeps, given-keeps, call_operation_of-keeps) depth 6
 
   pub begin_own_operation-keeps : (p : Image) (name : Who) (s : StatementNo) (f : SubprogramNo) (o : Option ObjectNo) (h : Handed) (to : ResultTo) → Keeps R (begin_own_operation p name s f o h to)
+  unfolding begin_own_operation
   begin_own_operation-keeps p name s f None h to = search (raises-keeps)
   begin_own_operation-keeps p name s f (Some o) h to = search (looks-keeps, begin_body-keeps)
 
   pub call_own_operation-keeps : (p : Image) (name : Who) (s : StatementNo) (f : SubprogramNo) (actuals : List Actual) (to : Destination) → Keeps R (call_own_operation p name s f actuals to)
+  unfolding call_own_operation
   call_own_operation-keeps p name s f actuals to = search (with_room-keeps, handing-keeps, sees-keeps, begin_own_operation-keeps)
 
   pub edit_top_protected-alters : (name : Who) (f : ProtectedMark → ProtectedMark) → Alters R (edit_top_protected name f)
   edit_top_protected-alters name f = search (edit_top-alters)
 
   pub begin_call-keeps : (p : Image) (part : Part) (name : Who) (c : Call) → Keeps R (begin_call p part name c)
+  unfolding begin_call
   begin_call-keeps p part name c = search (changes-keeps, unqueued-alters, then-keeps, edit_call-alters, says-keeps) depth 7
 
   pub body_opens-keeps : (p : Image) (name : Who) (o : ObjectNo) (c : Call) → Keeps R (body_opens p name o c)
+  unfolding body_opens
   body_opens-keeps p name o c = search (changes-keeps, edit_top_protected-alters, then-keeps, looks-keeps, open_scope-alters) depth 6
 
   pub serve_call-keeps : (p : Image) (part : Part) (name : Who) (o : ObjectNo) (c : Call) (then_ otherwise : Step) → Keeps R then_ → Keeps R otherwise → Keeps R (serve_call p part name o c then_ otherwise)

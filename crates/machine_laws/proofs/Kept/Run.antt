@@ -10,7 +10,7 @@ use Rattle.profile_machine.specs.declared.world.World.{World}
 use Rattle.profile_machine.specs.declared.world.marks.Frame.{Frame}
 use Rattle.profile_machine.specs.declared.world.appointments.Release.{Release}
 use Rattle.profile_machine.specs.Words.{same_who, same_option}
-use Rattle.profile_machine.specs.Steps.{Move, nothing, looks, ◌▷◌}
+use Rattle.profile_machine.specs.Steps.{Move, rests, watches, ◌▶◌}
 use Rattle.profile_machine.specs.Dispatching.{choose}
 use Rattle.profile_machine.specs.Tasks.{task_of, with_ticks}
 use Rattle.profile_machine.specs.Cost.{cost}
@@ -18,7 +18,7 @@ use Rattle.profile_machine.specs.Handlers.{charge}
 use Rattle.profile_machine.specs.Run.{opens, say, silently, says_run, with_serving, serve_if_free, serve, ticks_or, begin_action, one_tick_less, spend_tick, next_tick, says_idle, tock_of, tock}
 use Rattle.machine_laws.proofs.Moves.{StepRelation, MoveRelation, Moves, TockMoves}
 use Rattle.machine_laws.specs.LineKinds.{is_of_tock}
-use Rattle.machine_laws.proofs.Kept.Combinators.{Keeps, Leads, Alters, then-keeps, changes-keeps, says-keeps, then-leads, nothing-leads, looks-leads}
+use Rattle.machine_laws.proofs.Kept.Combinators.{Keeps, Leads, Alters, then-keeps, changes-keeps, says-keeps, then-leads, rests-leads, watches-leads}
 use Rattle.machine_laws.proofs.Kept.Dispatching.{to_tail-keeps}
 use Rattle.machine_laws.proofs.Kept.Frames.{open_sequence-keeps}
 use Rattle.machine_laws.proofs.Kept.Scopes.{open_scope-alters}
@@ -28,12 +28,12 @@ use Rattle.machine_laws.proofs.Kept.Handlers.{charge-alters}
 
 -- who is chosen, if anybody is, says that it runs, takes up a release, begins its action and is charged
 abbrev pub before_tick : Image → Option Who → Move
-before_tick p None = looks (λ w. says_idle w.ran)
+before_tick p None = watches (λ w. says_idle w.ran)
 before_tick p (Some name) =
-    looks (λ w. says_run name w.ran) ▷ serve name ▷ silently (begin_action p name) ▷ silently (charge p name) ▷ silently (spend_tick name)
+    watches (λ w. says_run name w.ran) ▶ serve name ▶ silently (begin_action p name) ▶ silently (charge p name) ▶ silently (spend_tick name)
 
 -- then the tick passes
-after_idle : (w : World) (ran : Option Who) → let before = says_idle ran w in ((looks (λ v. says_idle ran) ▷ silently (next_tick None)) w) ≡ (next_tick None before.0, before.1)
+after_idle : (w : World) (ran : Option Who) → let before = says_idle ran w in ((watches (λ v. says_idle ran) ▶ silently (next_tick None)) w) ≡ (next_tick None before.0, before.1)
 after_idle w None = refl
 after_idle w (Some name) = refl
 
@@ -46,6 +46,7 @@ tock-parts p w = tock_of-parts p (choose w) w
 
 module _ {R : StepRelation} {Q : MoveRelation} (moves : Moves R Q) where
   pub opens-keeps : (p : Image) → Keeps R (opens p)
+  unfolding opens
   opens-keeps p = search (then-keeps, changes-keeps, open_scope-alters, says-keeps, to_tail-keeps, open_sequence-keeps) depth 7
 
   begin_action-alters : (p : Image) (name : Who) → Alters R (begin_action p name)
@@ -65,15 +66,15 @@ module _ {R : StepRelation} {Q : MoveRelation} (moves : Moves R Q) where
     unfolding Leads
     say-leads event a w = tocks.tells event w a
 
-    says_run-test : (same : Bool) (name : Who) → Leads Q (cond same nothing (say (line.Run name)))
-    says_run-test true name = nothing-leads moves
+    says_run-test : (same : Bool) (name : Who) → Leads Q (cond same rests (say (line.Run name)))
+    says_run-test true name = rests-leads moves
     says_run-test false name = say-leads (line.Run name) refl
 
     says_run-leads : (name : Who) (ran : Option Who) → Leads Q (says_run name ran)
     says_run-leads name ran = says_run-test (same_option same_who ran (Some name)) name
 
     says_idle-leads : (ran : Option Who) → Leads Q (says_idle ran)
-    says_idle-leads None = nothing-leads moves
+    says_idle-leads None = rests-leads moves
     says_idle-leads (Some name) = say-leads line.Idle refl
 
     serve_if_free-leads : (serving : Option Release) (frames : List Frame) (releases : List Release) (w : World) → w.releases ≡ releases → let done = serve_if_free serving frames releases w in Q w done.1 done.0
@@ -88,5 +89,5 @@ module _ {R : StepRelation} {Q : MoveRelation} (moves : Moves R Q) where
     serve-leads who.Agent w = serve_if_free-leads w.serving w.agent.frames w.releases w refl
 
     pub before_tick-leads : (p : Image) (chosen : Option Who) → Leads Q (before_tick p chosen)
-    before_tick-leads p None = search (looks-leads, says_idle-leads)
-    before_tick-leads p (Some name) = search (then-leads, looks-leads, says_run-leads, serve-leads, silently-leads, begin_action-alters, charge-alters, spend_tick-alters) depth 9
+    before_tick-leads p None = search (watches-leads, says_idle-leads)
+    before_tick-leads p (Some name) = search (then-leads, watches-leads, says_run-leads, serve-leads, silently-leads, begin_action-alters, charge-alters, spend_tick-alters) depth 9

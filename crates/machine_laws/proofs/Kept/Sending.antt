@@ -34,6 +34,7 @@ module _ {R : StepRelation} {Q : MoveRelation} (moves : Moves R Q) where
   open_abortable-alters p name select call = search (push-alters)
 
   pub cancel_at_once-keeps : (p : Image) (part : Part) (c : Call) → Keeps R (cancel_at_once p part c)
+  unfolding cancel_at_once
   cancel_at_once-keeps p part c = search (attempt_with-keeps, resume-keeps, nothing-keeps)
 
   appoint_timeout-from : (c : CallNo) (moment : Option ℤ) (w : World) → is_not_future w.time moment ≡ false → From R w (changes (appoint_timeout c moment))
@@ -41,26 +42,32 @@ module _ {R : StepRelation} {Q : MoveRelation} (moves : Moves R Q) where
   appoint_timeout-from c (Some moment) w later = appoint-from moves (due_for.Timeout c) moment w (is_later w.time moment later)
 
   pub wait_for_call-keeps : (p : Image) (c : Call) → Keeps R (wait_for_call p c)
+  unfolding wait_for_call
   wait_for_call-keeps p c = search (block-keeps)
 
   wait_or_cancel-from : (p : Image) (part : Part) (c : Call) (test : Bool) (w : World) → is_not_future w.time c.moment ≡ test → From R w (wait_or_cancel p part c test)
+  unfolding wait_or_cancel
   wait_or_cancel-from p part c true w is = keeps-from moves (cancel_at_once p part c) w (cancel_at_once-keeps p part c)
   wait_or_cancel-from p part c false w is =
       then-from moves (changes (appoint_timeout c.number c.moment)) (wait_for_call p c) w (appoint_timeout-from c.number c.moment w is) (wait_for_call-keeps p c)
 
   pub not_accepted-keeps : (p : Image) (part : Part) (c : Call) (kind : CallKind) → Keeps R (not_accepted p part c kind)
+  unfolding not_accepted
   not_accepted-keeps p part c call_kind.Plain = search (wait_for_call-keeps)
   not_accepted-keeps p part c call_kind.Conditional = search (cancel_at_once-keeps)
   not_accepted-keeps p part c call_kind.Timed = looks-from moves _ (λ w. wait_or_cancel-from p part c (is_not_future w.time c.moment) w refl)
   not_accepted-keeps p part c call_kind.Triggering = search (changes-keeps, open_abortable-alters)
 
   pub send_on-keeps : (p : Image) (c : CallNo) (s : Sending) → Keeps R (send_on p c s)
+  unfolding send_on
   send_on-keeps p c s = search (changes-keeps, edit_call-alters, then-keeps, with_call-keeps, says_call-keeps)
 
   pub cancel_sent-keeps : (p : Image) (c : Call) → Keeps R (cancel_sent p c)
+  unfolding cancel_sent
   cancel_sent-keeps p c = search (changes-keeps, unqueued-alters, then-keeps, says-keeps, deliver-keeps) depth 6
 
   pub begin_abortable-keeps : (p : Image) (c : CallNo) → Keeps R (begin_abortable p c)
+  unfolding begin_abortable
   begin_abortable-keeps p c = search (with_call-keeps, looks-keeps, when-keeps, changes-keeps, open_abortable-alters, then-keeps, ready-keeps) depth 6
 
   unless_firm-from : (firm : Bool) (c : Call) (w : World) → (firm ≡ false → is_not_future w.time c.moment ≡ false) → From R w (changes (cond firm (λ v. v) (appoint_timeout c.number c.moment)))
@@ -68,6 +75,7 @@ module _ {R : StepRelation} {Q : MoveRelation} (moves : Moves R Q) where
   unless_firm-from false c w later = appoint_timeout-from c.number c.moment w (later refl)
 
   sent_not_begun_by-from : (p : Image) (c : Call) (test : Bool) (w : World) → is_to_be_cancelled w.time c ≡ test → From R w (sent_not_begun_by p c test)
+  unfolding sent_not_begun_by
   sent_not_begun_by-from p c true w is = keeps-from moves (cancel_sent p c) w (cancel_sent-keeps p c)
   sent_not_begun_by-from p c false w is =
       then-from moves (changes (timeout_again c)) (begin_abortable p c.number) w
@@ -75,4 +83,5 @@ module _ {R : StepRelation} {Q : MoveRelation} (moves : Moves R Q) where
       (begin_abortable-keeps p c.number)
 
   pub sent_not_begun-keeps : (p : Image) (c : CallNo) → Keeps R (sent_not_begun p c)
+  unfolding sent_not_begun
   sent_not_begun-keeps p c = with_call-keeps moves c _ (λ d. looks-from moves _ (λ w. sent_not_begun_by-from p d (is_to_be_cancelled w.time d) w refl))

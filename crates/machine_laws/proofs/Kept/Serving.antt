@@ -36,37 +36,45 @@ module _ {R : StepRelation} {Q : MoveRelation} (moves : Moves R Q) where
   serves_nothing-alters w = moves.has_served w
 
   pub end_release-keeps : (p : Image) (n : ℕ) → Keeps R (end_release p n)
+  unfolding end_release
   end_release-keeps p n = search (says-keeps, then-keeps, changes-keeps, serves_nothing-alters, looks-keeps, when-keeps, block-keeps) depth 8
 
   pub close_action-alters : (name : Who) (o : ObjectNo) → Alters R (close_action name o)
   close_action-alters name o = search (edit_object-alters)
 
   pub wait_or_unwind-keeps : (p : Image) (name : Who) (c : Call) (test : Bool) → Keeps R (wait_or_unwind p name c test)
+  unfolding wait_or_unwind
   wait_or_unwind-keeps p name c true = search (attempt_with-keeps, changes-keeps, forget_call-alters, then-keeps, leaves-keeps, wait_for_call-keeps)
   wait_or_unwind-keeps p name c false = search (wait_for_call-keeps)
 
   pub wait_for_own-keeps : (p : Image) (name : Who) (c : Call) (test : Bool) → Keeps R (wait_for_own p name c test)
+  unfolding wait_for_own
   wait_for_own-keeps p name c true = search (changes-keeps, open_abortable-alters)
   wait_for_own-keeps p name c false = search (looks-keeps, wait_or_unwind-keeps)
 
   pub resume_own-keeps : (p : Image) (name : Who) (c : Call) (outcome : Option Outcome) → Keeps R (resume_own p name c outcome)
+  unfolding resume_own
   resume_own-keeps p name c (Some outcome) = search (resume-keeps)
   resume_own-keeps p name c None = search (looks-keeps, wait_for_own-keeps)
 
   pub behind_action-keeps : (p : Image) (name : Who) (m : ProtectedMark) (n : Option ℕ) (c : Option CallNo) → Keeps R (behind_action p name m n c)
+  unfolding behind_action
   behind_action-keeps p name m (Some release) call = search (end_release-keeps)
   behind_action-keeps p name m None None = search (pass_on-keeps)
   behind_action-keeps p name m None (Some c) = search (with_call-keeps, resume_own-keeps)
 
   pub release_object-keeps : (p : Image) (name : Who) (m : ProtectedMark) → Keeps R (release_object p name m)
+  unfolding release_object
   release_object-keeps p name m = search (says-keeps, then-keeps, changes-keeps, pop-alters, close_action-alters, lose_running-keeps, set_deferred-keeps, behind_action-keeps) depth 10
 
   pub settle_sent-keeps : (p : Image) (c : Option CallNo) (test : Bool) → Keeps R (settle_sent p c test)
+  unfolding settle_sent
   settle_sent-keeps p None is_served = search (nothing-keeps)
   settle_sent-keeps p (Some c) true = search (nothing-keeps)
   settle_sent-keeps p (Some c) false = search (sent_not_begun-keeps)
 
   pub begins_part-keeps : (p : Image) (test : Bool) (c : CallNo) → Keeps R (begins_part p test c)
+  unfolding begins_part
   begins_part-keeps p true c = search (begin_abortable-keeps)
   begins_part-keeps p false c = search (nothing-keeps)
 
@@ -75,6 +83,7 @@ module _ {R : StepRelation} {Q : MoveRelation} (moves : Moves R Q) where
   serve_chosen-keeps p name m is_sent again (Some c) kept = search (with_call-keeps, serve_call-keeps, begins_part-keeps, deliver-keeps, then-keeps)
 
   pub serve_next-keeps : (fuel : ℕ) (p : Image) (name : Who) (mark : ProtectedMark) (sent : Option CallNo) → Keeps R (serve_next fuel p name mark sent)
+  unfolding serve_next
   serve_next-keeps zero p name mark sent = search (release_object-keeps)
   serve_next-keeps (suc fuel) p name mark sent =
       looks-keeps moves _ (λ w. let chosen = served_next p w name (object_of w mark.object) in
@@ -82,23 +91,29 @@ module _ {R : StepRelation} {Q : MoveRelation} (moves : Moves R Q) where
       (serve_chosen-keeps p name mark (chosen_is_sent sent chosen) (serve_next fuel p name mark None) chosen (serve_next-keeps fuel p name mark None)))
 
   pub serve_calls-keeps : (p : Image) (name : Who) (m : ProtectedMark) (sent : Option CallNo) → Keeps R (serve_calls p name m sent)
+  unfolding serve_calls
   serve_calls-keeps p name m sent = search (looks-keeps, serve_next-keeps)
 
   pub go_on_by_mode-keeps : (p : Image) (name : Who) (m : ProtectedMark) (Read : Mode) → Keeps R (go_on_by_mode p name m Read)
+  unfolding go_on_by_mode
   go_on_by_mode-keeps p name m Read = search (release_object-keeps)
   go_on_by_mode-keeps p name m Write = search (serve_calls-keeps)
 
   pub end_operation-keeps : (p : Image) (name : Who) (m : ProtectedMark) (leaving : Leaving) → Keeps R (end_operation p name m leaving)
+  unfolding end_operation
   end_operation-keeps p name m leaving = search (changes-keeps, edit_top_protected-alters, then-keeps, edit_top-alters, go_on_by_mode-keeps) depth 6
 
   pub finish_raised-keeps : (p : Image) (name : Who) (m : ProtectedMark) (c : Call) (e : Raised) → Keeps R (finish_raised p name m c e)
+  unfolding finish_raised
   finish_raised-keeps p name m c e = search (says-keeps, then-keeps, deliver-keeps, serve_calls-keeps)
 
   pub finish_well-keeps : (p : Image) (name : Who) (m : ProtectedMark) (c : Call) (sending : Option Sending) → Keeps R (finish_well p name m c sending)
+  unfolding finish_well
   finish_well-keeps p name m c None = search (says-keeps, then-keeps, deliver-keeps, serve_calls-keeps)
   finish_well-keeps p name m c (Some s) = search (says-keeps, then-keeps, send_on-keeps, enqueue-keeps, serve_calls-keeps) depth 6
 
   pub finish_call-keeps : (p : Image) (name : Who) (m : ProtectedMark) (leaving : Leaving) (c : Call) → Keeps R (finish_call p name m leaving c)
+  unfolding finish_call
   finish_call-keeps p name m (how.Exception e) c = search (finish_raised-keeps)
   finish_call-keeps p name m how.End c = search (finish_well-keeps)
   finish_call-keeps p name m how.Return c = search (finish_well-keeps)
@@ -107,16 +122,20 @@ module _ {R : StepRelation} {Q : MoveRelation} (moves : Moves R Q) where
   finish_call-keeps p name m how.Terminate c = search (finish_well-keeps)
 
   pub end_entry_body-keeps : (p : Image) (name : Who) (m : ProtectedMark) (leaving : Leaving) (c : CallNo) → Keeps R (end_entry_body p name m leaving c)
+  unfolding end_entry_body
   end_entry_body-keeps p name m leaving c = search (changes-keeps, edit_top_protected-alters, then-keeps, edit_top-alters, with_call-keeps, finish_call-keeps) depth 6
 
   pub end_in_protected_by-keeps : (p : Image) (name : Who) (m : ProtectedMark) (leaving : Leaving) (c : Option CallNo) → Keeps R (end_in_protected_by p name m leaving c)
+  unfolding end_in_protected_by
   end_in_protected_by-keeps p name m leaving None = search (end_operation-keeps)
   end_in_protected_by-keeps p name m leaving (Some c) = search (end_entry_body-keeps)
 
   pub end_in_protected-keeps : (p : Image) (name : Who) (m : ProtectedMark) (leaving : Leaving) → Keeps R (end_in_protected p name m leaving)
+  unfolding end_in_protected
   end_in_protected-keeps p name m leaving = search (end_in_protected_by-keeps)
 
   pub keep_values-keeps : (p : Image) (c : CallNo) (cells : List Value) → Keeps R (keep_values p c cells)
+  unfolding keep_values
   keep_values-keeps p c cells = search (with_call-keeps, changes-keeps, edit_call-alters)
 
   pub keeps_sending-number : (leaving : Leaving) (c : Call) → (keeps_sending leaving c).number ≡ c.number
@@ -128,4 +147,5 @@ module _ {R : StepRelation} {Q : MoveRelation} (moves : Moves R Q) where
   keeps_sending-number how.Terminate c = refl
 
   pub end_body_of_entry-keeps : (p : Image) (c : CallNo) (cells : List Value) (leaving : Leaving) → Keeps R (end_body_of_entry p c cells leaving)
+  unfolding end_body_of_entry
   end_body_of_entry-keeps p c cells leaving = search (changes-keeps, edit_call-alters, then-keeps, keep_values-keeps, keeps_sending-number)

@@ -36,9 +36,11 @@ use Rattle.machine_laws.proofs.Kept.CallEnds.{store-gives}
 
 module _ {R : StepRelation} {Q : MoveRelation} (moves : Moves R Q) where
   pub null-keeps : (p : Image) (name : Who) (s : StatementNo) → Keeps R (null p name s)
+  unfolding null
   null-keeps p name s = search (goes-keeps)
 
   pub assign-keeps : (p : Image) (name : Who) (s : StatementNo) (target : VariableName) (e : ExprNo) → Keeps R (assign p name s target e)
+  unfolding assign
   assign-keeps p name s target e =
       looks-from moves _ (λ w. let q = seen_by p w name in
       given_world-from moves p own name (variable q target >>= λ v. value q e >>= λ x. store p v x w) (λ _. goes name (next_of p s)) w
@@ -57,22 +59,27 @@ module _ {R : StepRelation} {Q : MoveRelation} (moves : Moves R Q) where
       ok-gives moves q.world (copy_cells p t f q.world) (copy_cells-alters p t f q.world)))
 
   pub assign_array-keeps : (p : Image) (name : Who) (s : StatementNo) (target source : ObjectName) → Keeps R (assign_array p name s target source)
+  unfolding assign_array
   assign_array-keeps p name s target source =
       looks-from moves _ (λ w.
       given_world-from moves p own name (array_copied p (seen_by p w name) target source) (λ _. goes name (next_of p s)) w
       (array_copied-gives p (seen_by p w name) target source) (λ _. goes-keeps moves name (next_of p s)))
 
   pub if_statement-keeps : (p : Image) (name : Who) (e : ExprNo) (first : StatementNo) (otherwise : Option StatementNo) → Keeps R (if_statement p name e first otherwise)
+  unfolding if_statement
   if_statement-keeps p name e first otherwise = search (sees-keeps, given-keeps, goes-keeps) depth 6
 
   go_to_alternative-keeps : (p : Image) (name : Who) (first : Option StatementNo) → Keeps R (go_to_alternative p name first)
+  unfolding go_to_alternative
   go_to_alternative-keeps p name None = search (raises-keeps)
   go_to_alternative-keeps p name (Some s) = search (goes-keeps)
 
   pub case_statement-keeps : (p : Image) (name : Who) (e : ExprNo) (alternatives : List CaseAlternative) → Keeps R (case_statement p name e alternatives)
+  unfolding case_statement
   case_statement-keeps p name e alternatives = search (sees-keeps, given-keeps, go_to_alternative-keeps) depth 6
 
   pub while_turn-keeps : (p : Image) (name : Who) (s : StatementNo) (e : ExprNo) (body : StatementNo) → Keeps R (while_turn p name s e body)
+  unfolding while_turn
   while_turn-keeps p name s e body = search (sees-keeps, given-keeps, goes-keeps) depth 6
 
   pub put-alters : (v : Variable) (x : Value) → Alters R (put v x)
@@ -97,46 +104,58 @@ module _ {R : StepRelation} {Q : MoveRelation} (moves : Moves R Q) where
       bind-gives moves (loop_cell q d 1) (bounds_put q reverse l h x) q.world (λ y. bounds_put-gives q reverse l h x y))))
 
   pub for_bounds-keeps : (p : Image) (name : Who) (d : DeclNo) (reverse : Bool) (low high : ExprNo) (turn : StatementNo) → Keeps R (for_bounds p name d reverse low high turn)
+  unfolding for_bounds
   for_bounds-keeps p name d reverse low high turn =
       looks-from moves _ (λ w.
       given_world-from moves p own name (bounds_set (seen_by p w name) d reverse low high) (λ _. goes name (Some turn)) w
       (bounds_set-gives (seen_by p w name) d reverse low high) (λ _. goes-keeps moves name (Some turn)))
 
   pub first_turn-keeps : (p : Image) (name : Who) (s : StatementNo) (d : DeclNo) (reverse : Bool) (body : StatementNo) → Keeps R (first_turn p name s d reverse body)
+  unfolding first_turn
   first_turn-keeps p name s d reverse body = search (sees-keeps, given-keeps, goes-keeps) depth 6
 
   pub advance-keeps : (name : Who) (x : Variable) (reverse : Bool) (v : Value) (body : StatementNo) (past : Option StatementNo) (test : Bool) → Keeps R (advance name x reverse v body past test)
+  unfolding advance
   advance-keeps name x reverse v body past true = search (goes-keeps)
   advance-keeps name x reverse v body past false = search (changes-keeps, put-alters, then-keeps, goes-keeps)
 
   pub later_turn-keeps : (p : Image) (name : Who) (s : StatementNo) (d : DeclNo) (reverse : Bool) (body : StatementNo) → Keeps R (later_turn p name s d reverse body)
+  unfolding later_turn
   later_turn-keeps p name s d reverse body = search (sees-keeps, given-keeps, advance-keeps) depth 6
 
   pub exit_where-keeps : (p : Image) (name : Who) (s loop : StatementNo) (test : Bool) → Keeps R (exit_where p name s loop test)
+  unfolding exit_where
   exit_where-keeps p name s loop true = search (exit_loop-keeps)
   exit_where-keeps p name s loop false = search (goes-keeps)
 
   pub exit_statement-keeps : (p : Image) (name : Who) (s loop : StatementNo) (e : Option ExprNo) → Keeps R (exit_statement p name s loop e)
+  unfolding exit_statement
   exit_statement-keeps p name s loop None = search (exit_loop-keeps)
   exit_statement-keeps p name s loop (Some e) = search (sees-keeps, given-keeps, exit_where-keeps) depth 6
 
   pub block_statement-keeps : (p : Image) (name : Who) (s : StatementNo) (scope : ScopeNo) → Keeps R (block_statement p name s scope)
+  unfolding block_statement
   block_statement-keeps p name s scope = search (with_room-keeps, goes-keeps, then-keeps, looks-keeps, changes-keeps, open_scope-alters)
 
   pub raise_again-keeps : (p : Image) (name : Who) (scope : ScopeNo) → Keeps R (raise_again p name scope)
+  unfolding raise_again
   raise_again-keeps p name scope = search (sees-keeps, given-keeps, raises-keeps) depth 6
 
   wait_until-from : (p : Image) (name : Who) (until : ℤ) (test : Bool) (w : World) → int_lt (pos w.time) until ≡ test → From R w (wait_until p name until test)
+  unfolding wait_until
   wait_until-from p (who.Task t) until true w is =
       then-from moves (changes (appoint (due_for.Delay t) until)) (block the_block (who.Task t) waits_for.Moment) w (appoint-from moves (due_for.Delay t) until w is) (search (block-keeps))
   wait_until-from p (who.Task t) until false w is = keeps-from moves _ w (search (to_tail-keeps))
   wait_until-from p who.Agent until future w is = keeps-from moves _ w (search (nothing-keeps))
 
   pub delay_to-keeps : (p : Image) (name : Who) (until : ℤ) → Keeps R (delay_to p name until)
+  unfolding delay_to
   delay_to-keeps p name until = looks-from moves _ (λ w. wait_until-from p name until (int_lt (pos w.time) until) w refl)
 
   pub delay_until-keeps : (p : Image) (name : Who) (s : StatementNo) (until : Valued ℤ) → Keeps R (delay_until p name s until)
+  unfolding delay_until
   delay_until-keeps p name s until = search (looks-keeps, raise_if-keeps, given-keeps, goes-keeps, then-keeps, delay_to-keeps) depth 7
 
   pub put_line-keeps : (p : Image) (name : Who) (s : StatementNo) (pieces : List Piece) → Keeps R (put_line p name s pieces)
+  unfolding put_line
   put_line-keeps p name s pieces = search (sees-keeps, given-keeps, goes-keeps, then-keeps, says-keeps) depth 8

@@ -15,6 +15,7 @@ use Rattle.profile_machine.specs.declared.world.marks.ResultTo.{ResultTo}
 use Rattle.profile_machine.specs.declared.world.marks.CopyBack.{CopyBack}
 use Rattle.profile_machine.specs.declared.world.marks.ResultTo.TheVariants as bound_for
 use Rattle.profile_machine.specs.Program.{subprogram_of}
+use Rattle.profile_machine.specs.Statements.{becomes}
 use Rattle.profile_machine.specs.Steps.{Step, own}
 use Rattle.profile_machine.specs.Frames.{leaves}
 use Rattle.profile_machine.specs.Scopes.{home, write_cell, Beginning}
@@ -33,12 +34,14 @@ use Rattle.machine_laws.proofs.Kept.CallEnds.{store-gives}
 
 module _ {R : StepRelation} {Q : MoveRelation} (moves : Moves R Q) where
   pub begin_body-keeps : (p : Image) (name : Who) (s : StatementNo) (f : SubprogramNo) (b : Beginning) (h : Handed) (to : ResultTo) → Keeps R (begin_body p name s f b h to)
+  unfolding begin_body
   begin_body-keeps p name s f b h to = search (goes-keeps, then-keeps, changes-keeps, open_scope-alters)
 
   pub handing-keeps : (p : Image) (name : Who) (f : SubprogramNo) (actuals : List Actual) (to : Destination) (step : Handed → ResultTo → Step) → ((x : Handed) (y : ResultTo) → Keeps R (step x y)) → Keeps R (handing p name f actuals to step)
   handing-keeps p name f actuals to step kept = search (sees-keeps, given-keeps) depth 6
 
   pub call_subprogram-keeps : (p : Image) (name : Who) (s : StatementNo) (f : SubprogramNo) (actuals : List Actual) (to : Destination) → Keeps R (call_subprogram p name s f actuals to)
+  unfolding call_subprogram
   call_subprogram-keeps p name s f actuals to = search (with_room-keeps, handing-keeps, sees-keeps, begin_body-keeps)
 
   result_kept-gives : (q : Seen) (f : SubprogramNo) (v : Value) → Gives R q.world (result_kept q f v)
@@ -51,12 +54,14 @@ module _ {R : StepRelation} {Q : MoveRelation} (moves : Moves R Q) where
       ok-gives moves q.world (write_cell id place x q.world) (moves.edits_cells id (λ cells. slice_set cells place x) q.world))))
 
   pub return_result-keeps : (p : Image) (name : Who) (f : SubprogramNo) (v : Value) → Keeps R (return_result p name f v)
+  unfolding return_result
   return_result-keeps p name f v =
       looks-from moves _ (λ w.
       given_world-from moves p own name (result_kept (seen_by p w name) f v) (λ _. leaves name how.Return) w
       (result_kept-gives (seen_by p w name) f v) (λ _. leaves-keeps moves name how.Return))
 
   pub return_value-keeps : (p : Image) (name : Who) (f : SubprogramNo) (e : ExprNo) → Keeps R (return_value p name f e)
+  unfolding return_value
   return_value-keeps p name f e = search (sees-keeps, given-keeps, return_result-keeps) depth 6
 
   pub drop_sending-alters : (c : Option CallNo) → Alters R (drop_sending c)
@@ -64,6 +69,7 @@ module _ {R : StepRelation} {Q : MoveRelation} (moves : Moves R Q) where
   drop_sending-alters (Some c) = search (edit_call-alters)
 
   pub return-keeps : (name : Who) → Keeps R (return name)
+  unfolding return
   return-keeps name = search (looks-keeps, changes-keeps, drop_sending-alters, then-keeps, leaves-keeps)
 
   pub copy_parameters-keeps : (p : Image) (name : Who) (cells : List Value) (back : List CopyBack) (step : Step) → Keeps R step → Keeps R (copy_parameters p name cells back step)
@@ -74,10 +80,12 @@ module _ {R : StepRelation} {Q : MoveRelation} (moves : Moves R Q) where
       (store-gives moves p b.target (cell_in cells b.place) w) (λ _. copy_parameters-keeps p name cells bs step k))
 
   pub store_result-keeps : (p : Image) (name : Who) (cells : List Value) (to : ResultTo) → Keeps R (store_result p name cells to)
+  unfolding store_result becomes
   store_result-keeps p name cells bound_for.Nowhere = search (nothing-keeps)
   store_result-keeps p name cells (bound_for.Variable v) =
       looks-from moves _ (λ w. becomes-from moves p own name (store p v (last_cell cells) w) w (store-gives moves p v (last_cell cells) w))
   store_result-keeps p name cells (bound_for.Return f) = search (return_result-keeps)
 
   pub end_subprogram-keeps : (p : Image) (name : Who) (cells : List Value) (back : List CopyBack) (to : ResultTo) (leaving : Leaving) → Keeps R (end_subprogram p name cells back to leaving)
+  unfolding end_subprogram
   end_subprogram-keeps p name cells back to leaving = search (raise_if-keeps, copy_parameters-keeps, store_result-keeps)

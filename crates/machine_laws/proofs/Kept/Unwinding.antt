@@ -20,15 +20,19 @@ module _ {R : StepRelation} {Q : MoveRelation} (moves : Moves R Q) where
   strike_outermost-alters name = search (edit_task-alters)
 
   pub leave_by_abort-keeps : (name : Who) → Keeps R (leave_by_abort name)
+  unfolding leave_by_abort
   leave_by_abort-keeps name = search (changes-keeps, edit_task-alters, then-keeps, leaves-keeps)
 
   pub stop_waiting-keeps : (p : Image) (part : Part) (name : Who) → Keeps R (stop_waiting p part name)
+  unfolding stop_waiting
   stop_waiting-keeps p part name = search (changes-keeps, drop_delay-alters, then-keeps, ready-keeps)
 
   pub wake_and_leave-keeps : (p : Image) (part : Part) (name : Who) → Keeps R (wake_and_leave p part name)
+  unfolding wake_and_leave
   wake_and_leave-keeps p part name = search (stop_waiting-keeps, then-keeps, leave_by_abort-keeps)
 
   pub unwind_blocked-keeps : (p : Image) (part : Part) (name : Who) (waiting : Waiting) → Keeps R (unwind_blocked p part name waiting)
+  unfolding unwind_blocked
   unwind_blocked-keeps p part name (waits_for.Call c) = search (attempt-keeps, changes-keeps, forget_call-alters, then-keeps, wake_and_leave-keeps, nothing-keeps)
   unwind_blocked-keeps p part name (waits_for.EndOfCall c) = search (nothing-keeps)
   unwind_blocked-keeps p part name waits_for.Activation = search (wake_and_leave-keeps)
@@ -39,9 +43,11 @@ module _ {R : StepRelation} {Q : MoveRelation} (moves : Moves R Q) where
   unwind_blocked-keeps p part name waits_for.Release = search (nothing-keeps)
 
   pub unwind_in-keeps : (p : Image) (part : Part) (name : Who) (state : State) → Keeps R (unwind_in p part name state)
+  unfolding unwind_in
   unwind_in-keeps p part name Made = search (nothing-keeps)
   unwind_in-keeps p part name Runnable = search (leave_by_abort-keeps)
   unwind_in-keeps p part name (Blocked waiting) = search (unwind_blocked-keeps)
 
   pub unwind-keeps : (p : Image) (part : Part) (name : Who) → Keeps R (unwind p part name)
+  unfolding unwind
   unwind-keeps p part name = search (looks-keeps, when-keeps, unwind_in-keeps)

@@ -19,6 +19,7 @@ use Rattle.profile_machine.specs.declared.declarations.Initial.TheVariants as in
 use Rattle.profile_machine.specs.declared.statements.StatementForm.TheVariants as form
 use Rattle.profile_machine.specs.Notation.{decl, expr, stmt, scope, task_unit, task, region, t, declaration, variable, statement, cell_run, scope_text, task_unit_text, policies, main_procedure}
 use Rattle.profile_machine.specs.Run.{run_of}
+use Rattle.profile_machine.specs.Computing.{computing}
 use Rattle.std.specs.Fmt.{digits}
 use Rattle.std.specs.Prelude.{Bool}
 use Rattle.profile_machine.specs.WellFormed.{run_is_well_formed}
@@ -145,7 +146,7 @@ row_24_1_trace =
     ∷ []
 
 pub row_24_1_runs : row_24_1_lines ≡ row_24_1_trace
-unfolding row_24_1_lines row_24_1_trace digits
+unfolding row_24_1_lines row_24_1_trace digits computing
 row_24_1_runs = refl
 
 -- whether each handler is released at its tick
@@ -153,7 +154,7 @@ unfoldable pub row_24_1_handlers : Bool
 row_24_1_handlers = releases_ok row_24_1_program row_24_1_script 10113
 
 pub row_24_1_releases : row_24_1_handlers ≡ true
-unfolding row_24_1_handlers
+unfolding row_24_1_handlers computing
 row_24_1_releases = refl
 
 -- whether every world of its run is well formed
@@ -161,5 +162,5 @@ unfoldable pub row_24_1_worlds : Bool
 row_24_1_worlds = run_is_well_formed row_24_1_program row_24_1_script 10113
 
 pub row_24_1_keeps : row_24_1_worlds ≡ true
-unfolding row_24_1_worlds
+unfolding row_24_1_worlds computing
 row_24_1_keeps = refl

@@ -71,7 +71,7 @@ instant-unrun p now ticks progress cells = refl
 
 -- the first step of an instant by the test whether the action is over
 chosen : Image → World → Bool → World × List Event
-chosen p w over = let move : World → World × List Event = elim over [ true ↦ settles (effect p environment) | false ↦ rests ] in move w
+chosen p w over = let move : World → World × List Event = elim over [ true ↦ settles p (effect p environment) | false ↦ rests ] in move w
 
 -- nothing comes about
 Waits : Image → ℕ → Option ℕ → Progress → List ℤ → Type 0

@@ -3,6 +3,8 @@ use Rattle.std.proofs.Common.{◌≡◌, ◌<◌, ℕ, zero, suc, ℤ, pos, true
 use Rattle.std.proofs.lemmas.List.{map-set, take-replicate}
 use Rattle.trace_text.specs.declared.events.Event.{Event}
 use Rattle.trace_text.specs.declared.events.Event.TheVariants as line
+use Rattle.profile_machine.specs.declared.world.lines.Line.TheVariants as said
+use Rattle.profile_machine.specs.Lines.{event_of as written_of}
 use Rattle.profile_machine.specs.declared.image.Image.{Image}
 use Rattle.profile_machine.specs.declared.numbers.StatementNo.{StatementNo}
 use Rattle.profile_machine.specs.declared.declarations.Declaration.{Declaration}
@@ -18,7 +20,9 @@ use Rattle.profile_machine.specs.declared.world.World.{World}
 use Rattle.profile_machine.specs.Words.{scope_id}
 use Rattle.profile_machine.specs.Instant.{instant, effect, script_items, events_due, moments_due, timers_due, budgets_due, quantum_spent}
 use Rattle.profile_machine.specs.Run.{environment}
-use Rattle.profile_machine.specs.Steps.{Said, own, Done, done, goes_on_with, settled, ◌▷◌, ◌▶◌}
+use Rattle.profile_machine.specs.declared.world.lines.Part.TheVariants.{Own}
+use Rattle.profile_machine.specs.declared.world.lines.Said.{Said}
+use Rattle.profile_machine.specs.Steps.{Done, done, goes_on_with, settled, ◌▷◌, ◌▶◌}
 use Rattle.profile_machine.specs.Frames.{edit_top, goes_on, open_handled, open_at, open_sequence, open_if_ready}
 use Rattle.profile_machine.specs.Scopes.{write_cell}
 use Rattle.profile_machine.specs.Tasking.{take_terminates, unwind_all}
@@ -82,7 +86,7 @@ store-inside name vs es body now onward next cells (Some s) = stored-inside name
 -- ---- what an action does and says
 
 abbrev pub put_said : StatementForm → List Said
-put_said (form.PutLine pieces) = record { part = own; event = line.Put environment (text_of_form (form.PutLine pieces)) } ∷ []
+put_said (form.PutLine pieces) = record { part = Own; line = said.Put environment (text_of_form (form.PutLine pieces)) } ∷ []
 put_said _ = []
 
 Does : Image → ℕ → StatementNo → List ℤ → StatementForm → Type 0
@@ -125,13 +129,13 @@ others p a =
 
 -- behind what an action did: a sequence that opens, and the rest of the effect
 unfoldable pub behind : Image → Done → World × List Event
-behind p d = others p (settled (goes_on_with (open_if_ready p environment ▷ take_terminates p environment ▷ unwind_all p environment) d))
+behind p d = others p (settled p (goes_on_with (open_if_ready p environment ▷ take_terminates p environment ▷ unwind_all p environment) d))
 
 behind_opened : Image → Done → World × List Event
-behind_opened p d = others p (settled (goes_on_with (take_terminates p environment ▷ unwind_all p environment) d))
+behind_opened p d = others p (settled p (goes_on_with (take_terminates p environment ▷ unwind_all p environment) d))
 
 -- no sequence with handlers begins at an action of the main procedure
-opens-nothing : (p : Image) (count : ℕ) (s : StatementNo) (f : StatementForm) (w : World) (said : List Said) → IsBodyForm count f → open_handled p own environment s f w said ≡ done w said
+opens-nothing : (p : Image) (count : ℕ) (s : StatementNo) (f : StatementForm) (w : World) (said : List Said) → IsBodyForm count f → open_handled p Own environment s f w said ≡ done w said
 unfolding open_handled
 opens-nothing p count s form.Null w said h = refl
 opens-nothing p count s (form.Declare d) w said h = refl
@@ -139,11 +143,11 @@ opens-nothing p count s (form.Assign target e) w said h = refl
 opens-nothing p count s (form.PutLine pieces) w said h = refl
 opens-nothing p count s _ w said h = absurd h
 
-abbrev pub events_put : StatementForm → List Event
-events_put f = map (λ said. said.event) (put_said f)
+abbrev pub events_put : Image → StatementForm → List Event
+events_put p f = map (λ x. written_of p x.line) (put_said f)
 
 Goes : Image → ℕ → Option StatementNo → List ℤ → StatementForm → Type 0
-Goes p now next cells f = behind p (done (inside p now next cells) (put_said f)) ≡ (inside p now next cells, events_put f)
+Goes p now next cells f = behind p (done (inside p now next cells) (put_said f)) ≡ (inside p now next cells, events_put p f)
 
 goes-last : (name : List ℕ) (vs : List Declaration) (es : List Expression) (body : List Action) (now : ℕ) (cells : List ℤ) (count : ℕ) (f : StatementForm) → IsBodyForm count f → Goes (simple_program name vs es body) now None cells f
 unfolding Goes behind others computing
@@ -154,7 +158,7 @@ goes-last name vs es body now cells count (form.PutLine pieces) h = refl
 goes-last name vs es body now cells count _ h = absurd h
 
 goes-opened : (name : List ℕ) (vs : List Declaration) (es : List Expression) (body : List Action) (now : ℕ) (s : StatementNo) (cells : List ℤ) (count : ℕ) (f : StatementForm) → IsBodyForm count f → let p = simple_program name vs es body in
-    behind_opened p (done (inside p now (Some s) cells) (put_said f)) ≡ (inside p now (Some s) cells, events_put f)
+    behind_opened p (done (inside p now (Some s) cells) (put_said f)) ≡ (inside p now (Some s) cells, events_put p f)
 unfolding behind_opened others computing
 goes-opened name vs es body now s cells count form.Null h = refl
 goes-opened name vs es body now s cells count (form.Declare d) h = refl
@@ -162,7 +166,7 @@ goes-opened name vs es body now s cells count (form.Assign target e) h = refl
 goes-opened name vs es body now s cells count (form.PutLine pieces) h = refl
 goes-opened name vs es body now s cells count _ h = absurd h
 
-behind-some : (p : Image) (now : ℕ) (s : StatementNo) (cells : List ℤ) (said : List Said) → behind p (done (inside p now (Some s) cells) said) ≡ behind_opened p (open_handled p own environment s (form_of p s) (inside p now (Some s) cells) said)
+behind-some : (p : Image) (now : ℕ) (s : StatementNo) (cells : List ℤ) (said : List Said) → behind p (done (inside p now (Some s) cells) said) ≡ behind_opened p (open_handled p Own environment s (form_of p s) (inside p now (Some s) cells) said)
 unfolding behind behind_opened open_if_ready open_sequence open_at
 behind-some p now s cells said = refl
 
@@ -188,7 +192,7 @@ inside-goes name vs es body now next cells a stays = goes-next name vs es body n
 
 -- where an action of this form ends, the task goes on, and what it stores is stored
 pub form-ends : (name : List ℕ) (vs : List Declaration) (es : List Expression) (body : List Action) (now : ℕ) (s : StatementNo) (cells : List ℤ) (f : StatementForm) → AreSimple vs es body → AreIntegers cells → IsBodyForm (length vs) f → StaysInBody (next_of (simple_program name vs es body) s) → let p = simple_program name vs es body in
-    behind p (act_statement p environment s f (inside p now (Some s) cells) []) ≡ (inside p now (next_of p s) (with_store (store_of_form p cells f) cells), events_put f)
+    behind p (act_statement p environment s f (inside p now (Some s) cells) []) ≡ (inside p now (next_of p s) (with_store (store_of_form p cells f) cells), events_put p f)
 unfolding Does Goes
 form-ends name vs es body now s cells f a i h stays =
     let p = simple_program name vs es body in
@@ -196,7 +200,7 @@ form-ends name vs es body now s cells f a i h stays =
     ∙ goes-next name vs es body now (next_of p s) (with_store (store_of_form p cells f) cells) f a h stays
 
 -- the events of an action that ends are those of the lines that a kernel owes
-put-event : (p : Image) (s : StatementNo) (f : StatementForm) → form_of p s ≡ f → events_put f ≡ map (event_of p) (put_lines (is_put_form f) s)
+put-event : (p : Image) (s : StatementNo) (f : StatementForm) → form_of p s ≡ f → events_put p f ≡ map (event_of p) (put_lines (is_put_form f) s)
 put-event p s (form.PutLine pieces) e = ap (λ f. line.Put environment (text_of_form f) ∷ []) (sym e)
 put-event p s form.Null e = refl
 put-event p s (form.Declare d) e = refl

@@ -15,7 +15,8 @@ use Rattle.profile_machine.specs.declared.world.marks.Purpose.TheVariants as ope
 use Rattle.profile_machine.specs.declared.world.marks.ResultTo.TheVariants as bound_for
 use Rattle.profile_machine.specs.Instant.{instant, effect}
 use Rattle.profile_machine.specs.Run.{environment}
-use Rattle.profile_machine.specs.Steps.{Step, Done, done, own, changes, looks, ◌▷◌}
+use Rattle.profile_machine.specs.declared.world.lines.Part.TheVariants.{Own}
+use Rattle.profile_machine.specs.Steps.{Step, Done, done, changes, looks, ◌▷◌}
 use Rattle.profile_machine.specs.Frames.{goes, raises, has_room}
 use Rattle.profile_machine.specs.Scopes.{open_scope, plainly, innermost}
 use Rattle.profile_machine.specs.Act.{act, act_top, act_frame, act_statement, call_main}
@@ -46,7 +47,7 @@ by_room : Image → World → Bool → Done
 by_room p w found =
     let step : Step = elim found [
       | true ↦ goes environment (next_of p (statement_no 0)) ▷ looks (λ v. changes (open_scope p environment p.main.scope (plainly (innermost v environment)) (opened_for.Subprogram [] bound_for.Nowhere)))
-      | false ↦ raises p own environment exception.Storage
+      | false ↦ raises p Own environment exception.Storage
     ] in
     step w []
 

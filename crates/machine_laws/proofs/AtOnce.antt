@@ -25,10 +25,10 @@ pub at_once : Moves AtOnce AtOnce
 at_once = record {
   stays = λ w. refl;
   goes_on = λ a b c p q. q ∙ p;
-  says = λ part event w k. refl;
+  says = λ part line w. refl;
   rests = λ w. refl;
   leads_on = λ a b c p q. q ∙ p;
-  settles = λ a b xs k. k;
+  settles = λ p a b xs k. k;
   silently = λ a b k. k;
   edits_task = λ name f w k. edit_task-clock name f w;
   adds_task = λ t w k. refl;

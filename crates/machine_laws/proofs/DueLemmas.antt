@@ -15,7 +15,8 @@ use Rattle.profile_machine.specs.declared.world.appointments.Due.{Due}
 use Rattle.profile_machine.specs.declared.world.appointments.Appointment.{Appointment}
 use Rattle.profile_machine.specs.declared.world.appointments.Due.TheVariants as due_for
 use Rattle.profile_machine.specs.Words.{same_bool, without}
-use Rattle.profile_machine.specs.Steps.{Move, Step, Done, done, Said, goes_on_with, settled, ◌▶◌}
+use Rattle.profile_machine.specs.declared.world.lines.Said.{Said}
+use Rattle.profile_machine.specs.Steps.{Move, Step, Done, done, goes_on_with, settled, ◌▶◌}
 use Rattle.profile_machine.specs.Tasks.{edit_task}
 use Rattle.profile_machine.specs.Appointments.{drop_appointment, put_appointment, is_an_event, first_due}
 use Rattle.profile_machine.specs.Dispatching.{choose}
@@ -116,10 +117,10 @@ module _ (events : Bool) where
   never_more = record {
     stays = λ w. still w;
     goes_on = λ a b c p q. (q.0 ∙ p.0, omega (arith, p.1, q.1));
-    says = λ part event w k. still w;
+    says = λ part line w. still w;
     rests = λ w. still w;
     leads_on = λ a b c p q. (q.0 ∙ p.0, omega (arith, p.1, q.1));
-    settles = λ a b xs k. k;
+    settles = λ p a b xs k. k;
     silently = λ a b k. k;
     edits_task = λ name f w k. edit_task-still name f w;
     adds_task = λ t w k. still w;
@@ -322,8 +323,8 @@ opening-none : (p : Image) (script : List (ℤ × Item)) → none_before (openin
 unfolding Leads
 opening-none p script =
     let o = (opening p script).0 in
-    let events = (settles-leads (never_more true) (opens p) (opens-keeps (never_more true) p) (blank_world p script)).1 in
-    let others = (settles-leads (never_more false) (opens p) (opens-keeps (never_more false) p) (blank_world p script)).1 in
+    let events = (settles-leads (never_more true) p (opens p) (opens-keeps (never_more true) p) (blank_world p script)).1 in
+    let others = (settles-leads (never_more false) p (opens p) (opens-keeps (never_more false) p) (blank_world p script)).1 in
     later-none_before o (all_are_later o.time o.appointments events others)
 
 tock-none : (p : Image) (w : World) → due_in true w ≤ 0 → due_in false w ≤ 0 → none_before (tock p w).0 ≡ true

@@ -9,7 +9,8 @@ use Rattle.profile_machine.specs.declared.image.Image.{Image}
 use Rattle.profile_machine.specs.declared.world.World.{World}
 use Rattle.profile_machine.specs.declared.world.appointments.Appointment.{Appointment}
 use Rattle.profile_machine.specs.Words.{is_empty, same_bool}
-use Rattle.profile_machine.specs.Steps.{Said, done, settled, ◌▶◌}
+use Rattle.profile_machine.specs.declared.world.lines.Said.{Said}
+use Rattle.profile_machine.specs.Steps.{done, settled, ◌▶◌}
 use Rattle.profile_machine.specs.Appointments.{first_due, is_an_event}
 use Rattle.profile_machine.specs.Instant.{take_due, all_due, appointments_due, events_due, moments_due, timers_due, budgets_due, quantum_spent, instant}
 use Rattle.profile_machine.specs.Run.{Ran, stop, or_else, stop_by_bound, stopped, then_runs, tock, run_from}
@@ -35,7 +36,7 @@ all_due-none (suc fuel) p events w said e = ap (λ a. take_due p (all_due fuel p
 
 appointments_due-none : (p : Image) (events : Bool) (w : World) (n m : ℕ) → n < m → NoneBefore m w.appointments → appointments_due p events (idle_at w n) ≡ (idle_at w n, [])
 appointments_due-none p events w n m a h =
-    ap settled (all_due-none (length w.appointments) p events (idle_at w n) [] (first_due-none events n m w.appointments a h))
+    ap (settled p) (all_due-none (length w.appointments) p events (idle_at w n) [] (first_due-none events n m w.appointments a h))
 
 -- ---- the instant
 

@@ -9,7 +9,11 @@ use Rattle.profile_machine.specs.declared.world.World.{World}
 use Rattle.profile_machine.specs.declared.world.marks.Frame.{Frame}
 use Rattle.profile_machine.specs.declared.world.appointments.Release.{Release}
 use Rattle.profile_machine.specs.Words.{same_who, same_option}
-use Rattle.profile_machine.specs.Steps.{Said, is_part_before, put_in_order, in_order, rests}
+use Rattle.profile_machine.specs.declared.world.lines.Line.{Line}
+use Rattle.profile_machine.specs.declared.world.lines.Line.TheVariants as said
+use Rattle.profile_machine.specs.declared.world.lines.Said.{Said}
+use Rattle.profile_machine.specs.Lines.{event_of}
+use Rattle.profile_machine.specs.Steps.{in_order, rests}
 use Rattle.profile_machine.specs.Dispatching.{choose}
 use Rattle.profile_machine.specs.Instant.{instant}
 use Rattle.profile_machine.specs.Run.{say, says_run, serve_if_free, serve, says_idle, opens, opening, blank_world, tock}
@@ -26,44 +30,52 @@ AllAre-append test (x ∷ xs) ys a b = (a.0, AllAre-append test xs ys a.1 b)
 
 -- ---- instants
 
-AllSaid : List Said → Type 0
-AllSaid [] = Unit {0}
-AllSaid (x ∷ xs) = (is_of_effect x.event ≡ true) × AllSaid xs
+-- every line of an effect is one, and which of them does not matter
+event_of-effect : (p : Image) (x : Line) → is_of_effect (event_of p x) ≡ true
+event_of-effect p (said.New what declared level) = refl
+event_of-effect p (said.Ready who level end deadline) = refl
+event_of-effect p (said.Block who waits) = refl
+event_of-effect p (said.Base task level) = refl
+event_of-effect p (said.Deadline task deadline) = refl
+event_of-effect p (said.Quantum task) = refl
+event_of-effect p (said.Done task) = refl
+event_of-effect p (said.Raise who e) = refl
+event_of-effect p (said.Put who text) = refl
+event_of-effect p (said.Call task call owner entry priority) = refl
+event_of-effect p (said.Start who call) = refl
+event_of-effect p (said.Finish who call how) = refl
+event_of-effect p (said.Cancel task call) = refl
+event_of-effect p (said.Gone task call) = refl
+event_of-effect p (said.Enter who object mode) = refl
+event_of-effect p (said.Exit who object) = refl
+event_of-effect p (said.Held who object mode) = refl
+event_of-effect p (said.Abort task victim) = refl
+event_of-effect p (said.Trigger task) = refl
+event_of-effect p (said.Leave who region how) = refl
+event_of-effect p (said.Init who object region declared) = refl
+event_of-effect p (said.Final who object) = refl
+event_of-effect p (said.Left who region) = refl
+event_of-effect p (said.Replace who object) = refl
+event_of-effect p (said.Release release handler) = refl
+event_of-effect p (said.Served release) = refl
+event_of-effect p (said.Interrupt number) = refl
+event_of-effect p (said.Port number value) = refl
+event_of-effect p (said.Mask number) = refl
+event_of-effect p (said.Unmask number) = refl
+event_of-effect p (said.Masked number) = refl
 
-AllSaid-append : (xs ys : List Said) → AllSaid xs → AllSaid ys → AllSaid (xs ++ ys)
-unfolding AllSaid
-AllSaid-append [] ys a b = b
-AllSaid-append (x ∷ xs) ys a b = (a.0, AllSaid-append xs ys a.1 b)
+AllAre-events : (p : Image) (xs : List Said) → AllAre is_of_effect (map (λ x. event_of p x.line) xs)
+AllAre-events p [] = tt
+AllAre-events p (x ∷ xs) = (event_of-effect p x.line, AllAre-events p xs)
 
-put-either : (b : Bool) (x y : Said) (xs ys : List Said) → AllSaid (x ∷ ys) → AllSaid (y ∷ x ∷ xs) → AllSaid (cond b (x ∷ ys) (y ∷ x ∷ xs))
-put-either true x y xs ys a b = a
-put-either false x y xs ys a b = b
-
-AllSaid-put_in_order : (said : Said) (xs : List Said) → is_of_effect said.event ≡ true → AllSaid xs → AllSaid (put_in_order said xs)
-unfolding AllSaid
-AllSaid-put_in_order said [] a b = (a, tt)
-AllSaid-put_in_order said (x ∷ xs) a b =
-    put-either (is_part_before x.part said.part) x said xs (put_in_order said xs) (b.0, AllSaid-put_in_order said xs a b.1) (a, b)
-
-AllSaid-in_order : (xs : List Said) → AllSaid xs → AllSaid (in_order xs)
-unfolding AllSaid
-AllSaid-in_order [] a = tt
-AllSaid-in_order (x ∷ xs) a = AllSaid-put_in_order x (in_order xs) a.0 (AllSaid-in_order xs a.1)
-
-AllAre-events : (xs : List Said) → AllSaid xs → AllAre is_of_effect (map (λ x. x.event) xs)
-unfolding AllSaid
-AllAre-events [] a = tt
-AllAre-events (x ∷ xs) a = (a.0, AllAre-events xs a.1)
-
-of_effects : Moves (λ before said after. AllSaid said) (λ before lines after. AllAre is_of_effect lines)
-unfolding AllSaid
+of_effects : Moves (λ before said after. Unit {0}) (λ before lines after. AllAre is_of_effect lines)
 of_effects = record {
   stays = λ w. tt;
-  goes_on = λ a b c {xs} {ys} p q. AllSaid-append xs ys p q;
-  says = λ part event w k. (k, tt);
+  goes_on = λ a b c {xs} {ys} p q. tt;
+  says = λ part line w. tt;
   rests = λ w. tt;
   leads_on = λ a b c {xs} {ys} p q. AllAre-append is_of_effect xs ys p q;
-  settles = λ a b xs k. AllAre-events (in_order xs) (AllSaid-in_order xs k);
+  settles = λ p a b xs k. AllAre-events p (in_order xs);
   silently = λ a b k. tt;
   edits_task = λ name f w k. tt;
   adds_task = λ t w k. tt;
@@ -155,7 +167,7 @@ tock-no_end-lines p w = AllAre-also is_of_tock is_no_end tock-no_end (tock p w).
 
 pub openings_say_effects : (p : Image) (script : List (ℤ × Item)) → AllAre is_of_effect (opening p script).1
 unfolding Leads
-openings_say_effects p script = settles-leads of_effects (opens p) (opens-keeps of_effects p) (blank_world p script)
+openings_say_effects p script = settles-leads of_effects p (opens p) (opens-keeps of_effects p) (blank_world p script)
 
 pub opening-no_end : (p : Image) (script : List (ℤ × Item)) → AllAre is_no_end (opening p script).1
 opening-no_end p script = AllAre-also is_of_effect is_no_end effect-no_end (opening p script).1 (openings_say_effects p script)

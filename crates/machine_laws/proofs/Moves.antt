@@ -26,7 +26,11 @@ use Rattle.profile_machine.specs.declared.world.appointments.Budget.{Budget}
 use Rattle.profile_machine.specs.declared.world.appointments.HandlerOf.{HandlerOf}
 use Rattle.profile_machine.specs.declared.world.appointments.Release.{Release}
 use Rattle.profile_machine.specs.Words.{edit_at}
-use Rattle.profile_machine.specs.Steps.{Part, Said, in_order, placed_by}
+use Rattle.profile_machine.specs.declared.world.lines.Part.{Part}
+use Rattle.profile_machine.specs.declared.world.lines.Said.{Said}
+use Rattle.profile_machine.specs.declared.world.lines.Line.{Line}
+use Rattle.profile_machine.specs.Lines.{event_of}
+use Rattle.profile_machine.specs.Steps.{in_order, placed_by}
 use Rattle.profile_machine.specs.Tasks.{edit_task}
 use Rattle.profile_machine.specs.Scopes.{Beginning, edit_cells, begin_scope, region_drawn, end_scope}
 use Rattle.profile_machine.specs.Appointments.{appoint, drop_appointment}
@@ -39,7 +43,7 @@ use Rattle.profile_machine.specs.Tasking.{add_task, end_environment}
 use Rattle.profile_machine.specs.Serving.{serves_nothing}
 use Rattle.profile_machine.specs.Handlers.{add_release, clear_timer, with_timer_set, edit_budget}
 use Rattle.profile_machine.specs.Run.{with_serving}
-use Rattle.machine_laws.specs.LineKinds.{is_of_effect, is_of_tock}
+use Rattle.machine_laws.specs.LineKinds.{is_of_tock}
 use Rattle.profile_machine.specs.Instant.{with_port, with_masked, with_kept_interrupt, with_script}
 
 -- of the steps of an effect, whose lines are not yet in order, and of the moves of an instant or a tock
@@ -50,18 +54,18 @@ abbrev pub MoveRelation : Type 1
 MoveRelation = World → List Event → World → Type 0
 
 -- the lines of an effect that is over
-abbrev pub lines_of : List Said → List Event
-lines_of said = map (λ x. x.event) (in_order said)
+abbrev pub lines_of : Image → List Said → List Event
+lines_of p said = map (λ x. event_of p x.line) (in_order said)
 
 pub record Moves (R : StepRelation) (Q : MoveRelation) : Type 0 where
   -- nothing is done, one step follows another, and a line of an effect is said
   pub stays : (w : World) → R w [] w
   pub goes_on : (a b c : World) {xs ys : List Said} → R a xs b → R b ys c → R a (xs ++ ys) c
-  pub says : (part : Part) (event : Event) (w : World) → is_of_effect event ≡ true → R w (record { part = part; event = event } ∷ []) w
+  pub says : (part : Part) (line : Line) (w : World) → R w (record { part = part; line = line } ∷ []) w
   -- the same of moves; an effect is over, and a change that says nothing is a move too
   pub rests : (w : World) → Q w [] w
   pub leads_on : (a b c : World) {xs ys : List Event} → Q a xs b → Q b ys c → Q a (xs ++ ys) c
-  pub settles : (a b : World) (xs : List Said) → R a xs b → Q a (lines_of xs) (placed_by (lines_of xs) b)
+  pub settles : (p : Image) (a b : World) (xs : List Said) → R a xs b → Q a (lines_of p xs) (placed_by (lines_of p xs) b)
   pub silently : (a b : World) → R a [] b → Q a [] b
   -- tasks: no edit changes who it is, and a new one has the next number
   pub edits_task : (name : Who) (f : Task → Task) (w : World) → ((t : Task) → (f t).who ≡ t.who) → R w [] (edit_task name f w)

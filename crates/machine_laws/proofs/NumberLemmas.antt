@@ -84,10 +84,10 @@ stays_numbered : Moves StaysNumbered StaysNumbered
 stays_numbered = record {
   stays = λ w h. h;
   goes_on = λ a b c p q h. q (p h);
-  says = λ part event w k h. h;
+  says = λ part line w h. h;
   rests = λ w h. h;
   leads_on = λ a b c p q h. q (p h);
-  settles = λ a b xs k h. k h;
+  settles = λ p a b xs k h. k h;
   silently = λ a b k h. k h;
   edits_task = edit_task-numbered;
   adds_task = λ t w k h. (Rises-behind task_number 0 w.drawn.tasks w.tasks t (ap number_in k) h.0, h.1, h.2, h.3, h.4, h.5, h.6);
@@ -139,7 +139,7 @@ blank-numbered p script = ((omega arith, omega arith), tt, tt, tt, tt, (0, refl)
 numbered-lasts : Lasts Numbered
 unfolding Leads
 numbered-lasts = record {
-  at_opening = λ p script. settles-leads stays_numbered (opens p) (opens-keeps stays_numbered p) (blank_world p script) (blank-numbered p script);
+  at_opening = λ p script. settles-leads stays_numbered p (opens p) (opens-keeps stays_numbered p) (blank_world p script) (blank-numbered p script);
   at_instant = λ p w h. instant-leads stays_numbered p w h;
   at_tock = λ p w h. subst (λ a. Numbered a.0) (sym (tock-parts p w)) (before_tick-leads stays_numbered tocks_stay_numbered p (choose w) w h);
 }

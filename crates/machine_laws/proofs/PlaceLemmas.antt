@@ -47,10 +47,10 @@ place_by_lines : Moves SamePlaces PlacesFollow
 place_by_lines = record {
   stays = λ w. refl;
   goes_on = λ a b c p q. q ∙ p;
-  says = λ part event w k. refl;
+  says = λ part line w. refl;
   rests = λ w. refl;
   leads_on = λ a b c {xs} {ys} p q. follow-on a b c xs ys p q;
-  settles = λ a b xs k. ap (places_after_all (lines_of xs)) k;
+  settles = λ p a b xs k. ap (places_after_all (lines_of p xs)) k;
   silently = λ a b k. k;
   edits_task = λ name f w k. edit_task-places name f w;
   adds_task = λ t w k. refl;
@@ -102,7 +102,7 @@ tock_lines-places (x ∷ xs) places a = ap (places_after_all xs) (tock_line-plac
 
 pub openings_place_by_lines : (p : Image) (script : List (ℤ × Item)) → (opening p script).0.places ≡ places_after_all (opening p script).1 []
 unfolding Leads
-openings_place_by_lines p script = settles-leads place_by_lines (opens p) (opens-keeps place_by_lines p) (blank_world p script)
+openings_place_by_lines p script = settles-leads place_by_lines p (opens p) (opens-keeps place_by_lines p) (blank_world p script)
 
 pub instants_place_by_lines : (p : Image) (w : World) → (instant p w).0.places ≡ places_after_all (instant p w).1 w.places
 unfolding Leads

@@ -26,8 +26,8 @@ tocks_take_one_tick p w =
 
 pub opening-now : (p : Image) (script : List (ℤ × Item)) → (opening p script).0.time ≡ 0
 unfolding Leads
-opening-now p script = ap (λ x. x.0) (settles-leads at_once (opens p) (opens-keeps at_once p) (blank_world p script))
+opening-now p script = ap (λ x. x.0) (settles-leads at_once p (opens p) (opens-keeps at_once p) (blank_world p script))
 
 pub opening-runner : (p : Image) (script : List (ℤ × Item)) → (opening p script).0.ran ≡ None
 unfolding Leads
-opening-runner p script = ap (λ x. x.1) (settles-leads at_once (opens p) (opens-keeps at_once p) (blank_world p script))
+opening-runner p script = ap (λ x. x.1) (settles-leads at_once p (opens p) (opens-keeps at_once p) (blank_world p script))

@@ -17,7 +17,8 @@ use Rattle.profile_machine.specs.declared.world.scopes.Variable.{Variable}
 use Rattle.profile_machine.specs.declared.world.calls.Outcome.TheVariants as call_ended
 use Rattle.profile_machine.specs.declared.world.marks.Mark.TheVariants.{Abortable}
 use Rattle.profile_machine.specs.Program.{declaration_of}
-use Rattle.profile_machine.specs.Steps.{Part, changes}
+use Rattle.profile_machine.specs.declared.world.lines.Part.{Part}
+use Rattle.profile_machine.specs.Steps.{changes}
 use Rattle.profile_machine.specs.Tasks.{waiting_of}
 use Rattle.profile_machine.specs.Frames.{pop, pass_on, leaving_of}
 use Rattle.profile_machine.specs.Scopes.{write_cell}

@@ -2,13 +2,14 @@
 use Rattle.std.specs.Prelude.{ℕ, true, false, List}
 use Rattle.ann_base.specs.declared.identities.CallNo.{CallNo}
 use Rattle.ann_base.specs.declared.identities.ObjectNo.{ObjectNo}
-use Rattle.trace_text.specs.declared.events.Event.TheVariants as line
+use Rattle.profile_machine.specs.declared.world.lines.Line.TheVariants as line
 use Rattle.profile_machine.specs.declared.image.Image.{Image}
 use Rattle.profile_machine.specs.declared.world.objects.Object.{Object}
 use Rattle.profile_machine.specs.declared.world.calls.Call.{Call}
 use Rattle.profile_machine.specs.declared.world.calls.Owner.{Owner}
 use Rattle.profile_machine.specs.declared.world.calls.Owner.TheVariants as owned_by
-use Rattle.profile_machine.specs.Steps.{Step, Part, says, changes, ◌▷◌}
+use Rattle.profile_machine.specs.declared.world.lines.Part.{Part}
+use Rattle.profile_machine.specs.Steps.{Step, says, changes, ◌▷◌}
 use Rattle.profile_machine.specs.Appointments.{is_timeout_of}
 use Rattle.profile_machine.specs.Calls.{edit_call, forget_call, with_call, says_call, edit_object, edit_queue, place_of_entry, put_call, take_call, enqueued, enqueue, unqueued, is_cancellable, attempt_on, attempt_with, attempt}
 use Rattle.std.proofs.Common.{◌≡◌, refl}

@@ -1,16 +1,17 @@
 -- Steps and moves that are put together of those that keep a relation keep it.
 use Rattle.std.proofs.Common.{◌≡◌, Bool, true, false, cond, List, [], ◌∷◌, ◌++◌, Option, Some, None, refl, sym, subst, ap, ◌∙◌, append_assoc, append-nil}
 use Rattle.std.specs.Prelude.{Ok, Err}
-use Rattle.trace_text.specs.declared.events.Event.{Event}
 use Rattle.trace_text.specs.declared.events.Who.{Who}
 use Rattle.profile_machine.specs.declared.image.Image.{Image}
 use Rattle.profile_machine.specs.declared.world.World.{World}
-use Rattle.profile_machine.specs.Steps.{Step, Move, Done, done, Part, Said, goes_on_with, nothing, changes, says, looks, when, for_some, for_each, placed_by, settled, settles, rests, watches, ◌▷◌, ◌▶◌}
+use Rattle.profile_machine.specs.declared.world.lines.Line.{Line}
+use Rattle.profile_machine.specs.declared.world.lines.Part.{Part}
+use Rattle.profile_machine.specs.declared.world.lines.Said.{Said}
+use Rattle.profile_machine.specs.Steps.{Step, Move, Done, done, goes_on_with, nothing, changes, says, looks, when, for_some, for_each, placed_by, settled, settles, rests, watches, ◌▷◌, ◌▶◌}
 use Rattle.profile_machine.specs.Operators.{Valued, ◌>>=◌}
 use Rattle.profile_machine.specs.Values.{Seen, seen_by}
 use Rattle.profile_machine.specs.Statements.{sees}
 use Rattle.machine_laws.proofs.Moves.{StepRelation, MoveRelation, Moves, lines_of}
-use Rattle.machine_laws.specs.LineKinds.{is_of_effect}
 
 -- ---- what it is to keep a relation
 
@@ -84,9 +85,9 @@ module _ {R : StepRelation} {Q : MoveRelation} (moves : Moves R Q) where
   unfolding Alters
   unchanged-alters w = moves.stays w
 
-  pub says-keeps : (part : Part) (event : Event) → is_of_effect event ≡ true → Keeps R (says part event)
+  pub says-keeps : (part : Part) (line : Line) → Keeps R (says part line)
   unfolding Keeps Kept
-  says-keeps part event a w said = (record { part = part; event = event } ∷ [], refl, moves.says part event w a)
+  says-keeps part line w said = (record { part = part; line = line } ∷ [], refl, moves.says part line w)
 
   pub looks-keeps : (f : World → Step) → ((v : World) → Keeps R (f v)) → Keeps R (looks f)
   unfolding Keeps
@@ -187,10 +188,10 @@ module _ {R : StepRelation} {Q : MoveRelation} (moves : Moves R Q) where
   branch-leads false f g a b = b
 
   -- an effect is over
-  settled-kept : (w : World) (d : Done) → Kept R w [] d → Q w (settled d).1 (settled d).0
+  settled-kept : (p : Image) (w : World) (d : Done) → Kept R w [] d → Q w (settled p d).1 (settled p d).0
   unfolding Kept
-  settled-kept w (done v ys) a = subst (λ xs. Q w (lines_of xs) (placed_by (lines_of xs) v)) (sym a.1) (moves.settles w v a.0 a.2)
+  settled-kept p w (done v ys) a = subst (λ xs. Q w (lines_of p xs) (placed_by (lines_of p xs) v)) (sym a.1) (moves.settles p w v a.0 a.2)
 
-  pub settles-leads : (step : Step) → Keeps R step → Leads Q (settles step)
+  pub settles-leads : (p : Image) (step : Step) → Keeps R step → Leads Q (settles p step)
   unfolding Keeps Leads
-  settles-leads step a w = settled-kept w (step w []) (a w [])
+  settles-leads p step a w = settled-kept p w (step w []) (a w [])

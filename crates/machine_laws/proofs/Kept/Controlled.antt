@@ -1,6 +1,6 @@
 -- Initialize, Finalize and assignment: each step keeps a relation that its parts keep.
 use Rattle.std.specs.Prelude.{ℕ, suc, Bool, true, false, Option, Some, None}
-use Rattle.trace_text.specs.declared.events.Event.TheVariants as line
+use Rattle.profile_machine.specs.declared.world.lines.Line.TheVariants as line
 use Rattle.trace_text.specs.declared.events.Who.{Who}
 use Rattle.profile_machine.specs.declared.image.Image.{Image}
 use Rattle.profile_machine.specs.declared.numbers.DeclNo.{DeclNo}
@@ -17,7 +17,8 @@ use Rattle.profile_machine.specs.declared.world.marks.AssignMark.{AssignMark}
 use Rattle.profile_machine.specs.declared.world.marks.AssignStep.{AssignStep}
 use Rattle.profile_machine.specs.declared.world.marks.AssignStep.TheVariants as assigning
 use Rattle.profile_machine.specs.Program.{declaration_of}
-use Rattle.profile_machine.specs.Steps.{own, says, changes, ◌▷◌}
+use Rattle.profile_machine.specs.declared.world.lines.Part.TheVariants.{Own}
+use Rattle.profile_machine.specs.Steps.{says, changes, ◌▷◌}
 use Rattle.profile_machine.specs.Scopes.{write_cell}
 use Rattle.profile_machine.specs.Statements.{cells_from, put_cells}
 use Rattle.profile_machine.specs.Controlled.{first_place, open_operation, top_region, registered_as, register, initialize_by, initialize, end_in_initialize, edit_top_scope, finalize_has_raised, open_finalize, has_room_to_finalize, finalize_by, no_longer_registered, finalize, behind_finalize, end_in_finalize, begin_assignment, assign_registered, assign_located, assign_controlled, edit_top_assign, leave_without_room, finalize_target_by, has_room_to_adjust, adjust_by, copy_components_of, copy_object, do_step, step_with, end_in_assign}
@@ -35,7 +36,7 @@ module _ {R : StepRelation} {Q : MoveRelation} (moves : Moves R Q) where
   unfolding register
   register-keeps p name l =
       looks-from moves _ (λ w. let n = suc w.drawn.controlled in
-      then-from moves (changes (registered_as n (top_region w name) l)) (changes (write_cell l.within (first_place p l) (Thing n)) ▷ says own (line.Init name n (top_region w name) (declaration_of p l.declared).name)) w
+      then-from moves (changes (registered_as n (top_region w name) l)) (changes (write_cell l.within (first_place p l) (Thing n)) ▷ says Own (line.Init name n (top_region w name) l.declared)) w
       (changes-from moves (registered_as n (top_region w name) l) w (moves.registers (top_region w name) l w))
       (search (then-keeps, changes-keeps, write_cell-alters, says-keeps)))
 

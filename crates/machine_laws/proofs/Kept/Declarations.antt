@@ -1,7 +1,7 @@
 -- Declarations of objects: each step keeps a relation that its parts keep.
 use Rattle.std.specs.Prelude.{ℕ, suc, not, List, [], ◌∷◌, Ok, leb, length}
 use Rattle.ann_base.specs.declared.exceptions.Raised.TheVariants as exception
-use Rattle.trace_text.specs.declared.events.Event.TheVariants as line
+use Rattle.profile_machine.specs.declared.world.lines.Line.TheVariants as line
 use Rattle.trace_text.specs.declared.events.Created.TheVariants as created
 use Rattle.trace_text.specs.declared.events.Who.{Who}
 use Rattle.profile_machine.specs.declared.image.Image.{Image}
@@ -20,7 +20,8 @@ use Rattle.profile_machine.specs.declared.world.World.{World}
 use Rattle.profile_machine.specs.declared.world.scopes.Located.{Located}
 use Rattle.profile_machine.specs.declared.world.scopes.Variable.{Variable}
 use Rattle.profile_machine.specs.Program.{declaration_of, next_of, protected_unit_of, controlled_of}
-use Rattle.profile_machine.specs.Steps.{own, changes, ◌▷◌}
+use Rattle.profile_machine.specs.declared.world.lines.Part.TheVariants.{Own}
+use Rattle.profile_machine.specs.Steps.{changes, ◌▷◌}
 use Rattle.profile_machine.specs.Frames.{goes}
 use Rattle.profile_machine.specs.Operators.{◌>>=◌, unless}
 use Rattle.profile_machine.specs.Values.{Seen, value, object_cell, component_at, protected_cells, controlled_cells}
@@ -71,14 +72,14 @@ module _ {R : StepRelation} {Q : MoveRelation} (moves : Moves R Q) where
 
   says_object-keeps : (p : Image) (l : Located) (u : ProtectedUnitNo) → Keeps R (says_object p l u)
   unfolding says_object
-  says_object-keeps p l u = looks-keeps moves _ (λ w. says-keeps moves own (line.New (created.Object (record { 0 = w.drawn.objects })) (declaration_of p l.declared).expanded (protected_unit_of p u).ceiling) refl)
+  says_object-keeps p l u = looks-keeps moves _ (λ w. says-keeps moves Own (line.New (created.Object (record { 0 = w.drawn.objects })) (Some l.declared) (protected_unit_of p u).ceiling))
 
   pub declare_protected-keeps : (p : Image) (name : Who) (s : StatementNo) (d : DeclNo) (u : ProtectedUnitNo) → Keeps R (declare_protected p name s d u)
   unfolding declare_protected
   declare_protected-keeps p name s d u =
       looks-from moves _ (λ w. let q = seen_by p w name in
-      given-from moves p own name (located_here q d) _ w (λ l.
-      given_world-from moves p own name (components_initialized q protected_cells l (protected_unit_of p u).components w) (λ _. goes name (next_of p s) ▷ changes (with_object p l u) ▷ says_object p l u) w
+      given-from moves p Own name (located_here q d) _ w (λ l.
+      given_world-from moves p Own name (components_initialized q protected_cells l (protected_unit_of p u).components w) (λ _. goes name (next_of p s) ▷ changes (with_object p l u) ▷ says_object p l u) w
       (components_initialized-gives q protected_cells l (protected_unit_of p u).components w)
       (λ _. search (then-keeps, goes-keeps, changes-keeps, with_object-alters, says_object-keeps))))
 
@@ -126,7 +127,7 @@ module _ {R : StepRelation} {Q : MoveRelation} (moves : Moves R Q) where
   unfolding declare_quietly
   declare_quietly-keeps p name s d =
       looks-from moves _ (λ w.
-      given_world-from moves p own name (declared (seen_by p w name) d (declaration_of p d).kind) (λ _. goes name (next_of p s)) w
+      given_world-from moves p Own name (declared (seen_by p w name) d (declaration_of p d).kind) (λ _. goes name (next_of p s)) w
       (declared-gives (seen_by p w name) d (declaration_of p d).kind) (λ _. goes-keeps moves name (next_of p s)))
 
   pub declare_by-keeps : (p : Image) (name : Who) (s : StatementNo) (d : DeclNo) (kind : DeclarationKind) → Keeps R (declare_by p name s d kind)

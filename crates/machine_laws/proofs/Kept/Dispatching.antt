@@ -1,13 +1,13 @@
 -- Placing and blocking: each step keeps a relation that its parts keep.
 use Rattle.std.specs.Prelude.{ℕ, Bool, true, cond, ◌&&◌, eqb, slice_index_or}
-use Rattle.trace_text.specs.declared.events.Event.TheVariants as line
+use Rattle.profile_machine.specs.declared.world.lines.Line.TheVariants as line
 use Rattle.trace_text.specs.declared.events.Who.{Who}
 use Rattle.trace_text.specs.declared.events.QueueEnd.{QueueEnd}
 use Rattle.profile_machine.specs.declared.image.Image.{Image}
 use Rattle.profile_machine.specs.declared.world.tasks.Task.{Task}
 use Rattle.profile_machine.specs.declared.world.tasks.Waiting.{Waiting}
 use Rattle.profile_machine.specs.Program.{is_robin_level, edf_low}
-use Rattle.profile_machine.specs.Steps.{Part}
+use Rattle.profile_machine.specs.declared.world.lines.Part.{Part}
 use Rattle.profile_machine.specs.Tasks.{task_of}
 use Rattle.profile_machine.specs.Dispatching.{active, level_kept_by, keep_level, deadline_shown, says_ready, granted, grant_quantum, to_tail, to_head, ready, says_block, block}
 use Rattle.std.proofs.Common.{◌≡◌, refl}
@@ -23,7 +23,7 @@ module _ {R : StepRelation} {Q : MoveRelation} (moves : Moves R Q) where
 
   pub says_ready-keeps : (p : Image) (part : Part) (name : Who) (end : QueueEnd) → Keeps R (says_ready p part name end)
   unfolding says_ready
-  says_ready-keeps p part name end = looks-keeps moves _ (λ w. says-keeps moves part (line.Ready name (active p (task_of w name)) end (deadline_shown p (task_of w name))) refl)
+  says_ready-keeps p part name end = looks-keeps moves _ (λ w. says-keeps moves part (line.Ready name (active p (task_of w name)) end (deadline_shown p (task_of w name))))
 
   full_quantum-who : (b : Bool) (n : ℕ) (t : Task) → (cond b (record t { quantum = n }) t).who ≡ t.who
   full_quantum-who true n t = refl

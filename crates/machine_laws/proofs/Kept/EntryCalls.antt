@@ -19,7 +19,9 @@ use Rattle.profile_machine.specs.declared.world.calls.CallKind.{CallKind}
 use Rattle.profile_machine.specs.declared.world.calls.Owner.{Owner}
 use Rattle.profile_machine.specs.declared.world.appointments.Due.TheVariants as due_for
 use Rattle.profile_machine.specs.declared.world.calls.Owner.TheVariants as owned_by
-use Rattle.profile_machine.specs.Steps.{Step, Part, own, changes, looks, ◌▷◌}
+use Rattle.profile_machine.specs.declared.world.lines.Part.{Part}
+use Rattle.profile_machine.specs.declared.world.lines.Part.TheVariants.{Own}
+use Rattle.profile_machine.specs.Steps.{Step, changes, looks, ◌▷◌}
 use Rattle.profile_machine.specs.Program.{next_of}
 use Rattle.profile_machine.specs.Frames.{frames_of, edit_top, goes_on}
 use Rattle.profile_machine.specs.Sending.{open_abortable}
@@ -150,7 +152,7 @@ module _ {R : StepRelation} {Q : MoveRelation} (moves : Moves R Q) where
   pub async_delay-keeps : (p : Image) (name : Who) (s trigger : StatementNo) → Keeps R (async_delay p name s trigger)
   unfolding async_delay
   async_delay-keeps p name s trigger =
-      looks-from moves _ (λ w. raise_if-from moves p name _ _ _ w (given-from moves p own name _ _ w (λ m. trigger_delay-from p name s trigger m (int_lt (pos w.time) m) w refl)))
+      looks-from moves _ (λ w. raise_if-from moves p name _ _ _ w (given-from moves p Own name _ _ w (λ m. trigger_delay-from p name s trigger m (int_lt (pos w.time) m) w refl)))
 
   pub async_by_trigger-keeps : (p : Image) (name : Who) (s trigger : StatementNo) (form : StatementForm) → Keeps R (async_by_trigger p name s trigger form)
   unfolding async_by_trigger

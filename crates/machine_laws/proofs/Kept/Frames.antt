@@ -13,7 +13,9 @@ use Rattle.profile_machine.specs.declared.world.World.{World}
 use Rattle.profile_machine.specs.declared.world.marks.Frame.{Frame}
 use Rattle.profile_machine.specs.declared.world.marks.Mark.TheVariants.{Handled}
 use Rattle.profile_machine.specs.Program.{next_of}
-use Rattle.profile_machine.specs.Steps.{Part, own, Step, changes, ◌▷◌}
+use Rattle.profile_machine.specs.declared.world.lines.Part.{Part}
+use Rattle.profile_machine.specs.declared.world.lines.Part.TheVariants.{Own}
+use Rattle.profile_machine.specs.Steps.{Step, changes, ◌▷◌}
 use Rattle.profile_machine.specs.Frames.{top_of, new_frame, edit_top, goes, push, pop, leaves, raises, has_room, open_handled, open_at, open_sequence, open_if_ready, stands_in, exit_loop, pass_on, given, raise_if, with_room, goes_on}
 use Rattle.profile_machine.specs.Operators.{Valued}
 use Rattle.machine_laws.proofs.Moves.{StepRelation, MoveRelation, Moves}
@@ -84,7 +86,7 @@ module _ {R : StepRelation} {Q : MoveRelation} (moves : Moves R Q) where
   given-from p part name (Err e) f w k = keeps-from moves (raises p part name e) w (raises-keeps p part name e)
 
   pub raise_if-from : (p : Image) (name : Who) (test : Bool) (e : Raised) (step : Step) (w : World) → From R w step → From R w (raise_if p name test e step)
-  raise_if-from p name true e step w k = keeps-from moves (raises p own name e) w (raises-keeps p own name e)
+  raise_if-from p name true e step w k = keeps-from moves (raises p Own name e) w (raises-keeps p Own name e)
   raise_if-from p name false e step w k = k
 
   -- a step behind the going on
@@ -103,16 +105,16 @@ module _ {R : StepRelation} {Q : MoveRelation} (moves : Moves R Q) where
   becomes-from p part name (Ok next) w a = changes-from moves (λ _. next) w a
   becomes-from p part name (Err e) w a = keeps-from moves (raises p part name e) w (raises-keeps p part name e)
 
-  branch-from : (p : Image) (name : Who) (test : Bool) (e : Raised) (step : Step) (w : World) → From R w step → From R w (elim test as (λ _. Step) [ true ↦ step | false ↦ raises p own name e ])
+  branch-from : (p : Image) (name : Who) (test : Bool) (e : Raised) (step : Step) (w : World) → From R w step → From R w (elim test as (λ _. Step) [ true ↦ step | false ↦ raises p Own name e ])
   branch-from p name true e step w k = k
-  branch-from p name false e step w k = keeps-from moves (raises p own name e) w (raises-keeps p own name e)
+  branch-from p name false e step w k = keeps-from moves (raises p Own name e) w (raises-keeps p Own name e)
 
   pub with_room-from : (p : Image) (name : Who) (marks cells : ℕ) (step : Step) (w : World) → From R w step → From R w (with_room p name marks cells step)
-  with_room-from p name marks cells step w k = looks_at-from moves (λ v. elim (has_room v name marks cells) as (λ _. Step) [ true ↦ step | false ↦ raises p own name exception.Storage ]) w (branch-from p name (has_room w name marks cells) exception.Storage step w k)
+  with_room-from p name marks cells step w k = looks_at-from moves (λ v. elim (has_room v name marks cells) as (λ _. Step) [ true ↦ step | false ↦ raises p Own name exception.Storage ]) w (branch-from p name (has_room w name marks cells) exception.Storage step w k)
 
   pub raise_if-keeps : (p : Image) (name : Who) (test : Bool) (e : Raised) (step : Step) → Keeps R step → Keeps R (raise_if p name test e step)
   raise_if-keeps p name true e step kept = search (raises-keeps)
   raise_if-keeps p name false e step kept = search
 
   pub with_room-keeps : (p : Image) (name : Who) (marks cells : ℕ) (step : Step) → Keeps R step → Keeps R (with_room p name marks cells step)
-  with_room-keeps p name marks cells step kept = looks-keeps moves _ (λ w. branch-keeps moves (has_room w name marks cells) step (raises p own name exception.Storage) (search) (search (raises-keeps)))
+  with_room-keeps p name marks cells step kept = looks-keeps moves _ (λ w. branch-keeps moves (has_room w name marks cells) step (raises p Own name exception.Storage) (search) (search (raises-keeps)))

@@ -1,7 +1,7 @@
 -- Events, timers, budgets, interrupts and releases: each step keeps a relation that its parts keep.
 use Rattle.std.specs.Prelude.{ℕ, ◌+◌, ◌-◌, ℤ, pos, int_lt, Bool, true, false, cond, Option, Some, None}
 use Rattle.ann_base.specs.declared.identities.TaskNo.{TaskNo}
-use Rattle.trace_text.specs.declared.events.Event.TheVariants as line
+use Rattle.profile_machine.specs.declared.world.lines.Line.TheVariants as line
 use Rattle.trace_text.specs.declared.events.Who.{Who}
 use Rattle.trace_text.specs.declared.events.Who.TheVariants as who
 use Rattle.profile_machine.specs.declared.image.Image.{Image}
@@ -22,7 +22,9 @@ use Rattle.profile_machine.specs.declared.world.appointments.Due.TheVariants as 
 use Rattle.profile_machine.specs.declared.world.tasks.State.TheVariants.{Made, Runnable, Blocked}
 use Rattle.profile_machine.specs.declared.world.tasks.Task as world
 use Rattle.profile_machine.specs.Program.{is_robin_level, marks_of, subprogram_of}
-use Rattle.profile_machine.specs.Steps.{Step, Part, own}
+use Rattle.profile_machine.specs.declared.world.lines.Part.{Part}
+use Rattle.profile_machine.specs.declared.world.lines.Part.TheVariants.{Own}
+use Rattle.profile_machine.specs.Steps.{Step}
 use Rattle.profile_machine.specs.Tasks.{task_of, edit_task}
 use Rattle.profile_machine.specs.Frames.{has_room}
 use Rattle.profile_machine.specs.Values.{Seen}
@@ -50,7 +52,7 @@ module _ {R : StepRelation} {Q : MoveRelation} (moves : Moves R Q) where
 
   says_release-keeps : (p : Image) (part : Part) (h : HandlerOf) → Keeps R (says_release p part h)
   unfolding says_release
-  says_release-keeps p part h = looks-keeps moves _ (λ w. says-keeps moves part (line.Release w.drawn.releases h.object (subprogram_of p h.procedure).name) refl)
+  says_release-keeps p part h = looks-keeps moves _ (λ w. says-keeps moves part (line.Release w.drawn.releases h))
 
   pub wake_agent-keeps : (p : Image) (part : Part) (state : State) → Keeps R (wake_agent p part state)
   unfolding wake_agent
@@ -93,7 +95,7 @@ module _ {R : StepRelation} {Q : MoveRelation} (moves : Moves R Q) where
 
   pub answer-keeps : (p : Image) (name : Who) (v : Variable) (b : Bool) → Keeps R (answer p name v b)
   unfolding answer
-  answer-keeps p name v b = looks-from moves _ (λ w. becomes-from moves p own name (store p v (Truth b) w) w (store-gives moves p v (Truth b) w))
+  answer-keeps p name v b = looks-from moves _ (λ w. becomes-from moves p Own name (store p v (Truth b) w) w (store-gives moves p v (Truth b) w))
 
   pub cancel_event_setting-alters : (e : ℕ) → Alters R (cancel_event_setting e)
   cancel_event_setting-alters e = search (drop_appointment-alters)
@@ -101,7 +103,7 @@ module _ {R : StepRelation} {Q : MoveRelation} (moves : Moves R Q) where
   appoint_event-from : (p : Image) (e : ℕ) (h : HandlerOf) (m : ℤ) (test : Bool) (w : World) → int_lt (pos w.time) m ≡ test → From R w (appoint_event p e h m test)
   unfolding appoint_event
   appoint_event-from p e h m true w is = appoint-from moves (due_for.Event e h) m w is
-  appoint_event-from p e h m false w is = keeps-from moves (release p own h (Some e)) w (release-keeps p own h (Some e))
+  appoint_event-from p e h m false w is = keeps-from moves (release p Own h (Some e)) w (release-keeps p Own h (Some e))
 
   pub event_set_to-keeps : (p : Image) (e : ℕ) (h : Option HandlerOf) (m : ℤ) → Keeps R (event_set_to p e h m)
   unfolding event_set_to

@@ -37,7 +37,7 @@ module _ {R : StepRelation} {Q : MoveRelation} (moves : Moves R Q) where
   effect_of_runner-leads : (p : Image) (by : Option Who) → Leads Q (effect_of_runner p by)
   effect_of_runner-leads p None = rests-leads moves
   effect_of_runner-leads p (Some name) =
-      watches-leads moves _ (λ w. branch-leads moves (is_over (task_of w name).ticks_left) (settles (effect p name)) rests (search (settles-leads, effect-keeps)) (search (rests-leads)))
+      watches-leads moves _ (λ w. branch-leads moves (is_over (task_of w name).ticks_left) (settles p (effect p name)) rests (search (settles-leads, effect-keeps)) (search (rests-leads)))
 
   pub finish_action-leads : (p : Image) → Leads Q (finish_action p)
   finish_action-leads p = search (watches-leads, effect_of_runner-leads)

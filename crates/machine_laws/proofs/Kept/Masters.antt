@@ -5,7 +5,7 @@ use Rattle.trace_text.specs.declared.events.Who.{Who}
 use Rattle.profile_machine.specs.declared.image.Image.{Image}
 use Rattle.profile_machine.specs.declared.world.tasks.Task.{Task}
 use Rattle.profile_machine.specs.declared.world.calls.Call.{Call}
-use Rattle.profile_machine.specs.Steps.{Part}
+use Rattle.profile_machine.specs.declared.world.lines.Part.{Part}
 use Rattle.profile_machine.specs.Masters.{gone_by_completion, wake_activator, end_group, end_activation_by, end_activation, complete_with, complete, wake_master, forget_task, terminate, leave_by_terminate}
 use Rattle.machine_laws.proofs.Moves.{StepRelation, MoveRelation, Moves}
 use Rattle.machine_laws.proofs.Kept.Combinators.{Keeps, Alters, changes-keeps, cond-keeps, for_each-keeps, for_some-keeps, looks-keeps, nothing-keeps, then-keeps, when-keeps}

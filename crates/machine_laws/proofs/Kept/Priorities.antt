@@ -14,7 +14,9 @@ use Rattle.profile_machine.specs.declared.world.tasks.State.TheVariants.{Made, R
 use Rattle.profile_machine.specs.declared.world.tasks.Task as world
 use Rattle.profile_machine.specs.Words.{edit_at}
 use Rattle.profile_machine.specs.Program.{next_of, has_edf}
-use Rattle.profile_machine.specs.Steps.{Part, own, changes}
+use Rattle.profile_machine.specs.declared.world.lines.Part.{Part}
+use Rattle.profile_machine.specs.declared.world.lines.Part.TheVariants.{Own}
+use Rattle.profile_machine.specs.Steps.{changes}
 use Rattle.profile_machine.specs.Frames.{goes, in_protected}
 use Rattle.profile_machine.specs.Values.{value, moment, whole_in}
 use Rattle.profile_machine.specs.Calls.{place_of_entry, take_call, put_call}
@@ -105,8 +107,8 @@ module _ {R : StepRelation} {Q : MoveRelation} (moves : Moves R Q) where
   pub set_quantum-keeps : (p : Image) (name : Who) (s : StatementNo) (level quantum : ExprNo) → Keeps R (set_quantum p name s level quantum)
   unfolding set_quantum
   set_quantum-keeps p name s level quantum =
-      sees-keeps moves p name _ (λ q. given-keeps moves p own name (value q level) _ (λ v. given-keeps moves p own name (moment q quantum) _ (λ n.
-      given-keeps moves p own name (priority_in_range p p.policies.last_priority (whole_in v)) _ (λ l. given-keeps moves p own name (quantum_of p l n) _ (λ ticks.
+      sees-keeps moves p name _ (λ q. given-keeps moves p Own name (value q level) _ (λ v. given-keeps moves p Own name (moment q quantum) _ (λ n.
+      given-keeps moves p Own name (priority_in_range p p.policies.last_priority (whole_in v)) _ (λ l. given-keeps moves p Own name (quantum_of p l n) _ (λ ticks.
       then-keeps moves (goes name (next_of p s)) _ (goes-keeps moves name (next_of p s)) (set_level-keeps l ticks))))))
 
   pub defer_deadline-keeps : (name : Who) (d : ℤ) → Keeps R (defer_deadline name d)

@@ -3,8 +3,8 @@ use Rattle.std.specs.Prelude.{ℕ, List, Option, Some, None}
 use Rattle.ann_base.specs.declared.exceptions.Raised.TheVariants as exception
 use Rattle.ann_base.specs.declared.identities.ObjectNo.{ObjectNo}
 use Rattle.ann_base.specs.declared.identities.CallNo.{CallNo}
-use Rattle.trace_text.specs.declared.events.Event.TheVariants as line
-use Rattle.trace_text.specs.declared.events.Finished.TheVariants as finished
+use Rattle.profile_machine.specs.declared.world.lines.Line.TheVariants as line
+use Rattle.profile_machine.specs.declared.world.lines.MeetingEnd.TheVariants as meeting
 use Rattle.trace_text.specs.declared.events.Mode.{Mode}
 use Rattle.trace_text.specs.declared.events.Who.{Who}
 use Rattle.profile_machine.specs.declared.image.Image.{Image}
@@ -16,7 +16,8 @@ use Rattle.profile_machine.specs.declared.statements.Destination.{Destination}
 use Rattle.profile_machine.specs.declared.world.marks.ResultTo.{ResultTo}
 use Rattle.profile_machine.specs.declared.world.marks.ProtectedMark.{ProtectedMark}
 use Rattle.profile_machine.specs.declared.world.calls.Call.{Call}
-use Rattle.profile_machine.specs.Steps.{Step, Part, says, ◌▷◌}
+use Rattle.profile_machine.specs.declared.world.lines.Part.{Part}
+use Rattle.profile_machine.specs.Steps.{Step, says, ◌▷◌}
 use Rattle.profile_machine.specs.Frames.{exception_name}
 use Rattle.profile_machine.specs.Subprograms.{Handed}
 use Rattle.profile_machine.specs.Protected.{find_held, enter_or, where_let_inside, open_action, begin_action_on, begin_operation, call_operation_of, call_operation, begin_own_operation, call_own_operation, edit_top_protected, begin_call, body_opens, has_room_for_body, serve_call, Entering, same_object_again, above_ceiling, held_by_another, let_inside}
@@ -83,4 +84,4 @@ module _ {R : StepRelation} {Q : MoveRelation} (moves : Moves R Q) where
   body_opens-keeps p name o c = search (changes-keeps, edit_top_protected-alters, then-keeps, looks-keeps, open_scope-alters) depth 6
 
   pub serve_call-keeps : (p : Image) (part : Part) (name : Who) (o : ObjectNo) (c : Call) (then_ otherwise : Step) → Keeps R then_ → Keeps R otherwise → Keeps R (serve_call p part name o c then_ otherwise)
-  serve_call-keeps p part name o c then_ otherwise kept also_kept = looks-keeps moves _ (λ w. then-keeps moves (begin_call p part name c) _ (search (begin_call-keeps)) (branch-keeps moves (has_room_for_body p w name c.entry) (body_opens p name o c ▷ then_) (says part (line.Finish name c.number (finished.Raised (exception_name p exception.Storage))) ▷ otherwise) (search (body_opens-keeps, then-keeps)) (search (says-keeps, then-keeps))))
+  serve_call-keeps p part name o c then_ otherwise kept also_kept = looks-keeps moves _ (λ w. then-keeps moves (begin_call p part name c) _ (search (begin_call-keeps)) (branch-keeps moves (has_room_for_body p w name c.entry) (body_opens p name o c ▷ then_) (says part (line.Finish name c.number (meeting.Raised exception.Storage)) ▷ otherwise) (search (body_opens-keeps, then-keeps)) (search (says-keeps, then-keeps))))

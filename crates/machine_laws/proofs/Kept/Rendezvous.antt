@@ -22,7 +22,8 @@ use Rattle.profile_machine.specs.declared.world.appointments.Due.TheVariants as 
 use Rattle.profile_machine.specs.declared.world.calls.Owner.TheVariants as owned_by
 use Rattle.profile_machine.specs.declared.world.marks.Mark.TheVariants.{InAccept}
 use Rattle.profile_machine.specs.Program.{form_of, next_of, scope_of}
-use Rattle.profile_machine.specs.Steps.{Step, Part, changes}
+use Rattle.profile_machine.specs.declared.world.lines.Part.{Part}
+use Rattle.profile_machine.specs.Steps.{Step, changes}
 use Rattle.profile_machine.specs.Frames.{new_frame, edit_top, goes_on}
 use Rattle.profile_machine.specs.Scopes.{begin_scope, next_id, plainly, innermost}
 use Rattle.profile_machine.specs.Appointments.{drop_delay}

@@ -12,7 +12,8 @@ use Rattle.profile_machine.specs.declared.world.calls.CallKind.{CallKind}
 use Rattle.profile_machine.specs.declared.world.calls.Sending.{Sending}
 use Rattle.profile_machine.specs.declared.world.calls.CallKind.TheVariants as call_kind
 use Rattle.profile_machine.specs.declared.world.appointments.Due.TheVariants as due_for
-use Rattle.profile_machine.specs.Steps.{Part, changes}
+use Rattle.profile_machine.specs.declared.world.lines.Part.{Part}
+use Rattle.profile_machine.specs.Steps.{changes}
 use Rattle.profile_machine.specs.Sending.{open_abortable, is_not_future, is_conditional, is_to_be_cancelled, cancel_at_once, appoint_timeout, wait_for_call, wait_or_cancel, not_accepted, send_on, cancel_sent, begin_abortable, timeout_again, sent_not_begun_by, sent_not_begun}
 use Rattle.machine_laws.proofs.Moves.{StepRelation, MoveRelation, Moves}
 use Rattle.machine_laws.proofs.Kept.Combinators.{Keeps, From, Alters, changes-keeps, looks-keeps, looks-from, keeps-from, then-from, nothing-keeps, says-keeps, then-keeps, unchanged-alters, when-keeps}

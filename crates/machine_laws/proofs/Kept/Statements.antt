@@ -18,7 +18,8 @@ use Rattle.profile_machine.specs.declared.world.scopes.Variable.{Variable}
 use Rattle.profile_machine.specs.declared.world.appointments.Due.TheVariants as due_for
 use Rattle.profile_machine.specs.declared.world.tasks.Waiting.TheVariants as waits_for
 use Rattle.profile_machine.specs.Program.{declaration_of, next_of}
-use Rattle.profile_machine.specs.Steps.{own, the_block, changes}
+use Rattle.profile_machine.specs.declared.world.lines.Part.TheVariants.{Own, TheBlock}
+use Rattle.profile_machine.specs.Steps.{changes}
 use Rattle.profile_machine.specs.Frames.{goes}
 use Rattle.profile_machine.specs.Appointments.{appoint}
 use Rattle.profile_machine.specs.Dispatching.{block}
@@ -43,7 +44,7 @@ module _ {R : StepRelation} {Q : MoveRelation} (moves : Moves R Q) where
   unfolding assign
   assign-keeps p name s target e =
       looks-from moves _ (λ w. let q = seen_by p w name in
-      given_world-from moves p own name (variable q target >>= λ v. value q e >>= λ x. store p v x w) (λ _. goes name (next_of p s)) w
+      given_world-from moves p Own name (variable q target >>= λ v. value q e >>= λ x. store p v x w) (λ _. goes name (next_of p s)) w
       (bind-gives moves (variable q target) (λ v. value q e >>= λ x. store p v x w) w (λ v. bind-gives moves (value q e) (λ x. store p v x w) w (λ x. store-gives moves p v x w)))
       (λ _. goes-keeps moves name (next_of p s)))
 
@@ -62,7 +63,7 @@ module _ {R : StepRelation} {Q : MoveRelation} (moves : Moves R Q) where
   unfolding assign_array
   assign_array-keeps p name s target source =
       looks-from moves _ (λ w.
-      given_world-from moves p own name (array_copied p (seen_by p w name) target source) (λ _. goes name (next_of p s)) w
+      given_world-from moves p Own name (array_copied p (seen_by p w name) target source) (λ _. goes name (next_of p s)) w
       (array_copied-gives p (seen_by p w name) target source) (λ _. goes-keeps moves name (next_of p s)))
 
   pub if_statement-keeps : (p : Image) (name : Who) (e : ExprNo) (first : StatementNo) (otherwise : Option StatementNo) → Keeps R (if_statement p name e first otherwise)
@@ -107,7 +108,7 @@ module _ {R : StepRelation} {Q : MoveRelation} (moves : Moves R Q) where
   unfolding for_bounds
   for_bounds-keeps p name d reverse low high turn =
       looks-from moves _ (λ w.
-      given_world-from moves p own name (bounds_set (seen_by p w name) d reverse low high) (λ _. goes name (Some turn)) w
+      given_world-from moves p Own name (bounds_set (seen_by p w name) d reverse low high) (λ _. goes name (Some turn)) w
       (bounds_set-gives (seen_by p w name) d reverse low high) (λ _. goes-keeps moves name (Some turn)))
 
   pub first_turn-keeps : (p : Image) (name : Who) (s : StatementNo) (d : DeclNo) (reverse : Bool) (body : StatementNo) → Keeps R (first_turn p name s d reverse body)
@@ -144,7 +145,7 @@ module _ {R : StepRelation} {Q : MoveRelation} (moves : Moves R Q) where
   wait_until-from : (p : Image) (name : Who) (until : ℤ) (test : Bool) (w : World) → int_lt (pos w.time) until ≡ test → From R w (wait_until p name until test)
   unfolding wait_until
   wait_until-from p (who.Task t) until true w is =
-      then-from moves (changes (appoint (due_for.Delay t) until)) (block the_block (who.Task t) waits_for.Moment) w (appoint-from moves (due_for.Delay t) until w is) (search (block-keeps))
+      then-from moves (changes (appoint (due_for.Delay t) until)) (block TheBlock (who.Task t) waits_for.Moment) w (appoint-from moves (due_for.Delay t) until w is) (search (block-keeps))
   wait_until-from p (who.Task t) until false w is = keeps-from moves _ w (search (to_tail-keeps))
   wait_until-from p who.Agent until future w is = keeps-from moves _ w (search (nothing-keeps))
 

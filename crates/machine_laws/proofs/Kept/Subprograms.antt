@@ -16,7 +16,8 @@ use Rattle.profile_machine.specs.declared.world.marks.CopyBack.{CopyBack}
 use Rattle.profile_machine.specs.declared.world.marks.ResultTo.TheVariants as bound_for
 use Rattle.profile_machine.specs.Program.{subprogram_of}
 use Rattle.profile_machine.specs.Statements.{becomes}
-use Rattle.profile_machine.specs.Steps.{Step, own}
+use Rattle.profile_machine.specs.declared.world.lines.Part.TheVariants.{Own}
+use Rattle.profile_machine.specs.Steps.{Step}
 use Rattle.profile_machine.specs.Frames.{leaves}
 use Rattle.profile_machine.specs.Scopes.{home, write_cell, Beginning}
 use Rattle.profile_machine.specs.Operators.{◌>>=◌, checked}
@@ -57,7 +58,7 @@ module _ {R : StepRelation} {Q : MoveRelation} (moves : Moves R Q) where
   unfolding return_result
   return_result-keeps p name f v =
       looks-from moves _ (λ w.
-      given_world-from moves p own name (result_kept (seen_by p w name) f v) (λ _. leaves name how.Return) w
+      given_world-from moves p Own name (result_kept (seen_by p w name) f v) (λ _. leaves name how.Return) w
       (result_kept-gives (seen_by p w name) f v) (λ _. leaves-keeps moves name how.Return))
 
   pub return_value-keeps : (p : Image) (name : Who) (f : SubprogramNo) (e : ExprNo) → Keeps R (return_value p name f e)
@@ -76,14 +77,14 @@ module _ {R : StepRelation} {Q : MoveRelation} (moves : Moves R Q) where
   copy_parameters-keeps p name cells [] step k = k
   copy_parameters-keeps p name cells (b ∷ bs) step k =
       looks-from moves _ (λ w.
-      given_world-from moves p own name (store p b.target (cell_in cells b.place) w) (λ _. copy_parameters p name cells bs step) w
+      given_world-from moves p Own name (store p b.target (cell_in cells b.place) w) (λ _. copy_parameters p name cells bs step) w
       (store-gives moves p b.target (cell_in cells b.place) w) (λ _. copy_parameters-keeps p name cells bs step k))
 
   pub store_result-keeps : (p : Image) (name : Who) (cells : List Value) (to : ResultTo) → Keeps R (store_result p name cells to)
   unfolding store_result becomes
   store_result-keeps p name cells bound_for.Nowhere = search (nothing-keeps)
   store_result-keeps p name cells (bound_for.Variable v) =
-      looks-from moves _ (λ w. becomes-from moves p own name (store p v (last_cell cells) w) w (store-gives moves p v (last_cell cells) w))
+      looks-from moves _ (λ w. becomes-from moves p Own name (store p v (last_cell cells) w) w (store-gives moves p v (last_cell cells) w))
   store_result-keeps p name cells (bound_for.Return f) = search (return_result-keeps)
 
   pub end_subprogram-keeps : (p : Image) (name : Who) (cells : List Value) (back : List CopyBack) (to : ResultTo) (leaving : Leaving) → Keeps R (end_subprogram p name cells back to leaving)

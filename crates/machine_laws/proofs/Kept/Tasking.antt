@@ -2,7 +2,7 @@
 use Rattle.std.specs.Prelude.{ℕ, ◌-◌, Bool, true, false, ◌||◌, List, [], Option, Some, None, leb, length}
 use Rattle.ann_base.specs.declared.identities.RegionNo.{RegionNo}
 use Rattle.ann_base.specs.declared.exceptions.Raised.TheVariants as exception
-use Rattle.trace_text.specs.declared.events.Event.TheVariants as line
+use Rattle.profile_machine.specs.declared.world.lines.Line.TheVariants as line
 use Rattle.trace_text.specs.declared.events.Created.TheVariants as created
 use Rattle.trace_text.specs.declared.events.Who.{Who}
 use Rattle.trace_text.specs.declared.events.Who.TheVariants as who
@@ -20,7 +20,9 @@ use Rattle.profile_machine.specs.declared.world.tasks.Waiting.{Waiting}
 use Rattle.profile_machine.specs.declared.world.marks.Purpose.TheVariants as opened_for
 use Rattle.profile_machine.specs.declared.world.tasks.Task as world
 use Rattle.profile_machine.specs.Program.{declaration_of, next_of, scope_of, task_unit_of}
-use Rattle.profile_machine.specs.Steps.{Step, Part, own, changes, looks, for_some, ◌▷◌}
+use Rattle.profile_machine.specs.declared.world.lines.Part.{Part}
+use Rattle.profile_machine.specs.declared.world.lines.Part.TheVariants.{Own}
+use Rattle.profile_machine.specs.Steps.{Step, changes, looks, for_some, ◌▷◌}
 use Rattle.profile_machine.specs.Frames.{has_room, pass_on, in_protected, is_deferred, edit_top, goes_on}
 use Rattle.profile_machine.specs.Scopes.{home}
 use Rattle.profile_machine.specs.Controlled.{next_to_finalize, finalize}
@@ -45,7 +47,7 @@ use Rattle.machine_laws.proofs.Kept.Declarations.{set_thing-alters}
 module _ {R : StepRelation} {Q : MoveRelation} (moves : Moves R Q) where
   says_created-keeps : (p : Image) (d : DeclNo) (t : world.Task) → Keeps R (says_created p d t)
   unfolding says_created
-  says_created-keeps p d t = looks-keeps moves _ (λ w. says-keeps moves own (line.New (created.Task (record { 0 = w.drawn.tasks - 1 })) (declaration_of p d).expanded t.base) refl)
+  says_created-keeps p d t = looks-keeps moves _ (λ w. says-keeps moves Own (line.New (created.Task (record { 0 = w.drawn.tasks - 1 })) (Some d) t.base))
 
   -- the new task, behind its creator's going on
   added_behind : (onward : Option StatementNo) (name : Who) (t : world.Task) (w : World) → t.who ≡ who.Task (record { 0 = w.drawn.tasks }) → R (edit_top name (goes_on onward) w) [] (add_task t (edit_top name (goes_on onward) w))
@@ -70,7 +72,7 @@ module _ {R : StepRelation} {Q : MoveRelation} (moves : Moves R Q) where
       looks-from moves _ (λ w. let q = seen_by p w name in
       raise_if-from moves p name (in_protected w name || is_deferred w name) exception.Program _ w
       (raise_if-from moves p name (leb 256 (length w.tasks)) exception.Storage _ w
-      (given-from moves p own name (optional_span q (task_unit_of p (unit_of_declaration p d)).relative_deadline) _ w (λ span.
+      (given-from moves p Own name (optional_span q (task_unit_of p (unit_of_declaration p d)).relative_deadline) _ w (λ span.
       create_task-from p name s d (home w (declaration_of p d).scope q.within) (created_task q d (unit_of_declaration p d) part span w.drawn.tasks) w refl))))
 
   pub fall_from-keeps : (p : Image) (name : Who) (before : World) → Keeps R (fall_from p name before)

@@ -31,7 +31,7 @@ use Rattle.profile_machine.specs.Run.{run_of}
 use Rattle.profile_machine.specs.Computing.{computing}
 use Rattle.std.specs.Fmt.{digits}
 
--- Row 23: its run up to tick 20300.
+-- Row 23: its run up to tick 10300.
 abbrev pub row_23_program : Image
 row_23_program =
     record {
@@ -177,7 +177,7 @@ row_23_script =
 
 -- the lines of its run up to tick 20300
 unfoldable pub row_23_lines : List (ℕ × Event)
-row_23_lines = run_of row_23_program row_23_script 20300
+row_23_lines = run_of row_23_program row_23_script 10300
 
 unfoldable pub row_23_trace : List (ℕ × Event)
 row_23_trace =
@@ -212,25 +212,7 @@ row_23_trace =
     ∷ (10040, line.Ready (t 1) 20 Head None)
     ∷ (10046, line.Block (t 1) waits.Delay)
     ∷ (10046, line.Idle)
-    ∷ (20022, line.Ready (t 2) 22 Tail None)
-    ∷ (20022, line.Run (t 2))
-    ∷ (20024, line.Call (task 2) (call 1) (of_object 1 (codes "get")) 22)
-    ∷ (20024, line.Enter (t 2) (p 1) Write)
-    ∷ (20024, line.Start (t 2) (call 1))
-    ∷ (20024, line.Ready (t 2) 25 Head None)
-    ∷ (20028, line.Finish (t 2) (call 1) finished.Ok)
-    ∷ (20028, line.Exit (t 2) (p 1))
-    ∷ (20028, line.Ready (t 2) 22 Head None)
-    ∷ (20032, line.Ready (t 1) 20 Tail None)
-    ∷ (20034, line.Block (t 2) waits.Delay)
-    ∷ (20034, line.Run (t 1))
-    ∷ (20038, line.Enter (t 1) (p 1) Write)
-    ∷ (20038, line.Ready (t 1) 25 Head None)
-    ∷ (20042, line.Exit (t 1) (p 1))
-    ∷ (20042, line.Ready (t 1) 20 Head None)
-    ∷ (20048, line.Block (t 1) waits.Delay)
-    ∷ (20048, line.Idle)
-    ∷ (20300, line.End end.Bound)
+    ∷ (10300, line.End end.Bound)
     ∷ []
 
 pub row_23_runs : row_23_lines ≡ row_23_trace

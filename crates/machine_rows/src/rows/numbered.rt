@@ -233,7 +233,7 @@ pub fn row_20c()
     ensures releases { IsTrue row_20c_handlers }
 {}
 
-/// Row 23, up to tick 20300.
+/// Row 23, up to tick 10300.
 #[tactic(auto, using(crate::specs::Rows::Row23::row_23_runs))]
 pub fn row_23()
     ensures { row_23_lines ≡ row_23_trace }

@@ -1,11 +1,11 @@
 -- No step takes time: of all that steps are made of, only a tick does.
-use Rattle.std.proofs.Common.{◌≡◌, ℕ, ℤ, true, List, Option, ap, refl, sym, subst, ◌∙◌}
+use Rattle.std.proofs.Common.{◌≡◌, ℕ, ℤ, true, List, Option, Some, None, ap, refl, sym, subst, ◌∙◌}
 use Rattle.std.specs.Prelude.{int_lt, pos}
 use Rattle.trace_text.specs.declared.events.Who.{Who}
 use Rattle.trace_text.specs.declared.events.Who.TheVariants as who
 use Rattle.profile_machine.specs.declared.world.World.{World}
 use Rattle.profile_machine.specs.declared.world.tasks.Task.{Task}
-use Rattle.profile_machine.specs.Tasks.{edit_task}
+use Rattle.profile_machine.specs.Tasks.{task_at, edit_task_found, edit_task}
 use Rattle.machine_laws.proofs.Moves.{Moves}
 use Rattle.machine_laws.proofs.Kept.Combinators.{Alters}
 
@@ -17,9 +17,13 @@ clock_of w = (w.time, w.ran)
 abbrev pub AtOnce : {X : Type 0} → World → List X → World → Type 0
 AtOnce before lines after = clock_of after ≡ clock_of before
 
+edit_found-clock : (name : Who) (f : Task → Task) (w : World) (found : Option Task) → clock_of (edit_task_found name f w found) ≡ clock_of w
+edit_found-clock name f w None = refl
+edit_found-clock (who.Task t) f w (Some x) = refl
+edit_found-clock who.Agent f w (Some x) = refl
+
 edit_task-clock : (name : Who) (f : Task → Task) (w : World) → clock_of (edit_task name f w) ≡ clock_of w
-edit_task-clock (who.Task t) f w = refl
-edit_task-clock who.Agent f w = refl
+edit_task-clock name f w = edit_found-clock name f w (task_at w name)
 
 pub at_once : Moves AtOnce AtOnce
 at_once = record {

@@ -17,7 +17,7 @@ use Rattle.profile_machine.specs.declared.world.appointments.Due.TheVariants as 
 use Rattle.profile_machine.specs.Words.{same_bool, without}
 use Rattle.profile_machine.specs.declared.world.lines.Said.{Said}
 use Rattle.profile_machine.specs.Steps.{Move, Step, Done, done, goes_on_with, settled, ◌▶◌}
-use Rattle.profile_machine.specs.Tasks.{edit_task}
+use Rattle.profile_machine.specs.Tasks.{task_at, edit_task_found, edit_task}
 use Rattle.profile_machine.specs.Appointments.{drop_appointment, put_appointment, is_an_event, first_due}
 use Rattle.profile_machine.specs.Dispatching.{choose}
 use Rattle.profile_machine.specs.Instant.{is_the_same_due, come_due, take_due, all_due, appointments_due, events_due, moments_due, finish_action, script_items, timers_due, budgets_due, quantum_spent, instant}
@@ -109,9 +109,13 @@ module _ (events : Bool) where
   still : (w : World) → (w.time ≡ w.time) × (due_in w ≤ due_in w)
   still w = (refl, omega arith)
 
+  edit_found-still : (name : Who) (f : Task → Task) (w : World) (found : Option Task) → ((edit_task_found name f w found).time ≡ w.time) × (due_in (edit_task_found name f w found) ≤ due_in w)
+  edit_found-still name f w None = still w
+  edit_found-still (who.Task t) f w (Some x) = still w
+  edit_found-still who.Agent f w (Some x) = still w
+
   edit_task-still : (name : Who) (f : Task → Task) (w : World) → ((edit_task name f w).time ≡ w.time) × (due_in (edit_task name f w) ≤ due_in w)
-  edit_task-still (who.Task t) f w = still w
-  edit_task-still who.Agent f w = still w
+  edit_task-still name f w = edit_found-still name f w (task_at w name)
 
   never_more : Moves NeverMore NeverMore
   never_more = record {
@@ -229,7 +233,7 @@ module _ (p : Image) (events : Bool) where
   none_behind fuel again (done v said) most others = others v said most
 
   -- the lines of an effect change no appointment
-  settled-none : (d : Done) → due_in events (world_behind d) ≤ 0 → due_in events (settled d).0 ≤ 0
+  settled-none : (d : Done) → due_in events (world_behind d) ≤ 0 → due_in events (settled p d).0 ≤ 0
   settled-none (done w said) none = none
 
   taken_if : (fuel : ℕ) (found : Option Appointment) (w : World) (said : List Said) → first_due events w.time w.appointments ≡ found → due_in events w ≤ suc fuel
@@ -244,6 +248,7 @@ module _ (p : Image) (events : Bool) where
       none_behind fuel (all_due fuel p events) (come_due p a.due dropped said) (omega (arith, less, kept, most)) others
 
   taken : (fuel : ℕ) (w : World) (said : List Said) → due_in events w ≤ fuel → due_in events (world_behind (all_due fuel p events w said)) ≤ 0
+  unfolding all_due
   taken zero w said most = most
   taken (suc fuel) w said most = taken_if fuel (first_due events w.time w.appointments) w said refl most (taken fuel)
 

@@ -12,7 +12,7 @@ use Rattle.profile_machine.specs.Words.{is_empty, same_bool}
 use Rattle.profile_machine.specs.declared.world.lines.Said.{Said}
 use Rattle.profile_machine.specs.Steps.{done, settled, ◌▶◌}
 use Rattle.profile_machine.specs.Appointments.{first_due, is_an_event}
-use Rattle.profile_machine.specs.Instant.{take_due, all_due, appointments_due, events_due, moments_due, timers_due, budgets_due, quantum_spent, instant}
+use Rattle.profile_machine.specs.Instant.{take_due, all_due, appointments_due, events_due, moments_due, timers_due, budgets_due, quantum_spent, instant, items_due, spend_quantum}
 use Rattle.profile_machine.specs.Run.{Ran, stop, or_else, stop_by_bound, stopped, then_runs, tock, run_from}
 use Rattle.machine_laws.specs.IdleLaws.{idle_at, NoneBefore}
 
@@ -31,6 +31,7 @@ first_due-none events n m (x ∷ xs) a h =
     found-none (int_le x.moment (pos n)) (same_bool (is_an_event x.due) events) x (first_due events n xs) (not_due x.moment n m a h.0) (first_due-none events n m xs a h.1)
 
 all_due-none : (fuel : ℕ) (p : Image) (events : Bool) (w : World) (said : List Said) → first_due events w.time w.appointments ≡ None → all_due fuel p events w said ≡ done w said
+unfolding all_due
 all_due-none zero p events w said e = refl
 all_due-none (suc fuel) p events w said e = ap (λ a. take_due p (all_due fuel p events) a w said) e
 
@@ -51,7 +52,7 @@ behind_moments p a =
     (b.0, a.1 ++ b.1)
 
 instant-parts : (p : Image) (w : World) (n : ℕ) → instant p (idle_at w n) ≡ behind_events p (events_due p (idle_at w n))
-unfolding behind_events
+unfolding behind_events items_due
 instant-parts p w n = refl
 
 moments-parts : (p : Image) (w : World) (n : ℕ) → behind_events p (idle_at w n, []) ≡ behind_moments p (moments_due p (idle_at w n))
@@ -59,7 +60,7 @@ unfolding behind_events behind_moments
 moments-parts p w n = refl
 
 rest-none : (p : Image) (w : World) (n : ℕ) → behind_moments p (idle_at w n, []) ≡ (idle_at w n, [])
-unfolding behind_moments
+unfolding behind_moments spend_quantum
 rest-none p w n = refl
 
 pub instant-idle : (p : Image) (w : World) (n m : ℕ) → n < m → NoneBefore m w.appointments → instant p (idle_at w n) ≡ (idle_at w n, [])

@@ -87,7 +87,7 @@ Rises-set key test x y xs same low top true z is onward h =
     (subst (λ n. low ≤ n) (sym alike) h.0, subst (λ n. Rises key (suc n) top xs) (sym alike) h.1)
 Rises-set key test x y xs same low top false z is onward h = (h.0, onward is)
 
-Rises-set_where : {X : Type 0} (key : X → ℕ) (test : X → Bool) (x y : X) → key y ≡ key x → (low top : ℕ) (xs : List X) → find test xs ≡ Some x → Rises key low top xs → Rises key low top (set_where test y xs)
+pub Rises-set_where : {X : Type 0} (key : X → ℕ) (test : X → Bool) (x y : X) → key y ≡ key x → (low top : ℕ) (xs : List X) → find test xs ≡ Some x → Rises key low top xs → Rises key low top (set_where test y xs)
 Rises-set_where key test x y same low top [] is h = h
 Rises-set_where key test x y same low top (z ∷ zs) is h =
     Rises-set key test x y zs same low top (test z) z is (λ k. Rises-set_where key test x y same (suc (key z)) top zs k h.1) h

@@ -1,6 +1,6 @@
 -- The lists of a world that are numbered or in order stay so: tasks, calls, registered controlled objects, scopes in
 -- use, protected objects, releases and appointments.
-use Rattle.std.proofs.Common.{◌≡◌, ℕ, ℤ, suc, List, [], ◌∷◌, true, ltb, leb, ◌&&◌, refl, ap, subst, sym, ◌∙◌, arith}
+use Rattle.std.proofs.Common.{◌≡◌, ℕ, ℤ, suc, Option, Some, None, List, [], ◌∷◌, true, ltb, leb, ◌&&◌, refl, ap, subst, sym, ◌∙◌, arith}
 use Rattle.std.specs.List.{list_all}
 use Rattle.trace_text.specs.declared.events.Who.{Who}
 use Rattle.trace_text.specs.declared.events.Who.TheVariants as who
@@ -14,7 +14,7 @@ use Rattle.profile_machine.specs.declared.world.scopes.ScopeInUse.{ScopeInUse}
 use Rattle.profile_machine.specs.declared.world.scopes.ScopeId.{ScopeId}
 use Rattle.profile_machine.specs.declared.world.objects.Object.{Object}
 use Rattle.profile_machine.specs.declared.world.appointments.Release.{Release}
-use Rattle.profile_machine.specs.Tasks.{is_who, edit_task}
+use Rattle.profile_machine.specs.Tasks.{is_who, task_at, edit_task_found, edit_task}
 use Rattle.profile_machine.specs.Scopes.{goes_with, is_id, with_cells}
 use Rattle.profile_machine.specs.Calls.{is_call}
 use Rattle.profile_machine.specs.Values.{is_object}
@@ -24,7 +24,7 @@ use Rattle.profile_machine.specs.Run.{opens, blank_world}
 use Rattle.profile_machine.specs.WellFormed.{all_adjacent, number_in, is_older, tasks_are_numbered, registered_are_numbered, releases_are_numbered}
 use Rattle.machine_laws.specs.NumberLaws.{calls_fall, scopes_fall, objects_fall, appointments_rise}
 use Rattle.machine_laws.specs.Reached.{Reached}
-use Rattle.machine_laws.proofs.ListLemmas.{both, Falls, Falls-without, Falls-edit_where, Falls-adjacent, Falls-all, Rises, Rises-without, Rises-edit_where, Rises-behind, Rises-adjacent, Rises-all, Follows, Follows-behind, Follows-adjacent}
+use Rattle.machine_laws.proofs.ListLemmas.{both, Falls, Falls-without, Falls-edit_where, Falls-adjacent, Falls-all, Rises, Rises-without, Rises-set_where, Rises-behind, Rises-adjacent, Rises-all, Follows, Follows-behind, Follows-adjacent}
 use Rattle.machine_laws.proofs.AppointmentLemmas.{InOrder, InOrder-put, InOrder-without, InOrder-adjacent}
 use Rattle.machine_laws.proofs.ReachedLemmas.{Lasts, reached-lasts}
 use Rattle.machine_laws.proofs.Moves.{Moves, TockMoves}
@@ -75,10 +75,14 @@ Numbered w =
 abbrev StaysNumbered : {X : Type 0} → World → List X → World → Type 0
 StaysNumbered before lines after = Numbered before → Numbered after
 
+edit_found-numbered : (name : Who) (f : Task → Task) (w : World) → ((t : Task) → (f t).who ≡ t.who) → (found : Option Task) → task_at w name ≡ found → Numbered w → Numbered (edit_task_found name f w found)
+edit_found-numbered name f w k None is h = h
+edit_found-numbered (who.Task n) f w k (Some t) is h =
+    (Rises-set_where task_number (is_who (who.Task n)) t (f t) (ap number_in (k t)) 0 w.drawn.tasks w.tasks is h.0, h.1, h.2, h.3, h.4, h.5, h.6)
+edit_found-numbered who.Agent f w k (Some t) is h = h
+
 edit_task-numbered : (name : Who) (f : Task → Task) (w : World) → ((t : Task) → (f t).who ≡ t.who) → Numbered w → Numbered (edit_task name f w)
-edit_task-numbered (who.Task n) f w k h =
-    (Rises-edit_where task_number (is_who (who.Task n)) f (λ t. ap number_in (k t)) 0 w.drawn.tasks w.tasks h.0, h.1, h.2, h.3, h.4, h.5, h.6)
-edit_task-numbered who.Agent f w k h = h
+edit_task-numbered name f w k h = edit_found-numbered name f w k (task_at w name) refl h
 
 stays_numbered : Moves StaysNumbered StaysNumbered
 stays_numbered = record {

@@ -1,5 +1,5 @@
 -- The ready queues follow the lines.
-use Rattle.std.proofs.Common.{◌≡◌, ℕ, ℤ, true, List, [], ◌∷◌, ◌++◌, Option, refl, sym, ap, subst, ◌∙◌}
+use Rattle.std.proofs.Common.{◌≡◌, ℕ, ℤ, true, List, [], ◌∷◌, ◌++◌, Option, Some, None, refl, sym, ap, subst, ◌∙◌}
 use Rattle.trace_text.specs.declared.events.Event.{Event}
 use Rattle.trace_text.specs.declared.events.Event.TheVariants as line
 use Rattle.trace_text.specs.declared.events.Who.{Who}
@@ -10,7 +10,7 @@ use Rattle.profile_machine.specs.declared.world.World.{World}
 use Rattle.profile_machine.specs.declared.world.tasks.Task.{Task}
 use Rattle.profile_machine.specs.declared.world.tasks.Placed.{Placed}
 use Rattle.profile_machine.specs.Steps.{places_after, places_after_all}
-use Rattle.profile_machine.specs.Tasks.{edit_task}
+use Rattle.profile_machine.specs.Tasks.{task_at, edit_task_found, edit_task}
 use Rattle.profile_machine.specs.Dispatching.{choose}
 use Rattle.profile_machine.specs.Instant.{instant}
 use Rattle.profile_machine.specs.Run.{opens, opening, blank_world, tock}
@@ -39,9 +39,13 @@ places_after_all-append (x ∷ xs) ys places = places_after_all-append xs ys (pl
 follow-on : (a b c : World) (xs ys : List Event) → PlacesFollow a xs b → PlacesFollow b ys c → PlacesFollow a (xs ++ ys) c
 follow-on a b c xs ys p q = q ∙ ap (places_after_all ys) p ∙ sym (places_after_all-append xs ys a.places)
 
+edit_found-places : (name : Who) (f : Task → Task) (w : World) (found : Option Task) → (edit_task_found name f w found).places ≡ w.places
+edit_found-places name f w None = refl
+edit_found-places (who.Task n) f w (Some t) = refl
+edit_found-places who.Agent f w (Some t) = refl
+
 edit_task-places : (name : Who) (f : Task → Task) (w : World) → (edit_task name f w).places ≡ w.places
-edit_task-places (who.Task n) f w = refl
-edit_task-places who.Agent f w = refl
+edit_task-places name f w = edit_found-places name f w (task_at w name)
 
 place_by_lines : Moves SamePlaces PlacesFollow
 place_by_lines = record {

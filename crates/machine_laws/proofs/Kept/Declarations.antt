@@ -1,5 +1,5 @@
 -- Declarations of objects: each step keeps a relation that its parts keep.
-use Rattle.std.specs.Prelude.{ℕ, suc, not, List, [], ◌∷◌, Ok, leb, length}
+use Rattle.std.specs.Prelude.{ℕ, suc, not, List, [], ◌∷◌, Some, Ok, leb, length}
 use Rattle.ann_base.specs.declared.exceptions.Raised.TheVariants as exception
 use Rattle.profile_machine.specs.declared.world.lines.Line.TheVariants as line
 use Rattle.trace_text.specs.declared.events.Created.TheVariants as created

@@ -76,6 +76,7 @@ module _ {R : StepRelation} {Q : MoveRelation} (moves : Moves R Q) where
   with_script-alters script w = moves.cuts_script script w
 
   items_due-keeps : (p : Image) (now : ℕ) (script : List (ℤ × Item)) → Keeps R (items_due p now script)
+  unfolding items_due
   items_due-keeps p now [] = search (nothing-keeps)
   items_due-keeps p now (x ∷ xs) =
       branch-keeps moves (int_le x.0 (pos now)) (changes (with_script xs) ▷ script_item p x.1 ▷ items_due p now xs) nothing
@@ -109,6 +110,7 @@ module _ {R : StepRelation} {Q : MoveRelation} (moves : Moves R Q) where
   take_due-keeps p again (Some a) kept = search (changes-keeps, drop_appointment-alters, then-keeps, come_due-keeps)
 
   all_due-keeps : (fuel : ℕ) (p : Image) (events : Bool) → Keeps R (all_due fuel p events)
+  unfolding all_due
   all_due-keeps zero p events = search (nothing-keeps)
   all_due-keeps (suc fuel) p events =
       looks-keeps moves _ (λ w. take_due-keeps p (all_due fuel p events) (first_due events w.time w.appointments) (all_due-keeps fuel p events))
@@ -150,6 +152,7 @@ module _ {R : StepRelation} {Q : MoveRelation} (moves : Moves R Q) where
   budgets_due-leads p = search (settles-leads, looks-keeps, for_some-keeps, run_out-keeps, then-keeps, changes-keeps, no_budget_due-alters) depth 7
 
   pub spend_quantum-keeps : (p : Image) (by : Option Who) → Keeps R (spend_quantum p by)
+  unfolding spend_quantum
   spend_quantum-keeps p None = search (nothing-keeps)
   spend_quantum-keeps p (Some who.Agent) = search (nothing-keeps)
   spend_quantum-keeps p (Some (who.Task t)) = search (looks-keeps, when-keeps, says-keeps, then-keeps, to_tail-keeps) depth 6

@@ -18,7 +18,6 @@ use Rattle.profile_machine.specs.declared.world.marks.ProtectedMark.{ProtectedMa
 use Rattle.profile_machine.specs.declared.world.calls.Call.{Call}
 use Rattle.profile_machine.specs.declared.world.lines.Part.{Part}
 use Rattle.profile_machine.specs.Steps.{Step, says, ◌▷◌}
-use Rattle.profile_machine.specs.Frames.{exception_name}
 use Rattle.profile_machine.specs.Subprograms.{Handed}
 use Rattle.profile_machine.specs.Protected.{find_held, enter_or, where_let_inside, open_action, begin_action_on, begin_operation, call_operation_of, call_operation, begin_own_operation, call_own_operation, edit_top_protected, begin_call, body_opens, has_room_for_body, serve_call, Entering, same_object_again, above_ceiling, held_by_another, let_inside}
 use Rattle.machine_laws.proofs.Moves.{StepRelation, MoveRelation, Moves}

@@ -28,12 +28,12 @@ use Rattle.profile_machine.specs.Scopes.{home}
 use Rattle.profile_machine.specs.Controlled.{next_to_finalize, finalize}
 use Rattle.profile_machine.specs.Declarations.{set_thing}
 use Rattle.profile_machine.specs.Tasking.{unit_of_declaration, optional_span, created_task, add_task, says_created, create_task, create, fall_from, unit_of_task, begin_task, says_done, fail_to_begin, activate_one, await_group, activate, end_own_activation, end_made, complete_if_task, wait_for_dependents, leave_region, end_environment, end_task, is_normal, end_body, behind_scope, says_left, end_of_scope, go_on_leaving, end_scope_mark_of, end_scope_mark, says_abort, abort_one, unwind_one, abort_all, abort_statement, block_at_terminate, take_terminates, unwind_all}
-use Rattle.std.proofs.Common.{◌≡◌, refl}
+use Rattle.std.proofs.Common.{◌≡◌, refl, sym, ap, ◌∙◌}
 use Rattle.profile_machine.specs.Values.{seen_by}
 use Rattle.machine_laws.proofs.Moves.{StepRelation, MoveRelation, Moves}
 use Rattle.machine_laws.proofs.Kept.Combinators.{Keeps, From, Alters, branch-keeps, changes-from, changes-keeps, cond-keeps, for_each-keeps, for_some-keeps, looks-from, looks-keeps, nothing-keeps, option-keeps, says-keeps, sees-keeps, then-from, then-keeps, when-keeps}
 use Rattle.machine_laws.proofs.Kept.Frames.{raise_if-from, given-from, edit_top-alters, goes-keeps, pop-alters, raises-keeps, pass_on-keeps, given-keeps, raise_if-keeps, goes_then-from}
-use Rattle.machine_laws.proofs.Kept.Tasks.{edit_task-alters}
+use Rattle.machine_laws.proofs.Kept.Tasks.{edit_task-alters, edit_task-drawn}
 use Rattle.machine_laws.proofs.Kept.Dispatching.{to_head-keeps, ready-keeps, says_block-keeps, block-keeps}
 use Rattle.machine_laws.proofs.Kept.Scopes.{open_scope-alters, end_scope-alters}
 use Rattle.machine_laws.proofs.Kept.Inheritance.{inherit-alters}
@@ -51,8 +51,7 @@ module _ {R : StepRelation} {Q : MoveRelation} (moves : Moves R Q) where
 
   -- the new task, behind its creator's going on
   added_behind : (onward : Option StatementNo) (name : Who) (t : world.Task) (w : World) → t.who ≡ who.Task (record { 0 = w.drawn.tasks }) → R (edit_top name (goes_on onward) w) [] (add_task t (edit_top name (goes_on onward) w))
-  added_behind onward (who.Task n) t w a = moves.adds_task t (edit_top (who.Task n) (goes_on onward) w) a
-  added_behind onward who.Agent t w a = moves.adds_task t (edit_top who.Agent (goes_on onward) w) a
+  added_behind onward name t w a = moves.adds_task t (edit_top name (goes_on onward) w) (a ∙ ap (λ d. who.Task (record { 0 = d.tasks })) (sym (edit_task-drawn name _ w)))
 
   -- the object's cell gets the task's number
   abbrev name_task : Image → DeclNo → ScopeId → Step

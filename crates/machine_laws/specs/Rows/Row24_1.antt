@@ -157,9 +157,9 @@ pub row_24_1_releases : row_24_1_handlers ≡ true
 unfolding row_24_1_handlers computing
 row_24_1_releases = refl
 
--- whether every world of its run is well formed
+-- whether every world of its run up to tick 3,000, with three of its periods, is well formed
 unfoldable pub row_24_1_worlds : Bool
-row_24_1_worlds = run_is_well_formed row_24_1_program row_24_1_script 10113
+row_24_1_worlds = run_is_well_formed row_24_1_program row_24_1_script 3000
 
 pub row_24_1_keeps : row_24_1_worlds ≡ true
 unfolding row_24_1_worlds computing

@@ -1,3 +1,4 @@
+pub mod Asked
 pub mod Lends
 pub mod Sights
 pub mod Sought

@@ -4,11 +4,15 @@
 #![tactic(auto)]
 
 mod answers;
+mod events;
 mod names;
 mod scopes;
 mod seen;
+mod tasks;
+mod values;
 
 pub use answers::or_raised;
+pub use events::{budget_of, event_moment, is_event, port_value, time_left, timer_of};
 pub use names::{
     CONTROLLED_CELLS, PROTECTED_CELLS, component_at, component_cell, declared_already, first_cell,
     home_of, is_parameter, located, located_in, number_of_thing, object_cell, object_number,
@@ -19,3 +23,5 @@ pub use scopes::{
     scope_mut, works_on_unit, write_cell,
 };
 pub use seen::{Seen, seen_by};
+pub use tasks::{count_of_entry, live_task, moment_at, number_of};
+pub use values::{condition, moment, optional_task, ticks_in, truth_in, value, variable, whole_in};

@@ -6,6 +6,7 @@
 mod answers;
 mod events;
 mod names;
+mod openings;
 mod scopes;
 mod seen;
 mod tasks;
@@ -17,6 +18,10 @@ pub use names::{
     CONTROLLED_CELLS, PROTECTED_CELLS, component_at, component_cell, declared_already, first_cell,
     home_of, is_parameter, located, located_in, number_of_thing, object_cell, object_number,
     own_object, read, subject_of, task_in, thing, thing_number,
+};
+pub use openings::{
+    begin_scope, draw_region, end_scope, is_library, new_scope_mark, next_id, open_scope, plainly,
+    region_of_next,
 };
 pub use scopes::{
     first_id, home, id_in, innermost, is_of_unit, object_of, read_cell, same_id, scope_in_use,

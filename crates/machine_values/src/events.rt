@@ -1,5 +1,5 @@
 //! What an expression may ask of events, timers, group budgets and ports (ISO/IEC 8652:2012, D.14, D.15).
-ghost use Rattle.std.specs.Prelude.{◌≡◌, IfOk, find, option_copied, pos, slice_index_or};
+ghost use Rattle.std.specs.Prelude.{◌≡◌, ◌<ℤ◌, negsuc, OnErr, IfOk, find, option_copied, pos, slice_index_or};
 ghost use Rattle.profile_machine.specs.Values.{is_event, event_moment, timer_of, time_left, budget_of, port_value};
 
 use ann_base::{Moment, NoMemory, Raised, TaskNo};
@@ -51,7 +51,8 @@ pub fn timer_of(world: &World, number: u32) -> Timer
 ///
 /// Errors: it is beyond the ends of 64 bits.
 pub fn time_left(setting: Option<TimerSetting>, clock: u64) -> Result<Moment, NoMemory>
-    ensures { IfOk result (λ left. left ≡ time_left setting clock) }
+    ensures ok { IfOk result (λ left. left ≡ time_left setting clock) }
+    ensures err { OnErr result (time_left setting clock <ℤ negsuc 9223372036854775807) }
 {
     let Some(setting) = setting else {
         return Ok(0);

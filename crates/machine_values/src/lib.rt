@@ -28,5 +28,5 @@ pub use scopes::{
     scope_mut, works_on_unit, write_cell,
 };
 pub use seen::{Seen, seen_by};
-pub use tasks::{count_of_entry, live_task, moment_at, number_of};
+pub use tasks::{count_of_entry, live_task, moment_at};
 pub use values::{condition, moment, optional_task, ticks_in, truth_in, value, variable, whole_in};

@@ -1,5 +1,5 @@
 //! Names: the objects, tasks and cells that they denote (ISO/IEC 8652:2012, 4.1).
-ghost use Rattle.std.specs.Prelude.{◌≡◌, ◌+◌, IfOk, option_and_then};
+ghost use Rattle.std.specs.Prelude.{◌≡◌, ◌+◌, ◌^◌, ◌≤◌, IfOk, OnErr, option_and_then};
 ghost use Rattle.ann_base.specs.Answers.{Answers};
 ghost use Rattle.profile_machine.specs.declared.expressions.ObjectName.TheVariants.{Declared, Component};
 ghost use Rattle.profile_machine.specs.Scopes.{scope_in_use};
@@ -164,7 +164,8 @@ pub const CONTROLLED_CELLS: u32 = 1;
 
 // A place beyond the last of 32 bits is in no memory.
 fn place_behind(place: u32, cells: u32) -> Result<u32, NoMemory>
-    ensures { IfOk result (λ behind. behind ≡ place + cells) }
+    ensures ok { IfOk result (λ behind. behind ≡ place + cells) }
+    ensures err { OnErr result (2 ^ 32 ≤ place + cells) }
 {
     match place.checked_add(cells) {
         Some(behind) => Ok(behind),
@@ -181,7 +182,8 @@ pub fn component_at(
     object: Located,
     component: DeclNo,
 ) -> Result<Variable, NoMemory>
-    ensures { IfOk result (λ v. v ≡ component_at p.now own_cells object component) }
+    ensures ok { IfOk result (λ v. v ≡ component_at p.now own_cells object component) }
+    ensures err { OnErr result (2 ^ 32 ≤ (component_at p.now own_cells object component).place) }
 {
     let first = place_behind(declaration_of(p, object.declared).place, own_cells)?;
     Ok(Variable {
@@ -246,7 +248,8 @@ pub fn object_cell(q: &Seen<'_>, name: ObjectName) -> Result<Variable, OrMemory<
 
 // The cell so many places behind.
 fn shifted(by: u32, v: Variable) -> Result<Variable, NoMemory>
-    ensures { IfOk result (λ w. w ≡ shifted by v) }
+    ensures ok { IfOk result (λ w. w ≡ shifted by v) }
+    ensures err { OnErr result (2 ^ 32 ≤ (shifted by v).place) }
 {
     Ok(Variable {
         within: v.within,

@@ -1,5 +1,5 @@
 //! How a scope begins, and how it ends (ISO/IEC 8652:2012, 3.1, 7.6.1).
-ghost use Rattle.std.specs.Prelude.{◌≡◌, ◌+◌, ◌++◌, drop, length, IfOk, OnOk};
+ghost use Rattle.std.specs.Prelude.{◌≡◌, ◌+◌, ◌^◌, ◌≤◌, ◌++◌, drop, length, IfOk, OnOk, OnErr};
 ghost use Rattle.profile_machine.specs.Program.{initial_cells};
 ghost use Rattle.profile_machine.specs.Scopes.{plainly, next_id, scope_drawn, begin_scope, region_drawn, draw_region, region_of_next, new_scope_mark, open_scope, is_id, is_library, goes_with, end_scope};
 ghost use Rattle.profile_machine.specs.Words.{without};
@@ -38,7 +38,8 @@ pub fn next_id(world: &World) -> ScopeId
 
 // A number beyond the last of 32 bits is in no memory.
 fn next_number(number: u32) -> Result<u32, NoMemory>
-    ensures { IfOk result (λ next. next ≡ number + 1) }
+    ensures ok { IfOk result (λ next. next ≡ number + 1) }
+    ensures err { OnErr result (2 ^ 32 ≤ number + 1) }
 {
     match number.checked_add(1) {
         Some(next) => Ok(next),
@@ -54,7 +55,8 @@ fn scope_drawn(drawn: &mut Drawn) -> Result<(), NoMemory>
 }
 
 fn region_drawn(drawn: &mut Drawn) -> Result<(), NoMemory>
-    ensures { OnOk result (drawn.new ≡ region_drawn drawn.old) }
+    ensures ok { OnOk result (drawn.new ≡ region_drawn drawn.old) }
+    ensures err { OnErr result (2 ^ 32 ≤ drawn.old.regions + 1) }
 {
     drawn.regions = next_number(drawn.regions)?;
     Ok(())
@@ -125,7 +127,8 @@ pub fn begin_scope(
 ///
 /// Errors: the numbers of regions are used up.
 pub fn draw_region(kept: bool, world: &mut World) -> Result<(), NoMemory>
-    ensures { OnOk result (world.new ≡ draw_region kept world.old) }
+    ensures ok { OnOk result (world.new ≡ draw_region kept world.old) }
+    ensures err { OnErr result (2 ^ 32 ≤ world.old.drawn.regions + 1) }
 {
     if kept {
         region_drawn(&mut world.drawn)
@@ -138,7 +141,8 @@ pub fn draw_region(kept: bool, world: &mut World) -> Result<(), NoMemory>
 ///
 /// Errors: the numbers of regions are used up.
 pub fn region_of_next(kept: bool, world: &World) -> Result<Option<RegionNo>, NoMemory>
-    ensures { IfOk result (λ region. region ≡ region_of_next kept world.now) }
+    ensures ok { IfOk result (λ region. region ≡ region_of_next kept world.now) }
+    ensures err { OnErr result (2 ^ 32 ≤ world.now.drawn.regions + 1) }
 {
     if kept {
         Ok(Some(RegionNo(next_number(world.drawn.regions)?)))

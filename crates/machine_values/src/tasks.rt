@@ -1,5 +1,5 @@
 //! What an expression may ask of tasks and of the queues of entries (ISO/IEC 8652:2012, 9.9, C.7.1, D.2.6, D.5.1, D.14).
-ghost use Rattle.std.specs.Prelude.{◌≡◌, IfOk, length, pos, option_and_then};
+ghost use Rattle.std.specs.Prelude.{◌≡◌, ◌^◌, ◌≤◌, OnErr, IfOk, length, pos, option_and_then};
 ghost use Rattle.std.specs.Result.{result_map_both};
 ghost use Rattle.profile_machine.specs.Tasks.{number_of};
 ghost use Rattle.profile_machine.specs.Values.{live_task, object_of, queue_at, queues_of, own_queues, count_of_entry};
@@ -15,7 +15,7 @@ use trace_text::Who;
 use world_tables::List;
 
 /// The number of a task; the agent has none.
-pub fn number_of(name: Who) -> Option<TaskNo>
+pub(crate) fn number_of(name: Who) -> Option<TaskNo>
     ensures { result ≡ number_of name }
 {
     match name {
@@ -43,7 +43,8 @@ pub fn live_task(world: &World, task: Option<TaskNo>) -> Result<&Task, Raised>
 ///
 /// Errors: it is beyond the last moment of 64 bits.
 pub fn moment_at(ticks: u64) -> Result<Moment, NoMemory>
-    ensures { IfOk result (λ moment. moment ≡ pos ticks) }
+    ensures ok { IfOk result (λ moment. moment ≡ pos ticks) }
+    ensures err { OnErr result (2 ^ 63 ≤ ticks) }
 {
     match Moment::try_from(ticks) {
         Ok(moment) => Ok(moment),
@@ -91,7 +92,8 @@ fn object_queue_length(q: &Seen<'_>, number: Option<ObjectNo>, place: u32) -> us
 ///
 /// Errors: more calls are queued than an Integer can tell.
 pub fn count_of_entry(q: &Seen<'_>, entry: &Entry) -> Result<Value, NoMemory>
-    ensures { IfOk result (λ value. value ≡ count_of_entry q.now entry.now) }
+    ensures ok { IfOk result (λ value. value ≡ count_of_entry q.now entry.now) }
+    ensures err { OnErr result (2 ^ 31 ≤ length (queue_at (own_queues q.now entry.now.unit) entry.now.place)) }
 {
     match i32::try_from(own_queue_length(q, entry.unit, entry.place)) {
         Ok(count) => Ok(Value::Whole(count)),

@@ -1,1 +1,1 @@
-mod FoundLemmas
+pub mod FoundLemmas

@@ -23,6 +23,11 @@ fn a_list_at_both_ends_and_at_places(rt: HostRuntime) -> Result<(), Fail> {
     assert_eq!(rt; list.remove(2), Some(3));
     assert_eq!(rt; list.pop_front(), Some(7));
     assert_eq!(rt; (list.pop_front(), list.pop_front()), (Some(5), None));
+    list.push_back(4)?;
+    list.push_back(9)?;
+    list.push_back(6)?;
+    list.retain(|item| *item % 2 == 0);
+    assert_eq!(rt; (list.pop_front(), list.len()), (Some(4), 1));
     list.clear();
     assert_eq!(rt; (list.len(), copy.len()), (0, 3));
     assert!(rt; copy.iter().any(|item| *item == 2));

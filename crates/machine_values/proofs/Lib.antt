@@ -1,0 +1,3 @@
+pub mod CellLemmas
+pub mod OutwardsLemmas
+pub mod ValueLemmas

@@ -1,0 +1,6 @@
+-- How a scope begins, as the machine sees what the code hands over.
+use Rattle.profile_machine.specs.declared.world.scopes.Beginning as code
+use Rattle.profile_machine.specs.Scopes.{Beginning}
+
+abbrev pub beginning_of : code.Beginning → Beginning
+beginning_of b = record { outer = b.outer; object = b.object; subject = b.subject; values = b.values }

@@ -1,10 +1,25 @@
-//! Frames and who runs: the steps that open constructs, leave them and go on.
+//! Frames: the tasks of a world, the steps that open constructs, leave them and go on, and the room that they take.
+//! Each function has the name of the machine's definition of which it is the counterpart.
 #![tactic(auto)]
 
+mod deferral;
 mod effects;
 mod frames;
+mod room;
+mod sequences;
 mod tasks;
+#[cfg(test)]
+mod tests;
 
+pub use deferral::{any_defers, any_protected, defers, in_protected, is_deferred, is_protected};
 pub use effects::Effect;
-pub use frames::{goes, leaves, new_frame, onward_of, pop, push, raises, says, top_of};
-pub use tasks::{found_task, found_task_mut, same_who, task_at, task_mut};
+pub use frames::{
+    exit_loop, goes, leaves, leaving_of, new_frame, onward_of, pass_on, pop, push, raises, says,
+    stands_in, statement_of_mark, top_of, within_of,
+};
+pub use room::{frame_count, has_room};
+pub use sequences::{open_at, open_handled, open_if_ready, open_sequence};
+pub use tasks::{
+    TIME_LAST, found_task, found_task_mut, is_made, is_runnable, may_run, new_task, number_of,
+    same_who, set_state, set_ticks, task_at, task_mut, waiting_in, waiting_of,
+};

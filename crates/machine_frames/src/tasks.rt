@@ -3,13 +3,50 @@ ghost use Rattle.std.specs.Prelude.{◌≡◌, Some, find, option_copied};
 ghost use Rattle.std.specs.List.{position_from};
 ghost use Rattle.std.specs.Option.{option_copied_mut};
 ghost use Rattle.std.specs.Borrow.{sem};
-ghost use Rattle.profile_machine.specs.Tasks.{is_who, found_task, task_at};
+ghost use Rattle.profile_machine.specs.Tasks.{is_who, found_task, task_at, task_of, new_task, time_last, number_of, is_runnable, is_made, waiting_in, waiting_of, edit_task, with_state, with_ticks};
 ghost use Rattle.profile_machine.specs.Words.{same_who};
 ghost use Rattle.machine_frames.specs.Lends.{lends_found, lends_task};
 
-use profile_machine::world::{Task, World};
+use ann_base::{Level, Moment, TaskNo};
+use profile_machine::world::{State, Task, Waiting, World};
+use std::alloc::Global;
 use trace_text::Who;
 use world_tables::List;
+
+/// The last moment of Time (D.8), a quarter of the way to the last of 64 bits.
+pub const TIME_LAST: Moment = 4_611_686_018_427_387_903;
+
+/// A task, or the agent, as it begins. It takes no memory.
+pub fn new_task(alloc: Global, who: Who, base: Level, state: State) -> Task
+    ensures { result ≡ new_task who base state }
+{
+    Task {
+        who,
+        declared: None,
+        unit: None,
+        outer: None,
+        state,
+        frames: List::new(alloc),
+        ticks_left: None,
+        base,
+        inherited: List::new(alloc),
+        kept_level: None,
+        deadline: TIME_LAST,
+        relative_deadline: None,
+        quantum: 0,
+        cpu_ticks: 0,
+        master: None,
+        declarative_part: 0,
+        activator: None,
+        group_failed: false,
+        completed: false,
+        abnormal: false,
+        deferred_base: None,
+        deferred_deadline: None,
+        budget: None,
+        queues: List::new(alloc),
+    }
+}
 
 /// Whether both names stand for the same task, or for the agent.
 pub fn same_who(a: Who, b: Who) -> bool
@@ -74,5 +111,75 @@ pub fn task_mut(world: &mut World, name: Who) -> Option<&mut Task>
     match name {
         Who::Task(_) => found_task_mut(&mut world.tasks, name),
         Who::Agent => Some(&mut world.agent),
+    }
+}
+
+/// The number of a task; the agent has none.
+pub fn number_of(name: Who) -> Option<TaskNo>
+    ensures { result ≡ number_of name }
+{
+    match name {
+        Who::Task(number) => Some(number),
+        Who::Agent => None,
+    }
+}
+
+/// Whether a task is ready or runs.
+pub fn is_runnable(task: &Task) -> bool
+    ensures { result ≡ is_runnable task.now }
+{
+    matches!(task.state, State::Runnable)
+}
+
+/// Whether a task is created and not activated.
+pub fn is_made(task: &Task) -> bool
+    ensures { result ≡ is_made task.now }
+{
+    matches!(task.state, State::Made)
+}
+
+/// Whether the one with this name is there, and is ready or runs.
+pub fn may_run(world: &World, name: Who) -> bool
+    ensures { result ≡ is_runnable (task_of world.now name) }
+{
+    match task_at(world, name) {
+        Some(task) => is_runnable(task),
+        None => false,
+    }
+}
+
+/// What one who is blocked waits for.
+pub fn waiting_in(state: &State) -> Option<&Waiting>
+    ensures { option_copied result ≡ waiting_in state.now }
+{
+    match state {
+        State::Made => None,
+        State::Runnable => None,
+        State::Blocked(waiting) => Some(waiting),
+    }
+}
+
+/// What the one with this name waits for, if it is there and is blocked.
+pub fn waiting_of(world: &World, name: Who) -> Option<&Waiting>
+    ensures { option_copied result ≡ waiting_of world.now name }
+{
+    waiting_in(&task_at(world, name)?.state)
+}
+
+/// The one with this name is in another state.
+pub fn set_state(world: &mut World, name: Who, state: State)
+    ensures { world.new ≡ edit_task name (with_state state) world.old }
+{
+    if let Some(task) = task_mut(world, name) {
+        task.state = state;
+    }
+}
+
+/// So many ticks are left of the action that the one with this name has begun.
+pub fn set_ticks(world: &mut World, name: Who, ticks: Option<u64>)
+    ensures { world.new ≡ edit_task name (with_ticks ticks) world.old }
+{
+    if let Some(task) = task_mut(world, name) {
+        task.ticks_left = ticks;
     }
 }

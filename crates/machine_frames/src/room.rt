@@ -1,0 +1,84 @@
+//! Room (own): 1,000 marks of a task, 65,536 marks in all, and 65,536 cells.
+ghost use Rattle.std.specs.Prelude.{◌≡◌, ◌+◌, leb, length, sum_by};
+ghost use Rattle.profile_machine.specs.Frames.{frames_of, marks_in_use, cells_in_use, has_room};
+
+use crate::tasks::task_at;
+use profile_machine::world::{ScopeInUse, Task, World};
+use trace_text::Who;
+use world_tables::List;
+
+const MARKS_OF_A_TASK: usize = 1_000;
+
+const MARKS: usize = 65_536;
+
+const CELLS: usize = 65_536;
+
+/// How many marks the one with this name has open.
+pub fn frame_count(world: &World, name: Who) -> usize
+    ensures { result ≡ length (frames_of world.now name) }
+{
+    match task_at(world, name) {
+        Some(task) => task.frames.len(),
+        None => 0,
+    }
+}
+
+// What is in use is taken from the room, so that no sum can pass the end of its type.
+fn marks_fit(tasks: &List<Task>, room: usize) -> bool
+    ensures { result ≡ leb (sum_by (λ t. length t.frames) tasks.now) room }
+{
+    let mut left = room;
+    for task in tasks.iter() {
+        let count = task.frames.len();
+        if left < count {
+            return false;
+        }
+        left -= count;
+    }
+    true
+}
+
+fn cells_fit(scopes: &List<ScopeInUse>, room: usize) -> bool
+    ensures { result ≡ leb (sum_by (λ s. length s.cells) scopes.now) room }
+{
+    let mut left = room;
+    for scope in scopes.iter() {
+        let count = scope.cells.len();
+        if left < count {
+            return false;
+        }
+        left -= count;
+    }
+    true
+}
+
+fn task_has_room(world: &World, name: Who, marks: u32) -> bool
+    ensures { result ≡ leb (length (frames_of world.now name) + marks) 1000 }
+{
+    let more = marks as usize;
+    more <= MARKS_OF_A_TASK && frame_count(world, name) <= MARKS_OF_A_TASK - more
+}
+
+fn marks_have_room(world: &World, marks: u32) -> bool
+    ensures { result ≡ leb (marks_in_use world.now + marks) 65536 }
+{
+    let of_agent = world.agent.frames.len();
+    let more = marks as usize;
+    more <= MARKS && of_agent <= MARKS - more && marks_fit(&world.tasks, MARKS - more - of_agent)
+}
+
+fn cells_have_room(world: &World, cells: u32) -> bool
+    ensures { result ≡ leb (cells_in_use world.now + cells) 65536 }
+{
+    let more = cells as usize;
+    more <= CELLS && cells_fit(&world.scopes, CELLS - more)
+}
+
+/// Whether there is room for so many more marks of a task, and for so many more cells.
+pub fn has_room(world: &World, name: Who, marks: u32, cells: u32) -> bool
+    ensures { result ≡ has_room world.now name marks cells }
+{
+    task_has_room(world, name, marks)
+        && marks_have_room(world, marks)
+        && cells_have_room(world, cells)
+}

@@ -10,7 +10,7 @@ use Rattle.profile_machine.specs.declared.statements.Statement.{Statement as Act
 use Rattle.profile_machine.specs.declared.statements.StatementForm.{StatementForm}
 use Rattle.profile_machine.specs.declared.statements.StatementForm.TheVariants as form
 use Rattle.profile_machine.specs.declared.world.World.{World}
-use Rattle.profile_machine.specs.Instant.{instant, effect}
+use Rattle.profile_machine.specs.Instant.{instant, effect, items_due, all_due, spend_quantum}
 use Rattle.profile_machine.specs.Run.{tock, stop, opening, environment}
 use Rattle.profile_machine.specs.Steps.{settles, rests}
 use Rattle.profile_machine.specs.Computing.{computing}
@@ -53,7 +53,7 @@ unfolding Acts computing
 behind-acts name vs es body now cells = refl
 
 shape-acts : (name : List ℕ) (vs : List Declaration) (es : List Expression) (body : List Action) (now : ℕ) (progress : Progress) (cells : List ℤ) → AreSimple vs es body → is_inside progress ≡ true → AreCells (length vs) progress cells → Acts (simple_program name vs es body) now progress cells
-unfolding Acts
+unfolding Acts items_due all_due spend_quantum
 shape-acts name vs es body now Calling cells a h c = calling-acts name vs es body now cells a (c.fresh refl)
 shape-acts name vs es body now (Inside None) cells a h c = scope-acts name vs es body now cells
 shape-acts name vs es body now (Inside (Some s)) cells a h c = inside-acts name vs es body now s.0 cells a c.integers (ltb-true 0 s.0 h)
@@ -67,6 +67,7 @@ instant-acts p now progress cells s h c = subst (λ q. Acts q now progress cells
 -- ---- an instant at which no action ends
 
 pub instant-unrun : (p : Image) (now : ℕ) (ticks : Option ℕ) (progress : Progress) (cells : List ℤ) → instant p (world_at p now false ticks progress cells) ≡ (world_at p now false ticks progress cells, [])
+unfolding items_due all_due spend_quantum
 instant-unrun p now ticks progress cells = refl
 
 -- the first step of an instant by the test whether the action is over
@@ -78,14 +79,14 @@ Waits : Image → ℕ → Option ℕ → Progress → List ℤ → Type 0
 Waits p now ticks progress cells = instant p (world_at p now true ticks progress cells) ≡ (world_at p now true ticks progress cells, [])
 
 begun-waits : (name : List ℕ) (vs : List Declaration) (es : List Expression) (body : List Action) (now n : ℕ) (progress : Progress) (cells : List ℤ) → is_done (Some n) ≡ false → Waits (simple_program name vs es body) now (Some n) progress cells
-unfolding Waits chosen others
+unfolding Waits chosen others items_due all_due spend_quantum
 begun-waits name vs es body now n Calling cells h = let p = simple_program name vs es body in ap (λ b. others p (chosen p (world_at p now true (Some n) Calling cells) b)) h
 begun-waits name vs es body now n (Inside onward) cells h = let p = simple_program name vs es body in ap (λ b. others p (chosen p (world_at p now true (Some n) (Inside onward) cells) b)) h
 begun-waits name vs es body now n Behind cells h = let p = simple_program name vs es body in ap (λ b. others p (chosen p (world_at p now true (Some n) Behind cells) b)) h
 begun-waits name vs es body now n Over cells h = refl
 
 shape-waits : (name : List ℕ) (vs : List Declaration) (es : List Expression) (body : List Action) (now : ℕ) (ticks : Option ℕ) (progress : Progress) (cells : List ℤ) → is_done ticks ≡ false → Waits (simple_program name vs es body) now ticks progress cells
-unfolding Waits
+unfolding Waits items_due all_due spend_quantum
 shape-waits name vs es body now None Calling cells h = refl
 shape-waits name vs es body now None (Inside onward) cells h = refl
 shape-waits name vs es body now None Behind cells h = refl
@@ -126,6 +127,7 @@ finish-acts p now ran ticks progress after cells store line s c r d h a k l = ac
 
 pub finish-waits : (p : Image) (now : ℕ) (ran : Bool) (ticks : Option ℕ) (progress : Progress) (cells : List ℤ) → IsSimple p → ran && is_done ticks ≡ false →
     instant p (world_at p now ran ticks progress cells) ≡ (world_at p now ran ticks progress cells, [])
+unfolding items_due all_due spend_quantum
 finish-waits p now true ticks progress cells s h = instant-waits p now ticks progress cells s h
 finish-waits p now false ticks progress cells s h = refl
 
@@ -197,6 +199,7 @@ instant-now-done p now ticks progress cells s h c false e = ap (λ i. i.0.time) 
 
 -- now stands at an instant
 pub instant-now : (p : Image) (now : ℕ) (ran : Bool) (ticks : Option ℕ) (progress : Progress) (cells : List ℤ) → IsSimple p → is_inside progress ≡ true → AreCells (length p.declarations) progress cells → (instant p (world_at p now ran ticks progress cells)).0.time ≡ now
+unfolding items_due all_due spend_quantum
 instant-now p now false ticks progress cells s h c = refl
 instant-now p now true ticks progress cells s h c = instant-now-done p now ticks progress cells s h c (is_done ticks) refl
 

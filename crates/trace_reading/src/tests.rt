@@ -1,5 +1,5 @@
 //! Lines of worked traces, read and written again, and lines that are none.
-use super::{read_line, long_texts_are_bad, texts_differ};
+use super::{long_texts_are_bad, read_line, texts_differ};
 use std::test::Fail;
 use trace_text::{LineBuffer, write_line};
 

@@ -8,6 +8,7 @@ mod running;
 mod testing;
 #[cfg(test)]
 mod tests;
+mod tracing;
 mod whole;
 mod words;
 

@@ -3,10 +3,11 @@ ghost use Rattle.std.specs.Prelude.{◌≡◌, ◌≤◌, Some, OnOk, OnErr};
 ghost use Rattle.ann_base.specs.Outside.{Rose, extended};
 ghost use Rattle.outside_bytes.specs.Pieces.{HoldsPrefix};
 ghost use Rattle.commands.specs.Outside.{sink_of};
+ghost use Rattle.commands.specs.Traces.{trace_note};
 ghost use Rattle.sched_tests.specs.Reports.{table_note};
 ghost use Rattle.commands.specs.Outcomes.{Concludes, ConcludesWith, refusal_text};
 
-use crate::words::write_labelled;
+use crate::words::{write_labelled, write_words};
 use ada_front::Refusal;
 use ann_base::{Failed, Sink};
 use commands::Outcome;
@@ -25,9 +26,11 @@ pub fn conclude<K: Sink>(notes: &mut K, outcome: Outcome) -> u8
         Outcome::Ended(_) => status,
         Outcome::Accepted => status,
         Outcome::Tested { .. } => status,
+        Outcome::Traced { .. } => status,
         Outcome::WordsRefused => note(notes, b"words refused\n", status),
         Outcome::SourceRefused(refusal) => note_refusal(notes, refusal, status),
         Outcome::TableRefused(fault) => note_table(notes, fault, status),
+        Outcome::TraceRefused(line) => note_trace(notes, line, status),
         Outcome::ReadFault => note(notes, b"read fault\n", status),
         Outcome::WriteFault => note(notes, b"write fault\n", status),
         Outcome::NoMemory => note(notes, b"no memory\n", status),
@@ -70,6 +73,18 @@ fn note_table<K: Sink>(notes: &mut K, fault: TableFault, status: u8) -> u8
     }
 }
 
+/// The same of the note on a refused trace.
+fn note_trace<K: Sink>(notes: &mut K, line: u64, status: u8) -> u8
+    ensures concluded { ConcludesWith (Some (trace_note line)) status
+        (sink_of K.held K.faults notes.old notes.new) result }
+    ensures monotone { K.faults notes.old ≤ K.faults notes.new }
+{
+    match write_trace_fault(notes, line) {
+        Ok(()) => status,
+        Err(_) => 8,
+    }
+}
+
 /// Writes `source refused LINE:COLUMN CODE` and a line feed. After a failure a prefix of it was written.
 fn write_refusal<K: Sink>(notes: &mut K, refusal: Refusal) -> Result<(), Failed>
     ensures written { OnOk result (K.held notes.new ≡ extended (K.held notes.old) (refusal_text refusal)) }
@@ -96,4 +111,15 @@ fn write_table_fault<K: Sink>(notes: &mut K, fault: TableFault) -> Result<(), Fa
     let line = line.format(fault.line).as_bytes();
     let kind = kind.format(fault.kind.number()).as_bytes();
     write_labelled(notes, b"table refused ", line, kind)
+}
+
+/// Writes `trace refused LINE` and a line feed. After a failure a prefix of it was written.
+fn write_trace_fault<K: Sink>(notes: &mut K, line: u64) -> Result<(), Failed>
+    ensures written { OnOk result (K.held notes.new ≡ extended (K.held notes.old) (trace_note line)) }
+    ensures monotone { K.faults notes.old ≤ K.faults notes.new }
+    ensures cause { OnErr result (Rose (K.faults notes.old) (K.faults notes.new)) }
+    ensures prefix { OnErr result (HoldsPrefix (K.held notes.old) (K.held notes.new) (trace_note line)) }
+{
+    let mut digits = Buffer::new();
+    write_words(notes, b"trace refused", digits.format(line).as_bytes())
 }

@@ -7,6 +7,7 @@ ghost use Rattle.commands.specs.Performed.{Performs, ServesBytes, ServesImage, w
 
 use crate::running::{accepted, run};
 use crate::testing::serve_table;
+use crate::tracing::serve_trace;
 use ada_front::{Refusal, accept, long_sources_are_refused};
 use ada_lex::MAX_SOURCE;
 use ada_static::Checked;
@@ -49,6 +50,7 @@ fn serve<S: Shelf, K: Sink>(alloc: Global, request: Request, shelf: &mut S, out:
     match request {
         Request::Source { source, work } => serve_source(alloc, source, work, shelf, out),
         Request::Table { table, test } => serve_table(alloc, table, test, shelf, out),
+        Request::Trace { trace, work } => serve_trace(alloc, trace, work, shelf, out),
     }
 }
 

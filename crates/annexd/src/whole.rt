@@ -4,18 +4,19 @@ ghost use Rattle.ann_base.specs.Outside.{Rose, extended};
 ghost use Rattle.commands.specs.Asked.{asked_of};
 ghost use Rattle.commands.specs.Outside.{shelf_of, sink_of};
 ghost use Rattle.commands.specs.Performed.{IsUnread};
-ghost use Rattle.commands.specs.Statuses.{Headline, AcceptanceTold, TableTold, BeyondTold, DoneTold, NotAccepted, RefusalTold, FailureTold, TableRefusalTold, PrefixTold, NoteTried, IsStatus};
+ghost use Rattle.commands.specs.Statuses.{Headline, AcceptanceTold, TableTold, BeyondTold, TraceTold, LawsTold, DoneTold, NotAccepted, RefusalTold, BreachTold, TraceRefusalTold, FailureTold, TableRefusalTold, PrefixTold, NoteTried, IsStatus};
 
 use crate::noting::conclude;
 use crate::performing::perform;
 use ann_base::{Shelf, Sink};
 use std::alloc::Global;
+use trace_laws::verdicts_tell;
 
 /// Does what the words ask for, and answers the status with which the program ends: 0 a run is completed, a source is
-/// accepted or a table passes its test, 1 a run ended by an exception, 2 it is stuck, 3 its bound was reached, 4 the
-/// source is refused, 6 the words are refused, 7 the file could not be read, 8 something could not be written, 9 memory
-/// ran out, 12 a table fails its test, 13 the table is refused. What was asked for goes to `out`, and notes on statuses
-/// 4 to 9 and 13 to `notes`.
+/// accepted, a table passes its test or a trace keeps the laws, 1 a run ended by an exception, 2 it is stuck, 3 its bound
+/// was reached, 4 the source is refused, 6 the words are refused, 7 the file could not be read, 8 something could not be
+/// written, 9 memory ran out, 10 a trace breaks a law, 11 the trace is refused, 12 a table fails its test, 13 the table is
+/// refused. What was asked for goes to `out`, and notes on statuses 4 to 9, 11 and 13 to `notes`.
 pub fn top<S: Shelf, K: Sink>(
     alloc: Global,
     words: &[Vec<u8>],
@@ -41,6 +42,16 @@ pub fn top<S: Shelf, K: Sink>(
     // Where a busy period is written, no window of any length is overrun.
     ensures beyond { BeyondTold (asked_of words.now)
         (shelf_of S.files S.faults shelf.old shelf.new) result }
+    // What is asked of a trace is told where it is there, or it is refused.
+    ensures traced { TraceTold (asked_of words.now)
+        (shelf_of S.files S.faults shelf.old shelf.new)
+        (sink_of K.held K.faults out.old out.new)
+        (sink_of K.held K.faults notes.old notes.new) result }
+    // Where the laws are asked for, that is the one verdict that is true of the trace.
+    ensures laws { LawsTold (asked_of words.now)
+        (shelf_of S.files S.faults shelf.old shelf.new)
+        (sink_of K.held K.faults out.old out.new)
+        (sink_of K.held K.faults notes.old notes.new) result }
     // The statuses: 0 to 3 come only where what was asked for was done.
     ensures statuses { IsStatus result }
     ensures run { result ≤ 3 → DoneTold (asked_of words.now)
@@ -82,6 +93,16 @@ pub fn top<S: Shelf, K: Sink>(
         (sink_of K.held K.faults out.old out.new) }
     ensures note_9 { result ≡ 9 →
         K.held notes.new ≡ extended (K.held notes.old) (codes "no memory\n") }
+    // 10: a trace breaks a law.
+    ensures broken { result ≡ 10 → BreachTold (asked_of words.now)
+        (shelf_of S.files S.faults shelf.old shelf.new)
+        (sink_of K.held K.faults out.old out.new) }
+    ensures quiet_10 { result ≡ 10 → K.held notes.new ≡ K.held notes.old }
+    // 11: the trace is refused.
+    ensures refused_trace { result ≡ 11 → TraceRefusalTold (asked_of words.now)
+        (shelf_of S.files S.faults shelf.old shelf.new)
+        (sink_of K.held K.faults notes.old notes.new) }
+    ensures kept_11 { result ≡ 11 → K.held out.new ≡ K.held out.old }
     // 12: a table fails its test.
     ensures failed_test { result ≡ 12 → FailureTold (asked_of words.now)
         (shelf_of S.files S.faults shelf.old shelf.new)
@@ -97,6 +118,7 @@ pub fn top<S: Shelf, K: Sink>(
     ensures monotone_out { K.faults out.old ≤ K.faults out.new }
     ensures monotone_notes { K.faults notes.old ≤ K.faults notes.new }
 {
+    verdicts_tell();
     let outcome = perform(alloc, words, shelf, out);
     conclude(notes, outcome)
 }

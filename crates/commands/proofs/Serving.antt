@@ -13,13 +13,18 @@ use Rattle.ada_front.specs.Accepted.{Accepted as IsAccepted, judged, LongSources
 use Rattle.sched_tests.specs.declared.duties.TheConstants.{TABLE_BYTES}
 use Rattle.sched_tests.specs.declared.duties.Duty.{Duty}
 use Rattle.sched_tests.specs.Reading.{table_of, CutTablesAreReadAlike}
+use Rattle.trace_laws.specs.declared.verdicts.Verdict.{Verdict}
+use Rattle.trace_laws.specs.Verdicts.{laws_answer}
+use Rattle.commands.specs.declared.requests.TraceWork.TheVariants as question
 use Rattle.commands.specs.declared.outcomes.Outcome.{Outcome}
-use Rattle.commands.specs.declared.outcomes.Outcome.TheVariants.{Ended, Accepted, Tested, WordsRefused, SourceRefused, TableRefused, ReadFault, WriteFault, NoMemory}
+use Rattle.commands.specs.declared.outcomes.Outcome.TheVariants.{Ended, Accepted, Tested, Traced, WordsRefused, SourceRefused, TableRefused, TraceRefused, ReadFault, WriteFault, NoMemory}
 use Rattle.commands.specs.declared.requests.Work.{Work}
 use Rattle.commands.specs.declared.requests.TableTest.{TableTest}
-use Rattle.commands.specs.Requests.{SourceAsked, TableAsked}
-use Rattle.commands.specs.Outside.{ShelfChange, SinkChange, IsKept}
-use Rattle.commands.specs.Performed.{without_image, ServesImage, ServesBytes, TestsDuties, TestsBytes, Performs, IsDone, IsRefused, IsCutShort, IsTested, IsNoTable, IsTestCutShort}
+use Rattle.commands.specs.declared.requests.TraceWork.{TraceWork}
+use Rattle.commands.specs.Requests.{SourceAsked, TableAsked, TraceAsked}
+use Rattle.commands.specs.Outside.{ShelfChange, SinkChange, IsKept, Gained, GainedPrefix}
+use Rattle.commands.specs.Traces.{trace_answer, verdict_answer}
+use Rattle.commands.specs.Performed.{without_image, ServesImage, ServesBytes, TestsDuties, TestsBytes, TellsTrace, Performs, IsDone, IsRefused, IsCutShort, IsTested, IsNoTable, IsTestCutShort}
 
 -- ---- from an image to the bytes
 
@@ -41,9 +46,11 @@ accepted_served asked bytes image out (Ended stop) accepted only h =
 accepted_served asked bytes image out Accepted accepted only h =
     record { image = image; accepted = accepted; only = λ other fits. same_image other image (only other fits); text = h.0; outcome_is = h.1 }
 accepted_served asked bytes image out (Tested failed) accepted only h = h
+accepted_served asked bytes image out (Traced broken) accepted only h = h
 accepted_served asked bytes image out WordsRefused accepted only h = h
 accepted_served asked bytes image out (SourceRefused refusal) accepted only h = absurd h
 accepted_served asked bytes image out (TableRefused fault) accepted only h = h
+accepted_served asked bytes image out (TraceRefused line) accepted only h = h
 accepted_served asked bytes image out ReadFault accepted only h = h
 accepted_served asked bytes image out WriteFault accepted only h = (h.0, (image, accepted, h.1))
 accepted_served asked bytes image out NoMemory accepted only h = inr (image, accepted, h)
@@ -94,10 +101,12 @@ bytes_served source asked shelf out bytes (Ended stop) law read h =
 bytes_served source asked shelf out bytes Accepted law read h =
     where_told (told shelf.files source) bytes (λ file. IsDone asked file out Accepted) read (λ file same. done_file asked bytes file out Accepted law same h)
 bytes_served source asked shelf out bytes (Tested failed) law read h = absurd h
+bytes_served source asked shelf out bytes (Traced broken) law read h = absurd h
 bytes_served source asked shelf out bytes WordsRefused law read h = absurd h
 bytes_served source asked shelf out bytes (SourceRefused refusal) law read h =
     (where_told (told shelf.files source) bytes (λ file. IsRefused file refusal) read (λ file same. refused_file bytes file refusal law same h.0), h.1)
 bytes_served source asked shelf out bytes (TableRefused fault) law read h = absurd h
+bytes_served source asked shelf out bytes (TraceRefused line) law read h = absurd h
 bytes_served source asked shelf out bytes ReadFault law read h = absurd h
 bytes_served source asked shelf out bytes WriteFault law read h =
     (h.0, where_told (told shelf.files source) bytes (λ file. IsCutShort asked file out) read (λ file same. cut_file asked bytes file out law same h.1))
@@ -112,9 +121,11 @@ pub duties_tested : (test : TableTest) (bytes : List ℕ) (duties : List Duty) (
 duties_tested test bytes duties out (Ended stop) read h = h
 duties_tested test bytes duties out Accepted read h = h
 duties_tested test bytes duties out (Tested failed) read h = record { duties = duties; read = read; text = h.0; failed_is = h.1; beyond = h.2 }
+duties_tested test bytes duties out (Traced broken) read h = h
 duties_tested test bytes duties out WordsRefused read h = h
 duties_tested test bytes duties out (SourceRefused refusal) read h = h
 duties_tested test bytes duties out (TableRefused fault) read h = absurd h
+duties_tested test bytes duties out (TraceRefused line) read h = h
 duties_tested test bytes duties out ReadFault read h = h
 duties_tested test bytes duties out WriteFault read h = (h.0, (duties, read, h.1))
 duties_tested test bytes duties out NoMemory read h = absurd h
@@ -138,11 +149,42 @@ bytes_tested table test shelf out bytes (Ended stop) law read h = absurd h
 bytes_tested table test shelf out bytes Accepted law read h = absurd h
 bytes_tested table test shelf out bytes (Tested failed) law read h =
     table_told (told shelf.files table) bytes (λ file. IsTested test file out failed) law read (λ file same. tested_file test bytes file out failed same h)
+bytes_tested table test shelf out bytes (Traced broken) law read h = absurd h
 bytes_tested table test shelf out bytes WordsRefused law read h = absurd h
 bytes_tested table test shelf out bytes (SourceRefused refusal) law read h = absurd h
 bytes_tested table test shelf out bytes (TableRefused fault) law read h =
     (table_told (told shelf.files table) bytes (λ file. IsNoTable fault file) law read (λ file same. sym same ∙ h.0), h.1)
+bytes_tested table test shelf out bytes (TraceRefused line) law read h = absurd h
 bytes_tested table test shelf out bytes ReadFault law read h = absurd h
 bytes_tested table test shelf out bytes WriteFault law read h =
     (h.0, table_told (told shelf.files table) bytes (λ file. IsTestCutShort test file out) law read (λ file same. (h.1.0, sym same ∙ h.1.1, h.1.2)))
 bytes_tested table test shelf out bytes NoMemory law read h = inl h
+
+-- ---- traces
+
+-- a fact of the bytes that are told
+same_answer : (file : ToldFile) (work : TraceWork) (told_so : Result (List ℕ × Bool) ℕ) (F : Result (List ℕ × Bool) ℕ → Type 0) → WhereTold file (λ bytes. trace_answer work bytes ≡ told_so) → F told_so → WhereTold file (λ bytes. F (trace_answer work bytes))
+same_answer Untold work told_so F is h = tt
+same_answer Missing work told_so F is h = is
+same_answer (Holds bytes) work told_so F is h = subst F (sym is) h
+
+-- what is told of the answer on a trace is done for the words
+pub answer_told : (trace : List ℕ) (work : TraceWork) (shelf : ShelfChange) (out : SinkChange) (answer : Result (List ℕ × Bool) ℕ) (o : Outcome) →
+    WhereTold (told shelf.files trace) (λ bytes. trace_answer work bytes ≡ answer) → TellsTrace answer out o → Performs (Some (TraceAsked trace work)) shelf out o
+answer_told trace work shelf out answer (Ended stop) is h = absurd h
+answer_told trace work shelf out answer Accepted is h = absurd h
+answer_told trace work shelf out answer (Tested failed) is h = absurd h
+answer_told trace work shelf out answer (Traced broken) is h = same_answer (told shelf.files trace) work answer (λ a. (text : List ℕ) × (a ≡ Ok (text, broken)) × Gained out text) is h
+answer_told trace work shelf out answer WordsRefused is h = absurd h
+answer_told trace work shelf out answer (SourceRefused refusal) is h = absurd h
+answer_told trace work shelf out answer (TableRefused fault) is h = absurd h
+answer_told trace work shelf out answer (TraceRefused line) is h = (same_answer (told shelf.files trace) work answer (λ a. a ≡ Err line) is h.0, h.1)
+answer_told trace work shelf out answer ReadFault is h = absurd h
+answer_told trace work shelf out answer WriteFault is h = (h.0, same_answer (told shelf.files trace) work answer (λ a. (text : List ℕ) × (broken : Bool) × (a ≡ Ok (text, broken)) × GainedPrefix out text) is h.1)
+answer_told trace work shelf out answer NoMemory is h = inr (same_answer (told shelf.files trace) work answer (λ a. (text : List ℕ) × (broken : Bool) × (a ≡ Ok (text, broken)) × GainedPrefix out text) is h)
+
+-- the answer of a verdict
+pub verdict_told : (file : ToldFile) (verdict : Verdict) → WhereTold file (λ bytes. laws_answer bytes ≡ verdict) → WhereTold file (λ bytes. trace_answer question.Laws bytes ≡ verdict_answer verdict)
+verdict_told Untold verdict is = tt
+verdict_told Missing verdict is = is
+verdict_told (Holds bytes) verdict is = ap verdict_answer is

@@ -13,18 +13,23 @@ use Rattle.sched_tests.specs.Demand.{first_over_of, busy_of}
 use Rattle.sched_tests.specs.Reading.{table_of}
 use Rattle.sched_tests.specs.Reports.{table_note}
 use Rattle.commands.specs.declared.outcomes.Outcome.{Outcome}
-use Rattle.commands.specs.declared.outcomes.Outcome.TheVariants.{Ended, Accepted, Tested, WordsRefused, SourceRefused, TableRefused, ReadFault, WriteFault, NoMemory}
+use Rattle.commands.specs.declared.outcomes.Outcome.TheVariants.{Ended, Accepted, Tested, Traced, WordsRefused, SourceRefused, TableRefused, TraceRefused, ReadFault, WriteFault, NoMemory}
+use Rattle.trace_laws.specs.declared.verdicts.Verdict.{Verdict}
+use Rattle.trace_laws.specs.Verdicts.{texts_in, laws_answer, Says}
 use Rattle.commands.specs.declared.requests.Work.{Work}
 use Rattle.commands.specs.declared.requests.Work.TheVariants as work
 use Rattle.commands.specs.declared.requests.TableTest.{TableTest}
 use Rattle.commands.specs.declared.requests.TableTest.TheVariants as test
-use Rattle.commands.specs.Requests.{Asked, SourceAsked, TableAsked}
+use Rattle.commands.specs.declared.requests.TraceWork.{TraceWork}
+use Rattle.commands.specs.declared.requests.TraceWork.TheVariants as question
+use Rattle.commands.specs.Traces.{trace_answer, trace_note}
+use Rattle.commands.specs.Requests.{Asked, SourceAsked, TableAsked, TraceAsked}
 use Rattle.commands.specs.Tests.{test_status, is_failed, NeverOver}
 use Rattle.commands.specs.Outside.{ShelfChange, SinkChange, SinkFailed, IsKept, Gained, GainedPrefix}
 use Rattle.commands.specs.Outcomes.{stop_status, status_of, note_of, refusal_text, IsNoted, Concludes}
-use Rattle.commands.specs.Performed.{text_for, outcome_for, OfAsked, OfSource, OfTable, IsDone, IsRefused, IsTested, IsNoTable, IsFileCutShort, IsUnread, Performs}
-use Rattle.commands.specs.Statuses.{IsUndisturbed, Headline, AcceptanceTold, IsAnswer, TableTold, BeyondTold, IsPrinted, DoneTold, IsStatus, NotAccepted, RefusalTold, FailureTold, TableRefusalTold, IsCause, NoteTried, PrefixTold}
-use Rattle.commands.proofs.Conclusions.{stop_status-small, is_refused, is_failed_test, is_refused_table, is_words, is_read_fault, is_write_fault, is_memory, concluded, known, FailedNote, failed, low}
+use Rattle.commands.specs.Performed.{text_for, outcome_for, OfAsked, OfSource, OfTable, OfTrace, IsDone, IsRefused, IsTested, IsNoTable, IsTraced, IsNoTrace, IsFileCutShort, IsUnread, Performs}
+use Rattle.commands.specs.Statuses.{IsUndisturbed, Headline, AcceptanceTold, IsAnswer, TableTold, IsTraceAnswer, TraceTold, LawsTold, BeyondTold, IsPrinted, DoneTold, IsStatus, NotAccepted, RefusalTold, FailureTold, TableRefusalTold, BreachTold, TraceRefusalTold, IsCause, NoteTried, PrefixTold}
+use Rattle.commands.proofs.Conclusions.{stop_status-small, is_refused, is_failed_test, is_refused_table, is_breach, is_refused_trace, is_words, is_read_fault, is_write_fault, is_memory, concluded, known, FailedNote, failed, low}
 
 -- ---- files
 
@@ -40,6 +45,21 @@ no_table asked shelf source a F is h = subst (λ x. OfTable x shelf F) is h
 no_source : (asked : Option Asked) (shelf : ShelfChange) (table : List ℕ) (t : TableTest) (F : Work → List ℕ → Type 0) → asked ≡ Some (TableAsked table t) → OfSource asked shelf F → ⊥
 no_source asked shelf table t F is h = subst (λ x. OfSource x shelf F) is h
 
+at_trace : (asked : Option Asked) (shelf : ShelfChange) (trace : List ℕ) (w : TraceWork) (bytes : List ℕ) (F : TraceWork → List ℕ → Type 0) → asked ≡ Some (TraceAsked trace w) → told shelf.files trace ≡ Holds bytes → OfTrace asked shelf F → F w bytes
+at_trace asked shelf trace w bytes F is there h = subst (λ file. WhereTold file (F w)) there (subst (λ x. OfTrace x shelf F) is h)
+
+source_no_trace : (asked : Option Asked) (shelf : ShelfChange) (source : List ℕ) (a : Work) (F : TraceWork → List ℕ → Type 0) → asked ≡ Some (SourceAsked source a) → OfTrace asked shelf F → ⊥
+source_no_trace asked shelf source a F is h = subst (λ x. OfTrace x shelf F) is h
+
+table_no_trace : (asked : Option Asked) (shelf : ShelfChange) (table : List ℕ) (t : TableTest) (F : TraceWork → List ℕ → Type 0) → asked ≡ Some (TableAsked table t) → OfTrace asked shelf F → ⊥
+table_no_trace asked shelf table t F is h = subst (λ x. OfTrace x shelf F) is h
+
+trace_no_source : (asked : Option Asked) (shelf : ShelfChange) (trace : List ℕ) (w : TraceWork) (F : Work → List ℕ → Type 0) → asked ≡ Some (TraceAsked trace w) → OfSource asked shelf F → ⊥
+trace_no_source asked shelf trace w F is h = subst (λ x. OfSource x shelf F) is h
+
+trace_no_table : (asked : Option Asked) (shelf : ShelfChange) (trace : List ℕ) (w : TraceWork) (F : TableTest → List ℕ → Type 0) → asked ≡ Some (TraceAsked trace w) → OfTable asked shelf F → ⊥
+trace_no_table asked shelf trace w F is h = subst (λ x. OfTable x shelf F) is h
+
 told_map : (file : ToldFile) (F G : List ℕ → Type 0) → ((bytes : List ℕ) → F bytes → G bytes) → WhereTold file F → WhereTold file G
 told_map Untold F G f h = tt
 told_map Missing F G f h = h
@@ -49,11 +69,19 @@ source_map : (asked : Option Asked) (shelf : ShelfChange) (F G : Work → List �
 source_map None shelf F G f h = h
 source_map (Some (SourceAsked source a)) shelf F G f h = told_map (told shelf.files source) (F a) (G a) (f a) h
 source_map (Some (TableAsked table t)) shelf F G f h = h
+source_map (Some (TraceAsked trace w)) shelf F G f h = h
 
 table_map : (asked : Option Asked) (shelf : ShelfChange) (F G : TableTest → List ℕ → Type 0) → ((t : TableTest) (bytes : List ℕ) → F t bytes → G t bytes) → OfTable asked shelf F → OfTable asked shelf G
 table_map None shelf F G f h = h
 table_map (Some (SourceAsked source a)) shelf F G f h = h
 table_map (Some (TableAsked table t)) shelf F G f h = told_map (told shelf.files table) (F t) (G t) (f t) h
+table_map (Some (TraceAsked trace w)) shelf F G f h = h
+
+trace_map : (asked : Option Asked) (shelf : ShelfChange) (F G : TraceWork → List ℕ → Type 0) → ((w : TraceWork) (bytes : List ℕ) → F w bytes → G w bytes) → OfTrace asked shelf F → OfTrace asked shelf G
+trace_map None shelf F G f h = h
+trace_map (Some (SourceAsked source a)) shelf F G f h = h
+trace_map (Some (TableAsked table t)) shelf F G f h = h
+trace_map (Some (TraceAsked trace w)) shelf F G f h = told_map (told shelf.files trace) (F w) (G w) (f w) h
 
 nothing_asked : (asked : Option Asked) (F : Asked → Type 0) → asked ≡ None → OfAsked asked F → ⊥
 nothing_asked asked F none h = subst (λ a. OfAsked a F) none h
@@ -83,11 +111,13 @@ undisturbed asked shelf out notes Accepted status p c source a bytes image is th
     served a bytes image out notes Accepted status (at_source asked shelf source a bytes (λ x b. IsDone x b out Accepted) is there p) fits told.0 told.1
 undisturbed asked shelf out notes (Tested failed) status p c source a bytes image is there fits u =
     absurd (no_table asked shelf source a (λ t b. IsTested t b out failed) is p)
+undisturbed asked shelf out notes (Traced broken) status p c source a bytes image is there fits u = absurd (source_no_trace asked shelf source a (λ x b. IsTraced x b out broken) is p)
 undisturbed asked shelf out notes WordsRefused status p c source a bytes image is there fits u = absurd (no_request asked (SourceAsked source a) p.0 is)
 undisturbed asked shelf out notes (SourceRefused refusal) status p c source a bytes image is there fits u =
     absurd ((at_source asked shelf source a bytes (λ x b. IsRefused b refusal) is there p.0).never image fits)
 undisturbed asked shelf out notes (TableRefused fault) status p c source a bytes image is there fits u =
     absurd (no_table asked shelf source a (λ t b. IsNoTable fault b) is p.0)
+undisturbed asked shelf out notes (TraceRefused line) status p c source a bytes image is there fits u = absurd (source_no_trace asked shelf source a (λ x b. IsNoTrace line x b) is p.0)
 undisturbed asked shelf out notes ReadFault status p c source a bytes image is there fits u = absurd (disturbed ReadFault notes status 7 c refl u.0 u.1)
 undisturbed asked shelf out notes WriteFault status p c source a bytes image is there fits u = absurd (disturbed WriteFault notes status 8 c refl u.1 u.1)
 undisturbed asked shelf out notes NoMemory status p c source a bytes image is there fits u = absurd (disturbed NoMemory notes status 9 c refl u.2 u.1)
@@ -117,11 +147,13 @@ table_told asked shelf out notes Accepted status p c table bytes t is there u = 
 table_told asked shelf out notes (Tested failed) status p c table bytes t is there u =
     let told = concluded (Tested failed) notes status c u.1 in
     answered t bytes out notes failed status (at_table asked shelf table t bytes (λ x b. IsTested x b out failed) is there p) told.0 told.1
+table_told asked shelf out notes (Traced broken) status p c table bytes t is there u = absurd (table_no_trace asked shelf table t (λ x b. IsTraced x b out broken) is p)
 table_told asked shelf out notes WordsRefused status p c table bytes t is there u = absurd (no_request asked (TableAsked table t) p.0 is)
 table_told asked shelf out notes (SourceRefused refusal) status p c table bytes t is there u = absurd (no_source asked shelf table t (λ x b. IsRefused b refusal) is p.0)
 table_told asked shelf out notes (TableRefused fault) status p c table bytes t is there u =
     let told = concluded (TableRefused fault) notes status c u.1 in
     refused_answer t bytes out notes fault status (at_table asked shelf table t bytes (λ x b. IsNoTable fault b) is there p.0) p.1 told.0 told.1
+table_told asked shelf out notes (TraceRefused line) status p c table bytes t is there u = absurd (table_no_trace asked shelf table t (λ x b. IsNoTrace line x b) is p.0)
 table_told asked shelf out notes ReadFault status p c table bytes t is there u = absurd (disturbed ReadFault notes status 7 c refl u.0 u.1)
 table_told asked shelf out notes WriteFault status p c table bytes t is there u = absurd (disturbed WriteFault notes status 8 c refl u.1 u.1)
 table_told asked shelf out notes NoMemory status p c table bytes t is there u = absurd (disturbed NoMemory notes status 9 c refl u.2 u.1)
@@ -157,12 +189,45 @@ beyond asked shelf out notes Accepted status p c table bytes duties busy is ther
 beyond asked shelf out notes (Tested failed) status p c table bytes duties busy is there read zero_is busy_is =
     never_over bytes duties busy out failed status (at_table asked shelf table test.Demand bytes (λ x b. IsTested x b out failed) is there p) read
     (concluded (Tested failed) notes status c (low status (omega (arith, zero_is)))).0 zero_is busy_is
+beyond asked shelf out notes (Traced broken) status p c table bytes duties busy is there read zero_is busy_is = absurd (table_no_trace asked shelf table test.Demand (λ x b. IsTraced x b out broken) is p)
 beyond asked shelf out notes WordsRefused status p c table bytes duties busy is there read zero_is busy_is = absurd (no_request asked (TableAsked table test.Demand) p.0 is)
 beyond asked shelf out notes (SourceRefused refusal) status p c table bytes duties busy is there read zero_is busy_is = absurd (no_source asked shelf table test.Demand (λ x b. IsRefused b refusal) is p.0)
 beyond asked shelf out notes (TableRefused fault) status p c table bytes duties busy is there read zero_is busy_is = absurd (omega (arith, (concluded (TableRefused fault) notes status c (low status (omega (arith, zero_is)))).0, zero_is))
+beyond asked shelf out notes (TraceRefused line) status p c table bytes duties busy is there read zero_is busy_is = absurd (table_no_trace asked shelf table test.Demand (λ x b. IsNoTrace line x b) is p.0)
 beyond asked shelf out notes ReadFault status p c table bytes duties busy is there read zero_is busy_is = absurd (omega (arith, (concluded ReadFault notes status c (low status (omega (arith, zero_is)))).0, zero_is))
 beyond asked shelf out notes WriteFault status p c table bytes duties busy is there read zero_is busy_is = absurd (omega (arith, (concluded WriteFault notes status c (low status (omega (arith, zero_is)))).0, zero_is))
 beyond asked shelf out notes NoMemory status p c table bytes duties busy is there read zero_is busy_is = absurd (omega (arith, (concluded NoMemory notes status c (low status (omega (arith, zero_is)))).0, zero_is))
+
+-- ---- what is asked of a trace is told
+
+traced : (w : TraceWork) (bytes : List ℕ) (out notes : SinkChange) (broken : Bool) (status : ℕ) → IsTraced w bytes out broken → status ≡ status_of (Traced broken) → IsKept notes → IsTraceAnswer (trace_answer w bytes) out notes status
+traced w bytes out notes broken status h is kept = subst (λ answer. IsTraceAnswer answer out notes status) (sym h.1) (h.2, is, kept)
+
+no_trace : (w : TraceWork) (bytes : List ℕ) (out notes : SinkChange) (line : ℕ) (status : ℕ) → IsNoTrace line w bytes → IsKept out → status ≡ 11 → Gained notes (trace_note line) → IsTraceAnswer (trace_answer w bytes) out notes status
+no_trace w bytes out notes line status h kept is note = subst (λ answer. IsTraceAnswer answer out notes status) (sym h) (kept, is, note)
+
+pub trace_told : (asked : Option Asked) (shelf : ShelfChange) (out notes : SinkChange) (o : Outcome) (status : ℕ) → Performs asked shelf out o → Concludes o notes status → TraceTold asked shelf out notes status
+trace_told asked shelf out notes (Ended stop) status p c trace bytes w is there u = absurd (trace_no_source asked shelf trace w (λ x b. IsDone x b out (Ended stop)) is p.0)
+trace_told asked shelf out notes Accepted status p c trace bytes w is there u = absurd (trace_no_source asked shelf trace w (λ x b. IsDone x b out Accepted) is p)
+trace_told asked shelf out notes (Tested failed) status p c trace bytes w is there u = absurd (trace_no_table asked shelf trace w (λ x b. IsTested x b out failed) is p)
+trace_told asked shelf out notes (Traced broken) status p c trace bytes w is there u =
+    let told = concluded (Traced broken) notes status c u.1 in
+    traced w bytes out notes broken status (at_trace asked shelf trace w bytes (λ x b. IsTraced x b out broken) is there p) told.0 told.1
+trace_told asked shelf out notes WordsRefused status p c trace bytes w is there u = absurd (no_request asked (TraceAsked trace w) p.0 is)
+trace_told asked shelf out notes (SourceRefused refusal) status p c trace bytes w is there u = absurd (trace_no_source asked shelf trace w (λ x b. IsRefused b refusal) is p.0)
+trace_told asked shelf out notes (TableRefused fault) status p c trace bytes w is there u = absurd (trace_no_table asked shelf trace w (λ x b. IsNoTable fault b) is p.0)
+trace_told asked shelf out notes (TraceRefused line) status p c trace bytes w is there u =
+    let told = concluded (TraceRefused line) notes status c u.1 in
+    no_trace w bytes out notes line status (at_trace asked shelf trace w bytes (λ x b. IsNoTrace line x b) is there p.0) p.1 told.0 told.1
+trace_told asked shelf out notes ReadFault status p c trace bytes w is there u = absurd (disturbed ReadFault notes status 7 c refl u.0 u.1)
+trace_told asked shelf out notes WriteFault status p c trace bytes w is there u = absurd (disturbed WriteFault notes status 8 c refl u.1 u.1)
+trace_told asked shelf out notes NoMemory status p c trace bytes w is there u = absurd (disturbed NoMemory notes status 9 c refl u.2 u.1)
+
+-- the laws, by what a verdict says
+pub laws_told : ((bytes : List ℕ) → Says (texts_in bytes) (laws_answer bytes)) → ((bytes : List ℕ) (v : Verdict) → Says (texts_in bytes) v → laws_answer bytes ≡ v) →
+    (asked : Option Asked) (shelf : ShelfChange) (out notes : SinkChange) (o : Outcome) (status : ℕ) → Performs asked shelf out o → Concludes o notes status → LawsTold asked shelf out notes status
+laws_told says only asked shelf out notes o status p c trace bytes is there u =
+    record { verdict = laws_answer bytes; says = says bytes; only = only bytes; told_so = trace_told asked shelf out notes o status p c trace bytes question.Laws is there u }
 
 -- ---- 0 to 3
 
@@ -171,6 +236,7 @@ done_source None shelf out o status h is = h
 done_source (Some (SourceAsked source a)) shelf out o status h is =
     told_map (told shelf.files source) (λ bytes. IsDone a bytes out o) (λ bytes. (o : Outcome) × IsDone a bytes out o × (status ≡ status_of o)) (λ bytes done. (o, done, is)) h
 done_source (Some (TableAsked table t)) shelf out o status h is = absurd h
+done_source (Some (TraceAsked trace w)) shelf out o status h is = absurd h
 
 printed : (t : TableTest) (bytes : List ℕ) (out : SinkChange) (failed : Bool) (status : ℕ) → status ≡ status_of (Tested failed) → IsTested t bytes out failed → IsPrinted t bytes out status
 printed t bytes out failed status is h = (h.duties, h.read, h.text, is ∙ status_by t h.duties failed h.failed_is)
@@ -180,15 +246,25 @@ done_table None shelf out failed status h is zero_is = h
 done_table (Some (SourceAsked source a)) shelf out failed status h is zero_is = absurd h
 done_table (Some (TableAsked table t)) shelf out failed status h is zero_is =
     (zero_is, told_map (told shelf.files table) (λ bytes. IsTested t bytes out failed) (λ bytes. IsPrinted t bytes out status) (λ bytes h. printed t bytes out failed status is h) h)
+done_table (Some (TraceAsked trace w)) shelf out failed status h is zero_is = absurd h
+
+done_trace : (asked : Option Asked) (shelf : ShelfChange) (out : SinkChange) (status : ℕ) → OfTrace asked shelf (λ w bytes. IsTraced w bytes out false) → status ≡ 0 → DoneTold asked shelf out status
+done_trace None shelf out status h is = h
+done_trace (Some (SourceAsked source a)) shelf out status h is = absurd h
+done_trace (Some (TableAsked table t)) shelf out status h is = absurd h
+done_trace (Some (TraceAsked trace w)) shelf out status h is = (is, h)
 
 done_by : (asked : Option Asked) (shelf : ShelfChange) (out : SinkChange) (o : Outcome) (status : ℕ) → Performs asked shelf out o → status ≡ status_of o → status ≤ 3 → DoneTold asked shelf out status
 done_by asked shelf out (Ended stop) status p is small = done_source asked shelf out (Ended stop) status p.0 is
 done_by asked shelf out Accepted status p is small = done_source asked shelf out Accepted status p is
 done_by asked shelf out (Tested true) status p is small = absurd (omega (arith, is, small))
 done_by asked shelf out (Tested false) status p is small = done_table asked shelf out false status p is is
+done_by asked shelf out (Traced true) status p is small = absurd (omega (arith, is, small))
+done_by asked shelf out (Traced false) status p is small = done_trace asked shelf out status p is
 done_by asked shelf out WordsRefused status p is small = absurd (omega (arith, is, small))
 done_by asked shelf out (SourceRefused refusal) status p is small = absurd (omega (arith, is, small))
 done_by asked shelf out (TableRefused fault) status p is small = absurd (omega (arith, is, small))
+done_by asked shelf out (TraceRefused line) status p is small = absurd (omega (arith, is, small))
 done_by asked shelf out ReadFault status p is small = absurd (omega (arith, is, small))
 done_by asked shelf out WriteFault status p is small = absurd (omega (arith, is, small))
 done_by asked shelf out NoMemory status p is small = absurd (omega (arith, is, small))
@@ -200,9 +276,11 @@ quiet_by : (o : Outcome) (notes : SinkChange) (status : ℕ) → (status ≡ sta
 quiet_by (Ended stop) notes status c small = c.1
 quiet_by Accepted notes status c small = c.1
 quiet_by (Tested failed) notes status c small = c.1
+quiet_by (Traced broken) notes status c small = c.1
 quiet_by WordsRefused notes status c small = absurd (omega (arith, c.0, small))
 quiet_by (SourceRefused refusal) notes status c small = absurd (omega (arith, c.0, small))
 quiet_by (TableRefused fault) notes status c small = absurd (omega (arith, c.0, small))
+quiet_by (TraceRefused line) notes status c small = absurd (omega (arith, c.0, small))
 quiet_by ReadFault notes status c small = absurd (omega (arith, c.0, small))
 quiet_by WriteFault notes status c small = absurd (omega (arith, c.0, small))
 quiet_by NoMemory notes status c small = absurd (omega (arith, c.0, small))
@@ -223,9 +301,12 @@ outcome_status asked shelf out (Ended stop) p = plain_status stop p.1
 outcome_status asked shelf out Accepted p = search rules
 outcome_status asked shelf out (Tested true) p = search rules
 outcome_status asked shelf out (Tested false) p = search rules
+outcome_status asked shelf out (Traced true) p = search rules
+outcome_status asked shelf out (Traced false) p = search rules
 outcome_status asked shelf out WordsRefused p = search rules
 outcome_status asked shelf out (SourceRefused refusal) p = search rules
 outcome_status asked shelf out (TableRefused fault) p = search rules
+outcome_status asked shelf out (TraceRefused line) p = search rules
 outcome_status asked shelf out ReadFault p = search rules
 outcome_status asked shelf out WriteFault p = search rules
 outcome_status asked shelf out NoMemory p = search rules
@@ -256,9 +337,11 @@ not_accepted asked shelf out notes (Ended stop) status p c source bytes a is the
 not_accepted asked shelf out notes Accepted status p c source bytes a is there none u =
     let done = at_source asked shelf source a bytes (λ x b. IsDone x b out Accepted) is there p in absurd (none done.image done.accepted)
 not_accepted asked shelf out notes (Tested failed) status p c source bytes a is there none u = absurd (no_table asked shelf source a (λ t b. IsTested t b out failed) is p)
+not_accepted asked shelf out notes (Traced broken) status p c source bytes a is there none u = absurd (source_no_trace asked shelf source a (λ x b. IsTraced x b out broken) is p)
 not_accepted asked shelf out notes WordsRefused status p c source bytes a is there none u = absurd (no_request asked (SourceAsked source a) p.0 is)
 not_accepted asked shelf out notes (SourceRefused refusal) status p c source bytes a is there none u = (concluded (SourceRefused refusal) notes status c u.1).0
 not_accepted asked shelf out notes (TableRefused fault) status p c source bytes a is there none u = absurd (no_table asked shelf source a (λ t b. IsNoTable fault b) is p.0)
+not_accepted asked shelf out notes (TraceRefused line) status p c source bytes a is there none u = absurd (source_no_trace asked shelf source a (λ x b. IsNoTrace line x b) is p.0)
 not_accepted asked shelf out notes ReadFault status p c source bytes a is there none u = absurd (disturbed ReadFault notes status 7 c refl u.0 u.1)
 not_accepted asked shelf out notes WriteFault status p c source bytes a is there none u = absurd (disturbed WriteFault notes status 8 c refl u.1 u.1)
 not_accepted asked shelf out notes NoMemory status p c source bytes a is there none u = absurd (disturbed NoMemory notes status 9 c refl u.2 u.1)
@@ -270,9 +353,12 @@ kept_by asked shelf out (Ended stop) status p is from to = absurd (omega (arith,
 kept_by asked shelf out Accepted status p is from to = absurd (omega (arith, is, from))
 kept_by asked shelf out (Tested true) status p is from to = absurd (omega (arith, is, to))
 kept_by asked shelf out (Tested false) status p is from to = absurd (omega (arith, is, from))
+kept_by asked shelf out (Traced true) status p is from to = absurd (omega (arith, is, to))
+kept_by asked shelf out (Traced false) status p is from to = absurd (omega (arith, is, from))
 kept_by asked shelf out WordsRefused status p is from to = p.1
 kept_by asked shelf out (SourceRefused refusal) status p is from to = p.1
 kept_by asked shelf out (TableRefused fault) status p is from to = p.1
+kept_by asked shelf out (TraceRefused line) status p is from to = p.1
 kept_by asked shelf out ReadFault status p is from to = p.1
 kept_by asked shelf out WriteFault status p is from to = absurd (omega (arith, is, to))
 kept_by asked shelf out NoMemory status p is from to = absurd (omega (arith, is, to))
@@ -290,9 +376,11 @@ refused_by : (asked : Option Asked) (shelf : ShelfChange) (out : SinkChange) (o 
 refused_by asked shelf out (Ended stop) p none = absurd (subst (λ x. OfSource x shelf (λ a bytes. IsDone a bytes out (Ended stop))) none p.0)
 refused_by asked shelf out Accepted p none = absurd (subst (λ x. OfSource x shelf (λ a bytes. IsDone a bytes out Accepted)) none p)
 refused_by asked shelf out (Tested failed) p none = absurd (subst (λ x. OfTable x shelf (λ t bytes. IsTested t bytes out failed)) none p)
+refused_by asked shelf out (Traced broken) p none = absurd (subst (λ x. OfTrace x shelf (λ w bytes. IsTraced w bytes out broken)) none p)
 refused_by asked shelf out WordsRefused p none = inr refl
 refused_by asked shelf out (SourceRefused refusal) p none = absurd (subst (λ x. OfSource x shelf (λ a bytes. IsRefused bytes refusal)) none p.0)
 refused_by asked shelf out (TableRefused fault) p none = absurd (subst (λ x. OfTable x shelf (λ t bytes. IsNoTable fault bytes)) none p.0)
+refused_by asked shelf out (TraceRefused line) p none = absurd (subst (λ x. OfTrace x shelf (λ w bytes. IsNoTrace line w bytes)) none p.0)
 refused_by asked shelf out ReadFault p none = absurd (subst (λ x. IsUnread x shelf) none p.0)
 refused_by asked shelf out WriteFault p none = inl refl
 refused_by asked shelf out NoMemory p none = absurd (nothing_asked asked (λ a. IsKept out ⊎ IsFileCutShort a shelf out) none p)
@@ -333,9 +421,11 @@ cause_of : (asked : Option Asked) (shelf : ShelfChange) (out : SinkChange) (o : 
 cause_of asked shelf out (Ended stop) note p is = cc
 cause_of asked shelf out Accepted note p is = cc
 cause_of asked shelf out (Tested failed) note p is = cc
+cause_of asked shelf out (Traced broken) note p is = cc
 cause_of asked shelf out WordsRefused note p is = p.0
 cause_of asked shelf out (SourceRefused refusal) note p is = p.0
 cause_of asked shelf out (TableRefused fault) note p is = p.0
+cause_of asked shelf out (TraceRefused line) note p is = p.0
 cause_of asked shelf out ReadFault note p is = p.0
 cause_of asked shelf out WriteFault note p is = p.0
 cause_of asked shelf out NoMemory note p is = tt
@@ -368,9 +458,13 @@ prefix_told asked shelf out notes Accepted status p (inr c) high = absurd c.2
 prefix_told asked shelf out notes (Tested true) status p (inl c) high = absurd (omega (arith, c.0, high))
 prefix_told asked shelf out notes (Tested false) status p (inl c) high = absurd (omega (arith, c.0, high))
 prefix_told asked shelf out notes (Tested failed) status p (inr c) high = absurd c.2
+prefix_told asked shelf out notes (Traced true) status p (inl c) high = absurd (omega (arith, c.0, high))
+prefix_told asked shelf out notes (Traced false) status p (inl c) high = absurd (omega (arith, c.0, high))
+prefix_told asked shelf out notes (Traced broken) status p (inr c) high = absurd c.2
 prefix_told asked shelf out notes WordsRefused status p c high = inl p.1
 prefix_told asked shelf out notes (SourceRefused refusal) status p c high = inl p.1
 prefix_told asked shelf out notes (TableRefused fault) status p c high = inl p.1
+prefix_told asked shelf out notes (TraceRefused line) status p c high = inl p.1
 prefix_told asked shelf out notes ReadFault status p c high = inl p.1
 prefix_told asked shelf out notes WriteFault status p c high = inr p.1
 prefix_told asked shelf out notes NoMemory status p c high = cut_asked asked shelf out p
@@ -410,3 +504,30 @@ pub kept_refused_table : (asked : Option Asked) (shelf : ShelfChange) (out notes
 kept_refused_table asked shelf out notes o status p c e =
     let told = concluded o notes status c (λ h. omega (arith, e, h)) in
     (subst (Performs asked shelf out) (is_refused_table o (sym told.0 ∙ e)).1 p).1
+
+-- ---- 10
+
+pub breach : (asked : Option Asked) (shelf : ShelfChange) (out notes : SinkChange) (o : Outcome) (status : ℕ) → Performs asked shelf out o → Concludes o notes status → status ≡ 10 → BreachTold asked shelf out
+breach asked shelf out notes o status p c e =
+    let told = concluded o notes status c (λ h. omega (arith, e, h)) in
+    subst (Performs asked shelf out) (is_breach o (sym told.0 ∙ e)) p
+
+pub quiet_breach : (o : Outcome) (notes : SinkChange) (status : ℕ) → Concludes o notes status → status ≡ 10 → IsKept notes
+quiet_breach o notes status c e =
+    let told = concluded o notes status c (λ h. omega (arith, e, h)) in
+    subst (λ x. IsNoted (note_of x) notes) (is_breach o (sym told.0 ∙ e)) told.1
+
+-- ---- 11
+
+pub refused_trace : (asked : Option Asked) (shelf : ShelfChange) (out notes : SinkChange) (o : Outcome) (status : ℕ) → Performs asked shelf out o → Concludes o notes status → status ≡ 11 → TraceRefusalTold asked shelf notes
+refused_trace asked shelf out notes o status p c e =
+    let told = concluded o notes status c (λ h. omega (arith, e, h)) in
+    let is = is_refused_trace o (sym told.0 ∙ e) in
+    let noted : Gained notes (trace_note is.0) = subst (λ x. IsNoted (note_of x) notes) is.1 told.1 in
+    trace_map asked shelf (λ w bytes. IsNoTrace is.0 w bytes) (λ w bytes. (line : ℕ) × IsNoTrace line w bytes × Gained notes (trace_note line))
+    (λ w bytes refused. (is.0, refused, noted)) (subst (Performs asked shelf out) is.1 p).0
+
+pub kept_refused_trace : (asked : Option Asked) (shelf : ShelfChange) (out notes : SinkChange) (o : Outcome) (status : ℕ) → Performs asked shelf out o → Concludes o notes status → status ≡ 11 → IsKept out
+kept_refused_trace asked shelf out notes o status p c e =
+    let told = concluded o notes status c (λ h. omega (arith, e, h)) in
+    (subst (Performs asked shelf out) (is_refused_trace o (sym told.0 ∙ e)).1 p).1

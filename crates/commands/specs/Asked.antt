@@ -1,5 +1,6 @@
--- What words ask for: `run SOURCE`, `run SOURCE --ticks N`, `accept SOURCE`, `rta TABLE` and `demand TABLE`. A name is
--- not empty and does not begin with a hyphen. N is from 1 to 1,000,000,000, in plain decimal without leading zeros.
+-- What words ask for: `run SOURCE`, `run SOURCE --ticks N`, `accept SOURCE`, `rta TABLE`, `demand TABLE` and `laws TRACE`.
+-- A name is not empty and does not begin with a hyphen. N is from 1 to 1,000,000,000, in plain decimal without leading
+-- zeros.
 use Rattle.std.specs.Prelude.{ℕ, ◌+◌, ◌-◌, ◌*◌, ◌==◌, nat_le, Bool, ◌&&◌, if◌then◌else◌, List, [], ◌∷◌, Option, Some, None, codes}
 use Rattle.std.specs.Option.{option_map}
 use Rattle.std.specs.Str.{bytes_eq}
@@ -8,7 +9,9 @@ use Rattle.commands.specs.declared.requests.TheConstants.{DEFAULT_TICKS, MOST_TI
 use Rattle.commands.specs.declared.requests.Work.TheVariants as work
 use Rattle.commands.specs.declared.requests.TableTest.{TableTest}
 use Rattle.commands.specs.declared.requests.TableTest.TheVariants as test
-use Rattle.commands.specs.Requests.{Asked, SourceAsked, TableAsked}
+use Rattle.commands.specs.declared.requests.TraceWork.{TraceWork}
+use Rattle.commands.specs.declared.requests.TraceWork.TheVariants as question
+use Rattle.commands.specs.Requests.{Asked, SourceAsked, TableAsked, TraceAsked}
 
 abbrev pub name_of : List ℕ → Option (List ℕ)
 name_of [] = None
@@ -49,10 +52,16 @@ test_of wanted [] = None
 test_of wanted (table ∷ []) = option_map (λ name. TableAsked name wanted) (name_of table.items)
 test_of wanted (table ∷ more ∷ rest) = None
 
+abbrev pub trace_of : TraceWork → List (Vec ℕ) → Option Asked
+trace_of wanted [] = None
+trace_of wanted (trace ∷ []) = option_map (λ name. TraceAsked name wanted) (name_of trace.items)
+trace_of wanted (trace ∷ more ∷ rest) = None
+
 abbrev pub asked_of : List (Vec ℕ) → Option Asked
 asked_of [] = None
 asked_of (command ∷ rest) =
     if bytes_eq command.items (codes "run") then run_of rest
     else (if bytes_eq command.items (codes "accept") then accept_of rest
     else (if bytes_eq command.items (codes "rta") then test_of test.ResponseTimes rest
-    else (if bytes_eq command.items (codes "demand") then test_of test.Demand rest else None)))
+    else (if bytes_eq command.items (codes "demand") then test_of test.Demand rest
+    else (if bytes_eq command.items (codes "laws") then trace_of question.Laws rest else None))))

@@ -3,6 +3,7 @@ pub mod Asked
 pub mod Outside
 pub mod Runs
 pub mod Tests
+pub mod Traces
 pub mod Outcomes
 pub mod Performed
 pub mod Statuses

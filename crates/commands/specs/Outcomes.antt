@@ -6,7 +6,8 @@ use Rattle.ada_front.specs.declared.refusing.Refusal.{Refusal}
 use Rattle.ada_front.specs.Refusals.{letter_of, number_of}
 use Rattle.sched_tests.specs.Reports.{table_note}
 use Rattle.commands.specs.declared.outcomes.Outcome.{Outcome}
-use Rattle.commands.specs.declared.outcomes.Outcome.TheVariants.{Ended, Accepted, Tested, WordsRefused, SourceRefused, TableRefused, ReadFault, WriteFault, NoMemory}
+use Rattle.commands.specs.declared.outcomes.Outcome.TheVariants.{Ended, Accepted, Tested, Traced, WordsRefused, SourceRefused, TableRefused, TraceRefused, ReadFault, WriteFault, NoMemory}
+use Rattle.commands.specs.Traces.{traced_status, trace_note}
 use Rattle.commands.specs.Outside.{SinkChange, SinkFailed, IsKept, Gained, GainedPrefix}
 
 abbrev pub stop_status : Stop → ℕ
@@ -19,9 +20,11 @@ abbrev pub status_of : Outcome → ℕ
 status_of (Ended stop) = stop_status stop
 status_of Accepted = 0
 status_of (Tested failed) = if failed then 12 else 0
+status_of (Traced broken) = traced_status broken
 status_of WordsRefused = 6
 status_of (SourceRefused refusal) = 4
 status_of (TableRefused fault) = 13
+status_of (TraceRefused line) = 11
 status_of ReadFault = 7
 status_of WriteFault = 8
 status_of NoMemory = 9
@@ -37,9 +40,11 @@ abbrev pub note_of : Outcome → Option (List ℕ)
 note_of (Ended stop) = None
 note_of Accepted = None
 note_of (Tested failed) = None
+note_of (Traced broken) = None
 note_of WordsRefused = Some (codes "words refused\n")
 note_of (SourceRefused refusal) = Some (refusal_text refusal)
 note_of (TableRefused fault) = Some (table_note fault)
+note_of (TraceRefused line) = Some (trace_note line)
 note_of ReadFault = Some (codes "read fault\n")
 note_of WriteFault = Some (codes "write fault\n")
 note_of NoMemory = Some (codes "no memory\n")

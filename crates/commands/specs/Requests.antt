@@ -3,6 +3,7 @@ use Rattle.std.specs.Prelude.{◌<◌, ◌≤◌, ℕ, List}
 use Rattle.commands.specs.declared.requests.Work.{Work}
 use Rattle.commands.specs.declared.requests.Work.TheVariants as work
 use Rattle.commands.specs.declared.requests.TableTest.{TableTest}
+use Rattle.commands.specs.declared.requests.TraceWork.{TraceWork}
 use Rattle.commands.specs.declared.requests.Request.{Request}
 use Rattle.commands.specs.declared.requests.Request.TheVariants as request
 use Rattle.commands.specs.declared.requests.TheConstants.{MOST_TICKS}
@@ -10,16 +11,19 @@ use Rattle.commands.specs.declared.requests.TheConstants.{MOST_TICKS}
 pub data Asked : Type 0 where
   SourceAsked : List ℕ → Work → Asked
   TableAsked : List ℕ → TableTest → Asked
+  TraceAsked : List ℕ → TraceWork → Asked
 
 -- a request of the code
 abbrev pub seen : Request → Asked
 seen (request.Source source work) = SourceAsked source.now work
 seen (request.Table table test) = TableAsked table.now test
+seen (request.Trace trace work) = TraceAsked trace.now work
 
 -- the name of the file that a request needs
 abbrev pub file_of : Asked → List ℕ
 file_of (SourceAsked source work) = source
 file_of (TableAsked table test) = table
+file_of (TraceAsked trace work) = trace
 
 -- a run has from 1 to MOST_TICKS ticks
 abbrev pub IsWork : Work → Type 0
@@ -29,3 +33,4 @@ IsWork work.Accept = Unit {0}
 abbrev pub HasTicks : Asked → Type 0
 HasTicks (SourceAsked source work) = IsWork work
 HasTicks (TableAsked table test) = Unit {0}
+HasTicks (TraceAsked trace work) = Unit {0}

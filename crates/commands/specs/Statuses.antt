@@ -1,5 +1,5 @@
 -- What each status of the program tells: the words of the clauses of `top`.
-use Rattle.std.specs.Prelude.{◌≡◌, ◌≢◌, ◌≤◌, ◌⊎◌, ℕ, List, Option, Some, None, Result, Ok, Err, codes}
+use Rattle.std.specs.Prelude.{◌≡◌, ◌≢◌, ◌≤◌, ◌⊎◌, ℕ, Bool, false, true, List, Option, Some, None, Result, Ok, Err, codes}
 use Rattle.outside_bytes.specs.Files.{told, Holds, WhereTold}
 use Rattle.ada_names.specs.declared.image.Image.{Image}
 use Rattle.ada_front.specs.declared.refusing.Refusal.{Refusal}
@@ -9,18 +9,23 @@ use Rattle.sched_tests.specs.declared.duties.TableFault.{TableFault}
 use Rattle.sched_tests.specs.Demand.{busy_of}
 use Rattle.sched_tests.specs.Reading.{table_of}
 use Rattle.sched_tests.specs.Reports.{table_note}
+use Rattle.trace_laws.specs.declared.verdicts.Verdict.{Verdict}
+use Rattle.trace_laws.specs.Verdicts.{texts_in, Says}
 use Rattle.commands.specs.declared.requests.Work.{Work}
 use Rattle.commands.specs.declared.requests.Work.TheVariants as work
 use Rattle.commands.specs.declared.requests.TableTest.{TableTest}
 use Rattle.commands.specs.declared.requests.TableTest.TheVariants as test
+use Rattle.commands.specs.declared.requests.TraceWork.{TraceWork}
+use Rattle.commands.specs.declared.requests.TraceWork.TheVariants as question
 use Rattle.commands.specs.declared.outcomes.Outcome.{Outcome}
-use Rattle.commands.specs.declared.outcomes.Outcome.TheVariants.{Ended, Accepted, Tested, WordsRefused, SourceRefused, TableRefused, ReadFault, WriteFault, NoMemory}
-use Rattle.commands.specs.Requests.{Asked, SourceAsked, TableAsked}
+use Rattle.commands.specs.declared.outcomes.Outcome.TheVariants.{Ended, Accepted, Tested, Traced, WordsRefused, SourceRefused, TableRefused, TraceRefused, ReadFault, WriteFault, NoMemory}
+use Rattle.commands.specs.Requests.{Asked, SourceAsked, TableAsked, TraceAsked}
 use Rattle.commands.specs.Outside.{ShelfChange, SinkChange, SinkFailed, IsKept, Gained, GainedPrefix}
 use Rattle.commands.specs.Runs.{text_of_run, stop_of}
 use Rattle.commands.specs.Tests.{test_text, test_status, NeverOver}
+use Rattle.commands.specs.Traces.{verdict_answer, trace_answer, traced_status, trace_note}
 use Rattle.commands.specs.Outcomes.{stop_status, status_of, note_of, refusal_text}
-use Rattle.commands.specs.Performed.{OfAsked, OfSource, OfTable, IsDone, IsRefused, IsNoTable, IsFileCutShort, IsUnread}
+use Rattle.commands.specs.Performed.{OfAsked, OfSource, OfTable, OfTrace, IsDone, IsRefused, IsNoTable, IsTraced, IsNoTrace, IsFileCutShort, IsUnread}
 
 -- neither a fault of the outside nor want of memory
 abbrev pub IsUndisturbed : ℕ → Type 0
@@ -64,23 +69,54 @@ BeyondTold asked shelf status =
     asked ≡ Some (TableAsked table test.Demand) → told shelf.files table ≡ Holds bytes → table_of bytes ≡ Ok duties →
     status ≡ 0 → busy_of duties ≡ Some busy → NeverOver duties
 
+-- The same where they ask something of a trace: its answer is written with status 0, or 10 where a law is broken; or the
+-- trace is refused with status 11 and the note on its first line that is refused.
+abbrev pub IsTraceAnswer : Result (List ℕ × Bool) ℕ → SinkChange → SinkChange → ℕ → Type 0
+IsTraceAnswer (Ok answer) out notes status = Gained out answer.0 × (status ≡ traced_status answer.1) × IsKept notes
+IsTraceAnswer (Err line) out notes status = IsKept out × (status ≡ 11) × Gained notes (trace_note line)
+
+abbrev pub TraceTold : Option Asked → ShelfChange → SinkChange → SinkChange → ℕ → Type 0
+TraceTold asked shelf out notes status =
+    (trace bytes : List ℕ) (work : TraceWork) →
+    asked ≡ Some (TraceAsked trace work) → told shelf.files trace ≡ Holds bytes → IsUndisturbed status →
+    IsTraceAnswer (trace_answer work bytes) out notes status
+
+-- Where they ask for the laws, one verdict is true of the trace, and it is told: the trace is a formed list of lines that
+-- keeps the laws; or one that does so up to a line that breaks this law; or up to a line that is none, or with which the
+-- list is not formed, or that ends beyond the most bytes.
+pub record IsVerdictTold (bytes : List ℕ) (out notes : SinkChange) (status : ℕ) : Type 0 where
+  pub verdict : Verdict
+  pub says : Says (texts_in bytes) verdict
+  pub only : (other : Verdict) → Says (texts_in bytes) other → verdict ≡ other
+  pub told_so : IsTraceAnswer (verdict_answer verdict) out notes status
+
+abbrev pub LawsTold : Option Asked → ShelfChange → SinkChange → SinkChange → ℕ → Type 0
+LawsTold asked shelf out notes status =
+    (trace bytes : List ℕ) →
+    asked ≡ Some (TraceAsked trace question.Laws) → told shelf.files trace ≡ Holds bytes → IsUndisturbed status →
+    IsVerdictTold bytes out notes status
+
 -- the lines of the test that is asked for are written, and it ends with this status
 abbrev pub IsPrinted : TableTest → List ℕ → SinkChange → ℕ → Type 0
 IsPrinted test bytes out status =
     (duties : List Duty) × (table_of bytes ≡ Ok duties) × Gained out (test_text test duties) × (status ≡ test_status test duties)
 
 -- A status of 0 to 3 comes where the file is there and what was asked for was written whole: of a source whose bytes are
--- accepted with the status of the run's stop, and 0 where no run was asked for; of a table with that of the test.
+-- accepted with the status of the run's stop, and 0 where no run was asked for; of a table with that of the test; of a
+-- trace with 0, where no law that was asked for is broken.
 abbrev pub DoneTold : Option Asked → ShelfChange → SinkChange → ℕ → Type 0
 DoneTold None shelf out status = ⊥
 DoneTold (Some (SourceAsked source work)) shelf out status =
     WhereTold (told shelf.files source) (λ bytes. (outcome : Outcome) × IsDone work bytes out outcome × (status ≡ status_of outcome))
 DoneTold (Some (TableAsked table test)) shelf out status =
     (status ≡ 0) × WhereTold (told shelf.files table) (λ bytes. IsPrinted test bytes out status)
+DoneTold (Some (TraceAsked trace work)) shelf out status =
+    (status ≡ 0) × WhereTold (told shelf.files trace) (λ bytes. IsTraced work bytes out false)
 
--- 0 and 3 for the run of a program of today's forms, 4, 6 to 9 and 13 where a command was not done, 12 where a test fails
+-- 0 and 3 for the run of a program of today's forms, 4, 6 to 9, 11 and 13 where a command was not done, 10 where a law is
+-- broken, 12 where a test fails
 abbrev pub IsStatus : ℕ → Type 0
-IsStatus status = (status ≤ 13) × (status ≢ 1) × (status ≢ 2) × (status ≢ 5) × (status ≢ 10) × (status ≢ 11)
+IsStatus status = (status ≤ 13) × (status ≢ 1) × (status ≢ 2) × (status ≢ 5)
 
 -- A source that is not accepted has status 4.
 abbrev pub NotAccepted : Option Asked → ShelfChange → ℕ → Type 0
@@ -103,14 +139,25 @@ abbrev pub TableRefusalTold : Option Asked → ShelfChange → SinkChange → Ty
 TableRefusalTold asked shelf notes =
     OfTable asked shelf (λ test bytes. (fault : TableFault) × IsNoTable fault bytes × Gained notes (table_note fault))
 
+-- Status 10 comes only where the laws are asked for, the trace is there and breaks one, and this is written.
+abbrev pub BreachTold : Option Asked → ShelfChange → SinkChange → Type 0
+BreachTold asked shelf out = OfTrace asked shelf (λ work bytes. IsTraced work bytes out true)
+
+-- Status 11 comes only where something is asked of a trace, it is there and is refused, and the note tells the first line.
+abbrev pub TraceRefusalTold : Option Asked → ShelfChange → SinkChange → Type 0
+TraceRefusalTold asked shelf notes =
+    OfTrace asked shelf (λ work bytes. (line : ℕ) × IsNoTrace line work bytes × Gained notes (trace_note line))
+
 -- the cause of an outcome that is noted
 abbrev pub IsCause : Option Asked → ShelfChange → SinkChange → Outcome → Type 0
 IsCause asked shelf out (Ended stop) = ⊥
 IsCause asked shelf out Accepted = ⊥
 IsCause asked shelf out (Tested failed) = ⊥
+IsCause asked shelf out (Traced broken) = ⊥
 IsCause asked shelf out WordsRefused = asked ≡ None
 IsCause asked shelf out (SourceRefused refusal) = OfSource asked shelf (λ work bytes. IsRefused bytes refusal)
 IsCause asked shelf out (TableRefused fault) = OfTable asked shelf (λ test bytes. IsNoTable fault bytes)
+IsCause asked shelf out (TraceRefused line) = OfTrace asked shelf (λ work bytes. IsNoTrace line work bytes)
 IsCause asked shelf out ReadFault = IsUnread asked shelf
 IsCause asked shelf out WriteFault = SinkFailed out
 IsCause asked shelf out NoMemory = Unit {0}
@@ -122,6 +169,6 @@ NoteTried asked shelf out notes =
     (outcome : Outcome) × (note : List ℕ) × IsCause asked shelf out outcome × (note_of outcome ≡ Some note) × GainedPrefix notes note
 
 -- After a fault of writing and want of memory out gained nothing, or a prefix of the text that the words ask for, of the
--- file that is there and accepted, or is a table.
+-- file that is there and accepted, or is a table or a trace.
 abbrev pub PrefixTold : Option Asked → ShelfChange → SinkChange → Type 0
 PrefixTold asked shelf out = IsKept out ⊎ OfAsked asked (λ a. IsFileCutShort a shelf out)

@@ -2,9 +2,9 @@
 ghost use Rattle.std.specs.Prelude.{◌≡◌, ◌≤◌, ◌<◌, IfSome};
 ghost use Rattle.std.specs.Option.{option_map, option_copied};
 ghost use Rattle.commands.specs.Requests.{seen, HasTicks};
-ghost use Rattle.commands.specs.Asked.{asked_of, run_of, run_up_to, accept_of, test_of, name_of, ticks_of, ticks_from};
+ghost use Rattle.commands.specs.Asked.{asked_of, run_of, run_up_to, accept_of, test_of, trace_of, name_of, ticks_of, ticks_from};
 
-use crate::requests::{DEFAULT_TICKS, MOST_TICKS, Request, TableTest, Work};
+use crate::requests::{DEFAULT_TICKS, MOST_TICKS, Request, TableTest, TraceWork, Work};
 
 /// What the words behind the program's name ask for; None for words that are refused.
 pub fn asked(words: &[Vec<u8>]) -> Option<Request>
@@ -23,6 +23,8 @@ pub fn asked(words: &[Vec<u8>]) -> Option<Request>
                 test_of(TableTest::ResponseTimes, rest)
             } else if command.as_slice() == b"demand".as_slice() {
                 test_of(TableTest::Demand, rest)
+            } else if command.as_slice() == b"laws".as_slice() {
+                trace_of(TraceWork::Laws, rest)
             } else {
                 None
             }
@@ -80,6 +82,20 @@ fn test_of(test: TableTest, words: &[Vec<u8>]) -> Option<Request>
         [word] => {
             let table = file_name(word)?;
             Some(Request::Table { table, test })
+        }
+        _ => None,
+    }
+}
+
+/// `TRACE`.
+fn trace_of(work: TraceWork, words: &[Vec<u8>]) -> Option<Request>
+    ensures asked { option_map seen result ≡ trace_of work words.now }
+    ensures ticks { IfSome result (λ request. HasTicks (seen request)) }
+{
+    match words {
+        [word] => {
+            let trace = file_name(word)?;
+            Some(Request::Trace { trace, work })
         }
         _ => None,
     }

@@ -10,4 +10,4 @@ mod requests;
 
 pub use asking::asked;
 pub use outcomes::Outcome;
-pub use requests::{DEFAULT_TICKS, MOST_TICKS, Request, TableTest, Work};
+pub use requests::{DEFAULT_TICKS, MOST_TICKS, Request, TableTest, TraceWork, Work};

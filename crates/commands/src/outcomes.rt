@@ -18,12 +18,19 @@ pub enum Outcome {
         /// Whether a duty may miss its deadline.
         failed: bool,
     },
+    /// What was asked of a trace was written.
+    Traced {
+        /// Whether the trace breaks a law, which was asked for.
+        broken: bool,
+    },
     /// The words are not asked for.
     WordsRefused,
     /// The source is not accepted.
     SourceRefused(Refusal),
     /// The file is not a table.
     TableRefused(TableFault),
+    /// The file is not a trace: this line is refused.
+    TraceRefused(u64),
     /// A file could not be read.
     ReadFault,
     /// Standard output could not be written.
@@ -34,7 +41,7 @@ pub enum Outcome {
 
 impl Outcome {
     /// The status with which the program ends: 0 to 3 as a run stopped, 0 where a source is accepted, 0 or 12 as a test
-    /// ended, 4 to 9 and 13 where the command was not done.
+    /// ended, 0 or 10 as a trace keeps the laws, 4 to 9, 11 and 13 where the command was not done.
     pub fn status(&self) -> u8
         ensures { result ≡ status_of self.now }
     {
@@ -42,9 +49,11 @@ impl Outcome {
             Outcome::Ended(stop) => stop_status(stop),
             Outcome::Accepted => 0,
             Outcome::Tested { failed } => tested_status(*failed),
+            Outcome::Traced { broken } => traced_status(*broken),
             Outcome::WordsRefused => 6,
             Outcome::SourceRefused(_) => 4,
             Outcome::TableRefused(_) => 13,
+            Outcome::TraceRefused(_) => 11,
             Outcome::ReadFault => 7,
             Outcome::WriteFault => 8,
             Outcome::NoMemory => 9,
@@ -57,6 +66,13 @@ fn tested_status(failed: bool) -> u8
     ensures { result ≡ if failed then 12 else 0 }
 {
     if failed { 12 } else { 0 }
+}
+
+/// The status of what is told of a trace: 10 where it breaks a law.
+fn traced_status(broken: bool) -> u8
+    ensures { result ≡ if broken then 10 else 0 }
+{
+    if broken { 10 } else { 0 }
 }
 
 /// The status of a run that stopped so.

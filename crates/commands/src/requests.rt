@@ -24,6 +24,13 @@ pub enum TableTest {
     Demand,
 }
 
+/// What is asked of a trace.
+#[derive(Clone, Copy, Debug)]
+pub enum TraceWork {
+    /// `laws`: whether it keeps the five laws, or which line breaks which.
+    Laws,
+}
+
 /// What the words of a command ask for. Files are named as the words name them.
 #[derive(Clone, Copy, Debug)]
 pub enum Request<'a> {
@@ -31,4 +38,6 @@ pub enum Request<'a> {
     Source { source: &'a [u8], work: Work },
     /// `rta TABLE` and `demand TABLE`.
     Table { table: &'a [u8], test: TableTest },
+    /// `laws TRACE`.
+    Trace { trace: &'a [u8], work: TraceWork },
 }

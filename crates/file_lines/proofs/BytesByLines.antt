@@ -1,6 +1,6 @@
 -- The first line of bytes that begin with bytes without a line feed.
 use Rattle.std.proofs.Common.{◌≡◌, ℕ, Bool, true, false, ◌==◌, if◌then◌else◌, List, [], ◌∷◌, ◌++◌, refl, ap, ◌∙◌}
-use Rattle.file_lines.specs.Bytes.{first_line, after_line, has_feed, is_some_byte}
+use Rattle.file_lines.specs.Bytes.{first_line, has_feed, is_some_byte}
 
 by_test : (b rest : Bool) → (if b then true else rest) ≡ false → (b ≡ false) × (rest ≡ false)
 by_test true rest h = cc
@@ -14,12 +14,6 @@ first_line-append [] more h = refl
 first_line-append (byte ∷ line) more h =
     let n = no_feed byte line h in
     ap (λ b. if b then byte ∷ [] else byte ∷ first_line (line ++ more)) n.0 ∙ ap (λ xs. byte ∷ xs) (first_line-append line more n.1)
-
-pub after_line-append : (line more : List ℕ) → has_feed line ≡ false → after_line (line ++ more) ≡ after_line more
-after_line-append [] more h = refl
-after_line-append (byte ∷ line) more h =
-    let n = no_feed byte line h in
-    ap (λ b. if b then line ++ more else after_line (line ++ more)) n.0 ∙ after_line-append line more n.1
 
 pub has_feed-push : (line : List ℕ) (byte : ℕ) → has_feed line ≡ false → (byte == 10) ≡ false → has_feed (line ++ byte ∷ []) ≡ false
 has_feed-push [] byte h other = ap (λ b. if b then true else false) other

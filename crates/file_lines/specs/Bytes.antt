@@ -5,11 +5,6 @@ abbrev pub first_line : List ℕ → List ℕ
 first_line [] = []
 first_line (byte ∷ bytes) = if byte == 10 then byte ∷ [] else byte ∷ first_line bytes
 
--- what stands after the first line
-abbrev pub after_line : List ℕ → List ℕ
-after_line [] = []
-after_line (byte ∷ bytes) = if byte == 10 then bytes else after_line bytes
-
 abbrev pub has_feed : List ℕ → Bool
 has_feed [] = false
 has_feed (byte ∷ bytes) = if byte == 10 then true else has_feed bytes

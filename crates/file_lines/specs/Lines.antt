@@ -1,7 +1,7 @@
 -- What a reader of lines has handed on of a file, and what is still to come.
 use Rattle.std.specs.Prelude.{◌≡◌, ◌≤◌, ◌+◌, ◌<◌, ℕ, Bool, true, false, List, [], ◌++◌, Option, Some, None, drop, take, length, IfSome}
 use Rattle.file_lines.specs.declared.lines.Lines.{Lines}
-use Rattle.file_lines.specs.Bytes.{first_line, after_line, is_some_byte}
+use Rattle.file_lines.specs.Bytes.{first_line, is_some_byte}
 
 -- the bytes that are to come: the rest of the piece that was read, and what may still be read of the file, where the
 -- shelf tells what is left of it
@@ -12,10 +12,11 @@ come next piece room (Some left) = Some (drop next piece ++ take room left)
 abbrev pub to_come : Lines → Option (List ℕ) → Option (List ℕ)
 to_come lines left = come lines.next lines.piece.items lines.room left
 
--- The first line was handed on, and the rest is to come; there was one where there was a byte.
-abbrev pub HandsOn : Option (List ℕ) → Option (List ℕ) → List ℕ → Bool → Type 0
-HandsOn before after line some =
-    IfSome before (λ bytes. (line ≡ first_line bytes) × (after ≡ Some (after_line bytes)) × (some ≡ is_some_byte bytes))
+-- The first line was handed on, or the first of its bytes where it has more than `most`, and the rest is to come; there was
+-- one where there was a byte.
+abbrev pub HandsOn : ℕ → Option (List ℕ) → Option (List ℕ) → List ℕ → Bool → Type 0
+HandsOn most before after line some =
+    IfSome before (λ bytes. (line ≡ take most (first_line bytes)) × (after ≡ Some (drop (length line) bytes)) × (some ≡ is_some_byte bytes))
 
 -- Bytes were handed on, and the rest is to come.
 abbrev pub HasHandedOn : Option (List ℕ) → Option (List ℕ) → List ℕ → Type 0

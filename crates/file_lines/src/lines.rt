@@ -50,9 +50,9 @@ impl Lines {
         }
     }
 
-    /// Puts the next line into `line`, with its line feed, which the last line may lack, and answers whether there was
-    /// one. `line` takes memory for this line alone. Where the shelf tells its files, it is the first line of what is to
-    /// come, and what is to come then is the rest.
+    /// Puts the next line into `line`, with its line feed, which the last line may lack, or the first `most` bytes of a
+    /// longer one, and answers whether there was one. `line` takes memory for these bytes alone. Where the shelf tells its
+    /// files, they are the first of what is to come, and what is to come then is the rest.
     ///
     /// Errors: `Fault` where the shelf failed. Then `line` has the bytes that were handed on, and the rest is still to
     /// come.
@@ -60,10 +60,12 @@ impl Lines {
         &mut self,
         shelf: &mut S,
         line: &mut Vec<u8>,
+        most: usize,
     ) -> Result<bool, OrMemory<Failed>>
-        requires { S.picked shelf.old ≡ true }
+        requires picked { S.picked shelf.old ≡ true }
+        requires some { 0 < most }
         ensures line { IfOk result (λ some.
-            HandsOn (to_come self.old (left_of (S.files shelf.old) (S.at shelf.old)))
+            HandsOn most (to_come self.old (left_of (S.files shelf.old) (S.at shelf.old)))
             (to_come self.new (left_of (S.files shelf.new) (S.at shelf.new))) line.new.items some) }
         ensures left { IfErr result (OfFault (λ _.
             HasHandedOn (to_come self.old (left_of (S.files shelf.old) (S.at shelf.old)))
@@ -80,6 +82,9 @@ impl Lines {
                 line.push(byte)?;
                 self.next += 1;
                 if byte == b'\n' {
+                    return Ok(true);
+                }
+                if line.len() == most {
                     return Ok(true);
                 }
             } else if !self.refill(shelf)? {

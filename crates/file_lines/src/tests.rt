@@ -22,15 +22,17 @@ fn lines_are_handed_on_up_to_the_limit(rt: HostRuntime) -> Result<(), Fail> {
         .ok()
         .ok_or("not opened")?;
     let mut line = Vec::new(rt.alloc());
-    assert_eq!(rt; lines.next(&mut shelf, &mut line), Ok(true));
+    assert_eq!(rt; lines.next(&mut shelf, &mut line, 20), Ok(true));
     assert_eq!(rt; line.as_slice(), b"one\n".as_slice());
-    assert_eq!(rt; lines.next(&mut shelf, &mut line), Ok(true));
+    assert_eq!(rt; lines.next(&mut shelf, &mut line, 20), Ok(true));
     assert_eq!(rt; line.as_slice(), b"\n".as_slice());
-    assert_eq!(rt; lines.next(&mut shelf, &mut line), Ok(true));
-    assert_eq!(rt; line.as_slice(), b"three, four\n".as_slice());
-    assert_eq!(rt; lines.next(&mut shelf, &mut line), Ok(true));
+    assert_eq!(rt; lines.next(&mut shelf, &mut line, 6), Ok(true));
+    assert_eq!(rt; line.as_slice(), b"three,".as_slice());
+    assert_eq!(rt; lines.next(&mut shelf, &mut line, 6), Ok(true));
+    assert_eq!(rt; line.as_slice(), b" four\n".as_slice());
+    assert_eq!(rt; lines.next(&mut shelf, &mut line, 20), Ok(true));
     assert_eq!(rt; line.as_slice(), b"l".as_slice());
-    assert_eq!(rt; lines.next(&mut shelf, &mut line), Ok(false));
+    assert_eq!(rt; lines.next(&mut shelf, &mut line, 20), Ok(false));
     assert_eq!(rt; line.as_slice(), b"".as_slice());
     Ok(())
 }
@@ -43,11 +45,11 @@ fn a_line_goes_on_after_a_fault(rt: HostRuntime) -> Result<(), Fail> {
         .ok_or("not opened")?;
     let mut line = Vec::new(rt.alloc());
     assert_eq!(rt;
-        lines.next(&mut shelf, &mut line),
+        lines.next(&mut shelf, &mut line, 20),
         Err(OrMemory::Fault(Failed))
     );
     assert_eq!(rt; line.as_slice(), b"one".as_slice());
-    assert_eq!(rt; lines.next(&mut shelf, &mut line), Ok(true));
+    assert_eq!(rt; lines.next(&mut shelf, &mut line, 20), Ok(true));
     assert_eq!(rt; line.as_slice(), b"\n".as_slice());
     Ok(())
 }

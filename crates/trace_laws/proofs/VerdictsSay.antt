@@ -1,7 +1,7 @@
 -- What a verdict says of the texts of a trace.
-use Rattle.std.proofs.Common.{◌≡◌, ◌<◌, ℕ, ◌+◌, Bool, true, false, cond, ltb, List, [], ◌∷◌, ◌++◌, length, Option, Some, None, Result, Ok, Err, refl, ap, sym, subst, ◌∙◌, append_assoc, arith, inl, inr}
+use Rattle.std.proofs.Common.{◌≡◌, ◌<◌, ◌≤◌, ℕ, ◌+◌, Bool, true, false, cond, ltb, List, [], ◌∷◌, ◌++◌, length, Option, Some, None, Result, Ok, Err, refl, ap, sym, subst, ◌∙◌, append_assoc, arith, inl, inr}
 use Rattle.std.proofs.lemmas.List.{append-nil}
-use Rattle.std.proofs.lemmas.Bool.{ltb-true}
+use Rattle.std.proofs.lemmas.Bool.{ltb-true, ltb-false}
 use Rattle.trace_text.specs.Queue.{Line}
 use Rattle.trace_text.specs.Laws.{Formed, KeepsLaws}
 use Rattle.trace_reading.specs.Lines.{line_in}
@@ -18,6 +18,7 @@ pub record Sofar (before : List (List ℕ)) (lines : List Line) : Type 0 where
   pub read : Reads before lines
   pub formed : Formed lines
   pub lawful : KeepsLaws lines
+  pub within : bytes_in before ≤ TRACE_BYTES
 
 reads-append : (before : List (List ℕ)) (lines : List Line) (text : List ℕ) (line : Line) → Reads before lines → line_in text ≡ Some line → Reads (before ++ text ∷ []) (lines ++ line ∷ [])
 reads-append [] [] text line h e = (e, tt)
@@ -30,38 +31,40 @@ bytes_in-append [] text = omega arith
 bytes_in-append (one ∷ before) text = omega (arith, bytes_in-append before text)
 
 abbrev offends_here : (before : List (List ℕ)) (text : List ℕ) (behind : List (List ℕ)) (lines : List Line) → Sofar before lines → Offends (before ++ text ∷ behind) (length lines + 1)
-offends_here before text behind lines sofar = record { before = before; text = text; behind = behind; whole = refl; lines = lines; read = sofar.read; formed = sofar.formed; lawful = sofar.lawful; number_is = refl }
+offends_here before text behind lines sofar = record { before = before; text = text; behind = behind; whole = refl; lines = lines; read = sofar.read; formed = sofar.formed; lawful = sofar.lawful; number_is = refl; within = sofar.within }
 
-answer_says : (before : List (List ℕ)) (text : List ℕ) (behind : List (List ℕ)) (lines : List Line) (line : Line) (later : List Line → Verdict) → Sofar before lines → line_in text ≡ Some line
+answer_says : (before : List (List ℕ)) (text : List ℕ) (behind : List (List ℕ)) (lines : List Line) (line : Line) (later : List Line → Verdict) → Sofar before lines → bytes_in before + length text ≤ TRACE_BYTES → line_in text ≡ Some line
     → (answer : Result (Unit {0}) LawFault) → answer_of (lines ++ line ∷ []) ≡ answer → (answer ≡ Ok tt → Says (before ++ text ∷ behind) (later (lines ++ line ∷ [])))
     → Says (before ++ text ∷ behind) (verdict_at (length lines + 1) answer (lines ++ line ∷ []) later)
-answer_says before text behind lines line later sofar e (Ok u) is on = on refl
-answer_says before text behind lines line later sofar e (Err Malformed) is on = record { offends = offends_here before text behind lines sofar; refusable = inr (inr (line, e, is)) }
-answer_says before text behind lines line later sofar e (Err (Broken law)) is on = record { offends = offends_here before text behind lines sofar; line = line; line_is = e; breaks = is }
+answer_says before text behind lines line later sofar inside e (Ok u) is on = on refl
+answer_says before text behind lines line later sofar inside e (Err Malformed) is on = record { offends = offends_here before text behind lines sofar; refusable = inr (inr (line, e, is)) }
+answer_says before text behind lines line later sofar inside e (Err (Broken law)) is on = record { offends = offends_here before text behind lines sofar; line = line; line_is = e; breaks = is; inside = inside }
 
-line_says : (before : List (List ℕ)) (text : List ℕ) (behind : List (List ℕ)) (lines : List Line) (later : List Line → Verdict) → Sofar before lines
+line_says : (before : List (List ℕ)) (text : List ℕ) (behind : List (List ℕ)) (lines : List Line) (later : List Line → Verdict) → Sofar before lines → bytes_in before + length text ≤ TRACE_BYTES
     → (read : Option Line) → line_in text ≡ read → ((line : Line) → line_in text ≡ Some line → answer_of (lines ++ line ∷ []) ≡ Ok tt → Says (before ++ text ∷ behind) (later (lines ++ line ∷ [])))
     → Says (before ++ text ∷ behind) (verdict_with lines read later)
-line_says before text behind lines later sofar None e on = record { offends = offends_here before text behind lines sofar; refusable = inr (inl e) }
-line_says before text behind lines later sofar (Some line) e on =
-    answer_says before text behind lines line later sofar e (answer_of (lines ++ line ∷ [])) refl (λ is. on line e is)
+line_says before text behind lines later sofar inside None e on = record { offends = offends_here before text behind lines sofar; refusable = inr (inl e) }
+line_says before text behind lines later sofar inside (Some line) e on =
+    answer_says before text behind lines line later sofar inside e (answer_of (lines ++ line ∷ [])) refl (λ is. on line e is)
 
 bytes_say : (before : List (List ℕ)) (text : List ℕ) (behind : List (List ℕ)) (lines : List Line) (on : Verdict) → Sofar before lines
-    → (beyond : Bool) → (beyond ≡ true → TRACE_BYTES < bytes_in before + length text) → Says (before ++ text ∷ behind) on
+    → (beyond : Bool) → (beyond ≡ true → TRACE_BYTES < bytes_in before + length text) → (beyond ≡ false → Says (before ++ text ∷ behind) on)
     → Says (before ++ text ∷ behind) (cond beyond (verdict.Refused (length lines + 1)) on)
 bytes_say before text behind lines on sofar true is h = record { offends = offends_here before text behind lines sofar; refusable = inl (is refl) }
-bytes_say before text behind lines on sofar false is h = h
+bytes_say before text behind lines on sofar false is h = h refl
 
 pub verdict_says : ((lines : List Line) → answer_of lines ≡ Ok tt → Formed lines × KeepsLaws lines)
     → (bytes : ℕ) (before : List (List ℕ)) (lines : List Line) (texts : List (List ℕ)) → bytes ≡ bytes_in before → Sofar before lines → Says (before ++ texts) (verdict_from bytes lines texts)
 verdict_says tells bytes before lines [] same sofar =
-    record { lines = lines; read = subst (λ texts. Reads texts lines) (sym (append-nil before)) sofar.read; counted = refl; formed = sofar.formed; lawful = sofar.lawful }
+    record { lines = lines; read = subst (λ texts. Reads texts lines) (sym (append-nil before)) sofar.read; counted = refl; formed = sofar.formed; lawful = sofar.lawful; within = subst (λ texts. bytes_in texts ≤ TRACE_BYTES) (sym (append-nil before)) sofar.within }
 verdict_says tells bytes before lines (text ∷ texts) same sofar =
     bytes_say before text texts lines (verdict_with lines (line_in text) (λ more. verdict_from (bytes + length text) more texts)) sofar
     (ltb TRACE_BYTES (bytes + length text)) (λ e. subst (λ n. TRACE_BYTES < n + length text) same (ltb-true TRACE_BYTES (bytes + length text) e))
-    (line_says before text texts lines (λ more. verdict_from (bytes + length text) more texts) sofar (line_in text) refl
+    (λ fits.
+    let inside : bytes_in before + length text ≤ TRACE_BYTES = omega (arith, ltb-false TRACE_BYTES (bytes + length text) fits, same) in
+    line_says before text texts lines (λ more. verdict_from (bytes + length text) more texts) sofar inside (line_in text) refl
     (λ line e is.
     let longer = tells (lines ++ line ∷ []) is in
     subst (λ all. Says all (verdict_from (bytes + length text) (lines ++ line ∷ []) texts)) (append_assoc before (text ∷ []) texts)
     (verdict_says tells (bytes + length text) (before ++ text ∷ []) (lines ++ line ∷ []) texts (ap (λ n. n + length text) same ∙ sym (bytes_in-append before text))
-    (record { read = reads-append before lines text line sofar.read e; formed = longer.0; lawful = longer.1 }))))
+    (record { read = reads-append before lines text line sofar.read e; formed = longer.0; lawful = longer.1; within = omega (arith, inside, bytes_in-append before text) }))))

@@ -1,5 +1,5 @@
 -- What is answered of the bytes of a whole trace: the first line that is no line, does not keep the list formed or breaks a law.
-use Rattle.std.specs.Prelude.{◌≡◌, ◌<◌, ◌⊎◌, ℕ, ◌+◌, ◌==◌, if◌then◌else◌, nat_lt, List, [], ◌∷◌, ◌++◌, Option, Some, None, Result, Ok, Err, length}
+use Rattle.std.specs.Prelude.{◌≡◌, ◌<◌, ◌≤◌, ◌⊎◌, ℕ, ◌+◌, ◌==◌, if◌then◌else◌, nat_lt, List, [], ◌∷◌, ◌++◌, Option, Some, None, Result, Ok, Err, length}
 use Rattle.trace_text.specs.Queue.{Line}
 use Rattle.trace_text.specs.Laws.{Formed, KeepsLaws}
 use Rattle.trace_reading.specs.Lines.{line_in}
@@ -51,15 +51,17 @@ abbrev pub bytes_in : List (List ℕ) → ℕ
 bytes_in [] = 0
 bytes_in (text ∷ texts) = length text + bytes_in texts
 
--- the texts are those of a formed list of so many lines that keeps the laws
+-- the texts are those of a formed list of so many lines that keeps the laws, and are within the most bytes
 pub record IsLawful (texts : List (List ℕ)) (count : ℕ) : Type 0 where
   pub lines : List Line
   pub read : Reads texts lines
   pub counted : length lines ≡ count
   pub formed : Formed lines
   pub lawful : KeepsLaws lines
+  pub within : bytes_in texts ≤ TRACE_BYTES
 
--- The texts before this one are those of a formed list that keeps the laws, and it is the text of this number.
+-- The texts before this one are those of a formed list that keeps the laws, within the most bytes, and it is the text of
+-- this number.
 pub record Offends (texts : List (List ℕ)) (number : ℕ) : Type 0 where
   pub before : List (List ℕ)
   pub text : List ℕ
@@ -70,13 +72,15 @@ pub record Offends (texts : List (List ℕ)) (number : ℕ) : Type 0 where
   pub formed : Formed lines
   pub lawful : KeepsLaws lines
   pub number_is : number ≡ length lines + 1
+  pub within : bytes_in before ≤ TRACE_BYTES
 
--- it breaks this law
+-- it breaks this law, and ends within the most bytes
 pub record IsBroken (texts : List (List ℕ)) (number : ℕ) (law : Law) : Type 0 where
   pub offends : Offends texts number
   pub line : Line
   pub line_is : line_in offends.text ≡ Some line
   pub breaks : answer_of (offends.lines ++ line ∷ []) ≡ Err (Broken law)
+  pub inside : bytes_in offends.before + length offends.text ≤ TRACE_BYTES
 
 -- It goes on beyond the most bytes, is no line, or is one with which the list does not stay formed.
 abbrev pub IsRefusable : List (List ℕ) → List ℕ → List Line → Type 0

@@ -25,9 +25,10 @@ pub fn answers_tell()
 }
 
 /// What is answered of the bytes of a trace: that they are a formed list of lines that keeps the laws, or the first line that
-/// breaks a law or is refused, behind lines that are formed and keep the laws.
+/// breaks a law or is refused, behind lines that are formed and keep the laws. Of no other answer this is true.
 pub fn verdicts_tell()
-    ensures { (bytes : List ℕ) → Says (texts_in bytes) (laws_answer bytes) }
+    ensures says { (bytes : List ℕ) → Says (texts_in bytes) (laws_answer bytes) }
+    ensures only { (bytes : List ℕ) (verdict : Verdict) → Says (texts_in bytes) verdict → laws_answer bytes ≡ verdict }
 {
     answers_tell();
     tests_tell();

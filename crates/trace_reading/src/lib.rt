@@ -8,5 +8,5 @@ mod read;
 mod tests;
 mod words;
 
-pub use laws::texts_differ;
+pub use laws::{long_texts_are_bad, texts_differ};
 pub use read::{BadLine, read_line};

@@ -1,5 +1,6 @@
 //! How a line is read.
 ghost use Rattle.std.specs.Prelude.{◌≡◌, ℕ, ◌<◌, ◌^◌, [], ◌∷◌, ◌++◌, IfSome, IfOk, Ok, codes, decimal};
+ghost use Rattle.std.specs.Result.{result_ok};
 ghost use Rattle.trace_text.specs.Text.{IsPrintable, IsPrintableLine, words_of, spaced, line_text, task_text, object_text, who_text, created_text};
 ghost use Rattle.trace_text.specs.Words.{word_text};
 ghost use Rattle.trace_reading.specs.Reading.{ReadsAs, field};
@@ -419,6 +420,7 @@ fn line_of(line: &[u8]) -> Option<(u64, Event)>
 ///
 /// `BadLine` exactly where no tick and printable event have this line.
 pub fn read_line(line: &[u8]) -> Result<(u64, Event), BadLine>
+    ensures read { result_ok result ≡ line_in line.now }
     ensures line { IfOk result (λ read. line.now ≡ line_text read.0 read.1) }
     ensures printable { IfOk result (λ read. IsPrintable read.1) }
     // What has this line is read, so nothing has a line that is bad.

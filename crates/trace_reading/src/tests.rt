@@ -1,5 +1,5 @@
 //! Lines of worked traces, read and written again, and lines that are none.
-use super::{read_line, texts_differ};
+use super::{long_texts_are_bad, read_line, texts_differ};
 use std::test::Fail;
 use trace_text::{LineBuffer, write_line};
 
@@ -137,6 +137,7 @@ fn lines_are_read_and_written(rt: HostRuntime) -> Result<(), Fail> {
         assert_eq!(rt; buffer.bytes(), line.as_bytes(), "{line}");
     }
     texts_differ();
+    long_texts_are_bad();
     Ok(())
 }
 

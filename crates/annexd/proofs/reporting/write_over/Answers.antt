@@ -1,4 +1,4 @@
-use Rattle.std.proofs.Common.{◌∙◌, ap, subst, OnOk, OnErr, ◌≡◌, codes, decimal}
+use Rattle.std.proofs.Common.{◌∙◌, subst, OnOk, OnErr, ◌≡◌, codes, decimal}
 use Rattle.ann_base.specs.Outside.{extended}
 use Rattle.outside_bytes.specs.Pieces.{HoldsPrefix}
 use Rattle.annexd.proofs.WordTexts.{labelled}

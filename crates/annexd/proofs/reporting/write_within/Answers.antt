@@ -1,5 +1,4 @@
-use Rattle.std.proofs.Common.{◌∙◌, ap, subst, [], ◌∷◌, ◌++◌, OnOk, OnErr, ◌≡◌, codes, decimal}
-use Rattle.ann_base.specs.Outside.{extended}
+use Rattle.std.proofs.Common.{◌∙◌, subst, [], ◌∷◌, ◌++◌, OnErr, codes}
 use Rattle.outside_bytes.specs.Pieces.{HoldsPrefix}
 use Rattle.sched_tests.specs.Reports.{busy_text}
 use Rattle.outside_bytes.proofs.PiecesWritten.{err-first, err-second}

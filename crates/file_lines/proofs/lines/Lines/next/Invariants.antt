@@ -1,4 +1,4 @@
-use Rattle.std.proofs.Common.{◌≡◌, ◌≤◌, ◌+◌, ◌*◌, ◌-◌, length, true, false}
+use Rattle.std.proofs.Common.{◌≡◌, ◌≤◌, ◌<◌, ◌+◌, ◌*◌, ◌-◌, length, true, false}
 use Rattle.outside_bytes.specs.Files.{left_of}
 use Rattle.file_lines.specs.Bytes.{has_feed}
 use Rattle.file_lines.specs.Lines.{to_come, HasHandedOn}
@@ -7,6 +7,7 @@ use Rattle.file_lines.proofs.lines.Lines.next.Given as goal
 -- what was handed on has no line feed, and the rest is to come
 abbrev pub invariant-loop-self : goal.invariant-loop-self
 invariant-loop-self g l = record {
+  short : length l.line.items < l.fn.most;
   none : has_feed l.line.items ≡ false;
   handed : HasHandedOn (to_come l.fn.self (left_of (g.S.Shelf.files l.fn.shelf) (g.S.Shelf.at l.fn.shelf))) (to_come l.self (left_of (g.S.Shelf.files l.shelf) (g.S.Shelf.at l.shelf))) l.line.items;
   files : g.S.Shelf.files l.shelf ≡ g.S.Shelf.files l.fn.shelf;

@@ -1,0 +1,3 @@
+pub mod FirstTexts
+pub mod JudgedOn
+pub mod ReadOn

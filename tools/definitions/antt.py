@@ -72,10 +72,13 @@ B = {
  "value_of": (1, lambda t: _digits(bytes(t))),
  "fold_Expression": (3, lambda t, f, e: _fold(ExpressionNode, f, e)), "fold_Sequence": (3, lambda t, f, e: _fold(SequenceNode, f, e)),
  "out_Expression": (1, lambda e: e), "out_Sequence": (1, lambda e: e),
- "fst": (1, lambda p: p.d["0"]), "snd": (1, lambda p: p.d["1"]),
+ "tt": 0, "bound_to": (3, lambda m, f, w: _bound(m, f, w)), "fst": (1, lambda p: p.d["0"]), "snd": (1, lambda p: p.d["1"]),
  "filter_map": (2, lambda f, l: tuple(y.a[0] for y in (ap(f, x) for x in l) if y.n == "Some")),
  "to_ascii_uppercase": (1, lambda b: b - 32 if 97 <= b <= 122 else b),
 }
+def _bound(m, f, w):
+    a = ap(m, w)
+    return ap(f, a.d["1"], a.d["0"])
 def _digits(t): return int(t.replace(b"_", b"") or b"0")
 class ExpressionNode(Rec): pass
 class SequenceNode(Rec): pass
@@ -88,7 +91,7 @@ def _inside(kind, f, x):
     return x
 def _fold(kind, f, x): return ap(f, Rec({k: _inside(kind, f, v) for k, v in x.d.items()}))
 BCONS = {"Some", "None", "Ok", "Err"}
-TOK = re.compile(r'''\s+|--[^\n]*|(?P<str>"(?:\\.|[^"\\])*")|(?P<num>\d+)|(?P<op>\+ℤ|-ℤ|\*ℤ|>>=|\+\+|&&|\|\||▷|∷|↦|≡|→|×|\+|-|\*|=|;|:|,|\(|\)|\[|\]|\{|\}|\||λ|\.)|(?P<id>[^\W\d][\w'ℕℤ₀-₉]*(?:\.[\w'₀-₉]+)*)|(?P<mix>◌\S+◌)''')
+TOK = re.compile(r'''\s+|--[^\n]*|(?P<str>"(?:\\.|[^"\\])*")|(?P<num>\d+)|(?P<op>\+ℤ|-ℤ|\*ℤ|>>=|>>|\+\+|&&|\|\||▷|∷|↦|≡|→|×|\+|-|\*|=|;|:|,|\(|\)|\[|\]|\{|\}|\||λ|\.)|(?P<id>[^\W\d][\w'ℕℤ₀-₉]*(?:\.[\w'₀-₉]+)*)|(?P<mix>◌\S+◌)''')
 FIELD = re.compile(r"\.[\w']+")
 def tokens(s):
     out = []; i = 0
@@ -117,6 +120,22 @@ def path_of(name):
     crate, _, rest = name.partition(".specs.")
     return os.path.join(PROJECT, "crates", crate, "specs", rest.replace(".", "/") + ".antt")
 
+def without_do(chunk):
+    """A clause whose right side is a `do` block, written with `bound_to`."""
+    head, mark, body = chunk.partition("= do\n")
+    if not mark: return chunk
+    lines, least = [], None
+    for ln in body.split("\n"):
+        depth = len(ln) - len(ln.lstrip())
+        if least is None: least = depth
+        if depth == least: lines.append(ln.strip())
+        else: lines[-1] += " " + ln.strip()
+    out = lines[-1]
+    for ln in reversed(lines[:-1]):
+        name, arrow, e = ln.partition(" ← ")
+        out = f"bound_to ({e}) (λ {name}. {out})" if arrow else f"bound_to ({ln}) (λ _. {out})"
+    return head + "= " + out
+
 def chunks_of(text):
     chunks = []
     for ln in text.split("\n"):
@@ -135,7 +154,7 @@ def load(name, text=None):
     read_chunks(m, chunks_of(text), (), clauses)
     groups = {}
     for c, params in clauses:
-        toks = tokens(c)
+        toks = tokens(without_do(c))
         depth = 0; eq = None
         for i, t in enumerate(toks):
             if t[0] == "op" and t[1] in ("(", "[", "{"): depth += 1
@@ -143,7 +162,7 @@ def load(name, text=None):
             elif t == ("op", "=") and depth == 0: eq = i; break
         if eq is None: print("no = in", m.name, c[:200]); continue
         lhs, rhs = toks[:eq], toks[eq+1:]
-        if any(t[0] == "op" and t[1] in ("▷", ">>=") for t in lhs): continue
+        if any(t[0] == "op" and t[1] in ("▷", ">>=", ">>") for t in lhs): continue
         if lhs[0][1][0].isupper(): continue
         if params: m.sections[lhs[0][1]] = params
         groups.setdefault(lhs[0][1], []).append(([("id", p) for p in params] + lhs[1:], rhs))

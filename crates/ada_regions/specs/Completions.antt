@@ -112,8 +112,11 @@ is_declared_in_unit n region b =
     eqb b.region region && (is_some b.entity && (b.exported || holds_of is_component (and_then b.entity (kind_at n))))
 
 -- a body that completes nothing sees what the unit declares, in a region of its own
+abbrev pub bound_again : ℕ → Binding → Binding
+bound_again region b = record b { region = region; exported = false }
+
 abbrev pub seen_again : Names → ℕ → List Binding
-seen_again n region = map (λ b. record b { region = n.regions; exported = false }) (filter (is_declared_in_unit n region) n.bindings)
+seen_again n region = map (bound_again n.regions) (filter (is_declared_in_unit n region) n.bindings)
 
 abbrev pub body_frame : ℕ → Option ℕ → Identifier → Option ℕ → Frame
 body_frame region e i scope =

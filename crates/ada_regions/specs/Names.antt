@@ -43,11 +43,11 @@ pub record Frame : Type 0 where
 -- a use clause stands in a region (8.4)
 pub record UseClause : Type 0 where
   pub region : ℕ
-  pub package : Denoted
+  pub used : Denoted
 
 -- the context of a package's declaration: its region, and the library units under its with clauses (10.1.2)
 pub record PackageContext : Type 0 where
-  pub package : ℕ
+  pub of_package : ℕ
   pub region : ℕ
   pub withs : List Denoted
 

@@ -57,7 +57,7 @@ abbrev pub package_named : Names → List ℕ → Option ℕ
 package_named n name = and_then (entity_bound n library_frame name) (package_if n)
 
 abbrev pub context_of_package : Names → ℕ → Option PackageContext
-context_of_package n e = find (λ c. eqb c.package e) n.contexts
+context_of_package n e = find (λ c. eqb c.of_package e) n.contexts
 
 abbrev pub context_again : Option PackageContext → Names → Names
 context_again None n = opened_new no_frame (record n { withs = [] })
@@ -67,7 +67,7 @@ abbrev pub frame_of_package : ℕ → Identifier → Bool → ℕ → Frame
 frame_of_package e i exports region = record { region = region; owner = Some e; scope = None; is_accept = false; name = Some i.text; exports = exports; components = None }
 
 abbrev pub with_context : ℕ → Names → Names
-with_context e n = record n { contexts = record { package = e; region = region_here n; withs = n.withs } ∷ n.contexts }
+with_context e n = record n { contexts = record { of_package = e; region = region_here n; withs = n.withs } ∷ n.contexts }
 
 abbrev pub package_opened : ℕ → Identifier → Bool → Option ℕ → Names → Names
 package_opened e i exports None n = body_apart None i None [] n
@@ -196,7 +196,7 @@ is_used_package n (denotes.Item u item) = false
 
 abbrev pub used_if : Option Denoted → Names → Names
 used_if None n = n
-used_if (Some d) n = cond (is_used_package n d) (record n { uses = n.uses ++ record { region = region_here n; package = d } ∷ [] }) n
+used_if (Some d) n = cond (is_used_package n d) (record n { uses = n.uses ++ record { region = region_here n; used = d } ∷ [] }) n
 
 abbrev pub used : Name → Names → Names
 used name n = let m = name_resolved name n in used_if (denoted_by m name) m

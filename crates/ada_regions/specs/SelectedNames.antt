@@ -1,6 +1,6 @@
 -- What an expanded name or a selected component denotes (4.1.3): behind a package what it exports; behind a construct that
 -- stands around the name what is declared in it; behind an object what its type's declaration exports.
-use Rattle.std.specs.Prelude.{ℕ, Bool, cond, List, [], ◌∷◌, Option, Some, None, option_map, is_some, slice_get, eqb}
+use Rattle.std.specs.Prelude.{ℕ, Bool, false, cond, List, [], ◌∷◌, Option, Some, None, option_map, is_some, slice_get, eqb}
 use Rattle.std.specs.List.{find}
 use Rattle.ada_tree.specs.declared.names.Identifier.{Identifier}
 use Rattle.ada_tree.specs.declared.names.Name.{Name}

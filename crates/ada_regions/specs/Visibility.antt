@@ -69,7 +69,7 @@ visible_in n name (denotes.Item u item) = None
 
 -- the packages that clauses of the open regions name
 abbrev pub used_in : List UseClause → Frame → List Denoted
-used_in uses f = map (λ u. u.package) (filter (λ u. eqb u.region f.region) uses)
+used_in uses f = map (λ u. u.used) (filter (λ u. eqb u.region f.region) uses)
 
 abbrev pub packages_used : Names → List Denoted
 packages_used n = flat_map (used_in n.uses) n.frames

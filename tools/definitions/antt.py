@@ -168,7 +168,7 @@ def load(name, text=None):
         groups.setdefault(lhs[0][1], []).append(([("id", p) for p in params] + lhs[1:], rhs))
     for fname in groups:
         m.names[fname] = ("def", m, fname)
-        if fname in ALL and ALL[fname][1:] != (m, fname) and "Rows" not in m.name: print("defined twice:", fname, "in", m.name, "and", ALL[fname][1].name if ALL[fname][0] == "def" else "data")
+        if fname in ALL and ALL[fname][1:] != (m, fname) and "Rows" not in m.name and "nowhere" not in m.name: print("defined twice:", fname, "in", m.name, "and", ALL[fname][1].name if ALL[fname][0] == "def" else "data")
         ALL[fname] = ("def", m, fname)
     for fname, cl in groups.items(): m.defs[fname] = Def(m, fname, cl)
     return m

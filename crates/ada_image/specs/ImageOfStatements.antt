@@ -30,7 +30,23 @@ use Rattle.ada_tree.specs.declared.statements.Handler.{Handler}
 use Rattle.ada_tree.specs.declared.statements.HandledExceptions.{HandledExceptions}
 use Rattle.ada_tree.specs.declared.statements.HandledExceptions.TheVariants as exceptions
 use Rattle.ada_tree.specs.declared.statements.Accept.{Accept}
+use Rattle.ada_tree.specs.declared.statements.AcceptBody.{AcceptBody}
 use Rattle.ada_tree.specs.declared.selects.SelectForm.{SelectForm}
+use Rattle.ada_tree.specs.declared.selects.SelectForm.TheVariants as select
+use Rattle.ada_tree.specs.declared.selects.SelectAlternative.{SelectAlternative}
+use Rattle.ada_tree.specs.declared.selects.SelectiveAccept.{SelectiveAccept}
+use Rattle.ada_tree.specs.declared.selects.TimedEntryCall.{TimedEntryCall}
+use Rattle.ada_tree.specs.declared.selects.ConditionalEntryCall.{ConditionalEntryCall}
+use Rattle.ada_tree.specs.declared.selects.AsynchronousSelect.{AsynchronousSelect}
+use Rattle.ada_tree.specs.declared.selects.Guard.{Guard}
+use Rattle.ada_tree.specs.declared.selects.Alternative.{Alternative}
+use Rattle.ada_tree.specs.declared.selects.Alternative.TheVariants as alternative
+use Rattle.ada_tree.specs.declared.selects.Trigger.{Trigger}
+use Rattle.ada_tree.specs.declared.selects.Trigger.TheVariants as trigger
+use Rattle.profile_machine.specs.declared.numbers.EntryNo.{EntryNo}
+use Rattle.profile_machine.specs.declared.statements.SelectAlternative.{SelectAlternative as GuardedAlternative}
+use Rattle.profile_machine.specs.declared.statements.SelectKind.{SelectKind}
+use Rattle.profile_machine.specs.declared.statements.SelectKind.TheVariants as select_kind
 use Rattle.profile_machine.specs.declared.numbers.DeclNo.{DeclNo}
 use Rattle.profile_machine.specs.declared.numbers.ExprNo.{ExprNo}
 use Rattle.profile_machine.specs.declared.numbers.ScopeNo.{ScopeNo}
@@ -57,12 +73,13 @@ use Rattle.ada_regions.specs.declared.entities.Denoted.TheVariants as denotes
 use Rattle.ada_regions.specs.declared.entities.EntityKind.{EntityKind}
 use Rattle.ada_regions.specs.declared.entities.EntityKind.TheVariants as entity
 use Rattle.ada_regions.specs.Words.{and_then, same_place}
-use Rattle.ada_regions.specs.Names.{Names, NumberedScope, denoted_by, kind_at, entity_denoted}
+use Rattle.ada_regions.specs.Names.{Names, NumberedScope, denoted_by, kind_at, entity_denoted, last_part}
 use Rattle.ada_regions.specs.Statics.{static_value, subtype_of_name}
 use Rattle.ada_image.specs.Making.{Making, Within, OpenLoop, ◌>>=◌, ◌>>◌, pure, action_put, reserved, put_at, first_put, the_action, in_loop, in_construct, in_scope, in_handler}
 use Rattle.ada_image.specs.Layout.{is_array, is_kept, subtype_is, scope_no}
-use Rattle.ada_image.specs.ImageOfExpressions.{expression_made, signs_in, signs_if, no_declaration_no, object_named, thing_named, thing_in, expression_image}
-use Rattle.ada_image.specs.ImageOfCalls.{target_made, FunctionCall, function_call, function_call_put, call_statement_put, not_built}
+use Rattle.ada_image.specs.ImageOfExpressions.{expression_made, signs_in, signs_if, no_declaration_no, object_named, thing_named, thing_in, expression_image, object_before}
+use Rattle.ada_image.specs.ImageOfCalls.{target_made, FunctionCall, function_call, function_call_put, owner_of_entry}
+use Rattle.ada_image.specs.CallStatements.{call_statement_put, signs_in_actuals}
 
 -- ---- scopes by the places of their constructs
 
@@ -218,6 +235,32 @@ abbrev pub loop_parameter_number : EntityKind → Option DeclNo
 loop_parameter_number (entity.LoopParameter declaration) = Some declaration
 loop_parameter_number _ = None
 
+-- ---- entries, aborts and requeues (9.5.2, 9.5.4, 9.8)
+
+abbrev pub entry_of_kind : EntityKind → Option EntryNo
+entry_of_kind (entity.Entry number unit formals) = Some number
+entry_of_kind _ = None
+
+abbrev pub no_entry : EntryNo
+no_entry = record { 0 = 0 }
+
+abbrev pub entry_at : Within → Place → EntryNo
+entry_at within place = unwrap_or (and_then (entity_denoted within.names place) (λ e. and_then (kind_at within.names e) entry_of_kind)) no_entry
+
+abbrev pub abort_put : Within → OneOrMore Name → Option StatementNo → Making (Option StatementNo)
+abort_put within tasks next = action_put (action.Abort (thing_named within tasks.first ∷ map (thing_named within) tasks.others)) 0 next
+
+abbrev pub requeue_put : Within → Name → Bool → Option StatementNo → Making (Option StatementNo)
+requeue_put within name with_abort next =
+    action_put (action.Requeue (entry_at within (last_part name).place) (owner_of_entry (object_before within name)) with_abort) 0 next
+
+abbrev pub guard_of : Option Guard → Option Expression
+guard_of guard = option_map (λ g. g.condition) guard
+
+abbrev pub signs_in_trigger : Within → Trigger → ℕ
+signs_in_trigger within (trigger.Call c) = signs_in_actuals within c.arguments
+signs_in_trigger within (trigger.Delay d) = signs_in within d.value
+
 -- ---- sequences: what is made of one depends on where it stands
 
 pub data SequencePlace : Type 0 where
@@ -334,7 +377,106 @@ module _ {Q : Type 0} (sequence : Q → SequenceMaking) where
     others ← handlers_put within hs next
     pure (record { choices = handled_made within h.exceptions; first = the_action first } ∷ others)
 
-  -- ---- all statements; what stands in no image yet is passed over
+  -- ---- accepts (9.5.2): without statements nothing stands in its scope
+
+  abbrev pub accept_body_put : Within → StatementNo → ℕ → Option (AcceptBody Q) → Making (Option StatementNo)
+  accept_body_put within s scope None = pure None
+  accept_body_put within s scope (Some b) = sequence b.sequence (behind_declarations None) (in_construct s (in_scope scope within)) None
+
+  abbrev pub accept_put : Within → Accept Q → Option StatementNo → Making (Option StatementNo)
+  accept_put within a next = do
+    s ← reserved
+    first ← accept_body_put within s (scope_at within.names a.place) a.body
+    first_put (scope_at within.names a.place) first
+    put_at s (action.Accept (entry_at within a.entry.place) (scope_no (scope_at within.names a.place))) 0 next
+
+  -- ---- selects (9.7): an accept, a delay and a call have statements of their own, which lead to those behind them
+
+  abbrev pub alternative_put : Within → Alternative Q → Option StatementNo → Making SelectKind
+  alternative_put within (alternative.Accept a statements) next = do
+    behind ← inside_if statements within next
+    s ← accept_put within a behind
+    pure (select_kind.Accept (the_action s))
+  alternative_put within (alternative.Delay d statements) next = do
+    behind ← inside_if statements within next
+    s ← delay_put within d behind
+    pure (select_kind.Delay (the_action s))
+  alternative_put within (alternative.Terminate place) next = pure select_kind.Terminate
+
+  abbrev pub select_alternative_put : Within → SelectAlternative Q → Option StatementNo → Making GuardedAlternative
+  select_alternative_put within a next = do
+    guard ← condition_made within (guard_of a.guard)
+    kind ← alternative_put within a.alternative next
+    pure (record { guard = guard; kind = kind })
+
+  abbrev pub select_alternatives_put : Within → List (SelectAlternative Q) → Option StatementNo → Making (List GuardedAlternative)
+  select_alternatives_put within [] next = pure []
+  select_alternatives_put within (a ∷ rest) next = do
+    one ← select_alternative_put within a next
+    others ← select_alternatives_put within rest next
+    pure (one ∷ others)
+
+  abbrev pub signs_in_alternative : Within → Alternative Q → ℕ
+  signs_in_alternative within (alternative.Accept a statements) = 0
+  signs_in_alternative within (alternative.Delay d statements) = signs_in within d.value
+  signs_in_alternative within (alternative.Terminate place) = 0
+
+  abbrev pub signs_in_alternatives : Within → List (SelectAlternative Q) → ℕ
+  signs_in_alternatives within [] = 0
+  signs_in_alternatives within (a ∷ rest) =
+      signs_if within (guard_of a.guard) + (signs_in_alternative within a.alternative + signs_in_alternatives within rest)
+
+  abbrev pub else_put : Within → Option Q → Option StatementNo → Making (Option StatementNo)
+  else_put within None next = pure None
+  else_put within (Some q) next = inside q within next
+
+  abbrev pub selective_accept_put : Within → SelectiveAccept Q → Option StatementNo → Making (Option StatementNo)
+  selective_accept_put within s next = do
+    alternatives ← select_alternatives_put within (s.alternatives.first ∷ s.alternatives.others) next
+    otherwise ← else_put within s.otherwise next
+    action_put (action.SelectiveAccept alternatives otherwise) (signs_in_alternatives within (s.alternatives.first ∷ s.alternatives.others)) next
+
+  abbrev pub call_before : Within → Call → Option Q → Option StatementNo → Making (Option StatementNo)
+  call_before within c statements next = do
+    behind ← inside_if statements within next
+    call_statement_put within c.name c.arguments behind
+
+  abbrev pub delay_before : Within → Delay → Option Q → Option StatementNo → Making (Option StatementNo)
+  delay_before within d statements next = do
+    behind ← inside_if statements within next
+    delay_put within d behind
+
+  abbrev pub timed_call_put : Within → TimedEntryCall Q → Option StatementNo → Making (Option StatementNo)
+  timed_call_put within t next = do
+    call ← call_before within t.call t.statements next
+    delay ← delay_before within t.delay t.delay_statements next
+    action_put (action.TimedCall (the_action call) (the_action delay)) (signs_in_actuals within t.call.arguments + signs_in within t.delay.value) next
+
+  abbrev pub conditional_call_put : Within → ConditionalEntryCall Q → Option StatementNo → Making (Option StatementNo)
+  conditional_call_put within c next = do
+    call ← call_before within c.call c.statements next
+    otherwise ← inside c.otherwise within next
+    action_put (action.ConditionalCall (the_action call) (the_action otherwise)) (signs_in_actuals within c.call.arguments) next
+
+  abbrev pub trigger_put : Within → Trigger → Option Q → Option StatementNo → Making (Option StatementNo)
+  trigger_put within (trigger.Call c) statements next = call_before within c statements next
+  trigger_put within (trigger.Delay d) statements next = delay_before within d statements next
+
+  -- what is aborted ends inside the select
+  abbrev pub asynchronous_put : Within → AsynchronousSelect Q → Option StatementNo → Making (Option StatementNo)
+  asynchronous_put within a next = do
+    s ← reserved
+    trigger ← trigger_put within a.trigger a.statements next
+    abortable ← inside a.abortable (in_construct s within) None
+    put_at s (action.AsynchronousSelect (the_action trigger) (the_action abortable)) (signs_in_trigger within a.trigger) next
+
+  abbrev pub select_put : Within → SelectForm Q → Option StatementNo → Making (Option StatementNo)
+  select_put within (select.SelectiveAccept s) next = selective_accept_put within s next
+  select_put within (select.TimedEntryCall t) next = timed_call_put within t next
+  select_put within (select.ConditionalEntryCall c) next = conditional_call_put within c next
+  select_put within (select.AsynchronousSelect a) next = asynchronous_put within a next
+
+  -- ---- all statements
 
   abbrev pub statement_put : Within → Statement Q → Option StatementNo → Making (Option StatementNo)
   statement_put within (statement.Null place) next = action_put action.Null 0 next
@@ -348,10 +490,10 @@ module _ {Q : Type 0} (sequence : Q → SequenceMaking) where
   statement_put within (statement.Block b) next = block_put within b next
   statement_put within (statement.Return place e) next = return_put within e next
   statement_put within (statement.Raise place exception) next = raise_put within exception next
-  statement_put within (statement.Abort place tasks) next = not_built next
-  statement_put within (statement.Accept a) next = not_built next
-  statement_put within (statement.Requeue place entry with_abort) next = not_built next
-  statement_put within (statement.Select s) next = not_built next
+  statement_put within (statement.Abort place tasks) next = abort_put within tasks next
+  statement_put within (statement.Accept a) next = accept_put within a next
+  statement_put within (statement.Requeue place entry with_abort) next = requeue_put within entry with_abort next
+  statement_put within (statement.Select s) next = select_put within s.form next
 
   -- the statements of a list, from the last to the first
   abbrev pub statements_put : Within → List (Statement Q) → Option StatementNo → Making (Option StatementNo)

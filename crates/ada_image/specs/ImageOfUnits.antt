@@ -15,8 +15,6 @@ use Rattle.ada_tree.specs.declared.units.Package.TheVariants as packages
 use Rattle.ada_tree.specs.declared.units.PackageDeclaration.{PackageDeclaration}
 use Rattle.ada_tree.specs.declared.units.PackageBody.{PackageBody}
 use Rattle.profile_machine.specs.declared.image.Image.{Image as Program}
-use Rattle.profile_machine.specs.declared.image.Policies.{Policies}
-use Rattle.profile_machine.specs.declared.image.Queuing.TheVariants as queuing
 use Rattle.profile_machine.specs.declared.image.MainProcedure.{MainProcedure}
 use Rattle.profile_machine.specs.declared.numbers.DeclNo.{DeclNo}
 use Rattle.profile_machine.specs.declared.numbers.StatementNo.{StatementNo}
@@ -25,6 +23,8 @@ use Rattle.profile_machine.specs.declared.values.Value.TheVariants as value
 use Rattle.profile_machine.specs.declared.values.Constraint.{Constraint}
 use Rattle.profile_machine.specs.declared.values.Constraint.TheVariants as constraint
 use Rattle.profile_machine.specs.declared.declarations.Declaration.{Declaration as NumberedObject}
+use Rattle.profile_machine.specs.declared.declarations.TaskUnit.{TaskUnit}
+use Rattle.profile_machine.specs.declared.declarations.Entry.{Entry}
 use Rattle.profile_machine.specs.declared.declarations.DeclarationKind.{DeclarationKind}
 use Rattle.profile_machine.specs.declared.declarations.DeclarationKind.TheVariants as kind
 use Rattle.profile_machine.specs.declared.declarations.Initial.{Initial}
@@ -41,6 +41,8 @@ use Rattle.ada_regions.specs.Numbered.{names_of, last_priority_of}
 use Rattle.ada_regions.specs.Statics.{static_value}
 use Rattle.ada_image.specs.Making.{Making, Lists, Within, ◌>>=◌, ◌>>◌, pure, action_put, first_put, nothing_made, in_body_of}
 use Rattle.ada_image.specs.Layout.{is_thing, is_array, subtype_is, range_of_cells, index_range, cells_of_declaration, place_behind, scope_no, scopes_made, subprogram_made, enumeration_made}
+use Rattle.ada_image.specs.UnitsOfImage.{decl_no, priority_of, task_units_made, entries_made, protected_units_made, controlled_types_made}
+use Rattle.ada_image.specs.PoliciesOfImage.{policies_of}
 use Rattle.ada_image.specs.ImageOfExpressions.{expression_made, expression_image}
 use Rattle.ada_image.specs.ImageOfCalls.{function_call}
 use Rattle.ada_image.specs.ImageOfStatements.{array_name, scope_at, behind_declarations}
@@ -147,7 +149,7 @@ kind_of_type types.TimeSpan i = kind.Object i
 kind_of_type types.CpuTime i = kind.Object i
 kind_of_type types.TaskId i = kind.Object i
 kind_of_type types.TimingEvent i = kind.Event
-kind_of_type types.Timer i = kind.Event
+kind_of_type types.Timer i = kind.Other
 kind_of_type types.GroupBudget i = kind.Budget
 kind_of_type types.LimitedControlled i = kind.Other
 kind_of_type types.Controlled i = kind.Other
@@ -155,16 +157,21 @@ kind_of_type (types.Derived c) i = kind.Controlled c
 kind_of_type (types.Task u) i = kind.Task u
 kind_of_type (types.Protected u) i = kind.Protected u
 
-abbrev pub kind_of_subtype : Option Subtype → Initial → DeclarationKind
-kind_of_subtype None i = kind.Object i
-kind_of_subtype (Some s) i = kind_of_type s.of_type i
+-- a timer is that of the task which its constant identifies (D.14.1)
+abbrev pub kind_with_task : AdaType → Option ℕ → Initial → DeclarationKind
+kind_with_task t None i = kind_of_type t i
+kind_with_task t (Some task) i = kind.Timer (decl_no task)
 
-abbrev pub kind_of_sort : Sort → Option Subtype → Initial → DeclarationKind
-kind_of_sort of_object s i = kind_of_subtype s i
-kind_of_sort (of_component o) s i = kind.Object i
-kind_of_sort of_parameter s i = kind.Parameter
-kind_of_sort of_loop_parameter s i = kind.Parameter
-kind_of_sort of_exception s i = kind.Other
+abbrev pub kind_of_subtype : Option Subtype → Option ℕ → Initial → DeclarationKind
+kind_of_subtype None task i = kind.Object i
+kind_of_subtype (Some s) task i = kind_with_task s.of_type task i
+
+abbrev pub kind_of_sort : Sort → Option Subtype → Option ℕ → Initial → DeclarationKind
+kind_of_sort of_object s task i = kind_of_subtype s task i
+kind_of_sort (of_component o) s task i = kind.Object i
+kind_of_sort of_parameter s task i = kind.Parameter
+kind_of_sort of_loop_parameter s task i = kind.Parameter
+kind_of_sort of_exception s task i = kind.Other
 
 -- what stands for itself has no range
 abbrev pub range_if_value : Names → Option Subtype → Constraint
@@ -181,7 +188,7 @@ abbrev pub numbered_object : Names → List NumberedDeclaration → NumberedDecl
 numbered_object n before d i = record {
   name = d.name;
   expanded = d.expanded;
-  kind = kind_of_sort d.sort d.subtype i;
+  kind = kind_of_sort d.sort d.subtype d.task i;
   scope = scope_no d.scope;
   place = place_behind n before d;
   cells = cells_of_declaration n d;
@@ -201,26 +208,6 @@ declarations_made within before (d ∷ ds) = do
   others ← declarations_made within (before ++ d ∷ []) ds
   pure (one ∷ others)
 
--- ---- the main procedure and the policies (10.2, D.1, D.2.2)
-
-abbrev pub is_priority : Aspect → Bool
-is_priority a = bytes_eq a.name.text (codes "priority") || bytes_eq a.name.text (codes "interrupt_priority")
-
-abbrev pub level_of : Value → Option ℕ
-level_of (value.Whole (pos n)) = Some n
-level_of _ = None
-
-abbrev pub priority_in : Names → Aspect → Option ℕ
-priority_in n a = cond (is_priority a) (and_then a.value (λ e. and_then (static_value n e) level_of)) None
-
-abbrev pub priority_among : Names → List Aspect → Option ℕ
-priority_among n [] = None
-priority_among n (a ∷ rest) = or_else (priority_in n a) (priority_among n rest)
-
--- the policies of a source without pragmas; those of pragmas stand in no image yet
-abbrev pub policies_of : ℕ → Policies
-policies_of last = record { dispatching = []; queuing = queuing.Fifo; longest_queue = None; last_priority = last }
-
 -- ---- the image
 
 abbrev pub outermost : Names → Within
@@ -234,31 +221,40 @@ actions_made unit within = do
   first ← packages_put unit.packages within unit.packages call
   first_put 0 first
 
-abbrev pub all_made : Tree → Within → Making (List NumberedObject)
+-- what has numbers of its own and expressions: the units' deadlines first, then the barriers, then the initial values
+pub record MadeLists : Type 0 where
+  pub task_units : List TaskUnit
+  pub entries : List Entry
+  pub declarations : List NumberedObject
+
+abbrev pub all_made : Tree → Within → Making MadeLists
 all_made unit within = do
   actions_made unit within
-  declarations_made within [] within.names.declarations
+  task_units ← task_units_made within 0 within.names.task_units
+  entries ← entries_made within [] within.names.entries
+  declarations ← declarations_made within [] within.names.declarations
+  pure (record { task_units = task_units; entries = entries; declarations = declarations })
 
 abbrev pub main_of : Names → Tree → MainProcedure
 main_of n unit = record {
   name = unit.main.name.text;
-  priority = unwrap_or (priority_among n unit.main.aspects) (default_priority n.last_priority);
+  priority = unwrap_or (priority_of n unit.main.aspects) (default_priority n.last_priority);
   scope = scope_no (scope_at n unit.main.place);
 }
 
-abbrev pub program_with : Names → Tree → Lists → List NumberedObject → Program
-program_with n unit lists declarations = record {
-  declarations = declarations;
+abbrev pub program_with : Names → Tree → Lists → MadeLists → Program
+program_with n unit lists made = record {
+  declarations = made.declarations;
   expressions = lists.expressions;
   statements = lists.statements;
   scopes = scopes_made n lists.firsts 0 n.scopes;
   subprograms = map (subprogram_made n) n.subprograms;
-  task_units = [];
-  protected_units = [];
-  entries = [];
-  controlled_types = [];
+  task_units = made.task_units;
+  protected_units = protected_units_made n 0 n.protected_units;
+  entries = made.entries;
+  controlled_types = controlled_types_made n 0 n.controlled_types;
   enumerations = map enumeration_made n.enumerations;
-  policies = policies_of n.last_priority;
+  policies = policies_of n.last_priority unit.pragmas;
   environment = scope_no 0;
   main = main_of n unit;
 }

@@ -15,7 +15,7 @@ use Rattle.ada_regions.specs.declared.entities.EntityKind.TheVariants as entity
 use Rattle.ada_regions.specs.declared.entities.ComponentOwner.{ComponentOwner}
 use Rattle.ada_regions.specs.declared.entities.ComponentOwner.TheVariants as owner
 use Rattle.ada_regions.specs.Words.{and_then}
-use Rattle.ada_regions.specs.Names.{Names, Binding, Frame, NumberedScope, binding_in, innermost_frame, frames_outside, region_here, scope_in, kind_at, region_of_entity, entity_denoted, noted, no_frame}
+use Rattle.ada_regions.specs.Names.{Names, Binding, Frame, NumberedScope, binding_in, innermost_frame, frames_outside, opened, region_here, scope_in, kind_at, region_of_entity, entity_denoted, noted, no_frame}
 use Rattle.ada_regions.specs.Statics.{subtype_of_kind}
 use Rattle.ada_regions.specs.Subtypes.{formals_of}
 use Rattle.ada_regions.specs.Visibility.{resolved}
@@ -120,11 +120,11 @@ seen_again n region = map (bound_again n.regions) (filter (is_declared_in_unit n
 
 abbrev pub body_frame : ℕ → Option ℕ → Identifier → Option ℕ → Frame
 body_frame region e i scope =
-    record { region = region; owner = e; scope = scope; is_accept = false; name = Some i.text; exports = false; components = None }
+    record { region = region; owner = e; scope = scope; is_accept = false; name = Some i.text; exports = false; components = None; part = 0 }
 
 abbrev pub body_apart : Option ℕ → Identifier → Option ℕ → List Binding → Names → Names
 body_apart e i scope seen n =
-    record n { frames = body_frame n.regions e i scope ∷ n.frames; regions = suc n.regions; bindings = seen ++ n.bindings }
+    opened (body_frame n.regions e i scope) (record n { regions = suc n.regions; bindings = seen ++ n.bindings })
 
 abbrev pub components_in : AdaType → Option ComponentOwner
 components_in (types.Protected u) = Some (owner.Protected u)
@@ -135,9 +135,20 @@ abbrev pub components_of : Option AdaType → Option ComponentOwner
 components_of None = None
 components_of (Some t) = components_in t
 
+-- the body of a task unit has its scope
+abbrev pub task_numbered : AdaType → ℕ → Names → Names
+task_numbered (types.Task u) scope n = record n { task_units = edit_at u.0 (λ x. record x { scope = scope }) n.task_units }
+task_numbered _ scope n = n
+
+abbrev pub task_scoped : Option AdaType → Option ℕ → Names → Names
+task_scoped None scope n = n
+task_scoped (Some t) None n = n
+task_scoped (Some t) (Some scope) n = task_numbered t scope n
+
 abbrev pub body_of_unit : ℕ → ℕ → Identifier → Option ℕ → Names → Names
 body_of_unit e region i scope n =
-    with_body e (record n { frames = record (body_frame region (Some e) i scope) { components = components_of (and_then (kind_at n e) type_of_kind) } ∷ n.frames })
+    let t = and_then (kind_at n e) type_of_kind in
+    with_body e (task_scoped t scope (opened (record (body_frame region (Some e) i scope) { components = components_of t }) n))
 
 abbrev pub has_body : Names → ℕ → Bool
 has_body n e = list_any (eqb e) n.bodies

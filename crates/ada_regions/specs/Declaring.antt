@@ -1,12 +1,19 @@
 -- Declarations (3.1, 8.1, 8.3): what a declaration binds in its region, and what entity it declares.
 use Rattle.std.specs.Prelude.{ℕ, suc, ◌+◌, ◌-◌, Bool, true, false, cond, not, ◌&&◌, ◌||◌, List, [], ◌∷◌, ◌++◌, Option, Some, None, is_some, length, map, option_map}
+use Rattle.ann_base.specs.declared.places.Place.{Place}
 use Rattle.ada_tree.specs.declared.names.Identifier.{Identifier}
 use Rattle.ada_tree.specs.declared.names.OneOrMore.{OneOrMore}
 use Rattle.ada_tree.specs.declared.expressions.Expression.{Expression}
 use Rattle.ada_tree.specs.declared.declarations.Parameter.{Parameter}
 use Rattle.ada_tree.specs.declared.declarations.SubtypeIndication.{SubtypeIndication}
 use Rattle.ada_tree.specs.declared.declarations.ObjectDeclaration.{ObjectDeclaration}
+use Rattle.ada_tree.specs.declared.names.Name.{Name}
 use Rattle.ada_tree.specs.declared.declarations.Component.{Component}
+use Rattle.ada_tree.specs.declared.declarations.Aspect.{Aspect}
+use Rattle.ada_tree.specs.declared.declarations.Constraint.{Constraint as Indicated}
+use Rattle.ada_tree.specs.declared.declarations.Constraint.TheVariants as indicated
+use Rattle.ada_regions.specs.declared.types.Formal.{Formal}
+use Rattle.ada_regions.specs.declared.entities.Denoted.{Denoted}
 use Rattle.ada_tree.specs.declared.declarations.SubprogramSpecification.{SubprogramSpecification}
 use Rattle.profile_machine.specs.declared.numbers.DeclNo.{DeclNo}
 use Rattle.profile_machine.specs.declared.numbers.EnumerationNo.{EnumerationNo}
@@ -29,9 +36,9 @@ use Rattle.ada_regions.specs.declared.entities.ComponentOwner.TheVariants as own
 use Rattle.ada_regions.specs.declared.faults.NameFault.TheVariants as fault
 use Rattle.ada_regions.specs.Words.{and_then, all_of}
 use Rattle.ada_regions.specs.Occurrences.{Declared, the_package, the_main_procedure, an_object, a_component, a_parameter, a_loop_parameter, an_enumeration, a_literal, an_array, a_derived_type, a_subtype, an_exception, a_label, a_subprogram, an_entry, a_task, a_protected}
-use Rattle.ada_regions.specs.Names.{Names, Binding, Frame, Sort, of_object, of_component, of_parameter, of_loop_parameter, of_exception, NumberedSubprogram, binding_in, innermost_frame, region_here, scope_in, scope_of_loops, expanded, kind_at, noted, told}
+use Rattle.ada_regions.specs.Names.{Names, Binding, Frame, Sort, of_object, of_component, of_parameter, of_loop_parameter, of_exception, NumberedDeclaration, NumberedSubprogram, NumberedTask, NumberedProtected, NumberedControlled, NumberedEntry, denoted_by, entity_of, binding_in, innermost_frame, region_here, scope_in, scope_of_loops, expanded, kind_at, noted, told}
 use Rattle.ada_regions.specs.Statics.{static_value, subtype_of_kind}
-use Rattle.ada_regions.specs.Subtypes.{indicated_subtype, array_type, formals_of, mode_of}
+use Rattle.ada_regions.specs.Subtypes.{indicated_subtype, mark_denoted, array_type, formals_of, mode_of}
 use Rattle.ada_regions.specs.Visibility.{in_standard, bound}
 
 -- ---- bindings
@@ -51,14 +58,14 @@ abbrev pub told_if_taken : Bool → Identifier → Names → Names
 told_if_taken taken i n = cond taken (told (fault.Twice i.place) n) n
 
 -- an entity that is new gets the next number
-abbrev pub with_entity : EntityKind → Option ℕ → Names → Names
-with_entity kind region n = record n { entities = n.entities ++ record { kind = kind; region = region } ∷ [] }
+abbrev pub with_entity : Place → EntityKind → Option ℕ → Names → Names
+with_entity place kind region n = record n { entities = n.entities ++ record { place = place; kind = kind; region = region } ∷ [] }
 
 -- a name is declared in the region of this frame
 abbrev pub entered : Frame → Bool → Identifier → EntityKind → Option ℕ → Names → Names
 entered f taken i kind region n =
     let e = length n.entities in
-    noted i.place (denotes.Entity e) (with_binding f i.text (Some e) (with_entity kind region (told_if_taken taken i n)))
+    noted i.place (denotes.Entity e) (with_binding f i.text (Some e) (with_entity i.place kind region (told_if_taken taken i n)))
 
 abbrev pub entered_here : Identifier → EntityKind → Option ℕ → Names → Names
 entered_here i kind region n = entered (innermost_frame n.frames) (is_taken n (innermost_frame n.frames) i.text) i kind region n
@@ -66,7 +73,7 @@ entered_here i kind region n = entered (innermost_frame n.frames) (is_taken n (i
 -- ---- the region of Standard, in which library units stand (10.1)
 
 abbrev pub library_frame : Frame
-library_frame = record { region = 0; owner = None; scope = Some 0; is_accept = false; name = None; exports = false; components = None }
+library_frame = record { region = 0; owner = None; scope = Some 0; is_accept = false; name = None; exports = false; components = None; part = 0 }
 
 abbrev pub unit_is_taken : Names → List ℕ → Bool
 unit_is_taken n name = is_taken n library_frame name || is_some (in_standard n.last_priority name)
@@ -79,10 +86,15 @@ entered_as_unit i kind region n = entered library_frame (unit_is_taken n i.text)
 abbrev pub next_declaration : Names → DeclNo
 next_declaration n = record { 0 = length n.declarations }
 
+abbrev pub numbered_declaration : Names → Identifier → Sort → ℕ → Option Subtype → Option Expression → NumberedDeclaration
+numbered_declaration n i sort scope s initial =
+    record { name = i.text; expanded = expanded n.frames i.text; sort = sort; scope = scope; subtype = s; initial = initial; task = None }
+
+abbrev pub with_declaration : NumberedDeclaration → Names → Names
+with_declaration d n = record n { declarations = n.declarations ++ d ∷ [] }
+
 abbrev pub numbered : Identifier → Sort → ℕ → Option Subtype → Option Expression → Names → Names
-numbered i sort scope s initial n = record n {
-  declarations = n.declarations ++ record { name = i.text; expanded = expanded n.frames i.text; sort = sort; scope = scope; subtype = s; initial = initial } ∷ [];
-}
+numbered i sort scope s initial n = with_declaration (numbered_declaration n i sort scope s initial) n
 
 -- a region that is opened later
 abbrev pub with_region : Names → Names
@@ -93,10 +105,24 @@ with_region n = record n { regions = suc n.regions }
 abbrev pub constant_value : Names → ObjectDeclaration → Option Value
 constant_value n o = cond o.constant (and_then o.initial (static_value n)) None
 
+-- the constant that a timer's indication names (D.14.1)
+abbrev pub object_number : EntityKind → Option DeclNo
+object_number (entity.Object s constant value declaration) = Some declaration
+object_number _ = None
+
+abbrev pub number_of_object : Names → Denoted → Option ℕ
+number_of_object n d = option_map (λ x. x.0) (and_then (entity_of d) (λ e. and_then (kind_at n e) object_number))
+
+abbrev pub task_indicated : Names → Option Indicated → Option ℕ
+task_indicated n None = None
+task_indicated n (Some (indicated.Access name)) = and_then (denoted_by n name) (number_of_object n)
+task_indicated n (Some (indicated.Range low high)) = None
+
 abbrev pub object_declared : Identifier → ObjectDeclaration → Names → Names
 object_declared i o n =
     let s = indicated_subtype n o.subtype in
-    entered_here i (entity.Object s o.constant (constant_value n o) (next_declaration n)) None (numbered i of_object (scope_in n.frames) s o.initial n)
+    entered_here i (entity.Object s o.constant (constant_value n o) (next_declaration n)) None
+    (with_declaration (record (numbered_declaration n i of_object (scope_in n.frames) s o.initial) { task = task_indicated n o.subtype.constraint }) n)
 
 abbrev pub no_owner : ComponentOwner
 no_owner = owner.Controlled (record { 0 = 0 })
@@ -148,10 +174,22 @@ array_declared i low high component n =
 abbrev pub free_subtype : AdaType → Subtype
 free_subtype t = record { of_type = t; range = constraint.Free }
 
-abbrev pub derived_declared : Identifier → Names → Names
-derived_declared i n =
+abbrev pub is_limited_root : AdaType → Bool
+is_limited_root types.LimitedControlled = true
+is_limited_root _ = false
+
+abbrev pub is_limited_parent : Option Subtype → Bool
+is_limited_parent None = true
+is_limited_parent (Some s) = is_limited_root s.of_type
+
+abbrev pub numbered_controlled : Names → Name → NumberedControlled
+numbered_controlled n parent =
+    record { region = n.regions; part = (innermost_frame n.frames).part; is_limited = is_limited_parent (and_then (denoted_by n parent) (mark_denoted n)) }
+
+abbrev pub derived_declared : Identifier → Name → Names → Names
+derived_declared i parent n =
     entered_here i (entity.Mark (Some (free_subtype (types.Derived (record { 0 = length n.controlled_types }))))) (Some n.regions)
-    (with_region (record n { controlled_types = n.controlled_types ++ n.regions ∷ [] }))
+    (with_region (record n { controlled_types = n.controlled_types ++ numbered_controlled n parent ∷ [] }))
 
 abbrev pub subtype_declared : Identifier → SubtypeIndication → Names → Names
 subtype_declared i m n = entered_here i (entity.Mark (indicated_subtype n m)) None n
@@ -176,6 +214,8 @@ numbered_subprogram n f scope i s = record {
   formals = formals_of n s.parameters;
   result = option_map (indicated_subtype n) s.result;
   unit = option_map (λ u. u.0) (protected_unit_of f.components);
+  part = f.part;
+  aspects = s.aspects;
 }
 
 -- a subprogram in the region of this frame: its declaration, or the body that declares it
@@ -208,10 +248,14 @@ abbrev pub entry_unit_of : Option AdaType → EntryUnit
 entry_unit_of None = entry_unit.Task (record { 0 = 0 })
 entry_unit_of (Some t) = entry_unit_in t
 
+abbrev pub numbered_entry : Identifier → EntryUnit → List Formal → NumberedEntry
+numbered_entry i unit formals = record { name = i.text; unit = unit; formals = formals; body = None }
+
 abbrev pub entry_declared : Identifier → List Parameter → Names → Names
 entry_declared i parameters n =
-    entered_here i (entity.Entry (record { 0 = n.entries }) (entry_unit_of (owner_type n (innermost_frame n.frames))) (formals_of n parameters)) None
-    (record n { entries = suc n.entries })
+    let unit = entry_unit_of (owner_type n (innermost_frame n.frames)) in
+    entered_here i (entity.Entry (record { 0 = length n.entries }) unit (formals_of n parameters)) None
+    (record n { entries = n.entries ++ numbered_entry i unit (formals_of n parameters) ∷ [] })
 
 -- ---- task and protected units: a type, or a single object of a type without a name (9.1, 9.4)
 
@@ -221,13 +265,20 @@ unit_entered false i s n =
     entered_here i (entity.Object (Some s) false None (next_declaration n)) (Some n.regions)
     (with_region (numbered i of_object (scope_in n.frames) (Some s) None n))
 
-abbrev pub task_declared : Bool → Identifier → Names → Names
-task_declared is_type i n =
-    unit_entered is_type i (free_subtype (types.Task (record { 0 = length n.task_units }))) (record n { task_units = n.task_units ++ n.regions ∷ [] })
+abbrev pub numbered_task : Names → List Aspect → NumberedTask
+numbered_task n aspects = record { region = n.regions; aspects = aspects; scope = 0 }
 
-abbrev pub protected_declared : Bool → Identifier → Names → Names
-protected_declared is_type i n =
-    unit_entered is_type i (free_subtype (types.Protected (record { 0 = length n.protected_units }))) (record n { protected_units = n.protected_units ++ n.regions ∷ [] })
+abbrev pub numbered_protected : Names → List Aspect → NumberedProtected
+numbered_protected n aspects = record { region = n.regions; aspects = aspects }
+
+abbrev pub task_declared : Bool → List Aspect → Identifier → Names → Names
+task_declared is_type aspects i n =
+    unit_entered is_type i (free_subtype (types.Task (record { 0 = length n.task_units }))) (record n { task_units = n.task_units ++ numbered_task n aspects ∷ [] })
+
+abbrev pub protected_declared : Bool → List Aspect → Identifier → Names → Names
+protected_declared is_type aspects i n =
+    unit_entered is_type i (free_subtype (types.Protected (record { 0 = length n.protected_units })))
+    (record n { protected_units = n.protected_units ++ numbered_protected n aspects ∷ [] })
 
 -- ---- all declarations
 
@@ -241,11 +292,11 @@ declared i a_loop_parameter n = loop_parameter_declared i n
 declared i (an_enumeration literals) n = enumeration_declared i literals n
 declared i (a_literal position) n = entered_here i (entity.Literal (newest_enumeration n) position) None n
 declared i (an_array low high component) n = array_declared i low high component n
-declared i a_derived_type n = derived_declared i n
+declared i (a_derived_type parent) n = derived_declared i parent n
 declared i (a_subtype m) n = subtype_declared i m n
 declared i an_exception n = exception_declared i n
 declared i a_label n = entered_here i entity.Label None n
 declared i (a_subprogram s) n = subprogram_declared (innermost_frame n.frames) true 0 i s n
 declared i (an_entry parameters) n = entry_declared i parameters n
-declared i (a_task is_type) n = task_declared is_type i n
-declared i (a_protected is_type) n = protected_declared is_type i n
+declared i (a_task is_type aspects) n = task_declared is_type aspects i n
+declared i (a_protected is_type aspects) n = protected_declared is_type aspects i n

@@ -6,6 +6,8 @@ use Rattle.ann_base.specs.declared.places.Place.{Place}
 use Rattle.ada_tree.specs.declared.names.Identifier.{Identifier}
 use Rattle.ada_tree.specs.declared.names.Name.{Name}
 use Rattle.ada_tree.specs.declared.expressions.Expression.{Expression}
+use Rattle.ada_tree.specs.declared.declarations.Aspect.{Aspect}
+use Rattle.profile_machine.specs.declared.declarations.EntryUnit.{EntryUnit}
 use Rattle.ada_regions.specs.declared.types.Subtype.{Subtype}
 use Rattle.ada_regions.specs.declared.types.ArrayType.{ArrayType}
 use Rattle.ada_regions.specs.declared.types.Formal.{Formal}
@@ -30,7 +32,8 @@ pub record Binding : Type 0 where
   pub exported : Bool
 
 -- A region that is open. Its owner is the construct whose region it is; its scope has the cells of what stands in it; its
--- name stands in expanded names; its components are those of objects of its unit or type.
+-- name stands in expanded names; its components are those of objects of its unit or type. Each time that a region is opened
+-- is a part of its own: the declaration of a package and its body are two.
 pub record Frame : Type 0 where
   pub region : ℕ
   pub owner : Option ℕ
@@ -39,6 +42,7 @@ pub record Frame : Type 0 where
   pub name : Option (List ℕ)
   pub exports : Bool
   pub components : Option ComponentOwner
+  pub part : ℕ
 
 -- a use clause stands in a region (8.4)
 pub record UseClause : Type 0 where
@@ -68,6 +72,8 @@ pub record NumberedDeclaration : Type 0 where
   pub scope : ℕ
   pub subtype : Option Subtype
   pub initial : Option Expression
+  -- of a timer: the constant that identifies its task
+  pub task : Option ℕ
 
 -- a scope of the text, found by the place of its construct's first word
 pub record NumberedScope : Type 0 where
@@ -82,6 +88,34 @@ pub record NumberedSubprogram : Type 0 where
   pub formals : List Formal
   pub result : Option (Option Subtype)
   pub unit : Option ℕ
+  -- the part in which it is declared, and its aspects there
+  pub part : ℕ
+  pub aspects : List Aspect
+
+pub record NumberedTask : Type 0 where
+  pub region : ℕ
+  pub aspects : List Aspect
+  pub scope : ℕ
+
+pub record NumberedProtected : Type 0 where
+  pub region : ℕ
+  pub aspects : List Aspect
+
+pub record NumberedControlled : Type 0 where
+  pub region : ℕ
+  pub part : ℕ
+  -- whether it is derived from Limited_Controlled
+  pub is_limited : Bool
+
+pub record NumberedEntryBody : Type 0 where
+  pub barrier : Expression
+  pub scope : ℕ
+
+pub record NumberedEntry : Type 0 where
+  pub name : List ℕ
+  pub unit : EntryUnit
+  pub formals : List Formal
+  pub body : Option NumberedEntryBody
 
 -- a name denotes something at its place
 pub record Denotation : Type 0 where
@@ -96,6 +130,8 @@ pub record Names : Type 0 where
   -- how many regions have begun; those that are open, the innermost first
   pub regions : ℕ
   pub frames : List Frame
+  -- how many parts there are
+  pub parts : ℕ
   -- the newest first
   pub bindings : List Binding
   pub uses : List UseClause
@@ -113,11 +149,10 @@ pub record Names : Type 0 where
   pub subprograms : List NumberedSubprogram
   pub arrays : List ArrayType
   pub enumerations : List (List (List ℕ))
-  -- the regions of units and of controlled types, by number; how many entries there are
-  pub task_units : List ℕ
-  pub protected_units : List ℕ
-  pub controlled_types : List ℕ
-  pub entries : ℕ
+  pub task_units : List NumberedTask
+  pub protected_units : List NumberedProtected
+  pub controlled_types : List NumberedControlled
+  pub entries : List NumberedEntry
   -- the earliest in the text
   pub fault : Option NameFault
 
@@ -179,7 +214,7 @@ binding_in bindings region name = find (binds region name) bindings
 -- ---- frames
 
 abbrev pub no_frame : Frame
-no_frame = record { region = 0; owner = None; scope = None; is_accept = false; name = None; exports = false; components = None }
+no_frame = record { region = 0; owner = None; scope = None; is_accept = false; name = None; exports = false; components = None; part = 0 }
 
 abbrev pub innermost_frame : List Frame → Frame
 innermost_frame [] = no_frame
@@ -188,6 +223,9 @@ innermost_frame (f ∷ fs) = f
 abbrev pub frames_outside : List Frame → List Frame
 frames_outside [] = []
 frames_outside (f ∷ fs) = fs
+
+abbrev pub opened : Frame → Names → Names
+opened f n = record n { frames = record f { part = n.parts } ∷ n.frames; parts = suc n.parts }
 
 abbrev pub region_here : Names → ℕ
 region_here n = (innermost_frame n.frames).region

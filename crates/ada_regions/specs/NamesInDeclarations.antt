@@ -51,7 +51,7 @@ names_in_definition name (definition.Enumeration literals) =
 names_in_definition name (definition.Array low high component) =
     hides name ∷ (names_in_expression low ++ (names_in_expression high ++ (names_in_indication component ++ one (declares name (an_array low high component)))))
 names_in_definition name (definition.Derived parent components) =
-    hides name ∷ mentions parent ∷ declares name a_derived_type ∷ within_region (a_record name) (if_there (in_all names_in_component) components)
+    hides name ∷ mentions parent ∷ declares name (a_derived_type parent) ∷ within_region (a_record name) (if_there (in_all names_in_component) components)
 
 abbrev pub names_in_type : TypeDeclaration → Occurrences
 names_in_type t = names_in_definition t.name t.definition
@@ -87,7 +87,7 @@ names_in_task_definition d = flat_map names_in_entry d.entries
 abbrev pub names_in_task : TaskDeclaration → Occurrences
 names_in_task t =
     hides t.name ∷ (names_in_aspects t.aspects
-    ++ (declares t.name (a_task t.is_type) ∷ within_region (a_unit t.name) (if_there names_in_task_definition t.definition)))
+    ++ (declares t.name (a_task t.is_type t.aspects) ∷ within_region (a_unit t.name) (if_there names_in_task_definition t.definition)))
 
 abbrev pub names_in_operation : ProtectedOperation → Occurrences
 names_in_operation (operation.Subprogram specification) = names_in_specification specification
@@ -99,7 +99,7 @@ names_in_private components = private_from_here ∷ flat_map names_in_component 
 abbrev pub names_in_protected : ProtectedDeclaration → Occurrences
 names_in_protected p =
     hides p.name ∷ (names_in_aspects p.aspects
-    ++ (declares p.name (a_protected p.is_type) ∷ within_region (a_unit p.name) (flat_map names_in_operation p.operations ++ if_there names_in_private p.components)))
+    ++ (declares p.name (a_protected p.is_type p.aspects) ∷ within_region (a_unit p.name) (flat_map names_in_operation p.operations ++ if_there names_in_private p.components)))
 
 -- ---- bodies, given the names in the sequences in them
 
@@ -114,7 +114,7 @@ module _ {Q : Type 0} (sequence : Q → SequenceNames) where
   abbrev pub names_in_entry_body : EntryHead → Body Q → Occurrences
   names_in_entry_body h body =
       mentions_entry h.name
-      ∷ within_region (entry_body h.name h.place) (names_in_parameters true h.parameters ++ (names_in_expression h.barrier ++ (is_called h.name ∷ names_in_body body)))
+      ∷ within_region (entry_body h.name h.place h.barrier) (names_in_parameters true h.parameters ++ (names_in_expression h.barrier ++ (is_called h.name ∷ names_in_body body)))
 
   abbrev pub names_in_operation_body : OperationBody Q → Occurrences
   names_in_operation_body (body_of.Subprogram specification body) = names_in_subprogram_body specification body

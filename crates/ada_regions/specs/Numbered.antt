@@ -52,6 +52,7 @@ nothing_known last = record {
   last_priority = last;
   regions = 1;
   frames = library_frame ∷ [];
+  parts = 1;
   bindings = [];
   uses = [];
   withs = [];
@@ -67,7 +68,7 @@ nothing_known last = record {
   task_units = [];
   protected_units = [];
   controlled_types = [];
-  entries = 0;
+  entries = [];
   fault = None;
 }
 

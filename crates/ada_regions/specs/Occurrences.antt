@@ -11,6 +11,7 @@ use Rattle.ada_tree.specs.declared.declarations.Parameter.{Parameter}
 use Rattle.ada_tree.specs.declared.declarations.SubtypeIndication.{SubtypeIndication}
 use Rattle.ada_tree.specs.declared.declarations.ObjectDeclaration.{ObjectDeclaration}
 use Rattle.ada_tree.specs.declared.declarations.Component.{Component}
+use Rattle.ada_tree.specs.declared.declarations.Aspect.{Aspect}
 use Rattle.ada_tree.specs.declared.declarations.SubprogramSpecification.{SubprogramSpecification}
 
 -- What a declaration declares.
@@ -26,15 +27,15 @@ pub data Declared : Type 0 where
   -- of the newest enumeration type, by its position
   a_literal : ℕ → Declared
   an_array : Expression → Expression → SubtypeIndication → Declared
-  a_derived_type : Declared
+  a_derived_type : Name → Declared
   a_subtype : SubtypeIndication → Declared
   an_exception : Declared
   a_label : Declared
   a_subprogram : SubprogramSpecification → Declared
   an_entry : List Parameter → Declared
   -- a type or a single object
-  a_task : Bool → Declared
-  a_protected : Bool → Declared
+  a_task : Bool → List Aspect → Declared
+  a_protected : Bool → List Aspect → Declared
 
 -- Which region begins. A place is that of the construct's first word, by which its scope is found again.
 pub data Region : Type 0 where
@@ -52,7 +53,8 @@ pub data Region : Type 0 where
   a_unit : Identifier → Region
   task_body : Identifier → Place → Region
   protected_body : Identifier → Region
-  entry_body : Identifier → Place → Region
+  -- with its barrier
+  entry_body : Identifier → Place → Expression → Region
   an_accept : Identifier → Place → Region
   a_block : Option Identifier → Place → Region
   a_loop : Option Identifier → Region

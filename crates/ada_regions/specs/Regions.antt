@@ -4,6 +4,9 @@ use Rattle.std.specs.List.{find}
 use Rattle.ann_base.specs.declared.places.Place.{Place}
 use Rattle.ada_tree.specs.declared.names.Identifier.{Identifier}
 use Rattle.ada_tree.specs.declared.names.Name.{Name}
+use Rattle.ada_tree.specs.declared.expressions.Expression.{Expression}
+use Rattle.profile_machine.specs.declared.numbers.EntryNo.{EntryNo}
+use Rattle.profile_machine.specs.Words.{edit_at}
 use Rattle.ada_regions.specs.declared.types.AdaType.{AdaType}
 use Rattle.ada_regions.specs.declared.predefined.PredefinedUnit.{PredefinedUnit}
 use Rattle.ada_regions.specs.declared.predefined.PredefinedUnit.TheVariants as units
@@ -14,15 +17,12 @@ use Rattle.ada_regions.specs.declared.entities.EntityKind.TheVariants as entity
 use Rattle.ada_regions.specs.Words.{and_then, or_else}
 use Rattle.ada_regions.specs.PredefinedUnits.{root_unit, child_unit, same_unit}
 use Rattle.ada_regions.specs.Occurrences.{Region, the_context, the_context_of, further_context, package_region, package_body, main_body, a_profile, subprogram_body, a_unit, task_body, protected_body, entry_body, an_accept, a_block, a_loop, a_record}
-use Rattle.ada_regions.specs.Names.{Names, Frame, PackageContext, no_frame, innermost_frame, frames_outside, region_here, scope_in, kind_at, region_of_entity, entity_denoted, denoted_by, noted, last_part}
+use Rattle.ada_regions.specs.Names.{Names, Frame, PackageContext, no_frame, innermost_frame, frames_outside, opened, region_here, scope_in, kind_at, region_of_entity, entity_denoted, denoted_by, noted, last_part}
 use Rattle.ada_regions.specs.SelectedNames.{name_resolved}
 use Rattle.ada_regions.specs.Declaring.{library_frame, type_of_kind}
 use Rattle.ada_regions.specs.Completions.{entity_bound, holds_of, is_task_type, is_protected_type, body_begun, body_apart, components_of}
 
 -- ---- frames
-
-abbrev pub opened : Frame → Names → Names
-opened f n = record n { frames = f ∷ n.frames }
 
 -- a region that begins for the first time
 abbrev pub opened_new : Frame → Names → Names
@@ -38,7 +38,7 @@ abbrev pub next_scope : Names → Option ℕ
 next_scope n = Some (length n.scopes)
 
 abbrev pub frame_with_scope : Option ℕ → Option ℕ → Option (List ℕ) → Frame
-frame_with_scope scope e name = record { region = 0; owner = e; scope = scope; is_accept = false; name = name; exports = false; components = None }
+frame_with_scope scope e name = record { region = 0; owner = e; scope = scope; is_accept = false; name = name; exports = false; components = None; part = 0 }
 
 -- a construct with a region and a scope of its own
 abbrev pub scope_begun : Place → Bool → Option ℕ → Option (List ℕ) → Names → Names
@@ -64,7 +64,7 @@ context_again None n = opened_new no_frame (record n { withs = [] })
 context_again (Some c) n = opened (record no_frame { region = c.region }) (record n { withs = c.withs })
 
 abbrev pub frame_of_package : ℕ → Identifier → Bool → ℕ → Frame
-frame_of_package e i exports region = record { region = region; owner = Some e; scope = None; is_accept = false; name = Some i.text; exports = exports; components = None }
+frame_of_package e i exports region = record { region = region; owner = Some e; scope = None; is_accept = false; name = Some i.text; exports = exports; components = None; part = 0 }
 
 abbrev pub with_context : ℕ → Names → Names
 with_context e n = record n { contexts = record { of_package = e; region = region_here n; withs = n.withs } ∷ n.contexts }
@@ -85,11 +85,11 @@ package_body_begun (Some e) i n = package_opened e i false (region_of_entity n e
 
 abbrev pub unit_frame : ℕ → Identifier → Option AdaType → ℕ → Frame
 unit_frame e i t region =
-    record { region = region; owner = Some e; scope = None; is_accept = false; name = Some i.text; exports = true; components = components_of t }
+    record { region = region; owner = Some e; scope = None; is_accept = false; name = Some i.text; exports = true; components = components_of t; part = 0 }
 
 abbrev pub record_frame : Identifier → Option AdaType → ℕ → Frame
 record_frame i t region =
-    record { region = region; owner = None; scope = None; is_accept = false; name = Some i.text; exports = true; components = components_of t }
+    record { region = region; owner = None; scope = None; is_accept = false; name = Some i.text; exports = true; components = components_of t; part = 0 }
 
 abbrev pub type_at : Names → Option ℕ → Option AdaType
 type_at n e = and_then e (λ x. and_then (kind_at n x) type_of_kind)
@@ -114,7 +114,7 @@ record_begun e i n = opened_if (option_map (record_frame i (type_at n e)) (regio
 -- ---- accepts, blocks, loops
 
 abbrev pub accept_frame : Option ℕ → Option ℕ → Frame
-accept_frame scope e = record { region = 0; owner = e; scope = scope; is_accept = true; name = None; exports = false; components = None }
+accept_frame scope e = record { region = 0; owner = e; scope = scope; is_accept = true; name = None; exports = false; components = None; part = 0 }
 
 abbrev pub label_entity : Names → Option Identifier → Option ℕ
 label_entity n label = and_then label (λ l. entity_denoted n l.place)
@@ -123,7 +123,7 @@ abbrev pub label_text : Option Identifier → Option (List ℕ)
 label_text label = option_map (λ l. l.text) label
 
 abbrev pub loop_frame : Option ℕ → Frame
-loop_frame e = record { region = 0; owner = e; scope = None; is_accept = false; name = None; exports = false; components = None }
+loop_frame e = record { region = 0; owner = e; scope = None; is_accept = false; name = None; exports = false; components = None; part = 0 }
 
 abbrev pub is_entry : EntityKind → Bool
 is_entry (entity.Entry number unit formals) = true
@@ -131,6 +131,18 @@ is_entry _ = false
 
 abbrev pub entry_owner : Names → Option ℕ → Option ℕ
 entry_owner n e = and_then e (λ x. cond (holds_of is_entry (kind_at n x)) (Some x) None)
+
+abbrev pub entry_number : EntityKind → Option EntryNo
+entry_number (entity.Entry number unit formals) = Some number
+entry_number _ = None
+
+abbrev pub entry_body_numbered : Expression → Names → Option EntryNo → Names
+entry_body_numbered barrier n None = n
+entry_body_numbered barrier n (Some number) =
+    record n { entries = edit_at number.0 (λ e. record e { body = Some (record { barrier = barrier; scope = length n.scopes }) }) n.entries }
+
+abbrev pub entry_body_begun : Option ℕ → Place → Expression → Names → Names
+entry_body_begun e place barrier n = scope_begun place false e None (entry_body_numbered barrier n (and_then e (λ x. and_then (kind_at n x) entry_number)))
 
 -- ---- all regions
 
@@ -146,7 +158,7 @@ begun (subprogram_body place is_function) n = scope_begun place is_function None
 begun (a_unit i) n = unit_begun (entity_denoted n i.place) i n
 begun (task_body i place) n = body_begun is_task_type i (next_scope n) (with_scope place false false n)
 begun (protected_body i) n = body_begun is_protected_type i None n
-begun (entry_body i place) n = scope_begun place false (entry_owner n (entity_denoted n i.place)) None n
+begun (entry_body i place barrier) n = entry_body_begun (entry_owner n (entity_denoted n i.place)) place barrier n
 begun (an_accept i place) n = opened_new (accept_frame (next_scope n) (entity_denoted n i.place)) (with_scope place false true n)
 begun (a_block label place) n = scope_begun place false (label_entity n label) (label_text label) n
 begun (a_loop label) n = opened_new (loop_frame (label_entity n label)) n

@@ -36,9 +36,9 @@ region_of_type n types.Timer = None
 region_of_type n types.GroupBudget = None
 region_of_type n types.LimitedControlled = None
 region_of_type n types.Controlled = None
-region_of_type n (types.Derived c) = slice_get n.controlled_types c.0
-region_of_type n (types.Task u) = slice_get n.task_units u.0
-region_of_type n (types.Protected u) = slice_get n.protected_units u.0
+region_of_type n (types.Derived c) = option_map (λ x. x.region) (slice_get n.controlled_types c.0)
+region_of_type n (types.Task u) = option_map (λ x. x.region) (slice_get n.task_units u.0)
+region_of_type n (types.Protected u) = option_map (λ x. x.region) (slice_get n.protected_units u.0)
 
 abbrev pub region_of_subtype : Names → Option Subtype → Option ℕ
 region_of_subtype n s = and_then s (λ t. region_of_type n t.of_type)

@@ -1,6 +1,7 @@
 //! Declared entities, and what names denote (ISO/IEC 8652:2012, 3.1, 8.6).
 use crate::predefined::{Predefined, PredefinedUnit};
 use crate::types::{Formal, Mode, Subtype};
+use ann_base::Place;
 use profile_machine::{
     ControlledNo, DeclNo, EntryNo, EntryUnit, EnumerationNo, ProtectedUnitNo, Sequence,
     SubprogramNo, Value,
@@ -109,6 +110,8 @@ pub enum EntityKind {
 /// An entity that the source declares.
 #[derive(Drop)]
 pub struct Entity {
+    /// Where its defining name stands.
+    pub place: Place,
     /// What it is.
     pub kind: EntityKind,
     /// The region of a package, of a task or protected unit, or of a controlled type's components.

@@ -29,7 +29,7 @@ entity_call_put within name arguments (entity.Component s owner declaration) sig
 entity_call_put within name arguments (entity.Exception declaration) signs next = not_built next
 entity_call_put within name arguments (entity.Subprogram number is_function specified formals unit) signs next =
     call_put within name arguments number unit formals destination.Nowhere signs next
-entity_call_put within name arguments (entity.Entry number unit formals) signs next = entry_call_put within name arguments number formals signs next
+entity_call_put within name arguments (entity.Entry number unit formals) signs next = entry_call_put within name arguments number unit formals signs next
 entity_call_put within name arguments entity.Label signs next = not_built next
 
 abbrev pub item_call_put : Within → Predefined → List (Argument Expression) → ℕ → Option StatementNo → Making (Option StatementNo)

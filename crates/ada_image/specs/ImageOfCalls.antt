@@ -19,6 +19,8 @@ use Rattle.profile_machine.specs.declared.numbers.StatementNo.{StatementNo}
 use Rattle.profile_machine.specs.declared.numbers.SubprogramNo.{SubprogramNo}
 use Rattle.profile_machine.specs.declared.numbers.EntryNo.{EntryNo}
 use Rattle.profile_machine.specs.declared.numbers.ProtectedUnitNo.{ProtectedUnitNo}
+use Rattle.profile_machine.specs.declared.declarations.EntryUnit.{EntryUnit}
+use Rattle.profile_machine.specs.declared.declarations.EntryUnit.TheVariants as entry_unit
 use Rattle.profile_machine.specs.declared.expressions.VariableName.{VariableName}
 use Rattle.profile_machine.specs.declared.expressions.ObjectName.TheVariants as object
 use Rattle.profile_machine.specs.declared.statements.Actual.{Actual}
@@ -53,7 +55,7 @@ use Rattle.ada_regions.specs.Names.{Names, denoted_by, kind_at}
 use Rattle.ada_regions.specs.Statics.{subtype_of_name}
 use Rattle.ada_image.specs.Making.{Making, Within, ◌>>=◌, ◌>>◌, pure, action_put}
 use Rattle.ada_image.specs.Layout.{is_thing, subtype_is}
-use Rattle.ada_image.specs.ImageOfExpressions.{ExpressionImage, expression_image, expression_made, signs_in, no_declaration_no, object_before, thing_named, thing_in, kind_named, variable_made, actuals_for, first_argument, no_value}
+use Rattle.ada_image.specs.ImageOfExpressions.{ExpressionImage, expression_image, expression_made, signs_in, no_declaration_no, object_before, named_before, thing_named, thing_in, kind_named, variable_made, actuals_for, first_argument, no_value}
 
 -- ---- variables that statements name: an object, or an element of an array
 
@@ -137,9 +139,14 @@ abbrev pub callee_of : Within → Name → SubprogramNo → Option ProtectedUnit
 callee_of within name number None = callee.Subprogram number
 callee_of within name number (Some u) = operation_called number (object_before within name)
 
-abbrev pub owner_of_entry : Option DeclNo → EntryOwner
-owner_of_entry None = entry_owner.Own
-owner_of_entry (Some d) = entry_owner.Object d
+abbrev pub owner_before : Option DeclNo → EntryOwner
+owner_before None = entry_owner.Own
+owner_before (Some d) = entry_owner.Object d
+
+-- a task is named by its object inside its body too
+abbrev pub owner_of_entry : Within → Name → EntryUnit → EntryOwner
+owner_of_entry within name (entry_unit.Task u) = owner_before (named_before within name)
+owner_of_entry within name (entry_unit.Protected u) = owner_before (object_before within name)
 
 -- a call of a declared subprogram, with where its result goes
 abbrev pub call_put : Within → Name → List (Argument Expression) → SubprogramNo → Option ProtectedUnitNo → List Formal → Destination → ℕ → Option StatementNo → Making (Option StatementNo)
@@ -147,10 +154,10 @@ call_put within name arguments number unit formals d signs next = do
   actuals ← arguments_made within formals arguments
   action_put (action.Call (callee_of within name number unit) actuals d) signs next
 
-abbrev pub entry_call_put : Within → Name → List (Argument Expression) → EntryNo → List Formal → ℕ → Option StatementNo → Making (Option StatementNo)
-entry_call_put within name arguments number formals signs next = do
+abbrev pub entry_call_put : Within → Name → List (Argument Expression) → EntryNo → EntryUnit → List Formal → ℕ → Option StatementNo → Making (Option StatementNo)
+entry_call_put within name arguments number unit formals signs next = do
   actuals ← arguments_made within formals arguments
-  action_put (action.EntryCall number (owner_of_entry (object_before within name)) actuals) signs next
+  action_put (action.EntryCall number (owner_of_entry within name unit) actuals) signs next
 
 -- ---- the call of a user function that stands alone as a value (this profile's rule)
 

@@ -142,6 +142,11 @@ object_outside within e = cond (is_around within e) None (and_then (kind_at with
 abbrev pub object_before : Within → Name → Option DeclNo
 object_before within name = and_then (prefix_part name) (λ i. and_then (entity_denoted within.names i.place) (object_outside within))
 
+-- the same, where the unit counts too
+abbrev pub named_before : Within → Name → Option DeclNo
+named_before within name =
+    and_then (prefix_part name) (λ i. and_then (entity_denoted within.names i.place) (λ e. and_then (kind_at within.names e) object_number))
+
 abbrev pub no_declaration_no : DeclNo
 no_declaration_no = record { 0 = 0 }
 

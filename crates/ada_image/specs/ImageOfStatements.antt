@@ -44,6 +44,8 @@ use Rattle.ada_tree.specs.declared.selects.Alternative.TheVariants as alternativ
 use Rattle.ada_tree.specs.declared.selects.Trigger.{Trigger}
 use Rattle.ada_tree.specs.declared.selects.Trigger.TheVariants as trigger
 use Rattle.profile_machine.specs.declared.numbers.EntryNo.{EntryNo}
+use Rattle.profile_machine.specs.declared.declarations.EntryUnit.{EntryUnit}
+use Rattle.profile_machine.specs.declared.declarations.EntryUnit.TheVariants as entry_unit
 use Rattle.profile_machine.specs.declared.statements.SelectAlternative.{SelectAlternative as GuardedAlternative}
 use Rattle.profile_machine.specs.declared.statements.SelectKind.{SelectKind}
 use Rattle.profile_machine.specs.declared.statements.SelectKind.TheVariants as select_kind
@@ -77,7 +79,7 @@ use Rattle.ada_regions.specs.Names.{Names, NumberedScope, denoted_by, kind_at, e
 use Rattle.ada_regions.specs.Statics.{static_value, subtype_of_name}
 use Rattle.ada_image.specs.Making.{Making, Within, OpenLoop, ◌>>=◌, ◌>>◌, pure, action_put, reserved, put_at, first_put, the_action, in_loop, in_construct, in_scope, in_handler}
 use Rattle.ada_image.specs.Layout.{is_array, is_kept, subtype_is, scope_no}
-use Rattle.ada_image.specs.ImageOfExpressions.{expression_made, signs_in, signs_if, no_declaration_no, object_named, thing_named, thing_in, expression_image, object_before}
+use Rattle.ada_image.specs.ImageOfExpressions.{expression_made, signs_in, signs_if, no_declaration_no, object_named, thing_named, thing_in, expression_image, kind_named}
 use Rattle.ada_image.specs.ImageOfCalls.{target_made, FunctionCall, function_call, function_call_put, owner_of_entry}
 use Rattle.ada_image.specs.CallStatements.{call_statement_put, signs_in_actuals}
 
@@ -250,9 +252,19 @@ entry_at within place = unwrap_or (and_then (entity_denoted within.names place) 
 abbrev pub abort_put : Within → OneOrMore Name → Option StatementNo → Making (Option StatementNo)
 abort_put within tasks next = action_put (action.Abort (thing_named within tasks.first ∷ map (thing_named within) tasks.others)) 0 next
 
+abbrev pub unit_of_kind : EntityKind → Option EntryUnit
+unit_of_kind (entity.Entry number unit formals) = Some unit
+unit_of_kind _ = None
+
+abbrev pub no_unit : EntryUnit
+no_unit = entry_unit.Task (record { 0 = 0 })
+
+abbrev pub unit_of_entry : Within → Name → EntryUnit
+unit_of_entry within name = unwrap_or (and_then (kind_named within name) unit_of_kind) no_unit
+
 abbrev pub requeue_put : Within → Name → Bool → Option StatementNo → Making (Option StatementNo)
 requeue_put within name with_abort next =
-    action_put (action.Requeue (entry_at within (last_part name).place) (owner_of_entry (object_before within name)) with_abort) 0 next
+    action_put (action.Requeue (entry_at within (last_part name).place) (owner_of_entry within name (unit_of_entry within name)) with_abort) 0 next
 
 abbrev pub guard_of : Option Guard → Option Expression
 guard_of guard = option_map (λ g. g.condition) guard

@@ -149,8 +149,8 @@ abbrev pub attached_interrupt : Names → ℕ → NumberedSubprogram → Option 
 attached_interrupt n u s = cond (is_operation_of u s.unit) (static_aspect n (codes "attach_handler") s.aspects) None
 
 abbrev pub inserted_if : Option ℕ → ℕ → List Attachment → List Attachment
-inserted_if None number as = as
-inserted_if (Some interrupt) number as = inserted (record { interrupt = interrupt; handler = subprogram_no number }) as
+inserted_if None number attached = attached
+inserted_if (Some interrupt) number attached = inserted (record { interrupt = interrupt; handler = subprogram_no number }) attached
 
 abbrev pub attachments_from : Names → ℕ → ℕ → List NumberedSubprogram → List Attachment
 attachments_from n u number [] = []
@@ -162,7 +162,7 @@ attachments_of n u = attachments_from n u 0 n.subprograms
 -- without an aspect the ceiling is the last Priority, and the one above where a handler is attached (this profile's)
 abbrev pub default_ceiling : ℕ → List Attachment → ℕ
 default_ceiling last [] = last
-default_ceiling last (a ∷ as) = suc last
+default_ceiling last (a ∷ rest) = suc last
 
 abbrev pub protected_unit_made : Names → ℕ → NumberedProtected → ProtectedUnit
 protected_unit_made n number p = record {

@@ -409,7 +409,7 @@ class Parser:
             r = self.m.names.get(parts[0]) or (("builtin", parts[0]) if parts[0] in B else ALL.get(parts[0]))
             if r is None and parts[0][0].isupper(): return self.apply("None", args)
             if r is None: raise NameError(f"{name} in {self.m.name}")
-            if r[0] == "def" and r[1] is self.m and parts[0] in self.m.sections and all(q in env for q in self.m.sections[parts[0]]) and self.inside == self.m.sections[parts[0]]:
+            if r[0] == "def" and r[1] is self.m and parts[0] in self.m.sections and self.inside[:len(self.m.sections[parts[0]])] == self.m.sections[parts[0]]:
                 args = [mang(q) for q in self.m.sections[parts[0]]] + args
             if len(parts) == 1 and r[0] == "builtin":
                 b = B[r[1]]

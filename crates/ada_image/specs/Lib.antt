@@ -10,3 +10,6 @@ pub mod ImageOfDeclarations
 pub mod UnitsOfImage
 pub mod PoliciesOfImage
 pub mod ImageOfUnits
+pub mod ReadExpressions
+pub mod ReadStatements
+pub mod NothingLost

@@ -48,6 +48,10 @@ def _flat(f, l):
     out = ()
     for x in l: out += ap(f, x)
     return out
+def _position(f, l):
+    for i, x in enumerate(l):
+        if ap(f, x): return SOME(i)
+    return NONE
 B = {
  "pos": (1, lambda n: n), "negsuc": (1, lambda n: -n-1), "suc": (1, lambda n: n+1), "zero": 0,
  "true": True, "false": False, "not": (1, lambda b: not b), "length": (1, len),
@@ -66,7 +70,7 @@ B = {
  "option_and_then": (2, lambda f, o: o if o.n == "None" else ap(f, o.a[0])),
  "list_any": (2, lambda f, l: any(ap(f, x) for x in l)), "list_all": (2, lambda f, l: all(ap(f, x) for x in l)),
  "flat_map": (2, _flat), "cond": (3, lambda c, a, b: a if c else b),
- "slice_get": (2, lambda l, n: SOME(l[n]) if n < len(l) else NONE),
+ "position": (2, _position), "slice_get": (2, lambda l, n: SOME(l[n]) if n < len(l) else NONE),
  "bytes_eq": (2, lambda a, b: a == b), "unwrap_or": (2, lambda o, d: o.a[0] if o.n == "Some" else d),
  "whole_of": (1, lambda t: _digits(bytes(t).partition(b".")[0])), "decimals_of": (1, lambda t: tuple(bytes(t).partition(b".")[2])),
  "value_of": (1, lambda t: _digits(bytes(t))),

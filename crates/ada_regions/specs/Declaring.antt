@@ -1,5 +1,6 @@
 -- Declarations (3.1, 8.1, 8.3): what a declaration binds in its region, and what entity it declares.
-use Rattle.std.specs.Prelude.{ℕ, suc, ◌+◌, ◌-◌, Bool, true, false, cond, not, ◌&&◌, ◌||◌, List, [], ◌∷◌, ◌++◌, Option, Some, None, is_some, length, map, option_map}
+use Rattle.std.specs.Prelude.{ℕ, suc, ◌+◌, ◌-◌, Bool, true, false, cond, not, ◌&&◌, ◌||◌, List, [], ◌∷◌, ◌++◌, Option, Some, None, is_some, length, map, option_map, unwrap_or, slice_get, position}
+use Rattle.std.specs.Str.{bytes_eq}
 use Rattle.ann_base.specs.declared.places.Place.{Place}
 use Rattle.ada_tree.specs.declared.names.Identifier.{Identifier}
 use Rattle.ada_tree.specs.declared.names.OneOrMore.{OneOrMore}
@@ -166,6 +167,16 @@ enumeration_declared i literals n =
     entered_here i (entity.Mark (Some (enumeration_subtype (next_enumeration n) literals))) None
     (record n { enumerations = n.enumerations ++ map (λ l. l.text) (all_of literals) ∷ [] })
 
+-- a literal's position is that of its name in the list
+abbrev pub newest_literals : Names → List (List ℕ)
+newest_literals n = unwrap_or (slice_get n.enumerations (newest_enumeration n).0) []
+
+abbrev pub position_of_literal : Names → List ℕ → ℕ
+position_of_literal n name = unwrap_or (position (bytes_eq name) (newest_literals n)) 0
+
+abbrev pub literal_declared : Identifier → Names → Names
+literal_declared i n = entered_here i (entity.Literal (newest_enumeration n) (position_of_literal n i.text)) None n
+
 abbrev pub array_declared : Identifier → Expression → Expression → SubtypeIndication → Names → Names
 array_declared i low high component n =
     entered_here i (entity.Mark (Some (record { of_type = types.Array (length n.arrays); range = constraint.Free }))) None
@@ -290,7 +301,7 @@ declared i (a_component c) n = component_declared i c n
 declared i (a_parameter with_cells p) n = parameter_declared with_cells i p n
 declared i a_loop_parameter n = loop_parameter_declared i n
 declared i (an_enumeration literals) n = enumeration_declared i literals n
-declared i (a_literal position) n = entered_here i (entity.Literal (newest_enumeration n) position) None n
+declared i a_literal n = literal_declared i n
 declared i (an_array low high component) n = array_declared i low high component n
 declared i (a_derived_type parent) n = derived_declared i parent n
 declared i (a_subtype m) n = subtype_declared i m n

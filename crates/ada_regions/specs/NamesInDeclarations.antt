@@ -1,5 +1,5 @@
 -- The names in declarations and bodies (clauses 3, 6, 9, 11), in the order of the text.
-use Rattle.std.specs.Prelude.{ℕ, suc, Bool, true, false, List, [], ◌∷◌, ◌++◌, Option, Some, None, is_some}
+use Rattle.std.specs.Prelude.{Bool, true, false, List, [], ◌∷◌, ◌++◌, Option, Some, None, is_some}
 use Rattle.std.specs.List.{flat_map}
 use Rattle.ann_base.specs.declared.places.Place.{Place}
 use Rattle.ada_tree.specs.declared.names.Identifier.{Identifier}
@@ -40,14 +40,9 @@ abbrev pub names_in_component : Component → Occurrences
 names_in_component c =
     hides_all c.names ++ (names_in_indication c.subtype ++ (if_there names_in_expression c.initial ++ declares_all (a_component c) c.names))
 
--- enumeration literals from this position on (3.5.1)
-abbrev pub literals_from : ℕ → List Identifier → Occurrences
-literals_from position [] = []
-literals_from position (i ∷ rest) = declares i (a_literal position) ∷ literals_from (suc position) rest
-
 abbrev pub names_in_definition : Identifier → TypeDefinition → Occurrences
 names_in_definition name (definition.Enumeration literals) =
-    declares name (an_enumeration literals) ∷ literals_from 0 (literals.first ∷ literals.others)
+    declares name (an_enumeration literals) ∷ declares_all a_literal literals
 names_in_definition name (definition.Array low high component) =
     hides name ∷ (names_in_expression low ++ (names_in_expression high ++ (names_in_indication component ++ one (declares name (an_array low high component)))))
 names_in_definition name (definition.Derived parent components) =

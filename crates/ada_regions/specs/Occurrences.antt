@@ -24,8 +24,8 @@ pub data Declared : Type 0 where
   a_parameter : Bool → Parameter → Declared
   a_loop_parameter : Declared
   an_enumeration : OneOrMore Identifier → Declared
-  -- of the newest enumeration type, by its position
-  a_literal : ℕ → Declared
+  -- of the newest enumeration type
+  a_literal : Declared
   an_array : Expression → Expression → SubtypeIndication → Declared
   a_derived_type : Name → Declared
   a_subtype : SubtypeIndication → Declared

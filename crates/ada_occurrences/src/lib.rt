@@ -3,6 +3,8 @@
 
 mod expressions;
 mod listener;
+mod selects;
+mod statements;
 mod telling;
 
 pub use listener::Listener;

@@ -19,6 +19,27 @@ pub(crate) trait Tell {
         ensures { OnOk result (L.told listener.new ≡ L.told listener.old ++ names self.now) };
 }
 
+/// What is a sequence of statements (5.1, 3.11): it tells its declarations, the labels of its statements, and its
+/// statements with their handlers apart.
+pub(crate) trait TellSequence {
+    ghost use Rattle.std.specs.Prelude.{◌≡◌, ◌++◌, OnOk};
+    ghost use Rattle.ada_regions.specs.Occurrences.{SequenceNames};
+
+    ghost names_in: { Self → SequenceNames };
+
+    /// Tells its declarations.
+    fn tell_declarations<L: Listener>(&self, listener: &mut L) -> Result<(), NoMemory>
+        ensures { OnOk result (L.told listener.new ≡ L.told listener.old ++ (names_in self.now).declarations) };
+
+    /// Declares the labels of its statements.
+    fn tell_labels<L: Listener>(&self, listener: &mut L) -> Result<(), NoMemory>
+        ensures { OnOk result (L.told listener.new ≡ L.told listener.old ++ (names_in self.now).labels) };
+
+    /// Tells its statements and handlers.
+    fn tell_statements<L: Listener>(&self, listener: &mut L) -> Result<(), NoMemory>
+        ensures { OnOk result (L.told listener.new ≡ L.told listener.old ++ (names_in self.now).statements) };
+}
+
 /// Items one behind another.
 pub(crate) fn tell_each<T: Tell, L: Listener>(
     listener: &mut L,

@@ -9,6 +9,9 @@ use Rattle.ada_tree.specs.declared.expressions.ExpressionForm.TheVariants as for
 use Rattle.ada_regions.specs.Occurrences.{Occurrences}
 use Rattle.ada_regions.specs.NamesInExpressions.{names_in_form, same_names, names_layer, names_in_expression}
 
+pub both : {a b c d : Occurrences} → a ≡ c → b ≡ d → a ++ b ≡ c ++ d
+both p q = rw (p, q) refl
+
 -- each item of a list that was mapped
 pub flat_of_map : {X Y : Type 0} (w : Y → Occurrences) (g : X → Y) (v : X → Occurrences) (same : (x : X) → w (g x) ≡ v x) (xs : List X) → flat_map w (map g xs) ≡ flat_map v xs
 flat_of_map w g v same [] = refl

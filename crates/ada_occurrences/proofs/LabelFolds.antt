@@ -1,6 +1,5 @@
 -- The labels that a statement declares, in a layer in which each sequence was replaced by what it tells.
-use Rattle.std.proofs.Common.{◌≡◌, Bool, true, false, List, [], ◌∷◌, ◌++◌, Option, Some, None, map, refl, ◌∙◌, ap}
-use Rattle.std.specs.List.{flat_map}
+use Rattle.std.proofs.Common.{◌≡◌, [], ◌++◌, Option, Some, None, map, refl, ap}
 use Rattle.ann_base.specs.declared.places.Place.{Place}
 use Rattle.ada_tree.specs.declared.names.OneOrMore.{OneOrMore}
 use Rattle.ada_tree.specs.declared.statements.Sequence.{Sequence}
@@ -19,7 +18,7 @@ use Rattle.ada_tree.specs.declared.selects.SelectAlternative.{SelectAlternative}
 use Rattle.ada_tree.specs.declared.selects.Alternative.{Alternative}
 use Rattle.ada_tree.specs.declared.selects.Alternative.TheVariants as alternative
 use Rattle.ada_tree.proofs.Mapped.{mapped_statement, mapped_alternative}
-use Rattle.ada_regions.specs.Occurrences.{Occurrences, SequenceNames, in_all, if_there}
+use Rattle.ada_regions.specs.Occurrences.{Occurrences, SequenceNames, in_all}
 use Rattle.ada_regions.specs.NamesInUnits.{same_sequence}
 use Rattle.ada_regions.specs.NamesInStatements.{labels_in, labels_in_select_alternative, labels_in_statement}
 use Rattle.ada_occurrences.proofs.ExpressionFolds.{flat_of_map, both}

@@ -1,17 +1,16 @@
 -- What the fold over a sequence gives at its parts.
-use Rattle.std.proofs.Common.{◌≡◌, List, [], ◌∷◌, ◌++◌, map, refl, ◌∙◌, ap}
+use Rattle.std.proofs.Common.{◌≡◌, refl, ◌∙◌}
 use Rattle.std.specs.List.{flat_map}
 use Rattle.ada_tree.specs.declared.statements.Sequence.{Sequence}
 use Rattle.ada_tree.specs.declared.statements.Sequence.TheViews.{out-Sequence}
 use Rattle.ada_tree.specs.declared.statements.Sequence.TheFolds.{fold_out-Sequence}
 use Rattle.ada_tree.specs.declared.statements.SequenceParts.{SequenceParts}
-use Rattle.ada_tree.specs.declared.statements.Handler.{Handler}
 use Rattle.ada_tree.specs.declared.declarations.OperationBody.{OperationBody}
 use Rattle.ada_tree.specs.declared.declarations.OperationBody.TheVariants as body_of
 use Rattle.ada_tree.specs.declared.declarations.Declaration.{Declaration}
 use Rattle.ada_tree.specs.declared.declarations.Declaration.TheVariants as declaration
 use Rattle.ada_tree.proofs.Mapped.{mapped, mapped_statement, mapped_operation, mapped_declaration}
-use Rattle.ada_regions.specs.Occurrences.{Occurrences, SequenceNames, in_all}
+use Rattle.ada_regions.specs.Occurrences.{SequenceNames, in_all}
 use Rattle.ada_regions.specs.NamesInStatements.{names_in_statement, labels_in_statement, names_in_handler, labels_in_handler}
 use Rattle.ada_regions.specs.NamesInDeclarations.{names_in_operation_body, names_in_declaration}
 use Rattle.ada_regions.specs.NamesInUnits.{names_in_parts, same_sequence, sequence_layer, names_in_sequence}

@@ -44,10 +44,7 @@ impl Tell for ObjectDeclaration {
 }
 
 /// Declares the components of a component declaration.
-fn declare_components<L: Listener>(
-    listener: &mut L,
-    component: &Component,
-) -> Result<(), NoMemory>
+fn declare_components<L: Listener>(listener: &mut L, component: &Component) -> Result<(), NoMemory>
     ensures { OnOk result (L.told listener.new ≡ L.told listener.old ++ declares_all (a_component component.now) component.now.names) }
 {
     listener.declare_component(&component.names.first, component)?;

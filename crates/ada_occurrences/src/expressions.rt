@@ -76,7 +76,9 @@ impl<E: Tell> Tell for ExpressionForm<E> {
             | ExpressionForm::Null { .. } => Ok(()),
             ExpressionForm::Bracketed { inner, .. } => inner.tell(listener),
             ExpressionForm::Named {
-                name, arguments, ..
+                name,
+                arguments,
+                ..
             } => {
                 listener.mention(name)?;
                 tell_each(listener, arguments.as_slice())

@@ -59,7 +59,12 @@ pub trait Listener {
         ensures { OnOk result (told self.new ≡ told self.old ++ begins (protected_body name.now) ∷ []) };
 
     /// An entry's body begins (9.5.2).
-    fn begin_entry_body(&mut self, name: &Identifier, place: Place, barrier: &Expression) -> Result<(), NoMemory>
+    fn begin_entry_body(
+        &mut self,
+        name: &Identifier,
+        place: Place,
+        barrier: &Expression,
+    ) -> Result<(), NoMemory>
         ensures { OnOk result (told self.new ≡ told self.old ++ begins (entry_body name.now place barrier.now) ∷ []) };
 
     /// An accept statement begins (9.5.2).
@@ -103,7 +108,11 @@ pub trait Listener {
         ensures { OnOk result (told self.new ≡ told self.old ++ heads name.now ∷ []) };
 
     /// A subprogram's body has its `is` (6.3).
-    fn complete(&mut self, name: &Identifier, specification: &SubprogramSpecification) -> Result<(), NoMemory>
+    fn complete(
+        &mut self,
+        name: &Identifier,
+        specification: &SubprogramSpecification,
+    ) -> Result<(), NoMemory>
         ensures { OnOk result (told self.new ≡ told self.old ++ completes name.now specification.now ∷ []) };
 
     /// The region has this name in expanded names from here on.
@@ -131,15 +140,28 @@ pub trait Listener {
         ensures { OnOk result (told self.new ≡ told self.old ++ use_package name.now ∷ []) };
 
     /// An object is declared (3.3.1).
-    fn declare_object(&mut self, name: &Identifier, object: &ObjectDeclaration) -> Result<(), NoMemory>
+    fn declare_object(
+        &mut self,
+        name: &Identifier,
+        object: &ObjectDeclaration,
+    ) -> Result<(), NoMemory>
         ensures { OnOk result (told self.new ≡ told self.old ++ declares name.now (an_object object.now) ∷ []) };
 
     /// A component is declared (3.8, 9.4).
-    fn declare_component(&mut self, name: &Identifier, component: &Component) -> Result<(), NoMemory>
+    fn declare_component(
+        &mut self,
+        name: &Identifier,
+        component: &Component,
+    ) -> Result<(), NoMemory>
         ensures { OnOk result (told self.new ≡ told self.old ++ declares name.now (a_component component.now) ∷ []) };
 
     /// A parameter is declared (6.1), with cells in the body of a construct.
-    fn declare_parameter(&mut self, name: &Identifier, with_cells: bool, parameter: &Parameter) -> Result<(), NoMemory>
+    fn declare_parameter(
+        &mut self,
+        name: &Identifier,
+        with_cells: bool,
+        parameter: &Parameter,
+    ) -> Result<(), NoMemory>
         ensures { OnOk result (told self.new ≡ told self.old ++ declares name.now (a_parameter with_cells parameter.now) ∷ []) };
 
     /// A loop parameter is declared (5.5).
@@ -147,7 +169,11 @@ pub trait Listener {
         ensures { OnOk result (told self.new ≡ told self.old ++ declares name.now a_loop_parameter ∷ []) };
 
     /// An enumeration type is declared (3.5.1).
-    fn declare_enumeration(&mut self, name: &Identifier, literals: &OneOrMore<Identifier>) -> Result<(), NoMemory>
+    fn declare_enumeration(
+        &mut self,
+        name: &Identifier,
+        literals: &OneOrMore<Identifier>,
+    ) -> Result<(), NoMemory>
         ensures { OnOk result (told self.new ≡ told self.old ++ declares name.now (an_enumeration literals.now) ∷ []) };
 
     /// A literal of the newest enumeration type is declared (3.5.1).
@@ -155,7 +181,13 @@ pub trait Listener {
         ensures { OnOk result (told self.new ≡ told self.old ++ declares name.now a_literal ∷ []) };
 
     /// An array type is declared (3.6).
-    fn declare_array(&mut self, name: &Identifier, low: &Expression, high: &Expression, component: &SubtypeIndication) -> Result<(), NoMemory>
+    fn declare_array(
+        &mut self,
+        name: &Identifier,
+        low: &Expression,
+        high: &Expression,
+        component: &SubtypeIndication,
+    ) -> Result<(), NoMemory>
         ensures { OnOk result (told self.new ≡ told self.old ++ declares name.now (an_array low.now high.now component.now) ∷ []) };
 
     /// A controlled type is declared (3.9.1, 7.6).
@@ -163,7 +195,11 @@ pub trait Listener {
         ensures { OnOk result (told self.new ≡ told self.old ++ declares name.now (a_derived_type parent.now) ∷ []) };
 
     /// A subtype is declared (3.2.2).
-    fn declare_subtype(&mut self, name: &Identifier, subtype: &SubtypeIndication) -> Result<(), NoMemory>
+    fn declare_subtype(
+        &mut self,
+        name: &Identifier,
+        subtype: &SubtypeIndication,
+    ) -> Result<(), NoMemory>
         ensures { OnOk result (told self.new ≡ told self.old ++ declares name.now (a_subtype subtype.now) ∷ []) };
 
     /// An exception is declared (11.1).
@@ -175,7 +211,11 @@ pub trait Listener {
         ensures { OnOk result (told self.new ≡ told self.old ++ declares name.now a_label ∷ []) };
 
     /// A subprogram's declaration is declared (6.1).
-    fn declare_subprogram(&mut self, name: &Identifier, specification: &SubprogramSpecification) -> Result<(), NoMemory>
+    fn declare_subprogram(
+        &mut self,
+        name: &Identifier,
+        specification: &SubprogramSpecification,
+    ) -> Result<(), NoMemory>
         ensures { OnOk result (told self.new ≡ told self.old ++ declares name.now (a_subprogram specification.now) ∷ []) };
 
     /// An entry is declared (9.5.2).
@@ -183,11 +223,21 @@ pub trait Listener {
         ensures { OnOk result (told self.new ≡ told self.old ++ declares name.now (an_entry parameters.now) ∷ []) };
 
     /// A task or a task type is declared (9.1).
-    fn declare_task(&mut self, name: &Identifier, is_type: bool, aspects: &[Aspect]) -> Result<(), NoMemory>
+    fn declare_task(
+        &mut self,
+        name: &Identifier,
+        is_type: bool,
+        aspects: &[Aspect],
+    ) -> Result<(), NoMemory>
         ensures { OnOk result (told self.new ≡ told self.old ++ declares name.now (a_task is_type aspects.now) ∷ []) };
 
     /// A protected object or type is declared (9.4).
-    fn declare_protected(&mut self, name: &Identifier, is_type: bool, aspects: &[Aspect]) -> Result<(), NoMemory>
+    fn declare_protected(
+        &mut self,
+        name: &Identifier,
+        is_type: bool,
+        aspects: &[Aspect],
+    ) -> Result<(), NoMemory>
         ensures { OnOk result (told self.new ≡ told self.old ++ declares name.now (a_protected is_type aspects.now) ∷ []) };
 
     /// A library package is declared (10.1).

@@ -185,10 +185,7 @@ impl Tell for Iteration {
 }
 
 /// The loop that an exit names.
-fn tell_loop_name<L: Listener>(
-    listener: &mut L,
-    name: &Option<Identifier>,
-) -> Result<(), NoMemory>
+fn tell_loop_name<L: Listener>(listener: &mut L, name: &Option<Identifier>) -> Result<(), NoMemory>
     ensures { OnOk result (L.told listener.new ≡ L.told listener.old ++ if_there (λ name. one (mentions_simply name)) name.now) }
 {
     match name {

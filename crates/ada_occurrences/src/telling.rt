@@ -41,10 +41,7 @@ pub(crate) trait TellSequence {
 }
 
 /// Items one behind another.
-pub(crate) fn tell_each<T: Tell, L: Listener>(
-    listener: &mut L,
-    items: &[T],
-) -> Result<(), NoMemory>
+pub(crate) fn tell_each<T: Tell, L: Listener>(listener: &mut L, items: &[T]) -> Result<(), NoMemory>
     ensures { OnOk result (L.told listener.new ≡ L.told listener.old ++ flat_map T.names items.now) }
 {
     for item in items {

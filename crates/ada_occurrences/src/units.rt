@@ -1,7 +1,7 @@
 //! The names in sequences, library units and a source (ISO/IEC 8652:2012, 3.11, 7.1, 7.2, 10.1).
 ghost use Rattle.std.specs.Prelude.{◌≡◌, ◌++◌, ◌∷◌, [], OnOk};
-ghost use Rattle.ada_regions.specs.Occurrences.{in_all, if_there, one};
-ghost use Rattle.ada_regions.specs.NamesInUnits.{clause_with, names_in_private_part, names_in_package_statements, names_in_package_declaration, names_in_package_body, names_in_main, names_in_unit};
+ghost use Rattle.ada_regions.specs.Occurrences.{in_all, if_there, one, within_region, package_region};
+ghost use Rattle.ada_regions.specs.NamesInUnits.{clause_with, names_in_part, names_in_private_part, names_in_package_statements, names_in_package_declaration, names_in_package_body, names_in_main, names_in_unit};
 
 use crate::labels::{TellLabels, tell_labels_of_each};
 use crate::listener::Listener;
@@ -39,16 +39,19 @@ impl TellSequence for Sequence {
 
     ghost names_in = { names_in_sequence };
 
+    #[cycle(sequence)]
     #[tactic(auto, using(crate::proofs::SequenceFolds::sequence_tells))]
     fn tell_declarations<L: Listener>(&self, listener: &mut L) -> Result<(), NoMemory> {
         self.parts.get().tell_declarations(listener)
     }
 
+    #[cycle(sequence)]
     #[tactic(auto, using(crate::proofs::SequenceFolds::sequence_tells))]
     fn tell_labels<L: Listener>(&self, listener: &mut L) -> Result<(), NoMemory> {
         self.parts.get().tell_labels(listener)
     }
 
+    #[cycle(sequence)]
     #[tactic(auto, using(crate::proofs::SequenceFolds::sequence_tells))]
     fn tell_statements<L: Listener>(&self, listener: &mut L) -> Result<(), NoMemory> {
         self.parts.get().tell_statements(listener)
@@ -111,21 +114,31 @@ fn tell_private_part<L: Listener>(
     }
 }
 
+/// The region of a package's declaration (7.1).
+fn tell_package_region<L: Listener>(
+    listener: &mut L,
+    declaration: &PackageDeclaration,
+) -> Result<(), NoMemory>
+    ensures { OnOk result (L.told listener.new ≡ L.told listener.old ++ within_region (package_region declaration.now.name) (names_in_part declaration.now.declarations ++ if_there names_in_private_part declaration.now.private)) }
+{
+    listener.begin_package(&declaration.name)?;
+    declaration.declarations.tell(listener)?;
+    tell_private_part(listener, &declaration.private)?;
+    listener.end()
+}
+
 /// A package's declaration with its context (7.1).
 fn tell_package_declaration<L: Listener>(
     listener: &mut L,
     context: &[ContextClause],
-    package: &PackageDeclaration,
+    declaration: &PackageDeclaration,
 ) -> Result<(), NoMemory>
-    ensures { OnOk result (L.told listener.new ≡ L.told listener.old ++ names_in_package_declaration context.now package.now) }
+    ensures { OnOk result (L.told listener.new ≡ L.told listener.old ++ names_in_package_declaration context.now declaration.now) }
 {
     listener.begin_context()?;
     tell_each(listener, context)?;
-    listener.declare_package(&package.name)?;
-    listener.begin_package(&package.name)?;
-    package.declarations.tell(listener)?;
-    tell_private_part(listener, &package.private)?;
-    listener.end()?;
+    listener.declare_package(&declaration.name)?;
+    tell_package_region(listener, declaration)?;
     listener.end()
 }
 
@@ -146,16 +159,16 @@ fn tell_package_statements<L: Listener>(
 fn tell_package_body<L: Listener>(
     listener: &mut L,
     context: &[ContextClause],
-    package: &PackageBody,
+    body: &PackageBody,
 ) -> Result<(), NoMemory>
-    ensures { OnOk result (L.told listener.new ≡ L.told listener.old ++ names_in_package_body context.now package.now) }
+    ensures { OnOk result (L.told listener.new ≡ L.told listener.old ++ names_in_package_body context.now body.now) }
 {
-    listener.begin_context_of(&package.name)?;
+    listener.begin_context_of(&body.name)?;
     listener.begin_further_context()?;
     tell_each(listener, context)?;
-    listener.begin_package_body(&package.name)?;
-    package.declarations.tell(listener)?;
-    tell_package_statements(listener, &package.sequence)?;
+    listener.begin_package_body(&body.name)?;
+    body.declarations.tell(listener)?;
+    tell_package_statements(listener, &body.sequence)?;
     listener.end()?;
     listener.end()?;
     listener.end()

@@ -1,6 +1,5 @@
 use Rattle.std.proofs.Common.{◌≡◌, ◌++◌, drop}
 use Rattle.std.specs.List.{flat_map}
-
 use Rattle.ada_occurrences.proofs.labels.tell_labels_of_each.Given as goal
 
 abbrev pub invariant-loop-item : goal.invariant-loop-item

@@ -1,0 +1,15 @@
+pub mod Making
+pub mod Layout
+pub mod ImageOfExpressions
+pub mod TypesOfExpressions
+pub mod ImageOfCalls
+pub mod ImageOfProcedures
+pub mod CallStatements
+pub mod ImageOfStatements
+pub mod ImageOfDeclarations
+pub mod UnitsOfImage
+pub mod PoliciesOfImage
+pub mod ImageOfUnits
+pub mod ReadExpressions
+pub mod ReadStatements
+pub mod NothingLost

@@ -1,0 +1,242 @@
+//! The labels that statements declare in the body or block around them (ISO/IEC 8652:2012, 5.1).
+ghost use Rattle.std.specs.Prelude.{◌≡◌, ◌++◌, OnOk};
+ghost use Rattle.std.specs.List.{flat_map};
+ghost use Rattle.ada_regions.specs.Occurrences.{if_there};
+ghost use Rattle.ada_regions.specs.NamesInStatements.{labels_in, declares_label};
+
+use crate::listener::Listener;
+use crate::telling::TellSequence;
+use ada_tree::{
+    Accept, AcceptBody, Alternative, CaseAlternative, Elsif, Handler, If, Label, OneOrMore,
+    SelectAlternative, SelectForm, Statement,
+};
+use ann_base::NoMemory;
+use sqlite_items::Items;
+
+/// What declares labels.
+pub(crate) trait TellLabels {
+    ghost use Rattle.std.specs.Prelude.{◌≡◌, ◌++◌, OnOk};
+    ghost use Rattle.ada_regions.specs.Occurrences.{Occurrences};
+
+    ghost labels: { Self → Occurrences };
+
+    /// Declares them in the order of the text.
+    fn tell_labels<L: Listener>(&self, listener: &mut L) -> Result<(), NoMemory>
+        ensures { OnOk result (L.told listener.new ≡ L.told listener.old ++ labels self.now) };
+}
+
+/// Items one behind another.
+pub(crate) fn tell_labels_of_each<T: TellLabels, L: Listener>(
+    listener: &mut L,
+    items: &[T],
+) -> Result<(), NoMemory>
+    ensures { OnOk result (L.told listener.new ≡ L.told listener.old ++ flat_map T.labels items.now) }
+{
+    for item in items {
+        item.tell_labels(listener)?;
+    }
+    Ok(())
+}
+
+impl<T: TellLabels> TellLabels for Items<T> {
+    ghost use Rattle.std.specs.List.{flat_map};
+
+    ghost labels = { flat_map T.labels };
+
+    fn tell_labels<L: Listener>(&self, listener: &mut L) -> Result<(), NoMemory> {
+        tell_labels_of_each(listener, self.as_slice())
+    }
+}
+
+impl<T: TellLabels> TellLabels for OneOrMore<T> {
+    ghost use Rattle.ada_regions.specs.Occurrences.{in_all};
+
+    ghost labels = { in_all T.labels };
+
+    fn tell_labels<L: Listener>(&self, listener: &mut L) -> Result<(), NoMemory> {
+        self.first.tell_labels(listener)?;
+        self.others.tell_labels(listener)
+    }
+}
+
+impl<T: TellLabels> TellLabels for Option<T> {
+    ghost use Rattle.ada_regions.specs.Occurrences.{if_there};
+
+    ghost labels = { if_there T.labels };
+
+    fn tell_labels<L: Listener>(&self, listener: &mut L) -> Result<(), NoMemory> {
+        match self {
+            None => Ok(()),
+            Some(item) => item.tell_labels(listener),
+        }
+    }
+}
+
+/// The labels of a sequence, where it stands there.
+fn tell_optional_labels<Q: TellSequence, L: Listener>(
+    listener: &mut L,
+    sequence: &Option<Q>,
+) -> Result<(), NoMemory>
+    ensures { OnOk result (L.told listener.new ≡ L.told listener.old ++ if_there (labels_in Q.names_in) sequence.now) }
+{
+    match sequence {
+        None => Ok(()),
+        Some(sequence) => sequence.tell_labels(listener),
+    }
+}
+
+/// The label of a loop or a block.
+fn tell_label<L: Listener>(listener: &mut L, label: &Option<Label>) -> Result<(), NoMemory>
+    ensures { OnOk result (L.told listener.new ≡ L.told listener.old ++ declares_label label.now) }
+{
+    match label {
+        None => Ok(()),
+        Some(label) => listener.declare_label(&label.name),
+    }
+}
+
+impl<Q: TellSequence> TellLabels for Elsif<Q> {
+    ghost use Rattle.ada_regions.specs.NamesInStatements.{labels_in_elsif};
+
+    ghost labels = { labels_in_elsif Q.names_in };
+
+    fn tell_labels<L: Listener>(&self, listener: &mut L) -> Result<(), NoMemory> {
+        self.statements.tell_labels(listener)
+    }
+}
+
+impl<Q: TellSequence> TellLabels for If<Q> {
+    ghost use Rattle.ada_regions.specs.NamesInStatements.{labels_in_if};
+
+    ghost labels = { labels_in_if Q.names_in };
+
+    fn tell_labels<L: Listener>(&self, listener: &mut L) -> Result<(), NoMemory> {
+        self.statements.tell_labels(listener)?;
+        self.elsifs.tell_labels(listener)?;
+        tell_optional_labels(listener, &self.otherwise)
+    }
+}
+
+impl<Q: TellSequence> TellLabels for CaseAlternative<Q> {
+    ghost use Rattle.ada_regions.specs.NamesInStatements.{labels_in_case_alternative};
+
+    ghost labels = { labels_in_case_alternative Q.names_in };
+
+    fn tell_labels<L: Listener>(&self, listener: &mut L) -> Result<(), NoMemory> {
+        self.statements.tell_labels(listener)
+    }
+}
+
+impl<Q: TellSequence> TellLabels for Handler<Q> {
+    ghost use Rattle.ada_regions.specs.NamesInStatements.{labels_in_handler};
+
+    ghost labels = { labels_in_handler Q.names_in };
+
+    fn tell_labels<L: Listener>(&self, listener: &mut L) -> Result<(), NoMemory> {
+        self.statements.tell_labels(listener)
+    }
+}
+
+impl<Q: TellSequence> TellLabels for AcceptBody<Q> {
+    ghost use Rattle.ada_regions.specs.NamesInStatements.{labels_in_accept_body};
+
+    ghost labels = { labels_in_accept_body Q.names_in };
+
+    fn tell_labels<L: Listener>(&self, listener: &mut L) -> Result<(), NoMemory> {
+        self.sequence.tell_labels(listener)
+    }
+}
+
+impl<Q: TellSequence> TellLabels for Accept<Q> {
+    ghost use Rattle.ada_regions.specs.NamesInStatements.{labels_in_accept};
+
+    ghost labels = { labels_in_accept Q.names_in };
+
+    fn tell_labels<L: Listener>(&self, listener: &mut L) -> Result<(), NoMemory> {
+        self.body.tell_labels(listener)
+    }
+}
+
+impl<Q: TellSequence> TellLabels for Alternative<Q> {
+    ghost use Rattle.ada_regions.specs.NamesInStatements.{labels_in_alternative};
+
+    ghost labels = { labels_in_alternative Q.names_in };
+
+    fn tell_labels<L: Listener>(&self, listener: &mut L) -> Result<(), NoMemory> {
+        match self {
+            Alternative::Accept { accept, statements } => {
+                accept.tell_labels(listener)?;
+                tell_optional_labels(listener, statements)
+            }
+            Alternative::Delay { statements, .. } => tell_optional_labels(listener, statements),
+            Alternative::Terminate { .. } => Ok(()),
+        }
+    }
+}
+
+impl<Q: TellSequence> TellLabels for SelectAlternative<Q> {
+    ghost use Rattle.ada_regions.specs.NamesInStatements.{labels_in_select_alternative};
+
+    ghost labels = { labels_in_select_alternative Q.names_in };
+
+    fn tell_labels<L: Listener>(&self, listener: &mut L) -> Result<(), NoMemory> {
+        self.alternative.tell_labels(listener)
+    }
+}
+
+impl<Q: TellSequence> TellLabels for SelectForm<Q> {
+    ghost use Rattle.ada_regions.specs.NamesInStatements.{labels_in_select};
+
+    ghost labels = { labels_in_select Q.names_in };
+
+    fn tell_labels<L: Listener>(&self, listener: &mut L) -> Result<(), NoMemory> {
+        match self {
+            SelectForm::SelectiveAccept(select) => {
+                select.alternatives.tell_labels(listener)?;
+                tell_optional_labels(listener, &select.otherwise)
+            }
+            SelectForm::TimedEntryCall(select) => {
+                tell_optional_labels(listener, &select.statements)?;
+                tell_optional_labels(listener, &select.delay_statements)
+            }
+            SelectForm::ConditionalEntryCall(select) => {
+                tell_optional_labels(listener, &select.statements)?;
+                select.otherwise.tell_labels(listener)
+            }
+            SelectForm::AsynchronousSelect(select) => {
+                tell_optional_labels(listener, &select.statements)?;
+                select.abortable.tell_labels(listener)
+            }
+        }
+    }
+}
+
+/// A statement: its own label, and those of the statements inside that are in no block of their own.
+impl<Q: TellSequence> TellLabels for Statement<Q> {
+    ghost use Rattle.ada_regions.specs.NamesInStatements.{labels_in_statement};
+
+    ghost labels = { labels_in_statement Q.names_in };
+
+    fn tell_labels<L: Listener>(&self, listener: &mut L) -> Result<(), NoMemory> {
+        match self {
+            Statement::If(statement) => statement.tell_labels(listener),
+            Statement::Case(case) => case.alternatives.tell_labels(listener),
+            Statement::Loop(statement) => {
+                tell_label(listener, &statement.label)?;
+                statement.statements.tell_labels(listener)
+            }
+            Statement::Block(block) => tell_label(listener, &block.label),
+            Statement::Accept(accept) => accept.tell_labels(listener),
+            Statement::Select(select) => select.form.tell_labels(listener),
+            Statement::Null { .. }
+            | Statement::Assignment(_)
+            | Statement::Call(_)
+            | Statement::Delay(_)
+            | Statement::Exit(_)
+            | Statement::Return { .. }
+            | Statement::Raise { .. }
+            | Statement::Abort { .. }
+            | Statement::Requeue { .. } => Ok(()),
+        }
+    }
+}

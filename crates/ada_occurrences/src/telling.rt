@@ -1,0 +1,85 @@
+//! Parts of a tree tell the names in them.
+ghost use Rattle.std.specs.Prelude.{◌≡◌, ◌++◌, OnOk};
+ghost use Rattle.std.specs.List.{flat_map};
+
+use crate::listener::Listener;
+use ada_tree::OneOrMore;
+use ann_base::NoMemory;
+use sqlite_items::Items;
+
+/// What tells the names in it.
+pub(crate) trait Tell {
+    ghost use Rattle.std.specs.Prelude.{◌≡◌, ◌++◌, OnOk};
+    ghost use Rattle.ada_regions.specs.Occurrences.{Occurrences};
+
+    ghost names: { Self → Occurrences };
+
+    /// Tells them in the order of the text.
+    fn tell<L: Listener>(&self, listener: &mut L) -> Result<(), NoMemory>
+        ensures { OnOk result (L.told listener.new ≡ L.told listener.old ++ names self.now) };
+}
+
+/// What is a sequence of statements (5.1, 3.11): it tells its declarations, the labels of its statements, and its
+/// statements with their handlers apart.
+pub(crate) trait TellSequence {
+    ghost use Rattle.std.specs.Prelude.{◌≡◌, ◌++◌, OnOk};
+    ghost use Rattle.ada_regions.specs.Occurrences.{SequenceNames};
+
+    ghost names_in: { Self → SequenceNames };
+
+    /// Tells its declarations.
+    fn tell_declarations<L: Listener>(&self, listener: &mut L) -> Result<(), NoMemory>
+        ensures { OnOk result (L.told listener.new ≡ L.told listener.old ++ (names_in self.now).declarations) };
+
+    /// Declares the labels of its statements.
+    fn tell_labels<L: Listener>(&self, listener: &mut L) -> Result<(), NoMemory>
+        ensures { OnOk result (L.told listener.new ≡ L.told listener.old ++ (names_in self.now).labels) };
+
+    /// Tells its statements and handlers.
+    fn tell_statements<L: Listener>(&self, listener: &mut L) -> Result<(), NoMemory>
+        ensures { OnOk result (L.told listener.new ≡ L.told listener.old ++ (names_in self.now).statements) };
+}
+
+/// Items one behind another.
+pub(crate) fn tell_each<T: Tell, L: Listener>(listener: &mut L, items: &[T]) -> Result<(), NoMemory>
+    ensures { OnOk result (L.told listener.new ≡ L.told listener.old ++ flat_map T.names items.now) }
+{
+    for item in items {
+        item.tell(listener)?;
+    }
+    Ok(())
+}
+
+impl<T: Tell> Tell for Items<T> {
+    ghost use Rattle.std.specs.List.{flat_map};
+
+    ghost names = { flat_map T.names };
+
+    fn tell<L: Listener>(&self, listener: &mut L) -> Result<(), NoMemory> {
+        tell_each(listener, self.as_slice())
+    }
+}
+
+impl<T: Tell> Tell for OneOrMore<T> {
+    ghost use Rattle.ada_regions.specs.Occurrences.{in_all};
+
+    ghost names = { in_all T.names };
+
+    fn tell<L: Listener>(&self, listener: &mut L) -> Result<(), NoMemory> {
+        self.first.tell(listener)?;
+        self.others.tell(listener)
+    }
+}
+
+impl<T: Tell> Tell for Option<T> {
+    ghost use Rattle.ada_regions.specs.Occurrences.{if_there};
+
+    ghost names = { if_there T.names };
+
+    fn tell<L: Listener>(&self, listener: &mut L) -> Result<(), NoMemory> {
+        match self {
+            None => Ok(()),
+            Some(item) => item.tell(listener),
+        }
+    }
+}

@@ -1,0 +1,17 @@
+pub mod Words
+pub mod PredefinedUnits
+pub mod Occurrences
+pub mod NamesInExpressions
+pub mod NamesInStatements
+pub mod NamesInDeclarations
+pub mod NamesInUnits
+pub mod Names
+pub mod Statics
+pub mod Subtypes
+pub mod Visibility
+pub mod SelectedNames
+pub mod Declaring
+pub mod Completions
+pub mod Regions
+pub mod Numbered
+pub mod Denoted

@@ -1,0 +1,201 @@
+-- Static expressions (4.9): literals, minus a literal, constants of these, enumeration literals, First and Last. A number
+-- with a point is one of ticks, any other one a whole number.
+use Rattle.std.specs.Prelude.{ℕ, ◌+◌, ◌*◌, ℤ, pos, neg_ℤ, Bool, true, false, cond, List, [], ◌∷◌, ◌++◌, Option, Some, None, take, codes}
+use Rattle.ada_lex.specs.Meaning.{whole_of, decimals_of}
+use Rattle.ada_lex.specs.Shapes.{value_of}
+use Rattle.ada_tree.specs.declared.names.Name.{Name}
+use Rattle.ada_tree.specs.declared.operators.Sign.{Sign}
+use Rattle.ada_tree.specs.declared.operators.Sign.TheVariants as sign
+use Rattle.ada_tree.specs.declared.operators.Attribute.{Attribute}
+use Rattle.ada_tree.specs.declared.operators.Attribute.TheVariants as attribute
+use Rattle.ada_tree.specs.declared.expressions.Expression.{Expression}
+use Rattle.ada_tree.specs.declared.expressions.Expression.TheViews.{out-Expression}
+use Rattle.ada_tree.specs.declared.expressions.ExpressionForm.{ExpressionForm}
+use Rattle.ada_tree.specs.declared.expressions.ExpressionForm.TheVariants as form
+use Rattle.ada_tree.specs.declared.expressions.AttributeDesignator.{AttributeDesignator}
+use Rattle.ada_tree.specs.declared.expressions.Argument.{Argument}
+use Rattle.profile_machine.specs.declared.values.Value.{Value}
+use Rattle.profile_machine.specs.declared.values.Value.TheVariants as value
+use Rattle.profile_machine.specs.declared.values.Constraint.{Constraint}
+use Rattle.profile_machine.specs.declared.values.Constraint.TheVariants as constraint
+use Rattle.ada_regions.specs.declared.types.AdaType.{AdaType}
+use Rattle.ada_regions.specs.declared.types.AdaType.TheVariants as types
+use Rattle.ada_regions.specs.declared.types.Subtype.{Subtype}
+use Rattle.ada_regions.specs.declared.types.ArrayType.{ArrayType}
+use Rattle.ada_regions.specs.declared.predefined.Predefined.{Predefined}
+use Rattle.ada_regions.specs.declared.predefined.Predefined.TheVariants as items
+use Rattle.ada_regions.specs.declared.entities.Denoted.{Denoted}
+use Rattle.ada_regions.specs.declared.entities.Denoted.TheVariants as denotes
+use Rattle.ada_regions.specs.declared.entities.EntityKind.{EntityKind}
+use Rattle.ada_regions.specs.declared.entities.EntityKind.TheVariants as entity
+use Rattle.ada_regions.specs.Words.{and_then, nothing_there}
+use Rattle.ada_regions.specs.Names.{Names, denoted_by, kind_at}
+use Rattle.std.specs.Prelude.{slice_get, option_map}
+
+-- ---- numeric literals (2.4)
+
+-- six decimals, in ticks of a microsecond
+abbrev pub ticks_of : List ℕ → ℤ
+ticks_of literal = pos (whole_of literal * 1000000 + value_of (take 6 (decimals_of literal ++ codes "000000")))
+
+abbrev pub literal_value : List ℕ → Value
+literal_value literal = cond (nothing_there (decimals_of literal)) (value.Whole (pos (whole_of literal))) (value.Ticks (ticks_of literal))
+
+abbrev pub negated : Value → Value
+negated (value.Whole n) = value.Whole (neg_ℤ n)
+negated (value.Truth b) = value.Truth b
+negated (value.Literal n) = value.Literal n
+negated (value.Ticks n) = value.Ticks (neg_ℤ n)
+negated (value.Task t) = value.Task t
+negated (value.Thing n) = value.Thing n
+
+-- the value of a form that is a numeric literal
+abbrev pub literal_of : {E : Type 0} → ExpressionForm E → Option Value
+literal_of (form.Logical operator first others) = None
+literal_of (form.Relational left place operator right) = None
+literal_of (form.Adding first others) = None
+literal_of (form.Signed place s operand) = None
+literal_of (form.Multiplying first others) = None
+literal_of (form.Highest place operator operand) = None
+literal_of (form.Number place literal) = Some (literal_value literal)
+literal_of (form.Text place text) = None
+literal_of (form.Null place) = None
+literal_of (form.Bracketed place inner) = None
+literal_of (form.Named name attribute arguments) = None
+
+-- ---- the ends of ranges (3.5)
+
+abbrev pub low_of : Constraint → Option Value
+low_of constraint.Free = None
+low_of (constraint.Whole low high) = Some (value.Whole low)
+low_of (constraint.Truth low high) = Some (value.Truth low)
+low_of (constraint.Literal low high) = Some (value.Literal low)
+low_of (constraint.Ticks low high) = Some (value.Ticks low)
+
+abbrev pub high_of : Constraint → Option Value
+high_of constraint.Free = None
+high_of (constraint.Whole low high) = Some (value.Whole high)
+high_of (constraint.Truth low high) = Some (value.Truth high)
+high_of (constraint.Literal low high) = Some (value.Literal high)
+high_of (constraint.Ticks low high) = Some (value.Ticks high)
+
+abbrev pub index_or_free : Option ArrayType → Constraint
+index_or_free None = constraint.Free
+index_or_free (Some a) = a.index
+
+-- the range of an array's index, and of any other subtype
+abbrev pub range_of_type : Names → Subtype → AdaType → Constraint
+range_of_type n s types.Integer = s.range
+range_of_type n s types.Boolean = s.range
+range_of_type n s types.Duration = s.range
+range_of_type n s (types.Enumeration e) = s.range
+range_of_type n s (types.Array a) = index_or_free (slice_get n.arrays a)
+range_of_type n s types.Time = constraint.Free
+range_of_type n s types.TimeSpan = constraint.Free
+range_of_type n s types.CpuTime = constraint.Free
+range_of_type n s types.TaskId = constraint.Free
+range_of_type n s types.TimingEvent = constraint.Free
+range_of_type n s types.Timer = constraint.Free
+range_of_type n s types.GroupBudget = constraint.Free
+range_of_type n s types.LimitedControlled = constraint.Free
+range_of_type n s types.Controlled = constraint.Free
+range_of_type n s (types.Derived c) = constraint.Free
+range_of_type n s (types.Task u) = constraint.Free
+range_of_type n s (types.Protected u) = constraint.Free
+
+abbrev pub range_named : Names → Subtype → Constraint
+range_named n s = range_of_type n s s.of_type
+
+-- ---- constants and literals
+
+abbrev pub value_of_kind : EntityKind → Option Value
+value_of_kind entity.Package = None
+value_of_kind entity.Main = None
+value_of_kind (entity.Mark s) = None
+value_of_kind (entity.Literal enumeration position) = Some (value.Literal position)
+value_of_kind (entity.Object s constant value declaration) = value
+value_of_kind (entity.Parameter s mode declaration) = None
+value_of_kind (entity.LoopParameter declaration) = None
+value_of_kind (entity.Component s owner declaration) = None
+value_of_kind (entity.Exception declaration) = None
+value_of_kind (entity.Subprogram number is_function specified formals unit) = None
+value_of_kind (entity.Entry number unit formals) = None
+value_of_kind entity.Label = None
+
+abbrev pub value_of_item : Predefined → Option Value
+value_of_item (items.Mark s) = None
+value_of_item (items.Constant of_type value) = Some value
+value_of_item (items.Truth b) = Some (value.Truth b)
+value_of_item (items.Exception raised) = None
+value_of_item (items.Operation operation) = None
+
+abbrev pub value_denoted : Names → Denoted → Option Value
+value_denoted n (denotes.Entity e) = and_then (kind_at n e) value_of_kind
+value_denoted n (denotes.Unit u) = None
+value_denoted n (denotes.Item u item) = value_of_item item
+
+-- ---- the subtype of what a name denotes (3.5, 3.6.2)
+
+abbrev pub subtype_of_kind : EntityKind → Option Subtype
+subtype_of_kind entity.Package = None
+subtype_of_kind entity.Main = None
+subtype_of_kind (entity.Mark s) = s
+subtype_of_kind (entity.Literal enumeration position) = None
+subtype_of_kind (entity.Object s constant value declaration) = s
+subtype_of_kind (entity.Parameter s mode declaration) = s
+subtype_of_kind (entity.LoopParameter declaration) = None
+subtype_of_kind (entity.Component s owner declaration) = s
+subtype_of_kind (entity.Exception declaration) = None
+subtype_of_kind (entity.Subprogram number is_function specified formals unit) = None
+subtype_of_kind (entity.Entry number unit formals) = None
+subtype_of_kind entity.Label = None
+
+abbrev pub subtype_of_item : Predefined → Option Subtype
+subtype_of_item (items.Mark s) = Some s
+subtype_of_item (items.Constant of_type value) = None
+subtype_of_item (items.Truth b) = None
+subtype_of_item (items.Exception raised) = None
+subtype_of_item (items.Operation operation) = None
+
+abbrev pub subtype_denoted : Names → Denoted → Option Subtype
+subtype_denoted n (denotes.Entity e) = and_then (kind_at n e) subtype_of_kind
+subtype_denoted n (denotes.Unit u) = None
+subtype_denoted n (denotes.Item u item) = subtype_of_item item
+
+abbrev pub subtype_of_name : Names → Name → Option Subtype
+subtype_of_name n name = and_then (denoted_by n name) (subtype_denoted n)
+
+-- ---- names and their attributes
+
+abbrev pub attribute_value : Names → Name → Attribute → Option Value
+attribute_value n name attribute.First = and_then (subtype_of_name n name) (λ s. low_of (range_named n s))
+attribute_value n name attribute.Last = and_then (subtype_of_name n name) (λ s. high_of (range_named n s))
+attribute_value n name attribute.Image = None
+attribute_value n name attribute.Count = None
+attribute_value n name attribute.Identity = None
+attribute_value n name attribute.Access = None
+
+abbrev pub static_name : Names → Name → Option AttributeDesignator → Option Value
+static_name n name None = and_then (denoted_by n name) (value_denoted n)
+static_name n name (Some a) = attribute_value n name a.attribute
+
+abbrev pub signed_literal : Sign → Option Value → Option Value
+signed_literal sign.Plus literal = None
+signed_literal sign.Minus literal = option_map negated literal
+
+abbrev pub static_form : Names → ExpressionForm Expression → Option Value
+static_form n (form.Logical operator first others) = None
+static_form n (form.Relational left place operator right) = None
+static_form n (form.Adding first others) = None
+static_form n (form.Signed place s operand) = signed_literal s (literal_of (out-Expression operand).form)
+static_form n (form.Multiplying first others) = None
+static_form n (form.Highest place operator operand) = None
+static_form n (form.Number place literal) = Some (literal_value literal)
+static_form n (form.Text place text) = None
+static_form n (form.Null place) = None
+static_form n (form.Bracketed place inner) = None
+static_form n (form.Named name attribute arguments) = cond (nothing_there arguments) (static_name n name attribute) None
+
+-- the value of an expression that is static, given what its names denote
+abbrev pub static_value : Names → Expression → Option Value
+static_value n e = static_form n (out-Expression e).form

@@ -1,0 +1,80 @@
+//! Types and subtypes (ISO/IEC 8652:2012, clause 3).
+use profile_machine::{
+    Constraint, ControlledNo, EnumerationNo, ProtectedUnitNo, TaskUnitNo, Text,
+};
+
+/// A type of the profile (3.2).
+#[derive(Clone, Copy, Debug, PartialEq, Eq)]
+pub enum AdaType {
+    /// Integer (3.5.4).
+    Integer,
+    /// Boolean (3.5.3).
+    Boolean,
+    /// Duration (9.6).
+    Duration,
+    /// An enumeration type of the source (3.5.1).
+    Enumeration(EnumerationNo),
+    /// An array type, by its number among the array types of the source (3.6).
+    Array(u32),
+    /// Ada.Real_Time.Time (D.8).
+    Time,
+    /// Ada.Real_Time.Time_Span (D.8).
+    TimeSpan,
+    /// Ada.Execution_Time.CPU_Time (D.14).
+    CpuTime,
+    /// Ada.Task_Identification.Task_Id (C.7.1).
+    TaskId,
+    /// Ada.Real_Time.Timing_Events.Timing_Event (D.15).
+    TimingEvent,
+    /// Ada.Execution_Time.Timers.Timer (D.14.1).
+    Timer,
+    /// Ada.Execution_Time.Group_Budgets.Group_Budget (D.14.2).
+    GroupBudget,
+    /// Ada.Finalization.Limited_Controlled (7.6).
+    LimitedControlled,
+    /// Ada.Finalization.Controlled (7.6).
+    Controlled,
+    /// A controlled type of the source (7.6).
+    Derived(ControlledNo),
+    /// A task type, or the type of a single task (9.1).
+    Task(TaskUnitNo),
+    /// A protected type, or the type of a single protected object (9.4).
+    Protected(ProtectedUnitNo),
+}
+
+/// A type with a range of its values (3.2.2, 3.5).
+#[derive(Clone, Copy, Debug, PartialEq, Eq)]
+pub struct Subtype {
+    /// The type.
+    pub of_type: AdaType,
+    /// The range of a scalar subtype that has one.
+    pub range: Constraint,
+}
+
+/// An array type (3.6).
+#[derive(Clone, Copy, Debug, PartialEq, Eq)]
+pub struct ArrayType {
+    /// The range of its index.
+    pub index: Constraint,
+    /// The subtype of its components; none where the text names no type.
+    pub component: Option<Subtype>,
+}
+
+/// A mode of a formal parameter (6.1).
+#[derive(Clone, Copy, Debug, PartialEq, Eq)]
+pub enum Mode {
+    In,
+    Out,
+    InOut,
+}
+
+/// A formal parameter of a subprogram or an entry (6.1).
+#[derive(Drop)]
+pub struct Formal {
+    /// Its name in lower case.
+    pub name: Text,
+    /// Its mode.
+    pub mode: Mode,
+    /// Its subtype; none where the text names no type.
+    pub subtype: Option<Subtype>,
+}

@@ -131,6 +131,11 @@ unfolding items_due all_due spend_quantum
 finish-waits p now true ticks progress cells s h = instant-waits p now ticks progress cells s h
 finish-waits p now false ticks progress cells s h = refl
 
+pub waits-where : (p : Image) (now : ℕ) (ran : Bool) (ticks : Option ℕ) (progress : Progress) (cells : List ℤ) → IsSimple p → (ran ≡ true → is_done ticks ≡ false) → instant p (world_at p now ran ticks progress cells) ≡ (world_at p now ran ticks progress cells, [])
+unfolding items_due all_due spend_quantum
+waits-where p now true ticks progress cells s h = instant-waits p now ticks progress cells s (h refl)
+waits-where p now false ticks progress cells s h = refl
+
 -- ---- tocks
 
 pub tock-over : (p : Image) (now : ℕ) (ran : Bool) (ticks : Option ℕ) (cells : List ℤ) → tock p (world_at p now ran ticks Over cells) ≡ (world_at p (suc now) false ticks Over cells, map (event_of p) (idle_lines ran))

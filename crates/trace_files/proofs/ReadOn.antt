@@ -1,7 +1,6 @@
 -- How a trace goes on, from the bytes that were read of its next text.
-use Rattle.std.proofs.Common.{◌≡◌, ◌≤◌, ◌<◌, ◌⊎◌, inl, inr, ◌+◌, ◌-◌, ℕ, suc, min, Bool, true, false, List, [], ◌∷◌, Option, Some, None, length, take, drop, IfSome, refl, ap, sym, subst, ◌∙◌, arith}
+use Rattle.std.proofs.Common.{◌≡◌, ◌≤◌, ◌<◌, ◌⊎◌, inl, inr, ◌+◌, ◌-◌, ℕ, suc, true, false, List, [], ◌∷◌, Option, Some, None, length, take, drop, ap, sym, subst, ◌∙◌, arith}
 use Rattle.std.proofs.lemmas.List.{take_all, length-take, drop-take}
-use Rattle.trace_text.specs.declared.events.Event.{Event}
 use Rattle.trace_text.specs.declared.write.TheConstants.{LINE_BYTES}
 use Rattle.trace_reading.specs.Lines.{line_in}
 use Rattle.trace_laws.specs.declared.verdicts.TheConstants.{TRACE_BYTES}
@@ -11,7 +10,7 @@ use Rattle.file_lines.specs.Lines.{to_come, HandsOn}
 use Rattle.trace_files.specs.declared.texts.TraceFile.{TraceFile}
 use Rattle.trace_files.specs.declared.texts.Next.{Next}
 use Rattle.trace_files.specs.declared.texts.Next.TheVariants as next
-use Rattle.trace_files.specs.Texts.{IsLeft, HasLine, HasNone, GoesOn, IsBad, IsTaken, Takes}
+use Rattle.trace_files.specs.Texts.{IsLeft, GoesOn, IsBad, Takes}
 use Rattle.trace_files.proofs.FirstTexts.{first_text, first_line-take, some_of_cut, none_of_cut}
 
 -- the bytes that were read of the first text

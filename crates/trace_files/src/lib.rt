@@ -2,8 +2,14 @@
 #![tactic(auto)]
 
 mod judging;
+mod reporting;
 #[cfg(test)]
 mod tests;
 mod texts;
+mod theorems;
+mod writing;
 
 pub use judging::judge_file;
+pub use reporting::{FileReport, report_file};
+pub use theorems::lines_tell;
+pub use writing::write_report;

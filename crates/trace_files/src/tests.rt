@@ -7,8 +7,7 @@ use std::alloc::{AllocError, Global};
 use std::test::Fail;
 use trace_laws::{Law, Verdict};
 
-const LAWFUL: &str =
-    "0 t0 new main 15\n0 t0 ready 15 tail\n0 t0 run\n9 t0 done\n9 end completed\n";
+const LAWFUL: &str = "0 t0 new main 15\n0 t0 ready 15 tail\n0 t0 run\n9 t0 done\n9 end completed\n";
 
 const WRONG_RUNNER: &str = "0 t0 new main 15\n0 t0 ready 15 tail\n9 t0 done\n9 end completed\n";
 

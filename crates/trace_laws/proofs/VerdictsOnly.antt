@@ -63,11 +63,15 @@ pub record Tested (lines : List Line) : Type 0 where
   pub handlers : follows_handlers lines ≡ true
   pub leaving : follows_leaving lines ≡ true
 
+pub front_formed : (front back : List Line) → follows_form (front ++ back) ≡ true → follows_form front ≡ true
+front_formed front back form =
+    each_by (follows_order 0 (front ++ back)) (follows_lines see_shape is_formed_next no_shape (front ++ back)) (follows_order 0 front) (follows_lines see_shape is_formed_next no_shape front) form
+    (front_order 0 front back) (front_lines see_shape is_formed_next no_shape front back)
+
 pub front_tested : (front back : List Line) → Tested (front ++ back) → answer_of front ≡ Ok tt
 front_tested front back t =
     passes (follows_form front) (follows_dispatch front) (follows_ceilings front) (follows_exclusion front) (follows_handlers front) (follows_leaving front)
-    (each_by (follows_order 0 (front ++ back)) (follows_lines see_shape is_formed_next no_shape (front ++ back)) (follows_order 0 front) (follows_lines see_shape is_formed_next no_shape front) t.form
-    (front_order 0 front back) (front_lines see_shape is_formed_next no_shape front back))
+    (front_formed front back t.form)
     (front_ticks see (λ sight. somebody_eq sight.runner (who_of (head_of sight.queue))) 0 nothing_seen front back t.dispatch)
     (front_lines see_levels is_below_ceiling no_levels front back t.ceilings)
     (front_lines actions_after is_exclusive [] front back t.exclusion)

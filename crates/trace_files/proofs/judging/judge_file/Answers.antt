@@ -1,11 +1,10 @@
-use Rattle.std.proofs.Common.{◌≡◌, ◌∙◌, ◌≤◌, ◌+◌, ℕ, List, Ok, Err, subst, arith}
-use Rattle.outside_bytes.specs.Files.{told, WhereTold, left_of}
+use Rattle.std.proofs.Common.{◌≡◌, ◌∙◌, ◌+◌, arith}
+use Rattle.outside_bytes.specs.Files.{told, left_of}
 use Rattle.trace_laws.specs.declared.verdicts.Verdict.TheVariants as verdict
 use Rattle.trace_laws.specs.Verdicts.{laws_answer}
-use Rattle.trace_files.specs.declared.texts.Next.TheVariants as next
-use Rattle.trace_files.specs.Texts.{IsLeft, GoesOn}
+use Rattle.trace_files.specs.Texts.{IsLeft}
 use Rattle.trace_files.specs.Judged.{Judged, verdict_on}
-use Rattle.trace_files.proofs.JudgedOn.{told_map, judged_first, judged_whole, judged_refused, judged_fault, judged_on}
+use Rattle.trace_files.proofs.JudgedOn.{told_map, judged_first, judged_refused, judged_fault, judged_on}
 use Rattle.trace_files.proofs.judging.judge_file.Goals as goal
 
 pub loop-laws-init : goal.loop-laws-init

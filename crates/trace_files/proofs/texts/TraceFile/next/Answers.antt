@@ -1,8 +1,8 @@
-use Rattle.std.proofs.Common.{◌≡◌, ◌+◌, subst, refl, true, false}
+use Rattle.std.proofs.Common.{◌+◌, subst, refl}
 use Rattle.outside_bytes.specs.Files.{left_of}
 use Rattle.trace_text.specs.declared.write.TheConstants.{LINE_BYTES}
 use Rattle.file_lines.specs.Lines.{to_come, HandsOn}
-use Rattle.trace_files.proofs.ReadOn.{text_taken, nothing_left}
+use Rattle.trace_files.proofs.ReadOn.{text_taken}
 use Rattle.trace_files.proofs.texts.TraceFile.next.Goals as goal
 
 pub returns-clause-next : goal.returns-clause-next

@@ -25,7 +25,6 @@ pub use numbers::{
     ControlledNo, DeclNo, EntryNo, EnumerationNo, ExprNo, ProtectedUnitNo, ScopeNo, StatementNo,
     SubprogramNo, TaskUnitNo,
 };
-
 pub use run_data::{Item, Leaving};
 pub use sequence::Sequence;
 pub use short::{Actuals, SelectAlternatives};

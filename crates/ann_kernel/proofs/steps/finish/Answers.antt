@@ -9,6 +9,6 @@ returns-then-is_over-clause-instant c = λ now. finish-acts c.args.program.now n
 
 pub returns-else-ran-clause-instant : goal.returns-else-ran-clause-instant
 returns-else-ran-clause-instant c = λ now. waits-where c.args.program.now now c.args.ran c.args.ticks_left c.args.progress c.args.cells.now c.requires.simple (λ e. elim c.else-ran.branch [
-    | else-ran-via-then-ran+else-is_over w ↦ sym w.is_over.ensures ∙ w.if-is_over.false
-    | else-ran-via-else-ran w ↦ absurd (false≢true (sym w.if-ran.false ∙ e))
-  ])
+  | else-ran-via-then-ran+else-is_over w ↦ sym w.is_over.ensures ∙ w.if-is_over.false
+  | else-ran-via-else-ran w ↦ absurd (false≢true (sym w.if-ran.false ∙ e))
+])

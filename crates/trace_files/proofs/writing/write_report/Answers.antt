@@ -33,7 +33,7 @@ returns-clause-written g c =
     totals_written c.write_line-2.result (g.K.Sink.held c.args.out.now) (g.K.Sink.held c.loop-place.out) (g.K.Sink.held c.write_line-2.new.out) (accounts_in report) c.loop-place.place (totals_text report.agent_run report.idle report.seen.tick) (text_in report) c.bytes-2.result.now
     end c.loop-place.invariant.text
     (c.bytes-2.ensures.bytes ∙ c.write_totals.ensures ∙ ap (λ xs. xs ++ totals_text c.agent_run.result c.idle.result c.ticks.result) c.clear-2.ensures
-      ∙ ap (λ n. totals_text n c.idle.result c.ticks.result) c.agent_run.ensures.kept ∙ ap (λ n. totals_text report.agent_run n c.ticks.result) c.idle.ensures.kept ∙ ap (λ n. totals_text report.agent_run report.idle n) c.ticks.ensures.kept)
+    ∙ ap (λ n. totals_text n c.idle.result c.ticks.result) c.agent_run.ensures.kept ∙ ap (λ n. totals_text report.agent_run n c.ticks.result) c.idle.ensures.kept ∙ ap (λ n. totals_text report.agent_run report.idle n) c.ticks.ensures.kept)
     c.write_line-2.ensures.written
 
 pub returns-clause-prefix : goal.returns-clause-prefix
@@ -43,5 +43,5 @@ returns-clause-prefix g c =
     totals_cut c.write_line-2.result (g.K.Sink.held c.args.out.now) (g.K.Sink.held c.loop-place.out) (g.K.Sink.held c.write_line-2.new.out) (accounts_in report) c.loop-place.place (totals_text report.agent_run report.idle report.seen.tick) (text_in report) c.bytes-2.result.now
     end c.loop-place.invariant.text
     (c.bytes-2.ensures.bytes ∙ c.write_totals.ensures ∙ ap (λ xs. xs ++ totals_text c.agent_run.result c.idle.result c.ticks.result) c.clear-2.ensures
-      ∙ ap (λ n. totals_text n c.idle.result c.ticks.result) c.agent_run.ensures.kept ∙ ap (λ n. totals_text report.agent_run n c.ticks.result) c.idle.ensures.kept ∙ ap (λ n. totals_text report.agent_run report.idle n) c.ticks.ensures.kept)
+    ∙ ap (λ n. totals_text n c.idle.result c.ticks.result) c.agent_run.ensures.kept ∙ ap (λ n. totals_text report.agent_run n c.ticks.result) c.idle.ensures.kept ∙ ap (λ n. totals_text report.agent_run report.idle n) c.ticks.ensures.kept)
     c.write_line-2.ensures.prefix

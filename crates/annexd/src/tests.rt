@@ -252,7 +252,7 @@ fn each_write_fails_in_turn(rt: HostRuntime) -> Result<(), Fail> {
 }
 
 /// Words that are not asked for; the shelf has a file `source`.
-const REFUSED_WORDS: [&[&[u8]]; 19] = [
+const REFUSED_WORDS: [&[&[u8]]; 21] = [
     &[],
     &[b"run"],
     &[b"accept"],
@@ -272,6 +272,8 @@ const REFUSED_WORDS: [&[&[u8]]; 19] = [
     &[b"rta", b"-source"],
     &[b"demand", b""],
     &[b"demand", b"source", b"source"],
+    &[b"laws"],
+    &[b"report", b"-source"],
 ];
 
 #[test]
@@ -395,6 +397,77 @@ const TABLES: [(&[u8], &[u8], &[u8], &[u8], u8); 6] = [
 fn tables_are_tested(rt: HostRuntime) -> Result<(), Fail> {
     for (test, table, lines, note, status) in TABLES {
         let got = answer(rt.alloc(), &[test, b"source"], table, 5, &[], &[])?;
+        assert_eq!(rt; got.status, status);
+        assert_eq!(rt; got.out.held(), lines);
+        assert_eq!(rt; got.notes.held(), note);
+    }
+    Ok(())
+}
+
+/// Traces with what is asked of them, what is written, the note and the status.
+const TRACES: [(&[u8], &[u8], &[u8], &[u8], u8); 8] = [
+    (
+        b"laws",
+        b"0 t0 new main 15\n0 t0 ready 15 tail\n0 t0 run\n4 t1 new main.hi 20\n6 t2 new main.a 15\n8 t3 new main.b 15\n10 t1 ready 20 tail\n10 t2 ready 15 tail\n10 t3 ready 15 tail\n10 t0 block activation\n10 t1 run\n13 t1 block delay\n13 t2 run\n19 t2 put a\n20 t2 done\n20 t3 run\n21 t0 ready 15 tail\n23 t1 ready 20 tail\n23 t1 run\n27 t1 put hi\n28 t1 done\n28 t3 run\n30 t3 put b\n31 t3 done\n31 t0 run\n33 t0 leave 1 end\n34 t0 left 1\n35 t0 done\n35 end completed\n",
+        b"lawful 29\n",
+        b"",
+        0,
+    ),
+    (
+        b"laws",
+        b"0 t0 new main 15\n0 t0 ready 15 tail\n0 t0 run\n4 t1 new main.hi 20\n6 t2 new main.a 15\n8 t3 new main.b 15\n10 t1 ready 20 tail\n10 t2 ready 15 tail\n10 t3 ready 15 tail\n10 t0 block activation\n10 t1 run\n13 t1 block delay\n13 t3 run\n19 t2 put a\n20 t2 done\n20 t3 run\n21 t0 ready 15 tail\n23 t1 ready 20 tail\n23 t1 run\n27 t1 put hi\n28 t1 done\n28 t3 run\n30 t3 put b\n31 t3 done\n31 t0 run\n33 t0 leave 1 end\n34 t0 left 1\n35 t0 done\n35 end completed\n",
+        b"broken 14 dispatch\n",
+        b"",
+        10,
+    ),
+    (
+        b"laws",
+        b"0 t0 new main 15\n0 t0 ready 15 tail\n0 t0 run\n3 p1 new main.p 9\n5 t0 enter p1 write\n5 t0 ready 20 head\n8 t0 exit p1\n8 t0 ready 15 head\n10 t0 done\n10 end completed\n",
+        b"broken 5 ceiling\n",
+        b"",
+        10,
+    ),
+    (
+        b"laws",
+        b"0 t0 new main 15\n0 t0 ready 15 tail\n0 t0 run\n4 t1 new main.t 10\n6 t1 ready 15 tail\n6 t0 block activation\n6 t1 run\n9 t1 init 1 2 a\n12 t1 init 2 2 b\n13 t0 ready 15 tail\n13 t1 ready 10 head\n13 t0 run\n15 t0 block delay\n15 t1 run\n17 t1 leave 2 end\n19 t1 final 2\n21 t0 ready 15 tail\n21 t0 run\n23 t0 abort t1\n26 t0 leave 1 end\n26 t0 block dependents\n26 t1 run\n35 t1 left 2\n35 t1 done\n35 t0 ready 15 tail\n35 t0 run\n36 t0 left 1\n37 t0 done\n37 end completed\n",
+        b"broken 23 left\n",
+        b"",
+        10,
+    ),
+    (
+        b"laws",
+        b"0 t0 new main 15\n0 t0 new main 15\n",
+        b"",
+        b"trace refused 2\n",
+        11,
+    ),
+    (
+        b"report",
+        b"0 t0 new main 15\n0 t0 ready 15 tail\n0 t0 run\n4 t1 new main.hi 20\n6 t2 new main.a 15\n8 t3 new main.b 15\n10 t1 ready 20 tail\n10 t2 ready 15 tail\n10 t3 ready 15 tail\n10 t0 block activation\n10 t1 run\n13 t1 block delay\n13 t2 run\n19 t2 put a\n20 t2 done\n20 t3 run\n21 t0 ready 15 tail\n23 t1 ready 20 tail\n23 t1 run\n27 t1 put hi\n28 t1 done\n28 t3 run\n30 t3 put b\n31 t3 done\n31 t0 run\n33 t0 leave 1 end\n34 t0 left 1\n35 t0 done\n35 end completed\n",
+        b"t0 main jobs 2 worst 14 sum 24 run 14 preempted 0 lower 0 longest 0\nt1 main.hi jobs 2 worst 5 sum 8 run 8 preempted 0 lower 0 longest 0\nt2 main.a jobs 1 worst 10 sum 10 run 7 preempted 0 lower 0 longest 0\nt3 main.b jobs 1 worst 21 sum 21 run 6 preempted 1 lower 0 longest 0\nagent run 0\nidle 0\nticks 35\n",
+        b"",
+        0,
+    ),
+    (
+        b"report",
+        b"0 t0 new main 15\n0 t0 ready 15 tail\n0 t0 run\n3 t0 block delay\n3 t1 new main.t 10\n3 t1 ready 10 tail\n3 t1 run\n5 p1 new main.p 20\n5 t1 enter p1 write\n5 t1 ready 20 head\n6 t0 ready 15 tail\n9 t1 exit p1\n9 t1 ready 10 head\n9 t0 run\n11 t0 done\n11 t1 run\n12 t1 done\n12 end completed\n",
+        b"t0 main jobs 2 worst 5 sum 8 run 5 preempted 0 lower 3 longest 3\nt1 main.t jobs 1 worst 9 sum 9 run 7 preempted 1 lower 0 longest 0\nagent run 0\nidle 0\nticks 12\n",
+        b"",
+        0,
+    ),
+    (
+        b"report",
+        b"0 t0 new main 15\n0 t0 new main 15\n",
+        b"",
+        b"trace refused 2\n",
+        11,
+    ),
+];
+
+#[test]
+fn traces_are_judged_and_reported(rt: HostRuntime) -> Result<(), Fail> {
+    for (work, trace, lines, note, status) in TRACES {
+        let got = answer(rt.alloc(), &[work, b"source"], trace, 50, &[], &[])?;
         assert_eq!(rt; got.status, status);
         assert_eq!(rt; got.out.held(), lines);
         assert_eq!(rt; got.notes.held(), note);

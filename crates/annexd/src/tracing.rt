@@ -1,19 +1,21 @@
 //! Telling what a trace shows.
-ghost use Rattle.std.specs.Prelude.{◌≡◌, ◌≤◌, [], ◌∷◌, ◌++◌, codes, decimal, Some, OnOk, OnErr};
+ghost use Rattle.std.specs.Prelude.{◌≡◌, ◌≤◌, [], ◌∷◌, ◌++◌, codes, decimal, false, Some, Ok, OnOk, OnErr};
 ghost use Rattle.ann_base.specs.Outside.{Rose, extended};
 ghost use Rattle.outside_bytes.specs.Pieces.{HoldsPrefix};
 ghost use Rattle.commands.specs.declared.requests.TraceWork.TheVariants as question;
+ghost use Rattle.run_report.specs.Texts.{text_in};
 ghost use Rattle.commands.specs.Requests.{TraceAsked};
 ghost use Rattle.commands.specs.Outside.{shelf_of, sink_of};
-ghost use Rattle.commands.specs.Traces.{law_word, verdict_answer};
+ghost use Rattle.commands.specs.Traces.{law_word, verdict_answer, file_answer};
 ghost use Rattle.commands.specs.Performed.{Performs, TellsTrace};
 
 use crate::words::{write_labelled, write_words};
 use ann_base::{Failed, OrMemory, Shelf, Sink};
 use commands::{Outcome, TraceWork};
 use itoa::Buffer;
+use run_report::{Report, accounts_tell};
 use std::alloc::Global;
-use trace_files::judge_file;
+use trace_files::{FileReport, judge_file, report_file, write_report};
 use trace_laws::{Law, Verdict};
 
 /// Reads the named trace, and tells what is asked of it.
@@ -32,6 +34,7 @@ pub fn serve_trace<S: Shelf, K: Sink>(
 {
     match work {
         TraceWork::Laws => serve_laws(alloc, trace, shelf, out),
+        TraceWork::Report => serve_report(alloc, trace, shelf, out),
     }
 }
 
@@ -46,6 +49,52 @@ fn serve_laws<S: Shelf, K: Sink>(alloc: Global, trace: &[u8], shelf: &mut S, out
     match judge_file(alloc, shelf, trace) {
         Ok(verdict) => tell_verdict(out, verdict),
         Err(OrMemory::Fault(_)) => Outcome::ReadFault,
+        Err(OrMemory::Memory) => Outcome::NoMemory,
+    }
+}
+
+/// Tells what the named trace shows of each task.
+fn serve_report<S: Shelf, K: Sink>(
+    alloc: Global,
+    trace: &[u8],
+    shelf: &mut S,
+    out: &mut K,
+) -> Outcome
+    ensures performed { Performs (Some (TraceAsked trace.now question.Report))
+        (shelf_of S.files S.faults shelf.old shelf.new)
+        (sink_of K.held K.faults out.old out.new) result }
+    ensures monotone_shelf { S.faults shelf.old ≤ S.faults shelf.new }
+    ensures monotone_out { K.faults out.old ≤ K.faults out.new }
+{
+    accounts_tell();
+    match report_file(alloc, shelf, trace) {
+        Ok(reported) => tell_report(alloc, out, reported),
+        Err(OrMemory::Fault(_)) => Outcome::ReadFault,
+        Err(OrMemory::Memory) => Outcome::NoMemory,
+    }
+}
+
+/// Writes the report of a trace, where it is not refused.
+fn tell_report<K: Sink>(alloc: Global, out: &mut K, reported: FileReport) -> Outcome
+    ensures told { TellsTrace (file_answer reported)
+        (sink_of K.held K.faults out.old out.new) result }
+    ensures monotone_out { K.faults out.old ≤ K.faults out.new }
+{
+    match reported {
+        FileReport::Formed(report) => tell_accounts(alloc, out, &report),
+        FileReport::Refused(line) => Outcome::TraceRefused(line),
+    }
+}
+
+/// Writes a report.
+fn tell_accounts<K: Sink>(alloc: Global, out: &mut K, report: &Report) -> Outcome
+    ensures told { TellsTrace (Ok (text_in report.now, false))
+        (sink_of K.held K.faults out.old out.new) result }
+    ensures monotone_out { K.faults out.old ≤ K.faults out.new }
+{
+    match write_report(alloc, out, report) {
+        Ok(()) => Outcome::Traced { broken: false },
+        Err(OrMemory::Fault(_)) => Outcome::WriteFault,
         Err(OrMemory::Memory) => Outcome::NoMemory,
     }
 }

@@ -4,16 +4,17 @@ ghost use Rattle.ann_base.specs.Outside.{Rose, extended};
 ghost use Rattle.commands.specs.Asked.{asked_of};
 ghost use Rattle.commands.specs.Outside.{shelf_of, sink_of};
 ghost use Rattle.commands.specs.Performed.{IsUnread};
-ghost use Rattle.commands.specs.Statuses.{Headline, AcceptanceTold, TableTold, BeyondTold, TraceTold, LawsTold, DoneTold, NotAccepted, RefusalTold, BreachTold, TraceRefusalTold, FailureTold, TableRefusalTold, PrefixTold, NoteTried, IsStatus};
+ghost use Rattle.commands.specs.Statuses.{Headline, AcceptanceTold, TableTold, BeyondTold, TraceTold, LawsTold, ReportTold, DoneTold, NotAccepted, RefusalTold, BreachTold, TraceRefusalTold, FailureTold, TableRefusalTold, PrefixTold, NoteTried, IsStatus};
 
 use crate::noting::conclude;
 use crate::performing::perform;
 use ann_base::{Shelf, Sink};
 use std::alloc::Global;
+use trace_files::lines_tell;
 use trace_laws::verdicts_tell;
 
 /// Does what the words ask for, and answers the status with which the program ends: 0 a run is completed, a source is
-/// accepted, a table passes its test or a trace keeps the laws, 1 a run ended by an exception, 2 it is stuck, 3 its bound
+/// accepted, a table passes its test, or a trace keeps the laws or is reported, 1 a run ended by an exception, 2 it is stuck, 3 its bound
 /// was reached, 4 the source is refused, 6 the words are refused, 7 the file could not be read, 8 something could not be
 /// written, 9 memory ran out, 10 a trace breaks a law, 11 the trace is refused, 12 a table fails its test, 13 the table is
 /// refused. What was asked for goes to `out`, and notes on statuses 4 to 9, 11 and 13 to `notes`.
@@ -49,6 +50,11 @@ pub fn top<S: Shelf, K: Sink>(
         (sink_of K.held K.faults notes.old notes.new) result }
     // Where the laws are asked for, that is the one verdict that is true of the trace.
     ensures laws { LawsTold (asked_of words.now)
+        (shelf_of S.files S.faults shelf.old shelf.new)
+        (sink_of K.held K.faults out.old out.new)
+        (sink_of K.held K.faults notes.old notes.new) result }
+    // Where the report is asked for, it is that of the lines of the trace, exactly where they are formed.
+    ensures reported { ReportTold (asked_of words.now)
         (shelf_of S.files S.faults shelf.old shelf.new)
         (sink_of K.held K.faults out.old out.new)
         (sink_of K.held K.faults notes.old notes.new) result }
@@ -119,6 +125,7 @@ pub fn top<S: Shelf, K: Sink>(
     ensures monotone_notes { K.faults notes.old ≤ K.faults notes.new }
 {
     verdicts_tell();
+    lines_tell();
     let outcome = perform(alloc, words, shelf, out);
     conclude(notes, outcome)
 }

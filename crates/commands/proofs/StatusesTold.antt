@@ -22,13 +22,15 @@ use Rattle.commands.specs.declared.requests.TableTest.{TableTest}
 use Rattle.commands.specs.declared.requests.TableTest.TheVariants as test
 use Rattle.commands.specs.declared.requests.TraceWork.{TraceWork}
 use Rattle.commands.specs.declared.requests.TraceWork.TheVariants as question
-use Rattle.commands.specs.Traces.{trace_answer, trace_note}
+use Rattle.trace_text.specs.Queue.{Line}
+use Rattle.trace_files.specs.Reported.{formed_lines, IsFormedTrace}
+use Rattle.commands.specs.Traces.{trace_answer, report_answer, trace_note}
 use Rattle.commands.specs.Requests.{Asked, SourceAsked, TableAsked, TraceAsked}
 use Rattle.commands.specs.Tests.{test_status, is_failed, NeverOver}
 use Rattle.commands.specs.Outside.{ShelfChange, SinkChange, SinkFailed, IsKept, Gained, GainedPrefix}
 use Rattle.commands.specs.Outcomes.{stop_status, status_of, note_of, refusal_text, IsNoted, Concludes}
 use Rattle.commands.specs.Performed.{text_for, outcome_for, OfAsked, OfSource, OfTable, OfTrace, IsDone, IsRefused, IsTested, IsNoTable, IsTraced, IsNoTrace, IsFileCutShort, IsUnread, Performs}
-use Rattle.commands.specs.Statuses.{IsUndisturbed, Headline, AcceptanceTold, IsAnswer, TableTold, IsTraceAnswer, TraceTold, LawsTold, BeyondTold, IsPrinted, DoneTold, IsStatus, NotAccepted, RefusalTold, FailureTold, TableRefusalTold, BreachTold, TraceRefusalTold, IsCause, NoteTried, PrefixTold}
+use Rattle.commands.specs.Statuses.{IsUndisturbed, Headline, AcceptanceTold, IsAnswer, TableTold, IsTraceAnswer, TraceTold, LawsTold, ReportTold, BeyondTold, IsPrinted, DoneTold, IsStatus, NotAccepted, RefusalTold, FailureTold, TableRefusalTold, BreachTold, TraceRefusalTold, IsCause, NoteTried, PrefixTold}
 use Rattle.commands.proofs.Conclusions.{stop_status-small, is_refused, is_failed_test, is_refused_table, is_breach, is_refused_trace, is_words, is_read_fault, is_write_fault, is_memory, concluded, known, FailedNote, failed, low}
 
 -- ---- files
@@ -228,6 +230,21 @@ pub laws_told : ((bytes : List ℕ) → Says (texts_in bytes) (laws_answer bytes
     (asked : Option Asked) (shelf : ShelfChange) (out notes : SinkChange) (o : Outcome) (status : ℕ) → Performs asked shelf out o → Concludes o notes status → LawsTold asked shelf out notes status
 laws_told says only asked shelf out notes o status p c trace bytes is there u =
     record { verdict = laws_answer bytes; says = says bytes; only = only bytes; told_so = trace_told asked shelf out notes o status p c trace bytes question.Laws is there u }
+
+-- the report, by what a formed trace is
+no_lines : (bytes : List ℕ) (out notes : SinkChange) (status : ℕ) (answer : Result (List Line) ℕ) → formed_lines bytes ≡ answer → ((lines : List Line) → formed_lines bytes ≡ Ok lines → IsFormedTrace (texts_in bytes) lines) →
+    IsTraceAnswer (report_answer answer) out notes status → ((lines : List Line) → IsFormedTrace (texts_in bytes) lines → ⊥) → status ≡ 11
+no_lines bytes out notes status (Ok lines) is formed h none = absurd (none lines (formed lines is))
+no_lines bytes out notes status (Err line) is formed h none = h.1
+
+pub report_told : ((bytes : List ℕ) (lines : List Line) → formed_lines bytes ≡ Ok lines → IsFormedTrace (texts_in bytes) lines) → ((bytes : List ℕ) (lines : List Line) → IsFormedTrace (texts_in bytes) lines → formed_lines bytes ≡ Ok lines) →
+    (asked : Option Asked) (shelf : ShelfChange) (out notes : SinkChange) (o : Outcome) (status : ℕ) → Performs asked shelf out o → Concludes o notes status → ReportTold asked shelf out notes status
+report_told formed only asked shelf out notes o status p c trace bytes is there u =
+    let h = trace_told asked shelf out notes o status p c trace bytes question.Report is there u in
+    record {
+      formed = λ lines trace_is. subst (λ answer. IsTraceAnswer (report_answer answer) out notes status) (only bytes lines trace_is) h;
+      refused = no_lines bytes out notes status (formed_lines bytes) refl (formed bytes) h;
+    }
 
 -- ---- 0 to 3
 

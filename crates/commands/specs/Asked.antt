@@ -1,6 +1,6 @@
--- What words ask for: `run SOURCE`, `run SOURCE --ticks N`, `accept SOURCE`, `rta TABLE`, `demand TABLE` and `laws TRACE`.
--- A name is not empty and does not begin with a hyphen. N is from 1 to 1,000,000,000, in plain decimal without leading
--- zeros.
+-- What words ask for: `run SOURCE`, `run SOURCE --ticks N`, `accept SOURCE`, `rta TABLE`, `demand TABLE`, `laws TRACE`
+-- and `report TRACE`. A name is not empty and does not begin with a hyphen. N is from 1 to 1,000,000,000, in plain decimal
+-- without leading zeros.
 use Rattle.std.specs.Prelude.{ℕ, ◌+◌, ◌-◌, ◌*◌, ◌==◌, nat_le, Bool, ◌&&◌, if◌then◌else◌, List, [], ◌∷◌, Option, Some, None, codes}
 use Rattle.std.specs.Option.{option_map}
 use Rattle.std.specs.Str.{bytes_eq}
@@ -64,4 +64,5 @@ asked_of (command ∷ rest) =
     else (if bytes_eq command.items (codes "accept") then accept_of rest
     else (if bytes_eq command.items (codes "rta") then test_of test.ResponseTimes rest
     else (if bytes_eq command.items (codes "demand") then test_of test.Demand rest
-    else (if bytes_eq command.items (codes "laws") then trace_of question.Laws rest else None))))
+    else (if bytes_eq command.items (codes "laws") then trace_of question.Laws rest
+    else (if bytes_eq command.items (codes "report") then trace_of question.Report rest else None)))))

@@ -9,6 +9,9 @@ use Rattle.sched_tests.specs.declared.duties.TableFault.{TableFault}
 use Rattle.sched_tests.specs.Demand.{busy_of}
 use Rattle.sched_tests.specs.Reading.{table_of}
 use Rattle.sched_tests.specs.Reports.{table_note}
+use Rattle.trace_text.specs.Queue.{Line}
+use Rattle.run_report.specs.Texts.{report_text}
+use Rattle.trace_files.specs.Reported.{IsFormedTrace}
 use Rattle.trace_laws.specs.declared.verdicts.Verdict.{Verdict}
 use Rattle.trace_laws.specs.Verdicts.{texts_in, Says}
 use Rattle.commands.specs.declared.requests.Work.{Work}
@@ -95,6 +98,18 @@ LawsTold asked shelf out notes status =
     (trace bytes : List ℕ) →
     asked ≡ Some (TraceAsked trace question.Laws) → told shelf.files trace ≡ Holds bytes → IsUndisturbed status →
     IsVerdictTold bytes out notes status
+
+-- Where they ask for the report: that of the lines of the trace is written, where they are formed and within the most
+-- bytes; and where there are none such, the status is 11.
+pub record IsReportTold (bytes : List ℕ) (out notes : SinkChange) (status : ℕ) : Type 0 where
+  pub formed : (lines : List Line) → IsFormedTrace (texts_in bytes) lines → Gained out (report_text lines) × (status ≡ 0) × IsKept notes
+  pub refused : ((lines : List Line) → IsFormedTrace (texts_in bytes) lines → ⊥) → status ≡ 11
+
+abbrev pub ReportTold : Option Asked → ShelfChange → SinkChange → SinkChange → ℕ → Type 0
+ReportTold asked shelf out notes status =
+    (trace bytes : List ℕ) →
+    asked ≡ Some (TraceAsked trace question.Report) → told shelf.files trace ≡ Holds bytes → IsUndisturbed status →
+    IsReportTold bytes out notes status
 
 -- the lines of the test that is asked for are written, and it ends with this status
 abbrev pub IsPrinted : TableTest → List ℕ → SinkChange → ℕ → Type 0

@@ -1,5 +1,10 @@
 -- What is answered of a trace.
 use Rattle.std.specs.Prelude.{ℕ, Bool, true, false, if◌then◌else◌, List, [], ◌∷◌, ◌++◌, Result, Ok, Err, codes, decimal}
+use Rattle.trace_text.specs.Queue.{Line}
+use Rattle.run_report.specs.Texts.{report_text, text_in}
+use Rattle.trace_files.specs.declared.reporting.FileReport.{FileReport}
+use Rattle.trace_files.specs.declared.reporting.FileReport.TheVariants as reported
+use Rattle.trace_files.specs.Reported.{formed_lines}
 use Rattle.trace_laws.specs.declared.laws.Law.{Law}
 use Rattle.trace_laws.specs.declared.laws.Law.TheVariants as law
 use Rattle.trace_laws.specs.declared.verdicts.Verdict.{Verdict}
@@ -21,9 +26,20 @@ verdict_answer (verdict.Lawful count) = Ok (codes "lawful " ++ (decimal count ++
 verdict_answer (verdict.Broken line law) = Ok (codes "broken " ++ (decimal line ++ 32 ∷ (law_word law ++ 10 ∷ [])), true)
 verdict_answer (verdict.Refused line) = Err line
 
+-- the same of the lines of a trace, or of its first line that is refused
+abbrev pub report_answer : Result (List Line) ℕ → Result (List ℕ × Bool) ℕ
+report_answer (Ok lines) = Ok (report_text lines, false)
+report_answer (Err line) = Err line
+
+-- the same of what is kept of a trace in a file
+abbrev pub file_answer : FileReport → Result (List ℕ × Bool) ℕ
+file_answer (reported.Formed report) = Ok (text_in report, false)
+file_answer (reported.Refused line) = Err line
+
 -- the same of the bytes of a trace
 abbrev pub trace_answer : TraceWork → List ℕ → Result (List ℕ × Bool) ℕ
 trace_answer work.Laws bytes = verdict_answer (laws_answer bytes)
+trace_answer work.Report bytes = report_answer (formed_lines bytes)
 
 abbrev pub traced_status : Bool → ℕ
 traced_status broken = if broken then 10 else 0

@@ -25,6 +25,8 @@ pub fn asked(words: &[Vec<u8>]) -> Option<Request>
                 test_of(TableTest::Demand, rest)
             } else if command.as_slice() == b"laws".as_slice() {
                 trace_of(TraceWork::Laws, rest)
+            } else if command.as_slice() == b"report".as_slice() {
+                trace_of(TraceWork::Report, rest)
             } else {
                 None
             }

@@ -29,6 +29,8 @@ pub enum TableTest {
 pub enum TraceWork {
     /// `laws`: whether it keeps the five laws, or which line breaks which.
     Laws,
+    /// `report`: what it shows of each task.
+    Report,
 }
 
 /// What the words of a command ask for. Files are named as the words name them.
@@ -38,6 +40,6 @@ pub enum Request<'a> {
     Source { source: &'a [u8], work: Work },
     /// `rta TABLE` and `demand TABLE`.
     Table { table: &'a [u8], test: TableTest },
-    /// `laws TRACE`.
+    /// `laws TRACE` and `report TRACE`.
     Trace { trace: &'a [u8], work: TraceWork },
 }

@@ -1,7 +1,7 @@
 use Rattle.std.proofs.Common.{inl, inr, arith}
 use Rattle.commands.specs.Asked.{asked_of}
 use Rattle.commands.specs.Outside.{shelf_of, sink_of}
-use Rattle.commands.proofs.StatusesTold.{headline, acceptance, table_told, beyond, trace_told, laws_told, known_status, done_told, quiet, refused_source, not_accepted, kept, words, refused_words, note_words, read_fault, note_read, write_fault, prefix_told, note_tried, note_memory, breach, quiet_breach, refused_trace, kept_refused_trace, failure, quiet_failure, refused_table, kept_refused_table}
+use Rattle.commands.proofs.StatusesTold.{headline, acceptance, table_told, beyond, trace_told, laws_told, report_told, known_status, done_told, quiet, refused_source, not_accepted, kept, words, refused_words, note_words, read_fault, note_read, write_fault, prefix_told, note_tried, note_memory, breach, quiet_breach, refused_trace, kept_refused_trace, failure, quiet_failure, refused_table, kept_refused_table}
 use Rattle.annexd.proofs.whole.top.Goals as goal
 
 pub returns : goal.returns
@@ -21,6 +21,7 @@ returns g c =
       beyond = beyond asked shelf out notes o status p n;
       traced = trace_told asked shelf out notes o status p n;
       laws = laws_told c.verdicts_tell.ensures.says c.verdicts_tell.ensures.only asked shelf out notes o status p n;
+      reported = report_told c.lines_tell.ensures.formed c.lines_tell.ensures.only asked shelf out notes o status p n;
       statuses = known_status asked shelf out notes o status p n;
       run = done_told asked shelf out notes o status p n;
       quiet = quiet o notes status n;

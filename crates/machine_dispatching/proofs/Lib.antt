@@ -1,0 +1,3 @@
+mod LevelLemmas
+mod OrderLemmas
+mod PlaceLemmas

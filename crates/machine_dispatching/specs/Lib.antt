@@ -1,0 +1,3 @@
+pub mod Appointments
+pub mod Blocking
+pub mod Settling

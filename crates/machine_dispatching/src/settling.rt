@@ -1,0 +1,40 @@
+//! An effect that is over: its lines are put in order, and the ready queues follow them (ISO/IEC 8652:2012, D.2.1).
+ghost use Rattle.std.specs.Prelude.{◌≡◌, ◌++◌, OnOk, map, []};
+ghost use Rattle.profile_machine.specs.declared.image.Image.{Image};
+ghost use Rattle.profile_machine.specs.Lines.{event_of};
+ghost use Rattle.profile_machine.specs.Steps.{places_after_all};
+ghost use Rattle.machine_dispatching.specs.Settling.{written, said_as, Settles};
+
+use crate::order::in_order;
+use crate::queues::places_after;
+use ann_base::NoMemory;
+use machine_frames::Effect;
+use profile_machine::world::{Line, Placed, Said};
+use std::alloc::Global;
+use world_tables::List;
+
+// The ready queues follow these lines, which are owed behind those that are owed already.
+fn follow(
+    places: &mut List<Placed>,
+    lines: &mut List<Line>,
+    mut ordered: List<Said>,
+) -> Result<(), NoMemory>
+    ensures places { OnOk result ((p : Image) → places.new ≡ places_after_all (said_as p ordered) places.old) }
+    ensures lines { OnOk result ((p : Image) → written p lines.new ≡ written p lines.old ++ said_as p ordered) }
+{
+    while let Some(said) = ordered.pop_front() {
+        places_after(places, &said.line)?;
+        lines.push_back(said.line)?;
+    }
+    Ok(())
+}
+
+/// An effect is over: its lines are put in order behind those that are there, and the ready queues follow them. What
+/// is left is an effect that has said nothing. The clause speaks of the lines as they are written, whatever the names.
+pub fn settle(alloc: Global, effect: &mut Effect, lines: &mut List<Line>) -> Result<(), NoMemory>
+    ensures settled { OnOk result ((p : Image) → Settles p effect.old lines.old effect.new.world lines.new) }
+    ensures nothing_said { OnOk result (effect.new.said ≡ []) }
+{
+    let ordered = in_order(alloc, &mut effect.said)?;
+    follow(&mut effect.world.places, lines, ordered)
+}

@@ -104,7 +104,7 @@ module _ (p : Program) where
   object_read within part initial i from = cond (subtype_is is_task (subtype_declared_as within i))
       (one_action (is_create (number_declared within i) part) from)
       (and_behind (one_action (declares within (number_declared within i) (function_call_if within initial)) from)
-        (action_if (subtype_is is_controlled (subtype_declared_as within i)) (is_initialize (number_declared within i))))
+      (action_if (subtype_is is_controlled (subtype_declared_as within i)) (is_initialize (number_declared within i))))
 
   abbrev pub objects_read : Within → ℕ → Option Expression → List Identifier → Option StatementNo → Rest
   objects_read within part initial [] from = Some from
@@ -191,7 +191,7 @@ module _ (p : Program) where
     whole_reads within is_task_body s from to =
         inner_bodies_read within s.declarations
         && reads_on (λ rest. handled_reads within (part_if (make_tasks within s.declarations) 0) s s.handlers rest to)
-          (and_behind (declarations_read within 0 s.declarations from) (action_if is_task_body is_end_of_activation))
+        (and_behind (declarations_read within 0 s.declarations from) (action_if is_task_body is_end_of_activation))
 
     abbrev pub parts_read : SequenceParts Q → SequencePlace → Within → Reading
     parts_read s statements_alone within from to = statements_stand p sequence within (s.statements.first ∷ s.statements.others) from to
@@ -215,7 +215,7 @@ sequence_reads p = fold-Sequence SequenceReading (sequence_reading_layer p)
 abbrev pub package_declaration_read : Program → List LibraryPackage → Within → PackageDeclaration → Option StatementNo → Rest
 package_declaration_read p ls within x from =
     and_behind (declarations_read p within (part_of ls x.name.text) (x.declarations ++ unwrap_or x.private []) from)
-      (activation_read p (part_if (not (has_body ls x.name.text) && make_tasks within (x.declarations ++ unwrap_or x.private [])) (part_of ls x.name.text)))
+    (activation_read p (part_if (not (has_body ls x.name.text) && make_tasks within (x.declarations ++ unwrap_or x.private [])) (part_of ls x.name.text)))
 
 -- ---- where a sequence leads: behind its last statement, or behind the action that opens its handlers
 

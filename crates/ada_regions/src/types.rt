@@ -1,7 +1,5 @@
 //! Types and subtypes (ISO/IEC 8652:2012, clause 3).
-use profile_machine::{
-    Constraint, ControlledNo, EnumerationNo, ProtectedUnitNo, TaskUnitNo, Text,
-};
+use profile_machine::{Constraint, ControlledNo, EnumerationNo, ProtectedUnitNo, TaskUnitNo, Text};
 
 /// A type of the profile (3.2).
 #[derive(Clone, Copy, Debug, PartialEq, Eq)]

@@ -1,10 +1,6 @@
 -- Calls (6.4, 9.5, 9.5.3, A.10.7): whom a name calls, the actuals in the order of the formals, and predefined procedures.
-use Rattle.std.specs.Prelude.{ℕ, suc, ◌+◌, Bool, true, false, cond, List, [], ◌∷◌, ◌++◌, Option, Some, None, option_map, unwrap_or, map}
-use Rattle.std.specs.List.{flat_map}
-use Rattle.ann_base.specs.declared.exceptions.Raised.TheVariants as raised
+use Rattle.std.specs.Prelude.{ℕ, cond, List, [], ◌∷◌, ◌++◌, Option, Some, None, option_map, map}
 use Rattle.ada_tree.specs.declared.names.Name.{Name}
-use Rattle.ada_tree.specs.declared.operators.Attribute.{Attribute}
-use Rattle.ada_tree.specs.declared.operators.Attribute.TheVariants as attribute
 use Rattle.ada_tree.specs.declared.expressions.Expression.{Expression}
 use Rattle.ada_tree.specs.declared.expressions.Expression.TheViews.{out-Expression}
 use Rattle.ada_tree.specs.declared.expressions.ExpressionForm.{ExpressionForm}
@@ -14,7 +10,6 @@ use Rattle.ada_tree.specs.declared.expressions.Argument.{Argument}
 use Rattle.ada_tree.specs.declared.expressions.AttributeDesignator.{AttributeDesignator}
 use Rattle.profile_machine.specs.declared.numbers.DeclNo.{DeclNo}
 use Rattle.profile_machine.specs.declared.numbers.ExprNo.{ExprNo}
-use Rattle.profile_machine.specs.declared.numbers.EnumerationNo.{EnumerationNo}
 use Rattle.profile_machine.specs.declared.numbers.StatementNo.{StatementNo}
 use Rattle.profile_machine.specs.declared.numbers.SubprogramNo.{SubprogramNo}
 use Rattle.profile_machine.specs.declared.numbers.EntryNo.{EntryNo}
@@ -28,12 +23,10 @@ use Rattle.profile_machine.specs.declared.statements.Actual.TheVariants as actua
 use Rattle.profile_machine.specs.declared.statements.Callee.{Callee}
 use Rattle.profile_machine.specs.declared.statements.Callee.TheVariants as callee
 use Rattle.profile_machine.specs.declared.statements.Destination.{Destination}
-use Rattle.profile_machine.specs.declared.statements.Destination.TheVariants as destination
 use Rattle.profile_machine.specs.declared.statements.EntryOwner.{EntryOwner}
 use Rattle.profile_machine.specs.declared.statements.EntryOwner.TheVariants as entry_owner
 use Rattle.profile_machine.specs.declared.statements.Piece.{Piece}
 use Rattle.profile_machine.specs.declared.statements.Piece.TheVariants as piece
-use Rattle.profile_machine.specs.declared.statements.StatementForm.{StatementForm}
 use Rattle.profile_machine.specs.declared.statements.StatementForm.TheVariants as action
 use Rattle.ada_regions.specs.declared.types.AdaType.{AdaType}
 use Rattle.ada_regions.specs.declared.types.AdaType.TheVariants as types
@@ -41,21 +34,13 @@ use Rattle.ada_regions.specs.declared.types.Formal.{Formal}
 use Rattle.ada_regions.specs.declared.types.Mode.{Mode}
 use Rattle.ada_regions.specs.declared.types.Mode.TheVariants as mode
 use Rattle.ada_regions.specs.declared.types.Subtype.{Subtype}
-use Rattle.ada_regions.specs.declared.predefined.Operation.{Operation}
-use Rattle.ada_regions.specs.declared.predefined.Operation.TheVariants as operations
-use Rattle.ada_regions.specs.declared.predefined.Predefined.{Predefined}
-use Rattle.ada_regions.specs.declared.predefined.Predefined.TheVariants as items
-use Rattle.ada_regions.specs.declared.entities.Denoted.{Denoted}
-use Rattle.ada_regions.specs.declared.entities.Denoted.TheVariants as denotes
 use Rattle.ada_regions.specs.declared.entities.EntityKind.{EntityKind}
 use Rattle.ada_regions.specs.declared.entities.EntityKind.TheVariants as entity
 use Rattle.ada_regions.specs.Words.{and_then}
-use Rattle.ada_regions.specs.PredefinedUnits.{names_of_formals}
-use Rattle.ada_regions.specs.Names.{Names, denoted_by, kind_at}
 use Rattle.ada_regions.specs.Statics.{subtype_of_name}
-use Rattle.ada_image.specs.Making.{Making, Within, ◌>>=◌, ◌>>◌, pure, action_put}
+use Rattle.ada_image.specs.Making.{Making, Within, ◌>>=◌, pure, action_put}
 use Rattle.ada_image.specs.Layout.{is_thing, subtype_is}
-use Rattle.ada_image.specs.ImageOfExpressions.{ExpressionImage, expression_image, expression_made, signs_in, no_declaration_no, object_before, named_before, thing_named, thing_in, kind_named, variable_made, actuals_for, first_argument, no_value}
+use Rattle.ada_image.specs.ImageOfExpressions.{expression_image, expression_made, no_declaration_no, object_before, named_before, thing_in, kind_named, variable_made, actuals_for, first_argument, no_value}
 
 -- ---- variables that statements name: an object, or an element of an array
 

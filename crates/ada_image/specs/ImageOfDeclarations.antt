@@ -1,33 +1,23 @@
 -- Declarations to actions (3.3.1, 3.11, 7.6, 9.1, 9.2, 9.4), and what is made of the bodies among them.
-use Rattle.std.specs.Prelude.{ℕ, ◌+◌, Bool, true, false, cond, not, ◌||◌, List, [], ◌∷◌, ◌++◌, Option, Some, None, option_map, unwrap_or, map}
+use Rattle.std.specs.Prelude.{ℕ, Bool, true, false, cond, not, List, [], ◌∷◌, Option, Some, None, unwrap_or, map}
 use Rattle.std.specs.List.{list_any}
 use Rattle.ann_base.specs.declared.places.Place.{Place}
 use Rattle.ada_tree.specs.declared.names.Identifier.{Identifier}
-use Rattle.ada_tree.specs.declared.names.Name.{Name}
-use Rattle.ada_tree.specs.declared.names.OneOrMore.{OneOrMore}
 use Rattle.ada_tree.specs.declared.expressions.Expression.{Expression}
 use Rattle.ada_tree.specs.declared.statements.SequenceParts.{SequenceParts}
-use Rattle.ada_tree.specs.declared.statements.Statement.{Statement}
 use Rattle.ada_tree.specs.declared.statements.Handler.{Handler}
 use Rattle.ada_tree.specs.declared.statements.Sequence.{Sequence}
 use Rattle.ada_tree.specs.declared.statements.Sequence.TheOpen.{Sequence-F}
 use Rattle.ada_tree.specs.declared.statements.Sequence.TheFolds.{fold-Sequence}
 use Rattle.ada_tree.specs.declared.declarations.Declaration.{Declaration}
 use Rattle.ada_tree.specs.declared.declarations.Declaration.TheVariants as declaration
-use Rattle.ada_tree.specs.declared.declarations.Body.{Body}
 use Rattle.ada_tree.specs.declared.declarations.ObjectDeclaration.{ObjectDeclaration}
-use Rattle.ada_tree.specs.declared.declarations.SubprogramSpecification.{SubprogramSpecification}
-use Rattle.ada_tree.specs.declared.declarations.TaskDeclaration.{TaskDeclaration}
-use Rattle.ada_tree.specs.declared.declarations.ProtectedDeclaration.{ProtectedDeclaration}
-use Rattle.ada_tree.specs.declared.declarations.ProtectedBody.{ProtectedBody}
 use Rattle.ada_tree.specs.declared.declarations.OperationBody.{OperationBody}
 use Rattle.ada_tree.specs.declared.declarations.OperationBody.TheVariants as body_of
-use Rattle.ada_tree.specs.declared.declarations.EntryHead.{EntryHead}
 use Rattle.profile_machine.specs.declared.numbers.DeclNo.{DeclNo}
 use Rattle.profile_machine.specs.declared.numbers.StatementNo.{StatementNo}
 use Rattle.profile_machine.specs.declared.numbers.SubprogramNo.{SubprogramNo}
 use Rattle.profile_machine.specs.declared.statements.Destination.TheVariants as destination
-use Rattle.profile_machine.specs.declared.statements.StatementForm.{StatementForm}
 use Rattle.profile_machine.specs.declared.statements.StatementForm.TheVariants as action
 use Rattle.ada_regions.specs.declared.types.AdaType.{AdaType}
 use Rattle.ada_regions.specs.declared.types.AdaType.TheVariants as types
@@ -37,13 +27,13 @@ use Rattle.ada_regions.specs.declared.entities.ComponentOwner.TheVariants as own
 use Rattle.ada_regions.specs.declared.entities.EntityKind.{EntityKind}
 use Rattle.ada_regions.specs.declared.entities.EntityKind.TheVariants as entity
 use Rattle.ada_regions.specs.Words.{and_then, all_of}
-use Rattle.ada_regions.specs.Names.{Names, kind_at, entity_denoted}
-use Rattle.ada_regions.specs.Statics.{subtype_of_kind, subtype_of_name}
+use Rattle.ada_regions.specs.Names.{kind_at, entity_denoted}
+use Rattle.ada_regions.specs.Statics.{subtype_of_kind}
 use Rattle.ada_image.specs.Making.{Making, Within, ◌>>=◌, ◌>>◌, pure, action_put, reserved, put_at, first_put, the_action, in_body_of, in_construct, in_unit}
 use Rattle.ada_image.specs.Layout.{subtype_is, components_of_owner, total}
-use Rattle.ada_image.specs.ImageOfExpressions.{no_declaration_no, object_number, signs_in, signs_if}
+use Rattle.ada_image.specs.ImageOfExpressions.{no_declaration_no, object_number, signs_if}
 use Rattle.ada_image.specs.ImageOfCalls.{FunctionCall, function_call, function_call_put}
-use Rattle.ada_image.specs.ImageOfStatements.{SequencePlace, statements_alone, behind_declarations, as_body, SequenceMaking, scope_at, statements_put, handlers_put}
+use Rattle.ada_image.specs.ImageOfStatements.{statements_alone, behind_declarations, as_body, SequenceMaking, scope_at, statements_put, handlers_put}
 
 -- ---- what a defining name declares
 

@@ -1,6 +1,6 @@
 -- Names and expressions (clause 4): brackets leave no trace, and a minus before a literal is part of its value.
-use Rattle.std.specs.Prelude.{ℕ, suc, ◌+◌, ℤ, pos, Bool, true, false, cond, not, ◌&&◌, List, [], ◌∷◌, ◌++◌, Option, Some, None, option_map, unwrap_or, is_some, eqb, length}
-use Rattle.std.specs.List.{list_any, flat_map}
+use Rattle.std.specs.Prelude.{ℕ, suc, ◌+◌, ℤ, pos, Bool, true, false, cond, List, [], ◌∷◌, Option, Some, None, option_map, unwrap_or, eqb}
+use Rattle.std.specs.List.{list_any}
 use Rattle.std.specs.Str.{bytes_eq}
 use Rattle.ada_tree.specs.declared.names.Identifier.{Identifier}
 use Rattle.ada_tree.specs.declared.names.Name.{Name}
@@ -53,11 +53,11 @@ use Rattle.ada_regions.specs.declared.entities.EntityKind.{EntityKind}
 use Rattle.ada_regions.specs.declared.entities.EntityKind.TheVariants as entity
 use Rattle.ada_regions.specs.declared.entities.ComponentOwner.{ComponentOwner}
 use Rattle.ada_regions.specs.declared.entities.ComponentOwner.TheVariants as owner
-use Rattle.ada_regions.specs.Words.{and_then, or_else, nothing_there}
+use Rattle.ada_regions.specs.Words.{and_then}
 use Rattle.ada_regions.specs.PredefinedUnits.{names_of_formals}
-use Rattle.ada_regions.specs.Names.{Names, denoted_by, denoted_at, kind_at, entity_denoted, last_part, entity_of}
+use Rattle.ada_regions.specs.Names.{Names, denoted_by, kind_at, entity_denoted, entity_of}
 use Rattle.ada_regions.specs.Statics.{literal_value, negated, attribute_value}
-use Rattle.ada_image.specs.Making.{Making, Within, ◌>>=◌, ◌>>◌, pure, value_put}
+use Rattle.ada_image.specs.Making.{Making, Within, ◌>>=◌, pure, value_put}
 use Rattle.ada_image.specs.Layout.{is_thing, subtype_is}
 
 -- ---- operators (4.5)

@@ -1,5 +1,5 @@
 -- Predefined procedures (A.10.7, D.2.5, D.2.6, D.5.1, D.14.1, D.14.2, D.15), given their actuals.
-use Rattle.std.specs.Prelude.{ℕ, Bool, true, false, cond, List, [], ◌∷◌, Option, Some, None, option_map, unwrap_or, is_some}
+use Rattle.std.specs.Prelude.{ℕ, Bool, true, false, cond, List, [], ◌∷◌, Option, Some, None, option_map, unwrap_or}
 use Rattle.std.specs.List.{list_any}
 use Rattle.std.specs.Str.{bytes_eq}
 use Rattle.std.specs.Prelude.{codes}
@@ -13,7 +13,6 @@ use Rattle.ada_tree.specs.declared.expressions.Argument.{Argument}
 use Rattle.profile_machine.specs.declared.numbers.DeclNo.{DeclNo}
 use Rattle.profile_machine.specs.declared.numbers.ExprNo.{ExprNo}
 use Rattle.profile_machine.specs.declared.numbers.StatementNo.{StatementNo}
-use Rattle.profile_machine.specs.declared.numbers.SubprogramNo.{SubprogramNo}
 use Rattle.profile_machine.specs.declared.expressions.VariableName.{VariableName}
 use Rattle.profile_machine.specs.declared.statements.HandlerName.{HandlerName}
 use Rattle.profile_machine.specs.declared.statements.Setting.{Setting}
@@ -27,9 +26,9 @@ use Rattle.ada_regions.specs.declared.entities.EntityKind.TheVariants as entity
 use Rattle.ada_regions.specs.Words.{and_then, or_else}
 use Rattle.ada_regions.specs.PredefinedUnits.{names_of_formals}
 use Rattle.ada_regions.specs.Names.{entity_denoted, kind_at}
-use Rattle.ada_image.specs.Making.{Making, Within, ◌>>=◌, ◌>>◌, pure, action_put}
+use Rattle.ada_image.specs.Making.{Making, Within, ◌>>=◌, pure, action_put}
 use Rattle.ada_image.specs.TypesOfExpressions.{is_span}
-use Rattle.ada_image.specs.ImageOfExpressions.{expression_image, expression_made, no_declaration_no, no_value, thing_in, kind_named, prefix_part, object_number, argument_from, actuals_for}
+use Rattle.ada_image.specs.ImageOfExpressions.{expression_image, expression_made, no_declaration_no, thing_in, kind_named, prefix_part, object_number, argument_from, actuals_for}
 use Rattle.ada_image.specs.ImageOfCalls.{no_variable, variable_in, value_or_none, put_line_put, not_built}
 
 abbrev pub first_of : List (Option Expression) → Option Expression

@@ -1,6 +1,6 @@
 -- Statements to actions (clauses 5, 6.5, 9.5.2, 9.6 to 9.8, 11.3): each leads to what comes next, and what stands inside a
 -- compound statement leads to what comes behind it.
-use Rattle.std.specs.Prelude.{ℕ, suc, ◌+◌, Bool, true, false, cond, List, [], ◌∷◌, ◌++◌, Option, Some, None, option_map, unwrap_or, eqb, map, pos}
+use Rattle.std.specs.Prelude.{ℕ, suc, ◌+◌, Bool, true, false, cond, List, [], ◌∷◌, Option, Some, None, option_map, unwrap_or, eqb, map, pos}
 use Rattle.std.specs.List.{find}
 use Rattle.ann_base.specs.declared.places.Place.{Place}
 use Rattle.ann_base.specs.declared.exceptions.Raised.{Raised}
@@ -20,7 +20,6 @@ use Rattle.ada_tree.specs.declared.statements.Case.{Case}
 use Rattle.ada_tree.specs.declared.statements.CaseAlternative.{CaseAlternative}
 use Rattle.ada_tree.specs.declared.statements.Choice.{Choice}
 use Rattle.ada_tree.specs.declared.statements.Choice.TheVariants as choice
-use Rattle.ada_tree.specs.declared.statements.Label.{Label}
 use Rattle.ada_tree.specs.declared.statements.Loop.{Loop}
 use Rattle.ada_tree.specs.declared.statements.Iteration.{Iteration}
 use Rattle.ada_tree.specs.declared.statements.Iteration.TheVariants as iteration
@@ -51,7 +50,6 @@ use Rattle.profile_machine.specs.declared.statements.SelectKind.{SelectKind}
 use Rattle.profile_machine.specs.declared.statements.SelectKind.TheVariants as select_kind
 use Rattle.profile_machine.specs.declared.numbers.DeclNo.{DeclNo}
 use Rattle.profile_machine.specs.declared.numbers.ExprNo.{ExprNo}
-use Rattle.profile_machine.specs.declared.numbers.ScopeNo.{ScopeNo}
 use Rattle.profile_machine.specs.declared.numbers.StatementNo.{StatementNo}
 use Rattle.profile_machine.specs.declared.numbers.SubprogramNo.{SubprogramNo}
 use Rattle.profile_machine.specs.declared.values.Value.{Value}

@@ -1,12 +1,11 @@
 -- The image of a source (7.1, 7.2, 10.1, 10.2): the library packages are elaborated one after another, then the main
 -- procedure is called; and at last the initial values of declarations.
-use Rattle.std.specs.Prelude.{ℕ, suc, ◌+◌, ℤ, pos, Bool, true, false, cond, not, ◌||◌, List, [], ◌∷◌, ◌++◌, Option, Some, None, option_map, unwrap_or, map, codes, is_some, ◌&&◌}
-use Rattle.std.specs.List.{list_any, filter_map}
+use Rattle.std.specs.Prelude.{ℕ, suc, Bool, true, false, cond, not, ◌||◌, List, [], ◌∷◌, ◌++◌, Option, Some, None, unwrap_or, map, is_some, ◌&&◌}
+use Rattle.std.specs.List.{list_any}
 use Rattle.std.specs.Str.{bytes_eq}
 use Rattle.ada_tree.specs.declared.names.Identifier.{Identifier}
 use Rattle.ada_tree.specs.declared.expressions.Expression.{Expression}
 use Rattle.ada_tree.specs.declared.statements.Sequence.{Sequence}
-use Rattle.ada_tree.specs.declared.declarations.Aspect.{Aspect}
 use Rattle.ada_tree.specs.declared.declarations.Declaration.{Declaration}
 use Rattle.ada_tree.specs.declared.units.Unit.{Unit as Tree}
 use Rattle.ada_tree.specs.declared.units.LibraryPackage.{LibraryPackage}
@@ -16,10 +15,7 @@ use Rattle.ada_tree.specs.declared.units.PackageDeclaration.{PackageDeclaration}
 use Rattle.ada_tree.specs.declared.units.PackageBody.{PackageBody}
 use Rattle.profile_machine.specs.declared.image.Image.{Image as Program}
 use Rattle.profile_machine.specs.declared.image.MainProcedure.{MainProcedure}
-use Rattle.profile_machine.specs.declared.numbers.DeclNo.{DeclNo}
 use Rattle.profile_machine.specs.declared.numbers.StatementNo.{StatementNo}
-use Rattle.profile_machine.specs.declared.values.Value.{Value}
-use Rattle.profile_machine.specs.declared.values.Value.TheVariants as value
 use Rattle.profile_machine.specs.declared.values.Constraint.{Constraint}
 use Rattle.profile_machine.specs.declared.values.Constraint.TheVariants as constraint
 use Rattle.profile_machine.specs.declared.declarations.Declaration.{Declaration as NumberedObject}
@@ -29,17 +25,14 @@ use Rattle.profile_machine.specs.declared.declarations.DeclarationKind.{Declarat
 use Rattle.profile_machine.specs.declared.declarations.DeclarationKind.TheVariants as kind
 use Rattle.profile_machine.specs.declared.declarations.Initial.{Initial}
 use Rattle.profile_machine.specs.declared.declarations.Initial.TheVariants as initial
-use Rattle.profile_machine.specs.declared.expressions.ObjectName.{ObjectName}
 use Rattle.profile_machine.specs.declared.statements.StatementForm.TheVariants as action
 use Rattle.ada_regions.specs.declared.types.AdaType.{AdaType}
 use Rattle.ada_regions.specs.declared.types.AdaType.TheVariants as types
 use Rattle.ada_regions.specs.declared.types.Subtype.{Subtype}
-use Rattle.ada_regions.specs.Words.{and_then, or_else}
 use Rattle.ada_regions.specs.PredefinedUnits.{default_priority}
 use Rattle.ada_regions.specs.Names.{Names, NumberedDeclaration, Sort, of_object, of_component, of_parameter, of_loop_parameter, of_exception}
-use Rattle.ada_regions.specs.Numbered.{names_of, last_priority_of}
-use Rattle.ada_regions.specs.Statics.{static_value}
-use Rattle.ada_image.specs.Making.{Making, Lists, Within, ◌>>=◌, ◌>>◌, pure, action_put, first_put, nothing_made, in_body_of}
+use Rattle.ada_regions.specs.Numbered.{names_of}
+use Rattle.ada_image.specs.Making.{Making, Lists, Within, ◌>>=◌, ◌>>◌, pure, action_put, first_put, nothing_made}
 use Rattle.ada_image.specs.Layout.{is_thing, is_array, subtype_is, range_of_cells, index_range, cells_of_declaration, place_behind, scope_no, scopes_made, subprogram_made, enumeration_made}
 use Rattle.ada_image.specs.UnitsOfImage.{decl_no, priority_of, task_units_made, entries_made, protected_units_made, controlled_types_made}
 use Rattle.ada_image.specs.PoliciesOfImage.{policies_of}

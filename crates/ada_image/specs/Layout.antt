@@ -1,8 +1,7 @@
 -- Declarations and scopes of the image: the cells that each takes (own), where they stand, and what they hold at first.
-use Rattle.std.specs.Prelude.{ℕ, zero, suc, ◌+◌, ◌-◌, ℤ, pos, ◌-ℤ◌, ◌+ℤ◌, nat_abs, int_lt, Bool, true, false, cond, ◌&&◌, ◌||◌, List, [], ◌∷◌, ◌++◌, Option, Some, None, eqb, slice_get, option_map, map, unwrap_or}
-use Rattle.std.specs.List.{filter, flat_map, list_any, find}
+use Rattle.std.specs.Prelude.{ℕ, zero, suc, ◌+◌, ◌-◌, ℤ, pos, ◌-ℤ◌, nat_abs, int_lt, Bool, true, false, cond, ◌&&◌, List, [], ◌∷◌, ◌++◌, Option, Some, None, eqb, slice_get, option_map, map, unwrap_or}
+use Rattle.std.specs.List.{filter, list_any, find}
 use Rattle.std.specs.Char.{to_ascii_uppercase}
-use Rattle.profile_machine.specs.declared.numbers.DeclNo.{DeclNo}
 use Rattle.profile_machine.specs.declared.numbers.ScopeNo.{ScopeNo}
 use Rattle.profile_machine.specs.declared.numbers.ProtectedUnitNo.{ProtectedUnitNo}
 use Rattle.profile_machine.specs.declared.values.Value.{Value}

@@ -1,6 +1,6 @@
 -- Making the lists of an image: what is made is put at the end of its list and named by its number there. A statement
 -- that others lead back to gets its number first, and is put there later.
-use Rattle.std.specs.Prelude.{ℕ, Bool, List, [], ◌∷◌, ◌++◌, Option, Some, None, length, slice_set}
+use Rattle.std.specs.Prelude.{ℕ, List, [], ◌∷◌, ◌++◌, Option, Some, None, length, slice_set}
 use Rattle.profile_machine.specs.declared.numbers.ExprNo.{ExprNo}
 use Rattle.profile_machine.specs.declared.numbers.StatementNo.{StatementNo}
 use Rattle.profile_machine.specs.declared.numbers.SubprogramNo.{SubprogramNo}

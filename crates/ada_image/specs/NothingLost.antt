@@ -1,10 +1,9 @@
 -- Nothing is lost: the actions of each scope, read by `first` and `next`, are the declarations and statements of its text in
 -- order, each of its kind and with its parts; those of the environment are the packages, and then the call of the main
 -- procedure. This is said of the image alone, however it was made.
-use Rattle.std.specs.Prelude.{ℕ, zero, suc, length, Bool, true, false, cond, not, ◌&&◌, ◌||◌, List, [], ◌∷◌, ◌++◌, Option, Some, None, option_map, unwrap_or, eqb}
+use Rattle.std.specs.Prelude.{ℕ, zero, suc, length, Bool, true, false, cond, not, ◌&&◌, List, [], ◌∷◌, ◌++◌, Option, Some, None, unwrap_or, eqb}
 use Rattle.ann_base.specs.declared.places.Place.{Place}
 use Rattle.ada_tree.specs.declared.names.Identifier.{Identifier}
-use Rattle.ada_tree.specs.declared.names.OneOrMore.{OneOrMore}
 use Rattle.ada_tree.specs.declared.expressions.Expression.{Expression}
 use Rattle.ada_tree.specs.declared.statements.SequenceParts.{SequenceParts}
 use Rattle.ada_tree.specs.declared.statements.Handler.{Handler}
@@ -29,16 +28,15 @@ use Rattle.profile_machine.specs.declared.numbers.SubprogramNo.{SubprogramNo}
 use Rattle.profile_machine.specs.declared.statements.StatementForm.{StatementForm}
 use Rattle.profile_machine.specs.declared.statements.StatementForm.TheVariants as action
 use Rattle.profile_machine.specs.Program.{form_of, next_of}
-use Rattle.ada_regions.specs.declared.types.Subtype.{Subtype}
-use Rattle.ada_regions.specs.Words.{and_then, all_of}
-use Rattle.ada_regions.specs.Names.{Names, entity_denoted}
+use Rattle.ada_regions.specs.Words.{all_of}
+use Rattle.ada_regions.specs.Names.{entity_denoted}
 use Rattle.ada_regions.specs.Numbered.{names_of}
 use Rattle.ada_image.specs.Making.{Within, in_body_of, in_construct, in_unit}
 use Rattle.ada_image.specs.Layout.{subtype_is}
 use Rattle.ada_image.specs.ImageOfCalls.{FunctionCall}
 use Rattle.ada_image.specs.ImageOfStatements.{SequencePlace, statements_alone, behind_declarations, as_body, scope_at}
 use Rattle.ada_image.specs.ImageOfDeclarations.{is_task, is_controlled, number_declared, subtype_declared_as, subprogram_declared_as, function_call_if, make_tasks, part_if}
-use Rattle.ada_image.specs.ImageOfUnits.{outermost, program_of, has_body, part_of, declared_by_package, package_part}
+use Rattle.ada_image.specs.ImageOfUnits.{outermost, program_of, has_body, part_of, package_part}
 use Rattle.ada_image.specs.ReadExpressions.{same_decl}
 use Rattle.ada_image.specs.ReadStatements.{Reading, same_next, call_stands, is_declared, first_of_scope, statements_stand, handlers_stand}
 

@@ -1,6 +1,6 @@
 -- Reading an image back: whether the actions that follow one another from a place on are statements of the text, in its order,
 -- each of its kind and with its parts (clauses 5, 6, 9, 11).
-use Rattle.std.specs.Prelude.{ℕ, suc, ◌+◌, Bool, true, false, cond, not, ◌&&◌, ◌||◌, List, [], ◌∷◌, ◌++◌, Option, Some, None, option_map, unwrap_or, eqb, is_none, map}
+use Rattle.std.specs.Prelude.{ℕ, ◌+◌, Bool, true, false, cond, not, ◌&&◌, List, [], ◌∷◌, Option, Some, None, option_map, unwrap_or, eqb, is_none, map}
 use Rattle.std.specs.Str.{bytes_eq}
 use Rattle.ann_base.specs.declared.exceptions.Raised.{Raised}
 use Rattle.ann_base.specs.declared.exceptions.Raised.TheVariants as raised
@@ -33,10 +33,6 @@ use Rattle.ada_tree.specs.declared.statements.AcceptBody.{AcceptBody}
 use Rattle.ada_tree.specs.declared.selects.SelectForm.{SelectForm}
 use Rattle.ada_tree.specs.declared.selects.SelectForm.TheVariants as select
 use Rattle.ada_tree.specs.declared.selects.SelectAlternative.{SelectAlternative}
-use Rattle.ada_tree.specs.declared.selects.SelectiveAccept.{SelectiveAccept}
-use Rattle.ada_tree.specs.declared.selects.TimedEntryCall.{TimedEntryCall}
-use Rattle.ada_tree.specs.declared.selects.ConditionalEntryCall.{ConditionalEntryCall}
-use Rattle.ada_tree.specs.declared.selects.AsynchronousSelect.{AsynchronousSelect}
 use Rattle.ada_tree.specs.declared.selects.Alternative.{Alternative}
 use Rattle.ada_tree.specs.declared.selects.Alternative.TheVariants as alternative
 use Rattle.ada_tree.specs.declared.selects.Trigger.{Trigger}
@@ -45,10 +41,8 @@ use Rattle.profile_machine.specs.declared.image.Image.{Image as Program}
 use Rattle.profile_machine.specs.declared.numbers.DeclNo.{DeclNo}
 use Rattle.profile_machine.specs.declared.numbers.EntryNo.{EntryNo}
 use Rattle.profile_machine.specs.declared.numbers.ExprNo.{ExprNo}
-use Rattle.profile_machine.specs.declared.numbers.ScopeNo.{ScopeNo}
 use Rattle.profile_machine.specs.declared.numbers.StatementNo.{StatementNo}
 use Rattle.profile_machine.specs.declared.numbers.SubprogramNo.{SubprogramNo}
-use Rattle.profile_machine.specs.declared.values.Value.{Value}
 use Rattle.profile_machine.specs.declared.declarations.ExceptionChoice.{ExceptionChoice}
 use Rattle.profile_machine.specs.declared.declarations.ExceptionChoice.TheVariants as exception_choice
 use Rattle.profile_machine.specs.declared.declarations.Handler.{Handler as ExceptionHandler}
@@ -79,7 +73,6 @@ use Rattle.profile_machine.specs.Words.{same_option, same_statement}
 use Rattle.ada_regions.specs.declared.types.Formal.{Formal}
 use Rattle.ada_regions.specs.declared.types.Mode.{Mode}
 use Rattle.ada_regions.specs.declared.types.Mode.TheVariants as mode
-use Rattle.ada_regions.specs.declared.types.AdaType.{AdaType}
 use Rattle.ada_regions.specs.declared.types.Subtype.{Subtype}
 use Rattle.ada_regions.specs.declared.predefined.Operation.{Operation}
 use Rattle.ada_regions.specs.declared.predefined.Operation.TheVariants as operations
@@ -93,9 +86,9 @@ use Rattle.ada_regions.specs.Words.{and_then}
 use Rattle.ada_regions.specs.PredefinedUnits.{names_of_formals}
 use Rattle.ada_regions.specs.Names.{denoted_by, kind_at, last_part, entity_denoted}
 use Rattle.ada_regions.specs.Statics.{subtype_of_name}
-use Rattle.ada_image.specs.Making.{Within, in_construct, in_handler, in_loop, in_scope, the_action}
+use Rattle.ada_image.specs.Making.{Within, in_construct, in_handler, in_loop, in_scope}
 use Rattle.ada_image.specs.Layout.{is_array, is_kept, is_thing, subtype_is, scope_no}
-use Rattle.ada_image.specs.ImageOfExpressions.{object_named, thing_named, thing_in, expression_image, kind_named, first_argument, actuals_for, no_declaration_no}
+use Rattle.ada_image.specs.ImageOfExpressions.{object_named, thing_named, thing_in, expression_image, first_argument, actuals_for, no_declaration_no}
 use Rattle.ada_image.specs.ImageOfCalls.{FunctionCall, function_call, callee_of, owner_of_entry, names_of, image_piece}
 use Rattle.ada_image.specs.ImageOfProcedures.{first_of, second_of, third_of, thing_of, handler_of, is_in_time, moment_of}
 use Rattle.ada_image.specs.ImageOfStatements.{SequencePlace, statements_alone, behind_declarations, as_body, scope_at, array_name, exception_named, loop_left, loop_statement, choices_made, handled_made, loop_parameter_number, entry_at, unit_of_entry, guard_of, no_function}

@@ -1,11 +1,9 @@
 -- The type of an expression (clause 4), from its parts alone: no name is overloaded. Set_Handler asks for it, since a span and
 -- a moment mean different things there (D.14.1, D.15).
-use Rattle.std.specs.Prelude.{ℕ, Bool, true, false, cond, List, [], ◌∷◌, Option, Some, None, option_map, unwrap_or, slice_get, not}
+use Rattle.std.specs.Prelude.{Bool, true, false, cond, List, [], ◌∷◌, Option, Some, None, option_map, unwrap_or, slice_get, not}
 use Rattle.ada_tree.specs.declared.names.Name.{Name}
-use Rattle.ada_tree.specs.declared.names.OneOrMore.{OneOrMore}
 use Rattle.ada_tree.specs.declared.operators.AddingOperator.{AddingOperator}
 use Rattle.ada_tree.specs.declared.operators.AddingOperator.TheVariants as adding
-use Rattle.ada_tree.specs.declared.operators.MultiplyingOperator.{MultiplyingOperator}
 use Rattle.ada_tree.specs.declared.operators.HighestOperator.{HighestOperator}
 use Rattle.ada_tree.specs.declared.operators.HighestOperator.TheVariants as highest
 use Rattle.ada_tree.specs.declared.operators.Attribute.{Attribute}
@@ -19,12 +17,9 @@ use Rattle.ada_tree.specs.declared.expressions.Addend.{Addend}
 use Rattle.ada_tree.specs.declared.expressions.Multiplied.{Multiplied}
 use Rattle.ada_tree.specs.declared.expressions.Argument.{Argument}
 use Rattle.ada_tree.specs.declared.expressions.AttributeDesignator.{AttributeDesignator}
-use Rattle.profile_machine.specs.declared.values.Value.{Value}
-use Rattle.profile_machine.specs.declared.values.Value.TheVariants as value
 use Rattle.ada_lex.specs.Meaning.{decimals_of}
 use Rattle.ada_regions.specs.declared.types.AdaType.{AdaType}
 use Rattle.ada_regions.specs.declared.types.AdaType.TheVariants as types
-use Rattle.ada_regions.specs.declared.types.ArrayType.{ArrayType}
 use Rattle.ada_regions.specs.declared.types.Subtype.{Subtype}
 use Rattle.ada_regions.specs.declared.predefined.Operation.{Operation}
 use Rattle.ada_regions.specs.declared.predefined.Operation.TheVariants as operations

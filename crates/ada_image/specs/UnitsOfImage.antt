@@ -1,5 +1,5 @@
 -- Task and protected units, entries and controlled types (7.6, 9.1, 9.4, 9.5.2, C.3.1, D.1, D.3).
-use Rattle.std.specs.Prelude.{ℕ, suc, ◌+◌, ℤ, pos, Bool, true, false, cond, not, ◌&&◌, ◌||◌, List, [], ◌∷◌, ◌++◌, Option, Some, None, option_map, unwrap_or, map, eqb, leb, codes, is_some, is_none}
+use Rattle.std.specs.Prelude.{ℕ, suc, pos, Bool, true, false, cond, ◌&&◌, List, [], ◌∷◌, ◌++◌, Option, Some, None, unwrap_or, map, eqb, leb, codes, is_none}
 use Rattle.std.specs.Str.{bytes_eq}
 use Rattle.ada_tree.specs.declared.expressions.Expression.{Expression}
 use Rattle.ada_tree.specs.declared.declarations.Aspect.{Aspect}
@@ -22,13 +22,12 @@ use Rattle.ada_regions.specs.declared.types.AdaType.TheVariants as types
 use Rattle.ada_regions.specs.declared.types.Formal.{Formal}
 use Rattle.ada_regions.specs.declared.types.Mode.{Mode}
 use Rattle.ada_regions.specs.declared.types.Mode.TheVariants as mode
-use Rattle.ada_regions.specs.declared.types.Subtype.{Subtype}
 use Rattle.ada_regions.specs.declared.entities.ComponentOwner.{ComponentOwner}
 use Rattle.ada_regions.specs.declared.entities.ComponentOwner.TheVariants as owner
 use Rattle.ada_regions.specs.Words.{and_then, or_else}
 use Rattle.ada_regions.specs.Names.{Names, NumberedDeclaration, NumberedSubprogram, NumberedTask, NumberedProtected, NumberedControlled, NumberedEntry, NumberedEntryBody}
 use Rattle.ada_regions.specs.Statics.{static_value}
-use Rattle.ada_image.specs.Making.{Making, Within, ◌>>=◌, ◌>>◌, pure}
+use Rattle.ada_image.specs.Making.{Making, Within, ◌>>=◌, pure}
 use Rattle.ada_image.specs.Layout.{is_component_of, formal_made, scope_no, subtype_is}
 use Rattle.ada_image.specs.ImageOfExpressions.{expression_made}
 

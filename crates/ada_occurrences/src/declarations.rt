@@ -3,7 +3,7 @@ ghost use Rattle.std.specs.Prelude.{◌≡◌, ◌++◌, OnOk};
 ghost use Rattle.ada_regions.specs.Occurrences.{an_object, a_component, a_literal, an_exception, declares_all, if_there};
 ghost use Rattle.ada_regions.specs.NamesInDeclarations.{names_in_definition, names_in_profile, names_in_private, names_in_subprogram_body, names_in_entry_body};
 
-use crate::listener::Listener;
+use crate::occurrences::{Occurrence, Occurrences};
 use crate::statements::{hide_all, tell_body, tell_parameters};
 use crate::telling::{Tell, TellSequence, tell_each};
 use ada_tree::{
@@ -16,15 +16,18 @@ use ann_base::NoMemory;
 use sqlite_items::Items;
 
 /// Declares the objects of a declaration.
-fn declare_objects<L: Listener>(
-    listener: &mut L,
-    object: &ObjectDeclaration,
+fn declare_objects<'t>(
+    occurrences: &mut Occurrences<'t>,
+    object: &'t ObjectDeclaration,
 ) -> Result<(), NoMemory>
-    ensures { OnOk result (L.told listener.new ≡ L.told listener.old ++ declares_all (an_object object.now) object.now.names) }
+    ensures { OnOk result (occurrences.new ≡ occurrences.old ++ declares_all (an_object object.now) object.now.names) }
 {
-    listener.declare_object(&object.names.first, object)?;
+    occurrences.push(Occurrence::DeclareObject {
+        name: &object.names.first,
+        object,
+    })?;
     for name in object.names.others.as_slice() {
-        listener.declare_object(name, object)?;
+        occurrences.push(Occurrence::DeclareObject { name, object })?;
     }
     Ok(())
 }
@@ -35,21 +38,27 @@ impl Tell for ObjectDeclaration {
 
     ghost names = { names_in_object };
 
-    fn tell<L: Listener>(&self, listener: &mut L) -> Result<(), NoMemory> {
-        hide_all(listener, &self.names)?;
-        self.subtype.tell(listener)?;
-        self.initial.tell(listener)?;
-        declare_objects(listener, self)
+    fn tell<'t>(&'t self, occurrences: &mut Occurrences<'t>) -> Result<(), NoMemory> {
+        hide_all(occurrences, &self.names)?;
+        self.subtype.tell(occurrences)?;
+        self.initial.tell(occurrences)?;
+        declare_objects(occurrences, self)
     }
 }
 
 /// Declares the components of a component declaration.
-fn declare_components<L: Listener>(listener: &mut L, component: &Component) -> Result<(), NoMemory>
-    ensures { OnOk result (L.told listener.new ≡ L.told listener.old ++ declares_all (a_component component.now) component.now.names) }
+fn declare_components<'t>(
+    occurrences: &mut Occurrences<'t>,
+    component: &'t Component,
+) -> Result<(), NoMemory>
+    ensures { OnOk result (occurrences.new ≡ occurrences.old ++ declares_all (a_component component.now) component.now.names) }
 {
-    listener.declare_component(&component.names.first, component)?;
+    occurrences.push(Occurrence::DeclareComponent {
+        name: &component.names.first,
+        component,
+    })?;
     for name in component.names.others.as_slice() {
-        listener.declare_component(name, component)?;
+        occurrences.push(Occurrence::DeclareComponent { name, component })?;
     }
     Ok(())
 }
@@ -60,73 +69,80 @@ impl Tell for Component {
 
     ghost names = { names_in_component };
 
-    fn tell<L: Listener>(&self, listener: &mut L) -> Result<(), NoMemory> {
-        hide_all(listener, &self.names)?;
-        self.subtype.tell(listener)?;
-        self.initial.tell(listener)?;
-        declare_components(listener, self)
+    fn tell<'t>(&'t self, occurrences: &mut Occurrences<'t>) -> Result<(), NoMemory> {
+        hide_all(occurrences, &self.names)?;
+        self.subtype.tell(occurrences)?;
+        self.initial.tell(occurrences)?;
+        declare_components(occurrences, self)
     }
 }
 
 /// Declares the literals of an enumeration type.
-fn declare_literals<L: Listener>(
-    listener: &mut L,
-    literals: &OneOrMore<Identifier>,
+fn declare_literals<'t>(
+    occurrences: &mut Occurrences<'t>,
+    literals: &'t OneOrMore<Identifier>,
 ) -> Result<(), NoMemory>
-    ensures { OnOk result (L.told listener.new ≡ L.told listener.old ++ declares_all a_literal literals.now) }
+    ensures { OnOk result (occurrences.new ≡ occurrences.old ++ declares_all a_literal literals.now) }
 {
-    listener.declare_literal(&literals.first)?;
+    occurrences.push(Occurrence::DeclareLiteral {
+        name: &literals.first,
+    })?;
     for name in literals.others.as_slice() {
-        listener.declare_literal(name)?;
+        occurrences.push(Occurrence::DeclareLiteral { name })?;
     }
     Ok(())
 }
 
 /// Declares exceptions (11.1).
-fn declare_exceptions<L: Listener>(
-    listener: &mut L,
-    names: &OneOrMore<Identifier>,
+fn declare_exceptions<'t>(
+    occurrences: &mut Occurrences<'t>,
+    names: &'t OneOrMore<Identifier>,
 ) -> Result<(), NoMemory>
-    ensures { OnOk result (L.told listener.new ≡ L.told listener.old ++ declares_all an_exception names.now) }
+    ensures { OnOk result (occurrences.new ≡ occurrences.old ++ declares_all an_exception names.now) }
 {
-    listener.declare_exception(&names.first)?;
+    occurrences.push(Occurrence::DeclareException { name: &names.first })?;
     for name in names.others.as_slice() {
-        listener.declare_exception(name)?;
+        occurrences.push(Occurrence::DeclareException { name })?;
     }
     Ok(())
 }
 
 /// How a type is defined, with its name.
-fn tell_definition<L: Listener>(
-    listener: &mut L,
-    name: &Identifier,
-    definition: &TypeDefinition,
+fn tell_definition<'t>(
+    occurrences: &mut Occurrences<'t>,
+    name: &'t Identifier,
+    definition: &'t TypeDefinition,
 ) -> Result<(), NoMemory>
-    ensures { OnOk result (L.told listener.new ≡ L.told listener.old ++ names_in_definition name.now definition.now) }
+    ensures { OnOk result (occurrences.new ≡ occurrences.old ++ names_in_definition name.now definition.now) }
 {
     match definition {
         TypeDefinition::Enumeration { literals } => {
-            listener.declare_enumeration(name, literals)?;
-            declare_literals(listener, literals)
+            occurrences.push(Occurrence::DeclareEnumeration { name, literals })?;
+            declare_literals(occurrences, literals)
         }
         TypeDefinition::Array {
             low,
             high,
             component,
         } => {
-            listener.hide(name)?;
-            low.tell(listener)?;
-            high.tell(listener)?;
-            component.tell(listener)?;
-            listener.declare_array(name, low, high, component)
+            occurrences.push(Occurrence::Hide { name })?;
+            low.tell(occurrences)?;
+            high.tell(occurrences)?;
+            component.tell(occurrences)?;
+            occurrences.push(Occurrence::DeclareArray {
+                name,
+                low,
+                high,
+                component,
+            })
         }
         TypeDefinition::Derived { parent, components } => {
-            listener.hide(name)?;
-            listener.mention(parent)?;
-            listener.declare_derived_type(name, parent)?;
-            listener.begin_record(name)?;
-            components.tell(listener)?;
-            listener.end()
+            occurrences.push(Occurrence::Hide { name })?;
+            occurrences.push(Occurrence::Mention { name: parent })?;
+            occurrences.push(Occurrence::DeclareDerivedType { name, parent })?;
+            occurrences.push(Occurrence::BeginRecord { name })?;
+            components.tell(occurrences)?;
+            occurrences.push(Occurrence::End)
         }
     }
 }
@@ -136,8 +152,8 @@ impl Tell for TypeDeclaration {
 
     ghost names = { names_in_type };
 
-    fn tell<L: Listener>(&self, listener: &mut L) -> Result<(), NoMemory> {
-        tell_definition(listener, &self.name, &self.definition)
+    fn tell<'t>(&'t self, occurrences: &mut Occurrences<'t>) -> Result<(), NoMemory> {
+        tell_definition(occurrences, &self.name, &self.definition)
     }
 }
 
@@ -146,10 +162,13 @@ impl Tell for SubtypeDeclaration {
 
     ghost names = { names_in_subtype };
 
-    fn tell<L: Listener>(&self, listener: &mut L) -> Result<(), NoMemory> {
-        listener.hide(&self.name)?;
-        self.subtype.tell(listener)?;
-        listener.declare_subtype(&self.name, &self.subtype)
+    fn tell<'t>(&'t self, occurrences: &mut Occurrences<'t>) -> Result<(), NoMemory> {
+        occurrences.push(Occurrence::Hide { name: &self.name })?;
+        self.subtype.tell(occurrences)?;
+        occurrences.push(Occurrence::DeclareSubtype {
+            name: &self.name,
+            subtype: &self.subtype,
+        })
     }
 }
 
@@ -158,22 +177,22 @@ impl Tell for Aspect {
 
     ghost names = { names_in_aspect };
 
-    fn tell<L: Listener>(&self, listener: &mut L) -> Result<(), NoMemory> {
-        self.value.tell(listener)
+    fn tell<'t>(&'t self, occurrences: &mut Occurrences<'t>) -> Result<(), NoMemory> {
+        self.value.tell(occurrences)
     }
 }
 
 /// A profile with its aspects (6.1, 13.1.1).
-fn tell_profile<L: Listener>(
-    listener: &mut L,
+fn tell_profile<'t>(
+    occurrences: &mut Occurrences<'t>,
     with_cells: bool,
-    specification: &SubprogramSpecification,
+    specification: &'t SubprogramSpecification,
 ) -> Result<(), NoMemory>
-    ensures { OnOk result (L.told listener.new ≡ L.told listener.old ++ names_in_profile with_cells specification.now) }
+    ensures { OnOk result (occurrences.new ≡ occurrences.old ++ names_in_profile with_cells specification.now) }
 {
-    tell_parameters(listener, with_cells, specification.parameters.as_slice())?;
-    specification.result.tell(listener)?;
-    specification.aspects.tell(listener)
+    tell_parameters(occurrences, with_cells, specification.parameters.as_slice())?;
+    specification.result.tell(occurrences)?;
+    specification.aspects.tell(occurrences)
 }
 
 /// A subprogram declaration (6.1).
@@ -182,12 +201,15 @@ impl Tell for SubprogramSpecification {
 
     ghost names = { names_in_specification };
 
-    fn tell<L: Listener>(&self, listener: &mut L) -> Result<(), NoMemory> {
-        listener.hide(&self.name)?;
-        listener.begin_profile()?;
-        tell_profile(listener, false, self)?;
-        listener.end()?;
-        listener.declare_subprogram(&self.name, self)
+    fn tell<'t>(&'t self, occurrences: &mut Occurrences<'t>) -> Result<(), NoMemory> {
+        occurrences.push(Occurrence::Hide { name: &self.name })?;
+        occurrences.push(Occurrence::BeginProfile)?;
+        tell_profile(occurrences, false, self)?;
+        occurrences.push(Occurrence::End)?;
+        occurrences.push(Occurrence::DeclareSubprogram {
+            name: &self.name,
+            specification: self,
+        })
     }
 }
 
@@ -197,12 +219,15 @@ impl Tell for EntryDeclaration {
 
     ghost names = { names_in_entry };
 
-    fn tell<L: Listener>(&self, listener: &mut L) -> Result<(), NoMemory> {
-        listener.hide(&self.name)?;
-        listener.begin_profile()?;
-        tell_parameters(listener, false, self.parameters.as_slice())?;
-        listener.end()?;
-        listener.declare_entry(&self.name, self.parameters.as_slice())
+    fn tell<'t>(&'t self, occurrences: &mut Occurrences<'t>) -> Result<(), NoMemory> {
+        occurrences.push(Occurrence::Hide { name: &self.name })?;
+        occurrences.push(Occurrence::BeginProfile)?;
+        tell_parameters(occurrences, false, self.parameters.as_slice())?;
+        occurrences.push(Occurrence::End)?;
+        occurrences.push(Occurrence::DeclareEntry {
+            name: &self.name,
+            parameters: self.parameters.as_slice(),
+        })
     }
 }
 
@@ -211,8 +236,8 @@ impl Tell for TaskDefinition {
 
     ghost names = { names_in_task_definition };
 
-    fn tell<L: Listener>(&self, listener: &mut L) -> Result<(), NoMemory> {
-        self.entries.tell(listener)
+    fn tell<'t>(&'t self, occurrences: &mut Occurrences<'t>) -> Result<(), NoMemory> {
+        self.entries.tell(occurrences)
     }
 }
 
@@ -222,13 +247,17 @@ impl Tell for TaskDeclaration {
 
     ghost names = { names_in_task };
 
-    fn tell<L: Listener>(&self, listener: &mut L) -> Result<(), NoMemory> {
-        listener.hide(&self.name)?;
-        self.aspects.tell(listener)?;
-        listener.declare_task(&self.name, self.is_type, self.aspects.as_slice())?;
-        listener.begin_unit(&self.name)?;
-        self.definition.tell(listener)?;
-        listener.end()
+    fn tell<'t>(&'t self, occurrences: &mut Occurrences<'t>) -> Result<(), NoMemory> {
+        occurrences.push(Occurrence::Hide { name: &self.name })?;
+        self.aspects.tell(occurrences)?;
+        occurrences.push(Occurrence::DeclareTask {
+            name: &self.name,
+            is_type: self.is_type,
+            aspects: self.aspects.as_slice(),
+        })?;
+        occurrences.push(Occurrence::BeginUnit { name: &self.name })?;
+        self.definition.tell(occurrences)?;
+        occurrences.push(Occurrence::End)
     }
 }
 
@@ -237,26 +266,26 @@ impl Tell for ProtectedOperation {
 
     ghost names = { names_in_operation };
 
-    fn tell<L: Listener>(&self, listener: &mut L) -> Result<(), NoMemory> {
+    fn tell<'t>(&'t self, occurrences: &mut Occurrences<'t>) -> Result<(), NoMemory> {
         match self {
-            ProtectedOperation::Subprogram(specification) => specification.tell(listener),
-            ProtectedOperation::Entry(entry) => entry.tell(listener),
+            ProtectedOperation::Subprogram(specification) => specification.tell(occurrences),
+            ProtectedOperation::Entry(entry) => entry.tell(occurrences),
         }
     }
 }
 
 /// The components of a protected unit, where `private` stands there (9.4).
-fn tell_private<L: Listener>(
-    listener: &mut L,
-    components: &Option<Items<Component>>,
+fn tell_private<'t>(
+    occurrences: &mut Occurrences<'t>,
+    components: &'t Option<Items<Component>>,
 ) -> Result<(), NoMemory>
-    ensures { OnOk result (L.told listener.new ≡ L.told listener.old ++ if_there names_in_private components.now) }
+    ensures { OnOk result (occurrences.new ≡ occurrences.old ++ if_there names_in_private components.now) }
 {
     match components {
         None => Ok(()),
         Some(components) => {
-            listener.private_from_here()?;
-            components.tell(listener)
+            occurrences.push(Occurrence::PrivateFromHere)?;
+            components.tell(occurrences)
         }
     }
 }
@@ -267,14 +296,18 @@ impl Tell for ProtectedDeclaration {
 
     ghost names = { names_in_protected };
 
-    fn tell<L: Listener>(&self, listener: &mut L) -> Result<(), NoMemory> {
-        listener.hide(&self.name)?;
-        self.aspects.tell(listener)?;
-        listener.declare_protected(&self.name, self.is_type, self.aspects.as_slice())?;
-        listener.begin_unit(&self.name)?;
-        self.operations.tell(listener)?;
-        tell_private(listener, &self.components)?;
-        listener.end()
+    fn tell<'t>(&'t self, occurrences: &mut Occurrences<'t>) -> Result<(), NoMemory> {
+        occurrences.push(Occurrence::Hide { name: &self.name })?;
+        self.aspects.tell(occurrences)?;
+        occurrences.push(Occurrence::DeclareProtected {
+            name: &self.name,
+            is_type: self.is_type,
+            aspects: self.aspects.as_slice(),
+        })?;
+        occurrences.push(Occurrence::BeginUnit { name: &self.name })?;
+        self.operations.tell(occurrences)?;
+        tell_private(occurrences, &self.components)?;
+        occurrences.push(Occurrence::End)
     }
 }
 
@@ -283,42 +316,54 @@ impl<Q: TellSequence> Tell for Body<Q> {
 
     ghost names = { names_in_body Q.names_in };
 
-    fn tell<L: Listener>(&self, listener: &mut L) -> Result<(), NoMemory> {
-        tell_body(listener, &self.sequence)
+    fn tell<'t>(&'t self, occurrences: &mut Occurrences<'t>) -> Result<(), NoMemory> {
+        tell_body(occurrences, &self.sequence)
     }
 }
 
 /// A subprogram body (6.3).
-fn tell_subprogram_body<Q: TellSequence, L: Listener>(
-    listener: &mut L,
-    specification: &SubprogramSpecification,
-    body: &Body<Q>,
+fn tell_subprogram_body<'t, Q: TellSequence>(
+    occurrences: &mut Occurrences<'t>,
+    specification: &'t SubprogramSpecification,
+    body: &'t Body<Q>,
 ) -> Result<(), NoMemory>
-    ensures { OnOk result (L.told listener.new ≡ L.told listener.old ++ names_in_subprogram_body Q.names_in specification.now body.now) }
+    ensures { OnOk result (occurrences.new ≡ occurrences.old ++ names_in_subprogram_body Q.names_in specification.now body.now) }
 {
-    listener.head(&specification.name)?;
-    listener.begin_subprogram_body(specification.place, specification.result.is_some())?;
-    tell_profile(listener, true, specification)?;
-    listener.complete(&specification.name, specification)?;
-    body.tell(listener)?;
-    listener.end()
+    occurrences.push(Occurrence::Head {
+        name: &specification.name,
+    })?;
+    occurrences.push(Occurrence::BeginSubprogramBody {
+        place: specification.place,
+        is_function: specification.result.is_some(),
+    })?;
+    tell_profile(occurrences, true, specification)?;
+    occurrences.push(Occurrence::Complete {
+        name: &specification.name,
+        specification,
+    })?;
+    body.tell(occurrences)?;
+    occurrences.push(Occurrence::End)
 }
 
 /// An entry body (9.5.2).
-fn tell_entry_body<Q: TellSequence, L: Listener>(
-    listener: &mut L,
-    head: &EntryHead,
-    body: &Body<Q>,
+fn tell_entry_body<'t, Q: TellSequence>(
+    occurrences: &mut Occurrences<'t>,
+    head: &'t EntryHead,
+    body: &'t Body<Q>,
 ) -> Result<(), NoMemory>
-    ensures { OnOk result (L.told listener.new ≡ L.told listener.old ++ names_in_entry_body Q.names_in head.now body.now) }
+    ensures { OnOk result (occurrences.new ≡ occurrences.old ++ names_in_entry_body Q.names_in head.now body.now) }
 {
-    listener.mention_entry(&head.name)?;
-    listener.begin_entry_body(&head.name, head.place, &head.barrier)?;
-    tell_parameters(listener, true, head.parameters.as_slice())?;
-    head.barrier.tell(listener)?;
-    listener.call_region(&head.name)?;
-    body.tell(listener)?;
-    listener.end()
+    occurrences.push(Occurrence::MentionEntry { name: &head.name })?;
+    occurrences.push(Occurrence::BeginEntryBody {
+        name: &head.name,
+        place: head.place,
+        barrier: &head.barrier,
+    })?;
+    tell_parameters(occurrences, true, head.parameters.as_slice())?;
+    head.barrier.tell(occurrences)?;
+    occurrences.push(Occurrence::CallRegion { name: &head.name })?;
+    body.tell(occurrences)?;
+    occurrences.push(Occurrence::End)
 }
 
 impl<Q: TellSequence> Tell for OperationBody<Q> {
@@ -326,13 +371,13 @@ impl<Q: TellSequence> Tell for OperationBody<Q> {
 
     ghost names = { names_in_operation_body Q.names_in };
 
-    fn tell<L: Listener>(&self, listener: &mut L) -> Result<(), NoMemory> {
+    fn tell<'t>(&'t self, occurrences: &mut Occurrences<'t>) -> Result<(), NoMemory> {
         match self {
             OperationBody::Subprogram {
                 specification,
                 body,
-            } => tell_subprogram_body(listener, specification, body),
-            OperationBody::Entry { head, body } => tell_entry_body(listener, head, body),
+            } => tell_subprogram_body(occurrences, specification, body),
+            OperationBody::Entry { head, body } => tell_entry_body(occurrences, head, body),
         }
     }
 }
@@ -343,10 +388,10 @@ impl<Q: TellSequence> Tell for ProtectedBody<Q> {
 
     ghost names = { names_in_protected_body Q.names_in };
 
-    fn tell<L: Listener>(&self, listener: &mut L) -> Result<(), NoMemory> {
-        listener.begin_protected_body(&self.name)?;
-        self.operations.tell(listener)?;
-        listener.end()
+    fn tell<'t>(&'t self, occurrences: &mut Occurrences<'t>) -> Result<(), NoMemory> {
+        occurrences.push(Occurrence::BeginProtectedBody { name: &self.name })?;
+        self.operations.tell(occurrences)?;
+        occurrences.push(Occurrence::End)
     }
 }
 
@@ -356,26 +401,29 @@ impl<Q: TellSequence> Tell for Declaration<Q> {
 
     ghost names = { names_in_declaration Q.names_in };
 
-    fn tell<L: Listener>(&self, listener: &mut L) -> Result<(), NoMemory> {
+    fn tell<'t>(&'t self, occurrences: &mut Occurrences<'t>) -> Result<(), NoMemory> {
         match self {
-            Declaration::Object(object) => object.tell(listener),
-            Declaration::Type(declaration) => declaration.tell(listener),
-            Declaration::Subtype(subtype) => subtype.tell(listener),
-            Declaration::Exception { names } => declare_exceptions(listener, names),
-            Declaration::Subprogram(specification) => specification.tell(listener),
+            Declaration::Object(object) => object.tell(occurrences),
+            Declaration::Type(declaration) => declaration.tell(occurrences),
+            Declaration::Subtype(subtype) => subtype.tell(occurrences),
+            Declaration::Exception { names } => declare_exceptions(occurrences, names),
+            Declaration::Subprogram(specification) => specification.tell(occurrences),
             Declaration::SubprogramBody {
                 specification,
                 body,
-            } => tell_subprogram_body(listener, specification, body),
-            Declaration::Task(task) => task.tell(listener),
+            } => tell_subprogram_body(occurrences, specification, body),
+            Declaration::Task(task) => task.tell(occurrences),
             Declaration::TaskBody { place, name, body } => {
-                listener.begin_task_body(name, *place)?;
-                body.tell(listener)?;
-                listener.end()
+                occurrences.push(Occurrence::BeginTaskBody {
+                    name,
+                    place: *place,
+                })?;
+                body.tell(occurrences)?;
+                occurrences.push(Occurrence::End)
             }
-            Declaration::Protected(protected) => protected.tell(listener),
-            Declaration::ProtectedBody(protected) => protected.tell(listener),
-            Declaration::Use { name, .. } => listener.use_package(name),
+            Declaration::Protected(protected) => protected.tell(occurrences),
+            Declaration::ProtectedBody(protected) => protected.tell(occurrences),
+            Declaration::Use { name, .. } => occurrences.push(Occurrence::UsePackage { name }),
         }
     }
 }

@@ -1,7 +1,7 @@
 //! The names in expressions (ISO/IEC 8652:2012, clause 4).
 ghost use Rattle.std.specs.Prelude.{◌≡◌, ◌++◌, OnOk};
 
-use crate::listener::Listener;
+use crate::occurrences::{Occurrence, Occurrences};
 use crate::telling::{Tell, tell_each};
 use ada_tree::{Addend, Argument, Expression, ExpressionForm, Multiplied, Operand};
 use ann_base::NoMemory;
@@ -11,8 +11,8 @@ impl<E: Tell> Tell for Operand<E> {
 
     ghost names = { names_in_operand E.names };
 
-    fn tell<L: Listener>(&self, listener: &mut L) -> Result<(), NoMemory> {
-        self.relation.tell(listener)
+    fn tell<'t>(&'t self, occurrences: &mut Occurrences<'t>) -> Result<(), NoMemory> {
+        self.relation.tell(occurrences)
     }
 }
 
@@ -21,8 +21,8 @@ impl<E: Tell> Tell for Addend<E> {
 
     ghost names = { names_in_addend E.names };
 
-    fn tell<L: Listener>(&self, listener: &mut L) -> Result<(), NoMemory> {
-        self.term.tell(listener)
+    fn tell<'t>(&'t self, occurrences: &mut Occurrences<'t>) -> Result<(), NoMemory> {
+        self.term.tell(occurrences)
     }
 }
 
@@ -31,8 +31,8 @@ impl<E: Tell> Tell for Multiplied<E> {
 
     ghost names = { names_in_multiplied E.names };
 
-    fn tell<L: Listener>(&self, listener: &mut L) -> Result<(), NoMemory> {
-        self.factor.tell(listener)
+    fn tell<'t>(&'t self, occurrences: &mut Occurrences<'t>) -> Result<(), NoMemory> {
+        self.factor.tell(occurrences)
     }
 }
 
@@ -41,8 +41,8 @@ impl<E: Tell> Tell for Argument<E> {
 
     ghost names = { names_in_argument E.names };
 
-    fn tell<L: Listener>(&self, listener: &mut L) -> Result<(), NoMemory> {
-        self.value.tell(listener)
+    fn tell<'t>(&'t self, occurrences: &mut Occurrences<'t>) -> Result<(), NoMemory> {
+        self.value.tell(occurrences)
     }
 }
 
@@ -51,37 +51,37 @@ impl<E: Tell> Tell for ExpressionForm<E> {
 
     ghost names = { names_in_form E.names };
 
-    fn tell<L: Listener>(&self, listener: &mut L) -> Result<(), NoMemory> {
+    fn tell<'t>(&'t self, occurrences: &mut Occurrences<'t>) -> Result<(), NoMemory> {
         match self {
             ExpressionForm::Logical { first, others, .. } => {
-                first.tell(listener)?;
-                others.tell(listener)
+                first.tell(occurrences)?;
+                others.tell(occurrences)
             }
             ExpressionForm::Relational { left, right, .. } => {
-                left.tell(listener)?;
-                right.tell(listener)
+                left.tell(occurrences)?;
+                right.tell(occurrences)
             }
             ExpressionForm::Adding { first, others } => {
-                first.tell(listener)?;
-                others.tell(listener)
+                first.tell(occurrences)?;
+                others.tell(occurrences)
             }
-            ExpressionForm::Signed { operand, .. } => operand.tell(listener),
+            ExpressionForm::Signed { operand, .. } => operand.tell(occurrences),
             ExpressionForm::Multiplying { first, others } => {
-                first.tell(listener)?;
-                others.tell(listener)
+                first.tell(occurrences)?;
+                others.tell(occurrences)
             }
-            ExpressionForm::Highest { operand, .. } => operand.tell(listener),
+            ExpressionForm::Highest { operand, .. } => operand.tell(occurrences),
             ExpressionForm::Number { .. }
             | ExpressionForm::Text { .. }
             | ExpressionForm::Null { .. } => Ok(()),
-            ExpressionForm::Bracketed { inner, .. } => inner.tell(listener),
+            ExpressionForm::Bracketed { inner, .. } => inner.tell(occurrences),
             ExpressionForm::Named {
                 name,
                 arguments,
                 ..
             } => {
-                listener.mention(name)?;
-                tell_each(listener, arguments.as_slice())
+                occurrences.push(Occurrence::Mention { name })?;
+                tell_each(occurrences, arguments.as_slice())
             }
         }
     }
@@ -93,7 +93,7 @@ impl Tell for Expression {
     ghost names = { names_in_expression };
 
     #[tactic(auto, using(crate::proofs::ExpressionFolds::expression_tells))]
-    fn tell<L: Listener>(&self, listener: &mut L) -> Result<(), NoMemory> {
-        self.form.get().tell(listener)
+    fn tell<'t>(&'t self, occurrences: &mut Occurrences<'t>) -> Result<(), NoMemory> {
+        self.form.get().tell(occurrences)
     }
 }

@@ -4,7 +4,7 @@ ghost use Rattle.std.specs.List.{flat_map};
 ghost use Rattle.ada_regions.specs.Occurrences.{if_there};
 ghost use Rattle.ada_regions.specs.NamesInStatements.{labels_in, declares_label};
 
-use crate::listener::Listener;
+use crate::occurrences::{Occurrence, Occurrences};
 use crate::telling::TellSequence;
 use ada_tree::{
     Accept, AcceptBody, Alternative, CaseAlternative, Elsif, Handler, If, Label, OneOrMore,
@@ -21,19 +21,19 @@ pub(crate) trait TellLabels {
     ghost labels: { Self → Occurrences };
 
     /// Declares them in the order of the text.
-    fn tell_labels<L: Listener>(&self, listener: &mut L) -> Result<(), NoMemory>
-        ensures { OnOk result (L.told listener.new ≡ L.told listener.old ++ labels self.now) };
+    fn tell_labels<'t>(&'t self, occurrences: &mut Occurrences<'t>) -> Result<(), NoMemory>
+        ensures { OnOk result (occurrences.new ≡ occurrences.old ++ labels self.now) };
 }
 
 /// Items one behind another.
-pub(crate) fn tell_labels_of_each<T: TellLabels, L: Listener>(
-    listener: &mut L,
-    items: &[T],
+pub(crate) fn tell_labels_of_each<'t, T: TellLabels>(
+    occurrences: &mut Occurrences<'t>,
+    items: &'t [T],
 ) -> Result<(), NoMemory>
-    ensures { OnOk result (L.told listener.new ≡ L.told listener.old ++ flat_map T.labels items.now) }
+    ensures { OnOk result (occurrences.new ≡ occurrences.old ++ flat_map T.labels items.now) }
 {
     for item in items {
-        item.tell_labels(listener)?;
+        item.tell_labels(occurrences)?;
     }
     Ok(())
 }
@@ -43,8 +43,8 @@ impl<T: TellLabels> TellLabels for Items<T> {
 
     ghost labels = { flat_map T.labels };
 
-    fn tell_labels<L: Listener>(&self, listener: &mut L) -> Result<(), NoMemory> {
-        tell_labels_of_each(listener, self.as_slice())
+    fn tell_labels<'t>(&'t self, occurrences: &mut Occurrences<'t>) -> Result<(), NoMemory> {
+        tell_labels_of_each(occurrences, self.as_slice())
     }
 }
 
@@ -53,9 +53,9 @@ impl<T: TellLabels> TellLabels for OneOrMore<T> {
 
     ghost labels = { in_all T.labels };
 
-    fn tell_labels<L: Listener>(&self, listener: &mut L) -> Result<(), NoMemory> {
-        self.first.tell_labels(listener)?;
-        self.others.tell_labels(listener)
+    fn tell_labels<'t>(&'t self, occurrences: &mut Occurrences<'t>) -> Result<(), NoMemory> {
+        self.first.tell_labels(occurrences)?;
+        self.others.tell_labels(occurrences)
     }
 }
 
@@ -64,34 +64,37 @@ impl<T: TellLabels> TellLabels for Option<T> {
 
     ghost labels = { if_there T.labels };
 
-    fn tell_labels<L: Listener>(&self, listener: &mut L) -> Result<(), NoMemory> {
+    fn tell_labels<'t>(&'t self, occurrences: &mut Occurrences<'t>) -> Result<(), NoMemory> {
         match self {
             None => Ok(()),
-            Some(item) => item.tell_labels(listener),
+            Some(item) => item.tell_labels(occurrences),
         }
     }
 }
 
 /// The labels of a sequence, where it stands there.
-fn tell_optional_labels<Q: TellSequence, L: Listener>(
-    listener: &mut L,
-    sequence: &Option<Q>,
+fn tell_optional_labels<'t, Q: TellSequence>(
+    occurrences: &mut Occurrences<'t>,
+    sequence: &'t Option<Q>,
 ) -> Result<(), NoMemory>
-    ensures { OnOk result (L.told listener.new ≡ L.told listener.old ++ if_there (labels_in Q.names_in) sequence.now) }
+    ensures { OnOk result (occurrences.new ≡ occurrences.old ++ if_there (labels_in Q.names_in) sequence.now) }
 {
     match sequence {
         None => Ok(()),
-        Some(sequence) => sequence.tell_labels(listener),
+        Some(sequence) => sequence.tell_labels(occurrences),
     }
 }
 
 /// The label of a loop or a block.
-fn tell_label<L: Listener>(listener: &mut L, label: &Option<Label>) -> Result<(), NoMemory>
-    ensures { OnOk result (L.told listener.new ≡ L.told listener.old ++ declares_label label.now) }
+fn tell_label<'t>(
+    occurrences: &mut Occurrences<'t>,
+    label: &'t Option<Label>,
+) -> Result<(), NoMemory>
+    ensures { OnOk result (occurrences.new ≡ occurrences.old ++ declares_label label.now) }
 {
     match label {
         None => Ok(()),
-        Some(label) => listener.declare_label(&label.name),
+        Some(label) => occurrences.push(Occurrence::DeclareLabel { name: &label.name }),
     }
 }
 
@@ -100,8 +103,8 @@ impl<Q: TellSequence> TellLabels for Elsif<Q> {
 
     ghost labels = { labels_in_elsif Q.names_in };
 
-    fn tell_labels<L: Listener>(&self, listener: &mut L) -> Result<(), NoMemory> {
-        self.statements.tell_labels(listener)
+    fn tell_labels<'t>(&'t self, occurrences: &mut Occurrences<'t>) -> Result<(), NoMemory> {
+        self.statements.tell_labels(occurrences)
     }
 }
 
@@ -110,10 +113,10 @@ impl<Q: TellSequence> TellLabels for If<Q> {
 
     ghost labels = { labels_in_if Q.names_in };
 
-    fn tell_labels<L: Listener>(&self, listener: &mut L) -> Result<(), NoMemory> {
-        self.statements.tell_labels(listener)?;
-        self.elsifs.tell_labels(listener)?;
-        tell_optional_labels(listener, &self.otherwise)
+    fn tell_labels<'t>(&'t self, occurrences: &mut Occurrences<'t>) -> Result<(), NoMemory> {
+        self.statements.tell_labels(occurrences)?;
+        self.elsifs.tell_labels(occurrences)?;
+        tell_optional_labels(occurrences, &self.otherwise)
     }
 }
 
@@ -122,8 +125,8 @@ impl<Q: TellSequence> TellLabels for CaseAlternative<Q> {
 
     ghost labels = { labels_in_case_alternative Q.names_in };
 
-    fn tell_labels<L: Listener>(&self, listener: &mut L) -> Result<(), NoMemory> {
-        self.statements.tell_labels(listener)
+    fn tell_labels<'t>(&'t self, occurrences: &mut Occurrences<'t>) -> Result<(), NoMemory> {
+        self.statements.tell_labels(occurrences)
     }
 }
 
@@ -132,8 +135,8 @@ impl<Q: TellSequence> TellLabels for Handler<Q> {
 
     ghost labels = { labels_in_handler Q.names_in };
 
-    fn tell_labels<L: Listener>(&self, listener: &mut L) -> Result<(), NoMemory> {
-        self.statements.tell_labels(listener)
+    fn tell_labels<'t>(&'t self, occurrences: &mut Occurrences<'t>) -> Result<(), NoMemory> {
+        self.statements.tell_labels(occurrences)
     }
 }
 
@@ -142,8 +145,8 @@ impl<Q: TellSequence> TellLabels for AcceptBody<Q> {
 
     ghost labels = { labels_in_accept_body Q.names_in };
 
-    fn tell_labels<L: Listener>(&self, listener: &mut L) -> Result<(), NoMemory> {
-        self.sequence.tell_labels(listener)
+    fn tell_labels<'t>(&'t self, occurrences: &mut Occurrences<'t>) -> Result<(), NoMemory> {
+        self.sequence.tell_labels(occurrences)
     }
 }
 
@@ -152,8 +155,8 @@ impl<Q: TellSequence> TellLabels for Accept<Q> {
 
     ghost labels = { labels_in_accept Q.names_in };
 
-    fn tell_labels<L: Listener>(&self, listener: &mut L) -> Result<(), NoMemory> {
-        self.body.tell_labels(listener)
+    fn tell_labels<'t>(&'t self, occurrences: &mut Occurrences<'t>) -> Result<(), NoMemory> {
+        self.body.tell_labels(occurrences)
     }
 }
 
@@ -162,13 +165,13 @@ impl<Q: TellSequence> TellLabels for Alternative<Q> {
 
     ghost labels = { labels_in_alternative Q.names_in };
 
-    fn tell_labels<L: Listener>(&self, listener: &mut L) -> Result<(), NoMemory> {
+    fn tell_labels<'t>(&'t self, occurrences: &mut Occurrences<'t>) -> Result<(), NoMemory> {
         match self {
             Alternative::Accept { accept, statements } => {
-                accept.tell_labels(listener)?;
-                tell_optional_labels(listener, statements)
+                accept.tell_labels(occurrences)?;
+                tell_optional_labels(occurrences, statements)
             }
-            Alternative::Delay { statements, .. } => tell_optional_labels(listener, statements),
+            Alternative::Delay { statements, .. } => tell_optional_labels(occurrences, statements),
             Alternative::Terminate { .. } => Ok(()),
         }
     }
@@ -179,8 +182,8 @@ impl<Q: TellSequence> TellLabels for SelectAlternative<Q> {
 
     ghost labels = { labels_in_select_alternative Q.names_in };
 
-    fn tell_labels<L: Listener>(&self, listener: &mut L) -> Result<(), NoMemory> {
-        self.alternative.tell_labels(listener)
+    fn tell_labels<'t>(&'t self, occurrences: &mut Occurrences<'t>) -> Result<(), NoMemory> {
+        self.alternative.tell_labels(occurrences)
     }
 }
 
@@ -189,23 +192,23 @@ impl<Q: TellSequence> TellLabels for SelectForm<Q> {
 
     ghost labels = { labels_in_select Q.names_in };
 
-    fn tell_labels<L: Listener>(&self, listener: &mut L) -> Result<(), NoMemory> {
+    fn tell_labels<'t>(&'t self, occurrences: &mut Occurrences<'t>) -> Result<(), NoMemory> {
         match self {
             SelectForm::SelectiveAccept(select) => {
-                select.alternatives.tell_labels(listener)?;
-                tell_optional_labels(listener, &select.otherwise)
+                select.alternatives.tell_labels(occurrences)?;
+                tell_optional_labels(occurrences, &select.otherwise)
             }
             SelectForm::TimedEntryCall(select) => {
-                tell_optional_labels(listener, &select.statements)?;
-                tell_optional_labels(listener, &select.delay_statements)
+                tell_optional_labels(occurrences, &select.statements)?;
+                tell_optional_labels(occurrences, &select.delay_statements)
             }
             SelectForm::ConditionalEntryCall(select) => {
-                tell_optional_labels(listener, &select.statements)?;
-                select.otherwise.tell_labels(listener)
+                tell_optional_labels(occurrences, &select.statements)?;
+                select.otherwise.tell_labels(occurrences)
             }
             SelectForm::AsynchronousSelect(select) => {
-                tell_optional_labels(listener, &select.statements)?;
-                select.abortable.tell_labels(listener)
+                tell_optional_labels(occurrences, &select.statements)?;
+                select.abortable.tell_labels(occurrences)
             }
         }
     }
@@ -217,17 +220,17 @@ impl<Q: TellSequence> TellLabels for Statement<Q> {
 
     ghost labels = { labels_in_statement Q.names_in };
 
-    fn tell_labels<L: Listener>(&self, listener: &mut L) -> Result<(), NoMemory> {
+    fn tell_labels<'t>(&'t self, occurrences: &mut Occurrences<'t>) -> Result<(), NoMemory> {
         match self {
-            Statement::If(statement) => statement.tell_labels(listener),
-            Statement::Case(case) => case.alternatives.tell_labels(listener),
+            Statement::If(statement) => statement.tell_labels(occurrences),
+            Statement::Case(case) => case.alternatives.tell_labels(occurrences),
             Statement::Loop(statement) => {
-                tell_label(listener, &statement.label)?;
-                statement.statements.tell_labels(listener)
+                tell_label(occurrences, &statement.label)?;
+                statement.statements.tell_labels(occurrences)
             }
-            Statement::Block(block) => tell_label(listener, &block.label),
-            Statement::Accept(accept) => accept.tell_labels(listener),
-            Statement::Select(select) => select.form.tell_labels(listener),
+            Statement::Block(block) => tell_label(occurrences, &block.label),
+            Statement::Accept(accept) => accept.tell_labels(occurrences),
+            Statement::Select(select) => select.form.tell_labels(occurrences),
             Statement::Null { .. }
             | Statement::Assignment(_)
             | Statement::Call(_)

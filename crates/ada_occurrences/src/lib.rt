@@ -1,15 +1,15 @@
-//! The occurrences of names in a tree, told in the order of the text: where a region begins and ends, where a name is
-//! hidden, declared or used (ISO/IEC 8652:2012, clause 8).
+//! The occurrences of names in a tree, in the order of the text: where a region begins and ends, where a name is hidden,
+//! declared or used (ISO/IEC 8652:2012, clause 8).
 #![tactic(auto)]
 
 mod declarations;
 mod expressions;
 mod labels;
-mod listener;
+mod occurrences;
 mod selects;
 mod statements;
 mod telling;
 mod units;
 
-pub use listener::Listener;
-pub use units::tell_names;
+pub use occurrences::{Occurrence, Occurrences};
+pub use units::occurrences_of;

@@ -1,5 +1,5 @@
 //! The names in select statements (ISO/IEC 8652:2012, 9.7).
-use crate::listener::Listener;
+use crate::occurrences::{Occurrence, Occurrences};
 use crate::statements::tell_optional;
 use crate::telling::{Tell, TellSequence};
 use ada_tree::{Alternative, Guard, SelectAlternative, SelectForm, Trigger};
@@ -10,8 +10,8 @@ impl Tell for Guard {
 
     ghost names = { names_in_guard };
 
-    fn tell<L: Listener>(&self, listener: &mut L) -> Result<(), NoMemory> {
-        self.condition.tell(listener)
+    fn tell<'t>(&'t self, occurrences: &mut Occurrences<'t>) -> Result<(), NoMemory> {
+        self.condition.tell(occurrences)
     }
 }
 
@@ -20,10 +20,10 @@ impl Tell for Trigger {
 
     ghost names = { names_in_trigger };
 
-    fn tell<L: Listener>(&self, listener: &mut L) -> Result<(), NoMemory> {
+    fn tell<'t>(&'t self, occurrences: &mut Occurrences<'t>) -> Result<(), NoMemory> {
         match self {
-            Trigger::Call(call) => call.tell(listener),
-            Trigger::Delay(delay) => delay.tell(listener),
+            Trigger::Call(call) => call.tell(occurrences),
+            Trigger::Delay(delay) => delay.tell(occurrences),
         }
     }
 }
@@ -33,15 +33,15 @@ impl<Q: TellSequence> Tell for Alternative<Q> {
 
     ghost names = { names_in_alternative Q.names_in };
 
-    fn tell<L: Listener>(&self, listener: &mut L) -> Result<(), NoMemory> {
+    fn tell<'t>(&'t self, occurrences: &mut Occurrences<'t>) -> Result<(), NoMemory> {
         match self {
             Alternative::Accept { accept, statements } => {
-                accept.tell(listener)?;
-                tell_optional(listener, statements)
+                accept.tell(occurrences)?;
+                tell_optional(occurrences, statements)
             }
             Alternative::Delay { delay, statements } => {
-                delay.tell(listener)?;
-                tell_optional(listener, statements)
+                delay.tell(occurrences)?;
+                tell_optional(occurrences, statements)
             }
             Alternative::Terminate { .. } => Ok(()),
         }
@@ -53,9 +53,9 @@ impl<Q: TellSequence> Tell for SelectAlternative<Q> {
 
     ghost names = { names_in_select_alternative Q.names_in };
 
-    fn tell<L: Listener>(&self, listener: &mut L) -> Result<(), NoMemory> {
-        self.guard.tell(listener)?;
-        self.alternative.tell(listener)
+    fn tell<'t>(&'t self, occurrences: &mut Occurrences<'t>) -> Result<(), NoMemory> {
+        self.guard.tell(occurrences)?;
+        self.alternative.tell(occurrences)
     }
 }
 
@@ -65,27 +65,27 @@ impl<Q: TellSequence> Tell for SelectForm<Q> {
 
     ghost names = { names_in_select Q.names_in };
 
-    fn tell<L: Listener>(&self, listener: &mut L) -> Result<(), NoMemory> {
+    fn tell<'t>(&'t self, occurrences: &mut Occurrences<'t>) -> Result<(), NoMemory> {
         match self {
             SelectForm::SelectiveAccept(select) => {
-                select.alternatives.tell(listener)?;
-                tell_optional(listener, &select.otherwise)
+                select.alternatives.tell(occurrences)?;
+                tell_optional(occurrences, &select.otherwise)
             }
             SelectForm::TimedEntryCall(select) => {
-                select.call.tell(listener)?;
-                tell_optional(listener, &select.statements)?;
-                select.delay.tell(listener)?;
-                tell_optional(listener, &select.delay_statements)
+                select.call.tell(occurrences)?;
+                tell_optional(occurrences, &select.statements)?;
+                select.delay.tell(occurrences)?;
+                tell_optional(occurrences, &select.delay_statements)
             }
             SelectForm::ConditionalEntryCall(select) => {
-                select.call.tell(listener)?;
-                tell_optional(listener, &select.statements)?;
-                select.otherwise.tell_statements(listener)
+                select.call.tell(occurrences)?;
+                tell_optional(occurrences, &select.statements)?;
+                select.otherwise.tell_statements(occurrences)
             }
             SelectForm::AsynchronousSelect(select) => {
-                select.trigger.tell(listener)?;
-                tell_optional(listener, &select.statements)?;
-                select.abortable.tell_statements(listener)
+                select.trigger.tell(occurrences)?;
+                tell_optional(occurrences, &select.statements)?;
+                select.abortable.tell_statements(occurrences)
             }
         }
     }

@@ -4,7 +4,7 @@ ghost use Rattle.ada_regions.specs.Occurrences.{hides_all, a_parameter, declares
 ghost use Rattle.std.specs.List.{flat_map};
 ghost use Rattle.ada_regions.specs.NamesInStatements.{names_in_parameter, names_in_parameters, names_in_statements, label_name};
 
-use crate::listener::Listener;
+use crate::occurrences::{Occurrence, Occurrences};
 use crate::telling::{Tell, TellSequence, tell_each};
 use ada_tree::{
     Accept, AcceptBody, Assignment, Block, Call, Case, CaseAlternative, Choice, Constraint, Delay,
@@ -21,21 +21,21 @@ impl Tell for Name {
 
     ghost names = { λ name. one (mentions name) };
 
-    fn tell<L: Listener>(&self, listener: &mut L) -> Result<(), NoMemory> {
-        listener.mention(self)
+    fn tell<'t>(&'t self, occurrences: &mut Occurrences<'t>) -> Result<(), NoMemory> {
+        occurrences.push(Occurrence::Mention { name: self })
     }
 }
 
 /// Hides each name of a list.
-pub(crate) fn hide_all<L: Listener>(
-    listener: &mut L,
-    names: &OneOrMore<Identifier>,
+pub(crate) fn hide_all<'t>(
+    occurrences: &mut Occurrences<'t>,
+    names: &'t OneOrMore<Identifier>,
 ) -> Result<(), NoMemory>
-    ensures { OnOk result (L.told listener.new ≡ L.told listener.old ++ hides_all names.now) }
+    ensures { OnOk result (occurrences.new ≡ occurrences.old ++ hides_all names.now) }
 {
-    listener.hide(&names.first)?;
+    occurrences.push(Occurrence::Hide { name: &names.first })?;
     for name in names.others.as_slice() {
-        listener.hide(name)?;
+        occurrences.push(Occurrence::Hide { name })?;
     }
     Ok(())
 }
@@ -45,12 +45,12 @@ impl Tell for Constraint {
 
     ghost names = { names_in_constraint };
 
-    fn tell<L: Listener>(&self, listener: &mut L) -> Result<(), NoMemory> {
+    fn tell<'t>(&'t self, occurrences: &mut Occurrences<'t>) -> Result<(), NoMemory> {
         match self {
-            Constraint::Access(name) => listener.mention(name),
+            Constraint::Access(name) => occurrences.push(Occurrence::Mention { name }),
             Constraint::Range { low, high } => {
-                low.tell(listener)?;
-                high.tell(listener)
+                low.tell(occurrences)?;
+                high.tell(occurrences)
             }
         }
     }
@@ -61,50 +61,58 @@ impl Tell for SubtypeIndication {
 
     ghost names = { names_in_indication };
 
-    fn tell<L: Listener>(&self, listener: &mut L) -> Result<(), NoMemory> {
-        listener.mention(&self.name)?;
-        self.constraint.tell(listener)
+    fn tell<'t>(&'t self, occurrences: &mut Occurrences<'t>) -> Result<(), NoMemory> {
+        occurrences.push(Occurrence::Mention { name: &self.name })?;
+        self.constraint.tell(occurrences)
     }
 }
 
 /// Declares the parameters of a list.
-fn declare_parameters<L: Listener>(
-    listener: &mut L,
+fn declare_parameters<'t>(
+    occurrences: &mut Occurrences<'t>,
     with_cells: bool,
-    parameter: &Parameter,
+    parameter: &'t Parameter,
 ) -> Result<(), NoMemory>
-    ensures { OnOk result (L.told listener.new ≡ L.told listener.old ++ declares_all (a_parameter with_cells parameter.now) parameter.now.names) }
+    ensures { OnOk result (occurrences.new ≡ occurrences.old ++ declares_all (a_parameter with_cells parameter.now) parameter.now.names) }
 {
-    listener.declare_parameter(&parameter.names.first, with_cells, parameter)?;
+    occurrences.push(Occurrence::DeclareParameter {
+        name: &parameter.names.first,
+        with_cells,
+        parameter,
+    })?;
     for name in parameter.names.others.as_slice() {
-        listener.declare_parameter(name, with_cells, parameter)?;
+        occurrences.push(Occurrence::DeclareParameter {
+            name,
+            with_cells,
+            parameter,
+        })?;
     }
     Ok(())
 }
 
 /// Parameters with one subtype (6.1).
-pub(crate) fn tell_parameter<L: Listener>(
-    listener: &mut L,
+pub(crate) fn tell_parameter<'t>(
+    occurrences: &mut Occurrences<'t>,
     with_cells: bool,
-    parameter: &Parameter,
+    parameter: &'t Parameter,
 ) -> Result<(), NoMemory>
-    ensures { OnOk result (L.told listener.new ≡ L.told listener.old ++ names_in_parameter with_cells parameter.now) }
+    ensures { OnOk result (occurrences.new ≡ occurrences.old ++ names_in_parameter with_cells parameter.now) }
 {
-    hide_all(listener, &parameter.names)?;
-    parameter.subtype.tell(listener)?;
-    declare_parameters(listener, with_cells, parameter)
+    hide_all(occurrences, &parameter.names)?;
+    parameter.subtype.tell(occurrences)?;
+    declare_parameters(occurrences, with_cells, parameter)
 }
 
 /// The parameters of a construct that has cells for them, or of a declaration.
-pub(crate) fn tell_parameters<L: Listener>(
-    listener: &mut L,
+pub(crate) fn tell_parameters<'t>(
+    occurrences: &mut Occurrences<'t>,
     with_cells: bool,
-    parameters: &[Parameter],
+    parameters: &'t [Parameter],
 ) -> Result<(), NoMemory>
-    ensures { OnOk result (L.told listener.new ≡ L.told listener.old ++ names_in_parameters with_cells parameters.now) }
+    ensures { OnOk result (occurrences.new ≡ occurrences.old ++ names_in_parameters with_cells parameters.now) }
 {
     for parameter in parameters {
-        tell_parameter(listener, with_cells, parameter)?;
+        tell_parameter(occurrences, with_cells, parameter)?;
     }
     Ok(())
 }
@@ -114,10 +122,10 @@ impl Tell for Assignment {
 
     ghost names = { names_in_assignment };
 
-    fn tell<L: Listener>(&self, listener: &mut L) -> Result<(), NoMemory> {
-        listener.mention(&self.target)?;
-        self.index.tell(listener)?;
-        self.value.tell(listener)
+    fn tell<'t>(&'t self, occurrences: &mut Occurrences<'t>) -> Result<(), NoMemory> {
+        occurrences.push(Occurrence::Mention { name: &self.target })?;
+        self.index.tell(occurrences)?;
+        self.value.tell(occurrences)
     }
 }
 
@@ -126,9 +134,9 @@ impl Tell for Call {
 
     ghost names = { names_in_call };
 
-    fn tell<L: Listener>(&self, listener: &mut L) -> Result<(), NoMemory> {
-        listener.mention(&self.name)?;
-        tell_each(listener, self.arguments.as_slice())
+    fn tell<'t>(&'t self, occurrences: &mut Occurrences<'t>) -> Result<(), NoMemory> {
+        occurrences.push(Occurrence::Mention { name: &self.name })?;
+        tell_each(occurrences, self.arguments.as_slice())
     }
 }
 
@@ -137,8 +145,8 @@ impl Tell for Delay {
 
     ghost names = { names_in_delay };
 
-    fn tell<L: Listener>(&self, listener: &mut L) -> Result<(), NoMemory> {
-        self.value.tell(listener)
+    fn tell<'t>(&'t self, occurrences: &mut Occurrences<'t>) -> Result<(), NoMemory> {
+        self.value.tell(occurrences)
     }
 }
 
@@ -147,12 +155,12 @@ impl Tell for Choice {
 
     ghost names = { names_in_choice };
 
-    fn tell<L: Listener>(&self, listener: &mut L) -> Result<(), NoMemory> {
+    fn tell<'t>(&'t self, occurrences: &mut Occurrences<'t>) -> Result<(), NoMemory> {
         match self {
-            Choice::Value(value) => value.tell(listener),
+            Choice::Value(value) => value.tell(occurrences),
             Choice::Range { low, high } => {
-                low.tell(listener)?;
-                high.tell(listener)
+                low.tell(occurrences)?;
+                high.tell(occurrences)
             }
             Choice::Others { .. } => Ok(()),
         }
@@ -165,32 +173,35 @@ impl Tell for Iteration {
 
     ghost names = { names_in_iteration };
 
-    fn tell<L: Listener>(&self, listener: &mut L) -> Result<(), NoMemory> {
+    fn tell<'t>(&'t self, occurrences: &mut Occurrences<'t>) -> Result<(), NoMemory> {
         match self {
             Iteration::Forever => Ok(()),
-            Iteration::While { condition, .. } => condition.tell(listener),
+            Iteration::While { condition, .. } => condition.tell(occurrences),
             Iteration::For {
                 parameter,
                 low,
                 high,
                 ..
             } => {
-                listener.hide(parameter)?;
-                low.tell(listener)?;
-                high.tell(listener)?;
-                listener.declare_loop_parameter(parameter)
+                occurrences.push(Occurrence::Hide { name: parameter })?;
+                low.tell(occurrences)?;
+                high.tell(occurrences)?;
+                occurrences.push(Occurrence::DeclareLoopParameter { name: parameter })
             }
         }
     }
 }
 
 /// The loop that an exit names.
-fn tell_loop_name<L: Listener>(listener: &mut L, name: &Option<Identifier>) -> Result<(), NoMemory>
-    ensures { OnOk result (L.told listener.new ≡ L.told listener.old ++ if_there (λ name. one (mentions_simply name)) name.now) }
+fn tell_loop_name<'t>(
+    occurrences: &mut Occurrences<'t>,
+    name: &'t Option<Identifier>,
+) -> Result<(), NoMemory>
+    ensures { OnOk result (occurrences.new ≡ occurrences.old ++ if_there (λ name. one (mentions_simply name)) name.now) }
 {
     match name {
         None => Ok(()),
-        Some(name) => listener.mention_simply(name),
+        Some(name) => occurrences.push(Occurrence::MentionSimply { name }),
     }
 }
 
@@ -199,9 +210,9 @@ impl Tell for Exit {
 
     ghost names = { names_in_exit };
 
-    fn tell<L: Listener>(&self, listener: &mut L) -> Result<(), NoMemory> {
-        tell_loop_name(listener, &self.loop_name)?;
-        self.condition.tell(listener)
+    fn tell<'t>(&'t self, occurrences: &mut Occurrences<'t>) -> Result<(), NoMemory> {
+        tell_loop_name(occurrences, &self.loop_name)?;
+        self.condition.tell(occurrences)
     }
 }
 
@@ -210,24 +221,24 @@ impl Tell for HandledExceptions {
 
     ghost names = { names_in_exceptions };
 
-    fn tell<L: Listener>(&self, listener: &mut L) -> Result<(), NoMemory> {
+    fn tell<'t>(&'t self, occurrences: &mut Occurrences<'t>) -> Result<(), NoMemory> {
         match self {
-            HandledExceptions::Named(names) => names.tell(listener),
+            HandledExceptions::Named(names) => names.tell(occurrences),
             HandledExceptions::Others { .. } => Ok(()),
         }
     }
 }
 
 /// The statements of a sequence, where it stands there.
-pub(crate) fn tell_optional<Q: TellSequence, L: Listener>(
-    listener: &mut L,
-    sequence: &Option<Q>,
+pub(crate) fn tell_optional<'t, Q: TellSequence>(
+    occurrences: &mut Occurrences<'t>,
+    sequence: &'t Option<Q>,
 ) -> Result<(), NoMemory>
-    ensures { OnOk result (L.told listener.new ≡ L.told listener.old ++ if_there (names_in_statements Q.names_in) sequence.now) }
+    ensures { OnOk result (occurrences.new ≡ occurrences.old ++ if_there (names_in_statements Q.names_in) sequence.now) }
 {
     match sequence {
         None => Ok(()),
-        Some(sequence) => sequence.tell_statements(listener),
+        Some(sequence) => sequence.tell_statements(occurrences),
     }
 }
 
@@ -236,9 +247,9 @@ impl<Q: TellSequence> Tell for Elsif<Q> {
 
     ghost names = { names_in_elsif Q.names_in };
 
-    fn tell<L: Listener>(&self, listener: &mut L) -> Result<(), NoMemory> {
-        self.condition.tell(listener)?;
-        self.statements.tell_statements(listener)
+    fn tell<'t>(&'t self, occurrences: &mut Occurrences<'t>) -> Result<(), NoMemory> {
+        self.condition.tell(occurrences)?;
+        self.statements.tell_statements(occurrences)
     }
 }
 
@@ -248,11 +259,11 @@ impl<Q: TellSequence> Tell for If<Q> {
 
     ghost names = { names_in_if Q.names_in };
 
-    fn tell<L: Listener>(&self, listener: &mut L) -> Result<(), NoMemory> {
-        self.condition.tell(listener)?;
-        self.statements.tell_statements(listener)?;
-        tell_each(listener, self.elsifs.as_slice())?;
-        tell_optional(listener, &self.otherwise)
+    fn tell<'t>(&'t self, occurrences: &mut Occurrences<'t>) -> Result<(), NoMemory> {
+        self.condition.tell(occurrences)?;
+        self.statements.tell_statements(occurrences)?;
+        tell_each(occurrences, self.elsifs.as_slice())?;
+        tell_optional(occurrences, &self.otherwise)
     }
 }
 
@@ -261,9 +272,9 @@ impl<Q: TellSequence> Tell for CaseAlternative<Q> {
 
     ghost names = { names_in_case_alternative Q.names_in };
 
-    fn tell<L: Listener>(&self, listener: &mut L) -> Result<(), NoMemory> {
-        self.choices.tell(listener)?;
-        self.statements.tell_statements(listener)
+    fn tell<'t>(&'t self, occurrences: &mut Occurrences<'t>) -> Result<(), NoMemory> {
+        self.choices.tell(occurrences)?;
+        self.statements.tell_statements(occurrences)
     }
 }
 
@@ -273,33 +284,39 @@ impl<Q: TellSequence> Tell for Case<Q> {
 
     ghost names = { names_in_case Q.names_in };
 
-    fn tell<L: Listener>(&self, listener: &mut L) -> Result<(), NoMemory> {
-        self.selector.tell(listener)?;
-        self.alternatives.tell(listener)
+    fn tell<'t>(&'t self, occurrences: &mut Occurrences<'t>) -> Result<(), NoMemory> {
+        self.selector.tell(occurrences)?;
+        self.alternatives.tell(occurrences)
     }
 }
 
 /// The region of a loop begins.
-fn begin_loop<L: Listener>(listener: &mut L, label: &Option<Label>) -> Result<(), NoMemory>
-    ensures { OnOk result (L.told listener.new ≡ L.told listener.old ++ begins (a_loop (label_name label.now)) ∷ []) }
+fn begin_loop<'t>(
+    occurrences: &mut Occurrences<'t>,
+    label: &'t Option<Label>,
+) -> Result<(), NoMemory>
+    ensures { OnOk result (occurrences.new ≡ occurrences.old ++ begins (a_loop (label_name label.now)) ∷ []) }
 {
     match label {
-        None => listener.begin_loop(),
-        Some(label) => listener.begin_named_loop(&label.name),
+        None => occurrences.push(Occurrence::BeginLoop),
+        Some(label) => occurrences.push(Occurrence::BeginNamedLoop { name: &label.name }),
     }
 }
 
 /// The region of a block begins.
-fn begin_block<L: Listener>(
-    listener: &mut L,
-    label: &Option<Label>,
+fn begin_block<'t>(
+    occurrences: &mut Occurrences<'t>,
+    label: &'t Option<Label>,
     place: Place,
 ) -> Result<(), NoMemory>
-    ensures { OnOk result (L.told listener.new ≡ L.told listener.old ++ begins (a_block (label_name label.now) place) ∷ []) }
+    ensures { OnOk result (occurrences.new ≡ occurrences.old ++ begins (a_block (label_name label.now) place) ∷ []) }
 {
     match label {
-        None => listener.begin_block(place),
-        Some(label) => listener.begin_named_block(&label.name, place),
+        None => occurrences.push(Occurrence::BeginBlock { place }),
+        Some(label) => occurrences.push(Occurrence::BeginNamedBlock {
+            name: &label.name,
+            place,
+        }),
     }
 }
 
@@ -309,24 +326,24 @@ impl<Q: TellSequence> Tell for Loop<Q> {
 
     ghost names = { names_in_loop Q.names_in };
 
-    fn tell<L: Listener>(&self, listener: &mut L) -> Result<(), NoMemory> {
-        begin_loop(listener, &self.label)?;
-        self.iteration.tell(listener)?;
-        self.statements.tell_statements(listener)?;
-        listener.end()
+    fn tell<'t>(&'t self, occurrences: &mut Occurrences<'t>) -> Result<(), NoMemory> {
+        begin_loop(occurrences, &self.label)?;
+        self.iteration.tell(occurrences)?;
+        self.statements.tell_statements(occurrences)?;
+        occurrences.push(Occurrence::End)
     }
 }
 
 /// The declarations of a body, its labels, and its statements (5.1, 3.11).
-pub(crate) fn tell_body<Q: TellSequence, L: Listener>(
-    listener: &mut L,
-    sequence: &Q,
+pub(crate) fn tell_body<'t, Q: TellSequence>(
+    occurrences: &mut Occurrences<'t>,
+    sequence: &'t Q,
 ) -> Result<(), NoMemory>
-    ensures { OnOk result (L.told listener.new ≡ L.told listener.old ++ in_body (Q.names_in sequence.now)) }
+    ensures { OnOk result (occurrences.new ≡ occurrences.old ++ in_body (Q.names_in sequence.now)) }
 {
-    sequence.tell_declarations(listener)?;
-    sequence.tell_labels(listener)?;
-    sequence.tell_statements(listener)
+    sequence.tell_declarations(occurrences)?;
+    sequence.tell_labels(occurrences)?;
+    sequence.tell_statements(occurrences)
 }
 
 /// A block (5.6).
@@ -335,10 +352,10 @@ impl<Q: TellSequence> Tell for Block<Q> {
 
     ghost names = { names_in_block Q.names_in };
 
-    fn tell<L: Listener>(&self, listener: &mut L) -> Result<(), NoMemory> {
-        begin_block(listener, &self.label, self.place)?;
-        tell_body(listener, &self.sequence)?;
-        listener.end()
+    fn tell<'t>(&'t self, occurrences: &mut Occurrences<'t>) -> Result<(), NoMemory> {
+        begin_block(occurrences, &self.label, self.place)?;
+        tell_body(occurrences, &self.sequence)?;
+        occurrences.push(Occurrence::End)
     }
 }
 
@@ -348,9 +365,9 @@ impl<Q: TellSequence> Tell for Handler<Q> {
 
     ghost names = { names_in_handler Q.names_in };
 
-    fn tell<L: Listener>(&self, listener: &mut L) -> Result<(), NoMemory> {
-        self.exceptions.tell(listener)?;
-        self.statements.tell_statements(listener)
+    fn tell<'t>(&'t self, occurrences: &mut Occurrences<'t>) -> Result<(), NoMemory> {
+        self.exceptions.tell(occurrences)?;
+        self.statements.tell_statements(occurrences)
     }
 }
 
@@ -359,8 +376,8 @@ impl<Q: TellSequence> Tell for AcceptBody<Q> {
 
     ghost names = { names_in_accept_body Q.names_in };
 
-    fn tell<L: Listener>(&self, listener: &mut L) -> Result<(), NoMemory> {
-        self.sequence.tell_statements(listener)
+    fn tell<'t>(&'t self, occurrences: &mut Occurrences<'t>) -> Result<(), NoMemory> {
+        self.sequence.tell_statements(occurrences)
     }
 }
 
@@ -370,12 +387,15 @@ impl<Q: TellSequence> Tell for Accept<Q> {
 
     ghost names = { names_in_accept Q.names_in };
 
-    fn tell<L: Listener>(&self, listener: &mut L) -> Result<(), NoMemory> {
-        listener.mention_simply(&self.entry)?;
-        listener.begin_accept(&self.entry, self.place)?;
-        tell_parameters(listener, true, self.parameters.as_slice())?;
-        self.body.tell(listener)?;
-        listener.end()
+    fn tell<'t>(&'t self, occurrences: &mut Occurrences<'t>) -> Result<(), NoMemory> {
+        occurrences.push(Occurrence::MentionSimply { name: &self.entry })?;
+        occurrences.push(Occurrence::BeginAccept {
+            name: &self.entry,
+            place: self.place,
+        })?;
+        tell_parameters(occurrences, true, self.parameters.as_slice())?;
+        self.body.tell(occurrences)?;
+        occurrences.push(Occurrence::End)
     }
 }
 
@@ -385,23 +405,25 @@ impl<Q: TellSequence> Tell for Statement<Q> {
 
     ghost names = { names_in_statement Q.names_in };
 
-    fn tell<L: Listener>(&self, listener: &mut L) -> Result<(), NoMemory> {
+    fn tell<'t>(&'t self, occurrences: &mut Occurrences<'t>) -> Result<(), NoMemory> {
         match self {
             Statement::Null { .. } => Ok(()),
-            Statement::Assignment(assignment) => assignment.tell(listener),
-            Statement::Call(call) => call.tell(listener),
-            Statement::Delay(delay) => delay.tell(listener),
-            Statement::If(statement) => statement.tell(listener),
-            Statement::Case(case) => case.tell(listener),
-            Statement::Loop(statement) => statement.tell(listener),
-            Statement::Exit(exit) => exit.tell(listener),
-            Statement::Block(block) => block.tell(listener),
-            Statement::Return { value, .. } => value.tell(listener),
-            Statement::Raise { exception, .. } => exception.tell(listener),
-            Statement::Abort { tasks, .. } => tasks.tell(listener),
-            Statement::Accept(accept) => accept.tell(listener),
-            Statement::Requeue { entry, .. } => listener.mention(entry),
-            Statement::Select(select) => select.form.tell(listener),
+            Statement::Assignment(assignment) => assignment.tell(occurrences),
+            Statement::Call(call) => call.tell(occurrences),
+            Statement::Delay(delay) => delay.tell(occurrences),
+            Statement::If(statement) => statement.tell(occurrences),
+            Statement::Case(case) => case.tell(occurrences),
+            Statement::Loop(statement) => statement.tell(occurrences),
+            Statement::Exit(exit) => exit.tell(occurrences),
+            Statement::Block(block) => block.tell(occurrences),
+            Statement::Return { value, .. } => value.tell(occurrences),
+            Statement::Raise { exception, .. } => exception.tell(occurrences),
+            Statement::Abort { tasks, .. } => tasks.tell(occurrences),
+            Statement::Accept(accept) => accept.tell(occurrences),
+            Statement::Requeue { entry, .. } => occurrences.push(Occurrence::Mention {
+                name: entry,
+            }),
+            Statement::Select(select) => select.form.tell(occurrences),
         }
     }
 }

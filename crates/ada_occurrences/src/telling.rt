@@ -2,7 +2,7 @@
 ghost use Rattle.std.specs.Prelude.{◌≡◌, ◌++◌, OnOk};
 ghost use Rattle.std.specs.List.{flat_map};
 
-use crate::listener::Listener;
+use crate::occurrences::{Occurrence, Occurrences};
 use ada_tree::OneOrMore;
 use ann_base::NoMemory;
 use sqlite_items::Items;
@@ -15,8 +15,8 @@ pub(crate) trait Tell {
     ghost names: { Self → Occurrences };
 
     /// Tells them in the order of the text.
-    fn tell<L: Listener>(&self, listener: &mut L) -> Result<(), NoMemory>
-        ensures { OnOk result (L.told listener.new ≡ L.told listener.old ++ names self.now) };
+    fn tell<'t>(&'t self, occurrences: &mut Occurrences<'t>) -> Result<(), NoMemory>
+        ensures { OnOk result (occurrences.new ≡ occurrences.old ++ names self.now) };
 }
 
 /// What is a sequence of statements (5.1, 3.11): it tells its declarations, the labels of its statements, and its
@@ -28,24 +28,27 @@ pub(crate) trait TellSequence {
     ghost names_in: { Self → SequenceNames };
 
     /// Tells its declarations.
-    fn tell_declarations<L: Listener>(&self, listener: &mut L) -> Result<(), NoMemory>
-        ensures { OnOk result (L.told listener.new ≡ L.told listener.old ++ (names_in self.now).declarations) };
+    fn tell_declarations<'t>(&'t self, occurrences: &mut Occurrences<'t>) -> Result<(), NoMemory>
+        ensures { OnOk result (occurrences.new ≡ occurrences.old ++ (names_in self.now).declarations) };
 
     /// Declares the labels of its statements.
-    fn tell_labels<L: Listener>(&self, listener: &mut L) -> Result<(), NoMemory>
-        ensures { OnOk result (L.told listener.new ≡ L.told listener.old ++ (names_in self.now).labels) };
+    fn tell_labels<'t>(&'t self, occurrences: &mut Occurrences<'t>) -> Result<(), NoMemory>
+        ensures { OnOk result (occurrences.new ≡ occurrences.old ++ (names_in self.now).labels) };
 
     /// Tells its statements and handlers.
-    fn tell_statements<L: Listener>(&self, listener: &mut L) -> Result<(), NoMemory>
-        ensures { OnOk result (L.told listener.new ≡ L.told listener.old ++ (names_in self.now).statements) };
+    fn tell_statements<'t>(&'t self, occurrences: &mut Occurrences<'t>) -> Result<(), NoMemory>
+        ensures { OnOk result (occurrences.new ≡ occurrences.old ++ (names_in self.now).statements) };
 }
 
 /// Items one behind another.
-pub(crate) fn tell_each<T: Tell, L: Listener>(listener: &mut L, items: &[T]) -> Result<(), NoMemory>
-    ensures { OnOk result (L.told listener.new ≡ L.told listener.old ++ flat_map T.names items.now) }
+pub(crate) fn tell_each<'t, T: Tell>(
+    occurrences: &mut Occurrences<'t>,
+    items: &'t [T],
+) -> Result<(), NoMemory>
+    ensures { OnOk result (occurrences.new ≡ occurrences.old ++ flat_map T.names items.now) }
 {
     for item in items {
-        item.tell(listener)?;
+        item.tell(occurrences)?;
     }
     Ok(())
 }
@@ -55,8 +58,8 @@ impl<T: Tell> Tell for Items<T> {
 
     ghost names = { flat_map T.names };
 
-    fn tell<L: Listener>(&self, listener: &mut L) -> Result<(), NoMemory> {
-        tell_each(listener, self.as_slice())
+    fn tell<'t>(&'t self, occurrences: &mut Occurrences<'t>) -> Result<(), NoMemory> {
+        tell_each(occurrences, self.as_slice())
     }
 }
 
@@ -65,9 +68,9 @@ impl<T: Tell> Tell for OneOrMore<T> {
 
     ghost names = { in_all T.names };
 
-    fn tell<L: Listener>(&self, listener: &mut L) -> Result<(), NoMemory> {
-        self.first.tell(listener)?;
-        self.others.tell(listener)
+    fn tell<'t>(&'t self, occurrences: &mut Occurrences<'t>) -> Result<(), NoMemory> {
+        self.first.tell(occurrences)?;
+        self.others.tell(occurrences)
     }
 }
 
@@ -76,10 +79,10 @@ impl<T: Tell> Tell for Option<T> {
 
     ghost names = { if_there T.names };
 
-    fn tell<L: Listener>(&self, listener: &mut L) -> Result<(), NoMemory> {
+    fn tell<'t>(&'t self, occurrences: &mut Occurrences<'t>) -> Result<(), NoMemory> {
         match self {
             None => Ok(()),
-            Some(item) => item.tell(listener),
+            Some(item) => item.tell(occurrences),
         }
     }
 }

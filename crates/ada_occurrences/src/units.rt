@@ -1,10 +1,10 @@
 //! The names in sequences, library units and a source (ISO/IEC 8652:2012, 3.11, 7.1, 7.2, 10.1).
-ghost use Rattle.std.specs.Prelude.{◌≡◌, ◌++◌, ◌∷◌, [], OnOk};
+ghost use Rattle.std.specs.Prelude.{◌≡◌, ◌++◌, ◌∷◌, [], OnOk, IfOk};
 ghost use Rattle.ada_regions.specs.Occurrences.{in_all, if_there, one, within_region, package_region};
 ghost use Rattle.ada_regions.specs.NamesInUnits.{clause_with, names_in_part, names_in_private_part, names_in_package_statements, names_in_package_declaration, names_in_package_body, names_in_main, names_in_unit};
 
 use crate::labels::{TellLabels, tell_labels_of_each};
-use crate::listener::Listener;
+use crate::occurrences::{Occurrence, Occurrences};
 use crate::statements::tell_body;
 use crate::telling::{Tell, TellSequence, tell_each};
 use ada_tree::{
@@ -13,24 +13,25 @@ use ada_tree::{
 };
 use ann_base::NoMemory;
 use sqlite_items::Items;
+use std::alloc::Global;
 
 impl<Q: TellSequence> TellSequence for SequenceParts<Q> {
     ghost use Rattle.ada_regions.specs.NamesInUnits.{names_in_parts};
 
     ghost names_in = { names_in_parts Q.names_in };
 
-    fn tell_declarations<L: Listener>(&self, listener: &mut L) -> Result<(), NoMemory> {
-        self.declarations.tell(listener)
+    fn tell_declarations<'t>(&'t self, occurrences: &mut Occurrences<'t>) -> Result<(), NoMemory> {
+        self.declarations.tell(occurrences)
     }
 
-    fn tell_labels<L: Listener>(&self, listener: &mut L) -> Result<(), NoMemory> {
-        self.statements.tell_labels(listener)?;
-        tell_labels_of_each(listener, self.handlers.as_slice())
+    fn tell_labels<'t>(&'t self, occurrences: &mut Occurrences<'t>) -> Result<(), NoMemory> {
+        self.statements.tell_labels(occurrences)?;
+        tell_labels_of_each(occurrences, self.handlers.as_slice())
     }
 
-    fn tell_statements<L: Listener>(&self, listener: &mut L) -> Result<(), NoMemory> {
-        self.statements.tell(listener)?;
-        tell_each(listener, self.handlers.as_slice())
+    fn tell_statements<'t>(&'t self, occurrences: &mut Occurrences<'t>) -> Result<(), NoMemory> {
+        self.statements.tell(occurrences)?;
+        tell_each(occurrences, self.handlers.as_slice())
     }
 }
 
@@ -41,49 +42,49 @@ impl TellSequence for Sequence {
 
     #[cycle(sequence)]
     #[tactic(auto, using(crate::proofs::SequenceFolds::sequence_tells))]
-    fn tell_declarations<L: Listener>(&self, listener: &mut L) -> Result<(), NoMemory> {
-        self.parts.get().tell_declarations(listener)
+    fn tell_declarations<'t>(&'t self, occurrences: &mut Occurrences<'t>) -> Result<(), NoMemory> {
+        self.parts.get().tell_declarations(occurrences)
     }
 
     #[cycle(sequence)]
     #[tactic(auto, using(crate::proofs::SequenceFolds::sequence_tells))]
-    fn tell_labels<L: Listener>(&self, listener: &mut L) -> Result<(), NoMemory> {
-        self.parts.get().tell_labels(listener)
+    fn tell_labels<'t>(&'t self, occurrences: &mut Occurrences<'t>) -> Result<(), NoMemory> {
+        self.parts.get().tell_labels(occurrences)
     }
 
     #[cycle(sequence)]
     #[tactic(auto, using(crate::proofs::SequenceFolds::sequence_tells))]
-    fn tell_statements<L: Listener>(&self, listener: &mut L) -> Result<(), NoMemory> {
-        self.parts.get().tell_statements(listener)
+    fn tell_statements<'t>(&'t self, occurrences: &mut Occurrences<'t>) -> Result<(), NoMemory> {
+        self.parts.get().tell_statements(occurrences)
     }
 }
 
 /// A name of a context clause (10.1.2, 8.4).
-fn tell_clause_name<L: Listener>(
-    listener: &mut L,
+fn tell_clause_name<'t>(
+    occurrences: &mut Occurrences<'t>,
     is_use: bool,
-    name: &Name,
+    name: &'t Name,
 ) -> Result<(), NoMemory>
-    ensures { OnOk result (L.told listener.new ≡ L.told listener.old ++ clause_with is_use name.now ∷ []) }
+    ensures { OnOk result (occurrences.new ≡ occurrences.old ++ clause_with is_use name.now ∷ []) }
 {
     if is_use {
-        listener.use_package(name)
+        occurrences.push(Occurrence::UsePackage { name })
     } else {
-        listener.with_unit(name)
+        occurrences.push(Occurrence::WithUnit { name })
     }
 }
 
 /// The names of a context clause.
-fn tell_clause_names<L: Listener>(
-    listener: &mut L,
+fn tell_clause_names<'t>(
+    occurrences: &mut Occurrences<'t>,
     is_use: bool,
-    names: &OneOrMore<Name>,
+    names: &'t OneOrMore<Name>,
 ) -> Result<(), NoMemory>
-    ensures { OnOk result (L.told listener.new ≡ L.told listener.old ++ in_all (λ name. one (clause_with is_use name)) names.now) }
+    ensures { OnOk result (occurrences.new ≡ occurrences.old ++ in_all (λ name. one (clause_with is_use name)) names.now) }
 {
-    tell_clause_name(listener, is_use, &names.first)?;
+    tell_clause_name(occurrences, is_use, &names.first)?;
     for name in names.others.as_slice() {
-        tell_clause_name(listener, is_use, name)?;
+        tell_clause_name(occurrences, is_use, name)?;
     }
     Ok(())
 }
@@ -93,85 +94,89 @@ impl Tell for ContextClause {
 
     ghost names = { names_in_clause };
 
-    fn tell<L: Listener>(&self, listener: &mut L) -> Result<(), NoMemory> {
-        tell_clause_names(listener, self.is_use, &self.names)
+    fn tell<'t>(&'t self, occurrences: &mut Occurrences<'t>) -> Result<(), NoMemory> {
+        tell_clause_names(occurrences, self.is_use, &self.names)
     }
 }
 
 /// The private part of a package, where it stands there (7.3).
-fn tell_private_part<L: Listener>(
-    listener: &mut L,
-    declarations: &Option<Items<Declaration<Sequence>>>,
+fn tell_private_part<'t>(
+    occurrences: &mut Occurrences<'t>,
+    declarations: &'t Option<Items<Declaration<Sequence>>>,
 ) -> Result<(), NoMemory>
-    ensures { OnOk result (L.told listener.new ≡ L.told listener.old ++ if_there names_in_private_part declarations.now) }
+    ensures { OnOk result (occurrences.new ≡ occurrences.old ++ if_there names_in_private_part declarations.now) }
 {
     match declarations {
         None => Ok(()),
         Some(declarations) => {
-            listener.private_from_here()?;
-            declarations.tell(listener)
+            occurrences.push(Occurrence::PrivateFromHere)?;
+            declarations.tell(occurrences)
         }
     }
 }
 
 /// The region of a package's declaration (7.1).
-fn tell_package_region<L: Listener>(
-    listener: &mut L,
-    declaration: &PackageDeclaration,
+fn tell_package_region<'t>(
+    occurrences: &mut Occurrences<'t>,
+    declaration: &'t PackageDeclaration,
 ) -> Result<(), NoMemory>
-    ensures { OnOk result (L.told listener.new ≡ L.told listener.old ++ within_region (package_region declaration.now.name) (names_in_part declaration.now.declarations ++ if_there names_in_private_part declaration.now.private)) }
+    ensures { OnOk result (occurrences.new ≡ occurrences.old ++ within_region (package_region declaration.now.name) (names_in_part declaration.now.declarations ++ if_there names_in_private_part declaration.now.private)) }
 {
-    listener.begin_package(&declaration.name)?;
-    declaration.declarations.tell(listener)?;
-    tell_private_part(listener, &declaration.private)?;
-    listener.end()
+    occurrences.push(Occurrence::BeginPackage {
+        name: &declaration.name,
+    })?;
+    declaration.declarations.tell(occurrences)?;
+    tell_private_part(occurrences, &declaration.private)?;
+    occurrences.push(Occurrence::End)
 }
 
 /// A package's declaration with its context (7.1).
-fn tell_package_declaration<L: Listener>(
-    listener: &mut L,
-    context: &[ContextClause],
-    declaration: &PackageDeclaration,
+fn tell_package_declaration<'t>(
+    occurrences: &mut Occurrences<'t>,
+    context: &'t [ContextClause],
+    declaration: &'t PackageDeclaration,
 ) -> Result<(), NoMemory>
-    ensures { OnOk result (L.told listener.new ≡ L.told listener.old ++ names_in_package_declaration context.now declaration.now) }
+    ensures { OnOk result (occurrences.new ≡ occurrences.old ++ names_in_package_declaration context.now declaration.now) }
 {
-    listener.begin_context()?;
-    tell_each(listener, context)?;
-    listener.declare_package(&declaration.name)?;
-    tell_package_region(listener, declaration)?;
-    listener.end()
+    occurrences.push(Occurrence::BeginContext)?;
+    tell_each(occurrences, context)?;
+    occurrences.push(Occurrence::DeclarePackage {
+        name: &declaration.name,
+    })?;
+    tell_package_region(occurrences, declaration)?;
+    occurrences.push(Occurrence::End)
 }
 
 /// The statements of a package's body, where they stand there.
-fn tell_package_statements<L: Listener>(
-    listener: &mut L,
-    sequence: &Option<Sequence>,
+fn tell_package_statements<'t>(
+    occurrences: &mut Occurrences<'t>,
+    sequence: &'t Option<Sequence>,
 ) -> Result<(), NoMemory>
-    ensures { OnOk result (L.told listener.new ≡ L.told listener.old ++ if_there names_in_package_statements sequence.now) }
+    ensures { OnOk result (occurrences.new ≡ occurrences.old ++ if_there names_in_package_statements sequence.now) }
 {
     match sequence {
         None => Ok(()),
-        Some(sequence) => tell_body(listener, sequence),
+        Some(sequence) => tell_body(occurrences, sequence),
     }
 }
 
 /// A package's body with its context (7.2).
-fn tell_package_body<L: Listener>(
-    listener: &mut L,
-    context: &[ContextClause],
-    body: &PackageBody,
+fn tell_package_body<'t>(
+    occurrences: &mut Occurrences<'t>,
+    context: &'t [ContextClause],
+    body: &'t PackageBody,
 ) -> Result<(), NoMemory>
-    ensures { OnOk result (L.told listener.new ≡ L.told listener.old ++ names_in_package_body context.now body.now) }
+    ensures { OnOk result (occurrences.new ≡ occurrences.old ++ names_in_package_body context.now body.now) }
 {
-    listener.begin_context_of(&body.name)?;
-    listener.begin_further_context()?;
-    tell_each(listener, context)?;
-    listener.begin_package_body(&body.name)?;
-    body.declarations.tell(listener)?;
-    tell_package_statements(listener, &body.sequence)?;
-    listener.end()?;
-    listener.end()?;
-    listener.end()
+    occurrences.push(Occurrence::BeginContextOf { name: &body.name })?;
+    occurrences.push(Occurrence::BeginFurtherContext)?;
+    tell_each(occurrences, context)?;
+    occurrences.push(Occurrence::BeginPackageBody { name: &body.name })?;
+    body.declarations.tell(occurrences)?;
+    tell_package_statements(occurrences, &body.sequence)?;
+    occurrences.push(Occurrence::End)?;
+    occurrences.push(Occurrence::End)?;
+    occurrences.push(Occurrence::End)
 }
 
 impl Tell for LibraryPackage {
@@ -179,41 +184,46 @@ impl Tell for LibraryPackage {
 
     ghost names = { names_in_library_package };
 
-    fn tell<L: Listener>(&self, listener: &mut L) -> Result<(), NoMemory> {
+    fn tell<'t>(&'t self, occurrences: &mut Occurrences<'t>) -> Result<(), NoMemory> {
         match &self.package {
             Package::Declaration(package) => {
-                tell_package_declaration(listener, self.context.as_slice(), package)
+                tell_package_declaration(occurrences, self.context.as_slice(), package)
             }
             Package::Body(package) => {
-                tell_package_body(listener, self.context.as_slice(), package)
+                tell_package_body(occurrences, self.context.as_slice(), package)
             }
         }
     }
 }
 
 /// The main procedure with its context (6.3, 10.1).
-fn tell_main<L: Listener>(
-    listener: &mut L,
-    context: &[ContextClause],
-    main: &MainProcedure,
+fn tell_main<'t>(
+    occurrences: &mut Occurrences<'t>,
+    context: &'t [ContextClause],
+    main: &'t MainProcedure,
 ) -> Result<(), NoMemory>
-    ensures { OnOk result (L.told listener.new ≡ L.told listener.old ++ names_in_main context.now main.now) }
+    ensures { OnOk result (occurrences.new ≡ occurrences.old ++ names_in_main context.now main.now) }
 {
-    listener.begin_context()?;
-    tell_each(listener, context)?;
-    main.aspects.tell(listener)?;
-    listener.declare_main(&main.name)?;
-    listener.begin_main(&main.name, main.place)?;
-    tell_body(listener, &main.body.sequence)?;
-    listener.end()?;
-    listener.end()
+    occurrences.push(Occurrence::BeginContext)?;
+    tell_each(occurrences, context)?;
+    main.aspects.tell(occurrences)?;
+    occurrences.push(Occurrence::DeclareMain { name: &main.name })?;
+    occurrences.push(Occurrence::BeginMain {
+        name: &main.name,
+        place: main.place,
+    })?;
+    tell_body(occurrences, &main.body.sequence)?;
+    occurrences.push(Occurrence::End)?;
+    occurrences.push(Occurrence::End)
 }
 
-/// Tells the occurrences of a source, in the order of the text. Want of memory of the listener ends the telling.
-pub fn tell_names<L: Listener>(tree: &Unit, listener: &mut L) -> Result<(), NoMemory>
-    // What is told are the occurrences of the tree, behind what was told before.
-    ensures told { OnOk result (L.told listener.new ≡ L.told listener.old ++ names_in_unit tree.now) }
+/// The occurrences of a source, in the order of the text.
+pub fn occurrences_of(alloc: Global, tree: &Unit) -> Result<Occurrences<'_>, NoMemory>
+    // They are those of the tree.
+    ensures occurrences { IfOk result (λ occurrences. occurrences ≡ names_in_unit tree.now) }
 {
-    tree.packages.tell(listener)?;
-    tell_main(listener, tree.context.as_slice(), &tree.main)
+    let mut occurrences = Occurrences::new(alloc);
+    tree.packages.tell(&mut occurrences)?;
+    tell_main(&mut occurrences, tree.context.as_slice(), &tree.main)?;
+    Ok(occurrences)
 }

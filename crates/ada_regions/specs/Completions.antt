@@ -1,8 +1,7 @@
 -- Completions (3.11.1): the body of a declared subprogram, and those of task and protected units. A body that completes
 -- nothing is a declaration itself (6.3), or stands alone, which is a matter of legality.
-use Rattle.std.specs.Prelude.{ℕ, Bool, true, false, cond, not, ◌&&◌, ◌||◌, List, [], ◌∷◌, ◌++◌, Option, Some, None, is_some, option_map, map, eqb, suc}
+use Rattle.std.specs.Prelude.{ℕ, Bool, true, false, cond, ◌&&◌, ◌||◌, List, [], ◌∷◌, ◌++◌, Option, Some, None, is_some, map, eqb, suc}
 use Rattle.std.specs.List.{list_any, filter}
-use Rattle.ann_base.specs.declared.places.Place.{Place}
 use Rattle.ada_tree.specs.declared.names.Identifier.{Identifier}
 use Rattle.ada_tree.specs.declared.declarations.SubprogramSpecification.{SubprogramSpecification}
 use Rattle.profile_machine.specs.declared.numbers.SubprogramNo.{SubprogramNo}
@@ -15,8 +14,7 @@ use Rattle.ada_regions.specs.declared.entities.EntityKind.TheVariants as entity
 use Rattle.ada_regions.specs.declared.entities.ComponentOwner.{ComponentOwner}
 use Rattle.ada_regions.specs.declared.entities.ComponentOwner.TheVariants as owner
 use Rattle.ada_regions.specs.Words.{and_then}
-use Rattle.ada_regions.specs.Names.{Names, Binding, Frame, NumberedScope, binding_in, innermost_frame, frames_outside, opened, region_here, scope_in, kind_at, region_of_entity, entity_denoted, noted, no_frame}
-use Rattle.ada_regions.specs.Statics.{subtype_of_kind}
+use Rattle.ada_regions.specs.Names.{Names, Binding, Frame, binding_in, innermost_frame, frames_outside, opened, scope_in, kind_at, region_of_entity, entity_denoted, noted}
 use Rattle.ada_regions.specs.Subtypes.{formals_of}
 use Rattle.ada_regions.specs.Visibility.{resolved}
 use Rattle.ada_regions.specs.Declaring.{hidden, subprogram_declared, type_of_kind}

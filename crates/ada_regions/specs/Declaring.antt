@@ -1,5 +1,5 @@
 -- Declarations (3.1, 8.1, 8.3): what a declaration binds in its region, and what entity it declares.
-use Rattle.std.specs.Prelude.{ℕ, suc, ◌+◌, ◌-◌, Bool, true, false, cond, not, ◌&&◌, ◌||◌, List, [], ◌∷◌, ◌++◌, Option, Some, None, is_some, length, map, option_map, unwrap_or, slice_get, position}
+use Rattle.std.specs.Prelude.{ℕ, suc, ◌-◌, Bool, true, false, cond, ◌||◌, List, [], ◌∷◌, ◌++◌, Option, Some, None, is_some, length, map, option_map, unwrap_or, slice_get, position}
 use Rattle.std.specs.Str.{bytes_eq}
 use Rattle.ann_base.specs.declared.places.Place.{Place}
 use Rattle.ada_tree.specs.declared.names.Identifier.{Identifier}
@@ -18,8 +18,6 @@ use Rattle.ada_regions.specs.declared.entities.Denoted.{Denoted}
 use Rattle.ada_tree.specs.declared.declarations.SubprogramSpecification.{SubprogramSpecification}
 use Rattle.profile_machine.specs.declared.numbers.DeclNo.{DeclNo}
 use Rattle.profile_machine.specs.declared.numbers.EnumerationNo.{EnumerationNo}
-use Rattle.profile_machine.specs.declared.numbers.ControlledNo.{ControlledNo}
-use Rattle.profile_machine.specs.declared.numbers.TaskUnitNo.{TaskUnitNo}
 use Rattle.profile_machine.specs.declared.numbers.ProtectedUnitNo.{ProtectedUnitNo}
 use Rattle.profile_machine.specs.declared.declarations.EntryUnit.{EntryUnit}
 use Rattle.profile_machine.specs.declared.declarations.EntryUnit.TheVariants as entry_unit
@@ -29,7 +27,6 @@ use Rattle.ada_regions.specs.declared.types.AdaType.{AdaType}
 use Rattle.ada_regions.specs.declared.types.AdaType.TheVariants as types
 use Rattle.ada_regions.specs.declared.types.Subtype.{Subtype}
 use Rattle.ada_regions.specs.declared.entities.Denoted.TheVariants as denotes
-use Rattle.ada_regions.specs.declared.entities.Entity.{Entity}
 use Rattle.ada_regions.specs.declared.entities.EntityKind.{EntityKind}
 use Rattle.ada_regions.specs.declared.entities.EntityKind.TheVariants as entity
 use Rattle.ada_regions.specs.declared.entities.ComponentOwner.{ComponentOwner}
@@ -37,7 +34,7 @@ use Rattle.ada_regions.specs.declared.entities.ComponentOwner.TheVariants as own
 use Rattle.ada_regions.specs.declared.faults.NameFault.TheVariants as fault
 use Rattle.ada_regions.specs.Words.{and_then, all_of}
 use Rattle.ada_regions.specs.Occurrences.{Declared, the_package, the_main_procedure, an_object, a_component, a_parameter, a_loop_parameter, an_enumeration, a_literal, an_array, a_derived_type, a_subtype, an_exception, a_label, a_subprogram, an_entry, a_task, a_protected}
-use Rattle.ada_regions.specs.Names.{Names, Binding, Frame, Sort, of_object, of_component, of_parameter, of_loop_parameter, of_exception, NumberedDeclaration, NumberedSubprogram, NumberedTask, NumberedProtected, NumberedControlled, NumberedEntry, denoted_by, entity_of, binding_in, innermost_frame, region_here, scope_in, scope_of_loops, expanded, kind_at, noted, told}
+use Rattle.ada_regions.specs.Names.{Names, Frame, Sort, of_object, of_component, of_parameter, of_loop_parameter, of_exception, NumberedDeclaration, NumberedSubprogram, NumberedTask, NumberedProtected, NumberedControlled, NumberedEntry, denoted_by, entity_of, binding_in, innermost_frame, region_here, scope_in, scope_of_loops, expanded, kind_at, noted, told}
 use Rattle.ada_regions.specs.Statics.{static_value, subtype_of_kind}
 use Rattle.ada_regions.specs.Subtypes.{indicated_subtype, mark_denoted, array_type, formals_of, mode_of}
 use Rattle.ada_regions.specs.Visibility.{in_standard, bound}

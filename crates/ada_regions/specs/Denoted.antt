@@ -2,20 +2,19 @@
 -- before it, the nearest first. The regions around a name are found by going back from it; each has the declarations that
 -- stand directly in it, those of its construct's declaration and its body together; the innermost that has one of the name
 -- counts, and only those before the name do.
-use Rattle.std.specs.Prelude.{ℕ, zero, suc, ◌+◌, ◌-◌, Bool, true, false, cond, not, ◌&&◌, ◌||◌, List, [], ◌∷◌, ◌++◌, Option, Some, None, option_map, eqb, length, is_some, is_none, map}
-use Rattle.std.specs.List.{list_any, list_all}
+use Rattle.std.specs.Prelude.{ℕ, zero, suc, ◌-◌, Bool, true, false, cond, not, ◌&&◌, List, [], ◌∷◌, Option, Some, None, option_map, eqb, length, is_some}
+use Rattle.std.specs.List.{list_any}
 use Rattle.std.specs.Str.{bytes_eq}
 use Rattle.ann_base.specs.declared.places.Place.{Place}
 use Rattle.ada_tree.specs.declared.names.Identifier.{Identifier}
 use Rattle.ada_tree.specs.declared.names.Name.{Name}
 use Rattle.ada_tree.specs.declared.units.Unit.{Unit as Tree}
 use Rattle.ada_regions.specs.declared.predefined.PredefinedUnit.{PredefinedUnit}
-use Rattle.ada_regions.specs.declared.predefined.PredefinedUnit.TheVariants as units
 use Rattle.ada_regions.specs.declared.entities.Denoted.{Denoted}
 use Rattle.ada_regions.specs.declared.entities.Denoted.TheVariants as denotes
 use Rattle.ada_regions.specs.Words.{or_else, and_then, same_place}
 use Rattle.ada_regions.specs.PredefinedUnits.{same_unit, child_unit}
-use Rattle.ada_regions.specs.Occurrences.{Occurrence, Occurrences, Region, Declared, the_context, the_context_of, package_region, package_body, a_unit, task_body, protected_body, a_subprogram, begins, ends, private_from_here, hides, heads, declares, declares_unit, completes, mentions, mentions_simply, with_unit, use_package}
+use Rattle.ada_regions.specs.Occurrences.{Occurrence, Occurrences, Region, the_context_of, package_region, package_body, a_unit, task_body, protected_body, a_subprogram, begins, ends, private_from_here, hides, heads, declares, declares_unit, completes, mentions, mentions_simply, with_unit, use_package}
 use Rattle.ada_regions.specs.NamesInUnits.{names_in_unit}
 use Rattle.ada_regions.specs.Names.{Names, denoted_at, entity_at}
 use Rattle.ada_regions.specs.Visibility.{item_of, in_standard, is_withed_by}

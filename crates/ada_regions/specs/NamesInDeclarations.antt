@@ -1,10 +1,7 @@
 -- The names in declarations and bodies (clauses 3, 6, 9, 11), in the order of the text.
-use Rattle.std.specs.Prelude.{Bool, true, false, List, [], ◌∷◌, ◌++◌, Option, Some, None, is_some}
+use Rattle.std.specs.Prelude.{Bool, true, false, List, ◌∷◌, ◌++◌, is_some}
 use Rattle.std.specs.List.{flat_map}
-use Rattle.ann_base.specs.declared.places.Place.{Place}
 use Rattle.ada_tree.specs.declared.names.Identifier.{Identifier}
-use Rattle.ada_tree.specs.declared.names.Name.{Name}
-use Rattle.ada_tree.specs.declared.names.OneOrMore.{OneOrMore}
 use Rattle.ada_tree.specs.declared.declarations.Declaration.{Declaration}
 use Rattle.ada_tree.specs.declared.declarations.Declaration.TheVariants as declaration
 use Rattle.ada_tree.specs.declared.declarations.Body.{Body}
@@ -26,7 +23,7 @@ use Rattle.ada_tree.specs.declared.declarations.ProtectedOperation.TheVariants a
 use Rattle.ada_tree.specs.declared.declarations.ProtectedBody.{ProtectedBody}
 use Rattle.ada_tree.specs.declared.declarations.OperationBody.{OperationBody}
 use Rattle.ada_tree.specs.declared.declarations.OperationBody.TheVariants as body_of
-use Rattle.ada_regions.specs.Occurrences.{Occurrences, SequenceNames, an_object, a_component, an_enumeration, a_literal, an_array, a_derived_type, a_subtype, an_exception, a_subprogram, an_entry, a_task, a_protected, a_profile, subprogram_body, a_unit, task_body, protected_body, entry_body, a_record, begins, ends, private_from_here, hides, heads, declares, completes, is_called, mentions, mentions_entry, use_package, in_all, if_there, one, within_region, hides_all, declares_all, in_body}
+use Rattle.ada_regions.specs.Occurrences.{Occurrences, SequenceNames, an_object, a_component, an_enumeration, a_literal, an_array, a_derived_type, a_subtype, an_exception, a_subprogram, an_entry, a_task, a_protected, a_profile, subprogram_body, a_unit, task_body, protected_body, entry_body, a_record, private_from_here, hides, heads, declares, completes, is_called, mentions, mentions_entry, use_package, in_all, if_there, one, within_region, hides_all, declares_all, in_body}
 use Rattle.ada_regions.specs.NamesInExpressions.{names_in_expression}
 use Rattle.ada_regions.specs.NamesInStatements.{names_in_indication, names_in_parameters}
 

@@ -1,10 +1,7 @@
 -- The names in statements (clauses 5, 6.4, 9, 11), in the order of the text, and the labels that statements declare.
-use Rattle.std.specs.Prelude.{Bool, true, List, [], ◌∷◌, ◌++◌, Option, Some, None, option_map}
+use Rattle.std.specs.Prelude.{Bool, true, List, [], ◌∷◌, ◌++◌, Option, option_map}
 use Rattle.std.specs.List.{flat_map}
-use Rattle.ann_base.specs.declared.places.Place.{Place}
 use Rattle.ada_tree.specs.declared.names.Identifier.{Identifier}
-use Rattle.ada_tree.specs.declared.names.Name.{Name}
-use Rattle.ada_tree.specs.declared.expressions.Expression.{Expression}
 use Rattle.ada_tree.specs.declared.declarations.Parameter.{Parameter}
 use Rattle.ada_tree.specs.declared.declarations.SubtypeIndication.{SubtypeIndication}
 use Rattle.ada_tree.specs.declared.declarations.Constraint.{Constraint}
@@ -39,7 +36,7 @@ use Rattle.ada_tree.specs.declared.selects.Alternative.{Alternative}
 use Rattle.ada_tree.specs.declared.selects.Alternative.TheVariants as alternative
 use Rattle.ada_tree.specs.declared.selects.Trigger.{Trigger}
 use Rattle.ada_tree.specs.declared.selects.Trigger.TheVariants as trigger
-use Rattle.ada_regions.specs.Occurrences.{Occurrences, Region, SequenceNames, a_parameter, a_loop_parameter, a_label, an_accept, a_block, a_loop, begins, ends, hides, declares, mentions, mentions_simply, in_all, if_there, one, within_region, hides_all, declares_all, in_body}
+use Rattle.ada_regions.specs.Occurrences.{Occurrences, SequenceNames, a_parameter, a_loop_parameter, a_label, an_accept, a_block, a_loop, hides, declares, mentions, mentions_simply, in_all, if_there, one, within_region, hides_all, declares_all, in_body}
 use Rattle.ada_regions.specs.NamesInExpressions.{names_in_expression, names_in_arguments}
 
 -- ---- subtype indications and parameters (3.2.2, 6.1)

@@ -1,5 +1,5 @@
 -- The names in sequences, library units and a source (3.11, 7.1, 7.2, 10.1), in the order of the text.
-use Rattle.std.specs.Prelude.{Bool, true, false, List, [], ◌∷◌, ◌++◌, Option, Some, None}
+use Rattle.std.specs.Prelude.{Bool, true, false, List, ◌∷◌, ◌++◌}
 use Rattle.std.specs.List.{flat_map}
 use Rattle.ada_tree.specs.declared.names.Name.{Name}
 use Rattle.ada_tree.specs.declared.statements.Sequence.{Sequence}
@@ -15,7 +15,7 @@ use Rattle.ada_tree.specs.declared.units.Package.TheVariants as packages
 use Rattle.ada_tree.specs.declared.units.PackageDeclaration.{PackageDeclaration}
 use Rattle.ada_tree.specs.declared.units.PackageBody.{PackageBody}
 use Rattle.ada_tree.specs.declared.units.MainProcedure.{MainProcedure}
-use Rattle.ada_regions.specs.Occurrences.{Occurrence, Occurrences, SequenceNames, the_package, the_main_procedure, the_context, the_context_of, further_context, package_region, package_body, main_body, begins, ends, private_from_here, hides, declares_unit, with_unit, use_package, in_all, if_there, one, within_region, in_body}
+use Rattle.ada_regions.specs.Occurrences.{Occurrence, Occurrences, SequenceNames, the_package, the_main_procedure, the_context, the_context_of, further_context, package_region, package_body, main_body, private_from_here, declares_unit, with_unit, use_package, in_all, if_there, one, within_region, in_body}
 use Rattle.ada_regions.specs.NamesInStatements.{names_in_statement, labels_in_statement, names_in_handler, labels_in_handler}
 use Rattle.ada_regions.specs.NamesInDeclarations.{names_in_declaration, names_in_aspects}
 

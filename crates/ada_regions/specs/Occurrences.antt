@@ -1,6 +1,6 @@
 -- What a text says of names, in the order in which it says it: where a declarative region begins and ends, where a
 -- name is hidden, declared or used. Everything about regions and visibility is said of this list alone.
-use Rattle.std.specs.Prelude.{ℕ, Bool, List, [], ◌∷◌, ◌++◌, Option, Some, None}
+use Rattle.std.specs.Prelude.{Bool, List, [], ◌∷◌, ◌++◌, Option, Some, None}
 use Rattle.std.specs.List.{flat_map}
 use Rattle.ann_base.specs.declared.places.Place.{Place}
 use Rattle.ada_tree.specs.declared.names.Identifier.{Identifier}

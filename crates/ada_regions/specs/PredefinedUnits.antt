@@ -1,7 +1,7 @@
 -- The predefined units, as one table: which units stand in which, and what each declares (annex A, C.7.1, annex D). The
 -- numbers that the standard leaves open are this profile's: 31 levels of Priority, or 98 where the range is wide, and
 -- times of 2^62 microseconds on both sides of the start.
-use Rattle.std.specs.Prelude.{ℕ, ◌+◌, suc, ℤ, pos, negsuc, Bool, true, false, cond, List, [], ◌∷◌, Option, Some, None, codes, eqb}
+use Rattle.std.specs.Prelude.{ℕ, suc, ℤ, pos, negsuc, Bool, true, false, cond, List, [], ◌∷◌, Option, Some, None, codes, eqb}
 use Rattle.ann_base.specs.declared.exceptions.Raised.TheVariants as raised
 use Rattle.profile_machine.specs.declared.values.Value.TheVariants as value
 use Rattle.profile_machine.specs.declared.values.Constraint.{Constraint}
@@ -15,7 +15,7 @@ use Rattle.ada_regions.specs.declared.predefined.Operation.{Operation}
 use Rattle.ada_regions.specs.declared.predefined.Operation.TheVariants as operations
 use Rattle.ada_regions.specs.declared.predefined.Predefined.{Predefined}
 use Rattle.ada_regions.specs.declared.predefined.Predefined.TheVariants as items
-use Rattle.ada_regions.specs.Words.{entry_named, or_else}
+use Rattle.ada_regions.specs.Words.{entry_named}
 
 -- ---- units
 

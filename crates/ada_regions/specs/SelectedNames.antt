@@ -1,13 +1,12 @@
 -- What an expanded name or a selected component denotes (4.1.3): behind a package what it exports; behind a construct that
 -- stands around the name what is declared in it; behind an object what its type's declaration exports.
-use Rattle.std.specs.Prelude.{ℕ, Bool, false, cond, List, [], ◌∷◌, Option, Some, None, option_map, is_some, slice_get, eqb}
+use Rattle.std.specs.Prelude.{ℕ, Bool, false, List, [], ◌∷◌, Option, Some, None, option_map, slice_get, eqb}
 use Rattle.std.specs.List.{find}
 use Rattle.ada_tree.specs.declared.names.Identifier.{Identifier}
 use Rattle.ada_tree.specs.declared.names.Name.{Name}
 use Rattle.ada_regions.specs.declared.types.AdaType.{AdaType}
 use Rattle.ada_regions.specs.declared.types.AdaType.TheVariants as types
 use Rattle.ada_regions.specs.declared.types.Subtype.{Subtype}
-use Rattle.ada_regions.specs.declared.predefined.PredefinedUnit.{PredefinedUnit}
 use Rattle.ada_regions.specs.declared.entities.Denoted.{Denoted}
 use Rattle.ada_regions.specs.declared.entities.Denoted.TheVariants as denotes
 use Rattle.ada_regions.specs.declared.entities.Entity.{Entity}

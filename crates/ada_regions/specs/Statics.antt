@@ -1,6 +1,6 @@
 -- Static expressions (4.9): literals, minus a literal, constants of these, enumeration literals, First and Last. A number
 -- with a point is one of ticks, any other one a whole number.
-use Rattle.std.specs.Prelude.{ℕ, ◌+◌, ◌*◌, ℤ, pos, neg_ℤ, Bool, true, false, cond, List, [], ◌∷◌, ◌++◌, Option, Some, None, take, codes}
+use Rattle.std.specs.Prelude.{ℕ, ◌+◌, ◌*◌, ℤ, pos, neg_ℤ, cond, List, ◌++◌, Option, Some, None, take, codes}
 use Rattle.ada_lex.specs.Meaning.{whole_of, decimals_of}
 use Rattle.ada_lex.specs.Shapes.{value_of}
 use Rattle.ada_tree.specs.declared.names.Name.{Name}
@@ -13,7 +13,6 @@ use Rattle.ada_tree.specs.declared.expressions.Expression.TheViews.{out-Expressi
 use Rattle.ada_tree.specs.declared.expressions.ExpressionForm.{ExpressionForm}
 use Rattle.ada_tree.specs.declared.expressions.ExpressionForm.TheVariants as form
 use Rattle.ada_tree.specs.declared.expressions.AttributeDesignator.{AttributeDesignator}
-use Rattle.ada_tree.specs.declared.expressions.Argument.{Argument}
 use Rattle.profile_machine.specs.declared.values.Value.{Value}
 use Rattle.profile_machine.specs.declared.values.Value.TheVariants as value
 use Rattle.profile_machine.specs.declared.values.Constraint.{Constraint}

@@ -1,13 +1,11 @@
 -- Subtype indications, array types and the formals of profiles (3.2.2, 3.5, 3.6, 6.1), given what their names denote.
-use Rattle.std.specs.Prelude.{ℕ, ℤ, Bool, true, false, List, [], ◌∷◌, ◌++◌, Option, Some, None, map}
+use Rattle.std.specs.Prelude.{ℕ, ℤ, Bool, true, false, List, Option, Some, None, map}
 use Rattle.std.specs.List.{flat_map}
-use Rattle.ada_tree.specs.declared.names.Identifier.{Identifier}
 use Rattle.ada_tree.specs.declared.expressions.Expression.{Expression}
 use Rattle.ada_tree.specs.declared.declarations.Parameter.{Parameter}
 use Rattle.ada_tree.specs.declared.declarations.SubtypeIndication.{SubtypeIndication}
 use Rattle.ada_tree.specs.declared.declarations.Constraint.{Constraint as Indicated}
 use Rattle.ada_tree.specs.declared.declarations.Constraint.TheVariants as indicated
-use Rattle.ada_tree.specs.declared.declarations.SubprogramSpecification.{SubprogramSpecification}
 use Rattle.profile_machine.specs.declared.values.Value.{Value}
 use Rattle.profile_machine.specs.declared.values.Value.TheVariants as value
 use Rattle.profile_machine.specs.declared.values.Constraint.{Constraint}

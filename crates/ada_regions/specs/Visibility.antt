@@ -1,11 +1,10 @@
 -- What a direct name denotes (8.3, 8.4): the declaration of the innermost region around it that has one, where that has
 -- ended; else what one use clause makes visible.
-use Rattle.std.specs.Prelude.{ℕ, Bool, true, false, cond, ◌&&◌, ◌||◌, List, [], ◌∷◌, ◌++◌, Option, Some, None, option_map, eqb, map}
+use Rattle.std.specs.Prelude.{ℕ, Bool, false, cond, ◌&&◌, ◌||◌, List, [], ◌∷◌, Option, Some, None, option_map, eqb, map}
 use Rattle.std.specs.List.{list_any, filter, flat_map, find}
 use Rattle.ada_tree.specs.declared.names.Identifier.{Identifier}
 use Rattle.ada_regions.specs.declared.predefined.PredefinedUnit.{PredefinedUnit}
 use Rattle.ada_regions.specs.declared.predefined.PredefinedUnit.TheVariants as units
-use Rattle.ada_regions.specs.declared.predefined.Predefined.{Predefined}
 use Rattle.ada_regions.specs.declared.entities.Denoted.{Denoted}
 use Rattle.ada_regions.specs.declared.entities.Denoted.TheVariants as denotes
 use Rattle.ada_regions.specs.declared.faults.NameFault.TheVariants as fault

@@ -4,4 +4,4 @@ use Rattle.ada_regions.specs.Occurrences.{a_component, declares, declares_all, o
 use Rattle.ada_occurrences.proofs.declarations.declare_components.Given as goal
 
 abbrev pub invariant-loop-name : goal.invariant-loop-name
-invariant-loop-name g l = g.L.Listener.told l.listener ++ flat_map (λ i. one (declares i (a_component l.fn.component))) (drop l.name-index l.fn.component.names.others) ≡ g.L.Listener.told l.fn.listener ++ declares_all (a_component l.fn.component) l.fn.component.names
+invariant-loop-name l = l.occurrences ++ flat_map (λ i. one (declares i (a_component l.fn.component))) (drop l.name-index l.fn.component.names.others) ≡ l.fn.occurrences ++ declares_all (a_component l.fn.component) l.fn.component.names

@@ -4,4 +4,4 @@ use Rattle.ada_regions.specs.Occurrences.{an_exception, declares, declares_all, 
 use Rattle.ada_occurrences.proofs.declarations.declare_exceptions.Given as goal
 
 abbrev pub invariant-loop-name : goal.invariant-loop-name
-invariant-loop-name g l = g.L.Listener.told l.listener ++ flat_map (λ i. one (declares i an_exception)) (drop l.name-index l.fn.names.others) ≡ g.L.Listener.told l.fn.listener ++ declares_all an_exception l.fn.names
+invariant-loop-name l = l.occurrences ++ flat_map (λ i. one (declares i an_exception)) (drop l.name-index l.fn.names.others) ≡ l.fn.occurrences ++ declares_all an_exception l.fn.names

@@ -3,4 +3,4 @@ use Rattle.std.specs.List.{flat_map}
 use Rattle.ada_occurrences.proofs.labels.tell_labels_of_each.Given as goal
 
 abbrev pub invariant-loop-item : goal.invariant-loop-item
-invariant-loop-item g l = g.L.Listener.told l.listener ++ flat_map g.T.TellLabels.labels (drop l.item-index l.items) ≡ g.L.Listener.told l.fn.listener ++ flat_map g.T.TellLabels.labels l.items
+invariant-loop-item g l = l.occurrences ++ flat_map g.T.TellLabels.labels (drop l.item-index l.items) ≡ l.fn.occurrences ++ flat_map g.T.TellLabels.labels l.items

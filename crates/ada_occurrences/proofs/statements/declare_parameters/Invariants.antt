@@ -4,6 +4,6 @@ use Rattle.ada_regions.specs.Occurrences.{a_parameter, declares, declares_all, o
 use Rattle.ada_occurrences.proofs.statements.declare_parameters.Given as goal
 
 abbrev pub invariant-loop-name : goal.invariant-loop-name
-invariant-loop-name g l =
-    g.L.Listener.told l.listener ++ flat_map (λ i. one (declares i (a_parameter l.fn.with_cells l.fn.parameter))) (drop l.name-index l.fn.parameter.names.others)
-    ≡ g.L.Listener.told l.fn.listener ++ declares_all (a_parameter l.fn.with_cells l.fn.parameter) l.fn.parameter.names
+invariant-loop-name l =
+    l.occurrences ++ flat_map (λ i. one (declares i (a_parameter l.fn.with_cells l.fn.parameter))) (drop l.name-index l.fn.parameter.names.others)
+    ≡ l.fn.occurrences ++ declares_all (a_parameter l.fn.with_cells l.fn.parameter) l.fn.parameter.names

@@ -4,4 +4,4 @@ use Rattle.ada_regions.specs.Occurrences.{hides, hides_all, one}
 use Rattle.ada_occurrences.proofs.statements.hide_all.Given as goal
 
 abbrev pub invariant-loop-name : goal.invariant-loop-name
-invariant-loop-name g l = g.L.Listener.told l.listener ++ flat_map (λ i. one (hides i)) (drop l.name-index l.fn.names.others) ≡ g.L.Listener.told l.fn.listener ++ hides_all l.fn.names
+invariant-loop-name l = l.occurrences ++ flat_map (λ i. one (hides i)) (drop l.name-index l.fn.names.others) ≡ l.fn.occurrences ++ hides_all l.fn.names

@@ -3,5 +3,5 @@ use Rattle.ada_regions.specs.NamesInStatements.{names_in_parameters}
 use Rattle.ada_occurrences.proofs.statements.tell_parameters.Given as goal
 
 abbrev pub invariant-loop-parameter : goal.invariant-loop-parameter
-invariant-loop-parameter g l =
-    g.L.Listener.told l.listener ++ names_in_parameters l.with_cells (drop l.parameter-index l.parameters) ≡ g.L.Listener.told l.fn.listener ++ names_in_parameters l.with_cells l.parameters
+invariant-loop-parameter l =
+    l.occurrences ++ names_in_parameters l.with_cells (drop l.parameter-index l.parameters) ≡ l.fn.occurrences ++ names_in_parameters l.with_cells l.parameters

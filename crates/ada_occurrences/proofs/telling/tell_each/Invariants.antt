@@ -3,4 +3,4 @@ use Rattle.std.specs.List.{flat_map}
 use Rattle.ada_occurrences.proofs.telling.tell_each.Given as goal
 
 abbrev pub invariant-loop-item : goal.invariant-loop-item
-invariant-loop-item g l = g.L.Listener.told l.listener ++ flat_map g.T.Tell.names (drop l.item-index l.items) ≡ g.L.Listener.told l.fn.listener ++ flat_map g.T.Tell.names l.items
+invariant-loop-item g l = l.occurrences ++ flat_map g.T.Tell.names (drop l.item-index l.items) ≡ l.fn.occurrences ++ flat_map g.T.Tell.names l.items

@@ -5,4 +5,4 @@ use Rattle.ada_regions.specs.NamesInUnits.{clause_with}
 use Rattle.ada_occurrences.proofs.units.tell_clause_names.Given as goal
 
 abbrev pub invariant-loop-name : goal.invariant-loop-name
-invariant-loop-name g l = g.L.Listener.told l.listener ++ flat_map (λ name. one (clause_with l.fn.is_use name)) (drop l.name-index l.fn.names.others) ≡ g.L.Listener.told l.fn.listener ++ in_all (λ name. one (clause_with l.fn.is_use name)) l.fn.names
+invariant-loop-name l = l.occurrences ++ flat_map (λ name. one (clause_with l.fn.is_use name)) (drop l.name-index l.fn.names.others) ≡ l.fn.occurrences ++ in_all (λ name. one (clause_with l.fn.is_use name)) l.fn.names

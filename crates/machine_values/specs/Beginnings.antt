@@ -2,5 +2,5 @@
 use Rattle.profile_machine.specs.declared.world.scopes.Beginning as code
 use Rattle.profile_machine.specs.Scopes.{Beginning}
 
-abbrev pub beginning_of : code.Beginning → Beginning
-beginning_of b = record { outer = b.outer; object = b.object; subject = b.subject; values = b.values }
+abbrev pub as_beginning : code.Beginning → Beginning
+as_beginning b = record { outer = b.outer; object = b.object; subject = b.subject; values = b.values }

@@ -1,4 +1,4 @@
-use Rattle.std.proofs.Common.{◌≡◌, refl, sym}
+use Rattle.std.proofs.Common.{refl, sym}
 use Rattle.profile_machine.specs.Scopes.{is_id}
 use Rattle.machine_frames.proofs.FoundLemmas.{find_none}
 use Rattle.machine_values.proofs.scopes.scope_mut.Goals as goal

@@ -11,8 +11,6 @@ mod placing;
 mod queues;
 mod rivals;
 mod settling;
-#[cfg(test)]
-mod tests;
 
 pub use appointments::{
     DueOf, appoint, drop_appointment, drop_delay, first_due, is_an_event, is_appointed, is_due_of,

@@ -34,5 +34,5 @@ pub assign-is : (p : Image) (w : World) (who : Who) (cells : List ℤ) (count : 
     assign p who s target e w [] ≡ done (edit_top who (goes_on (next_of p s)) (write_cell (scope_id 1) (cell_of target.object) (Whole (value_at p cells e)) w)) []
 unfolding assign goes
 assign-is p w who cells count s target e m h a i =
-    ap (λ r. given p Own who (r >>= λ v. machine.value (seen_by p w who) e >>= λ x. store p v x w) (λ next. changes (λ _. next) ▷ goes who (next_of p s)) w []) (variable-is p w who cells count target m h i)
-    ∙ ap (λ r. given p Own who r (λ next. changes (λ _. next) ▷ goes who (next_of p s)) w []) (value-stored p w who cells count (cell_of target.object) e m h a (declared-below count target.object i.declared))
+    ap (λ r. given Own who (r >>= λ v. machine.value (seen_by p w who) e >>= λ x. store p v x w) (λ next. changes (λ _. next) ▷ goes who (next_of p s)) w []) (variable-is p w who cells count target m h i)
+    ∙ ap (λ r. given Own who r (λ next. changes (λ _. next) ▷ goes who (next_of p s)) w []) (value-stored p w who cells count (cell_of target.object) e m h a (declared-below count target.object i.declared))

@@ -48,7 +48,7 @@ kind-declared p w who cells count d _ m h defaults a i v = absurd v
 
 -- a variable is declared quietly
 quietly : (p : Image) (w : World) (who : Who) (s : StatementNo) (d : DeclNo) (k : DeclarationKind) → IsVariableKind k →
-    declare_by p who s d k w [] ≡ given p Own who (declared (seen_by p w who) d (declaration_of p d).kind) (λ next. changes (λ _. next) ▷ goes who (next_of p s)) w []
+    declare_by p who s d k w [] ≡ given Own who (declared (seen_by p w who) d (declaration_of p d).kind) (λ next. changes (λ _. next) ▷ goes who (next_of p s)) w []
 unfolding declare_by declare_quietly
 quietly p w who s d (kind.Object i) v = refl
 quietly p w who s d _ v = absurd v
@@ -59,4 +59,4 @@ pub declare-is : (p : Image) (w : World) (who : Who) (cells : List ℤ) (count :
 unfolding declare goes
 declare-is p w who cells count s d m h defaults a i =
     quietly p w who s d (declaration_of p d).kind (h.variables d.0 i).kind
-    ∙ ap (λ r. given p Own who r (λ next. changes (λ _. next) ▷ goes who (next_of p s)) w []) (kind-declared p w who cells count d (declaration_of p d).kind m h defaults a i (h.variables d.0 i).kind)
+    ∙ ap (λ r. given Own who r (λ next. changes (λ _. next) ▷ goes who (next_of p s)) w []) (kind-declared p w who cells count d (declaration_of p d).kind m h defaults a i (h.variables d.0 i).kind)

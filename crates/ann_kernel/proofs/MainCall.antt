@@ -47,7 +47,7 @@ by_room : Image → World → Bool → Done
 by_room p w found =
     let step : Step = elim found [
       | true ↦ goes environment (next_of p (statement_no 0)) ▷ looks (λ v. changes (open_scope p environment p.main.scope (plainly (innermost v environment)) (opened_for.Subprogram [] bound_for.Nowhere)))
-      | false ↦ raises p Own environment exception.Storage
+      | false ↦ raises Own environment exception.Storage
     ] in
     step w []
 

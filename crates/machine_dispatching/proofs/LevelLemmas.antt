@@ -3,11 +3,12 @@ use Rattle.std.proofs.Common.{◌≡◌, ℕ, ℤ, ◌<◌, ◌≤◌, Bool, tru
 use Rattle.std.proofs.lemmas.List.Elements.{filter-append}
 use Rattle.std.proofs.lemmas.Option.{get_or_from_slice_get, unwrap_or-slice_get}
 use Rattle.std.specs.Option.{unwrap_or}
+use Rattle.profile_machine.specs.declared.world.tasks.Rival.{Rival}
 use Rattle.profile_machine.specs.declared.world.World.{World}
 use Rattle.profile_machine.specs.declared.world.objects.Action.{Action}
 use Rattle.profile_machine.specs.declared.world.tasks.Task.{Task}
 use Rattle.profile_machine.specs.Words.{greatest_of}
-use Rattle.profile_machine.specs.Dispatching.{Rival, all_later, of_level, inside_object, greatest_level}
+use Rattle.profile_machine.specs.Dispatching.{all_later, of_level, inside_object, greatest_level}
 
 -- ---- the greatest of levels
 

@@ -79,13 +79,12 @@ pub fn leaves(effect: &mut Effect, name: Who, leaving: Leaving)
 /// An exception is raised, and the marks are left with it (11.3).
 #[tactic(auto, unfolding(profile_machine::specs::Frames::raises))]
 pub fn raises(
-    p: &Program,
     effect: &mut Effect,
     part: Part,
     name: Who,
     exception: Raised,
 ) -> Result<(), NoMemory>
-    ensures { OnOk result (Did (raises p.now part name exception) effect.old effect.new) }
+    ensures { OnOk result (Did (raises part name exception) effect.old effect.new) }
 {
     says(
         effect,

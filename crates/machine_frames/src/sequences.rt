@@ -36,7 +36,7 @@ pub fn open_handled(
                     new_frame(Mark::Handled(s), Some(*first)),
                 )
             } else {
-                raises(p, effect, part, name, Raised::Storage)
+                raises(effect, part, name, Raised::Storage)
             }
         }
         _ => Ok(()),

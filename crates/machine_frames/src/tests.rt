@@ -117,7 +117,7 @@ fn constructs_of_a_task(rt: HostRuntime) -> Result<(), Fail> {
     assert!(rt; !has_room(&effect.world, name, 999, 0));
     assert!(rt; !has_room(&effect.world, name, 0, 65_537));
     assert!(rt; is_deferred(&effect.world, name) && !in_protected(&effect.world, name));
-    raises(&p, &mut effect, Part::Own, name, Raised::Storage)?;
+    raises(&mut effect, Part::Own, name, Raised::Storage)?;
     assert_eq!(rt; effect.said.len(), 1);
     assert_eq!(rt; onward_of(&effect.world, name), None);
     assert_eq!(rt;

@@ -32,7 +32,8 @@ use Rattle.profile_machine.specs.declared.world.lines.Line.{Line}
 use Rattle.profile_machine.specs.Lines.{event_of}
 use Rattle.profile_machine.specs.Steps.{in_order, placed_by}
 use Rattle.profile_machine.specs.Tasks.{edit_task}
-use Rattle.profile_machine.specs.Scopes.{Beginning, edit_cells, begin_scope, region_drawn, end_scope}
+use Rattle.profile_machine.specs.declared.world.scopes.Beginning.{Beginning}
+use Rattle.profile_machine.specs.Scopes.{edit_cells, begin_scope, region_drawn, end_scope}
 use Rattle.profile_machine.specs.Appointments.{appoint, drop_appointment}
 use Rattle.profile_machine.specs.Calls.{edit_call, forget_call, edit_object}
 use Rattle.profile_machine.specs.Masters.{forget_task}

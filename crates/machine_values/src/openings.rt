@@ -3,7 +3,6 @@ ghost use Rattle.std.specs.Prelude.{◌≡◌, ◌+◌, ◌^◌, ◌≤◌, ◌+
 ghost use Rattle.profile_machine.specs.Program.{initial_cells};
 ghost use Rattle.profile_machine.specs.Scopes.{plainly, next_id, scope_drawn, begin_scope, region_drawn, draw_region, region_of_next, new_scope_mark, open_scope, is_id, is_library, goes_with, end_scope};
 ghost use Rattle.profile_machine.specs.Words.{without};
-ghost use Rattle.machine_values.specs.Beginnings.{as_beginning};
 
 use crate::scopes::same_id;
 use ann_base::{NoMemory, RegionNo};
@@ -19,7 +18,7 @@ use world_tables::List;
 
 /// A scope that works on nothing and gets no parameters. It takes no memory.
 pub fn plainly(alloc: Global, outer: Option<ScopeId>) -> Beginning
-    ensures { as_beginning result ≡ plainly outer }
+    ensures { result ≡ plainly outer }
 {
     Beginning {
         outer,
@@ -107,7 +106,7 @@ pub fn begin_scope(
     b: Beginning,
     world: &mut World,
 ) -> Result<(), NoMemory>
-    ensures { OnOk result (world.new ≡ begin_scope p.now name scope (as_beginning b) world.old) }
+    ensures { OnOk result (world.new ≡ begin_scope p.now name scope b world.old) }
 {
     let cells = begun_cells(alloc, b.values, scope_of(p, scope))?;
     let begun = ScopeInUse {
@@ -177,7 +176,7 @@ pub fn open_scope(
     purpose: Purpose,
     world: &mut World,
 ) -> Result<(), NoMemory>
-    ensures { OnOk result (world.new ≡ open_scope p.now name scope (as_beginning b) purpose world.old) }
+    ensures { OnOk result (world.new ≡ open_scope p.now name scope b purpose world.old) }
 {
     let text = scope_of(p, scope);
     let mark = new_scope_mark(next_id(world), region_of_next(text.kept, world)?, purpose);

@@ -55,7 +55,7 @@ use Rattle.profile_machine.specs.Handlers.{call_handler, set_event, cancel_event
 
 unfoldable pub call_main : Image → Who → StatementNo → Step
 call_main p name s =
-    with_room p name (marks_of p p.main.scope) (scope_of p p.main.scope).size
+    with_room name (marks_of p p.main.scope) (scope_of p p.main.scope).size
     (goes name (next_of p s) ▷ looks (λ w. changes (open_scope p name p.main.scope (plainly (innermost w name)) (opened_for.Subprogram [] bound_for.Nowhere))))
 
 -- ---- calls of subprograms and protected operations (6.4, 9.5.1)
@@ -120,8 +120,8 @@ end_top p name = looks (λ w. end_top_abortable p Own name (frames_of w name))
 abbrev pub waiting_mark : AbortableMark → AbortableMark
 waiting_mark m = record m { waits = true }
 
-unfoldable pub wait_for_trigger : Image → Who → Call → Leaving → Step
-wait_for_trigger p name c leaving =
+unfoldable pub wait_for_trigger : Who → Call → Leaving → Step
+wait_for_trigger name c leaving =
     changes (edit_top name (λ f. with_mark (edit_abortable waiting_mark f.mark) (record f { left_as = Some leaving })))
     ▷ block TheBlock name (waits_for.EndOfCall c.number)
 
@@ -136,7 +136,7 @@ below frames = length frames - 1
 unfoldable pub end_abortable_by : Image → Who → AbortableMark → Leaving → Step
 end_abortable_by p name m leaving = elim m.call [
   | None ↦ looks (λ w. changes (drop_trigger name (below (frames_of w name)))) ▷ end_top p name
-  | Some c ↦ with_call c (λ d. attempt_with p Own d (end_top p name) (wait_for_trigger p name d leaving))
+  | Some c ↦ with_call c (λ d. attempt_with p Own d (end_top p name) (wait_for_trigger name d leaving))
 ]
 
 unfoldable pub end_in_abortable : Image → Who → AbortableMark → Leaving → Step
@@ -167,7 +167,7 @@ act_statement p name s (form.Exit condition of_loop) = exit_statement p name s o
 act_statement p name s (form.Block scope) = block_statement p name s scope
 act_statement p name s form.Return = return name
 act_statement p name s (form.ReturnValue function e) = return_value p name function e
-act_statement p name s (form.Raise e) = raises p Own name e
+act_statement p name s (form.Raise e) = raises Own name e
 act_statement p name s (form.RaiseAgain scope) = raise_again p name scope
 act_statement p name s (form.Delay e) = sees p name (λ q. delay_until p name s (relative_moment q e))
 act_statement p name s (form.DelayUntil e) = sees p name (λ q. delay_until p name s (moment q e))

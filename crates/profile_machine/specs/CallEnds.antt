@@ -61,7 +61,7 @@ onward_when_cancelled p s = otherwise_in p (form_of p s) (next_of p s)
 unfoldable pub go_by_outcome : Image → Part → Who → StatementNo → Outcome → Step
 go_by_outcome p part name s call_ended.Finished = goes name (onward_when_done p s)
 go_by_outcome p part name s call_ended.Cancelled = goes name (onward_when_cancelled p s)
-go_by_outcome p part name s (call_ended.ToRaise e) = raises p part name e
+go_by_outcome p part name s (call_ended.ToRaise e) = raises part name e
 go_by_outcome p part name s (call_ended.WasRaised e) = leaves name (how.Exception e)
 
 -- the caller goes on behind its call, which is no longer among the calls
@@ -145,8 +145,8 @@ abbrev pub triggered_mark : AbortableMark → AbortableMark
 triggered_mark m = record m { triggered = true }
 
 -- a trigger completes while its abortable part is open: `trigger`, and the part is struck
-unfoldable pub trigger_at : Image → Part → TaskNo → ℕ → Step
-trigger_at p part t depth =
+unfoldable pub trigger_at : Part → TaskNo → ℕ → Step
+trigger_at part t depth =
     changes (edit_abortable_at (who.Task t) depth triggered_mark) ▷ says part (line.Trigger t)
     ▷ changes (edit_frame (who.Task t) depth struck_frame)
 
@@ -166,7 +166,7 @@ forget_trigger (Some c) = forget_call c
 unfoldable pub run_triggered : Image → Part → Who → StatementNo → Outcome → Step
 run_triggered p part name select call_ended.Finished = goes name (onward_when_done p select)
 run_triggered p part name select call_ended.Cancelled = nothing
-run_triggered p part name select (call_ended.ToRaise e) = raises p part name e
+run_triggered p part name select (call_ended.ToRaise e) = raises part name e
 run_triggered p part name select (call_ended.WasRaised e) = leaves name (how.Exception e)
 
 -- left by its end, or by the abort that its own trigger brought about, and none that struck an outer mark
@@ -242,7 +242,7 @@ unfoldable pub end_for_abortable : Image → Part → Call → ℕ → Outcome �
 end_for_abortable p part c depth outcome =
     looks (λ w. elim (waits_for_end c.number (waiting_of w (who.Task c.caller))) [
       | true ↦ end_wait p part c depth outcome
-      | false ↦ trigger_at p part c.caller depth
+      | false ↦ trigger_at part c.caller depth
     ])
 
 -- the caller is blocked for it and becomes ready; one that holds the object goes on at the release

@@ -47,8 +47,8 @@ call_drawn d = record d { calls = suc d.calls }
 
 -- ---- names in lines
 
-unfoldable pub says_call : Image → Part → Call → Step
-says_call p part c = says part (line.Call c.caller c.number c.owner c.entry c.priority)
+unfoldable pub says_call : Part → Call → Step
+says_call part c = says part (line.Call c.caller c.number c.owner c.entry c.priority)
 
 -- ---- parameters: a body that takes a call has those of its own entry alone, also where the call was sent on to an
 -- entry without any; the call keeps its values (9.5.4)

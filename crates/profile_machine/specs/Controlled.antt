@@ -33,7 +33,8 @@ use Rattle.profile_machine.specs.Program.{declaration_of, next_of, scope_of, mar
 use Rattle.profile_machine.specs.declared.world.lines.Part.TheVariants.{Own}
 use Rattle.profile_machine.specs.Steps.{Step, says, changes, looks, nothing, ◌▷◌}
 use Rattle.profile_machine.specs.Frames.{top_of, edit_top, push, pop, new_frame, goes, leaves, raises, given, with_room, has_room, with_mark, pass_on}
-use Rattle.profile_machine.specs.Scopes.{home, read_cell, write_cell, open_scope, edit_cells, Beginning, innermost}
+use Rattle.profile_machine.specs.declared.world.scopes.Beginning.{Beginning}
+use Rattle.profile_machine.specs.Scopes.{home, read_cell, write_cell, open_scope, edit_cells, innermost}
 use Rattle.profile_machine.specs.Values.{located, controlled_cells}
 use Rattle.profile_machine.specs.Cost.{of_region}
 use Rattle.profile_machine.specs.Masters.{region_of_mark}
@@ -93,12 +94,12 @@ register p name l =
 unfoldable pub initialize_by : Image → Who → StatementNo → Located → Option SubprogramNo → Step
 initialize_by p name s l None = goes name (next_of p s) ▷ register p name l
 initialize_by p name s l (Some f) =
-    with_room p name (1 + marks_of_operation p f) (size_of_operation p f)
+    with_room name (1 + marks_of_operation p f) (size_of_operation p f)
     (goes name (next_of p s) ▷ changes (push name (new_frame (InInitialize l) None)) ▷ open_operation p name f l)
 
 unfoldable pub initialize : Image → Who → StatementNo → DeclNo → Step
 initialize p name s d =
-    sees p name (λ q. given p Own name (located q d) (λ l. initialize_by p name s l (type_of p l).initialize))
+    sees p name (λ q. given Own name (located q d) (λ l. initialize_by p name s l (type_of p l).initialize))
 
 -- InInitialize registers the object, but not where it is left by an exception
 abbrev pub registers : Leaving → Bool
@@ -196,32 +197,32 @@ same_located a b = same_id a.within b.within && eqb a.declared.0 b.declared.0
 abbrev pub is_located : Located → Registered → Bool
 is_located l r = same_located l r.located
 
-abbrev pub registered_at : Image → World → Located → Option Registered
-registered_at p w l = find (is_located l) w.registered
+abbrev pub registered_at : World → Located → Option Registered
+registered_at w l = find (is_located l) w.registered
 
 abbrev pub new_assign_mark : ℕ → ℕ → Mark
 new_assign_mark target source = InAssign (record { target = target; source = source; step = assigning.FinalizeTarget })
 
 unfoldable pub begin_assignment : Image → Who → StatementNo → ℕ → ℕ → Step
 begin_assignment p name s target source =
-    with_room p name 1 0
+    with_room name 1 0
     (goes name (next_of p s) ▷ says Own (line.Replace name target) ▷ changes (push name (new_frame (new_assign_mark target source) None)))
 
 -- a target or a source that is not registered raises Program_Error (own)
 unfoldable pub assign_registered : Image → Who → StatementNo → Option Registered → Option Registered → Step
 assign_registered p name s (Some target) (Some source) = begin_assignment p name s target.object source.object
-assign_registered p name s (Some target) None = raises p Own name exception.Program
-assign_registered p name s None source = raises p Own name exception.Program
+assign_registered p name s (Some target) None = raises Own name exception.Program
+assign_registered p name s None source = raises Own name exception.Program
 
 -- to itself it does nothing (own)
 unfoldable pub assign_located : Image → Who → StatementNo → Located → Located → Step
 assign_located p name s target source =
     cond (same_located target source) (goes name (next_of p s))
-    (looks (λ w. assign_registered p name s (registered_at p w target) (registered_at p w source)))
+    (looks (λ w. assign_registered p name s (registered_at w target) (registered_at w source)))
 
 unfoldable pub assign_controlled : Image → Who → StatementNo → DeclNo → DeclNo → Step
 assign_controlled p name s target source =
-    sees p name (λ q. given p Own name (located q target) (λ t. given p Own name (located q source) (λ f. assign_located p name s t f)))
+    sees p name (λ q. given Own name (located q target) (λ t. given Own name (located q source) (λ f. assign_located p name s t f)))
 
 -- ---- the steps of an assignment
 
@@ -291,5 +292,5 @@ step_with p name step None source = changes (pop name)
 
 -- InAssign that is left by an exception goes on with Program_Error; else its next step is done
 unfoldable pub end_in_assign : Image → Who → AssignMark → Option Leaving → Step
-end_in_assign p name m (Some (how.Exception e)) = changes (pop name) ▷ raises p Own name exception.Program
+end_in_assign p name m (Some (how.Exception e)) = changes (pop name) ▷ raises Own name exception.Program
 end_in_assign p name m _ = looks (λ w. step_with p name m.step (registered_object w m.target) (registered_object w m.source))

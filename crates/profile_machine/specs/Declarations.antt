@@ -105,8 +105,8 @@ says_object p l u =
 
 unfoldable pub declare_protected : Image → Who → StatementNo → DeclNo → ProtectedUnitNo → Step
 declare_protected p name s d u =
-    sees p name (λ q. given p Own name (located_here q d) (λ l.
-    given p Own name (components_initialized q protected_cells l (protected_unit_of p u).components q.world) (λ next.
+    sees p name (λ q. given Own name (located_here q d) (λ l.
+    given Own name (components_initialized q protected_cells l (protected_unit_of p u).components q.world) (λ next.
     changes (λ _. next) ▷ goes name (next_of p s) ▷ changes (with_object p l u) ▷ says_object p l u)))
 
 -- a controlled object is made; it is registered behind its Initialize
@@ -157,7 +157,7 @@ declared q d kind.Other = Ok q.world
 
 unfoldable pub declare_quietly : Image → Who → StatementNo → DeclNo → Step
 declare_quietly p name s d =
-    sees p name (λ q. given p Own name (declared q d (declaration_of p d).kind) (λ next. changes (λ _. next) ▷ goes name (next_of p s)))
+    sees p name (λ q. given Own name (declared q d (declaration_of p d).kind) (λ next. changes (λ _. next) ▷ goes name (next_of p s)))
 
 unfoldable pub declare_by : Image → Who → StatementNo → DeclNo → DeclarationKind → Step
 declare_by p name s d (kind.Protected u) = declare_protected p name s d u

@@ -1,5 +1,6 @@
 -- Active priorities, places, and the choice of who runs (D.1, D.2).
 use Rattle.std.specs.Prelude.{ℕ, ℤ, Bool, true, cond, not, ◌&&◌, List, [], ◌∷◌, ◌++◌, Option, Some, None, eqb, ltb, leb, int_lt, filter, map, max, slice_index_or}
+use Rattle.profile_machine.specs.declared.world.tasks.Rival.{Rival}
 use Rattle.profile_machine.specs.declared.world.lines.Line.TheVariants as line
 use Rattle.trace_text.specs.declared.events.Who.{Who}
 use Rattle.trace_text.specs.declared.events.QueueEnd.{QueueEnd}
@@ -43,11 +44,6 @@ abbrev pub active_of : Image → World → Who → ℕ
 active_of p w name = active p (task_of w name)
 
 -- ---- the level of a task on an EDF range that is activated or released (D.2.6; own wording)
-
--- a level with a deadline: of somebody inside an object of that ceiling, or of a ready task
-pub record Rival : Type 0 where
-  pub level : ℕ
-  pub deadline : ℤ
 
 abbrev pub all_later : ℤ → List Rival → Bool
 all_later deadline [] = true

@@ -5,6 +5,7 @@ use Rattle.ann_base.specs.declared.identities.ObjectNo.{ObjectNo}
 use Rattle.ann_base.specs.declared.identities.TaskNo.{TaskNo}
 use Rattle.ann_base.specs.declared.exceptions.Raised.{Raised}
 use Rattle.ann_base.specs.declared.exceptions.Raised.TheVariants as exception
+use Rattle.profile_machine.specs.declared.world.calls.EntryCallNamed.{EntryCallNamed}
 use Rattle.profile_machine.specs.declared.world.lines.Line.TheVariants as line
 use Rattle.profile_machine.specs.declared.world.lines.MeetingEnd.TheVariants as meeting
 use Rattle.trace_text.specs.declared.events.Mode.TheVariants.{Write}
@@ -100,20 +101,14 @@ results_in (x ∷ xs) = x.1 ∷ results_in xs
 
 -- ---- what a call names, and its moment
 
--- the entry call in a statement
-pub record NamedCall : Type 0 where
-  pub entry : EntryNo
-  pub owner : EntryOwner
-  pub actuals : List Actual
-
 abbrev pub no_entry_no : EntryNo
 no_entry_no = record { 0 = 0 }
 
-abbrev pub named_call_in : StatementForm → NamedCall
+abbrev pub named_call_in : StatementForm → EntryCallNamed
 named_call_in (form.EntryCall entry owner actuals) = record { entry = entry; owner = owner; actuals = actuals }
 named_call_in _ = record { entry = no_entry_no; owner = owner.Own; actuals = [] }
 
-abbrev pub named_call : Image → StatementNo → NamedCall
+abbrev pub named_call : Image → StatementNo → EntryCallNamed
 named_call p s = named_call_in (form_of p (call_in (form_of p s) s))
 
 abbrev pub timed_moment : Seen → StatementForm → Valued (Option ℤ)
@@ -122,7 +117,7 @@ timed_moment q _ = Ok None
 
 -- ---- a call is made: it draws its number, and `call` comes first of all
 
-abbrev pub new_call : TaskNo → CallKind → StatementNo → NamedCall → Owner → ℕ → List (Value × Option Variable) → Option ℤ → Call
+abbrev pub new_call : TaskNo → CallKind → StatementNo → EntryCallNamed → Owner → ℕ → List (Value × Option Variable) → Option ℤ → Call
 new_call t kind s n o priority parameters moment = record { number = record { 0 = 0 }; caller = t; kind = kind; statement = s; owner = o; entry = n.entry; priority = priority; begun = false; firm = false; sent_with_abort = false; attempted = false; moment = moment; values = values_in parameters; results = results_in parameters; sending = None; outcome = None }
 
 abbrev pub numbered : ℕ → Call → Call
@@ -136,23 +131,23 @@ add_call c w = record w { calls = numbered (suc w.drawn.calls) c ∷ w.calls; dr
 abbrev pub make_call : Image → Call → (Call → Step) → Step
 make_call p c step =
     goes (who.Task c.caller) (next_of p c.statement)
-    ▷ looks (λ w. changes (add_call c) ▷ says_call p TheCall (numbered (suc w.drawn.calls) c) ▷ step (numbered (suc w.drawn.calls) c))
+    ▷ looks (λ w. changes (add_call c) ▷ says_call TheCall (numbered (suc w.drawn.calls) c) ▷ step (numbered (suc w.drawn.calls) c))
 
 -- it ends at once with an exception
-unfoldable pub end_at_once : Image → Part → Call → Raised → Step
-end_at_once p part c e = changes (forget_call c.number) ▷ raises p part (who.Task c.caller) e
+unfoldable pub end_at_once : Part → Call → Raised → Step
+end_at_once part c e = changes (forget_call c.number) ▷ raises part (who.Task c.caller) e
 
 -- ---- a call of a task's entry (9.5.3)
 
 unfoldable pub call_gone : Image → Call → Step
-call_gone p c = gone p Own c ▷ end_at_once p Own c exception.Tasking
+call_gone p c = gone p Own c ▷ end_at_once Own c exception.Tasking
 
 -- the callee waits for it: the rendezvous begins, and the caller blocks
 unfoldable pub call_meets : Image → TaskNo → StatementNo → Call → Step
 call_meets p t s c =
     meet p (OfOther (who.Task t)) (who.Task t) s c
     (block TheBlock (who.Task c.caller) (waits_for.Call c.number))
-    (end_at_once p TheFinish c exception.Storage)
+    (end_at_once TheFinish c exception.Storage)
 
 unfoldable pub call_queues : Image → Call → Step
 call_queues p c = enqueue p c.number ▷ not_accepted p Own c c.kind
@@ -165,8 +160,8 @@ marks_if_queued call_kind.Timed = 0
 marks_if_queued call_kind.Triggering = 1
 
 unfoldable pub call_not_met : Image → Call → Bool → Step
-call_not_met p c true = make_call p c (λ d. end_at_once p Own d exception.Program)
-call_not_met p c false = with_room p (who.Task c.caller) (marks_if_queued c.kind) 0 (make_call p c (call_queues p))
+call_not_met p c true = make_call p c (λ d. end_at_once Own d exception.Program)
+call_not_met p c false = with_room (who.Task c.caller) (marks_if_queued c.kind) 0 (make_call p c (call_queues p))
 
 unfoldable pub call_accepted_by : Image → TaskNo → Call → Option StatementNo → Step
 call_accepted_by p t c (Some s) = make_call p c (call_meets p t s)
@@ -187,11 +182,11 @@ call_runs p o c =
     ▷ serve_call p Own (who.Task c.caller) o c nothing nothing
 
 -- without room the body starts and finishes at once, and nothing is placed
-unfoldable pub call_without_room : Image → ObjectNo → Call → Step
-call_without_room p o c =
+unfoldable pub call_without_room : ObjectNo → Call → Step
+call_without_room o c =
     says Own (line.Enter (who.Task c.caller) o Write) ▷ says Own (line.Start (who.Task c.caller) c.number)
     ▷ says Own (line.Finish (who.Task c.caller) c.number (meeting.Raised exception.Storage))
-    ▷ says Own (line.Exit (who.Task c.caller) o) ▷ end_at_once p Own c exception.Storage
+    ▷ says Own (line.Exit (who.Task c.caller) o) ▷ end_at_once Own c exception.Storage
 
 abbrev pub has_room_for_action : Image → World → Call → Bool
 has_room_for_action p w c =
@@ -199,7 +194,7 @@ has_room_for_action p w c =
 
 unfoldable pub call_runs_if_room : Image → ObjectNo → Call → Step
 call_runs_if_room p o c =
-    looks (λ w. elim (has_room_for_action p w c) [ true ↦ call_runs p o c | false ↦ call_without_room p o c ])
+    looks (λ w. elim (has_room_for_action p w c) [ true ↦ call_runs p o c | false ↦ call_without_room o c ])
 
 -- it is queued: the action ends at once, and nothing is placed
 unfoldable pub call_passes : Image → ObjectNo → Call → Step
@@ -207,16 +202,16 @@ call_passes p o c =
     says Own (line.Enter (who.Task c.caller) o Write) ▷ enqueue p c.number ▷ says Own (line.Exit (who.Task c.caller) o)
     ▷ not_accepted p Own c c.kind
 
-unfoldable pub call_refused : Image → ObjectNo → Call → Step
-call_refused p o c =
-    says Own (line.Enter (who.Task c.caller) o Write) ▷ says Own (line.Exit (who.Task c.caller) o) ▷ end_at_once p Own c exception.Program
+unfoldable pub call_refused : ObjectNo → Call → Step
+call_refused o c =
+    says Own (line.Enter (who.Task c.caller) o Write) ▷ says Own (line.Exit (who.Task c.caller) o) ▷ end_at_once Own c exception.Program
 
 unfoldable pub call_closed : Image → ObjectNo → Call → Bool → Step
-call_closed p o c true = make_call p c (call_refused p o)
-call_closed p o c false = with_room p (who.Task c.caller) (marks_if_queued c.kind) 0 (make_call p c (call_passes p o))
+call_closed p o c true = make_call p c (call_refused o)
+call_closed p o c false = with_room (who.Task c.caller) (marks_if_queued c.kind) 0 (make_call p c (call_passes p o))
 
 unfoldable pub call_by_barrier : Image → ObjectNo → Call → Bool → Step
-call_by_barrier p o c true = with_room p (who.Task c.caller) 1 0 (make_call p c (call_runs_if_room p o))
+call_by_barrier p o c true = with_room (who.Task c.caller) 1 0 (make_call p c (call_runs_if_room p o))
 call_by_barrier p o c false = looks (λ w. call_closed p o c (is_full p w c.owner c.entry))
 
 unfoldable pub call_object : Image → ObjectNo → Call → Step
@@ -230,11 +225,11 @@ call_owner p c (owned_by.Object o) = call_object p o c
 
 -- ---- the entry call of a statement
 
-unfoldable pub call_named : Image → TaskNo → CallKind → StatementNo → NamedCall → Step
+unfoldable pub call_named : Image → TaskNo → CallKind → StatementNo → EntryCallNamed → Step
 call_named p t kind s n =
-    sees p (who.Task t) (λ q. given p Own (who.Task t) (owner_of_entry q n.entry n.owner) (λ o.
-    given p Own (who.Task t) (entry_parameters q (entry_of p n.entry).formals n.actuals) (λ parameters.
-    given p Own (who.Task t) (timed_moment q (form_of p s)) (λ m.
+    sees p (who.Task t) (λ q. given Own (who.Task t) (owner_of_entry q n.entry n.owner) (λ o.
+    given Own (who.Task t) (entry_parameters q (entry_of p n.entry).formals n.actuals) (λ parameters.
+    given Own (who.Task t) (timed_moment q (form_of p s)) (λ m.
     call_owner p (new_call t kind s n o (active_of p q.world (who.Task t)) parameters m) o))))
 
 -- inside a protected action Program_Error is raised, and for a trigger wherever abort is deferred (own)
@@ -243,8 +238,8 @@ is_forbidden w name kind = in_protected w name || (is_triggering kind && is_defe
 
 unfoldable pub entry_call : Image → Who → CallKind → StatementNo → Step
 entry_call p (who.Task t) kind s =
-    looks (λ w. raise_if p (who.Task t) (is_forbidden w (who.Task t) kind) exception.Program (call_named p t kind s (named_call p s)))
-entry_call p who.Agent kind s = raises p Own who.Agent exception.Program
+    looks (λ w. raise_if (who.Task t) (is_forbidden w (who.Task t) kind) exception.Program (call_named p t kind s (named_call p s)))
+entry_call p who.Agent kind s = raises Own who.Agent exception.Program
 
 -- ---- the asynchronous select (9.7.4): the trigger is issued first
 
@@ -256,13 +251,13 @@ appoint_trigger who.Agent depth m = λ w. w
 unfoldable pub trigger_delay : Image → Who → StatementNo → StatementNo → ℤ → Bool → Step
 trigger_delay p name s trigger m false = goes name (next_of p trigger)
 trigger_delay p name s trigger m true =
-    with_room p name 1 0
+    with_room name 1 0
     (goes name (next_of p s) ▷ looks (λ w. changes (open_abortable p name s None) ▷ changes (appoint_trigger name (length (frames_of w name)) m)))
 
 unfoldable pub async_delay : Image → Who → StatementNo → StatementNo → Step
 async_delay p name s trigger =
-    sees p name (λ q. raise_if p name (is_forbidden q.world name call_kind.Triggering) exception.Program
-    (given p Own name (delay_moment q trigger) (λ m. trigger_delay p name s trigger m (int_lt (pos q.world.time) m))))
+    sees p name (λ q. raise_if name (is_forbidden q.world name call_kind.Triggering) exception.Program
+    (given Own name (delay_moment q trigger) (λ m. trigger_delay p name s trigger m (int_lt (pos q.world.time) m))))
 
 unfoldable pub async_by_trigger : Image → Who → StatementNo → StatementNo → StatementForm → Step
 async_by_trigger p name s trigger (form.EntryCall entry owner actuals) = entry_call p name call_kind.Triggering s
@@ -282,5 +277,5 @@ mark_sending (Some c) o e with_abort = edit_call c (with_sending o e with_abort)
 
 unfoldable pub requeue : Image → Who → EntryNo → EntryOwner → Bool → Step
 requeue p name e o with_abort =
-    sees p name (λ q. given p Own name (owner_of_entry q e o) (λ target.
+    sees p name (λ q. given Own name (owner_of_entry q e o) (λ target.
     changes (mark_sending (call_that_returns (frames_of q.world name)) target e with_abort) ▷ leaves name how.Return))

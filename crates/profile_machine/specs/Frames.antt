@@ -79,8 +79,8 @@ leaves name leaving = changes (edit_top name (left_so leaving))
 -- ---- exceptions (11.3, 11.4)
 
 -- an exception is raised: `raise`, and the marks are left with it
-unfoldable pub raises : Image → Part → Who → Raised → Step
-raises p part name e = says part (line.Raise name e) ▷ leaves name (how.Exception e)
+unfoldable pub raises : Part → Who → Raised → Step
+raises part name e = says part (line.Raise name e) ▷ leaves name (how.Exception e)
 
 -- ---- room (own): marks of a task and of all, and cells
 
@@ -106,7 +106,7 @@ unfoldable pub open_handled : Image → Part → Who → StatementNo → Stateme
 open_handled p part name s (form.Handled handlers first) =
     looks (λ w. elim (has_room w name 1 0) [
       | true ↦ goes name (next_of p s) ▷ changes (push name (new_frame (Handled s) (Some first)))
-      | false ↦ raises p part name exception.Storage
+      | false ↦ raises part name exception.Storage
     ])
 open_handled p part name s _ = nothing
 
@@ -210,16 +210,16 @@ is_deferred w name = any_defers (frames_of w name)
 -- ---- steps that may raise
 
 -- with the value, if it is none but an exception, which is raised
-abbrev pub given : {X : Type 0} → Image → Part → Who → Result X Raised → (X → Step) → Step
-given p part name (Ok x) f = f x
-given p part name (Err e) f = raises p part name e
+abbrev pub given : {X : Type 0} → Part → Who → Result X Raised → (X → Step) → Step
+given part name (Ok x) f = f x
+given part name (Err e) f = raises part name e
 
 -- the exception is raised where the test holds, else the step is done
-abbrev pub raise_if : Image → Who → Bool → Raised → Step → Step
-raise_if p name true e step = raises p Own name e
-raise_if p name false e step = step
+abbrev pub raise_if : Who → Bool → Raised → Step → Step
+raise_if name true e step = raises Own name e
+raise_if name false e step = step
 
 -- without room for marks and cells Storage_Error is raised
-abbrev pub with_room : Image → Who → ℕ → ℕ → Step → Step
-with_room p name marks cells step =
-    looks (λ w. elim (has_room w name marks cells) [ true ↦ step | false ↦ raises p Own name exception.Storage ])
+abbrev pub with_room : Who → ℕ → ℕ → Step → Step
+with_room name marks cells step =
+    looks (λ w. elim (has_room w name marks cells) [ true ↦ step | false ↦ raises Own name exception.Storage ])

@@ -2,6 +2,8 @@
 use Rattle.std.specs.Prelude.{ℕ, suc, ◌+◌, ◌-◌, ℤ, pos, negsuc, ◌+ℤ◌, int_le, int_lt, Bool, true, false, cond, not, ◌&&◌, List, [], ◌∷◌, ◌++◌, Option, Some, None, Ok, eqb, leb, length, filter, is_none, option_map}
 use Rattle.ann_base.specs.declared.identities.TaskNo.{TaskNo}
 use Rattle.ann_base.specs.declared.exceptions.Raised.TheVariants as exception
+use Rattle.profile_machine.specs.declared.world.objects.Entering.{Entering}
+use Rattle.profile_machine.specs.declared.world.objects.Entering.TheVariants as entering_is
 use Rattle.profile_machine.specs.declared.world.lines.Line.TheVariants as line
 use Rattle.trace_text.specs.declared.events.Mode.TheVariants.{Write}
 use Rattle.trace_text.specs.declared.events.Who.{Who}
@@ -49,7 +51,7 @@ use Rattle.profile_machine.specs.Operators.{Valued, ◌>>=◌, held_moment}
 use Rattle.profile_machine.specs.Values.{Seen, value, variable, moment, number_of_thing, object_number, object_of, live_task, timer_of, budget_of, is_event, task_in}
 use Rattle.profile_machine.specs.Appointments.{appoint, drop_appointment, is_appointed}
 use Rattle.profile_machine.specs.CallEnds.{store}
-use Rattle.profile_machine.specs.Protected.{Entering, same_object_again, above_ceiling, held_by_another, let_inside, entering, find_held, begin_action_on, body_of_object, ceiling_of}
+use Rattle.profile_machine.specs.Protected.{entering, find_held, begin_action_on, body_of_object, ceiling_of}
 use Rattle.profile_machine.specs.Serving.{end_release}
 use Rattle.profile_machine.specs.Statements.{sees}
 
@@ -61,8 +63,8 @@ release_drawn d = record d { releases = suc d.releases }
 abbrev pub add_release : HandlerOf → Option ℕ → World → World
 add_release h argument w = record w { releases = w.releases ++ record { number = suc w.drawn.releases; handler = h; argument = argument } ∷ []; drawn = release_drawn w.drawn }
 
-unfoldable pub says_release : Image → Part → HandlerOf → Step
-says_release p part h =
+unfoldable pub says_release : Part → HandlerOf → Step
+says_release part h =
     looks (λ w. says part (line.Release w.drawn.releases h))
 
 unfoldable pub wake_agent : Image → Part → State → Step
@@ -72,15 +74,15 @@ wake_agent p part Made = nothing
 
 unfoldable pub release : Image → Part → HandlerOf → Option ℕ → Step
 release p part h argument =
-    changes (add_release h argument) ▷ says_release p part h ▷ looks (λ w. wake_agent p part w.agent.state)
+    changes (add_release h argument) ▷ says_release part h ▷ looks (λ w. wake_agent p part w.agent.state)
 
 -- while 65,536 releases are pending there is no room for one (own)
 abbrev pub has_room_for_release : World → Bool
 has_room_for_release w = not (leb 65536 (length w.releases))
 
-abbrev pub with_room_for_release : Image → Who → Bool → Step → Step
-with_room_for_release p name needed step =
-    looks (λ w. raise_if p name (needed && not (has_room_for_release w)) exception.Storage step)
+abbrev pub with_room_for_release : Who → Bool → Step → Step
+with_room_for_release name needed step =
+    looks (λ w. raise_if name (needed && not (has_room_for_release w)) exception.Storage step)
 
 -- ---- a handler's call by the agent: `enter`, and the body is opened; an exception of it is lost
 
@@ -100,13 +102,13 @@ begin_handler p r =
 unfoldable pub begin_handler_if_room : Image → Release → Step
 begin_handler_if_room p r =
     looks (λ w. elim (has_room w who.Agent (1 + marks_of p (subprogram_of p r.handler.procedure).scope) (scope_size_of p r.handler.procedure))
-    [ true ↦ begin_handler p r | false ↦ end_release p r.number ])
+    [ true ↦ begin_handler p r | false ↦ end_release r.number ])
 
 unfoldable pub enter_handler : Image → Release → Entering → Step
-enter_handler p r same_object_again = end_release p r.number
-enter_handler p r above_ceiling = end_release p r.number
-enter_handler p r held_by_another = find_held p who.Agent r.handler.object Write
-enter_handler p r let_inside = begin_handler_if_room p r
+enter_handler p r entering_is.SameObject = end_release r.number
+enter_handler p r entering_is.AboveCeiling = end_release r.number
+enter_handler p r entering_is.Held = find_held p who.Agent r.handler.object Write
+enter_handler p r entering_is.Inside = begin_handler_if_room p r
 
 unfoldable pub call_handler : Image → Release → Step
 call_handler p r = looks (λ w. enter_handler p r (entering p w who.Agent r.handler.object Write))
@@ -151,12 +153,12 @@ is_given (Some x) = true
 -- with the handler, and the value once there is room for a release
 abbrev pub setting_of : Image → Who → Seen → ℤ → Setting → Option HandlerName → (Option HandlerOf → ℤ → Step) → Step
 setting_of p name q base set handler step =
-    given p Own name (handler_named q handler) (λ h. with_room_for_release p name (is_given h)
-    (given p Own name (set_value q base set) (λ v. raise_if p name (not (is_interrupt_handler p q.world h)) exception.Program (step h v))))
+    given Own name (handler_named q handler) (λ h. with_room_for_release name (is_given h)
+    (given Own name (set_value q base set) (λ v. raise_if name (not (is_interrupt_handler p q.world h)) exception.Program (step h v))))
 
 -- a variable gets whether something was set
 unfoldable pub answer : Image → Who → Variable → Bool → Step
-answer p name v b = looks (λ w. given p Own name (store p v (Truth b) w) (λ next. changes (λ _. next)))
+answer p name v b = looks (λ w. given Own name (store p v (Truth b) w) (λ next. changes (λ _. next)))
 
 -- ---- timing events (D.15)
 
@@ -174,12 +176,12 @@ event_set_to p e (Some h) m = looks (λ w. appoint_event p e h m (int_lt (pos w.
 
 unfoldable pub set_event : Image → Who → StatementNo → DeclNo → Setting → Option HandlerName → Step
 set_event p name s d set handler =
-    sees p name (λ q. given p Own name (number_of_thing q d) (λ e. setting_of p name q (pos q.world.time) set handler
+    sees p name (λ q. given Own name (number_of_thing q d) (λ e. setting_of p name q (pos q.world.time) set handler
     (λ h m. goes name (next_of p s) ▷ changes (cancel_event_setting e) ▷ event_set_to p e h m)))
 
 unfoldable pub cancel_event : Image → Who → StatementNo → DeclNo → VariableName → Step
 cancel_event p name s d target =
-    sees p name (λ q. given p Own name (number_of_thing q d) (λ e. given p Own name (variable q target) (λ v.
+    sees p name (λ q. given Own name (number_of_thing q d) (λ e. given Own name (variable q target) (λ v.
     goes name (next_of p s) ▷ changes (cancel_event_setting e) ▷ answer p name v (is_appointed (is_event e) q.world))))
 
 -- ---- timers (D.14.1)
@@ -211,7 +213,7 @@ clock_of_timer q k = live_task q.world (Some (timer_of q.world k).task) >>= λ t
 
 unfoldable pub set_timer : Image → Who → StatementNo → DeclNo → Setting → Option HandlerName → Step
 set_timer p name s d set handler =
-    sees p name (λ q. given p Own name (number_of_thing q d) (λ k. given p Own name (clock_of_timer q k) (λ clock.
+    sees p name (λ q. given Own name (number_of_thing q d) (λ k. given Own name (clock_of_timer q k) (λ clock.
     setting_of p name q (pos clock) set handler
     (λ h v. goes name (next_of p s) ▷ changes (clear_timer k) ▷ timer_set_to p k clock h v))))
 
@@ -220,8 +222,8 @@ is_set_timer w k = is_given (timer_of w k).setting
 
 unfoldable pub cancel_timer : Image → Who → StatementNo → DeclNo → VariableName → Step
 cancel_timer p name s d target =
-    sees p name (λ q. given p Own name (number_of_thing q d) (λ k. given p Own name (clock_of_timer q k) (λ clock.
-    given p Own name (variable q target) (λ v.
+    sees p name (λ q. given Own name (number_of_thing q d) (λ k. given Own name (clock_of_timer q k) (λ clock.
+    given Own name (variable q target) (λ v.
     goes name (next_of p s) ▷ changes (clear_timer k) ▷ answer p name v (is_set_timer q.world k)))))
 
 -- ---- group budgets (D.14.2)
@@ -239,19 +241,19 @@ is_the_budget b (Some c) = eqb b c
 -- a task is a member of at most one group budget, else Group_Budget_Error is raised
 unfoldable pub change_member : Image → Who → StatementNo → world.Task → Bool → Option ℕ → Step
 change_member p name s t is_right b =
-    raise_if p name (not is_right) exception.GroupBudget (goes name (next_of p s) ▷ changes (edit_task t.who (member_of b)))
+    raise_if name (not is_right) exception.GroupBudget (goes name (next_of p s) ▷ changes (edit_task t.who (member_of b)))
 
 abbrev pub named_live : Seen → ExprNo → Valued world.Task
 named_live q e = value q e >>= λ v. live_task q.world (task_in v)
 
 unfoldable pub add_member : Image → Who → StatementNo → DeclNo → ExprNo → Step
 add_member p name s d e =
-    sees p name (λ q. given p Own name (number_of_thing q d) (λ b. given p Own name (named_live q e) (λ t.
+    sees p name (λ q. given Own name (number_of_thing q d) (λ b. given Own name (named_live q e) (λ t.
     change_member p name s t (is_none t.budget) (Some b))))
 
 unfoldable pub remove_member : Image → Who → StatementNo → DeclNo → ExprNo → Step
 remove_member p name s d e =
-    sees p name (λ q. given p Own name (number_of_thing q d) (λ b. given p Own name (named_live q e) (λ t.
+    sees p name (λ q. given Own name (number_of_thing q d) (λ b. given Own name (named_live q e) (λ t.
     change_member p name s t (is_the_budget b t.budget) None)))
 
 abbrev pub loaded : ℤ → Budget → Budget
@@ -264,8 +266,8 @@ raised_by amount b = record b { remaining = held_moment (b.remaining +ℤ amount
 -- an amount that is not positive raises Group_Budget_Error
 unfoldable pub fill_budget : Image → Who → StatementNo → DeclNo → ExprNo → (ℤ → Budget → Budget) → Step
 fill_budget p name s d e f =
-    sees p name (λ q. given p Own name (number_of_thing q d) (λ b. with_room_for_release p name true
-    (given p Own name (moment q e) (λ amount. raise_if p name (int_le amount (pos 0)) exception.GroupBudget
+    sees p name (λ q. given Own name (number_of_thing q d) (λ b. with_room_for_release name true
+    (given Own name (moment q e) (λ amount. raise_if name (int_le amount (pos 0)) exception.GroupBudget
     (goes name (next_of p s) ▷ changes (edit_budget b (f amount)))))))
 
 unfoldable pub replenish : Image → Who → StatementNo → DeclNo → ExprNo → Step
@@ -279,14 +281,14 @@ with_handler h b = record b { handler = h }
 
 unfoldable pub set_budget : Image → Who → StatementNo → DeclNo → Option HandlerName → Step
 set_budget p name s d handler =
-    sees p name (λ q. given p Own name (number_of_thing q d) (λ b. given p Own name (handler_named q handler) (λ h.
-    with_room_for_release p name (is_given h)
-    (raise_if p name (not (is_interrupt_handler p q.world h)) exception.Program
+    sees p name (λ q. given Own name (number_of_thing q d) (λ b. given Own name (handler_named q handler) (λ h.
+    with_room_for_release name (is_given h)
+    (raise_if name (not (is_interrupt_handler p q.world h)) exception.Program
     (goes name (next_of p s) ▷ changes (edit_budget b (with_handler h)))))))
 
 unfoldable pub cancel_budget : Image → Who → StatementNo → DeclNo → VariableName → Step
 cancel_budget p name s d target =
-    sees p name (λ q. given p Own name (number_of_thing q d) (λ b. given p Own name (variable q target) (λ v.
+    sees p name (λ q. given Own name (number_of_thing q d) (λ b. given Own name (variable q target) (λ v.
     goes name (next_of p s) ▷ changes (edit_budget b (with_handler None)) ▷ answer p name v (is_given (budget_of q.world b).handler))))
 
 -- ---- one tick is charged (D.14, D.2.5)

@@ -118,7 +118,7 @@ unfoldable pub come_due : Image → Due → Step
 come_due p (due_for.Event n h) = release p Own h (Some n)
 come_due p (due_for.Delay t) = end_delay p (who.Task t)
 come_due p (due_for.Timeout c) = time_out p c
-come_due p (due_for.Trigger t depth) = trigger_at p Own t depth ▷ unwind p Own (who.Task t)
+come_due p (due_for.Trigger t depth) = trigger_at Own t depth ▷ unwind p Own (who.Task t)
 
 abbrev pub take_due : Image → Step → Option Appointment → Step
 take_due p again None = nothing

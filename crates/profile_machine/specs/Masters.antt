@@ -141,7 +141,7 @@ waits_for_activation _ = false
 -- Tasking_Error is raised once in the activator where a task of the group failed
 unfoldable pub wake_activator : Image → Part → Who → Step
 wake_activator p part name =
-    looks (λ w. ready p part name ▷ when (task_of w name).group_failed (raises p part name exception.Tasking) ▷ open_sequence p part name)
+    looks (λ w. ready p part name ▷ when (task_of w name).group_failed (raises part name exception.Tasking) ▷ open_sequence p part name)
 
 -- behind the last of the group the activator is ready, if it still waits for this activation
 unfoldable pub end_group : Image → Who → Who → Step

@@ -120,22 +120,22 @@ placing_of actor name = cond (same_who actor name) ThePlacing (part_of actor nam
 abbrev pub is_edf_base : Image → ℕ → Bool
 is_edf_base p level = is_some (edf_low p level)
 
-unfoldable pub defer_base : Image → Who → ℕ → Step
-defer_base p name level = changes (edit_task name (λ t. record t { deferred_base = Some level }))
+unfoldable pub defer_base : Who → ℕ → Step
+defer_base name level = changes (edit_task name (λ t. record t { deferred_base = Some level }))
 
 -- it is deferred while its target is inside a protected action
 unfoldable pub set_or_defer_base : Image → Who → Who → ℕ → Step
 set_or_defer_base p actor name level =
-    looks (λ w. elim (in_protected w name) [ true ↦ defer_base p name level | false ↦ set_base p (part_of actor name) (placing_of actor name) name level ])
+    looks (λ w. elim (in_protected w name) [ true ↦ defer_base name level | false ↦ set_base p (part_of actor name) (placing_of actor name) name level ])
 
 unfoldable pub set_base_of : Image → Who → StatementNo → ℕ → Option world.Task → Step
 set_base_of p actor s level None = goes actor (next_of p s)
 set_base_of p actor s level (Some t) =
-    raise_if p actor (is_edf_base p t.base || is_edf_base p level) exception.Program
+    raise_if actor (is_edf_base p t.base || is_edf_base p level) exception.Program
     (goes actor (next_of p s) ▷ set_or_defer_base p actor t.who level)
 
-abbrev pub priority_in_range : Image → ℕ → ℤ → Valued ℕ
-priority_in_range p last n = unless (int_le (pos 0) n && int_le n (pos last)) exception.Constraint (nat_abs n)
+abbrev pub priority_in_range : ℕ → ℤ → Valued ℕ
+priority_in_range last n = unless (int_le (pos 0) n && int_le n (pos last)) exception.Constraint (nat_abs n)
 
 abbrev pub must_be_task : Option TaskNo → Valued TaskNo
 must_be_task None = Err exception.Program
@@ -144,8 +144,8 @@ must_be_task (Some t) = Ok t
 -- on a task that has terminated it has no effect
 unfoldable pub set_priority : Image → Who → StatementNo → ExprNo → Option ExprNo → Step
 set_priority p name s e task =
-    sees p name (λ q. given p Own name (optional_task q task >>= must_be_task) (λ t.
-    given p Own name (value q e >>= λ v. priority_in_range p (interrupt_priority p) (whole_in v)) (λ level.
+    sees p name (λ q. given Own name (optional_task q task >>= must_be_task) (λ t.
+    given Own name (value q e >>= λ v. priority_in_range (interrupt_priority p) (whole_in v)) (λ level.
     set_base_of p name s level (found_task (who.Task t) q.world.tasks))))
 
 -- ---- Set_Quantum (D.2.5)
@@ -158,9 +158,9 @@ quantum_of p level n = unless (is_robin_level p level && quantum_in_range n) exc
 
 unfoldable pub set_quantum : Image → Who → StatementNo → ExprNo → ExprNo → Step
 set_quantum p name s level quantum =
-    sees p name (λ q. given p Own name (value q level) (λ v. given p Own name (moment q quantum) (λ n.
-    given p Own name (priority_in_range p p.policies.last_priority (whole_in v)) (λ l.
-    given p Own name (quantum_of p l n) (λ ticks.
+    sees p name (λ q. given Own name (value q level) (λ v. given Own name (moment q quantum) (λ n.
+    given Own name (priority_in_range p.policies.last_priority (whole_in v)) (λ l.
+    given Own name (quantum_of p l n) (λ ticks.
     goes name (next_of p s) ▷ changes (λ w. record w { quanta = edit_at l (λ _. ticks) w.quanta }))))))
 
 -- ---- Set_Deadline, Delay_Until_And_Set_Deadline (D.2.6)
@@ -175,8 +175,8 @@ set_or_defer_deadline p actor name d =
 
 unfoldable pub set_deadline_of : Image → Who → StatementNo → ExprNo → Option ExprNo → Step
 set_deadline_of p name s e task =
-    sees p name (λ q. given p Own name (optional_task q task >>= λ t. live_task q.world t) (λ t.
-    given p Own name (moment q e) (λ d. goes name (next_of p s) ▷ set_or_defer_deadline p name t.who d)))
+    sees p name (λ q. given Own name (optional_task q task >>= λ t. live_task q.world t) (λ t.
+    given Own name (moment q e) (λ d. goes name (next_of p s) ▷ set_or_defer_deadline p name t.who d)))
 
 unfoldable pub delay_with_deadline : Image → Who → StatementNo → ℤ → ℤ → Step
 delay_with_deadline p name s until offset =
@@ -186,5 +186,5 @@ delay_with_deadline p name s until offset =
 -- it is a delay, so inside a protected action it raises Program_Error (own)
 unfoldable pub delay_and_set_deadline : Image → Who → StatementNo → ExprNo → ExprNo → Step
 delay_and_set_deadline p name s until offset =
-    sees p name (λ q. raise_if p name (in_protected q.world name) exception.Program
-    (given p Own name (moment q until) (λ m. given p Own name (moment q offset) (λ o. delay_with_deadline p name s m o))))
+    sees p name (λ q. raise_if name (in_protected q.world name) exception.Program
+    (given Own name (moment q until) (λ m. given Own name (moment q offset) (λ o. delay_with_deadline p name s m o))))

@@ -4,6 +4,8 @@ use Rattle.std.specs.List.{list_all}
 use Rattle.ann_base.specs.declared.exceptions.Raised.TheVariants as exception
 use Rattle.ann_base.specs.declared.identities.ObjectNo.{ObjectNo}
 use Rattle.ann_base.specs.declared.identities.CallNo.{CallNo}
+use Rattle.profile_machine.specs.declared.world.objects.Entering.{Entering}
+use Rattle.profile_machine.specs.declared.world.objects.Entering.TheVariants as entering_is
 use Rattle.profile_machine.specs.declared.world.lines.Line.TheVariants as line
 use Rattle.profile_machine.specs.declared.world.lines.MeetingEnd.TheVariants as meeting
 use Rattle.trace_text.specs.declared.events.Mode.{Mode}
@@ -25,6 +27,7 @@ use Rattle.profile_machine.specs.declared.values.Value.{Value}
 use Rattle.profile_machine.specs.declared.world.World.{World}
 use Rattle.profile_machine.specs.declared.world.objects.Object.{Object}
 use Rattle.profile_machine.specs.declared.world.objects.Action.{Action}
+use Rattle.profile_machine.specs.declared.world.scopes.Handed.{Handed}
 use Rattle.profile_machine.specs.declared.world.scopes.Located.{Located}
 use Rattle.profile_machine.specs.declared.world.marks.ResultTo.{ResultTo}
 use Rattle.profile_machine.specs.declared.world.scopes.ScopeId.{ScopeId}
@@ -42,21 +45,16 @@ use Rattle.profile_machine.specs.Steps.{Step, says, changes, looks, ◌▷◌}
 use Rattle.profile_machine.specs.Tasks.{task_of}
 use Rattle.profile_machine.specs.Dispatching.{active_of, to_tail}
 use Rattle.profile_machine.specs.Frames.{edit_top, push, new_frame, goes, raises, given, raise_if, with_room, has_room, with_mark}
-use Rattle.profile_machine.specs.Scopes.{home, open_scope, Beginning}
+use Rattle.profile_machine.specs.declared.world.scopes.Beginning.{Beginning}
+use Rattle.profile_machine.specs.Scopes.{home, open_scope}
 use Rattle.profile_machine.specs.Operators.{Valued}
 use Rattle.profile_machine.specs.Values.{Seen, condition, object_of, object_number, own_object, queue_at}
 use Rattle.profile_machine.specs.Inheritance.{inherit_running}
 use Rattle.profile_machine.specs.Calls.{edit_call, edit_object, unqueued, next_call, place_of_entry, parameters_of}
 use Rattle.profile_machine.specs.Statements.{sees}
-use Rattle.profile_machine.specs.Subprograms.{Handed, handing, begin_body}
+use Rattle.profile_machine.specs.Subprograms.{handing, begin_body}
 
 -- ---- entering (9.5.1, D.3)
-
-pub data Entering : Type 0 where
-  same_object_again : Entering
-  above_ceiling : Entering
-  held_by_another : Entering
-  let_inside : Entering
 
 abbrev pub is_action_of : Who → Action → Bool
 is_action_of name a = same_who name a.who
@@ -79,13 +77,13 @@ is_above_ceiling p w name ceiling =
 
 abbrev pub entering_object : Image → World → Who → Object → Mode → Entering
 entering_object p w name o mode =
-    cond (has_open name o.actions) same_object_again
-    (cond (is_above_ceiling p w name o.ceiling) above_ceiling
-    (cond (excludes mode (without (is_action_of name) o.actions)) held_by_another let_inside))
+    cond (has_open name o.actions) entering_is.SameObject
+    (cond (is_above_ceiling p w name o.ceiling) entering_is.AboveCeiling
+    (cond (excludes mode (without (is_action_of name) o.actions)) entering_is.Held entering_is.Inside))
 
 -- an object that is not there lets nobody in
 abbrev pub entering_option : Image → World → Who → Option Object → Mode → Entering
-entering_option p w name None mode = same_object_again
+entering_option p w name None mode = entering_is.SameObject
 entering_option p w name (Some o) mode = entering_object p w name o mode
 
 abbrev pub entering : Image → World → Who → ObjectNo → Mode → Entering
@@ -96,10 +94,10 @@ unfoldable pub find_held : Image → Who → ObjectNo → Mode → Step
 find_held p name o mode = says Own (line.Held name o mode) ▷ to_tail p ThePlacing name
 
 abbrev pub enter_or : Image → Who → ObjectNo → Mode → Step → Entering → Step
-enter_or p name o mode step same_object_again = raises p Own name exception.Program
-enter_or p name o mode step above_ceiling = raises p Own name exception.Program
-enter_or p name o mode step held_by_another = find_held p name o mode
-enter_or p name o mode step let_inside = step
+enter_or p name o mode step entering_is.SameObject = raises Own name exception.Program
+enter_or p name o mode step entering_is.AboveCeiling = raises Own name exception.Program
+enter_or p name o mode step entering_is.Held = find_held p name o mode
+enter_or p name o mode step entering_is.Inside = step
 
 abbrev pub where_let_inside : Image → Who → ObjectNo → Mode → Step → Step
 where_let_inside p name o mode step = looks (λ w. enter_or p name o mode step (entering p w name o mode))
@@ -146,17 +144,17 @@ has_object_open w name o = elim (object_of w o) [ None ↦ false | Some x ↦ ha
 -- first the object and whether it is the own one, then room, then the parameters, then the ceiling and whether it is held
 unfoldable pub call_operation_of : Image → Who → StatementNo → SubprogramNo → List Actual → Destination → ObjectNo → Step
 call_operation_of p name s f actuals to o =
-    looks (λ w. raise_if p name (has_object_open w name o) exception.Program
-    (with_room p name (1 + marks_of p (subprogram_of p f).scope) (scope_of p (subprogram_of p f).scope).size
+    looks (λ w. raise_if name (has_object_open w name o) exception.Program
+    (with_room name (1 + marks_of p (subprogram_of p f).scope) (scope_of p (subprogram_of p f).scope).size
     (handing p name f actuals to (λ h r. where_let_inside p name o (mode_of (subprogram_of p f)) (begin_operation p name s f o h r)))))
 
 unfoldable pub call_operation : Image → Who → StatementNo → DeclNo → SubprogramNo → List Actual → Destination → Step
 call_operation p name s d f actuals to =
-    sees p name (λ q. given p Own name (object_number q d) (call_operation_of p name s f actuals to))
+    sees p name (λ q. given Own name (object_number q d) (call_operation_of p name s f actuals to))
 
 -- an internal call: no action begins
 unfoldable pub begin_own_operation : Image → Who → StatementNo → SubprogramNo → Option ObjectNo → Handed → ResultTo → Step
-begin_own_operation p name s f None h to = raises p Own name exception.Program
+begin_own_operation p name s f None h to = raises Own name exception.Program
 begin_own_operation p name s f (Some o) h to =
     looks (λ w. begin_body p name s f (body_of_object p w (subprogram_of p f).scope o h.subject h.values) h to)
 
@@ -165,7 +163,7 @@ unit_of_operation s = option_or_else s.unit (record { 0 = 0 })
 
 unfoldable pub call_own_operation : Image → Who → StatementNo → SubprogramNo → List Actual → Destination → Step
 call_own_operation p name s f actuals to =
-    with_room p name (marks_of p (subprogram_of p f).scope) (scope_of p (subprogram_of p f).scope).size
+    with_room name (marks_of p (subprogram_of p f).scope) (scope_of p (subprogram_of p f).scope).size
     (handing p name f actuals to (λ h r. sees p name (λ q. begin_own_operation p name s f (own_object q (unit_of_operation (subprogram_of p f))) h r)))
 
 -- ---- barriers (9.5.2): evaluating one costs nothing and never raises (own)

@@ -3,6 +3,7 @@ use Rattle.std.specs.Prelude.{ℕ, ℤ, pos, int_lt, int_le, Bool, true, false, 
 use Rattle.ann_base.specs.declared.identities.CallNo.{CallNo}
 use Rattle.ann_base.specs.declared.identities.TaskNo.{TaskNo}
 use Rattle.ann_base.specs.declared.exceptions.Raised.TheVariants as exception
+use Rattle.profile_machine.specs.declared.world.calls.DelayMoment.{DelayMoment}
 use Rattle.profile_machine.specs.declared.world.lines.Line.TheVariants as line
 use Rattle.profile_machine.specs.declared.world.lines.MeetingEnd.TheVariants as meeting
 use Rattle.trace_text.specs.declared.events.Who.{Who}
@@ -98,8 +99,8 @@ unfoldable pub begin_accept : Image → Part → Who → StatementNo → Call �
 begin_accept p part name s c = begin_call p part name c ▷ goes name (next_of p s)
 
 -- without room for the accept body it finishes at once with Storage_Error
-unfoldable pub finish_without_room : Image → Part → Who → Call → Step
-finish_without_room p part name c =
+unfoldable pub finish_without_room : Part → Who → Call → Step
+finish_without_room part name c =
     says part (line.Finish name c.number (meeting.Raised exception.Storage))
 
 -- the acceptor acts: it goes to the head where its active priority rises
@@ -107,7 +108,7 @@ unfoldable pub accept_with_room : Image → Who → StatementNo → Call → Boo
 accept_with_room p name s c true =
     changes (open_accept p name s c) ▷ inherit_running p name (inherited_by.Rendezvous c.number) c.priority
 accept_with_room p name s c false =
-    finish_without_room p Own name c ▷ deliver p Own c.number (call_ended.ToRaise exception.Storage) ▷ raises p Own name exception.Storage
+    finish_without_room Own name c ▷ deliver p Own c.number (call_ended.ToRaise exception.Storage) ▷ raises Own name exception.Storage
 
 unfoldable pub accept_call : Image → Who → StatementNo → CallNo → Step
 accept_call p name s c =
@@ -122,8 +123,8 @@ meet_with_room p part name s c then_ =
 -- without room the call has ended at once: its lines and its caller's come first, then those of the acceptor
 abbrev pub meet_without_room : Image → Part → Who → StatementNo → Call → Step → Step
 meet_without_room p part name s c otherwise =
-    begin_accept p TheFinish name s c ▷ finish_without_room p TheFinish name c
-    ▷ otherwise ▷ ready p part name ▷ raises p part name exception.Storage
+    begin_accept p TheFinish name s c ▷ finish_without_room TheFinish name c
+    ▷ otherwise ▷ ready p part name ▷ raises part name exception.Storage
 
 abbrev pub meet : Image → Part → Who → StatementNo → Call → Step → Step → Step
 meet p part name s c then_ otherwise =
@@ -142,7 +143,7 @@ accept_or_wait p name s None = goes name (next_of p s) ▷ block TheBlock name (
 
 unfoldable pub accept : Image → Who → StatementNo → EntryNo → Step
 accept p name s e =
-    looks (λ w. raise_if p name (in_protected w name) exception.Program
+    looks (λ w. raise_if name (in_protected w name) exception.Program
     (accept_or_wait p name s (next_call p w (own_queue w name (place_of_entry p e) ∷ []))))
 
 -- ---- the selective accept (9.7.1)
@@ -172,11 +173,6 @@ has_terminate (select.Accept s ∷ kinds) = has_terminate kinds
 has_terminate (select.Delay s ∷ kinds) = has_terminate kinds
 has_terminate (select.Terminate ∷ kinds) = true
 
--- a delay with its moment
-pub record Moment : Type 0 where
-  pub delay : StatementNo
-  pub at : ℤ
-
 abbrev pub delay_moment_in : Seen → StatementForm → Valued ℤ
 delay_moment_in q (form.Delay e) = relative_moment q e
 delay_moment_in q (form.DelayUntil e) = moment q e
@@ -186,18 +182,18 @@ abbrev pub delay_moment : Seen → StatementNo → Valued ℤ
 delay_moment q s = delay_moment_in q (form_of q.program s)
 
 -- then the delays of the open alternatives, in order
-abbrev pub open_delays : Seen → List SelectKind → Valued (List Moment)
+abbrev pub open_delays : Seen → List SelectKind → Valued (List DelayMoment)
 open_delays q [] = Ok []
 open_delays q (select.Accept s ∷ kinds) = open_delays q kinds
 open_delays q (select.Delay s ∷ kinds) = delay_moment q s >>= λ m. open_delays q kinds >>= λ rest. Ok (record { delay = s; at = m } ∷ rest)
 open_delays q (select.Terminate ∷ kinds) = open_delays q kinds
 
 -- the delay of the least moment; of equal ones the first in the text (own)
-abbrev pub earlier : Moment → Option Moment → Moment
+abbrev pub earlier : DelayMoment → Option DelayMoment → DelayMoment
 earlier m None = m
 earlier m (Some n) = cond (int_lt n.at m.at) n m
 
-abbrev pub least_delay : List Moment → Option Moment
+abbrev pub least_delay : List DelayMoment → Option DelayMoment
 least_delay [] = None
 least_delay (m ∷ ms) = Some (earlier m (least_delay ms))
 
@@ -223,21 +219,21 @@ appoint_delay (who.Task t) m = appoint (due_for.Delay t) m
 appoint_delay who.Agent m = λ w. w
 
 -- without a call: the else part, the delay that has come, or a wait
-unfoldable pub select_delay : Image → Who → StatementNo → List StatementNo → Moment → Bool → Bool → Step
+unfoldable pub select_delay : Image → Who → StatementNo → List StatementNo → DelayMoment → Bool → Bool → Step
 select_delay p name s accepts m terminate true = goes name (next_of p m.delay)
 select_delay p name s accepts m terminate false =
     goes name (next_of p s) ▷ changes (appoint_delay name m.at) ▷ wait_at_select name accepts (Some m.delay) terminate
 
-unfoldable pub select_wait : Image → Who → StatementNo → List StatementNo → Bool → Option Moment → Step
+unfoldable pub select_wait : Image → Who → StatementNo → List StatementNo → Bool → Option DelayMoment → Step
 select_wait p name s accepts terminate None = goes name (next_of p s) ▷ wait_at_select name accepts None terminate
 select_wait p name s accepts terminate (Some m) =
     looks (λ w. select_delay p name s accepts m terminate (int_le m.at (pos w.time)))
 
-unfoldable pub select_otherwise : Image → Who → StatementNo → List SelectKind → Option Moment → Option StatementNo → Step
+unfoldable pub select_otherwise : Image → Who → StatementNo → List SelectKind → Option DelayMoment → Option StatementNo → Step
 select_otherwise p name s kinds m (Some otherwise) = goes name (Some otherwise)
 select_otherwise p name s kinds m None = select_wait p name s (open_accepts kinds) (has_terminate kinds) m
 
-unfoldable pub select_by_call : Image → Who → StatementNo → List SelectKind → Option Moment → Option StatementNo → Option CallNo → Step
+unfoldable pub select_by_call : Image → Who → StatementNo → List SelectKind → Option DelayMoment → Option StatementNo → Option CallNo → Step
 select_by_call p name s kinds m otherwise (Some c) = accept_chosen p name (open_accepts kinds) c
 select_by_call p name s kinds m otherwise None = select_otherwise p name s kinds m otherwise
 
@@ -247,15 +243,15 @@ is_closed [] None = true
 is_closed [] (Some s) = false
 is_closed (kind ∷ kinds) otherwise = false
 
-unfoldable pub select_open : Image → Who → StatementNo → Option StatementNo → List SelectKind → List Moment → Step
+unfoldable pub select_open : Image → Who → StatementNo → Option StatementNo → List SelectKind → List DelayMoment → Step
 select_open p name s otherwise kinds moments =
-    raise_if p name (is_closed kinds otherwise) exception.Program
+    raise_if name (is_closed kinds otherwise) exception.Program
     (looks (λ w. select_by_call p name s kinds (least_delay moments) otherwise (next_call p w (queues_of_accepts p w name (open_accepts kinds)))))
 
 unfoldable pub selective_accept : Image → Who → StatementNo → List SelectAlternative → Option StatementNo → Step
 selective_accept p name s alternatives otherwise =
-    sees p name (λ q. raise_if p name (in_protected q.world name) exception.Program
-    (given p Own name (open_alternatives q alternatives) (λ kinds. given p Own name (open_delays q kinds) (select_open p name s otherwise kinds))))
+    sees p name (λ q. raise_if name (in_protected q.world name) exception.Program
+    (given Own name (open_alternatives q alternatives) (λ kinds. given Own name (open_delays q kinds) (select_open p name s otherwise kinds))))
 
 -- ---- the end of an accept (9.5.2, 9.5.4)
 
@@ -289,7 +285,7 @@ unfoldable pub finish_accept : Image → Who → Call → Option Sending → Ste
 finish_accept p name c None =
     says TheFinish (line.Finish name c.number meeting.Ok) ▷ deliver p TheFinish c.number call_ended.Finished
 finish_accept p name c (Some s) =
-    says TheFinish (line.Finish name c.number meeting.Requeue) ▷ send_on p c.number s ▷ with_call c.number (λ d. arrive p d d.owner)
+    says TheFinish (line.Finish name c.number meeting.Requeue) ▷ send_on c.number s ▷ with_call c.number (λ d. arrive p d d.owner)
 
 -- an exception is raised in the caller too; where the acceptor is aborted the caller gets Tasking_Error
 unfoldable pub finish_rendezvous : Image → Who → Call → Leaving → Step

@@ -14,6 +14,7 @@ use Rattle.profile_machine.specs.declared.world.marks.Purpose.{Purpose}
 use Rattle.profile_machine.specs.declared.world.scopes.ScopeId.{ScopeId}
 use Rattle.profile_machine.specs.Words.{scope_id}
 use Rattle.profile_machine.specs.declared.world.scopes.ScopeInUse.{ScopeInUse}
+use Rattle.profile_machine.specs.declared.world.scopes.Beginning.{Beginning}
 use Rattle.profile_machine.specs.declared.world.objects.Object.{Object}
 use Rattle.profile_machine.specs.declared.world.scopes.Located.{Located}
 use Rattle.profile_machine.specs.declared.world.Drawn.{Drawn}
@@ -85,14 +86,6 @@ abbrev pub write_cell : ScopeId → ℕ → Value → World → World
 write_cell id place value = edit_cells id (λ cells. slice_set cells place value)
 
 -- ---- a scope begins
-
--- how a scope begins in a run: round it in the text, the object or the controlled object that it works on, and
--- what its first cells hold
-pub record Beginning : Type 0 where
-  pub outer : Option ScopeId
-  pub object : Option ObjectNo
-  pub subject : Option Located
-  pub values : List Value
 
 abbrev pub plainly : Option ScopeId → Beginning
 plainly outer = record { outer = outer; object = None; subject = None; values = [] }

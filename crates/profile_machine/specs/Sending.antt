@@ -55,15 +55,15 @@ abbrev pub appoint_timeout : CallNo → Option ℤ → World → World
 appoint_timeout c None = λ w. w
 appoint_timeout c (Some moment) = appoint (due_for.Timeout c) moment
 
-unfoldable pub wait_for_call : Image → Call → Step
-wait_for_call p c = block TheBlock (who.Task c.caller) (waits_for.Call c.number)
+unfoldable pub wait_for_call : Call → Step
+wait_for_call c = block TheBlock (who.Task c.caller) (waits_for.Call c.number)
 
 unfoldable pub wait_or_cancel : Image → Part → Call → Bool → Step
 wait_or_cancel p part c true = cancel_at_once p part c
-wait_or_cancel p part c false = changes (appoint_timeout c.number c.moment) ▷ wait_for_call p c
+wait_or_cancel p part c false = changes (appoint_timeout c.number c.moment) ▷ wait_for_call c
 
 unfoldable pub not_accepted : Image → Part → Call → CallKind → Step
-not_accepted p part c call_kind.Plain = wait_for_call p c
+not_accepted p part c call_kind.Plain = wait_for_call c
 not_accepted p part c call_kind.Conditional = cancel_at_once p part c
 not_accepted p part c call_kind.Timed = looks (λ w. wait_or_cancel p part c (is_not_future w.time c.moment))
 not_accepted p part c call_kind.Triggering = changes (open_abortable p (who.Task c.caller) c.statement (Some c.number))
@@ -74,8 +74,8 @@ abbrev pub sent_call : Sending → Call → Call
 sent_call s c = record c { owner = s.owner; entry = s.entry; firm = not s.with_abort; sent_with_abort = c.sent_with_abort || s.with_abort; sending = None }
 
 -- its new entry, and its `call` line
-unfoldable pub send_on : Image → CallNo → Sending → Step
-send_on p c s = changes (edit_call c (sent_call s)) ▷ with_call c (says_call p TheFinish)
+unfoldable pub send_on : CallNo → Sending → Step
+send_on c s = changes (edit_call c (sent_call s)) ▷ with_call c (says_call TheFinish)
 
 -- sent on with abort and not begun at once: a conditional call, one whose cancellation was attempted, and a timed one
 -- whose moment has come

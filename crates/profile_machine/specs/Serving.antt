@@ -45,8 +45,8 @@ abbrev pub serves_nothing : World → World
 serves_nothing w = record w { serving = None }
 
 -- `served`; where nothing is pending the agent blocks
-unfoldable pub end_release : Image → ℕ → Step
-end_release p n =
+unfoldable pub end_release : ℕ → Step
+end_release n =
     says Own (line.Served n) ▷ changes serves_nothing
     ▷ looks (λ w. when (is_empty w.releases) (block TheBlock who.Agent waits_for.Release))
 
@@ -60,8 +60,8 @@ abbrev pub may_open_abortable : World → Who → Call → Bool
 may_open_abortable w name c = is_triggering c.kind && c.sent_with_abort && not c.attempted && has_room w name 1 0
 
 unfoldable pub wait_or_unwind : Image → Who → Call → Bool → Step
-wait_or_unwind p name c true = attempt_with p Own c (changes (forget_call c.number) ▷ leaves name how.Abort) (wait_for_call p c)
-wait_or_unwind p name c false = wait_for_call p c
+wait_or_unwind p name c true = attempt_with p Own c (changes (forget_call c.number) ▷ leaves name how.Abort) (wait_for_call c)
+wait_or_unwind p name c false = wait_for_call c
 
 unfoldable pub wait_for_own : Image → Who → Call → Bool → Step
 wait_for_own p name c true = changes (open_abortable p name c.statement (Some c.number))
@@ -73,7 +73,7 @@ resume_own p name c None = looks (λ w. wait_for_own p name c (may_open_abortabl
 
 -- the task goes on as the body was left, or behind its own entry call; the agent has served its release
 unfoldable pub behind_action : Image → Who → ProtectedMark → Option ℕ → Option CallNo → Step
-behind_action p name m (Some release) call = end_release p release
+behind_action p name m (Some release) call = end_release release
 behind_action p name m None None = pass_on p name m.body_left
 behind_action p name m None (Some c) = with_call c (λ d. resume_own p name d d.outcome)
 
@@ -160,7 +160,7 @@ unfoldable pub finish_well : Image → Who → ProtectedMark → Call → Option
 finish_well p name m c None =
     says TheFinish (line.Finish name c.number meeting.Ok) ▷ deliver p TheFinish c.number call_ended.Finished ▷ serve_calls p name m None
 finish_well p name m c (Some s) =
-    says TheFinish (line.Finish name c.number meeting.Requeue) ▷ send_on p c.number s ▷ enqueue p c.number ▷ serve_calls p name m (Some c.number)
+    says TheFinish (line.Finish name c.number meeting.Requeue) ▷ send_on c.number s ▷ enqueue p c.number ▷ serve_calls p name m (Some c.number)
 
 unfoldable pub finish_call : Image → Who → ProtectedMark → Leaving → Call → Step
 finish_call p name m (how.Exception e) c = finish_raised p name m c e

@@ -46,8 +46,8 @@ abbrev pub sees : Image → Who → (Seen → Step) → Step
 sees p name f = looks (λ w. f (seen_by p w name))
 
 -- the world behind an effect on cells, or the exception
-unfoldable pub becomes : Image → Part → Who → Valued World → Step
-becomes p part name result = given p part name result (λ next. changes (λ _. next))
+unfoldable pub becomes : Part → Who → Valued World → Step
+becomes part name result = given part name result (λ next. changes (λ _. next))
 
 -- ---- null (5.1), assignment (5.2)
 
@@ -57,7 +57,7 @@ null p name s = goes name (next_of p s)
 -- the place of the target is found first, then the value
 unfoldable pub assign : Image → Who → StatementNo → VariableName → ExprNo → Step
 assign p name s target e =
-    sees p name (λ q. given p Own name (variable q target >>= λ v. value q e >>= λ x. store p v x q.world) (λ next. changes (λ _. next) ▷ goes name (next_of p s)))
+    sees p name (λ q. given Own name (variable q target >>= λ v. value q e >>= λ x. store p v x q.world) (λ next. changes (λ _. next) ▷ goes name (next_of p s)))
 
 -- the cells of a whole array
 abbrev pub cells_from : World → Variable → ℕ → List Value
@@ -77,7 +77,7 @@ array_copied p q target source = object_cell q target >>= λ t. object_cell q so
 
 unfoldable pub assign_array : Image → Who → StatementNo → ObjectName → ObjectName → Step
 assign_array p name s target source =
-    sees p name (λ q. given p Own name (array_copied p q target source) (λ next. changes (λ _. next) ▷ goes name (next_of p s)))
+    sees p name (λ q. given Own name (array_copied p q target source) (λ next. changes (λ _. next) ▷ goes name (next_of p s)))
 
 -- ---- if and case (5.3, 5.4)
 
@@ -87,7 +87,7 @@ branch false first otherwise = otherwise
 
 unfoldable pub if_statement : Image → Who → ExprNo → StatementNo → Option StatementNo → Step
 if_statement p name e first otherwise =
-    sees p name (λ q. given p Own name (condition q e) (λ b. goes name (branch b first otherwise)))
+    sees p name (λ q. given Own name (condition q e) (λ b. goes name (branch b first otherwise)))
 
 abbrev pub holds : Valued Bool → Bool
 holds (Ok b) = b
@@ -107,19 +107,19 @@ chosen_alternative v [] = None
 chosen_alternative v (a ∷ as') = cond (any_chosen v a.choices) (Some a.first) (chosen_alternative v as')
 
 -- a value that no choice covers raises Constraint_Error
-unfoldable pub go_to_alternative : Image → Who → Option StatementNo → Step
-go_to_alternative p name None = raises p Own name exception.Constraint
-go_to_alternative p name (Some first) = goes name (Some first)
+unfoldable pub go_to_alternative : Who → Option StatementNo → Step
+go_to_alternative name None = raises Own name exception.Constraint
+go_to_alternative name (Some first) = goes name (Some first)
 
 unfoldable pub case_statement : Image → Who → ExprNo → List CaseAlternative → Step
 case_statement p name e alternatives =
-    sees p name (λ q. given p Own name (value q e) (λ v. go_to_alternative p name (chosen_alternative v alternatives)))
+    sees p name (λ q. given Own name (value q e) (λ v. go_to_alternative name (chosen_alternative v alternatives)))
 
 -- ---- loops (5.5): into the body, or past the loop
 
 unfoldable pub while_turn : Image → Who → StatementNo → ExprNo → StatementNo → Step
 while_turn p name s e body =
-    sees p name (λ q. given p Own name (condition q e) (λ b. goes name (branch b body (next_of p s))))
+    sees p name (λ q. given Own name (condition q e) (λ b. goes name (branch b body (next_of p s))))
 
 -- the parameter, and the cell behind it that keeps the last value
 abbrev pub loop_cell : Seen → DeclNo → ℕ → Valued Variable
@@ -145,7 +145,7 @@ bounds_set q d reverse low high =
 
 unfoldable pub for_bounds : Image → Who → DeclNo → Bool → ExprNo → ExprNo → StatementNo → Step
 for_bounds p name d reverse low high turn =
-    sees p name (λ q. given p Own name (bounds_set q d reverse low high) (λ next. changes (λ _. next) ▷ goes name (Some turn)))
+    sees p name (λ q. given Own name (bounds_set q d reverse low high) (λ next. changes (λ _. next) ▷ goes name (Some turn)))
 
 -- the first turn finds an empty range
 abbrev pub is_past : Bool → Value → Value → Valued Bool
@@ -154,7 +154,7 @@ is_past true x last = is_less x last
 
 unfoldable pub first_turn : Image → Who → StatementNo → DeclNo → Bool → StatementNo → Step
 first_turn p name s d reverse body =
-    sees p name (λ q. given p Own name (loop_cell q d 0 >>= λ x. loop_cell q d 1 >>= λ y. is_past reverse (read q.world x) (read q.world y))
+    sees p name (λ q. given Own name (loop_cell q d 0 >>= λ x. loop_cell q d 1 >>= λ y. is_past reverse (read q.world x) (read q.world y))
     (λ past. goes name (branch (not past) body (next_of p s))))
 
 -- the next value in the direction of the loop
@@ -175,7 +175,7 @@ advance name x reverse v body past false = changes (put x (stepped reverse v)) �
 -- a later turn: past the loop at the last value, else on to the next one
 unfoldable pub later_turn : Image → Who → StatementNo → DeclNo → Bool → StatementNo → Step
 later_turn p name s d reverse body =
-    sees p name (λ q. given p Own name (loop_cell q d 0) (λ x. given p Own name (loop_cell q d 1 >>= λ y. same_value (read q.world x) (read q.world y))
+    sees p name (λ q. given Own name (loop_cell q d 0) (λ x. given Own name (loop_cell q d 1 >>= λ y. same_value (read q.world x) (read q.world y))
     (advance name x reverse (read q.world x) body (next_of p s))))
 
 -- ---- exit (5.7)
@@ -186,13 +186,13 @@ exit_where p name s loop false = goes name (next_of p s)
 
 unfoldable pub exit_statement : Image → Who → StatementNo → StatementNo → Option ExprNo → Step
 exit_statement p name s loop None = exit_loop p name loop
-exit_statement p name s loop (Some e) = sees p name (λ q. given p Own name (condition q e) (exit_where p name s loop))
+exit_statement p name s loop (Some e) = sees p name (λ q. given Own name (condition q e) (exit_where p name s loop))
 
 -- ---- block (5.6)
 
 unfoldable pub block_statement : Image → Who → StatementNo → ScopeNo → Step
 block_statement p name s scope =
-    with_room p name (marks_of p scope) (scope_of p scope).size
+    with_room name (marks_of p scope) (scope_of p scope).size
     (goes name (next_of p s) ▷ looks (λ w. changes (open_scope p name scope (plainly (innermost w name)) (opened_for.Block s))))
 
 -- ---- raise (11.3)
@@ -217,7 +217,7 @@ exception_handled q scope =
     or_misfit (home q.world scope q.within) >>= λ id. or_misfit (handled_in id (frames_of q.world q.who))
 
 unfoldable pub raise_again : Image → Who → ScopeNo → Step
-raise_again p name scope = sees p name (λ q. given p Own name (exception_handled q scope) (raises p Own name))
+raise_again p name scope = sees p name (λ q. given Own name (exception_handled q scope) (raises Own name))
 
 -- ---- delays (9.6): inside a protected action Program_Error is raised (own)
 
@@ -232,7 +232,7 @@ delay_to p name until = looks (λ w. wait_until p name until (int_lt (pos w.time
 
 unfoldable pub delay_until : Image → Who → StatementNo → Valued ℤ → Step
 delay_until p name s until =
-    looks (λ w. raise_if p name (in_protected w name) exception.Program (given p Own name until (λ m. goes name (next_of p s) ▷ delay_to p name m)))
+    looks (λ w. raise_if name (in_protected w name) exception.Program (given Own name until (λ m. goes name (next_of p s) ▷ delay_to p name m)))
 
 -- a relative delay's moment
 abbrev pub from_now : World → ℤ → ℤ
@@ -255,4 +255,4 @@ text_of_pieces q (x ∷ xs) = piece_text q x >>= λ text. text_of_pieces q xs >>
 
 unfoldable pub put_line : Image → Who → StatementNo → List Piece → Step
 put_line p name s pieces =
-    sees p name (λ q. given p Own name (text_of_pieces q pieces) (λ text. goes name (next_of p s) ▷ says Own (line.Put name text)))
+    sees p name (λ q. given Own name (text_of_pieces q pieces) (λ text. goes name (next_of p s) ▷ says Own (line.Put name text)))

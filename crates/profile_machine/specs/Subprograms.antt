@@ -33,7 +33,9 @@ use Rattle.profile_machine.specs.Program.{next_of, scope_of, marks_of, subprogra
 use Rattle.profile_machine.specs.declared.world.lines.Part.TheVariants.{Own}
 use Rattle.profile_machine.specs.Steps.{Step, changes, looks, nothing, ◌▷◌}
 use Rattle.profile_machine.specs.Frames.{frames_of, goes, leaves, given, raise_if, with_room}
-use Rattle.profile_machine.specs.Scopes.{home, write_cell, open_scope, Beginning}
+use Rattle.profile_machine.specs.declared.world.scopes.Beginning.{Beginning}
+use Rattle.profile_machine.specs.declared.world.scopes.Handed.{Handed}
+use Rattle.profile_machine.specs.Scopes.{home, write_cell, open_scope}
 use Rattle.profile_machine.specs.Operators.{Valued, ◌>>=◌, checked}
 use Rattle.profile_machine.specs.Values.{Seen, value, variable, object_cell, or_misfit, read, thing, located}
 use Rattle.profile_machine.specs.CallEnds.{store}
@@ -41,12 +43,6 @@ use Rattle.profile_machine.specs.Calls.{edit_call}
 use Rattle.profile_machine.specs.Statements.{sees, becomes}
 
 -- ---- parameters (6.4.1): scalars are copied in, from left to right, other objects stand for themselves
-
--- what a call hands over: the parameters' values, what is copied back, and the object that stands for itself
-pub record Handed : Type 0 where
-  pub values : List Value
-  pub back : List CopyBack
-  pub subject : Option Located
 
 abbrev pub nothing_handed : Handed
 nothing_handed = record { values = []; back = []; subject = None }
@@ -92,11 +88,11 @@ begin_body p name s f b h to =
 -- a step with what a call hands over, and where its result goes
 abbrev pub handing : Image → Who → SubprogramNo → List Actual → Destination → (Handed → ResultTo → Step) → Step
 handing p name f actuals to step =
-    sees p name (λ q. given p Own name (result_to q to) (λ r. given p Own name (handed q 0 (subprogram_of p f).formals actuals) (λ h. step h r)))
+    sees p name (λ q. given Own name (result_to q to) (λ r. given Own name (handed q 0 (subprogram_of p f).formals actuals) (λ h. step h r)))
 
 unfoldable pub call_subprogram : Image → Who → StatementNo → SubprogramNo → List Actual → Destination → Step
 call_subprogram p name s f actuals to =
-    with_room p name (marks_of p (subprogram_of p f).scope) (scope_of p (subprogram_of p f).scope).size
+    with_room name (marks_of p (subprogram_of p f).scope) (scope_of p (subprogram_of p f).scope).size
     (handing p name f actuals to (λ h r. sees p name (λ q. begin_body p name s f (beginning_of q f h) h r)))
 
 -- ---- return (6.5)
@@ -114,10 +110,10 @@ result_kept q f v =
 -- a function's result, range checked, is kept, and the marks are left to its body
 unfoldable pub return_result : Image → Who → SubprogramNo → Value → Step
 return_result p name f v =
-    sees p name (λ q. given p Own name (result_kept q f v) (λ next. changes (λ _. next) ▷ leaves name how.Return))
+    sees p name (λ q. given Own name (result_kept q f v) (λ next. changes (λ _. next) ▷ leaves name how.Return))
 
 unfoldable pub return_value : Image → Who → SubprogramNo → ExprNo → Step
-return_value p name f e = sees p name (λ q. given p Own name (value q e) (return_result p name f))
+return_value p name f e = sees p name (λ q. given Own name (value q e) (return_result p name f))
 
 -- what a return ends: a body or an accept, with the call that it serves; a block is left on the way
 pub data Ended : Type 0 where
@@ -166,7 +162,7 @@ cell_in cells place = slice_index_or cells place (Whole (pos 0))
 abbrev pub copy_parameters : Image → Who → List Value → List CopyBack → Step → Step
 copy_parameters p name cells [] step = step
 copy_parameters p name cells (b ∷ bs) step =
-    looks (λ w. given p Own name (store p b.target (cell_in cells b.place) w) (λ next. changes (λ _. next) ▷ copy_parameters p name cells bs step))
+    looks (λ w. given Own name (store p b.target (cell_in cells b.place) w) (λ next. changes (λ _. next) ▷ copy_parameters p name cells bs step))
 
 abbrev pub last_cell : List Value → Value
 last_cell cells = cell_in cells (length cells - 1)
@@ -184,10 +180,10 @@ falls_through how.Terminate to = false
 
 unfoldable pub store_result : Image → Who → List Value → ResultTo → Step
 store_result p name cells bound_for.Nowhere = nothing
-store_result p name cells (bound_for.Variable v) = looks (λ w. becomes p Own name (store p v (last_cell cells) w))
+store_result p name cells (bound_for.Variable v) = looks (λ w. becomes Own name (store p v (last_cell cells) w))
 store_result p name cells (bound_for.Return f) = return_result p name f (last_cell cells)
 
 -- `cells` are those of the scope that has ended
 unfoldable pub end_subprogram : Image → Who → List Value → List CopyBack → ResultTo → Leaving → Step
 end_subprogram p name cells back to leaving =
-    raise_if p name (falls_through leaving to) exception.Program (copy_parameters p name cells back (store_result p name cells to))
+    raise_if name (falls_through leaving to) exception.Program (copy_parameters p name cells back (store_result p name cells to))

@@ -90,22 +90,22 @@ task_drawn d = record d { tasks = suc d.tasks }
 abbrev pub add_task : world.Task → World → World
 add_task t w = record w { tasks = w.tasks ++ t ∷ []; drawn = task_drawn w.drawn }
 
-unfoldable pub says_created : Image → DeclNo → world.Task → Step
-says_created p d t =
+unfoldable pub says_created : DeclNo → world.Task → Step
+says_created d t =
     looks (λ w. says Own (line.New (created.Task (record { 0 = w.drawn.tasks - 1 })) (Some d) t.base))
 
 unfoldable pub create_task : Image → Who → StatementNo → DeclNo → Option ScopeId → world.Task → Step
 create_task p name s d id t =
     goes name (next_of p s) ▷ changes (add_task t)
     ▷ for_some id (λ within. looks (λ w. changes (set_thing p (record { within = within; declared = d }) (value_of.Task (Some (record { 0 = w.drawn.tasks - 1 }))))))
-    ▷ says_created p d t
+    ▷ says_created d t
 
 -- Program_Error inside a protected action and wherever abort is deferred; Storage_Error while 256 tasks are live (own)
 unfoldable pub create : Image → Who → StatementNo → DeclNo → ℕ → Step
 create p name s d declarative_part =
-    sees p name (λ q. raise_if p name (in_protected q.world name || is_deferred q.world name) exception.Program
-    (raise_if p name (leb 256 (length q.world.tasks)) exception.Storage
-    (given p Own name (optional_span q (task_unit_of p (unit_of_declaration p d)).relative_deadline) (λ span.
+    sees p name (λ q. raise_if name (in_protected q.world name || is_deferred q.world name) exception.Program
+    (raise_if name (leb 256 (length q.world.tasks)) exception.Storage
+    (given Own name (optional_span q (task_unit_of p (unit_of_declaration p d)).relative_deadline) (λ span.
     create_task p name s d (home q.world (declaration_of p d).scope q.within) (created_task q d (unit_of_declaration p d) declarative_part span q.world.drawn.tasks)))))
 
 -- the region of the scope on top; a sequence with handlers may stand above it
@@ -160,10 +160,10 @@ activate_one p activator level t =
     [ true ↦ begin_task p activator level t | false ↦ fail_to_begin p activator t ])
 
 -- the activator blocks where some task begins; else Tasking_Error is raised in it at once, if one failed
-unfoldable pub await_group : Image → Who → Bool → Bool → Step
-await_group p name true failed = block TheBlock name waits_for.Activation
-await_group p name false true = raises p TheBlock name exception.Tasking
-await_group p name false false = nothing
+unfoldable pub await_group : Who → Bool → Bool → Step
+await_group name true failed = block TheBlock name waits_for.Activation
+await_group name false true = raises TheBlock name exception.Tasking
+await_group name false false = nothing
 
 abbrev pub no_failure : world.Task → world.Task
 no_failure t = record t { group_failed = false }
@@ -172,7 +172,7 @@ unfoldable pub activate : Image → Who → StatementNo → ℕ → Step
 activate p name s declarative_part =
     looks (λ w. goes name (next_of p s) ▷ changes (edit_task name no_failure)
     ▷ for_each (filter (is_to_activate (top_region_of_scope w name) declarative_part) w.tasks) (activate_one p name (active_of p w name)))
-    ▷ looks (λ w. await_group p name (has_activating w name) (task_of w name).group_failed)
+    ▷ looks (λ w. await_group name (has_activating w name) (task_of w name).group_failed)
 
 -- the end of a task's own activation: it goes to the head where its active priority falls
 unfoldable pub end_own_activation : Image → Who → StatementNo → Step
@@ -282,13 +282,13 @@ raises_behind m leaving = m.finalize_raised && not (is_dropped leaving)
 abbrev pub left_by : ScopeMark → Leaving → Leaving
 left_by m leaving = cond (raises_behind m leaving) (how.Exception exception.Program) leaving
 
-unfoldable pub says_left : Image → Who → ScopeMark → Leaving → Step
-says_left p name m leaving =
+unfoldable pub says_left : Who → ScopeMark → Leaving → Step
+says_left name m leaving =
     for_some m.region (λ r. says Own (line.Left name r)) ▷ when (raises_behind m leaving) (says Own (line.Raise name exception.Program))
 
 unfoldable pub end_of_scope : Image → Who → ScopeMark → Leaving → Step
 end_of_scope p name m leaving =
-    looks (λ w. changes (pop name) ▷ changes (end_scope m.within) ▷ says_left p name m leaving
+    looks (λ w. changes (pop name) ▷ changes (end_scope m.within) ▷ says_left name m leaving
     ▷ behind_scope p name m.purpose (cells_of (scope_in_use w m.within)) (left_by m leaving))
 
 -- a kept scope's leaving begins, finalizes one object, or has ended
@@ -339,8 +339,8 @@ abort_all p actor tasks =
 
 unfoldable pub abort_statement : Image → Who → StatementNo → List DeclNo → Step
 abort_statement p name s tasks =
-    sees p name (λ q. raise_if p name (in_protected q.world name) exception.Program
-    (given p Own name (named_tasks q tasks) (λ aborted. goes name (next_of p s) ▷ looks (λ w. abort_all p name (filter (is_to_abort w aborted) w.tasks)))))
+    sees p name (λ q. raise_if name (in_protected q.world name) exception.Program
+    (given Own name (named_tasks q tasks) (λ aborted. goes name (next_of p s) ▷ looks (λ w. abort_all p name (filter (is_to_abort w aborted) w.tasks)))))
 
 -- ---- what an effect brings about elsewhere
 

@@ -77,9 +77,9 @@ module _ {R : StepRelation} {Q : MoveRelation} (moves : Moves R Q) where
   unfolding end_top
   end_top-keeps p name = search (looks-keeps, end_top_abortable-keeps)
 
-  pub wait_for_trigger-keeps : (p : Image) (name : Who) (c : Call) (leaving : Leaving) → Keeps R (wait_for_trigger p name c leaving)
+  pub wait_for_trigger-keeps : (name : Who) (c : Call) (leaving : Leaving) → Keeps R (wait_for_trigger name c leaving)
   unfolding wait_for_trigger
-  wait_for_trigger-keeps p name c leaving = search (changes-keeps, edit_top-alters, then-keeps, block-keeps)
+  wait_for_trigger-keeps name c leaving = search (changes-keeps, edit_top-alters, then-keeps, block-keeps)
 
   pub drop_trigger-alters : (name : Who) (depth : ℕ) → Alters R (drop_trigger name depth)
   drop_trigger-alters (who.Task t) depth = search (drop_appointment-alters)
@@ -87,7 +87,7 @@ module _ {R : StepRelation} {Q : MoveRelation} (moves : Moves R Q) where
 
   pub end_abortable_by-keeps : (p : Image) (name : Who) (m : AbortableMark) (leaving : Leaving) → Keeps R (end_abortable_by p name m leaving)
   unfolding end_abortable_by
-  end_abortable_by-keeps p name m leaving = option-keeps moves m.call (looks (λ w. changes (drop_trigger name (below (frames_of w name)))) ▷ end_top p name) (λ c. with_call c (λ d. attempt_with p Own d (end_top p name) (wait_for_trigger p name d leaving))) (search (looks-keeps, changes-keeps, drop_trigger-alters, then-keeps, end_top-keeps)) (λ c. search (with_call-keeps, attempt_with-keeps, end_top-keeps, wait_for_trigger-keeps))
+  end_abortable_by-keeps p name m leaving = option-keeps moves m.call (looks (λ w. changes (drop_trigger name (below (frames_of w name)))) ▷ end_top p name) (λ c. with_call c (λ d. attempt_with p Own d (end_top p name) (wait_for_trigger name d leaving))) (search (looks-keeps, changes-keeps, drop_trigger-alters, then-keeps, end_top-keeps)) (λ c. search (with_call-keeps, attempt_with-keeps, end_top-keeps, wait_for_trigger-keeps))
 
   pub end_in_abortable-keeps : (p : Image) (name : Who) (m : AbortableMark) (leaving : Leaving) → Keeps R (end_in_abortable p name m leaving)
   unfolding end_in_abortable

@@ -73,9 +73,9 @@ module _ {R : StepRelation} {Q : MoveRelation} (moves : Moves R Q) where
   pub edit_abortable_at-alters : (name : Who) (depth : ℕ) (f : AbortableMark → AbortableMark) → Alters R (edit_abortable_at name depth f)
   edit_abortable_at-alters name depth f = search (edit_frame-alters)
 
-  pub trigger_at-keeps : (p : Image) (part : Part) (t : TaskNo) (depth : ℕ) → Keeps R (trigger_at p part t depth)
+  pub trigger_at-keeps : (part : Part) (t : TaskNo) (depth : ℕ) → Keeps R (trigger_at part t depth)
   unfolding trigger_at
-  trigger_at-keeps p part t depth = search (changes-keeps, edit_abortable_at-alters, then-keeps, says-keeps, edit_frame-alters) depth 7
+  trigger_at-keeps part t depth = search (changes-keeps, edit_abortable_at-alters, then-keeps, says-keeps, edit_frame-alters) depth 7
 
   pub forget_trigger-alters : (c : Option CallNo) → Alters R (forget_trigger c)
   forget_trigger-alters None = search (unchanged-alters)
@@ -112,7 +112,7 @@ module _ {R : StepRelation} {Q : MoveRelation} (moves : Moves R Q) where
 
   pub end_for_abortable-keeps : (p : Image) (part : Part) (c : Call) (depth : ℕ) (outcome : Outcome) → Keeps R (end_for_abortable p part c depth outcome)
   unfolding end_for_abortable
-  end_for_abortable-keeps p part c depth outcome = looks-keeps moves _ (λ w. branch-keeps moves (waits_for_end c.number (waiting_of w (who.Task c.caller))) (end_wait p part c depth outcome) (trigger_at p part c.caller depth) (search (end_wait-keeps)) (search (trigger_at-keeps)))
+  end_for_abortable-keeps p part c depth outcome = looks-keeps moves _ (λ w. branch-keeps moves (waits_for_end c.number (waiting_of w (who.Task c.caller))) (end_wait p part c depth outcome) (trigger_at part c.caller depth) (search (end_wait-keeps)) (search (trigger_at-keeps)))
 
   pub end_for_caller-keeps : (p : Image) (part : Part) (c : Call) (outcome : Outcome) → Keeps R (end_for_caller p part c outcome)
   unfolding end_for_caller

@@ -29,9 +29,9 @@ module _ {R : StepRelation} {Q : MoveRelation} (moves : Moves R Q) where
   pub with_call-keeps : (c : CallNo) (f : Call → Step) → ((x : Call) → Keeps R (f x)) → Keeps R (with_call c f)
   with_call-keeps c f kept = search (looks-keeps, for_some-keeps)
 
-  pub says_call-keeps : (p : Image) (part : Part) (c : Call) → Keeps R (says_call p part c)
+  pub says_call-keeps : (part : Part) (c : Call) → Keeps R (says_call part c)
   unfolding says_call
-  says_call-keeps p part c = search (says-keeps)
+  says_call-keeps part c = search (says-keeps)
 
   pub edit_object-alters : (o : ObjectNo) (f : Object → Object) → ((x : Object) → (f x).number ≡ x.number) → Alters R (edit_object o f)
   unfolding Alters

@@ -78,8 +78,8 @@ module _ {R : StepRelation} {Q : MoveRelation} (moves : Moves R Q) where
   unfolding declare_protected
   declare_protected-keeps p name s d u =
       looks-from moves _ (λ w. let q = seen_by p w name in
-      given-from moves p Own name (located_here q d) _ w (λ l.
-      given_world-from moves p Own name (components_initialized q protected_cells l (protected_unit_of p u).components w) (λ _. goes name (next_of p s) ▷ changes (with_object p l u) ▷ says_object p l u) w
+      given-from moves Own name (located_here q d) _ w (λ l.
+      given_world-from moves Own name (components_initialized q protected_cells l (protected_unit_of p u).components w) (λ _. goes name (next_of p s) ▷ changes (with_object p l u) ▷ says_object p l u) w
       (components_initialized-gives q protected_cells l (protected_unit_of p u).components w)
       (λ _. search (then-keeps, goes-keeps, changes-keeps, with_object-alters, says_object-keeps))))
 
@@ -127,7 +127,7 @@ module _ {R : StepRelation} {Q : MoveRelation} (moves : Moves R Q) where
   unfolding declare_quietly
   declare_quietly-keeps p name s d =
       looks-from moves _ (λ w.
-      given_world-from moves p Own name (declared (seen_by p w name) d (declaration_of p d).kind) (λ _. goes name (next_of p s)) w
+      given_world-from moves Own name (declared (seen_by p w name) d (declaration_of p d).kind) (λ _. goes name (next_of p s)) w
       (declared-gives (seen_by p w name) d (declaration_of p d).kind) (λ _. goes-keeps moves name (next_of p s)))
 
   pub declare_by-keeps : (p : Image) (name : Who) (s : StatementNo) (d : DeclNo) (kind : DeclarationKind) → Keeps R (declare_by p name s d kind)

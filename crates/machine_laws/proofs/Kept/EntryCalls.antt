@@ -7,6 +7,7 @@ use Rattle.ann_base.specs.declared.identities.TaskNo.{TaskNo}
 use Rattle.ann_base.specs.declared.exceptions.Raised.{Raised}
 use Rattle.trace_text.specs.declared.events.Who.{Who}
 use Rattle.trace_text.specs.declared.events.Who.TheVariants as who
+use Rattle.profile_machine.specs.declared.world.calls.EntryCallNamed.{EntryCallNamed}
 use Rattle.profile_machine.specs.declared.image.Image.{Image}
 use Rattle.profile_machine.specs.declared.numbers.EntryNo.{EntryNo}
 use Rattle.profile_machine.specs.declared.numbers.StatementNo.{StatementNo}
@@ -25,7 +26,7 @@ use Rattle.profile_machine.specs.Steps.{Step, changes, looks, ◌▷◌}
 use Rattle.profile_machine.specs.Program.{next_of}
 use Rattle.profile_machine.specs.Frames.{frames_of, edit_top, goes_on}
 use Rattle.profile_machine.specs.Sending.{open_abortable}
-use Rattle.profile_machine.specs.EntryCalls.{add_call, make_call, end_at_once, call_gone, call_meets, call_queues, call_not_met, call_accepted_by, call_callable, call_task, call_runs, call_without_room, has_room_for_action, call_runs_if_room, call_passes, call_refused, call_closed, call_by_barrier, call_object, call_owner, call_named, entry_call, appoint_trigger, trigger_delay, async_delay, async_by_trigger, asynchronous_select, mark_sending, requeue, NamedCall}
+use Rattle.profile_machine.specs.EntryCalls.{add_call, make_call, end_at_once, call_gone, call_meets, call_queues, call_not_met, call_accepted_by, call_callable, call_task, call_runs, call_without_room, has_room_for_action, call_runs_if_room, call_passes, call_refused, call_closed, call_by_barrier, call_object, call_owner, call_named, entry_call, appoint_trigger, trigger_delay, async_delay, async_by_trigger, asynchronous_select, mark_sending, requeue}
 use Rattle.machine_laws.proofs.Moves.{StepRelation, MoveRelation, Moves}
 use Rattle.machine_laws.proofs.Kept.Combinators.{Keeps, From, Alters, branch-keeps, changes-keeps, keeps-from, looks-from, looks-keeps, looks_at-from, nothing-keeps, says-keeps, sees-keeps, then-keeps, unchanged-alters, changes_then-from}
 use Rattle.machine_laws.proofs.AtOnce.{at_once, later_behind}
@@ -46,9 +47,9 @@ module _ {R : StepRelation} {Q : MoveRelation} (moves : Moves R Q) where
   pub make_call-keeps : (p : Image) (c : Call) (step : Call → Step) → ((x : Call) → Keeps R (step x)) → Keeps R (make_call p c step)
   make_call-keeps p c step kept = search (goes-keeps, then-keeps, looks-keeps, changes-keeps, add_call-alters, says_call-keeps) depth 7
 
-  pub end_at_once-keeps : (p : Image) (part : Part) (c : Call) (e : Raised) → Keeps R (end_at_once p part c e)
+  pub end_at_once-keeps : (part : Part) (c : Call) (e : Raised) → Keeps R (end_at_once part c e)
   unfolding end_at_once
-  end_at_once-keeps p part c e = search (changes-keeps, forget_call-alters, then-keeps, raises-keeps)
+  end_at_once-keeps part c e = search (changes-keeps, forget_call-alters, then-keeps, raises-keeps)
 
   pub call_gone-keeps : (p : Image) (c : Call) → Keeps R (call_gone p c)
   unfolding call_gone
@@ -85,21 +86,21 @@ module _ {R : StepRelation} {Q : MoveRelation} (moves : Moves R Q) where
   unfolding call_runs
   call_runs-keeps p o c = search (begin_action_on-keeps, then-keeps, serve_call-keeps, nothing-keeps)
 
-  pub call_without_room-keeps : (p : Image) (o : ObjectNo) (c : Call) → Keeps R (call_without_room p o c)
+  pub call_without_room-keeps : (o : ObjectNo) (c : Call) → Keeps R (call_without_room o c)
   unfolding call_without_room
-  call_without_room-keeps p o c = search (says-keeps, then-keeps, end_at_once-keeps) depth 10
+  call_without_room-keeps o c = search (says-keeps, then-keeps, end_at_once-keeps) depth 10
 
   pub call_runs_if_room-keeps : (p : Image) (o : ObjectNo) (c : Call) → Keeps R (call_runs_if_room p o c)
   unfolding call_runs_if_room
-  call_runs_if_room-keeps p o c = looks-keeps moves _ (λ w. branch-keeps moves (has_room_for_action p w c) (call_runs p o c) (call_without_room p o c) (search (call_runs-keeps)) (search (call_without_room-keeps)))
+  call_runs_if_room-keeps p o c = looks-keeps moves _ (λ w. branch-keeps moves (has_room_for_action p w c) (call_runs p o c) (call_without_room o c) (search (call_runs-keeps)) (search (call_without_room-keeps)))
 
   pub call_passes-keeps : (p : Image) (o : ObjectNo) (c : Call) → Keeps R (call_passes p o c)
   unfolding call_passes
   call_passes-keeps p o c = search (says-keeps, then-keeps, enqueue-keeps, not_accepted-keeps) depth 7
 
-  pub call_refused-keeps : (p : Image) (o : ObjectNo) (c : Call) → Keeps R (call_refused p o c)
+  pub call_refused-keeps : (o : ObjectNo) (c : Call) → Keeps R (call_refused o c)
   unfolding call_refused
-  call_refused-keeps p o c = search (says-keeps, then-keeps, end_at_once-keeps) depth 6
+  call_refused-keeps o c = search (says-keeps, then-keeps, end_at_once-keeps) depth 6
 
   pub call_closed-keeps : (p : Image) (o : ObjectNo) (c : Call) (test : Bool) → Keeps R (call_closed p o c test)
   unfolding call_closed
@@ -120,7 +121,7 @@ module _ {R : StepRelation} {Q : MoveRelation} (moves : Moves R Q) where
   call_owner-keeps p c (owned_by.Task t) = search (call_task-keeps)
   call_owner-keeps p c (owned_by.Object o) = search (call_object-keeps)
 
-  pub call_named-keeps : (p : Image) (t : TaskNo) (kind : CallKind) (s : StatementNo) (n : NamedCall) → Keeps R (call_named p t kind s n)
+  pub call_named-keeps : (p : Image) (t : TaskNo) (kind : CallKind) (s : StatementNo) (n : EntryCallNamed) → Keeps R (call_named p t kind s n)
   unfolding call_named
   call_named-keeps p t kind s n = search (sees-keeps, given-keeps, call_owner-keeps) depth 6
 
@@ -145,14 +146,14 @@ module _ {R : StepRelation} {Q : MoveRelation} (moves : Moves R Q) where
   unfolding trigger_delay
   trigger_delay-from p name s trigger m false w is = keeps-from moves _ w (search (goes-keeps))
   trigger_delay-from p name s trigger m true w is =
-      with_room-from moves p name 1 0 _ w
+      with_room-from moves name 1 0 _ w
       (goes_then-from moves name (next_of p s) _ w
       (opens_until p name s m _ (later_behind (edit_top name (goes_on (next_of p s))) w m (edit_top-alters at_once name (goes_on (next_of p s))) is)))
 
   pub async_delay-keeps : (p : Image) (name : Who) (s trigger : StatementNo) → Keeps R (async_delay p name s trigger)
   unfolding async_delay
   async_delay-keeps p name s trigger =
-      looks-from moves _ (λ w. raise_if-from moves p name _ _ _ w (given-from moves p Own name _ _ w (λ m. trigger_delay-from p name s trigger m (int_lt (pos w.time) m) w refl)))
+      looks-from moves _ (λ w. raise_if-from moves name _ _ _ w (given-from moves Own name _ _ w (λ m. trigger_delay-from p name s trigger m (int_lt (pos w.time) m) w refl)))
 
   pub async_by_trigger-keeps : (p : Image) (name : Who) (s trigger : StatementNo) (form : StatementForm) → Keeps R (async_by_trigger p name s trigger form)
   unfolding async_by_trigger

@@ -40,13 +40,13 @@ module _ {R : StepRelation} {Q : MoveRelation} (moves : Moves R Q) where
   unfolding leaves
   leaves-keeps name leaving = search (changes-keeps, edit_top-alters)
 
-  pub raises-keeps : (p : Image) (part : Part) (name : Who) (e : Raised) → Keeps R (raises p part name e)
+  pub raises-keeps : (part : Part) (name : Who) (e : Raised) → Keeps R (raises part name e)
   unfolding raises
-  raises-keeps p part name e = search (says-keeps, then-keeps, leaves-keeps)
+  raises-keeps part name e = search (says-keeps, then-keeps, leaves-keeps)
 
   pub open_handled-keeps : (p : Image) (part : Part) (name : Who) (s : StatementNo) (form : StatementForm) → Keeps R (open_handled p part name s form)
   unfolding open_handled
-  open_handled-keeps p part name s (form.Handled handlers first) = looks-keeps moves _ (λ w. branch-keeps moves (has_room w name 1 0) (goes name (next_of p s) ▷ changes (push name (new_frame (Handled s) (Some first)))) (raises p part name exception.Storage) (search (goes-keeps, then-keeps, changes-keeps, push-alters)) (search (raises-keeps)))
+  open_handled-keeps p part name s (form.Handled handlers first) = looks-keeps moves _ (λ w. branch-keeps moves (has_room w name 1 0) (goes name (next_of p s) ▷ changes (push name (new_frame (Handled s) (Some first)))) (raises part name exception.Storage) (search (goes-keeps, then-keeps, changes-keeps, push-alters)) (search (raises-keeps)))
   open_handled-keeps p part name s _ = search (nothing-keeps)
 
   pub open_at-keeps : (p : Image) (part : Part) (name : Who) (next : Option StatementNo) → Keeps R (open_at p part name next)
@@ -75,19 +75,19 @@ module _ {R : StepRelation} {Q : MoveRelation} (moves : Moves R Q) where
   pass_on-keeps p name how.Abort = search (leaves-keeps)
   pass_on-keeps p name how.Terminate = search (leaves-keeps)
 
-  pub given-keeps : {X : Type 0} (p : Image) (part : Part) (name : Who) (result : Result X Raised) (f : X → Step) → ((x : X) → Keeps R (f x)) → Keeps R (given p part name result f)
-  given-keeps p part name (Ok x) f k = k x
-  given-keeps p part name (Err e) f k = raises-keeps p part name e
+  pub given-keeps : {X : Type 0} (part : Part) (name : Who) (result : Result X Raised) (f : X → Step) → ((x : X) → Keeps R (f x)) → Keeps R (given part name result f)
+  given-keeps part name (Ok x) f k = k x
+  given-keeps part name (Err e) f k = raises-keeps part name e
 
   -- ---- from one world
 
-  pub given-from : {X : Type 0} (p : Image) (part : Part) (name : Who) (result : Result X Raised) (f : X → Step) (w : World) → ((x : X) → From R w (f x)) → From R w (given p part name result f)
-  given-from p part name (Ok x) f w k = k x
-  given-from p part name (Err e) f w k = keeps-from moves (raises p part name e) w (raises-keeps p part name e)
+  pub given-from : {X : Type 0} (part : Part) (name : Who) (result : Result X Raised) (f : X → Step) (w : World) → ((x : X) → From R w (f x)) → From R w (given part name result f)
+  given-from part name (Ok x) f w k = k x
+  given-from part name (Err e) f w k = keeps-from moves (raises part name e) w (raises-keeps part name e)
 
-  pub raise_if-from : (p : Image) (name : Who) (test : Bool) (e : Raised) (step : Step) (w : World) → From R w step → From R w (raise_if p name test e step)
-  raise_if-from p name true e step w k = keeps-from moves (raises p Own name e) w (raises-keeps p Own name e)
-  raise_if-from p name false e step w k = k
+  pub raise_if-from : (name : Who) (test : Bool) (e : Raised) (step : Step) (w : World) → From R w step → From R w (raise_if name test e step)
+  raise_if-from name true e step w k = keeps-from moves (raises Own name e) w (raises-keeps Own name e)
+  raise_if-from name false e step w k = k
 
   -- a step behind the going on
   pub goes_then-from : (name : Who) (onward : Option StatementNo) (g : Step) (w : World) → From R (edit_top name (goes_on onward) w) g → From R w (goes name onward ▷ g)
@@ -95,26 +95,26 @@ module _ {R : StepRelation} {Q : MoveRelation} (moves : Moves R Q) where
   goes_then-from name onward g w k = changes_then-from moves (edit_top name (goes_on onward)) g w (edit_top-alters name (goes_on onward) w) k
 
   -- the world that a value gives becomes the world
-  pub given_world-from : (p : Image) (part : Part) (name : Who) (result : Valued World) (f : World → Step) (w : World) → Gives R w result → ((next : World) → Keeps R (f next)) → From R w (given p part name result (λ next. changes (λ _. next) ▷ f next))
+  pub given_world-from : (part : Part) (name : Who) (result : Valued World) (f : World → Step) (w : World) → Gives R w result → ((next : World) → Keeps R (f next)) → From R w (given part name result (λ next. changes (λ _. next) ▷ f next))
   unfolding Gives
-  given_world-from p part name (Ok next) f w a k = changes_then-from moves (λ _. next) (f next) w a (keeps-from moves (f next) next (k next))
-  given_world-from p part name (Err e) f w a k = keeps-from moves (raises p part name e) w (raises-keeps p part name e)
+  given_world-from part name (Ok next) f w a k = changes_then-from moves (λ _. next) (f next) w a (keeps-from moves (f next) next (k next))
+  given_world-from part name (Err e) f w a k = keeps-from moves (raises part name e) w (raises-keeps part name e)
 
-  pub becomes-from : (p : Image) (part : Part) (name : Who) (result : Valued World) (w : World) → Gives R w result → From R w (given p part name result (λ next. changes (λ _. next)))
+  pub becomes-from : (part : Part) (name : Who) (result : Valued World) (w : World) → Gives R w result → From R w (given part name result (λ next. changes (λ _. next)))
   unfolding Gives
-  becomes-from p part name (Ok next) w a = changes-from moves (λ _. next) w a
-  becomes-from p part name (Err e) w a = keeps-from moves (raises p part name e) w (raises-keeps p part name e)
+  becomes-from part name (Ok next) w a = changes-from moves (λ _. next) w a
+  becomes-from part name (Err e) w a = keeps-from moves (raises part name e) w (raises-keeps part name e)
 
-  branch-from : (p : Image) (name : Who) (test : Bool) (e : Raised) (step : Step) (w : World) → From R w step → From R w (elim test as (λ _. Step) [ true ↦ step | false ↦ raises p Own name e ])
-  branch-from p name true e step w k = k
-  branch-from p name false e step w k = keeps-from moves (raises p Own name e) w (raises-keeps p Own name e)
+  branch-from : (name : Who) (test : Bool) (e : Raised) (step : Step) (w : World) → From R w step → From R w (elim test as (λ _. Step) [ true ↦ step | false ↦ raises Own name e ])
+  branch-from name true e step w k = k
+  branch-from name false e step w k = keeps-from moves (raises Own name e) w (raises-keeps Own name e)
 
-  pub with_room-from : (p : Image) (name : Who) (marks cells : ℕ) (step : Step) (w : World) → From R w step → From R w (with_room p name marks cells step)
-  with_room-from p name marks cells step w k = looks_at-from moves (λ v. elim (has_room v name marks cells) as (λ _. Step) [ true ↦ step | false ↦ raises p Own name exception.Storage ]) w (branch-from p name (has_room w name marks cells) exception.Storage step w k)
+  pub with_room-from : (name : Who) (marks cells : ℕ) (step : Step) (w : World) → From R w step → From R w (with_room name marks cells step)
+  with_room-from name marks cells step w k = looks_at-from moves (λ v. elim (has_room v name marks cells) as (λ _. Step) [ true ↦ step | false ↦ raises Own name exception.Storage ]) w (branch-from name (has_room w name marks cells) exception.Storage step w k)
 
-  pub raise_if-keeps : (p : Image) (name : Who) (test : Bool) (e : Raised) (step : Step) → Keeps R step → Keeps R (raise_if p name test e step)
-  raise_if-keeps p name true e step kept = search (raises-keeps)
-  raise_if-keeps p name false e step kept = search
+  pub raise_if-keeps : (name : Who) (test : Bool) (e : Raised) (step : Step) → Keeps R step → Keeps R (raise_if name test e step)
+  raise_if-keeps name true e step kept = search (raises-keeps)
+  raise_if-keeps name false e step kept = search
 
-  pub with_room-keeps : (p : Image) (name : Who) (marks cells : ℕ) (step : Step) → Keeps R step → Keeps R (with_room p name marks cells step)
-  with_room-keeps p name marks cells step kept = looks-keeps moves _ (λ w. branch-keeps moves (has_room w name marks cells) step (raises p Own name exception.Storage) (search) (search (raises-keeps)))
+  pub with_room-keeps : (name : Who) (marks cells : ℕ) (step : Step) → Keeps R step → Keeps R (with_room name marks cells step)
+  with_room-keeps name marks cells step kept = looks-keeps moves _ (λ w. branch-keeps moves (has_room w name marks cells) step (raises Own name exception.Storage) (search) (search (raises-keeps)))

@@ -1,6 +1,8 @@
 -- Events, timers, budgets, interrupts and releases: each step keeps a relation that its parts keep.
 use Rattle.std.specs.Prelude.{ℕ, ◌+◌, ◌-◌, ℤ, pos, int_lt, Bool, true, false, cond, Option, Some, None}
 use Rattle.ann_base.specs.declared.identities.TaskNo.{TaskNo}
+use Rattle.profile_machine.specs.declared.world.objects.Entering.{Entering}
+use Rattle.profile_machine.specs.declared.world.objects.Entering.TheVariants as entering_is
 use Rattle.profile_machine.specs.declared.world.lines.Line.TheVariants as line
 use Rattle.trace_text.specs.declared.events.Who.{Who}
 use Rattle.trace_text.specs.declared.events.Who.TheVariants as who
@@ -29,7 +31,6 @@ use Rattle.profile_machine.specs.Tasks.{task_of, edit_task}
 use Rattle.profile_machine.specs.Frames.{has_room}
 use Rattle.profile_machine.specs.Values.{Seen}
 use Rattle.profile_machine.specs.CallEnds.{store}
-use Rattle.profile_machine.specs.Protected.{Entering, same_object_again, above_ceiling, held_by_another, let_inside}
 use Rattle.profile_machine.specs.Serving.{end_release}
 use Rattle.profile_machine.specs.Handlers.{add_release, says_release, wake_agent, release, with_room_for_release, scope_size_of, begin_handler, begin_handler_if_room, enter_handler, call_handler, interrupt, setting_of, answer, cancel_event_setting, appoint_event, event_set_to, set_event, cancel_event, clear_timer, with_timer_set, timer_set_beyond, timer_set_to, set_timer, cancel_timer, edit_budget, change_member, add_member, remove_member, fill_budget, replenish, add_to_budget, set_budget, cancel_budget, clock_risen, due_by_tick, charge_budget, timers_reached, quantum_spent_by, charge_clock, charge_group, charge_task, charge}
 use Rattle.std.proofs.Common.{◌≡◌, refl}
@@ -50,9 +51,9 @@ module _ {R : StepRelation} {Q : MoveRelation} (moves : Moves R Q) where
   unfolding Alters
   add_release-alters h argument w = moves.releases h argument w
 
-  says_release-keeps : (p : Image) (part : Part) (h : HandlerOf) → Keeps R (says_release p part h)
+  says_release-keeps : (part : Part) (h : HandlerOf) → Keeps R (says_release part h)
   unfolding says_release
-  says_release-keeps p part h = looks-keeps moves _ (λ w. says-keeps moves part (line.Release w.drawn.releases h))
+  says_release-keeps part h = looks-keeps moves _ (λ w. says-keeps moves part (line.Release w.drawn.releases h))
 
   pub wake_agent-keeps : (p : Image) (part : Part) (state : State) → Keeps R (wake_agent p part state)
   unfolding wake_agent
@@ -64,8 +65,8 @@ module _ {R : StepRelation} {Q : MoveRelation} (moves : Moves R Q) where
   unfolding release
   release-keeps p part h argument = search (changes-keeps, add_release-alters, then-keeps, says_release-keeps, looks-keeps, wake_agent-keeps) depth 6
 
-  pub with_room_for_release-keeps : (p : Image) (name : Who) (needed : Bool) (step : Step) → Keeps R step → Keeps R (with_room_for_release p name needed step)
-  with_room_for_release-keeps p name needed step kept = search (looks-keeps, raise_if-keeps)
+  pub with_room_for_release-keeps : (name : Who) (needed : Bool) (step : Step) → Keeps R step → Keeps R (with_room_for_release name needed step)
+  with_room_for_release-keeps name needed step kept = search (looks-keeps, raise_if-keeps)
 
   pub begin_handler-keeps : (p : Image) (r : Release) → Keeps R (begin_handler p r)
   unfolding begin_handler
@@ -73,14 +74,14 @@ module _ {R : StepRelation} {Q : MoveRelation} (moves : Moves R Q) where
 
   pub begin_handler_if_room-keeps : (p : Image) (r : Release) → Keeps R (begin_handler_if_room p r)
   unfolding begin_handler_if_room
-  begin_handler_if_room-keeps p r = looks-keeps moves _ (λ w. branch-keeps moves (has_room w who.Agent (1 + marks_of p (subprogram_of p r.handler.procedure).scope) (scope_size_of p r.handler.procedure)) (begin_handler p r) (end_release p r.number) (search (begin_handler-keeps)) (search (end_release-keeps)))
+  begin_handler_if_room-keeps p r = looks-keeps moves _ (λ w. branch-keeps moves (has_room w who.Agent (1 + marks_of p (subprogram_of p r.handler.procedure).scope) (scope_size_of p r.handler.procedure)) (begin_handler p r) (end_release r.number) (search (begin_handler-keeps)) (search (end_release-keeps)))
 
   pub enter_handler-keeps : (p : Image) (r : Release) (entering : Entering) → Keeps R (enter_handler p r entering)
   unfolding enter_handler
-  enter_handler-keeps p r same_object_again = search (end_release-keeps)
-  enter_handler-keeps p r above_ceiling = search (end_release-keeps)
-  enter_handler-keeps p r held_by_another = search (find_held-keeps)
-  enter_handler-keeps p r let_inside = search (begin_handler_if_room-keeps)
+  enter_handler-keeps p r entering_is.SameObject = search (end_release-keeps)
+  enter_handler-keeps p r entering_is.AboveCeiling = search (end_release-keeps)
+  enter_handler-keeps p r entering_is.Held = search (find_held-keeps)
+  enter_handler-keeps p r entering_is.Inside = search (begin_handler_if_room-keeps)
 
   pub call_handler-keeps : (p : Image) (r : Release) → Keeps R (call_handler p r)
   unfolding call_handler
@@ -95,7 +96,7 @@ module _ {R : StepRelation} {Q : MoveRelation} (moves : Moves R Q) where
 
   pub answer-keeps : (p : Image) (name : Who) (v : Variable) (b : Bool) → Keeps R (answer p name v b)
   unfolding answer
-  answer-keeps p name v b = looks-from moves _ (λ w. becomes-from moves p Own name (store p v (Truth b) w) w (store-gives moves p v (Truth b) w))
+  answer-keeps p name v b = looks-from moves _ (λ w. becomes-from moves Own name (store p v (Truth b) w) w (store-gives moves p v (Truth b) w))
 
   pub cancel_event_setting-alters : (e : ℕ) → Alters R (cancel_event_setting e)
   cancel_event_setting-alters e = search (drop_appointment-alters)

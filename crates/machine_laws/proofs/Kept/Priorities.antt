@@ -83,13 +83,13 @@ module _ {R : StepRelation} {Q : MoveRelation} (moves : Moves R Q) where
   unfolding set_deferred
   set_deferred-keeps p name = search (looks-keeps, when-keeps, take_base-keeps, then-keeps, take_deadline-keeps)
 
-  pub defer_base-keeps : (p : Image) (name : Who) (level : ℕ) → Keeps R (defer_base p name level)
+  pub defer_base-keeps : (name : Who) (level : ℕ) → Keeps R (defer_base name level)
   unfolding defer_base
-  defer_base-keeps p name level = search (changes-keeps, edit_task-alters)
+  defer_base-keeps name level = search (changes-keeps, edit_task-alters)
 
   pub set_or_defer_base-keeps : (p : Image) (actor name : Who) (level : ℕ) → Keeps R (set_or_defer_base p actor name level)
   unfolding set_or_defer_base
-  set_or_defer_base-keeps p actor name level = looks-keeps moves _ (λ w. branch-keeps moves (in_protected w name) (defer_base p name level) (set_base p (part_of actor name) (placing_of actor name) name level) (search (defer_base-keeps)) (search (set_base-keeps)))
+  set_or_defer_base-keeps p actor name level = looks-keeps moves _ (λ w. branch-keeps moves (in_protected w name) (defer_base name level) (set_base p (part_of actor name) (placing_of actor name) name level) (search (defer_base-keeps)) (search (set_base-keeps)))
 
   pub set_base_of-keeps : (p : Image) (actor : Who) (s : StatementNo) (level : ℕ) (t : Option world.Task) → Keeps R (set_base_of p actor s level t)
   unfolding set_base_of
@@ -107,8 +107,8 @@ module _ {R : StepRelation} {Q : MoveRelation} (moves : Moves R Q) where
   pub set_quantum-keeps : (p : Image) (name : Who) (s : StatementNo) (level quantum : ExprNo) → Keeps R (set_quantum p name s level quantum)
   unfolding set_quantum
   set_quantum-keeps p name s level quantum =
-      sees-keeps moves p name _ (λ q. given-keeps moves p Own name (value q level) _ (λ v. given-keeps moves p Own name (moment q quantum) _ (λ n.
-      given-keeps moves p Own name (priority_in_range p p.policies.last_priority (whole_in v)) _ (λ l. given-keeps moves p Own name (quantum_of p l n) _ (λ ticks.
+      sees-keeps moves p name _ (λ q. given-keeps moves Own name (value q level) _ (λ v. given-keeps moves Own name (moment q quantum) _ (λ n.
+      given-keeps moves Own name (priority_in_range p.policies.last_priority (whole_in v)) _ (λ l. given-keeps moves Own name (quantum_of p l n) _ (λ ticks.
       then-keeps moves (goes name (next_of p s)) _ (goes-keeps moves name (next_of p s)) (set_level-keeps l ticks))))))
 
   pub defer_deadline-keeps : (name : Who) (d : ℤ) → Keeps R (defer_deadline name d)

@@ -3,6 +3,9 @@ use Rattle.std.specs.Prelude.{ℕ, List, Option, Some, None}
 use Rattle.ann_base.specs.declared.exceptions.Raised.TheVariants as exception
 use Rattle.ann_base.specs.declared.identities.ObjectNo.{ObjectNo}
 use Rattle.ann_base.specs.declared.identities.CallNo.{CallNo}
+use Rattle.profile_machine.specs.declared.world.objects.Entering.{Entering}
+use Rattle.profile_machine.specs.declared.world.objects.Entering.TheVariants as entering_is
+use Rattle.profile_machine.specs.declared.world.scopes.Handed.{Handed}
 use Rattle.profile_machine.specs.declared.world.lines.Line.TheVariants as line
 use Rattle.profile_machine.specs.declared.world.lines.MeetingEnd.TheVariants as meeting
 use Rattle.trace_text.specs.declared.events.Mode.{Mode}
@@ -18,8 +21,7 @@ use Rattle.profile_machine.specs.declared.world.marks.ProtectedMark.{ProtectedMa
 use Rattle.profile_machine.specs.declared.world.calls.Call.{Call}
 use Rattle.profile_machine.specs.declared.world.lines.Part.{Part}
 use Rattle.profile_machine.specs.Steps.{Step, says, ◌▷◌}
-use Rattle.profile_machine.specs.Subprograms.{Handed}
-use Rattle.profile_machine.specs.Protected.{find_held, enter_or, where_let_inside, open_action, begin_action_on, begin_operation, call_operation_of, call_operation, begin_own_operation, call_own_operation, edit_top_protected, begin_call, body_opens, has_room_for_body, serve_call, Entering, same_object_again, above_ceiling, held_by_another, let_inside}
+use Rattle.profile_machine.specs.Protected.{find_held, enter_or, where_let_inside, open_action, begin_action_on, begin_operation, call_operation_of, call_operation, begin_own_operation, call_own_operation, edit_top_protected, begin_call, body_opens, has_room_for_body, serve_call}
 use Rattle.machine_laws.proofs.Moves.{StepRelation, MoveRelation, Moves}
 use Rattle.machine_laws.proofs.Kept.Combinators.{Keeps, Alters, branch-keeps, changes-keeps, looks-keeps, says-keeps, sees-keeps, then-keeps}
 use Rattle.machine_laws.proofs.Kept.Dispatching.{to_tail-keeps}
@@ -35,10 +37,10 @@ module _ {R : StepRelation} {Q : MoveRelation} (moves : Moves R Q) where
   find_held-keeps p name o mode = search (says-keeps, then-keeps, to_tail-keeps)
 
   pub enter_or-keeps : (p : Image) (name : Who) (o : ObjectNo) (mode : Mode) (step : Step) (entering : Entering) → Keeps R step → Keeps R (enter_or p name o mode step entering)
-  enter_or-keeps p name o mode step same_object_again kept = search (raises-keeps)
-  enter_or-keeps p name o mode step above_ceiling kept = search (raises-keeps)
-  enter_or-keeps p name o mode step held_by_another kept = search (find_held-keeps)
-  enter_or-keeps p name o mode step let_inside kept = search
+  enter_or-keeps p name o mode step entering_is.SameObject kept = search (raises-keeps)
+  enter_or-keeps p name o mode step entering_is.AboveCeiling kept = search (raises-keeps)
+  enter_or-keeps p name o mode step entering_is.Held kept = search (find_held-keeps)
+  enter_or-keeps p name o mode step entering_is.Inside kept = search
 
   pub where_let_inside-keeps : (p : Image) (name : Who) (o : ObjectNo) (mode : Mode) (step : Step) → Keeps R step → Keeps R (where_let_inside p name o mode step)
   where_let_inside-keeps p name o mode step kept = search (looks-keeps, enter_or-keeps)

@@ -4,6 +4,7 @@ use Rattle.ann_base.specs.declared.identities.CallNo.{CallNo}
 use Rattle.ann_base.specs.declared.identities.TaskNo.{TaskNo}
 use Rattle.trace_text.specs.declared.events.Who.{Who}
 use Rattle.trace_text.specs.declared.events.Who.TheVariants as who
+use Rattle.profile_machine.specs.declared.world.calls.DelayMoment.{DelayMoment}
 use Rattle.profile_machine.specs.declared.image.Image.{Image}
 use Rattle.profile_machine.specs.declared.numbers.EntryNo.{EntryNo}
 use Rattle.profile_machine.specs.declared.numbers.StatementNo.{StatementNo}
@@ -29,7 +30,7 @@ use Rattle.profile_machine.specs.Scopes.{begin_scope, next_id, plainly, innermos
 use Rattle.profile_machine.specs.Appointments.{drop_delay}
 use Rattle.profile_machine.specs.Calls.{formals_count, parameters_of}
 use Rattle.profile_machine.specs.Serving.{with_values}
-use Rattle.profile_machine.specs.Rendezvous.{accept_scope, open_accept, has_room_for_accept, begin_accept, finish_without_room, accept_with_room, accept_call, meet_with_room, meet_without_room, meet, accept_or_wait, accept, accept_chosen, wait_at_select, appoint_delay, select_delay, select_wait, select_otherwise, select_by_call, select_open, selective_accept, gone_sent, meet_sent, arrive_at, arrive, finish_accept, finish_rendezvous, behind_accept, finished_call, end_in_accept, Moment}
+use Rattle.profile_machine.specs.Rendezvous.{accept_scope, open_accept, has_room_for_accept, begin_accept, finish_without_room, accept_with_room, accept_call, meet_with_room, meet_without_room, meet, accept_or_wait, accept, accept_chosen, wait_at_select, appoint_delay, select_delay, select_wait, select_otherwise, select_by_call, select_open, selective_accept, gone_sent, meet_sent, arrive_at, arrive, finish_accept, finish_rendezvous, behind_accept, finished_call, end_in_accept}
 use Rattle.std.proofs.Common.{◌≡◌, refl}
 use Rattle.machine_laws.proofs.Moves.{StepRelation, MoveRelation, Moves}
 use Rattle.machine_laws.proofs.Kept.Combinators.{Keeps, From, Alters, branch-keeps, changes-keeps, for_some-keeps, keeps-from, looks-from, looks-keeps, nothing-keeps, says-keeps, sees-keeps, then-from, then-keeps, unchanged-alters}
@@ -60,9 +61,9 @@ module _ {R : StepRelation} {Q : MoveRelation} (moves : Moves R Q) where
   unfolding begin_accept
   begin_accept-keeps p part name s c = search (begin_call-keeps, then-keeps, goes-keeps)
 
-  finish_without_room-keeps : (p : Image) (part : Part) (name : Who) (c : Call) → Keeps R (finish_without_room p part name c)
+  finish_without_room-keeps : (part : Part) (name : Who) (c : Call) → Keeps R (finish_without_room part name c)
   unfolding finish_without_room
-  finish_without_room-keeps p part name c = search (says-keeps)
+  finish_without_room-keeps part name c = search (says-keeps)
 
   accept_with_room-keeps : (p : Image) (name : Who) (s : StatementNo) (c : Call) (has_room : Bool) → Keeps R (accept_with_room p name s c has_room)
   unfolding accept_with_room
@@ -104,7 +105,7 @@ module _ {R : StepRelation} {Q : MoveRelation} (moves : Moves R Q) where
   appoint_delay-from (who.Task t) m w later = appoint-from moves (due_for.Delay t) m w later
   appoint_delay-from who.Agent m w later = keeps-from moves (changes (λ v. v)) w (changes-keeps moves (λ v. v) (unchanged-alters moves))
 
-  select_delay-from : (p : Image) (name : Who) (s : StatementNo) (accepts : List StatementNo) (m : Moment) (terminate test : Bool) (w : World) → int_le m.at (pos w.time) ≡ test → From R w (select_delay p name s accepts m terminate test)
+  select_delay-from : (p : Image) (name : Who) (s : StatementNo) (accepts : List StatementNo) (m : DelayMoment) (terminate test : Bool) (w : World) → int_le m.at (pos w.time) ≡ test → From R w (select_delay p name s accepts m terminate test)
   unfolding select_delay
   select_delay-from p name s accepts m terminate true w is = keeps-from moves _ w (search (goes-keeps))
   select_delay-from p name s accepts m terminate false w is =
@@ -113,22 +114,22 @@ module _ {R : StepRelation} {Q : MoveRelation} (moves : Moves R Q) where
       (appoint_delay-from name m.at _ (later_behind (edit_top name (goes_on (next_of p s))) w m.at (edit_top-alters at_once name (goes_on (next_of p s))) (is_later w.time m.at is)))
       (wait_at_select-keeps name accepts (Some m.delay) terminate))
 
-  pub select_wait-keeps : (p : Image) (name : Who) (s : StatementNo) (accepts : List StatementNo) (terminate : Bool) (moment : Option Moment) → Keeps R (select_wait p name s accepts terminate moment)
+  pub select_wait-keeps : (p : Image) (name : Who) (s : StatementNo) (accepts : List StatementNo) (terminate : Bool) (moment : Option DelayMoment) → Keeps R (select_wait p name s accepts terminate moment)
   unfolding select_wait
   select_wait-keeps p name s accepts terminate None = search (goes-keeps, then-keeps, wait_at_select-keeps)
   select_wait-keeps p name s accepts terminate (Some m) = looks-from moves _ (λ w. select_delay-from p name s accepts m terminate (int_le m.at (pos w.time)) w refl)
 
-  pub select_otherwise-keeps : (p : Image) (name : Who) (s : StatementNo) (kinds : List SelectKind) (m : Option Moment) (next : Option StatementNo) → Keeps R (select_otherwise p name s kinds m next)
+  pub select_otherwise-keeps : (p : Image) (name : Who) (s : StatementNo) (kinds : List SelectKind) (m : Option DelayMoment) (next : Option StatementNo) → Keeps R (select_otherwise p name s kinds m next)
   unfolding select_otherwise
   select_otherwise-keeps p name s kinds m (Some otherwise) = search (goes-keeps)
   select_otherwise-keeps p name s kinds m None = search (select_wait-keeps)
 
-  pub select_by_call-keeps : (p : Image) (name : Who) (s : StatementNo) (kinds : List SelectKind) (m : Option Moment) (otherwise : Option StatementNo) (c : Option CallNo) → Keeps R (select_by_call p name s kinds m otherwise c)
+  pub select_by_call-keeps : (p : Image) (name : Who) (s : StatementNo) (kinds : List SelectKind) (m : Option DelayMoment) (otherwise : Option StatementNo) (c : Option CallNo) → Keeps R (select_by_call p name s kinds m otherwise c)
   unfolding select_by_call
   select_by_call-keeps p name s kinds m otherwise (Some c) = search (accept_chosen-keeps)
   select_by_call-keeps p name s kinds m otherwise None = search (select_otherwise-keeps)
 
-  pub select_open-keeps : (p : Image) (name : Who) (s : StatementNo) (otherwise : Option StatementNo) (kinds : List SelectKind) (moments : List Moment) → Keeps R (select_open p name s otherwise kinds moments)
+  pub select_open-keeps : (p : Image) (name : Who) (s : StatementNo) (otherwise : Option StatementNo) (kinds : List SelectKind) (moments : List DelayMoment) → Keeps R (select_open p name s otherwise kinds moments)
   unfolding select_open
   select_open-keeps p name s otherwise kinds moments = search (raise_if-keeps, looks-keeps, select_by_call-keeps)
 

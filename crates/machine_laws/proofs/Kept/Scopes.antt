@@ -8,7 +8,8 @@ use Rattle.profile_machine.specs.declared.world.marks.Purpose.{Purpose}
 use Rattle.profile_machine.specs.declared.world.scopes.ScopeId.{ScopeId}
 use Rattle.profile_machine.specs.Program.{scope_of}
 use Rattle.profile_machine.specs.Frames.{push, new_frame}
-use Rattle.profile_machine.specs.Scopes.{edit_cells, write_cell, next_id, begin_scope, draw_region, region_of_next, new_scope_mark, open_scope, end_scope, Beginning}
+use Rattle.profile_machine.specs.declared.world.scopes.Beginning.{Beginning}
+use Rattle.profile_machine.specs.Scopes.{edit_cells, write_cell, next_id, begin_scope, draw_region, region_of_next, new_scope_mark, open_scope, end_scope}
 use Rattle.machine_laws.proofs.Moves.{StepRelation, MoveRelation, Moves}
 use Rattle.machine_laws.proofs.Kept.Combinators.{Alters}
 use Rattle.machine_laws.proofs.Kept.Frames.{push-alters}

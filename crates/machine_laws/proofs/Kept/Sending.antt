@@ -42,15 +42,15 @@ module _ {R : StepRelation} {Q : MoveRelation} (moves : Moves R Q) where
   appoint_timeout-from c None w later = keeps-from moves (changes (λ v. v)) w (changes-keeps moves (λ v. v) (unchanged-alters moves))
   appoint_timeout-from c (Some moment) w later = appoint-from moves (due_for.Timeout c) moment w (is_later w.time moment later)
 
-  pub wait_for_call-keeps : (p : Image) (c : Call) → Keeps R (wait_for_call p c)
+  pub wait_for_call-keeps : (c : Call) → Keeps R (wait_for_call c)
   unfolding wait_for_call
-  wait_for_call-keeps p c = search (block-keeps)
+  wait_for_call-keeps c = search (block-keeps)
 
   wait_or_cancel-from : (p : Image) (part : Part) (c : Call) (test : Bool) (w : World) → is_not_future w.time c.moment ≡ test → From R w (wait_or_cancel p part c test)
   unfolding wait_or_cancel
   wait_or_cancel-from p part c true w is = keeps-from moves (cancel_at_once p part c) w (cancel_at_once-keeps p part c)
   wait_or_cancel-from p part c false w is =
-      then-from moves (changes (appoint_timeout c.number c.moment)) (wait_for_call p c) w (appoint_timeout-from c.number c.moment w is) (wait_for_call-keeps p c)
+      then-from moves (changes (appoint_timeout c.number c.moment)) (wait_for_call c) w (appoint_timeout-from c.number c.moment w is) (wait_for_call-keeps c)
 
   pub not_accepted-keeps : (p : Image) (part : Part) (c : Call) (kind : CallKind) → Keeps R (not_accepted p part c kind)
   unfolding not_accepted
@@ -59,9 +59,9 @@ module _ {R : StepRelation} {Q : MoveRelation} (moves : Moves R Q) where
   not_accepted-keeps p part c call_kind.Timed = looks-from moves _ (λ w. wait_or_cancel-from p part c (is_not_future w.time c.moment) w refl)
   not_accepted-keeps p part c call_kind.Triggering = search (changes-keeps, open_abortable-alters)
 
-  pub send_on-keeps : (p : Image) (c : CallNo) (s : Sending) → Keeps R (send_on p c s)
+  pub send_on-keeps : (c : CallNo) (s : Sending) → Keeps R (send_on c s)
   unfolding send_on
-  send_on-keeps p c s = search (changes-keeps, edit_call-alters, then-keeps, with_call-keeps, says_call-keeps)
+  send_on-keeps c s = search (changes-keeps, edit_call-alters, then-keeps, with_call-keeps, says_call-keeps)
 
   pub cancel_sent-keeps : (p : Image) (c : Call) → Keeps R (cancel_sent p c)
   unfolding cancel_sent

@@ -35,9 +35,9 @@ module _ {R : StepRelation} {Q : MoveRelation} (moves : Moves R Q) where
   unfolding Alters
   serves_nothing-alters w = moves.has_served w
 
-  pub end_release-keeps : (p : Image) (n : ℕ) → Keeps R (end_release p n)
+  pub end_release-keeps : (n : ℕ) → Keeps R (end_release n)
   unfolding end_release
-  end_release-keeps p n = search (says-keeps, then-keeps, changes-keeps, serves_nothing-alters, looks-keeps, when-keeps, block-keeps) depth 8
+  end_release-keeps n = search (says-keeps, then-keeps, changes-keeps, serves_nothing-alters, looks-keeps, when-keeps, block-keeps) depth 8
 
   pub close_action-alters : (name : Who) (o : ObjectNo) → Alters R (close_action name o)
   close_action-alters name o = search (edit_object-alters)

@@ -44,7 +44,7 @@ module _ {R : StepRelation} {Q : MoveRelation} (moves : Moves R Q) where
   unfolding assign
   assign-keeps p name s target e =
       looks-from moves _ (λ w. let q = seen_by p w name in
-      given_world-from moves p Own name (variable q target >>= λ v. value q e >>= λ x. store p v x w) (λ _. goes name (next_of p s)) w
+      given_world-from moves Own name (variable q target >>= λ v. value q e >>= λ x. store p v x w) (λ _. goes name (next_of p s)) w
       (bind-gives moves (variable q target) (λ v. value q e >>= λ x. store p v x w) w (λ v. bind-gives moves (value q e) (λ x. store p v x w) w (λ x. store-gives moves p v x w)))
       (λ _. goes-keeps moves name (next_of p s)))
 
@@ -63,17 +63,17 @@ module _ {R : StepRelation} {Q : MoveRelation} (moves : Moves R Q) where
   unfolding assign_array
   assign_array-keeps p name s target source =
       looks-from moves _ (λ w.
-      given_world-from moves p Own name (array_copied p (seen_by p w name) target source) (λ _. goes name (next_of p s)) w
+      given_world-from moves Own name (array_copied p (seen_by p w name) target source) (λ _. goes name (next_of p s)) w
       (array_copied-gives p (seen_by p w name) target source) (λ _. goes-keeps moves name (next_of p s)))
 
   pub if_statement-keeps : (p : Image) (name : Who) (e : ExprNo) (first : StatementNo) (otherwise : Option StatementNo) → Keeps R (if_statement p name e first otherwise)
   unfolding if_statement
   if_statement-keeps p name e first otherwise = search (sees-keeps, given-keeps, goes-keeps) depth 6
 
-  go_to_alternative-keeps : (p : Image) (name : Who) (first : Option StatementNo) → Keeps R (go_to_alternative p name first)
+  go_to_alternative-keeps : (name : Who) (first : Option StatementNo) → Keeps R (go_to_alternative name first)
   unfolding go_to_alternative
-  go_to_alternative-keeps p name None = search (raises-keeps)
-  go_to_alternative-keeps p name (Some s) = search (goes-keeps)
+  go_to_alternative-keeps name None = search (raises-keeps)
+  go_to_alternative-keeps name (Some s) = search (goes-keeps)
 
   pub case_statement-keeps : (p : Image) (name : Who) (e : ExprNo) (alternatives : List CaseAlternative) → Keeps R (case_statement p name e alternatives)
   unfolding case_statement
@@ -108,7 +108,7 @@ module _ {R : StepRelation} {Q : MoveRelation} (moves : Moves R Q) where
   unfolding for_bounds
   for_bounds-keeps p name d reverse low high turn =
       looks-from moves _ (λ w.
-      given_world-from moves p Own name (bounds_set (seen_by p w name) d reverse low high) (λ _. goes name (Some turn)) w
+      given_world-from moves Own name (bounds_set (seen_by p w name) d reverse low high) (λ _. goes name (Some turn)) w
       (bounds_set-gives (seen_by p w name) d reverse low high) (λ _. goes-keeps moves name (Some turn)))
 
   pub first_turn-keeps : (p : Image) (name : Who) (s : StatementNo) (d : DeclNo) (reverse : Bool) (body : StatementNo) → Keeps R (first_turn p name s d reverse body)

@@ -2,6 +2,7 @@
 use Rattle.std.specs.Prelude.{List, [], ◌∷◌, Option, Some, None, Ok}
 use Rattle.ann_base.specs.declared.identities.CallNo.{CallNo}
 use Rattle.trace_text.specs.declared.events.Who.{Who}
+use Rattle.profile_machine.specs.declared.world.scopes.Handed.{Handed}
 use Rattle.profile_machine.specs.declared.image.Image.{Image}
 use Rattle.profile_machine.specs.declared.numbers.ExprNo.{ExprNo}
 use Rattle.profile_machine.specs.declared.numbers.StatementNo.{StatementNo}
@@ -19,11 +20,12 @@ use Rattle.profile_machine.specs.Statements.{becomes}
 use Rattle.profile_machine.specs.declared.world.lines.Part.TheVariants.{Own}
 use Rattle.profile_machine.specs.Steps.{Step}
 use Rattle.profile_machine.specs.Frames.{leaves}
-use Rattle.profile_machine.specs.Scopes.{home, write_cell, Beginning}
+use Rattle.profile_machine.specs.declared.world.scopes.Beginning.{Beginning}
+use Rattle.profile_machine.specs.Scopes.{home, write_cell}
 use Rattle.profile_machine.specs.Operators.{◌>>=◌, checked}
 use Rattle.profile_machine.specs.Values.{Seen, or_misfit}
 use Rattle.profile_machine.specs.CallEnds.{store}
-use Rattle.profile_machine.specs.Subprograms.{begin_body, handing, call_subprogram, result_place, result_kept, return_result, return_value, drop_sending, return, cell_in, copy_parameters, last_cell, store_result, end_subprogram, Handed}
+use Rattle.profile_machine.specs.Subprograms.{begin_body, handing, call_subprogram, result_place, result_kept, return_result, return_value, drop_sending, return, cell_in, copy_parameters, last_cell, store_result, end_subprogram}
 use Rattle.std.specs.Prelude.{slice_set}
 use Rattle.profile_machine.specs.Values.{seen_by}
 use Rattle.machine_laws.proofs.Moves.{StepRelation, MoveRelation, Moves}
@@ -58,7 +60,7 @@ module _ {R : StepRelation} {Q : MoveRelation} (moves : Moves R Q) where
   unfolding return_result
   return_result-keeps p name f v =
       looks-from moves _ (λ w.
-      given_world-from moves p Own name (result_kept (seen_by p w name) f v) (λ _. leaves name how.Return) w
+      given_world-from moves Own name (result_kept (seen_by p w name) f v) (λ _. leaves name how.Return) w
       (result_kept-gives (seen_by p w name) f v) (λ _. leaves-keeps moves name how.Return))
 
   pub return_value-keeps : (p : Image) (name : Who) (f : SubprogramNo) (e : ExprNo) → Keeps R (return_value p name f e)
@@ -77,14 +79,14 @@ module _ {R : StepRelation} {Q : MoveRelation} (moves : Moves R Q) where
   copy_parameters-keeps p name cells [] step k = k
   copy_parameters-keeps p name cells (b ∷ bs) step k =
       looks-from moves _ (λ w.
-      given_world-from moves p Own name (store p b.target (cell_in cells b.place) w) (λ _. copy_parameters p name cells bs step) w
+      given_world-from moves Own name (store p b.target (cell_in cells b.place) w) (λ _. copy_parameters p name cells bs step) w
       (store-gives moves p b.target (cell_in cells b.place) w) (λ _. copy_parameters-keeps p name cells bs step k))
 
   pub store_result-keeps : (p : Image) (name : Who) (cells : List Value) (to : ResultTo) → Keeps R (store_result p name cells to)
   unfolding store_result becomes
   store_result-keeps p name cells bound_for.Nowhere = search (nothing-keeps)
   store_result-keeps p name cells (bound_for.Variable v) =
-      looks-from moves _ (λ w. becomes-from moves p Own name (store p v (last_cell cells) w) w (store-gives moves p v (last_cell cells) w))
+      looks-from moves _ (λ w. becomes-from moves Own name (store p v (last_cell cells) w) w (store-gives moves p v (last_cell cells) w))
   store_result-keeps p name cells (bound_for.Return f) = search (return_result-keeps)
 
   pub end_subprogram-keeps : (p : Image) (name : Who) (cells : List Value) (back : List CopyBack) (to : ResultTo) (leaving : Leaving) → Keeps R (end_subprogram p name cells back to leaving)

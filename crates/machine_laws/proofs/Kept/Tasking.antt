@@ -45,9 +45,9 @@ use Rattle.machine_laws.proofs.Kept.Controlled.{edit_top_scope-alters, finalize-
 use Rattle.machine_laws.proofs.Kept.Declarations.{set_thing-alters}
 
 module _ {R : StepRelation} {Q : MoveRelation} (moves : Moves R Q) where
-  says_created-keeps : (p : Image) (d : DeclNo) (t : world.Task) → Keeps R (says_created p d t)
+  says_created-keeps : (d : DeclNo) (t : world.Task) → Keeps R (says_created d t)
   unfolding says_created
-  says_created-keeps p d t = looks-keeps moves _ (λ w. says-keeps moves Own (line.New (created.Task (record { 0 = w.drawn.tasks - 1 })) (Some d) t.base))
+  says_created-keeps d t = looks-keeps moves _ (λ w. says-keeps moves Own (line.New (created.Task (record { 0 = w.drawn.tasks - 1 })) (Some d) t.base))
 
   -- the new task, behind its creator's going on
   added_behind : (onward : Option StatementNo) (name : Who) (t : world.Task) (w : World) → t.who ≡ who.Task (record { 0 = w.drawn.tasks }) → R (edit_top name (goes_on onward) w) [] (add_task t (edit_top name (goes_on onward) w))
@@ -61,7 +61,7 @@ module _ {R : StepRelation} {Q : MoveRelation} (moves : Moves R Q) where
   unfolding create_task
   create_task-from p name s d id t w a =
       goes_then-from moves name (next_of p s) _ w
-      (then-from moves (changes (add_task t)) (for_some id (name_task p d) ▷ says_created p d t) (edit_top name (goes_on (next_of p s)) w)
+      (then-from moves (changes (add_task t)) (for_some id (name_task p d) ▷ says_created d t) (edit_top name (goes_on (next_of p s)) w)
       (changes-from moves (add_task t) (edit_top name (goes_on (next_of p s)) w) (added_behind (next_of p s) name t w a))
       (search (then-keeps, for_some-keeps, looks-keeps, changes-keeps, set_thing-alters, says_created-keeps) depth 8))
 
@@ -69,9 +69,9 @@ module _ {R : StepRelation} {Q : MoveRelation} (moves : Moves R Q) where
   unfolding create
   create-keeps p name s d part =
       looks-from moves _ (λ w. let q = seen_by p w name in
-      raise_if-from moves p name (in_protected w name || is_deferred w name) exception.Program _ w
-      (raise_if-from moves p name (leb 256 (length w.tasks)) exception.Storage _ w
-      (given-from moves p Own name (optional_span q (task_unit_of p (unit_of_declaration p d)).relative_deadline) _ w (λ span.
+      raise_if-from moves name (in_protected w name || is_deferred w name) exception.Program _ w
+      (raise_if-from moves name (leb 256 (length w.tasks)) exception.Storage _ w
+      (given-from moves Own name (optional_span q (task_unit_of p (unit_of_declaration p d)).relative_deadline) _ w (λ span.
       create_task-from p name s d (home w (declaration_of p d).scope q.within) (created_task q d (unit_of_declaration p d) part span w.drawn.tasks) w refl))))
 
   pub fall_from-keeps : (p : Image) (name : Who) (before : World) → Keeps R (fall_from p name before)
@@ -95,11 +95,11 @@ module _ {R : StepRelation} {Q : MoveRelation} (moves : Moves R Q) where
   unfolding activate_one
   activate_one-keeps p activator level t = looks-keeps moves _ (λ w. branch-keeps moves (has_room w t.who 1 (scope_of p (unit_of_task p t).scope).size) (begin_task p activator level t) (fail_to_begin p activator t) (search (begin_task-keeps)) (search (fail_to_begin-keeps)))
 
-  pub await_group-keeps : (p : Image) (name : Who) (begins failed : Bool) → Keeps R (await_group p name begins failed)
+  pub await_group-keeps : (name : Who) (begins failed : Bool) → Keeps R (await_group name begins failed)
   unfolding await_group
-  await_group-keeps p name true failed = search (block-keeps)
-  await_group-keeps p name false true = search (raises-keeps)
-  await_group-keeps p name false false = search (nothing-keeps)
+  await_group-keeps name true failed = search (block-keeps)
+  await_group-keeps name false true = search (raises-keeps)
+  await_group-keeps name false false = search (nothing-keeps)
 
   pub activate-keeps : (p : Image) (name : Who) (s : StatementNo) (part : ℕ) → Keeps R (activate p name s part)
   unfolding activate
@@ -143,9 +143,9 @@ module _ {R : StepRelation} {Q : MoveRelation} (moves : Moves R Q) where
   behind_scope-keeps p name (opened_for.EntryBody c) cells leaving = search (end_body-keeps, end_body_of_entry-keeps)
   behind_scope-keeps p name opened_for.Task cells leaving = search (end_task-keeps)
 
-  pub says_left-keeps : (p : Image) (name : Who) (m : ScopeMark) (leaving : Leaving) → Keeps R (says_left p name m leaving)
+  pub says_left-keeps : (name : Who) (m : ScopeMark) (leaving : Leaving) → Keeps R (says_left name m leaving)
   unfolding says_left
-  says_left-keeps p name m leaving = search (for_some-keeps, says-keeps, then-keeps, when-keeps) depth 7
+  says_left-keeps name m leaving = search (for_some-keeps, says-keeps, then-keeps, when-keeps) depth 7
 
   pub end_of_scope-keeps : (p : Image) (name : Who) (m : ScopeMark) (leaving : Leaving) → Keeps R (end_of_scope p name m leaving)
   unfolding end_of_scope

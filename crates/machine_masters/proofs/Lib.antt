@@ -1,0 +1,6 @@
+mod LastLemmas
+mod MasterLemmas
+mod PlaceLemmas
+mod QuantumLemmas
+mod QueuedLemmas
+mod StepLemmas

@@ -1,0 +1,78 @@
+//! Regions, who owns them, and whether they are being left (ISO/IEC 8652:2012, 7.6.1, 9.3).
+ghost use Rattle.std.specs.Prelude.{◌≡◌, option_copied};
+ghost use Rattle.std.specs.List.{list_any};
+ghost use Rattle.profile_machine.specs.Masters.{region_of_mark, has_region, owns, owner_of, is_scope_being_left, is_being_left_in, is_region_being_left};
+
+use ann_base::RegionNo;
+use profile_machine::world::{Frame, Mark, Task, World};
+use world_tables::List;
+
+/// The region of a mark, which the scope of a master has.
+pub fn region_of_mark(mark: &Mark) -> Option<RegionNo>
+    ensures { result ≡ region_of_mark mark.now }
+{
+    match mark {
+        Mark::Scope(scope) => scope.region,
+        Mark::Handled(_)
+        | Mark::InProtected(_)
+        | Mark::InAccept(_)
+        | Mark::Abortable(_)
+        | Mark::InInitialize(_)
+        | Mark::InFinalize(_)
+        | Mark::InAssign(_) => None,
+    }
+}
+
+// Whether a frame's mark has this region.
+fn has_region(region: RegionNo, frame: &Frame) -> bool
+    ensures { result ≡ has_region region frame.now }
+{
+    match region_of_mark(&frame.mark) {
+        Some(of_mark) => of_mark.0 == region.0,
+        None => false,
+    }
+}
+
+fn owns(region: RegionNo, task: &Task) -> bool
+    ensures { result ≡ owns region task.now }
+{
+    task.frames.iter().any(|frame| has_region(region, frame))
+}
+
+/// The task that owns a region: one of its open scopes has it.
+pub(crate) fn owner_of(world: &World, region: RegionNo) -> Option<&Task>
+    ensures { option_copied result ≡ owner_of world.now region }
+{
+    world.tasks.iter().find(|task| owns(region, task))
+}
+
+fn is_scope_being_left(mark: &Mark) -> bool
+    ensures { result ≡ is_scope_being_left mark.now }
+{
+    match mark {
+        Mark::Scope(scope) => scope.being_left,
+        _ => false,
+    }
+}
+
+// Whether the topmost of these frames that has the region is that of a scope that is being left.
+fn is_being_left_in(region: RegionNo, frames: &List<Frame>) -> bool
+    ensures { result ≡ is_being_left_in region frames.now }
+{
+    for frame in frames.iter() {
+        if has_region(region, frame) {
+            return is_scope_being_left(&frame.mark);
+        }
+    }
+    false
+}
+
+/// Whether a region is being left, which is so from its `leave` to its `left`.
+pub(crate) fn is_region_being_left(world: &World, region: RegionNo) -> bool
+    ensures { result ≡ is_region_being_left world.now region }
+{
+    world
+        .tasks
+        .iter()
+        .any(|task| is_being_left_in(region, &task.frames))
+}

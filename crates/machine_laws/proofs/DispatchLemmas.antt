@@ -21,7 +21,7 @@ use Rattle.profile_machine.specs.Dispatching.{choose}
 use Rattle.profile_machine.specs.Instant.{instant}
 use Rattle.profile_machine.specs.Run.{Ran, say, says_run, serve_if_free, serve, says_idle, opening, tock, stop, at_tick, stopped, then_runs, run_from, run_of}
 use Rattle.machine_laws.specs.LineKinds.{is_of_effect, AllAre}
-use Rattle.machine_laws.proofs.TimeLemmas.{instants_take_no_time, instants_keep_runner, tocks_take_one_tick, opening-now, opening-runner}
+use Rattle.machine_laws.proofs.TimeLemmas.{instants_take_no_time, instants_keep_runner, tocks_take_one_tick, opening_now, opening-runner}
 use Rattle.machine_laws.proofs.LineLemmas.{instants_say_effects, tocks_say_ticks, openings_say_effects}
 use Rattle.machine_laws.proofs.PlaceLemmas.{openings_place_by_lines, instants_place_by_lines, tocks_place_nobody, tock_lines-places}
 use Rattle.machine_laws.proofs.QueueLemmas.{lined, lined-after, lined-head}
@@ -241,5 +241,5 @@ runs_dispatch p script bound tick b =
     let o = opening p script in
     let rest = (run_from (suc bound) p bound o.0).lines in
     let within : tick < last_from 0 rest = subst (λ n. tick < n) (last_from-at_tick 0 o.1 rest) b in
-    let held : Held (after_all nothing_seen o.1) 0 rest = subst (λ n. Held (after_all nothing_seen o.1) n rest) (opening-now p script) (run_from-held (suc bound) p bound o.0 (after_all nothing_seen o.1) (opening-shows p script)) in
+    let held : Held (after_all nothing_seen o.1) 0 rest = subst (λ n. Held (after_all nothing_seen o.1) n rest) (opening_now p script) (run_from-held (suc bound) p bound o.0 (after_all nothing_seen o.1) (opening-shows p script)) in
     subst (λ q. q.runner ≡ who_of (head_of q.queue)) (sym (seen-up_to tick 0 nothing_seen o.1 rest (omega arith))) (held tick (omega arith) within)

@@ -17,7 +17,7 @@ use Rattle.machine_laws.specs.RunLaws.{AllUpTo, NoneEnds, EndsAt}
 use Rattle.machine_laws.specs.LineKinds.{AllAre, is_no_end}
 use Rattle.machine_laws.proofs.LineLemmas.{AllAre-append, instant-no_end, tock-no_end-lines, opening-no_end}
 use Rattle.machine_laws.specs.Reached.{Comes, opened, ticked, Reached, before, behind}
-use Rattle.machine_laws.proofs.TimeLemmas.{instants_take_no_time, tocks_take_one_tick, opening-now}
+use Rattle.machine_laws.proofs.TimeLemmas.{instants_take_no_time, tocks_take_one_tick, opening_now}
 
 -- ---- why a run stops
 
@@ -172,7 +172,7 @@ run_from-goes (suc fuel) p bound w a b =
 run-goes : (p : Image) (script : List (ℤ × Item)) (bound : ℕ) → Goes bound 0 (run p script bound)
 run-goes p script bound =
     let o = opening p script in
-    let start : o.0.time ≡ 0 = opening-now p script in
+    let start : o.0.time ≡ 0 = opening_now p script in
     then_runs-goes bound 0 0 o.1 (run_from (suc bound) p bound o.0) (opening-no_end p script) (omega arith) (omega arith)
     (subst (λ n. Goes bound n (run_from (suc bound) p bound o.0)) start (run_from-goes (suc bound) p bound o.0 (omega arith) (omega arith)))
 
@@ -188,7 +188,7 @@ pub runs_end : (p : Image) (script : List (ℤ × Item)) (bound : ℕ) → EndsA
 runs_end p script bound = (run-goes p script bound).ends
 
 comes-within : (p : Image) (script : List (ℤ × Item)) (bound : ℕ) (w : World) → Comes p script bound w → w.time ≤ bound
-comes-within p script bound _ opened = let start : (opening p script).0.time ≡ 0 = opening-now p script in omega arith
+comes-within p script bound _ opened = let start : (opening p script).0.time ≡ 0 = opening_now p script in omega arith
 comes-within p script bound _ (ticked w c e) =
     let i = instant p w in
     let below : suc i.0.time ≤ bound = below_bound p bound i.0 e (subst (λ n. n ≤ bound) (sym (instants_take_no_time p w)) (comes-within p script bound w c)) in

@@ -24,9 +24,9 @@ unfolding Leads
 tocks_take_one_tick p w =
     ap (λ a. a.0.time) (tock-parts p w) ∙ ap (λ x. suc x.0) (before_tick-leads at_once (record { tells = λ event v k. refl; serves = λ r rest v k. refl }) p (choose w) w)
 
-pub opening-now : (p : Image) (script : List (ℤ × Item)) → (opening p script).0.time ≡ 0
+pub opening_now : (p : Image) (script : List (ℤ × Item)) → (opening p script).0.time ≡ 0
 unfolding Leads
-opening-now p script = ap (λ x. x.0) (settles-leads at_once p (opens p) (opens-keeps at_once p) (blank_world p script))
+opening_now p script = ap (λ x. x.0) (settles-leads at_once p (opens p) (opens-keeps at_once p) (blank_world p script))
 
 pub opening-runner : (p : Image) (script : List (ℤ × Item)) → (opening p script).0.ran ≡ None
 unfolding Leads

@@ -1,9 +1,14 @@
--- Time: an instant takes none, a tock takes one tick.
-use Rattle.std.specs.Prelude.{◌≡◌, suc}
+-- Time: a run begins at 0, an instant takes none, a tock takes one tick.
+use Rattle.std.specs.Prelude.{◌≡◌, suc, ℤ, List}
 use Rattle.profile_machine.specs.declared.image.Image.{Image}
+use Rattle.profile_machine.specs.declared.run_data.Item.{Item}
 use Rattle.profile_machine.specs.declared.world.World.{World}
 use Rattle.profile_machine.specs.Instant.{instant}
-use Rattle.profile_machine.specs.Run.{tock}
+use Rattle.profile_machine.specs.Run.{tock, opening}
+
+-- a run begins at 0
+abbrev pub RunsBeginAtZero : Type 0
+RunsBeginAtZero = (p : Image) (script : List (ℤ × Item)) → (opening p script).0.time ≡ 0
 
 -- no instant changes the time
 abbrev pub InstantsTakeNoTime : Type 0

@@ -1,6 +1,12 @@
 //! Time: of all that the machine does only a tick takes time, and no moment that is waited for passes by.
 ghost use Rattle.machine_laws.specs.DueLaws.{InstantsLeaveNoneDue, NoneIsBeforeNow};
-ghost use Rattle.machine_laws.specs.TimeLaws.{InstantsTakeNoTime, TocksTakeOneTick};
+ghost use Rattle.machine_laws.specs.TimeLaws.{RunsBeginAtZero, InstantsTakeNoTime, TocksTakeOneTick};
+
+/// A run begins at 0.
+#[tactic(auto, using(crate::proofs::TimeLemmas::opening_now))]
+pub fn runs_begin_at_0()
+    ensures { RunsBeginAtZero }
+{}
 
 /// No instant changes the time.
 #[tactic(auto, using(crate::proofs::TimeLemmas::instants_take_no_time))]

@@ -83,14 +83,18 @@ script_item p (item.Unmask n) =
 abbrev pub with_script : List (ℤ × Item) → World → World
 with_script script w = record w { script = script }
 
--- all items whose moment has come
-unfoldable pub items_due : Image → ℕ → List (ℤ × Item) → Step
-items_due p now [] = nothing
-items_due p now (x ∷ xs) =
-    elim (int_le x.0 (pos now)) [ true ↦ changes (with_script xs) ▷ script_item p x.1 ▷ items_due p now xs | false ↦ nothing ]
+-- the first item that is ahead, where its moment has come
+abbrev pub take_item : Image → ℕ → Step → List (ℤ × Item) → Step
+take_item p now again [] = nothing
+take_item p now again (x ∷ xs) = elim (int_le x.0 (pos now)) [ true ↦ changes (with_script xs) ▷ script_item p x.1 ▷ again | false ↦ nothing ]
+
+-- all items whose moment has come; the fuel is the number of items
+unfoldable pub items_due : ℕ → Image → Step
+items_due zero p = nothing
+items_due (suc fuel) p = looks (λ w. take_item p w.time (items_due fuel p) w.script)
 
 abbrev pub script_items : Image → Move
-script_items p = settles p (looks (λ w. items_due p w.time w.script))
+script_items p = settles p (looks (λ w. items_due (length w.script) p))
 
 -- ---- 3 and 4: appointments whose moment is now: timing events, then delays, time-outs and triggers, each in the
 -- order in which they were set

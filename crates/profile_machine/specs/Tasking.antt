@@ -24,22 +24,16 @@ use Rattle.profile_machine.specs.declared.run_data.Leaving.TheVariants as how
 use Rattle.profile_machine.specs.declared.values.Value.{Value}
 use Rattle.profile_machine.specs.declared.values.Value.TheVariants as value_of
 use Rattle.profile_machine.specs.declared.world.World.{World}
-use Rattle.profile_machine.specs.declared.world.tasks.State.{State}
 use Rattle.profile_machine.specs.declared.world.marks.Frame.{Frame}
-use Rattle.profile_machine.specs.declared.world.marks.Mark.{Mark}
 use Rattle.profile_machine.specs.declared.world.marks.ScopeMark.{ScopeMark}
 use Rattle.profile_machine.specs.declared.world.scopes.ScopeId.{ScopeId}
 use Rattle.profile_machine.specs.declared.world.marks.Purpose.{Purpose}
-use Rattle.profile_machine.specs.declared.world.scopes.Located.{Located}
 use Rattle.profile_machine.specs.declared.world.Drawn.{Drawn}
-use Rattle.profile_machine.specs.declared.world.tasks.Inherited.{Inherited}
 use Rattle.profile_machine.specs.declared.world.tasks.Waiting.{Waiting}
 use Rattle.profile_machine.specs.declared.world.tasks.Cause.TheVariants as inherited_by
 use Rattle.profile_machine.specs.declared.world.marks.Purpose.TheVariants as opened_for
-use Rattle.profile_machine.specs.declared.world.marks.ResultTo.TheVariants as bound_for
 use Rattle.profile_machine.specs.declared.world.tasks.Waiting.TheVariants as waits_for
-use Rattle.profile_machine.specs.declared.world.marks.Mark.TheVariants.{Scope}
-use Rattle.profile_machine.specs.declared.world.tasks.State.TheVariants.{Made, Runnable, Blocked}
+use Rattle.profile_machine.specs.declared.world.tasks.State.TheVariants.{Made}
 use Rattle.profile_machine.specs.declared.world.tasks.Task as world
 use Rattle.profile_machine.specs.Words.{same_who, same_region, is_the, option_or_else}
 use Rattle.profile_machine.specs.Program.{declaration_of, next_of, scope_of, task_unit_of}

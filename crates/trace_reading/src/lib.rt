@@ -8,5 +8,6 @@ mod read;
 mod tests;
 mod words;
 
+pub use fields::{exception_of, name_of, text_of};
 pub use laws::{long_texts_are_bad, texts_differ};
 pub use read::{BadLine, read_line};

@@ -16,7 +16,6 @@ use Rattle.profile_machine.specs.declared.world.marks.ScopeMark.{ScopeMark}
 use Rattle.profile_machine.specs.declared.world.marks.AssignMark.{AssignMark}
 use Rattle.profile_machine.specs.declared.world.marks.AssignStep.{AssignStep}
 use Rattle.profile_machine.specs.declared.world.marks.AssignStep.TheVariants as assigning
-use Rattle.profile_machine.specs.Program.{declaration_of}
 use Rattle.profile_machine.specs.declared.world.lines.Part.TheVariants.{Own}
 use Rattle.profile_machine.specs.Steps.{says, changes, ◌▷◌}
 use Rattle.profile_machine.specs.Scopes.{write_cell}

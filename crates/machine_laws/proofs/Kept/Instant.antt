@@ -15,7 +15,7 @@ use Rattle.profile_machine.specs.declared.world.tasks.Waiting.TheVariants as wai
 use Rattle.profile_machine.specs.Steps.{Step, changes, nothing, settles, ◌▷◌, rests}
 use Rattle.profile_machine.specs.Tasks.{task_of}
 use Rattle.profile_machine.specs.Appointments.{first_due}
-use Rattle.profile_machine.specs.Instant.{effect, is_over, effect_of_runner, finish_action, with_port, with_masked, with_kept_interrupt, interrupt_comes, deliver_kept_interrupt, script_item, with_script, items_due, script_items, take_delay, end_delay, time_out, come_due, take_due, all_due, appointments_due, events_due, moments_due, expire, expire_timer, no_timers_due, timers_due, run_out, no_budget_due, budgets_due, spend_quantum, quantum_spent, instant}
+use Rattle.profile_machine.specs.Instant.{effect, is_over, effect_of_runner, finish_action, with_port, with_masked, with_kept_interrupt, interrupt_comes, deliver_kept_interrupt, script_item, with_script, take_item, items_due, script_items, take_delay, end_delay, time_out, come_due, take_due, all_due, appointments_due, events_due, moments_due, expire, expire_timer, no_timers_due, timers_due, run_out, no_budget_due, budgets_due, spend_quantum, quantum_spent, instant}
 use Rattle.machine_laws.proofs.Moves.{StepRelation, MoveRelation, Moves}
 use Rattle.machine_laws.proofs.Kept.Combinators.{Keeps, Leads, Alters, branch-keeps, branch-leads, changes-keeps, for_each-keeps, for_some-keeps, looks-keeps, nothing-keeps, says-keeps, settles-leads, then-keeps, then-leads, when-keeps, rests-leads, watches-leads}
 use Rattle.machine_laws.proofs.Kept.Tasks.{edit_task-alters}
@@ -75,12 +75,17 @@ module _ {R : StepRelation} {Q : MoveRelation} (moves : Moves R Q) where
   unfolding Alters
   with_script-alters script w = moves.cuts_script script w
 
-  items_due-keeps : (p : Image) (now : ℕ) (script : List (ℤ × Item)) → Keeps R (items_due p now script)
+  take_item-keeps : (p : Image) (now : ℕ) (again : Step) (script : List (ℤ × Item)) → Keeps R again → Keeps R (take_item p now again script)
+  take_item-keeps p now again [] kept = search (nothing-keeps)
+  take_item-keeps p now again (x ∷ xs) kept =
+      branch-keeps moves (int_le x.0 (pos now)) (changes (with_script xs) ▷ script_item p x.1 ▷ again) nothing
+      (then-keeps moves (changes (with_script xs)) _ (search (changes-keeps, with_script-alters)) (then-keeps moves (script_item p x.1) _ (script_item-keeps p x.1) kept)) (search (nothing-keeps))
+
+  items_due-keeps : (fuel : ℕ) (p : Image) → Keeps R (items_due fuel p)
   unfolding items_due
-  items_due-keeps p now [] = search (nothing-keeps)
-  items_due-keeps p now (x ∷ xs) =
-      branch-keeps moves (int_le x.0 (pos now)) (changes (with_script xs) ▷ script_item p x.1 ▷ items_due p now xs) nothing
-      (then-keeps moves (changes (with_script xs)) _ (search (changes-keeps, with_script-alters)) (then-keeps moves (script_item p x.1) _ (script_item-keeps p x.1) (items_due-keeps p now xs))) (search (nothing-keeps))
+  items_due-keeps zero p = search (nothing-keeps)
+  items_due-keeps (suc fuel) p =
+      looks-keeps moves _ (λ w. take_item-keeps p w.time (items_due fuel p) w.script (items_due-keeps fuel p))
 
   pub script_items-leads : (p : Image) → Leads Q (script_items p)
   script_items-leads p = search (settles-leads, looks-keeps, items_due-keeps)

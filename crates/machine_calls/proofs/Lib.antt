@@ -1,0 +1,10 @@
+mod DepthLemmas
+pub mod EditLemmas
+mod EndingLemmas
+mod HeadLemmas
+mod OkLemmas
+mod PutLemmas
+mod QueueLemmas
+mod StruckLemmas
+mod TakeLemmas
+mod UnwindLemmas

@@ -1,0 +1,2 @@
+pub mod FirstValueLemmas
+pub mod QueueLemmas

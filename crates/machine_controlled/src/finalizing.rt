@@ -1,0 +1,154 @@
+//! Finalize of the objects of a region that is being left (ISO/IEC 8652:2012, 7.6.1).
+ghost use Rattle.std.specs.Prelude.{◌≡◌, OnOk, find, option_copied};
+ghost use Rattle.profile_machine.specs.Cost.{of_region};
+ghost use Rattle.profile_machine.specs.Controlled.{open_finalize, finalize_by, finalize, next_to_finalize, is_assign_mark, is_assignment, behind_finalize, end_in_finalize};
+ghost use Rattle.profile_machine.specs.Frames.{top_of};
+ghost use Rattle.machine_frames.specs.Did.{Did};
+
+use crate::marks::set_finalize_raised;
+use crate::operations::{finalize_of, has_room_to_finalize, open_operation};
+use crate::registration::no_longer_registered;
+use ann_base::{NoMemory, RegionNo};
+use machine_frames::{Effect, new_frame, pass_on, pop, push, says, top_of};
+use machine_operators::Program;
+use machine_statements::of_region;
+use profile_machine::world::{Line, Located, Mark, Part, Registered, World};
+use profile_machine::{Leaving, SubprogramNo};
+use std::alloc::Global;
+use trace_text::Who;
+use world_tables::List;
+
+/// Finalize of the object with this number is opened.
+#[tactic(auto, unfolding(profile_machine::specs::Controlled::open_finalize))]
+pub fn open_finalize(
+    alloc: Global,
+    p: &Program,
+    effect: &mut Effect,
+    name: Who,
+    number: u32,
+    object: Located,
+    f: SubprogramNo,
+) -> Result<(), NoMemory>
+    ensures { OnOk result (Did (open_finalize p.now name number object f) effect.old effect.new) }
+{
+    let frame = new_frame(Mark::InFinalize(number), None);
+    push(&mut effect.world, name, frame)?;
+    open_operation(alloc, p, effect, name, f, object)
+}
+
+// Without room it counts as one that raised.
+#[tactic(auto, unfolding(profile_machine::specs::Controlled::finalize_by))]
+fn finalize_by(
+    alloc: Global,
+    p: &Program,
+    effect: &mut Effect,
+    name: Who,
+    registered: Registered,
+    operation: Option<SubprogramNo>,
+) -> Result<(), NoMemory>
+    ensures { OnOk result (Did (finalize_by p.now name registered operation) effect.old effect.new) }
+{
+    match operation {
+        None => Ok(()),
+        Some(f) => {
+            if has_room_to_finalize(p, &effect.world, name, f) {
+                open_finalize(
+                    alloc,
+                    p,
+                    effect,
+                    name,
+                    registered.object,
+                    registered.located,
+                    f,
+                )
+            } else {
+                set_finalize_raised(&mut effect.world, name);
+                Ok(())
+            }
+        }
+    }
+}
+
+/// A registered object is finalized. It is registered no longer.
+#[tactic(auto, unfolding(profile_machine::specs::Controlled::finalize))]
+pub fn finalize(
+    alloc: Global,
+    p: &Program,
+    effect: &mut Effect,
+    name: Who,
+    registered: Registered,
+) -> Result<(), NoMemory>
+    ensures { OnOk result (Did (finalize p.now name registered) effect.old effect.new) }
+{
+    let line = Line::Final {
+        who: name,
+        object: registered.object,
+    };
+    says(effect, Part::Own, line)?;
+    no_longer_registered(registered.object, &mut effect.world);
+    let operation = finalize_of(p, registered.located);
+    finalize_by(alloc, p, effect, name, registered, operation)
+}
+
+fn newest_in(registered: &List<Registered>, region: RegionNo) -> Option<&Registered>
+    ensures { option_copied result ≡ find (of_region region) registered.now }
+{
+    registered.iter().find(|r| of_region(region, **r))
+}
+
+/// The object of a region that is finalized next: the one with the greatest number.
+pub fn next_to_finalize(world: &World, region: RegionNo) -> Option<Registered>
+    ensures { result ≡ next_to_finalize world.now region }
+{
+    Some(*newest_in(&world.registered, region)?)
+}
+
+fn is_assign_mark(mark: &Mark) -> bool
+    ensures { result ≡ is_assign_mark mark.now }
+{
+    matches!(mark, Mark::InAssign(_))
+}
+
+// Whether an assignment is on top.
+fn is_assignment(world: &World, name: Who) -> bool
+    ensures { result ≡ is_assignment (top_of world.now name) }
+{
+    match top_of(world, name) {
+        Some(frame) => is_assign_mark(&frame.mark),
+        None => false,
+    }
+}
+
+#[tactic(auto, unfolding(profile_machine::specs::Controlled::behind_finalize))]
+fn behind_finalize(
+    p: &Program,
+    effect: &mut Effect,
+    name: Who,
+    leaving: Leaving,
+    of_assignment: bool,
+)
+    ensures { Did (behind_finalize p.now name leaving of_assignment) effect.old effect.new }
+{
+    match leaving {
+        Leaving::Exception(exception) => {
+            if of_assignment {
+                pass_on(p, effect, name, Leaving::Exception(exception));
+            } else {
+                set_finalize_raised(&mut effect.world, name);
+            }
+        }
+        Leaving::End | Leaving::Return | Leaving::Exit(_) | Leaving::Abort | Leaving::Terminate =>
+            {}
+    }
+}
+
+/// Finalize has ended. An exception of it goes on where it belongs to an assignment; else the other objects of the
+/// region are finalized.
+#[tactic(auto, unfolding(profile_machine::specs::Controlled::end_in_finalize))]
+pub fn end_in_finalize(p: &Program, effect: &mut Effect, name: Who, leaving: Leaving)
+    ensures { Did (end_in_finalize p.now name leaving) effect.old effect.new }
+{
+    pop(&mut effect.world, name);
+    let of_assignment = is_assignment(&effect.world, name);
+    behind_finalize(p, effect, name, leaving, of_assignment);
+}

@@ -106,7 +106,7 @@ fn copy_components_of(
 {
     let values = cells_from(alloc, world, source, count)?;
     if let Some(scope) = scope_mut(&mut world.scopes, target.within) {
-        put_cells(&mut scope.cells, target.place, &values)?;
+        put_cells(&mut scope.cells, target.place, &values);
     }
     Ok(())
 }

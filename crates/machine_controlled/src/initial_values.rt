@@ -134,7 +134,7 @@ fn set_defaults(alloc: Global, p: &Program, v: Variable, world: &mut World) -> R
 {
     let values = default_cells(alloc, p, world, v)?;
     if let Some(scope) = scope_mut(&mut world.scopes, v.within) {
-        put_cells(&mut scope.cells, v.place, &values)?;
+        put_cells(&mut scope.cells, v.place, &values);
     }
     Ok(())
 }

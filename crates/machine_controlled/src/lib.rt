@@ -20,6 +20,6 @@ pub use assignments::assign_controlled;
 pub use declarations::declare;
 pub use finalizing::{end_in_finalize, finalize, next_to_finalize, open_finalize};
 pub use initializing::{end_in_initialize, initialize};
-pub use marks::{set_being_left, set_finalize_raised};
+pub use marks::set_being_left;
 pub use objects::{no_calls, set_thing};
 pub use registration::{region_or_none, top_region};

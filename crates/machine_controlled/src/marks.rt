@@ -43,7 +43,7 @@ pub fn set_being_left(world: &mut World, name: Who)
 }
 
 /// A Finalize of an object of the scope on top has raised an exception.
-pub fn set_finalize_raised(world: &mut World, name: Who)
+pub(crate) fn set_finalize_raised(world: &mut World, name: Who)
     ensures { world.new ≡ edit_top_scope name finalize_has_raised world.old }
 {
     if let Some(task) = task_mut(world, name) {

@@ -1,4 +1,8 @@
 pub mod Facts
 pub mod Formed
+pub mod KeptOn
 pub mod LevelLookups
-pub mod QueueParts
+pub mod PlacesOn
+pub mod Ranked
+pub mod RanksOn
+pub mod Subjects

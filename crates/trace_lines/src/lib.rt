@@ -5,6 +5,7 @@ mod laws;
 mod levels;
 mod lines;
 mod queue;
+mod ranks;
 #[cfg(test)]
 mod tests;
 

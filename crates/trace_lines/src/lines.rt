@@ -5,7 +5,8 @@ ghost use Rattle.trace_text.specs.Laws.{Formed, level_of, is_known, is_ready_for
 ghost use Rattle.trace_lines.specs.Seen.{nothing_kept, see_line, StandsFor, with_line, level_in, deadline_in, shape_of, is_formed_after, IsFault};
 
 use crate::laws::facts_tell;
-use crate::{levels, queue};
+use crate::levels;
+use crate::queue::ReadyQueue;
 use ann_base::{Level, Moment, NoMemory, ObjectNo, OrMemory, TaskNo};
 use std::alloc::Global;
 use std::collections::BTreeMap;
@@ -23,7 +24,7 @@ pub struct Lines {
     tick: u64,
     is_ended: bool,
     runner: Option<Who>,
-    queue: Vec<Entry>,
+    queue: ReadyQueue,
     bases: BTreeMap<u32, Level>,
     ceilings: BTreeMap<u32, Level>,
 }
@@ -37,7 +38,7 @@ impl Model for Lines {
       tick = lines.tick;
       is_ended = lines.is_ended;
       runner = lines.runner;
-      queue = lines.queue.items;
+      queue = lines.queue;
       bases = lines.bases.entries;
       ceilings = lines.ceilings.entries;
     } };
@@ -63,7 +64,7 @@ impl Lines {
             tick: 0,
             is_ended: false,
             runner: None,
-            queue: Vec::new(alloc),
+            queue: ReadyQueue::new(alloc),
             bases: BTreeMap::new(alloc),
             ceilings: BTreeMap::new(alloc),
         }
@@ -116,7 +117,7 @@ impl Lines {
             Event::Enter { who, object, .. } => {
                 self.is_known(*who)
                     && levels::has(&self.ceilings, object.0)
-                    && queue::entry_of(&self.queue, *who).is_some()
+                    && self.queue.entry(*who).is_some()
             }
             Event::Exit { who, object } | Event::Held { who, object, .. } => {
                 self.is_known(*who) && levels::has(&self.ceilings, object.0)
@@ -202,14 +203,14 @@ impl Lines {
                     level: *level,
                     deadline: *deadline,
                 };
-                queue::place(&mut self.queue, *end, entry)
+                self.queue.place(*end, entry)
             }
             Event::Block { who, .. } => {
-                queue::remove(&mut self.queue, *who);
+                self.queue.remove(*who);
                 Ok(())
             }
             Event::Done { task } => {
-                queue::remove(&mut self.queue, Who::Task(*task));
+                self.queue.remove(Who::Task(*task));
                 Ok(())
             }
             Event::Run { who } => {
@@ -265,7 +266,7 @@ impl Lines {
     pub fn head(&self) -> Option<Who>
         ensures { result ≡ who_of (head_of self.now.queue) }
     {
-        match queue::head_of(&self.queue) {
+        match self.queue.head() {
             None => None,
             Some(entry) => Some(entry.who),
         }
@@ -275,14 +276,14 @@ impl Lines {
     pub fn entry(&self, who: Who) -> Option<Entry>
         ensures { result ≡ entry_of who self.now.queue }
     {
-        queue::entry_of(&self.queue, who)
+        self.queue.entry(who)
     }
 
     /// The level at which a subject is in the ready queue.
     pub fn level(&self, who: Who) -> Option<Level>
         ensures { result ≡ level_in (entry_of who self.now.queue) }
     {
-        match queue::entry_of(&self.queue, who) {
+        match self.queue.entry(who) {
             None => None,
             Some(entry) => Some(entry.level),
         }
@@ -292,7 +293,7 @@ impl Lines {
     pub fn deadline(&self, who: Who) -> Option<Moment>
         ensures { result ≡ deadline_in (entry_of who self.now.queue) }
     {
-        match queue::entry_of(&self.queue, who) {
+        match self.queue.entry(who) {
             None => None,
             Some(entry) => entry.deadline,
         }

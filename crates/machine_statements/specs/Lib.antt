@@ -1,0 +1,4 @@
+pub mod Becomes
+pub mod Parts
+pub mod Refused
+pub mod Texts

@@ -1,0 +1,30 @@
+//! Simple and compound statements, calls of subprograms and returns, and what an action costs. Each
+//! function has the name of the machine's definition of which it is the counterpart. A number that
+//! its type cannot hold is answered as want of memory.
+#![tactic(auto)]
+
+mod assignments;
+mod calls;
+mod choices;
+mod costs;
+mod delays;
+mod faults;
+mod loops;
+mod parameters;
+mod returns;
+mod sequences;
+mod texts;
+
+pub use assignments::{assign, assign_array, cells_from, checked_for, copy_cells, put_cells};
+pub use calls::{begin_body, call_subprogram};
+pub use choices::{case_statement, if_statement};
+pub use costs::{cost, has_registered, of_region};
+pub use delays::{delay_statement, delay_to, delay_until_statement, relative_moment};
+pub use faults::refused;
+pub use loops::{exit_statement, first_turn, for_bounds, later_turn, while_turn};
+pub use parameters::{handed, result_to};
+pub use returns::{
+    call_that_returns, end_subprogram, return_statement, return_value, without_sending,
+};
+pub use sequences::{block_statement, null, raise_again};
+pub use texts::put_line;

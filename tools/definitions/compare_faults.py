@@ -1,0 +1,137 @@
+#!/usr/bin/env python3
+"""Compares the legality faults of a source by the definitions of `ada_legality` with what a front end in Python answers.
+
+    tools/definitions/compare_faults.py --front-end FOLDER SOURCE..          the first fault, its code and place
+    tools/definitions/compare_faults.py --front-end FOLDER --seeds FIRST LAST --size N --built K    the same of generated sources
+    tools/definitions/compare_faults.py --front-end FOLDER --table FILE      a table of sources against its own answers
+    tools/definitions/compare_faults.py --front-end FOLDER --tell FILE       such a table against the front end's answers
+    .. --changed N SEED    of each source, N changed ones too: a token is dropped, doubled, or replaced by another of the source
+
+Run at the root of the repository. FOLDER is that of ../program_data.py, which also has a generator. A table has for each source a
+line `## none TITLE` or `## L6 LINE:COLUMN TITLE`, and the source behind it; `@N TEXT@` in a source stands for TEXT N times, in
+which `#` is the number of the turn. Sources that are no trees, or whose names have a fault, are counted and left.
+"""
+import argparse
+import os
+import random
+import re
+import sys
+import threading
+
+sys.path.insert(0, os.path.dirname(os.path.abspath(__file__)))
+from antt import GLOBALS, load
+from tree_value import Converter
+
+
+def definition(module, name):
+    return GLOBALS[load(module).defs[name].py]
+
+
+def words(fault):
+    return "none" if fault is None else f"L{fault[1]} {fault[0][0]}:{fault[0][1]}"
+
+
+def repeated(source):
+    """The source with what stands between marks repeated."""
+    return re.sub(r"@(\d+) (.*?)@", lambda m: "".join(m[2].replace("#", str(i)) for i in range(1, int(m[1]) + 1)), source, flags=re.S)
+
+
+def table_of(path):
+    title, source = None, ""
+    with open(path, encoding="latin-1") as f:
+        for line in f:
+            if line.startswith("## "):
+                if title:
+                    yield title, repeated(source)
+                title, source = line[3:].strip(), ""
+            elif not line.startswith("# "):
+                source += line
+    yield title, repeated(source)
+
+
+TOKEN = re.compile(r'\s+|--[^\n]*|"(?:[^"\n]|"")*"|\d[\d_.]*|\w+|[=:/<>.]{1,2}|.', re.S)
+
+
+def changed(source, random):
+    """The source with one token dropped, doubled or replaced by another one of it."""
+    tokens = TOKEN.findall(source)
+    places = [i for i, t in enumerate(tokens) if t.strip() and not t.startswith("--")]
+    at, other = random.choice(places), random.choice(places)
+    tokens[at] = random.choice(["", tokens[at] + " " + tokens[at], tokens[other], tokens[other], tokens[other]])
+    return "".join(tokens)
+
+
+def main():
+    parser = argparse.ArgumentParser()
+    parser.add_argument("--front-end", required=True)
+    parser.add_argument("--table")
+    parser.add_argument("--tell")
+    parser.add_argument("--seeds", nargs=2, type=int)
+    parser.add_argument("--size", type=int, default=3)
+    parser.add_argument("--built", type=int, default=17)
+    parser.add_argument("--changed", nargs=2, type=int, default=[0, 1])
+    parser.add_argument("sources", nargs="*")
+    a = parser.parse_args()
+    sys.path.append(a.front_end)
+    import legal, lex, names, parse, tree
+    convert = Converter(tree)
+    names_of = definition("ada_regions.specs.Numbered", "names_of")
+    faults_with = definition("ada_legality.specs.Faults", "faults_with")
+    number_of_rule = definition("ada_legality.specs.Faults", "number_of_rule")
+    same, other, skipped, told = 0, 0, 0, {}
+
+    def given():
+        if a.table or a.tell:
+            yield from table_of(a.table or a.tell)
+        elif a.seeds:
+            import gen
+            for seed in range(*a.seeds):
+                yield f"seed {seed}", gen.generate(seed, a.size, a.built)[0]
+        else:
+            for path in a.sources:
+                with open(path, encoding="latin-1") as f:
+                    yield path, f.read()
+
+    def cases():
+        draw = random.Random(a.changed[1])
+        for title, source in given():
+            yield title, source
+            for i in range(a.changed[0]):
+                yield f"{title}, changed {i}", changed(source, draw)
+
+    for title, source in cases():
+        source = source.encode("latin-1")
+        try:
+            t = parse.parse(source, lex.lex(source))
+            names.number(t, None)
+        except (lex.LexFault, parse.ParseFault, names.NameFault) as fault:
+            skipped += 1
+            if a.table or a.tell:
+                print(f"{title}: {fault!r}")
+            continue
+        u = convert.unit(t)
+        got = faults_with(u, names_of(u))
+        got = ((got[0].d["place"].d["line"], got[0].d["place"].d["column"]), number_of_rule(got[0].d["rule"])) if got else None
+        if a.table:
+            want = None if title.startswith("none ") else (tuple(map(int, title.split()[1].split(":"))), int(title.split()[0][1:]))
+        else:
+            faults = legal.check(t, a.built)
+            want = (tuple(faults[0][0]), faults[0][1]) if faults else None
+        told[want and want[1]] = told.get(want and want[1], 0) + 1
+        if got != want:
+            other += 1
+            print(f"{title}: {words(got)}, and not {words(want)}")
+            if a.changed[0]:
+                print("    " + source.decode("latin-1").strip().replace("\n", "\n    "))
+        else:
+            same += 1
+    print(f"{same} the same, {other} not, {skipped} no trees or without declarations; "
+          + ", ".join(f"L{k} {v}" if k else f"none {v}" for k, v in sorted(told.items(), key=lambda x: x[0] or 0)))
+    os._exit(other > 0)
+
+
+if __name__ == "__main__":
+    threading.stack_size(512 * 1024 * 1024)
+    t = threading.Thread(target=main)
+    t.start()
+    t.join()

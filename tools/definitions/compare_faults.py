@@ -5,6 +5,7 @@
     tools/definitions/compare_faults.py --front-end FOLDER --seeds FIRST LAST --size N --built K    the same of generated sources
     tools/definitions/compare_faults.py --front-end FOLDER --table FILE      a table of sources against its own answers
     tools/definitions/compare_faults.py --front-end FOLDER --tell FILE       such a table against the front end's answers
+    .. --plain             every look-up by its definition, which is slower
     .. --changed N SEED    of each source, N changed ones too: a token is dropped, doubled, or replaced by another of the source
 
 Run at the root of the repository. FOLDER is that of ../program_data.py, which also has a generator. A table has for each source a
@@ -25,6 +26,47 @@ from tree_value import Converter
 
 def definition(module, name):
     return GLOBALS[load(module).defs[name].py]
+
+
+def quicken():
+    """Look-ups by place and by name without the evaluator, which answer what `denoted_at` and `binding_in` do."""
+    import antt
+    known = {}
+
+    def found(n):
+        ds = n.d["denotations"]
+        if known.get("list") is not ds:
+            known["times"] = known["times"] + 1 if known.get("seen") is ds else 0
+            known["seen"] = ds
+            if known["times"] < 5:
+                return None
+            known["list"], known["table"] = ds, {}
+            for d in reversed(ds):
+                known["table"][d.d["place"].d["line"], d.d["place"].d["column"]] = antt.SOME(d.d["denoted"])
+        return known["table"]
+
+    def denoted_at(n, place):
+        at = place.d["line"], place.d["column"]
+        table = found(n)
+        if table is not None:
+            return table.get(at, antt.NONE)
+        for d in n.d["denotations"]:
+            if (d.d["place"].d["line"], d.d["place"].d["column"]) == at:
+                return antt.SOME(d.d["denoted"])
+        return antt.NONE
+
+    def binding_in(bindings, region, name):
+        for b in bindings:
+            if b.d["region"] == region and b.d["name"] == name:
+                return antt.SOME(b)
+        return antt.NONE
+
+    module = load("ada_regions.specs.Names")
+    for f in (denoted_at, binding_in):
+        d = module.defs[f.__name__]
+        d.stub = f
+        d.compile = lambda: None
+        GLOBALS[d.py] = f
 
 
 def words(fault):
@@ -70,6 +112,7 @@ def main():
     parser.add_argument("--size", type=int, default=3)
     parser.add_argument("--built", type=int, default=17)
     parser.add_argument("--changed", nargs=2, type=int, default=[0, 1])
+    parser.add_argument("--plain", action="store_true")
     parser.add_argument("sources", nargs="*")
     a = parser.parse_args()
     sys.path.append(a.front_end)
@@ -79,6 +122,8 @@ def main():
     faults_with = definition("ada_legality.specs.Faults", "faults_with")
     number_of_rule = definition("ada_legality.specs.Faults", "number_of_rule")
     same, other, skipped, told = 0, 0, 0, {}
+    if not a.plain:
+        quicken()
 
     def given():
         if a.table or a.tell:

@@ -1,12 +1,13 @@
 -- What a name stands for in an expression, and of which type it is (4.1, 4.4, 6.4).
 use Rattle.std.specs.List.{list_any}
-use Rattle.std.specs.Prelude.{Bool, List, None, Option, Some, [], cond, eqb, false, find, is_some, not, option_map, slice_get, true, unwrap_or, ℕ, ◌&&◌, ◌||◌, ◌∷◌}
+use Rattle.std.specs.Prelude.{Bool, List, None, Option, Some, [], cond, eqb, false, find, is_some, not, option_map, pos, slice_get, suc, true, unwrap_or, ℕ, ◌&&◌, ◌||◌, ◌∷◌}
 use Rattle.ada_image.specs.ImageOfExpressions.{prefix_part}
 use Rattle.ada_image.specs.Layout.{array_of}
 use Rattle.ada_image.specs.TypesOfExpressions.{type_of_operation}
 use Rattle.ada_regions.specs.Completions.{holds_of}
 use Rattle.ada_regions.specs.Declaring.{free_subtype}
 use Rattle.ada_regions.specs.Names.{Names, denoted_by, entity_denoted, entity_of, kind_at}
+use Rattle.ada_regions.specs.PredefinedUnits.{subtype_with}
 use Rattle.ada_regions.specs.Statics.{subtype_of_kind}
 use Rattle.ada_regions.specs.Subtypes.{mark_denoted}
 use Rattle.ada_regions.specs.Words.{and_then, or_else}
@@ -14,6 +15,7 @@ use Rattle.ada_regions.specs.declared.entities.Denoted.TheVariants as denotes
 use Rattle.ada_regions.specs.declared.entities.Denoted.{Denoted}
 use Rattle.ada_regions.specs.declared.entities.EntityKind.TheVariants as entity
 use Rattle.ada_regions.specs.declared.entities.EntityKind.{EntityKind}
+use Rattle.ada_regions.specs.declared.predefined.Operation.TheVariants as operations
 use Rattle.ada_regions.specs.declared.predefined.Operation.{Operation}
 use Rattle.ada_regions.specs.declared.predefined.Predefined.TheVariants as items
 use Rattle.ada_regions.specs.declared.predefined.Predefined.{Predefined}
@@ -30,7 +32,8 @@ use Rattle.profile_machine.specs.declared.declarations.EntryUnit.TheVariants as 
 use Rattle.profile_machine.specs.declared.declarations.EntryUnit.{EntryUnit}
 use Rattle.profile_machine.specs.declared.numbers.DeclNo.{DeclNo}
 use Rattle.profile_machine.specs.declared.numbers.ProtectedUnitNo.{ProtectedUnitNo}
-use Rattle.ada_legality.specs.Constructs.{Around, Known, LoopParameter, Shape, Typed, a_number, attributed, in_accept, in_asynchronous_select, in_entry, in_handler, in_loop, in_main, in_package, in_protected, in_subprogram, in_task, named, of_handler, of_text, other_shape, without_type}
+use Rattle.profile_machine.specs.declared.values.Constraint.TheVariants as constraint
+use Rattle.ada_legality.specs.Constructs.{Around, Known, LoopParameter, Shape, Typed, a_number, attributed, in_accept, in_asynchronous_select, in_entry, in_handler, in_loop, in_main, in_package, in_protected, in_subprogram, in_task, named, of_handler, of_subtype, of_text, other_shape, without_type}
 use Rattle.ada_legality.specs.Types.{has_ranges, is_discrete, is_task_unit, same_type, typed_as, typed_by, typed_if}
 
 -- ---- subtypes of entities
@@ -158,8 +161,14 @@ result_of_kind n (entity.Subprogram number is_function specified formals unit) =
     and_then (slice_get n.subprograms number.0) (λ s. and_then s.result (λ r. r))
 result_of_kind n _ = None
 
+-- Get_Priority has a result of Any_Priority (D.5.1)
+abbrev pub typed_operation_call : Known → Operation → Typed
+typed_operation_call k operations.GetPriority =
+    of_subtype (subtype_with types.Integer (constraint.Whole (pos 0) (pos (suc k.names.last_priority))))
+typed_operation_call k o = typed_if (type_of_operation o)
+
 abbrev pub typed_call : Known → Denoted → Typed
-typed_call k (denotes.Item u item) = typed_if (and_then (operation_of item) type_of_operation)
+typed_call k (denotes.Item u item) = unwrap_or (option_map (typed_operation_call k) (operation_of item)) without_type
 typed_call k d = typed_by (and_then (denoted_kind k.names d) (result_of_kind k.names))
 
 abbrev pub typed_denoted : Known → Bool → Denoted → Typed

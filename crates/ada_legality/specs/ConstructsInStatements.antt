@@ -55,7 +55,7 @@ use Rattle.ada_legality.specs.Constructs.{AlternativeKind, AlternativePart, Arou
 use Rattle.ada_legality.specs.ConstructsInExpressions.{Read, actuals_of, arguments_as_they_are, as_it_is, condition_in, expected, expected_alone, formals_denoted, literal_in, read_expression}
 use Rattle.ada_legality.specs.Places.{place_of_alternative, place_of_alternative_in, place_of_loop}
 use Rattle.ada_legality.specs.Types.{discrete_if, has_ranges, is_pointed, operand_type, type_of_bounds}
-use Rattle.ada_legality.specs.Values.{denotes_procedure, denotes_value, ends_of_object, is_denoted, typed_name}
+use Rattle.ada_legality.specs.Values.{denotes_object, denotes_procedure, ends_of_object, is_denoted, typed_name}
 
 -- ---- expressions in statements
 
@@ -156,7 +156,7 @@ call_stands c k =
 -- ---- simple statements
 
 abbrev pub typed_target : Known → Assignment → Typed
-typed_target k a = cond (is_denoted (denotes_value k) k a.target) (typed_name k a.target (is_some a.index)) without_type
+typed_target k a = cond (is_denoted (denotes_object k) k a.target) (typed_name k a.target (is_some a.index)) without_type
 
 abbrev pub type_of_index_of : Known → Name → Option AdaType
 type_of_index_of k name = and_then (denoted_by k.names name) (ends_of_object k)

@@ -26,7 +26,7 @@ use Rattle.ada_legality.specs.Constructs.{AspectOwner, Construct, IndicationUse,
 use Rattle.ada_legality.specs.ConstructsInStatements.{type_of_mark}
 use Rattle.ada_legality.specs.RulesOfUnits.{has_range, is_unit_name}
 use Rattle.ada_legality.specs.Types.{has_ranges, is_controlled_type, is_event_timer_or_budget, is_protected_unit, is_root_controlled, is_scalar, is_scalar_or_array, is_task_unit}
-use Rattle.ada_legality.specs.Values.{denoted_kind, denotes_function, denotes_procedure, denotes_value, ends_of_object, has_count, has_images, is_denoted, is_entry_kind, is_function_kind, is_kind, is_object_kind, is_own_entry, is_procedure_kind, is_task_object, kind_of_identifier, subtype_of_entity, type_of_ends}
+use Rattle.ada_legality.specs.Values.{denoted_kind, denotes_function, denotes_object, denotes_procedure, denotes_value, ends_of_object, has_count, has_images, is_denoted, is_entry_kind, is_function_kind, is_kind, is_object_kind, is_own_entry, is_procedure_kind, is_task_object, kind_of_identifier, subtype_of_entity, type_of_ends}
 
 -- ---- subtype marks (3.2.2): a type that is no root of controlled types, of which a range may be taken where one stands
 
@@ -71,6 +71,9 @@ index_fits k true d = is_unclear_object k d || is_some (ends_of_object k d)
 
 abbrev pub is_value_with : Known → Bool → Denoted → Bool
 is_value_with k has_arguments d = denotes_value k d && index_fits k has_arguments d
+
+abbrev pub may_be_target : Known → Bool → Denoted → Bool
+may_be_target k has_index d = denotes_object k d && index_fits k has_index d
 
 -- a value, an element of an array, or a function's call
 abbrev pub may_be_value : Known → Bool → Denoted → Bool
@@ -154,7 +157,7 @@ of_the_wrong_kind k (a_parent_type name) = unless (is_parent k name) (place_of n
 of_the_wrong_kind k (a_name_as_value name has_arguments) = unless_denoted (may_be_value k has_arguments) k name
 of_the_wrong_kind k (an_attribute name a) = unless_denoted (may_have_attribute k a) k name
 of_the_wrong_kind k (a_called_name name) = unless_denoted (denotes_procedure k) k name
-of_the_wrong_kind k (a_target name has_index) = unless_denoted (is_value_with k has_index) k name
+of_the_wrong_kind k (a_target name has_index) = unless_denoted (may_be_target k has_index) k name
 of_the_wrong_kind k (a_raise place (Some name)) = unless_denoted (denotes_exception k) k name
 of_the_wrong_kind k (some_handlers hs) = flat_map (unless_denoted (denotes_exception k) k) (flat_map exceptions_named hs)
 of_the_wrong_kind k (an_abort place names) = flat_map (unless_denoted (denotes_value k) k) names

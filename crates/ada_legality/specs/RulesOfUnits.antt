@@ -213,32 +213,40 @@ conforms_to k a b = conforms k a.parameters b.parameters && same_indication_if k
 
 -- ---- completions (3.11.1): one body, in the declaration's own part, of the same profile
 
-abbrev pub body_of_construct : Construct → List Identifier
-body_of_construct (a_subprogram_body s) = s.name ∷ []
-body_of_construct (a_task_body i) = i ∷ []
-body_of_construct (a_protected_body i) = i ∷ []
-body_of_construct (an_entry_body h) = h.name ∷ []
-body_of_construct c = []
+abbrev pub subprogram_bodies_in : Construct → List Identifier
+subprogram_bodies_in (a_subprogram_body s) = s.name ∷ []
+subprogram_bodies_in c = []
 
-abbrev pub bodies_in_text : Text → List Identifier
-bodies_in_text text = entities_of_text text body_of_construct
+abbrev pub task_bodies_in : Construct → List Identifier
+task_bodies_in (a_task_body i) = i ∷ []
+task_bodies_in c = []
 
-abbrev pub is_one_body : Names → List Identifier → ℕ → Bool
-is_one_body n bodies e = is_one (denote_entity n e bodies)
+abbrev pub protected_bodies_in : Construct → List Identifier
+protected_bodies_in (a_protected_body i) = i ∷ []
+protected_bodies_in c = []
+
+abbrev pub entry_bodies_in : Construct → List Identifier
+entry_bodies_in (an_entry_body h) = h.name ∷ []
+entry_bodies_in c = []
+
+-- the bodies of a kind that are bodies of what the identifier declares
+abbrev pub bodies_of_entity : Text → Names → (Construct → List Identifier) → ℕ → List Identifier
+bodies_of_entity text n f e = denote_entity n e (entities_of_text text f)
 
 -- what the identifier declares has one body, where it may stand
-abbrev pub has_its_body : Names → List Identifier → Identifier → Bool
-has_its_body n bodies i = unwrap_or (option_map (λ e. has_body n e && is_one_body n bodies e) (entity_denoted n i.place)) true
+abbrev pub has_its_body : Text → Names → (Construct → List Identifier) → Identifier → Bool
+has_its_body text n f i = unwrap_or (option_map (λ e. has_body n e && is_one (bodies_of_entity text n f e)) (entity_denoted n i.place)) true
 
-abbrev pub has_entry_body : Names → List Identifier → Identifier → Bool
-has_entry_body n bodies i = unwrap_or (option_map (is_one_body n bodies) (entity_denoted n i.place)) true
+abbrev pub has_entry_body : Text → Names → Identifier → Bool
+has_entry_body text n i = unwrap_or (option_map (λ e. is_one (bodies_of_entity text n entry_bodies_in e)) (entity_denoted n i.place)) true
 
-abbrev pub without_its_body : List Identifier → Known → Construct → Places
-without_its_body bodies k (a_subprogram_declaration s) = unless (has_its_body k.names bodies s.name) (place_of_specification s)
-without_its_body bodies k (a_task_declaration t) = unless (has_its_body k.names bodies t.name) t.place
-without_its_body bodies k (a_protected_declaration p) = unless (has_its_body k.names bodies p.name) p.place
-without_its_body bodies k (an_entry_list false entries) = flat_map (λ e. unless (has_entry_body k.names bodies e.name) e.place) entries
-without_its_body bodies k c = []
+abbrev pub without_its_body : Text → Known → Construct → Places
+without_its_body text k (a_subprogram_declaration s) =
+    unless (has_its_body text k.names subprogram_bodies_in s.name) (place_of_specification s)
+without_its_body text k (a_task_declaration t) = unless (has_its_body text k.names task_bodies_in t.name) t.place
+without_its_body text k (a_protected_declaration p) = unless (has_its_body text k.names protected_bodies_in p.name) p.place
+without_its_body text k (an_entry_list false entries) = flat_map (λ e. unless (has_entry_body text k.names e.name) e.place) entries
+without_its_body text k c = []
 
 -- a declaration is broken too where its body has another profile
 abbrev pub specification_in : Construct → List SubprogramSpecification
@@ -283,7 +291,7 @@ of_another_profile text k (an_accept_statement place i parameters) = other_accep
 of_another_profile text k c = []
 
 abbrev pub completions_broken : Text → Places
-completions_broken text = by_construct (without_its_body (bodies_in_text text)) text ++ by_construct (of_another_profile text) text
+completions_broken text = by_construct (without_its_body text) text ++ by_construct (of_another_profile text) text
 
 -- ---- the main procedure stands last, and packages are not nested: the grammar has no other source
 

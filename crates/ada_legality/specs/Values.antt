@@ -126,6 +126,15 @@ abbrev pub denotes_value : Known → Denoted → Bool
 denotes_value k d =
     is_some (constant_type d) || holds_of (λ x. is_object_kind x || is_literal_kind x) (denoted_kind k.names d)
 
+abbrev pub is_predefined_constant : Predefined → Bool
+is_predefined_constant (items.Constant of_type value) = true
+is_predefined_constant _ = false
+
+-- what is assigned is an object, a constant one too, or an element of an array
+abbrev pub denotes_object : Known → Denoted → Bool
+denotes_object k (denotes.Item u item) = is_predefined_constant item
+denotes_object k d = holds_of is_object_kind (denoted_kind k.names d)
+
 abbrev pub denotes_function : Known → Denoted → Bool
 denotes_function k d =
     unwrap_or (option_map is_function_operation (operation_denoted d)) (holds_of is_function_kind (denoted_kind k.names d))

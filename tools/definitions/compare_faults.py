@@ -6,7 +6,7 @@
     tools/definitions/compare_faults.py --front-end FOLDER --table FILE      a table of sources against its own answers
     tools/definitions/compare_faults.py --front-end FOLDER --tell FILE       such a table against the front end's answers
     .. --plain             every look-up by its definition, which is slower
-    .. --changed N SEED    of each source, N changed ones too: a token is dropped, doubled, or replaced by another of the source
+    .. --changed N SEED    of each source, N changed ones too: a name, a number, an operator or any token is another one
 
 Run at the root of the repository. FOLDER is that of ../program_data.py, which also has a generator. A table has for each source a
 line `## none TITLE` or `## L6 LINE:COLUMN TITLE`, and the source behind it; `@N TEXT@` in a source stands for TEXT N times, in
@@ -92,14 +92,23 @@ def table_of(path):
 
 
 TOKEN = re.compile(r'\s+|--[^\n]*|"(?:[^"\n]|"")*"|\d[\d_.]*|\w+|[=:/<>.]{1,2}|.', re.S)
+OPERATORS = ("+", "-", "*", "/", "=", "<", ">", "/=", "<=", ">=", "&", "and", "or", "xor", "mod", "rem")
+OTHERS = ("1", "1.5", "True", "null", '"a"', "Integer", "Boolean", "Duration", "Natural", "Constraint_Error", "99999999999", "(1)", "-1", "not True")
 
 
-def changed(source, random):
-    """The source with one token dropped, doubled or replaced by another one of it."""
+def changed(source, random, reserved):
+    """The source with one name, number or operator replaced by another one of it, or with a token dropped or doubled."""
     tokens = TOKEN.findall(source)
-    places = [i for i, t in enumerate(tokens) if t.strip() and not t.startswith("--")]
-    at, other = random.choice(places), random.choice(places)
-    tokens[at] = random.choice(["", tokens[at] + " " + tokens[at], tokens[other], tokens[other], tokens[other]])
+    names = [i for i, t in enumerate(tokens) if (t[0].isalnum() or t[0] == '"') and t.lower() not in reserved]
+    operators = [i for i, t in enumerate(tokens) if t.lower() in OPERATORS]
+    draw = random.random()
+    if draw < 0.15 and operators:
+        tokens[random.choice(operators)] = random.choice(OPERATORS)
+    elif draw < 0.3:
+        at = random.choice([i for i, t in enumerate(tokens) if t.strip()])
+        tokens[at] = random.choice(["", tokens[at] + " " + tokens[at]])
+    else:
+        tokens[random.choice(names)] = random.choice(OTHERS) if draw < 0.5 else tokens[random.choice(names)]
     return "".join(tokens)
 
 
@@ -142,7 +151,7 @@ def main():
         for title, source in given():
             yield title, source
             for i in range(a.changed[0]):
-                yield f"{title}, changed {i}", changed(source, draw)
+                yield f"{title}, changed {i}", changed(source, draw, lex.RESERVED)
 
     for title, source in cases():
         source = source.encode("latin-1")
@@ -151,7 +160,7 @@ def main():
             names.number(t, None)
         except (lex.LexFault, parse.ParseFault, names.NameFault) as fault:
             skipped += 1
-            if a.table or a.tell:
+            if (a.table or a.tell) and not a.changed[0]:
                 print(f"{title}: {fault!r}")
             continue
         u = convert.unit(t)

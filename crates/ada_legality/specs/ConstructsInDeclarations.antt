@@ -48,8 +48,8 @@ object_stands o k =
     ++ (indication_stands for_object o.subtype k ++ if_stands (value_stands_alone (type_of_mark k o.subtype)) o.initial k)
 
 abbrev pub component_stands : (Identifier → IndicationUse) → Component → Known → Text
-component_stands use c k =
-    indication_stands (use c.names.first) c.subtype k ++ if_stands (value_stands (type_of_mark k c.subtype)) c.initial k
+component_stands purpose c k =
+    indication_stands (purpose c.names.first) c.subtype k ++ if_stands (value_stands (type_of_mark k c.subtype)) c.initial k
 
 abbrev pub definition_stands : TypeDeclaration → TypeDefinition → Known → Text
 definition_stands t (definition.Enumeration literals) k = []

@@ -1,6 +1,6 @@
 -- The constructs in an expression (clause 4), in the order of the text, with the types of its parts.
 use Rattle.std.specs.List.{flat_map}
-use Rattle.std.specs.Prelude.{Bool, List, None, Option, Some, [], cond, false, is_some, map, max, not, option_map, slice_get, true, unwrap_or, ℕ, ◌&&◌, ◌++◌, ◌+◌, ◌||◌, ◌∷◌}
+use Rattle.std.specs.Prelude.{Bool, List, None, Option, Some, [], cond, false, is_some, length, map, max, not, option_map, slice_get, true, unwrap_or, ℕ, ◌&&◌, ◌++◌, ◌+◌, ◌||◌, ◌∷◌}
 use Rattle.ada_image.specs.ImageOfExpressions.{actuals_for, highest_operator, logical_operator, multiplying_operator, relational_operator}
 use Rattle.ada_lex.specs.Meaning.{decimals_of}
 use Rattle.ada_regions.specs.Completions.{holds_of}
@@ -199,9 +199,9 @@ both_lengths (Some a) None = None
 both_lengths (Some a) (Some b) = Some (a + b)
 
 abbrev pub length_if_joined : AddingOperator → Option ℕ → Option ℕ
-length_if_joined adding.Plus length = None
-length_if_joined adding.Minus length = None
-length_if_joined adding.Concatenation length = length
+length_if_joined adding.Plus bytes = None
+length_if_joined adding.Minus bytes = None
+length_if_joined adding.Concatenation bytes = bytes
 
 -- the type of Image's argument
 abbrev pub type_of_prefix : Known → Name → Option AdaType

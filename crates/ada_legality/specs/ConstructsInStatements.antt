@@ -99,7 +99,7 @@ constraint_stands m (Some (indicated.Access name)) k = []
 constraint_stands m (Some (indicated.Range low high)) k = bounds_if (type_of_mark k m) low high k
 
 abbrev pub indication_stands : IndicationUse → SubtypeIndication → Known → Text
-indication_stands use m k = stands k (an_indication use m) ++ constraint_stands m m.constraint k
+indication_stands purpose m k = stands k (an_indication purpose m) ++ constraint_stands m m.constraint k
 
 -- ---- parameters
 

@@ -103,10 +103,10 @@ calls_alone_broken text = by_construct inside_an_expression text
 
 abbrev pub is_short_line : Option ℕ → Bool
 is_short_line None = false
-is_short_line (Some length) = leb length 1000
+is_short_line (Some bytes) = leb bytes 1000
 
 abbrev pub of_another_form : Known → Construct → Places
-of_another_form k (a_line place length) = unless (is_short_line length) place
+of_another_form k (a_line place bytes) = unless (is_short_line bytes) place
 of_another_form k c = []
 
 abbrev pub lines_broken : Text → Places

@@ -44,7 +44,7 @@ abbrev pub range_fits : Option Indicated → AdaType → Bool
 range_fits m t = not (has_range m) || has_ranges t
 
 abbrev pub type_fits_indication : IndicationUse → SubtypeIndication → AdaType → Bool
-type_fits_indication use m t = not (is_root_controlled t) && (range_fits m.constraint t && may_be_indicated use t)
+type_fits_indication purpose m t = not (is_root_controlled t) && (range_fits m.constraint t && may_be_indicated purpose t)
 
 abbrev pub is_unclear_mark : EntityKind → Bool
 is_unclear_mark (entity.Mark None) = true
@@ -52,7 +52,7 @@ is_unclear_mark _ = false
 
 -- a mark whose own definition names no type is broken there
 abbrev pub is_fitting_mark : Known → IndicationUse → SubtypeIndication → Bool
-is_fitting_mark k use m = is_kind is_unclear_mark k m.name || unwrap_or (option_map (type_fits_indication use m) (type_of_mark k m)) false
+is_fitting_mark k purpose m = is_kind is_unclear_mark k m.name || unwrap_or (option_map (type_fits_indication purpose m) (type_of_mark k m)) false
 
 -- a controlled type is derived from Limited_Controlled or Controlled itself (7.6)
 abbrev pub is_parent : Known → Name → Bool
@@ -152,7 +152,7 @@ is_known_aspect on name = has_own_rule name || may_have_aspect on name
 -- ---- all names
 
 abbrev pub of_the_wrong_kind : Known → Construct → Places
-of_the_wrong_kind k (an_indication use m) = unless (is_fitting_mark k use m) (place_of m.name)
+of_the_wrong_kind k (an_indication purpose m) = unless (is_fitting_mark k purpose m) (place_of m.name)
 of_the_wrong_kind k (a_parent_type name) = unless (is_parent k name) (place_of name)
 of_the_wrong_kind k (a_name_as_value name has_arguments) = unless_denoted (may_be_value k has_arguments) k name
 of_the_wrong_kind k (an_attribute name a) = unless_denoted (may_have_attribute k a) k name

@@ -118,10 +118,10 @@ limited_objects_broken text = by_construct with_a_value text
 
 abbrev pub of_another_component : IndicationUse → AdaType → Places
 of_another_component (for_protected_component i) t = at_if (not (is_scalar_or_array t || is_root_controlled t)) i.place
-of_another_component use t = []
+of_another_component purpose t = []
 
 abbrev pub with_other_components : Known → Construct → Places
-with_other_components k (an_indication use m) = unwrap_or (option_map (of_another_component use) (type_of_mark k m)) []
+with_other_components k (an_indication purpose m) = unwrap_or (option_map (of_another_component purpose) (type_of_mark k m)) []
 with_other_components k c = []
 
 -- a protected function assigns no component of its object (9.5.1): also in the bodies inside it

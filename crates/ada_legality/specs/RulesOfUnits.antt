@@ -302,7 +302,7 @@ main_procedure_last_broken text = []
 
 abbrev pub may_have_access : IndicationUse → AdaType → Bool
 may_have_access for_object t = is_timer t
-may_have_access use t = false
+may_have_access purpose t = false
 
 abbrev pub has_access : Option Indicated → Bool
 has_access None = false
@@ -310,8 +310,8 @@ has_access (Some (indicated.Access name)) = true
 has_access (Some (indicated.Range low high)) = false
 
 abbrev pub with_discriminant : Known → Construct → Places
-with_discriminant k (an_indication use m) =
-    at_if (has_access m.constraint && unwrap_or (option_map (λ t. not (may_have_access use t || is_root_controlled t)) (type_of_mark k m)) false) (place_of m.name)
+with_discriminant k (an_indication purpose m) =
+    at_if (has_access m.constraint && unwrap_or (option_map (λ t. not (may_have_access purpose t || is_root_controlled t)) (type_of_mark k m)) false) (place_of m.name)
 with_discriminant k c = []
 
 abbrev pub discriminants_broken : Text → Places

@@ -5,6 +5,7 @@
     tools/definitions/compare_faults.py --front-end FOLDER --seeds FIRST LAST --size N --built K    the same of generated sources
     tools/definitions/compare_faults.py --front-end FOLDER --table FILE      a table of sources against its own answers
     tools/definitions/compare_faults.py --front-end FOLDER --tell FILE       such a table against the front end's answers
+    .. --built 2           of the forms that the program runs today, where the others are refused with L40
     .. --plain             every look-up by its definition, which is slower
     .. --changed N SEED    of each source, N changed ones too: a name, a number, an operator or any token is another one
 
@@ -20,7 +21,7 @@ import sys
 import threading
 
 sys.path.insert(0, os.path.dirname(os.path.abspath(__file__)))
-from antt import GLOBALS, load
+from antt import GLOBALS, Fn, load
 from tree_value import Converter
 
 
@@ -128,7 +129,8 @@ def main():
     import legal, lex, names, parse, tree
     convert = Converter(tree)
     names_of = definition("ada_regions.specs.Numbered", "names_of")
-    faults_with = definition("ada_legality.specs.Faults", "faults_with")
+    faults_where = definition("ada_legality.specs.Faults", "faults_where")
+    runs = Fn(1, definition("ada_legality.specs.Forms", "runs_all" if a.built >= 17 else "runs"))
     number_of_rule = definition("ada_legality.specs.Faults", "number_of_rule")
     same, other, skipped, told = 0, 0, 0, {}
     if not a.plain:
@@ -164,7 +166,7 @@ def main():
                 print(f"{title}: {fault!r}")
             continue
         u = convert.unit(t)
-        got = faults_with(u, names_of(u))
+        got = faults_where(runs, u, names_of(u))
         got = ((got[0].d["place"].d["line"], got[0].d["place"].d["column"]), number_of_rule(got[0].d["rule"])) if got else None
         if a.table:
             want = None if title.startswith("none ") else (tuple(map(int, title.split()[1].split(":"))), int(title.split()[0][1:]))

@@ -162,7 +162,6 @@ names_formal formals i = list_any (is_formal_named i.text) formals
 abbrev pub gives_name : List ℕ → ActualPart → Bool
 gives_name name a = unwrap_or (option_map (λ i. bytes_eq i.text name) a.formal) false
 
-
 -- the name of the formal in this place, where it is given in place
 abbrev pub formal_at : List FormalPart → ℕ → List ℕ
 formal_at formals at = unwrap_or (option_map (λ f. f.name) (slice_get formals at)) []

@@ -1,6 +1,6 @@
 -- What a text has that rules speak of: each construct, with the constructs around it and what its names denote. The rules
 -- are said of this list alone.
-use Rattle.std.specs.Prelude.{Bool, List, Option, [], map, ℕ, ◌∷◌}
+use Rattle.std.specs.Prelude.{Bool, List, Option, [], false, map, true, ℕ, ◌++◌, ◌∷◌}
 use Rattle.ada_image.specs.ImageOfExpressions.{known}
 use Rattle.ada_regions.specs.Denoted.{around}
 use Rattle.ada_regions.specs.Names.{Names}
@@ -154,6 +154,44 @@ pub record AlternativePart : Type 0 where
   pub own_place : Place
   pub kind : AlternativeKind
 
+-- ---- forms that a program may not run yet (own)
+
+pub data Form : Type 0 where
+  a_pragma_form : Form
+  a_with_form : Form
+  a_package_form : Form
+  -- a constant, an aliased object, one with a range or of another type than Integer
+  an_object_form : Form
+  a_type_form : Form
+  a_subtype_form : Form
+  an_exception_form : Form
+  a_subprogram_form : Form
+  a_task_form : Form
+  a_protected_form : Form
+  an_aspect_form : Form
+  a_handler_form : Form
+  -- an element of an array, in an assignment or an expression
+  an_element_form : Form
+  -- the call of a subprogram or an entry of the source
+  a_call_form : Form
+  -- a line of more than one text
+  a_line_form : Form
+  an_if_form : Form
+  a_case_form : Form
+  a_loop_form : Form
+  an_exit_form : Form
+  a_block_form : Form
+  a_return_form : Form
+  a_raise_form : Form
+  a_delay_form : Form
+  an_abort_form : Form
+  an_accept_form : Form
+  a_requeue_form : Form
+  a_select_form : Form
+  -- signs, operators and brackets; attributes
+  an_operator_form : Form
+  an_attribute_form : Form
+
 -- ---- constructs
 
 pub data Construct : Type 0 where
@@ -226,6 +264,9 @@ pub data Construct : Type 0 where
   a_selective_accept : Place → List AlternativePart → Bool → Construct
   a_trigger : Call → Construct
   a_timed_or_conditional_call : Call → Construct
+  -- a form begins; a construct stands in one
+  a_form : Form → Place → Construct
+  a_part_of : Form → Construct → Construct
 
 -- a construct where it stands
 pub record Standing : Type 0 where
@@ -240,6 +281,24 @@ stands k c = record { known = k; construct = c } ∷ []
 
 abbrev pub each_stands : Known → List Construct → Text
 each_stands k cs = map (λ c. record { known = k; construct = c }) cs
+
+-- a text is one form, which begins here
+abbrev pub part_of : Form → Standing → Standing
+part_of f s = record s { construct = a_part_of f s.construct }
+
+abbrev pub formed : Form → Place → Known → Text → Text
+formed f place k text = stands k (a_form f place) ++ map (part_of f) text
+
+abbrev pub formed_if : Bool → Form → Place → Known → Text → Text
+formed_if true f place k text = formed f place k text
+formed_if false f place k text = text
+
+abbrev pub formed_of : Form → Place → List Construct → List Construct
+formed_of f place cs = a_form f place ∷ map (a_part_of f) cs
+
+abbrev pub formed_of_if : Bool → Form → Place → List Construct → List Construct
+formed_of_if true f place cs = formed_of f place cs
+formed_of_if false f place cs = cs
 
 -- ---- places
 

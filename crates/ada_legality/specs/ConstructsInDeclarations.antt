@@ -1,10 +1,17 @@
 -- The constructs in declarations and bodies (clauses 3, 6, 7, 9, 11), in the order of the text.
 use Rattle.std.specs.List.{flat_map, list_any}
-use Rattle.std.specs.Prelude.{Bool, List, None, Option, Some, [], codes, cond, false, is_none, is_some, map, option_map, slice_get, suc, true, unwrap_or, ℕ, ◌&&◌, ◌++◌, ◌||◌, ◌∷◌}
+use Rattle.std.specs.Prelude.{Bool, List, None, Option, Some, [], codes, cond, false, is_none, is_some, map, not, option_map, slice_get, suc, true, unwrap_or, ℕ, ◌&&◌, ◌++◌, ◌||◌, ◌∷◌}
+use Rattle.std.specs.Str.{bytes_eq}
 use Rattle.ada_image.specs.ImageOfDeclarations.{subprogram_of_kind}
 use Rattle.ada_image.specs.UnitsOfImage.{overrides}
-use Rattle.ada_regions.specs.Names.{NumberedControlled, NumberedSubprogram, entity_denoted, kind_at}
+use Rattle.ada_regions.specs.Names.{NumberedControlled, NumberedSubprogram, denoted_by, entity_denoted, kind_at, last_part}
+use Rattle.ada_regions.specs.PredefinedUnits.{whole_integer}
+use Rattle.ada_regions.specs.Subtypes.{mark_denoted}
+use Rattle.ada_regions.specs.Visibility.{same_denoted}
 use Rattle.ada_regions.specs.Words.{all_of, and_then}
+use Rattle.ada_regions.specs.declared.entities.Denoted.TheVariants as denotes
+use Rattle.ada_regions.specs.declared.predefined.Predefined.TheVariants as items
+use Rattle.ada_regions.specs.declared.predefined.PredefinedUnit.TheVariants as units
 use Rattle.ada_tree.specs.declared.declarations.Aspect.{Aspect}
 use Rattle.ada_tree.specs.declared.declarations.Body.{Body}
 use Rattle.ada_tree.specs.declared.declarations.Component.{Component}
@@ -20,12 +27,14 @@ use Rattle.ada_tree.specs.declared.declarations.ProtectedDeclaration.{ProtectedD
 use Rattle.ada_tree.specs.declared.declarations.ProtectedOperation.TheVariants as operation
 use Rattle.ada_tree.specs.declared.declarations.ProtectedOperation.{ProtectedOperation}
 use Rattle.ada_tree.specs.declared.declarations.SubprogramSpecification.{SubprogramSpecification}
+use Rattle.ada_tree.specs.declared.declarations.SubtypeIndication.{SubtypeIndication}
 use Rattle.ada_tree.specs.declared.declarations.TaskDeclaration.{TaskDeclaration}
 use Rattle.ada_tree.specs.declared.declarations.TaskDefinition.{TaskDefinition}
 use Rattle.ada_tree.specs.declared.declarations.TypeDeclaration.{TypeDeclaration}
 use Rattle.ada_tree.specs.declared.declarations.TypeDefinition.TheVariants as definition
 use Rattle.ada_tree.specs.declared.declarations.TypeDefinition.{TypeDefinition}
 use Rattle.ada_tree.specs.declared.names.Identifier.{Identifier}
+use Rattle.ada_tree.specs.declared.names.Name.{Name}
 use Rattle.ada_tree.specs.declared.names.OneOrMore.{OneOrMore}
 use Rattle.ada_tree.specs.declared.statements.Handler.{Handler}
 use Rattle.ada_tree.specs.declared.statements.Sequence.TheFolds.{fold-Sequence}
@@ -34,18 +43,28 @@ use Rattle.ada_tree.specs.declared.statements.Sequence.{Sequence}
 use Rattle.ada_tree.specs.declared.statements.SequenceParts.{SequenceParts}
 use Rattle.ada_tree.specs.declared.statements.Statement.{Statement}
 use Rattle.ann_base.specs.declared.places.Place.{Place}
-use Rattle.ada_legality.specs.Constructs.{AspectOwner, IndicationUse, Known, Text, a_barrier, a_declared_object, a_parent_type, a_protected_body, a_protected_declaration, a_subprogram_body, a_subprogram_declaration, a_task_body, a_task_declaration, a_use_clause, an_array_type, an_aspect_list, an_entry_body, an_entry_list, each_stands, for_array_component, for_component, for_object, for_protected_component, for_result, for_subtype, in_entry, in_protected, in_subprogram, in_task, on_operation, on_protected, on_subprogram, on_task, some_handlers, stands, with_around}
+use Rattle.ada_legality.specs.Constructs.{AspectOwner, IndicationUse, Known, Text, a_barrier, a_declared_object, a_form, a_handler_form, a_parent_type, a_protected_body, a_protected_declaration, a_protected_form, a_subprogram_body, a_subprogram_declaration, a_subprogram_form, a_subtype_form, a_task_body, a_task_declaration, a_task_form, a_type_form, a_use_clause, an_array_type, an_aspect_form, an_aspect_list, an_entry_body, an_entry_list, an_exception_form, an_object_form, each_stands, first_name, for_array_component, for_component, for_object, for_protected_component, for_result, for_subtype, formed, formed_if, in_entry, in_protected, in_subprogram, in_task, on_operation, on_protected, on_subprogram, on_task, part_of, some_handlers, stands, with_around}
 use Rattle.ada_legality.specs.ConstructsInExpressions.{read_expression, without_point}
 use Rattle.ada_legality.specs.ConstructsInStatements.{all_stand, bounds_stand, condition_stands, handler_stands, if_stands, indication_stands, parameters_stand, statement_stands, type_of_mark, typed_expression, value_stands, value_stands_alone}
 use Rattle.ada_legality.specs.Places.{place_of_specification}
-use Rattle.ada_legality.specs.Types.{type_of_bounds}
+use Rattle.ada_legality.specs.Types.{is_root_controlled, type_of_bounds}
+use Rattle.ada_legality.specs.Values.{is_denoted}
 
 -- ---- objects, types and components
 
+-- of a type, and no plain variable of Integer
+abbrev pub is_plain_integer : Known → SubtypeIndication → Bool
+is_plain_integer k m = is_none m.constraint && is_denoted (same_denoted (denotes.Item units.Standard (items.Mark whole_integer))) k m.name
+    && bytes_eq (last_part m.name).text (codes "integer")
+
+abbrev pub is_object_form : Known → ObjectDeclaration → Bool
+is_object_form k o = is_some (type_of_mark k o.subtype) && (o.aliased || (o.constant || not (is_plain_integer k o.subtype)))
+
 abbrev pub object_stands : ObjectDeclaration → Known → Text
 object_stands o k =
-    stands k (a_declared_object o)
-    ++ (indication_stands for_object o.subtype k ++ if_stands (value_stands_alone (type_of_mark k o.subtype)) o.initial k)
+    formed_if (is_object_form k o) an_object_form (first_name o.names) k
+    (stands k (a_declared_object o)
+    ++ (indication_stands for_object o.subtype k ++ if_stands (value_stands_alone (type_of_mark k o.subtype)) o.initial k))
 
 abbrev pub component_stands : (Identifier → IndicationUse) → Component → Known → Text
 component_stands purpose c k =
@@ -59,10 +78,20 @@ definition_stands t (definition.Array low high component) k =
 definition_stands t (definition.Derived parent components) k =
     stands k (a_parent_type parent) ++ if_stands (λ cs. all_stand (component_stands (λ i. for_component)) (all_of cs)) components k
 
+-- a derived type has a parent of controlled types
+abbrev pub is_controlled_root : Known → Name → Bool
+is_controlled_root k name =
+    unwrap_or (option_map (λ s. is_root_controlled s.of_type) (and_then (denoted_by k.names name) (mark_denoted k.names))) false
+
+abbrev pub is_type_form : Known → TypeDefinition → Bool
+is_type_form k (definition.Enumeration literals) = true
+is_type_form k (definition.Array low high component) = true
+is_type_form k (definition.Derived parent components) = is_controlled_root k parent
+
 -- ---- aspects (13.1.1): a number with a point is one where a whole one is expected
 
 abbrev pub aspect_stands : Aspect → Known → Text
-aspect_stands a k = if_stands (λ e known. each_stands known (without_point (read_expression e) known)) a.value k
+aspect_stands a k = formed an_aspect_form a.name.place k (if_stands (λ e known. each_stands known (without_point (read_expression e) known)) a.value k)
 
 abbrev pub aspects_stand : AspectOwner → Place → List Aspect → Known → Text
 aspects_stand on place aspects k = stands k (an_aspect_list on place aspects) ++ all_stand aspect_stands aspects k
@@ -159,15 +188,16 @@ module _ {Q : Type 0} (sequence : Q → Known → Text) where
 
   abbrev pub declaration_stands : Declaration Q → Known → Text
   declaration_stands (declaration.Object o) k = object_stands o k
-  declaration_stands (declaration.Type t) k = definition_stands t t.definition k
-  declaration_stands (declaration.Subtype s) k = indication_stands for_subtype s.subtype k
-  declaration_stands (declaration.Exception names) k = []
-  declaration_stands (declaration.Subprogram s) k = subprogram_stands s k
-  declaration_stands (declaration.SubprogramBody s body) k = subprogram_body_stands s body k
-  declaration_stands (declaration.Task t) k = task_stands t k
-  declaration_stands (declaration.TaskBody place name body) k = stands k (a_task_body name) ++ sequence body.sequence (with_around (in_task name) k)
-  declaration_stands (declaration.Protected p) k = protected_stands p k
-  declaration_stands (declaration.ProtectedBody p) k = protected_body_stands p k
+  declaration_stands (declaration.Type t) k = formed_if (is_type_form k t.definition) a_type_form t.place k (definition_stands t t.definition k)
+  declaration_stands (declaration.Subtype s) k = formed a_subtype_form s.place k (indication_stands for_subtype s.subtype k)
+  declaration_stands (declaration.Exception names) k = stands k (a_form an_exception_form (first_name names))
+  declaration_stands (declaration.Subprogram s) k = formed a_subprogram_form (place_of_specification s) k (subprogram_stands s k)
+  declaration_stands (declaration.SubprogramBody s body) k = formed a_subprogram_form (place_of_specification s) k (subprogram_body_stands s body k)
+  declaration_stands (declaration.Task t) k = formed a_task_form t.place k (task_stands t k)
+  declaration_stands (declaration.TaskBody place name body) k =
+      formed a_task_form place k (stands k (a_task_body name) ++ sequence body.sequence (with_around (in_task name) k))
+  declaration_stands (declaration.Protected p) k = formed a_protected_form p.place k (protected_stands p k)
+  declaration_stands (declaration.ProtectedBody p) k = formed a_protected_form p.place k (protected_body_stands p k)
   declaration_stands (declaration.Use place name) k = stands k (a_use_clause name)
 
   abbrev pub declarations_stand : List (Declaration Q) → Known → Text
@@ -176,8 +206,12 @@ module _ {Q : Type 0} (sequence : Q → Known → Text) where
   abbrev pub statements_stand : OneOrMore (Statement Q) → Known → Text
   statements_stand ss k = all_stand (statement_stands sequence) (all_of ss) k
 
+  -- what the handlers handle is a part of them
+  abbrev pub handled_stands : List (Handler Q) → Known → Text
+  handled_stands hs k = map (part_of a_handler_form) (stands k (some_handlers (map (λ h. h.exceptions) hs)))
+
   abbrev pub handlers_stand : List (Handler Q) → Known → Text
-  handlers_stand hs k = stands k (some_handlers (map (λ h. h.exceptions) hs)) ++ all_stand (handler_stands sequence) hs k
+  handlers_stand hs k = handled_stands hs k ++ all_stand (handler_stands sequence) hs k
 
   -- the declarations, the statements and the handlers of a sequence
   abbrev pub parts_stand : SequenceParts Q → Known → Text

@@ -45,7 +45,7 @@ use Rattle.profile_machine.specs.declared.expressions.BinaryOperator.TheVariants
 use Rattle.profile_machine.specs.declared.expressions.BinaryOperator.{BinaryOperator}
 use Rattle.profile_machine.specs.declared.expressions.UnaryOperator.TheVariants as unary
 use Rattle.ada_legality.specs.Calls.{actual_part, formals_of_kind, formals_of_operation, has_named, has_span_first, moment_name, second_positional, span_by, without_name}
-use Rattle.ada_legality.specs.Constructs.{ActualPart, Asked, Construct, FormalPart, Known, Literal, Shape, Typed, Wanted, a_call_inside, a_concatenation, a_duration_literal, a_handler_actual, a_name_as_value, a_number, a_value, an_assigned_name, an_assigning_actual, an_attribute, an_attribute_with_arguments, an_integer_literal, an_operation, an_operation_of_one, another_pointed_literal, attributed, for_actual, for_condition, for_value, named, of_null, of_pointed_number, of_text, of_whole_number, other_shape, place_of, some_actuals, wanted_handler, wanted_type, without_type}
+use Rattle.ada_legality.specs.Constructs.{ActualPart, Asked, Construct, FormalPart, Known, Literal, Shape, Typed, Wanted, a_call_form, a_call_inside, a_concatenation, a_duration_literal, a_handler_actual, a_name_as_value, a_number, a_value, an_assigned_name, an_assigning_actual, an_attribute, an_attribute_form, an_attribute_with_arguments, an_element_form, an_integer_literal, an_operation, an_operation_of_one, an_operator_form, another_pointed_literal, attributed, for_actual, for_condition, for_value, formed_of, named, of_null, of_pointed_number, of_text, of_whole_number, other_shape, place_of, some_actuals, wanted_handler, wanted_type, without_type}
 use Rattle.ada_legality.specs.Types.{discrete_if, is_duration, is_integer, operation_type, operation_type_of_one, typed_if}
 use Rattle.ada_legality.specs.Values.{denoted_kind, denotes_function, ends_of_object, innermost_unit, is_denoted, is_function_kind, is_kind, is_literal_kind, is_type, operation_of, takes_arguments, typed_attribute_of, typed_name}
 
@@ -81,6 +81,14 @@ literal_in r = unwrap_or r.literal no_literal
 -- the literal of a number as it stands in the tree
 abbrev pub with_minus : Place → Literal → Literal
 with_minus at l = record l { place = at; negative = true }
+
+abbrev pub is_attributed : Shape → Bool
+is_attributed (attributed name a has_arguments) = true
+is_attributed _ = false
+
+-- a text as it stands
+abbrev pub is_text_of_shape : Read → Known → Bool
+is_text_of_shape r k = is_some (r.piece k) && not (is_attributed r.shape)
 
 -- ---- the constructs of an expression in its place
 
@@ -358,8 +366,8 @@ module _ {E : Type 0} (read : E → Read) where
 
   abbrev pub constructs_denoted : Name → List (Argument E) → Known → Denoted → List Construct
   constructs_denoted name arguments k d =
-      cond (denotes_function k d) (actuals_of (place_of name) (formals_denoted arguments k d) arguments k)
-      (cond (nothing_there arguments) [] (element_constructs name arguments k d))
+      cond (denotes_function k d) (formed_of a_call_form (place_of name) (actuals_of (place_of name) (formals_denoted arguments k d) arguments k))
+      (cond (nothing_there arguments) [] (formed_of an_element_form (place_of name) (element_constructs name arguments k d)))
 
   abbrev pub constructs_named : Name → List (Argument E) → Known → List Construct
   constructs_named name arguments k =
@@ -403,7 +411,7 @@ module _ {E : Type 0} (read : E → Read) where
     literal = None;
     shape = attributed name a.attribute (not (nothing_there arguments));
     typed = λ k. typed_attribute_of k name a.attribute (not (nothing_there arguments));
-    constructs = constructs_attributed name a.attribute arguments;
+    constructs = λ k. formed_of an_attribute_form (place_of name) (constructs_attributed name a.attribute arguments k);
     piece = image_length name a.attribute;
     line = image_length name a.attribute;
     built_as_barrier = never_built;
@@ -415,7 +423,8 @@ module _ {E : Type 0} (read : E → Read) where
     literal = None;
     shape = other_shape;
     typed = λ k. typed_operands operator ((read first).typed k) (all_of others) k;
-    constructs = λ k. as_operand (read first) k ++ constructs_in_operands operator ((read first).typed k) (all_of others) k;
+    constructs = λ k. formed_of an_operator_form (read first).place
+        (as_operand (read first) k ++ constructs_in_operands operator ((read first).typed k) (all_of others) k);
     piece = no_length;
     line = no_length;
     built_as_barrier = λ k. is_barrier_operator operator && ((read first).built_as_barrier k && operands_as_barrier (all_of others) k);
@@ -425,8 +434,8 @@ module _ {E : Type 0} (read : E → Read) where
     literal = None;
     shape = other_shape;
     typed = λ k. typed_operation (relational_operator operator) ((read left).typed k) ((read right).typed k);
-    constructs = λ k. as_operand (read left) k ++ (as_operand (read right) k
-        ++ an_operation at (relational_operator operator) ((read left).typed k) ((read right).typed k) ∷ []);
+    constructs = λ k. formed_of an_operator_form (read left).place (as_operand (read left) k ++ (as_operand (read right) k
+        ++ an_operation at (relational_operator operator) ((read left).typed k) ((read right).typed k) ∷ []));
     piece = no_length;
     line = no_length;
     built_as_barrier = λ k. (read left).built_as_barrier k && (read right).built_as_barrier k;
@@ -436,7 +445,8 @@ module _ {E : Type 0} (read : E → Read) where
     literal = None;
     shape = other_shape;
     typed = λ k. typed_addends ((read first).typed k) (all_of others) k;
-    constructs = λ k. as_operand (read first) k ++ constructs_in_addends ((read first).typed k) (all_of others) k;
+    constructs = λ k. formed_of an_operator_form (read first).place
+        (as_operand (read first) k ++ constructs_in_addends ((read first).typed k) (all_of others) k);
     piece = no_length;
     line = λ k. both_lengths ((read first).piece k) (length_of_addends (all_of others) k);
     built_as_barrier = never_built;
@@ -446,7 +456,7 @@ module _ {E : Type 0} (read : E → Read) where
     literal = literal_signed at s (read operand);
     shape = other_shape;
     typed = typed_signed s (read operand);
-    constructs = constructs_signed at s (read operand);
+    constructs = λ k. formed_of an_operator_form at (constructs_signed at s (read operand) k);
     piece = no_length;
     line = no_length;
     built_as_barrier = never_built;
@@ -456,7 +466,8 @@ module _ {E : Type 0} (read : E → Read) where
     literal = None;
     shape = other_shape;
     typed = λ k. typed_factors ((read first).typed k) (all_of others) k;
-    constructs = λ k. as_operand (read first) k ++ constructs_in_factors ((read first).typed k) (all_of others) k;
+    constructs = λ k. formed_of an_operator_form (read first).place
+        (as_operand (read first) k ++ constructs_in_factors ((read first).typed k) (all_of others) k);
     piece = no_length;
     line = no_length;
     built_as_barrier = never_built;
@@ -466,7 +477,8 @@ module _ {E : Type 0} (read : E → Read) where
     literal = None;
     shape = other_shape;
     typed = λ k. typed_if (operation_type_of_one (highest_operator operator) ((read operand).typed k));
-    constructs = λ k. as_operand (read operand) k ++ an_operation_of_one at (highest_operator operator) ((read operand).typed k) ∷ [];
+    constructs = λ k. formed_of an_operator_form at
+        (as_operand (read operand) k ++ an_operation_of_one at (highest_operator operator) ((read operand).typed k) ∷ []);
     piece = no_length;
     line = no_length;
     built_as_barrier = λ k. is_not operator && (read operand).built_as_barrier k;
@@ -506,7 +518,7 @@ module _ {E : Type 0} (read : E → Read) where
     literal = (read inner).literal;
     shape = other_shape;
     typed = (read inner).typed;
-    constructs = λ k. as_it_is (read inner) k;
+    constructs = λ k. formed_of an_operator_form at (as_it_is (read inner) k);
     piece = no_length;
     line = no_length;
     built_as_barrier = (read inner).built_as_barrier;

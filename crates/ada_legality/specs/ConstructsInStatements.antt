@@ -1,6 +1,6 @@
 -- The constructs in statements (clauses 5, 6.4, 9, 11), in the order of the text.
 use Rattle.std.specs.List.{flat_map}
-use Rattle.std.specs.Prelude.{Bool, List, None, Option, Some, [], cond, false, is_some, map, option_map, true, unwrap_or, ◌&&◌, ◌++◌, ◌∷◌}
+use Rattle.std.specs.Prelude.{Bool, List, None, Option, Some, [], cond, false, is_some, map, not, option_map, true, unwrap_or, ◌&&◌, ◌++◌, ◌||◌, ◌∷◌}
 use Rattle.ada_image.specs.ImageOfExpressions.{actuals_for}
 use Rattle.ada_regions.specs.Names.{denoted_by, entity_denoted}
 use Rattle.ada_regions.specs.PredefinedUnits.{names_of_formals}
@@ -19,6 +19,7 @@ use Rattle.ada_tree.specs.declared.declarations.Constraint.{Constraint as Indica
 use Rattle.ada_tree.specs.declared.declarations.Parameter.{Parameter}
 use Rattle.ada_tree.specs.declared.declarations.SubprogramSpecification.{SubprogramSpecification}
 use Rattle.ada_tree.specs.declared.declarations.SubtypeIndication.{SubtypeIndication}
+use Rattle.ada_tree.specs.declared.expressions.Argument.{Argument}
 use Rattle.ada_tree.specs.declared.expressions.Expression.{Expression}
 use Rattle.ada_tree.specs.declared.names.Identifier.{Identifier}
 use Rattle.ada_tree.specs.declared.names.Name.{Name}
@@ -51,9 +52,9 @@ use Rattle.ada_tree.specs.declared.statements.Statement.TheVariants as statement
 use Rattle.ada_tree.specs.declared.statements.Statement.{Statement}
 use Rattle.ann_base.specs.declared.places.Place.{Place}
 use Rattle.profile_machine.specs.declared.values.Constraint.TheVariants as constraint
-use Rattle.ada_legality.specs.Constructs.{AlternativeKind, AlternativePart, Around, Construct, IndicationUse, Known, LoopParameter, Shape, Text, Typed, a_called_name, a_case, a_delay, a_discrete_value, a_line, a_loop_with_parameter, a_pair_of_bounds, a_profile_of, a_raise, a_requeue, a_return, a_select, a_selective_accept, a_target, a_timed_or_conditional_call, a_trigger, accept_alternative, an_abort, an_accept_statement, an_assigned_name, an_assignment, an_exit, an_indication, an_integer_literal, another_pointed_literal, delay_alternative, delay_until_alternative, each_stands, for_parameter, for_value, in_accept, in_asynchronous_select, in_entry, in_handler, in_loop, in_main, in_package, in_protected, in_subprogram, in_task, named, of_pointed_number, of_whole_number, place_of, stands, terminate_alternative, with_around, without_type}
-use Rattle.ada_legality.specs.ConstructsInExpressions.{Read, actuals_of, arguments_as_they_are, as_it_is, condition_in, expected, expected_alone, formals_denoted, literal_in, read_expression}
-use Rattle.ada_legality.specs.Places.{place_of_alternative, place_of_alternative_in, place_of_loop}
+use Rattle.ada_legality.specs.Constructs.{AlternativeKind, AlternativePart, Around, Construct, Form, IndicationUse, Known, LoopParameter, Shape, Text, Typed, a_block_form, a_call_form, a_called_name, a_case, a_case_form, a_delay, a_delay_form, a_discrete_value, a_handler_form, a_line, a_line_form, a_loop_form, a_loop_with_parameter, a_pair_of_bounds, a_profile_of, a_raise, a_raise_form, a_requeue, a_requeue_form, a_return, a_return_form, a_select, a_select_form, a_selective_accept, a_target, a_timed_or_conditional_call, a_trigger, accept_alternative, an_abort, an_abort_form, an_accept_form, an_accept_statement, an_assigned_name, an_assignment, an_element_form, an_exit, an_exit_form, an_if_form, an_indication, an_integer_literal, another_pointed_literal, delay_alternative, delay_until_alternative, each_stands, for_parameter, for_value, formed, formed_if, in_accept, in_asynchronous_select, in_entry, in_handler, in_loop, in_main, in_package, in_protected, in_subprogram, in_task, named, of_pointed_number, of_whole_number, place_of, stands, terminate_alternative, with_around, without_type}
+use Rattle.ada_legality.specs.ConstructsInExpressions.{Read, actuals_of, arguments_as_they_are, as_it_is, condition_in, expected, expected_alone, formals_denoted, is_text_of_shape, literal_in, read_expression}
+use Rattle.ada_legality.specs.Places.{place_of_alternative, place_of_alternative_in, place_of_block, place_of_loop}
 use Rattle.ada_legality.specs.Types.{discrete_if, has_ranges, is_pointed, operand_type, type_of_bounds}
 use Rattle.ada_legality.specs.Values.{denotes_object, denotes_procedure, ends_of_object, is_denoted, typed_name}
 
@@ -148,10 +149,30 @@ abbrev pub call_denoted : Call → Known → Denoted → List Construct
 call_denoted c k d = cond (denotes_procedure k d)
     (cond (is_put_line d) (put_line_constructs c k d) [] ++ call_arguments c k d) (other_arguments c k)
 
+-- a call of the source, or a line that is no single text
+abbrev pub is_single_text : Known → Expression → Bool
+is_single_text k e = is_text_of_shape (read_expression e) k || is_pointed (typed_expression k e)
+
+abbrev pub is_text_in : List (Option Expression) → Known → Bool
+is_text_in [] k = true
+is_text_in (a ∷ rest) k = unwrap_or (option_map (is_single_text k) a) true
+
+abbrev pub is_text_alone : List (Argument Expression) → Known → Bool
+is_text_alone arguments k = is_text_in (actuals_for (names_of_formals operations.PutLine) arguments) k
+
+abbrev pub form_of_call : Call → Known → Denoted → Form
+form_of_call c k d = cond (is_put_line d) a_line_form a_call_form
+
+abbrev pub has_call_form : Call → Known → Denoted → Bool
+has_call_form c k d = denotes_procedure k d && not (is_put_line d && is_text_alone c.arguments k)
+
+abbrev pub call_formed : Call → Known → Text → Denoted → Text
+call_formed c k text d = formed_if (has_call_form c k d) (form_of_call c k d) (place_of c.name) k text
+
 abbrev pub call_stands : Call → Known → Text
 call_stands c k =
-    stands k (a_called_name c.name)
-    ++ each_stands k (unwrap_or (option_map (call_denoted c k) (denoted_by k.names c.name)) (other_arguments c k))
+    let text = each_stands k (unwrap_or (option_map (call_denoted c k) (denoted_by k.names c.name)) (other_arguments c k)) in
+    stands k (a_called_name c.name) ++ unwrap_or (option_map (call_formed c k text) (denoted_by k.names c.name)) text
 
 -- ---- simple statements
 
@@ -168,18 +189,19 @@ index_stands k name (Some e) = value_stands (type_of_index_of k name) e k
 abbrev pub assignment_stands : Assignment → Known → Text
 assignment_stands a k =
     let target = typed_target k a in
-    stands k (a_target a.target (is_some a.index)) ++ (stands k (an_assigned_name a.target) ++ (index_stands k a.target a.index
-    ++ (stands k (an_assignment a.target target a.value (typed_expression k a.value)) ++ value_stands_alone (operand_type target) a.value k)))
+    formed_if (is_some a.index) an_element_form (place_of a.target) k
+    (stands k (a_target a.target (is_some a.index)) ++ (stands k (an_assigned_name a.target) ++ (index_stands k a.target a.index
+    ++ (stands k (an_assignment a.target target a.value (typed_expression k a.value)) ++ value_stands_alone (operand_type target) a.value k))))
 
 abbrev pub delay_type : Bool → AdaType
 delay_type true = types.Time
 delay_type false = types.Duration
 
 abbrev pub delay_stands : Delay → Known → Text
-delay_stands d k = stands k (a_delay d) ++ value_stands (Some (delay_type d.until)) d.value k
+delay_stands d k = formed a_delay_form d.place k (stands k (a_delay d) ++ value_stands (Some (delay_type d.until)) d.value k)
 
 abbrev pub exit_stands : Exit → Known → Text
-exit_stands e k = stands k (an_exit e) ++ if_stands condition_stands e.condition k
+exit_stands e k = formed an_exit_form e.place k (stands k (an_exit e) ++ if_stands condition_stands e.condition k)
 
 -- the result's type of the function in whose body a statement stands; an accept and any other body have none
 abbrev pub function_around : List Around → Option SubprogramSpecification
@@ -199,7 +221,8 @@ abbrev pub result_expected : Known → Option AdaType
 result_expected k = and_then (function_around k.around) (λ s. and_then s.result (type_of_mark k))
 
 abbrev pub return_stands : Place → Option Expression → Known → Text
-return_stands place e k = stands k (a_return place (is_some e)) ++ if_stands (value_stands_alone (result_expected k)) e k
+return_stands place e k =
+    formed a_return_form place k (stands k (a_return place (is_some e)) ++ if_stands (value_stands_alone (result_expected k)) e k)
 
 -- ---- case statements (5.4)
 
@@ -292,15 +315,15 @@ module _ {Q : Type 0} (sequence : Q → Known → Text) where
       ++ sequence l.statements (with_around (in_loop (option_map (λ x. x.name) l.label)) (with_iteration l.iteration k))
 
   abbrev pub handler_stands : Handler Q → Known → Text
-  handler_stands h k = sequence h.statements (with_around in_handler k)
+  handler_stands h k = formed a_handler_form h.place k (sequence h.statements (with_around in_handler k))
 
   abbrev pub accept_body_stands : Identifier → AcceptBody Q → Known → Text
   accept_body_stands entry b k = sequence b.sequence (with_around (in_accept entry) k)
 
   abbrev pub accept_stands : Accept Q → Known → Text
   accept_stands a k =
-      stands k (an_accept_statement a.place a.entry a.parameters)
-      ++ (parameters_stand false false a.parameters k ++ if_stands (accept_body_stands a.entry) a.body k)
+      formed an_accept_form a.place k (stands k (an_accept_statement a.place a.entry a.parameters)
+      ++ (parameters_stand false false a.parameters k ++ if_stands (accept_body_stands a.entry) a.body k))
 
   abbrev pub alternative_stands : Alternative Q → Known → Text
   alternative_stands (alternative.Accept accept statements) k = accept_stands accept k ++ if_stands sequence statements k
@@ -338,14 +361,14 @@ module _ {Q : Type 0} (sequence : Q → Known → Text) where
   statement_stands (statement.Assignment a) k = assignment_stands a k
   statement_stands (statement.Call c) k = call_stands c k
   statement_stands (statement.Delay d) k = delay_stands d k
-  statement_stands (statement.If i) k = if_statement_stands i k
-  statement_stands (statement.Case c) k = case_stands c k
-  statement_stands (statement.Loop l) k = loop_stands l k
+  statement_stands (statement.If i) k = formed an_if_form i.place k (if_statement_stands i k)
+  statement_stands (statement.Case c) k = formed a_case_form c.place k (case_stands c k)
+  statement_stands (statement.Loop l) k = formed a_loop_form (place_of_loop l) k (loop_stands l k)
   statement_stands (statement.Exit e) k = exit_stands e k
-  statement_stands (statement.Block b) k = sequence b.sequence k
+  statement_stands (statement.Block b) k = formed a_block_form (place_of_block b) k (sequence b.sequence k)
   statement_stands (statement.Return place value) k = return_stands place value k
-  statement_stands (statement.Raise place exception) k = stands k (a_raise place exception)
-  statement_stands (statement.Abort place tasks) k = stands k (an_abort place (all_of tasks))
+  statement_stands (statement.Raise place exception) k = formed a_raise_form place k (stands k (a_raise place exception))
+  statement_stands (statement.Abort place tasks) k = formed an_abort_form place k (stands k (an_abort place (all_of tasks)))
   statement_stands (statement.Accept a) k = accept_stands a k
-  statement_stands (statement.Requeue place entry with_abort) k = stands k (a_requeue place entry)
-  statement_stands (statement.Select s) k = stands k (a_select s.place) ++ select_form_stands s.place s.form k
+  statement_stands (statement.Requeue place entry with_abort) k = formed a_requeue_form place k (stands k (a_requeue place entry))
+  statement_stands (statement.Select s) k = formed a_select_form s.place k (stands k (a_select s.place) ++ select_form_stands s.place s.form k)

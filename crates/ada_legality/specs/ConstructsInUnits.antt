@@ -1,14 +1,19 @@
 -- The constructs in a source (clauses 7, 10), in the order of the text.
 use Rattle.std.specs.List.{flat_map}
-use Rattle.std.specs.Prelude.{List, [], cond, ◌++◌, ◌∷◌}
+use Rattle.std.specs.Prelude.{Bool, List, [], cond, false, not, ◌++◌, ◌||◌, ◌∷◌}
 use Rattle.ada_regions.specs.Denoted.{around}
 use Rattle.ada_regions.specs.Names.{Names}
 use Rattle.ada_regions.specs.NamesInUnits.{names_in_unit}
 use Rattle.ada_regions.specs.Occurrences.{Declared, Occurrence, an_array, declares}
+use Rattle.ada_regions.specs.PredefinedUnits.{same_unit}
 use Rattle.ada_regions.specs.Words.{all_of}
+use Rattle.ada_regions.specs.declared.entities.Denoted.TheVariants as denotes
+use Rattle.ada_regions.specs.declared.entities.Denoted.{Denoted}
+use Rattle.ada_regions.specs.declared.predefined.PredefinedUnit.TheVariants as units
 use Rattle.ada_regions.specs.declared.types.AdaType.{AdaType}
 use Rattle.ada_tree.specs.declared.declarations.Declaration.{Declaration}
 use Rattle.ada_tree.specs.declared.expressions.Expression.{Expression}
+use Rattle.ada_tree.specs.declared.names.Name.{Name}
 use Rattle.ada_tree.specs.declared.statements.Sequence.{Sequence}
 use Rattle.ada_tree.specs.declared.units.ContextClause.{ContextClause}
 use Rattle.ada_tree.specs.declared.units.LibraryPackage.{LibraryPackage}
@@ -18,14 +23,25 @@ use Rattle.ada_tree.specs.declared.units.Package.{Package}
 use Rattle.ada_tree.specs.declared.units.PackageBody.{PackageBody}
 use Rattle.ada_tree.specs.declared.units.PackageDeclaration.{PackageDeclaration}
 use Rattle.ada_tree.specs.declared.units.Unit.{Unit as Tree}
-use Rattle.ada_legality.specs.Constructs.{Known, Text, a_main_procedure, a_package, a_package_body, a_use_clause, a_with_clause, in_main, in_package, on_main, stands, with_around}
+use Rattle.ann_base.specs.declared.places.Place.{Place}
+use Rattle.ada_legality.specs.Constructs.{Known, Text, a_main_procedure, a_package, a_package_body, a_package_form, a_use_clause, a_with_clause, a_with_form, formed, formed_if, in_main, in_package, on_main, stands, with_around}
 use Rattle.ada_legality.specs.ConstructsInDeclarations.{aspects_stand, declarations_stand, sequence_stands}
 use Rattle.ada_legality.specs.ConstructsInStatements.{all_stand, if_stands, typed_expression}
 use Rattle.ada_legality.specs.Types.{type_of_bounds}
+use Rattle.ada_legality.specs.Values.{is_denoted}
+
+-- a predefined unit that is more than Standard and Ada.Text_IO
+abbrev pub is_unit_form : Denoted → Bool
+is_unit_form (denotes.Entity e) = false
+is_unit_form (denotes.Unit u) = not (same_unit u units.Standard || same_unit u units.TextIo)
+is_unit_form (denotes.Item u item) = false
+
+abbrev pub named_unit_stands : Place → Name → Known → Text
+named_unit_stands place name k = formed_if (is_denoted is_unit_form k name) a_with_form place k (stands k (a_with_clause name))
 
 abbrev pub with_clause_stands : ContextClause → Known → Text
 with_clause_stands c k = cond c.is_use (all_stand (λ name known. stands known (a_use_clause name)) (all_of c.names) k)
-    (all_stand (λ name known. stands known (a_with_clause name)) (all_of c.names) k)
+    (all_stand (named_unit_stands c.place) (all_of c.names) k)
 
 abbrev pub context_stands : List ContextClause → Known → Text
 context_stands clauses k = all_stand with_clause_stands clauses k
@@ -35,11 +51,13 @@ part_stands ds k = declarations_stand sequence_stands ds k
 
 abbrev pub package_declaration_stands : PackageDeclaration → Known → Text
 package_declaration_stands p k =
-    stands k (a_package p) ++ (part_stands p.declarations (with_around in_package k) ++ if_stands part_stands p.private (with_around in_package k))
+    formed a_package_form p.place k
+    (stands k (a_package p) ++ (part_stands p.declarations (with_around in_package k) ++ if_stands part_stands p.private (with_around in_package k)))
 
 abbrev pub package_body_stands : PackageBody → Known → Text
 package_body_stands p k =
-    stands k (a_package_body p) ++ (part_stands p.declarations (with_around in_package k) ++ if_stands sequence_stands p.sequence (with_around in_package k))
+    formed a_package_form p.place k
+    (stands k (a_package_body p) ++ (part_stands p.declarations (with_around in_package k) ++ if_stands sequence_stands p.sequence (with_around in_package k)))
 
 abbrev pub package_stands : Package → Known → Text
 package_stands (packages.Declaration p) k = package_declaration_stands p k

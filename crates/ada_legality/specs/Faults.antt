@@ -1,14 +1,15 @@
 -- The faults of a source (1.1.5): all pairs of a place and a rule that is broken there, in the order of the text, at one place
 -- by the numbers of the rules.
-use Rattle.std.specs.List.{flat_map}
-use Rattle.std.specs.Prelude.{Bool, List, None, Option, Some, [], cond, eqb, ltb, map, ℕ, ◌&&◌, ◌||◌, ◌∷◌}
+use Rattle.std.specs.List.{flat_map, list_any}
+use Rattle.std.specs.Prelude.{Bool, List, None, Option, Some, [], cond, eqb, filter, ltb, map, not, ℕ, ◌&&◌, ◌||◌, ◌∷◌}
 use Rattle.ada_regions.specs.Names.{Names}
 use Rattle.ada_regions.specs.Numbered.{names_of}
 use Rattle.ada_regions.specs.Words.{same_place, stands_before}
 use Rattle.ada_tree.specs.declared.units.Unit.{Unit as Tree}
 use Rattle.ada_legality.specs.Broken.{Places}
-use Rattle.ada_legality.specs.Constructs.{Text}
+use Rattle.ada_legality.specs.Constructs.{Form, Text}
 use Rattle.ada_legality.specs.ConstructsInUnits.{text_of}
+use Rattle.ada_legality.specs.Forms.{forms_broken, runs, text_where}
 use Rattle.ada_legality.specs.RulesOfAspects.{controlled_operations_broken, cpu_aspects_broken, handlers_broken, interrupts_broken, priority_aspects_broken, relative_deadlines_broken}
 use Rattle.ada_legality.specs.RulesOfExpressions.{actuals_broken, assigned_variables_broken, calls_alone_broken, expected_types_broken, lines_broken, operand_types_broken}
 use Rattle.ada_legality.specs.RulesOfLimits.{limits_broken}
@@ -86,47 +87,47 @@ in_order_of_text (f ∷ fs) = fault_put f (in_order_of_text fs)
 
 -- ---- the places at which each rule is broken
 
-abbrev pub broken_at : Rule → Tree → Names → Text → Places
-broken_at rule.LibraryUnits u n text = library_units_broken u text
-broken_at rule.PackageBodies u n text = package_bodies_broken text
-broken_at rule.MainProcedureLast u n text = main_procedure_last_broken text
-broken_at rule.Completions u n text = completions_broken text
-broken_at rule.KindOfName u n text = kinds_of_names_broken text
-broken_at rule.StaticBounds u n text = static_bounds_broken text
-broken_at rule.IntegerLiteral u n text = integer_literals_broken text
-broken_at rule.DurationLiteral u n text = duration_literals_broken text
-broken_at rule.ExpectedType u n text = expected_types_broken text
-broken_at rule.OperandTypes u n text = operand_types_broken text
-broken_at rule.AssignedVariable u n text = assigned_variables_broken text
-broken_at rule.Actuals u n text = actuals_broken text
-broken_at rule.FunctionCallAlone u n text = calls_alone_broken text
-broken_at rule.LimitedObject u n text = limited_objects_broken text
-broken_at rule.ConditionsAndChoices u n text = conditions_and_choices_broken text
-broken_at rule.ExitFromLoop u n text = exits_broken text
-broken_at rule.ReturnStatement u n text = returns_broken text
-broken_at rule.RaiseAndHandlers u n text = raises_and_handlers_broken text
-broken_at rule.AcceptStatement u n text = accepts_broken text
-broken_at rule.SelectiveAccept u n text = selective_accepts_broken text
-broken_at rule.AsynchronousSelect u n text = asynchronous_selects_broken text
-broken_at rule.EntryCallAlternative u n text = entry_calls_broken text
-broken_at rule.AbortedTask u n text = aborts_broken text
-broken_at rule.EntryBarrier u n text = barriers_broken text
-broken_at rule.ProtectedComponents u n text = protected_components_broken text
-broken_at rule.PriorityAspect u n text = priority_aspects_broken text
-broken_at rule.CpuAspect u n text = cpu_aspects_broken text
-broken_at rule.HandlerProcedure u n text = handlers_broken text
-broken_at rule.AttachedInterrupt u n text = interrupts_broken text
-broken_at rule.ConfigurationPragma u n text = pragmas_broken u
-broken_at rule.DeadlineScheduling u n text = deadline_scheduling_broken u text
-broken_at rule.RelativeDeadlineAspect u n text = relative_deadlines_broken text
-broken_at rule.ControlledOperations u n text = controlled_operations_broken text
-broken_at rule.LibraryLevelObject u n text = library_level_broken text
-broken_at rule.RequeueStatement u n text = requeues_broken u text
-broken_at rule.Restriction u n text = restrictions_broken u text
-broken_at rule.Discriminant u n text = discriminants_broken text
-broken_at rule.Limit u n text = limits_broken u n text
-broken_at rule.PutLineForm u n text = lines_broken text
-broken_at rule.FormNotBuilt u n text = []
+abbrev pub broken_at : Rule → (Form → Bool) → Tree → Names → Text → Places
+broken_at rule.LibraryUnits run u n text = library_units_broken u text
+broken_at rule.PackageBodies run u n text = package_bodies_broken text
+broken_at rule.MainProcedureLast run u n text = main_procedure_last_broken text
+broken_at rule.Completions run u n text = completions_broken text
+broken_at rule.KindOfName run u n text = kinds_of_names_broken text
+broken_at rule.StaticBounds run u n text = static_bounds_broken text
+broken_at rule.IntegerLiteral run u n text = integer_literals_broken text
+broken_at rule.DurationLiteral run u n text = duration_literals_broken text
+broken_at rule.ExpectedType run u n text = expected_types_broken text
+broken_at rule.OperandTypes run u n text = operand_types_broken text
+broken_at rule.AssignedVariable run u n text = assigned_variables_broken text
+broken_at rule.Actuals run u n text = actuals_broken text
+broken_at rule.FunctionCallAlone run u n text = calls_alone_broken text
+broken_at rule.LimitedObject run u n text = limited_objects_broken text
+broken_at rule.ConditionsAndChoices run u n text = conditions_and_choices_broken text
+broken_at rule.ExitFromLoop run u n text = exits_broken text
+broken_at rule.ReturnStatement run u n text = returns_broken text
+broken_at rule.RaiseAndHandlers run u n text = raises_and_handlers_broken text
+broken_at rule.AcceptStatement run u n text = accepts_broken text
+broken_at rule.SelectiveAccept run u n text = selective_accepts_broken text
+broken_at rule.AsynchronousSelect run u n text = asynchronous_selects_broken text
+broken_at rule.EntryCallAlternative run u n text = entry_calls_broken text
+broken_at rule.AbortedTask run u n text = aborts_broken text
+broken_at rule.EntryBarrier run u n text = barriers_broken text
+broken_at rule.ProtectedComponents run u n text = protected_components_broken text
+broken_at rule.PriorityAspect run u n text = priority_aspects_broken text
+broken_at rule.CpuAspect run u n text = cpu_aspects_broken text
+broken_at rule.HandlerProcedure run u n text = handlers_broken text
+broken_at rule.AttachedInterrupt run u n text = interrupts_broken text
+broken_at rule.ConfigurationPragma run u n text = pragmas_broken u
+broken_at rule.DeadlineScheduling run u n text = deadline_scheduling_broken u text
+broken_at rule.RelativeDeadlineAspect run u n text = relative_deadlines_broken text
+broken_at rule.ControlledOperations run u n text = controlled_operations_broken text
+broken_at rule.LibraryLevelObject run u n text = library_level_broken text
+broken_at rule.RequeueStatement run u n text = requeues_broken u text
+broken_at rule.Restriction run u n text = restrictions_broken u text
+broken_at rule.Discriminant run u n text = discriminants_broken text
+broken_at rule.Limit run u n text = limits_broken u n text
+broken_at rule.PutLineForm run u n text = lines_broken text
+broken_at rule.FormNotBuilt run u n text = forms_broken run u text
 
 abbrev pub all_rules : List Rule
 all_rules =
@@ -139,16 +140,25 @@ all_rules =
     ∷ rule.ControlledOperations ∷ rule.LibraryLevelObject ∷ rule.RequeueStatement ∷ rule.Restriction ∷ rule.Discriminant
     ∷ rule.Limit ∷ rule.PutLineForm ∷ rule.FormNotBuilt ∷ []
 
-abbrev pub faults_of_rule : Tree → Names → Text → Rule → List Fault
-faults_of_rule u n text r = map (λ place. record { place = place; rule = r }) (broken_at r u n text)
+abbrev pub faults_of_rule : (Form → Bool) → Tree → Names → Text → Rule → List Fault
+faults_of_rule run u n text r = map (λ place. record { place = place; rule = r }) (broken_at r run u n text)
 
-abbrev pub faults_with : Tree → Names → List Fault
-faults_with u n = let text = text_of u n in in_order_of_text (flat_map (faults_of_rule u n text) all_rules)
+-- no other rule is told where a form begins that does not run
+abbrev pub is_told : Places → Fault → Bool
+is_told forms f = eqb (number_of_rule f.rule) 40 || not (list_any (same_place f.place) forms)
+
+abbrev pub faults_in : (Form → Bool) → Tree → Names → Text → List Fault
+faults_in run u n text =
+    in_order_of_text (filter (is_told (forms_broken run u text)) (flat_map (faults_of_rule run u n text) all_rules))
+
+-- the faults of a source, of which the program runs these forms
+abbrev pub faults_where : (Form → Bool) → Tree → Names → List Fault
+faults_where run u n = faults_in run u n (text_where run (text_of u n))
 
 -- ---- the faults of a source whose names are numbered, and the one that is told
 
 abbrev pub faults_of : Tree → List Fault
-faults_of u = faults_with u (names_of u)
+faults_of u = faults_where runs u (names_of u)
 
 abbrev pub first_fault_in : List Fault → Option Fault
 first_fault_in [] = None

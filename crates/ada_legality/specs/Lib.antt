@@ -17,4 +17,5 @@ pub mod RulesOfTasks
 pub mod RulesOfAspects
 pub mod RulesOfPragmas
 pub mod RulesOfLimits
+pub mod Forms
 pub mod Faults

@@ -9,6 +9,7 @@ use Rattle.ada_tree.specs.declared.expressions.ExpressionForm.{ExpressionForm}
 use Rattle.ada_tree.specs.declared.selects.Alternative.TheVariants as alternative
 use Rattle.ada_tree.specs.declared.selects.Alternative.{Alternative}
 use Rattle.ada_tree.specs.declared.selects.SelectAlternative.{SelectAlternative}
+use Rattle.ada_tree.specs.declared.statements.Block.{Block}
 use Rattle.ada_tree.specs.declared.statements.Choice.TheVariants as choice
 use Rattle.ada_tree.specs.declared.statements.Choice.{Choice}
 use Rattle.ada_tree.specs.declared.statements.Iteration.TheVariants as iteration
@@ -60,6 +61,9 @@ place_of_iteration at iteration.Forever = at
 place_of_iteration at (iteration.While place condition) = place
 place_of_iteration at (iteration.For place parameter reverse low high) = place
 
--- a loop begins with its name, where it has one
+-- a loop or a block begins with its name, where it has one
 abbrev pub place_of_loop : {Q : Type 0} → Loop Q → Place
 place_of_loop l = unwrap_or (option_map (λ x. x.name.place) l.label) (place_of_iteration l.place l.iteration)
+
+abbrev pub place_of_block : {Q : Type 0} → Block Q → Place
+place_of_block b = unwrap_or (option_map (λ x. x.name.place) b.label) b.place

@@ -3,9 +3,8 @@ use Rattle.std.specs.List.{flat_map}
 use Rattle.std.specs.Prelude.{Bool, List, None, Option, Some, [], codes, false, is_none, is_some, not, option_map, true, unwrap_or, ℕ, ◌&&◌, ◌||◌}
 use Rattle.std.specs.Str.{bytes_eq}
 use Rattle.ada_regions.specs.Completions.{holds_of, is_unit}
-use Rattle.ada_regions.specs.Names.{denoted_by, entity_denoted}
-use Rattle.ada_regions.specs.Subtypes.{mark_denoted}
-use Rattle.ada_regions.specs.Words.{all_of, and_then}
+use Rattle.ada_regions.specs.Names.{entity_denoted}
+use Rattle.ada_regions.specs.Words.{all_of}
 use Rattle.ada_regions.specs.declared.entities.Denoted.TheVariants as denotes
 use Rattle.ada_regions.specs.declared.entities.Denoted.{Denoted}
 use Rattle.ada_regions.specs.declared.entities.EntityKind.TheVariants as entity
@@ -23,6 +22,7 @@ use Rattle.ada_tree.specs.declared.statements.HandledExceptions.TheVariants as e
 use Rattle.ada_tree.specs.declared.statements.HandledExceptions.{HandledExceptions}
 use Rattle.ada_legality.specs.Broken.{Places, by_construct, unless}
 use Rattle.ada_legality.specs.Constructs.{AspectOwner, Construct, IndicationUse, Known, Text, a_called_name, a_name_as_value, a_parent_type, a_protected_body, a_raise, a_requeue, a_target, a_task_body, a_use_clause, an_abort, an_accept_statement, an_aspect_list, an_attribute, an_entry_body, an_exit, an_indication, for_array_component, for_component, for_object, for_parameter, for_protected_component, for_result, for_subtype, on_main, on_operation, on_protected, on_subprogram, on_task, place_of, some_handlers}
+use Rattle.ada_legality.specs.ConstructsInDeclarations.{is_controlled_root}
 use Rattle.ada_legality.specs.ConstructsInStatements.{type_of_mark}
 use Rattle.ada_legality.specs.RulesOfUnits.{has_range, is_unit_name}
 use Rattle.ada_legality.specs.Types.{has_ranges, is_controlled_type, is_event_timer_or_budget, is_protected_unit, is_root_controlled, is_scalar, is_scalar_or_array, is_task_unit}
@@ -53,10 +53,6 @@ is_unclear_mark _ = false
 -- a mark whose own definition names no type is broken there
 abbrev pub is_fitting_mark : Known → IndicationUse → SubtypeIndication → Bool
 is_fitting_mark k purpose m = is_kind is_unclear_mark k m.name || unwrap_or (option_map (type_fits_indication purpose m) (type_of_mark k m)) false
-
--- a controlled type is derived from Limited_Controlled or Controlled itself (7.6)
-abbrev pub is_parent : Known → Name → Bool
-is_parent k name = unwrap_or (option_map (λ s. is_root_controlled s.of_type) (and_then (denoted_by k.names name) (mark_denoted k.names))) false
 
 -- ---- values, calls and targets (4.1, 4.4, 5.2, 6.4)
 
@@ -153,7 +149,7 @@ is_known_aspect on name = has_own_rule name || may_have_aspect on name
 
 abbrev pub of_the_wrong_kind : Known → Construct → Places
 of_the_wrong_kind k (an_indication purpose m) = unless (is_fitting_mark k purpose m) (place_of m.name)
-of_the_wrong_kind k (a_parent_type name) = unless (is_parent k name) (place_of name)
+of_the_wrong_kind k (a_parent_type name) = unless (is_controlled_root k name) (place_of name)
 of_the_wrong_kind k (a_name_as_value name has_arguments) = unless_denoted (may_be_value k has_arguments) k name
 of_the_wrong_kind k (an_attribute name a) = unless_denoted (may_have_attribute k a) k name
 of_the_wrong_kind k (a_called_name name) = unless_denoted (denotes_procedure k) k name

@@ -69,7 +69,6 @@ is_terminate_alternative kind = false
 abbrev pub any_is : (AlternativeKind → Bool) → List AlternativePart → Bool
 any_is test parts = list_any (λ p. test p.kind) parts
 
-
 -- an accept stands there; delays are of one kind; terminate stands once; delay, terminate and else exclude one another
 abbrev pub has_delay : List AlternativePart → Bool
 has_delay parts = any_is is_delay_alternative parts || any_is is_delay_until_alternative parts

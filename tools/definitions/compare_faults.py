@@ -11,7 +11,7 @@
 
 Run at the root of the repository. FOLDER is that of ../program_data.py, which also has a generator. A table has for each source a
 line `## none TITLE` or `## L6 LINE:COLUMN TITLE`, and the source behind it; `@N TEXT@` in a source stands for TEXT N times, in
-which `#` is the number of the turn. Sources that are no trees, or whose names have a fault, are counted and left.
+which `#` is the number of the turn. `(today)` in a title: of the forms that the program runs today. Sources that are no trees, or whose names have a fault, are counted and left.
 """
 import argparse
 import os
@@ -130,7 +130,7 @@ def main():
     convert = Converter(tree)
     names_of = definition("ada_regions.specs.Numbered", "names_of")
     faults_where = definition("ada_legality.specs.Faults", "faults_where")
-    runs = Fn(1, definition("ada_legality.specs.Forms", "runs_all" if a.built >= 17 else "runs"))
+    all_run, today = (Fn(1, definition("ada_legality.specs.Forms", f)) for f in ("runs_all", "runs"))
     number_of_rule = definition("ada_legality.specs.Faults", "number_of_rule")
     same, other, skipped, told = 0, 0, 0, {}
     if not a.plain:
@@ -166,12 +166,13 @@ def main():
                 print(f"{title}: {fault!r}")
             continue
         u = convert.unit(t)
-        got = faults_where(runs, u, names_of(u))
+        runs_now = a.built < 17 or "(today)" in title
+        got = faults_where(today if runs_now else all_run, u, names_of(u))
         got = ((got[0].d["place"].d["line"], got[0].d["place"].d["column"]), number_of_rule(got[0].d["rule"])) if got else None
         if a.table:
             want = None if title.startswith("none ") else (tuple(map(int, title.split()[1].split(":"))), int(title.split()[0][1:]))
         else:
-            faults = legal.check(t, a.built)
+            faults = legal.check(t, 2 if runs_now else a.built)
             want = (tuple(faults[0][0]), faults[0][1]) if faults else None
         told[want and want[1]] = told.get(want and want[1], 0) + 1
         if got != want:

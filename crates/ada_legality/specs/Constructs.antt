@@ -1,4 +1,5 @@
--- What a text has that rules speak of: each construct, with the constructs around it and what its names denote. The rules
+-- What a text has that rules speak of: each construct, with the constructs around it and what its
+-- names denote. The rules
 -- are said of this list alone.
 use Rattle.std.specs.Prelude.{Bool, List, Option, [], false, map, true, ℕ, ◌++◌, ◌∷◌}
 use Rattle.ada_image.specs.ImageOfExpressions.{known}
@@ -56,7 +57,8 @@ pub record LoopParameter : Type 0 where
   pub entity : ℕ
   pub subtype : Option Subtype
 
--- What is known where a construct stands: what names denote, what stands around it, the innermost first, and the loop
+-- What is known where a construct stands: what names denote, what stands around it, the innermost
+-- first, and the loop
 -- parameters that are visible.
 pub record Known : Type 0 where
   pub names : Names
@@ -65,12 +67,14 @@ pub record Known : Type 0 where
   -- the types of the indexes of the source's array types, by their numbers
   pub indexes : List AdaType
 
+-- what is known inside a construct
 abbrev pub with_around : Around → Known → Known
 with_around a k = record k { around = a ∷ k.around }
 
 -- ---- types of expressions
 
--- The type of an expression by its parts alone, with the subtype where it has one. An expression that breaks a rule has
+-- The type of an expression by its parts alone, with the subtype where it has one. An expression
+-- that breaks a rule has
 -- none, so that no second rule speaks of what it stands in.
 pub data Typed : Type 0 where
   without_type : Typed
@@ -90,7 +94,8 @@ pub record Literal : Type 0 where
   pub negative : Bool
   pub text : List ℕ
 
--- the form of an expression at its top: a number, or a name or an attribute of one, and whether arguments stand behind it
+-- the form of an expression at its top: a number, or a name or an attribute of one, and whether
+-- arguments stand behind it
 pub data Shape : Type 0 where
   a_number : Shape
   named : Name → Bool → Shape
@@ -111,6 +116,7 @@ pub data Wanted : Type 0 where
   -- a handler of objects of this type
   wanted_handler : AdaType → Wanted
 
+-- a formal: its name, its mode, what it wants, and whether its actual may be left out
 pub record FormalPart : Type 0 where
   pub name : List ℕ
   pub mode : Mode
@@ -122,18 +128,22 @@ pub record ActualPart : Type 0 where
   pub formal : Option Identifier
   pub place : Place
 
+-- for what a subtype is indicated
 pub data IndicationUse : Type 0 where
   for_object : IndicationUse
   for_subtype : IndicationUse
   for_result : IndicationUse
-  -- of the component of an array, of a controlled type, of a protected unit with the component's first name
+  -- of the component of an array, of a controlled type, of a protected unit with the component's
+  -- first name
   for_array_component : IndicationUse
   for_component : IndicationUse
   for_protected_component : Identifier → IndicationUse
-  -- of a parameter: whether it is the one `in out` parameter of a procedure of a protected unit, and of one that overrides
+  -- of a parameter: whether it is the one `in out` parameter of a procedure of a protected unit,
+  -- and of one that overrides
   for_parameter : Bool → Bool → IndicationUse
 
--- on what an aspect stands: the main procedure, a task, a protected unit, an operation of a protected unit, another
+-- on what an aspect stands: the main procedure, a task, a protected unit, an operation of a
+-- protected unit, another
 -- subprogram
 pub data AspectOwner : Type 0 where
   on_main : AspectOwner
@@ -149,6 +159,7 @@ pub data AlternativeKind : Type 0 where
   delay_until_alternative : AlternativeKind
   terminate_alternative : AlternativeKind
 
+-- where an alternative begins, with its guard and without, and of which kind it is
 pub record AlternativePart : Type 0 where
   pub place : Place
   pub own_place : Place
@@ -273,12 +284,15 @@ pub record Standing : Type 0 where
   pub known : Known
   pub construct : Construct
 
+-- a source as the list of its constructs
 abbrev pub Text : Type 0
 Text = List Standing
 
+-- one construct that stands there
 abbrev pub stands : Known → Construct → Text
 stands k c = record { known = k; construct = c } ∷ []
 
+-- constructs that stand there
 abbrev pub each_stands : Known → List Construct → Text
 each_stands k cs = map (λ c. record { known = k; construct = c }) cs
 
@@ -286,16 +300,20 @@ each_stands k cs = map (λ c. record { known = k; construct = c }) cs
 abbrev pub part_of : Form → Standing → Standing
 part_of f s = record s { construct = a_part_of f s.construct }
 
+-- a text that is one form
 abbrev pub formed : Form → Place → Known → Text → Text
 formed f place k text = stands k (a_form f place) ++ map (part_of f) text
 
+-- a text that may be one form
 abbrev pub formed_if : Bool → Form → Place → Known → Text → Text
 formed_if true f place k text = formed f place k text
 formed_if false f place k text = text
 
+-- constructs that are one form
 abbrev pub formed_of : Form → Place → List Construct → List Construct
 formed_of f place cs = a_form f place ∷ map (a_part_of f) cs
 
+-- constructs that may be one form
 abbrev pub formed_of_if : Bool → Form → Place → List Construct → List Construct
 formed_of_if true f place cs = formed_of f place cs
 formed_of_if false f place cs = cs
@@ -305,5 +323,6 @@ formed_of_if false f place cs = cs
 abbrev pub place_of : Name → Place
 place_of name = name.parts.first.place
 
+-- where a list of names begins
 abbrev pub first_name : OneOrMore Identifier → Place
 first_name names = names.first.place

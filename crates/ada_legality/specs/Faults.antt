@@ -1,4 +1,5 @@
--- The faults of a source (1.1.5): all pairs of a place and a rule that is broken there, in the order of the text, at one place
+-- The faults of a source (1.1.5): all pairs of a place and a rule that is broken there, in the
+-- order of the text, at one place
 -- by the numbers of the rules.
 use Rattle.std.specs.List.{flat_map, list_any}
 use Rattle.std.specs.Prelude.{Bool, List, None, Option, Some, [], cond, eqb, filter, ltb, map, not, ℕ, ◌&&◌, ◌||◌, ◌∷◌}
@@ -10,15 +11,19 @@ use Rattle.ada_legality.specs.Broken.{Places}
 use Rattle.ada_legality.specs.Constructs.{Form, Text}
 use Rattle.ada_legality.specs.ConstructsInUnits.{text_of}
 use Rattle.ada_legality.specs.Forms.{forms_broken, runs, text_where}
-use Rattle.ada_legality.specs.RulesOfAspects.{controlled_operations_broken, cpu_aspects_broken, handlers_broken, interrupts_broken, priority_aspects_broken, relative_deadlines_broken}
+use Rattle.ada_legality.specs.RulesOfAspects.{cpu_aspects_broken, priority_aspects_broken, relative_deadlines_broken}
+use Rattle.ada_legality.specs.RulesOfBodies.{completions_broken}
+use Rattle.ada_legality.specs.RulesOfDeadlines.{deadline_scheduling_broken}
 use Rattle.ada_legality.specs.RulesOfExpressions.{actuals_broken, assigned_variables_broken, calls_alone_broken, expected_types_broken, lines_broken, operand_types_broken}
+use Rattle.ada_legality.specs.RulesOfHandlers.{controlled_operations_broken, handlers_broken, interrupts_broken}
 use Rattle.ada_legality.specs.RulesOfLimits.{limits_broken}
 use Rattle.ada_legality.specs.RulesOfNames.{kinds_of_names_broken}
-use Rattle.ada_legality.specs.RulesOfPragmas.{deadline_scheduling_broken, pragmas_broken, restrictions_broken}
+use Rattle.ada_legality.specs.RulesOfPragmas.{pragmas_broken}
+use Rattle.ada_legality.specs.RulesOfRestrictions.{restrictions_broken}
 use Rattle.ada_legality.specs.RulesOfStatements.{conditions_and_choices_broken, exits_broken, raises_and_handlers_broken, returns_broken}
 use Rattle.ada_legality.specs.RulesOfTasks.{aborts_broken, accepts_broken, asynchronous_selects_broken, barriers_broken, entry_calls_broken, requeues_broken, selective_accepts_broken}
 use Rattle.ada_legality.specs.RulesOfTypes.{duration_literals_broken, integer_literals_broken, library_level_broken, limited_objects_broken, protected_components_broken, static_bounds_broken}
-use Rattle.ada_legality.specs.RulesOfUnits.{completions_broken, discriminants_broken, library_units_broken, main_procedure_last_broken, package_bodies_broken}
+use Rattle.ada_legality.specs.RulesOfUnits.{discriminants_broken, library_units_broken, main_procedure_last_broken, package_bodies_broken}
 use Rattle.ada_legality.specs.declared.faults.Fault.{Fault}
 use Rattle.ada_legality.specs.declared.rules.Rule.TheVariants as rule
 use Rattle.ada_legality.specs.declared.rules.Rule.{Rule}
@@ -71,16 +76,20 @@ number_of_rule rule.FormNotBuilt = 40
 
 abbrev pub comes_before : Fault → Fault → Bool
 comes_before f g =
-    stands_before f.place g.place || (same_place f.place g.place && ltb (number_of_rule f.rule) (number_of_rule g.rule))
+    stands_before f.place g.place
+    || (same_place f.place g.place && ltb (number_of_rule f.rule) (number_of_rule g.rule))
 
+-- two faults are one pair
 abbrev pub same_fault : Fault → Fault → Bool
 same_fault f g = same_place f.place g.place && eqb (number_of_rule f.rule) (number_of_rule g.rule)
 
 -- a pair stands there once
 abbrev pub fault_put : Fault → List Fault → List Fault
 fault_put f [] = f ∷ []
-fault_put f (g ∷ gs) = cond (same_fault f g) (g ∷ gs) (cond (comes_before f g) (f ∷ g ∷ gs) (g ∷ fault_put f gs))
+fault_put f (g ∷ gs) =
+    cond (same_fault f g) (g ∷ gs) (cond (comes_before f g) (f ∷ g ∷ gs) (g ∷ fault_put f gs))
 
+-- faults in order, each once
 abbrev pub in_order_of_text : List Fault → List Fault
 in_order_of_text [] = []
 in_order_of_text (f ∷ fs) = fault_put f (in_order_of_text fs)
@@ -129,27 +138,39 @@ broken_at rule.Limit run u n text = limits_broken u n text
 broken_at rule.PutLineForm run u n text = lines_broken text
 broken_at rule.FormNotBuilt run u n text = forms_broken run u text
 
+-- all rules, by number
 abbrev pub all_rules : List Rule
 all_rules =
-    rule.LibraryUnits ∷ rule.PackageBodies ∷ rule.MainProcedureLast ∷ rule.Completions ∷ rule.KindOfName ∷ rule.StaticBounds
-    ∷ rule.IntegerLiteral ∷ rule.DurationLiteral ∷ rule.ExpectedType ∷ rule.OperandTypes ∷ rule.AssignedVariable ∷ rule.Actuals
-    ∷ rule.FunctionCallAlone ∷ rule.LimitedObject ∷ rule.ConditionsAndChoices ∷ rule.ExitFromLoop ∷ rule.ReturnStatement
-    ∷ rule.RaiseAndHandlers ∷ rule.AcceptStatement ∷ rule.SelectiveAccept ∷ rule.AsynchronousSelect ∷ rule.EntryCallAlternative
-    ∷ rule.AbortedTask ∷ rule.EntryBarrier ∷ rule.ProtectedComponents ∷ rule.PriorityAspect ∷ rule.CpuAspect ∷ rule.HandlerProcedure
-    ∷ rule.AttachedInterrupt ∷ rule.ConfigurationPragma ∷ rule.DeadlineScheduling ∷ rule.RelativeDeadlineAspect
-    ∷ rule.ControlledOperations ∷ rule.LibraryLevelObject ∷ rule.RequeueStatement ∷ rule.Restriction ∷ rule.Discriminant
+    rule.LibraryUnits ∷ rule.PackageBodies ∷ rule.MainProcedureLast ∷ rule.Completions
+    ∷ rule.KindOfName ∷ rule.StaticBounds
+    ∷ rule.IntegerLiteral ∷ rule.DurationLiteral ∷ rule.ExpectedType ∷ rule.OperandTypes
+    ∷ rule.AssignedVariable ∷ rule.Actuals
+    ∷ rule.FunctionCallAlone ∷ rule.LimitedObject ∷ rule.ConditionsAndChoices ∷ rule.ExitFromLoop
+    ∷ rule.ReturnStatement
+    ∷ rule.RaiseAndHandlers ∷ rule.AcceptStatement ∷ rule.SelectiveAccept ∷ rule.AsynchronousSelect
+    ∷ rule.EntryCallAlternative
+    ∷ rule.AbortedTask ∷ rule.EntryBarrier ∷ rule.ProtectedComponents ∷ rule.PriorityAspect
+    ∷ rule.CpuAspect ∷ rule.HandlerProcedure
+    ∷ rule.AttachedInterrupt ∷ rule.ConfigurationPragma ∷ rule.DeadlineScheduling
+    ∷ rule.RelativeDeadlineAspect
+    ∷ rule.ControlledOperations ∷ rule.LibraryLevelObject ∷ rule.RequeueStatement ∷ rule.Restriction
+    ∷ rule.Discriminant
     ∷ rule.Limit ∷ rule.PutLineForm ∷ rule.FormNotBuilt ∷ []
 
+-- the faults of one rule
 abbrev pub faults_of_rule : (Form → Bool) → Tree → Names → Text → Rule → List Fault
-faults_of_rule run u n text r = map (λ place. record { place = place; rule = r }) (broken_at r run u n text)
+faults_of_rule run u n text r =
+    map (λ place. record { place = place; rule = r }) (broken_at r run u n text)
 
 -- no other rule is told where a form begins that does not run
 abbrev pub is_told : Places → Fault → Bool
 is_told forms f = eqb (number_of_rule f.rule) 40 || not (list_any (same_place f.place) forms)
 
+-- the faults of a text
 abbrev pub faults_in : (Form → Bool) → Tree → Names → Text → List Fault
 faults_in run u n text =
-    in_order_of_text (filter (is_told (forms_broken run u text)) (flat_map (faults_of_rule run u n text) all_rules))
+    in_order_of_text
+    (filter (is_told (forms_broken run u text)) (flat_map (faults_of_rule run u n text) all_rules))
 
 -- the faults of a source, of which the program runs these forms
 abbrev pub faults_where : (Form → Bool) → Tree → Names → List Fault
@@ -160,9 +181,11 @@ faults_where run u n = faults_in run u n (text_where run (text_of u n))
 abbrev pub faults_of : Tree → List Fault
 faults_of u = faults_where runs u (names_of u)
 
+-- the first of them
 abbrev pub first_fault_in : List Fault → Option Fault
 first_fault_in [] = None
 first_fault_in (f ∷ fs) = Some f
 
+-- the fault that is told
 abbrev pub first_fault_of : Tree → Option Fault
 first_fault_of u = first_fault_in (faults_of u)

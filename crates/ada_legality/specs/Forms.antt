@@ -1,4 +1,5 @@
--- Forms that the program does not run yet (own): a table, which is empty in the end. What stands in such a form breaks no rule, and
+-- Forms that the program does not run yet (own): a table, which is empty in the end. What stands in
+-- such a form breaks no rule, and
 -- no other rule is told where it begins.
 use Rattle.std.specs.List.{flat_map}
 use Rattle.std.specs.Prelude.{Bool, None, Option, Some, [], cond, false, filter, map, option_map, true, unwrap_or, ◌++◌, ◌∷◌}
@@ -50,12 +51,15 @@ abbrev pub outside_forms : (Form → Bool) → Construct → Option Construct
 outside_forms run (a_part_of f c) = cond (run f) (outside_forms run c) None
 outside_forms run c = Some c
 
+-- the same standing, of this construct
 abbrev pub with_construct : Standing → Construct → Text
 with_construct s c = record s { construct = c } ∷ []
 
+-- a standing, where every form around it runs
 abbrev pub asked_where : (Form → Bool) → Standing → Text
 asked_where run s = unwrap_or (option_map (with_construct s) (outside_forms run s.construct)) []
 
+-- the part of a text that rules are asked of
 abbrev pub text_where : (Form → Bool) → Text → Text
 text_where run text = flat_map (asked_where run) text
 
@@ -68,7 +72,9 @@ does_not_run run k c = []
 -- a pragma of the profile is one too
 abbrev pub pragma_forms : (Form → Bool) → Tree → Places
 pragma_forms run u =
-    cond (run a_pragma_form) [] (map (λ p. p.place) (filter (is_pragma_of_profile (last_priority_of u.pragmas)) u.pragmas))
+    cond (run a_pragma_form) []
+    (map (λ p. p.place) (filter (is_pragma_of_profile (last_priority_of u.pragmas)) u.pragmas))
 
+-- the rule on forms
 abbrev pub forms_broken : (Form → Bool) → Tree → Text → Places
 forms_broken run u text = pragma_forms run u ++ by_construct (does_not_run run) text

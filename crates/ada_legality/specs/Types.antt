@@ -44,9 +44,11 @@ declared_number (types.Task u) = u.0
 declared_number (types.Protected u) = u.0
 declared_number _ = 0
 
+-- two types are the same
 abbrev pub same_type : AdaType → AdaType → Bool
 same_type a b = eqb (type_number a) (type_number b) && eqb (declared_number a) (declared_number b)
 
+-- two types are the same, or both are none
 abbrev pub same_type_if : Option AdaType → Option AdaType → Bool
 same_type_if None None = true
 same_type_if None (Some b) = false
@@ -77,6 +79,7 @@ is_of_time _ = false
 abbrev pub is_ordered : AdaType → Bool
 is_ordered t = is_discrete t || is_of_time t
 
+-- Task_Id
 abbrev pub is_task_id : AdaType → Bool
 is_task_id types.TaskId = true
 is_task_id _ = false
@@ -85,29 +88,36 @@ is_task_id _ = false
 abbrev pub is_scalar : AdaType → Bool
 is_scalar t = is_ordered t || is_task_id t
 
+-- an array type
 abbrev pub is_array_type : AdaType → Bool
 is_array_type (types.Array a) = true
 is_array_type _ = false
 
+-- a scalar type or an array type
 abbrev pub is_scalar_or_array : AdaType → Bool
 is_scalar_or_array t = is_scalar t || is_array_type t
 
+-- Integer
 abbrev pub is_integer : AdaType → Bool
 is_integer types.Integer = true
 is_integer _ = false
 
+-- Boolean
 abbrev pub is_boolean : AdaType → Bool
 is_boolean types.Boolean = true
 is_boolean _ = false
 
+-- Duration
 abbrev pub is_duration : AdaType → Bool
 is_duration types.Duration = true
 is_duration _ = false
 
+-- Time_Span
 abbrev pub is_span_of_time : AdaType → Bool
 is_span_of_time types.TimeSpan = true
 is_span_of_time _ = false
 
+-- Timer
 abbrev pub is_timer : AdaType → Bool
 is_timer types.Timer = true
 is_timer _ = false
@@ -124,10 +134,12 @@ abbrev pub is_controlled_type : AdaType → Bool
 is_controlled_type (types.Derived c) = true
 is_controlled_type _ = false
 
+-- a task type
 abbrev pub is_task_unit : AdaType → Bool
 is_task_unit (types.Task u) = true
 is_task_unit _ = false
 
+-- a protected type
 abbrev pub is_protected_unit : AdaType → Bool
 is_protected_unit (types.Protected u) = true
 is_protected_unit _ = false
@@ -140,16 +152,20 @@ is_root_controlled _ = false
 
 -- objects of these types have no initial value (7.5)
 abbrev pub has_no_values : AdaType → Bool
-has_no_values t = is_event_timer_or_budget t || (is_controlled_type t || (is_task_unit t || is_protected_unit t))
+has_no_values t =
+    is_event_timer_or_budget t || (is_controlled_type t || (is_task_unit t || is_protected_unit t))
 
+-- a type derived from Limited_Controlled
 abbrev pub is_limited_controlled : Names → ControlledNo → Bool
-is_limited_controlled n c = unwrap_or (option_map (λ t. t.is_limited) (slice_get n.controlled_types c.0)) true
+is_limited_controlled n c =
+    unwrap_or (option_map (λ t. t.is_limited) (slice_get n.controlled_types c.0)) true
 
 -- objects of these types are not copied (7.5): a Controlled one is
 abbrev pub is_limited : Names → AdaType → Bool
 is_limited n (types.Derived c) = is_limited_controlled n c
 is_limited n t = has_no_values t
 
+-- a type derived from Controlled
 abbrev pub is_copied_controlled : Names → AdaType → Bool
 is_copied_controlled n t = is_controlled_type t && not (is_limited n t)
 
@@ -165,6 +181,7 @@ sum_of types.CpuTime types.TimeSpan = Some types.CpuTime
 sum_of types.TimeSpan types.CpuTime = Some types.CpuTime
 sum_of a b = None
 
+-- `-` of two operands
 abbrev pub difference_of : AdaType → AdaType → Option AdaType
 difference_of types.Integer types.Integer = Some types.Integer
 difference_of types.Duration types.Duration = Some types.Duration
@@ -175,6 +192,7 @@ difference_of types.Time types.Time = Some types.TimeSpan
 difference_of types.CpuTime types.CpuTime = Some types.TimeSpan
 difference_of a b = None
 
+-- `*`
 abbrev pub product_of : AdaType → AdaType → Option AdaType
 product_of types.Integer types.Integer = Some types.Integer
 product_of types.Duration types.Integer = Some types.Duration
@@ -183,27 +201,33 @@ product_of types.TimeSpan types.Integer = Some types.TimeSpan
 product_of types.Integer types.TimeSpan = Some types.TimeSpan
 product_of a b = None
 
+-- `/`
 abbrev pub quotient_of : AdaType → AdaType → Option AdaType
 quotient_of types.Integer types.Integer = Some types.Integer
 quotient_of types.Duration types.Integer = Some types.Duration
 quotient_of types.TimeSpan types.Integer = Some types.TimeSpan
 quotient_of a b = None
 
+-- `mod` and `rem`
 abbrev pub remainder_of : AdaType → AdaType → Option AdaType
 remainder_of types.Integer types.Integer = Some types.Integer
 remainder_of a b = None
 
+-- Boolean, where the operator is defined
 abbrev pub boolean_if : Bool → Option AdaType
 boolean_if true = Some types.Boolean
 boolean_if false = None
 
--- Boolean operands of a logical operator; two values of one scalar type that are equal or not; two of one that has an order
+-- Boolean operands of a logical operator; two values of one scalar type that are equal or not; two
+-- of one that has an order
 abbrev pub logical_of : AdaType → AdaType → Option AdaType
 logical_of a b = boolean_if (is_boolean a && is_boolean b)
 
+-- `=` and `/=`
 abbrev pub equality_of : AdaType → AdaType → Option AdaType
 equality_of a b = boolean_if (same_type a b && is_scalar a)
 
+-- the other comparisons
 abbrev pub ordering_of : AdaType → AdaType → Option AdaType
 ordering_of a b = boolean_if (same_type a b && is_ordered a)
 
@@ -227,11 +251,13 @@ result_of binary.Divide a b = quotient_of a b
 result_of binary.Mod a b = remainder_of a b
 result_of binary.Rem a b = remainder_of a b
 
+-- the operand's own type, where the operator is defined
 abbrev pub same_if : Bool → AdaType → Option AdaType
 same_if true t = Some t
 same_if false t = None
 
--- an operator with one operand: of numbers and spans, `+` and `abs` not of Time_Span; `not` of Boolean
+-- an operator with one operand: of numbers and spans, `+` and `abs` not of Time_Span; `not` of
+-- Boolean
 abbrev pub result_of_one : UnaryOperator → AdaType → Option AdaType
 result_of_one unary.Plus t = same_if (is_integer t || is_duration t) t
 result_of_one unary.Minus t = same_if (is_integer t || (is_duration t || is_span_of_time t)) t
@@ -243,10 +269,12 @@ result_of_one unary.Not t = same_if (is_boolean t) t
 abbrev pub typed_as : AdaType → Typed
 typed_as t = of_subtype (free_subtype t)
 
+-- an expression of this type, or of none
 abbrev pub typed_if : Option AdaType → Typed
 typed_if None = without_type
 typed_if (Some t) = typed_as t
 
+-- an expression of this subtype, or of none
 abbrev pub typed_by : Option Subtype → Typed
 typed_by None = without_type
 typed_by (Some s) = of_subtype s
@@ -261,29 +289,36 @@ operand_type of_text = None
 operand_type of_null = None
 operand_type (of_handler e) = None
 
+-- an expression that has a type
 abbrev pub has_type : Typed → Bool
 has_type without_type = false
 has_type _ = true
 
+-- a text, or texts that are joined
 abbrev pub is_text : Typed → Bool
 is_text of_text = true
 is_text _ = false
 
+-- a number with a point
 abbrev pub is_pointed : Typed → Bool
 is_pointed of_pointed_number = true
 is_pointed _ = false
 
+-- an expression whose type is such
 abbrev pub typed_is : (AdaType → Bool) → Typed → Bool
 typed_is test t = unwrap_or (option_map test (operand_type t)) false
 
 -- the type of an operation, where its operator is defined for its operands
 abbrev pub operation_type : BinaryOperator → Typed → Typed → Option AdaType
-operation_type operator a b = and_then (operand_type a) (λ x. and_then (operand_type b) (result_of operator x))
+operation_type operator a b =
+    and_then (operand_type a) (λ x. and_then (operand_type b) (result_of operator x))
 
+-- the type of an operation with one operand
 abbrev pub operation_type_of_one : UnaryOperator → Typed → Option AdaType
 operation_type_of_one operator a = and_then (operand_type a) (result_of_one operator)
 
--- an expression of this type fits where that type is expected; one without a type fits, and the value of a literal is
+-- an expression of this type fits where that type is expected; one without a type fits, and the
+-- value of a literal is
 -- asked apart
 abbrev pub fits : Typed → AdaType → Bool
 fits without_type t = true
@@ -294,14 +329,17 @@ fits of_text t = false
 fits of_null t = false
 fits (of_handler e) t = false
 
--- the type of the values from one bound to another: that of the low one, where it is discrete, else that of the high one
+-- the type of the values from one bound to another: that of the low one, where it is discrete, else
+-- that of the high one
 abbrev pub discrete_if : AdaType → Option AdaType
 discrete_if t = cond (is_discrete t) (Some t) None
 
+-- the type that a bound gives
 abbrev pub type_of_low : Typed → Option AdaType
 type_of_low of_whole_number = Some types.Integer
 type_of_low (of_subtype s) = discrete_if s.of_type
 type_of_low _ = None
 
+-- the type of the values between two bounds
 abbrev pub type_of_bounds : Typed → Typed → AdaType
 type_of_bounds low high = unwrap_or (or_else (type_of_low low) (type_of_low high)) types.Integer

@@ -89,8 +89,12 @@ completes_declaration k s = is_specified_name k s.name && not (declares_here k s
 abbrev pub attached_by : Known → SubprogramSpecification → Place → List Aspect → List Attached
 attached_by k s place [] = []
 attached_by k s place (a ∷ rest) = cond (is_attach_name a.name.text)
-    (record { unit = unit_of_operation k s; procedure = place; aspect = a.name.place; number =
-    value_number k a.value } ∷ attached_by k s place rest)
+    (record {
+      unit = unit_of_operation k s;
+      procedure = place;
+      aspect = a.name.place;
+      number = value_number k a.value;
+    } ∷ attached_by k s place rest)
     (attached_by k s place rest)
 
 -- the attachments of a construct

@@ -28,8 +28,12 @@ wanted_subtype s = wanted_type (option_map (λ x. x.of_type) s)
 -- a formal of the source
 abbrev pub formal_part : Formal → FormalPart
 formal_part f =
-    record { name = f.name; mode = f.mode; wanted = wanted_subtype f.subtype; may_be_omitted =
-    false }
+    record {
+      name = f.name;
+      mode = f.mode;
+      wanted = wanted_subtype f.subtype;
+      may_be_omitted = false;
+    }
 
 -- the formals of a subprogram or an entry
 abbrev pub formals_of_kind : EntityKind → List FormalPart
@@ -167,8 +171,10 @@ module _ {E : Type 0} where
   -- an argument's name and place
   abbrev pub actual_part : (E → Place) → Argument E → ActualPart
   actual_part place a =
-      record { formal = a.formal; place =
-      unwrap_or (option_map (λ i. i.place) a.formal) (place a.value) }
+      record {
+        formal = a.formal;
+        place = unwrap_or (option_map (λ i. i.place) a.formal) (place a.value);
+      }
 
 -- where nothing tells it, a timer has a span and an event a moment
 abbrev pub has_span_first : Operation → Bool

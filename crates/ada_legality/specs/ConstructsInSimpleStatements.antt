@@ -131,8 +131,10 @@ is_plain_name _ = false
 
 abbrev pub range_if_static : Known → Expression → Expression → AdaType → Subtype
 range_if_static k low high t =
-    record { of_type = t; range =
-    range_between (static_value k.names low) (static_value k.names high) constraint.Free }
+    record {
+      of_type = t;
+      range = range_between (static_value k.names low) (static_value k.names high) constraint.Free;
+    }
 
 -- the subtype of a loop parameter
 abbrev pub loop_subtype : Known → Expression → Expression → Subtype
@@ -142,8 +144,10 @@ loop_subtype k low high =
 -- a loop parameter with its subtype
 abbrev pub loop_parameter : Known → Identifier → Expression → Expression → LoopParameter
 loop_parameter k i low high =
-    record { entity = unwrap_or (entity_denoted k.names i.place) 0; subtype =
-    Some (loop_subtype k low high) }
+    record {
+      entity = unwrap_or (entity_denoted k.names i.place) 0;
+      subtype = Some (loop_subtype k low high);
+    }
 
 -- what is known inside a loop
 abbrev pub with_iteration : Iteration → Known → Known
@@ -176,8 +180,11 @@ kind_of_alternative (alternative.Terminate place) = terminate_alternative
 -- an alternative's places and kind
 abbrev pub alternative_part : {Q : Type 0} → SelectAlternative Q → AlternativePart
 alternative_part a =
-    record { place = place_of_alternative a; own_place =
-    place_of_alternative_in a.alternative; kind = kind_of_alternative a.alternative }
+    record {
+      place = place_of_alternative a;
+      own_place = place_of_alternative_in a.alternative;
+      kind = kind_of_alternative a.alternative;
+    }
 
 -- a guard
 abbrev pub guard_stands : Guard → Known → Text

@@ -98,6 +98,10 @@ is_one_word allowed words = false
 abbrev pub policy_names : List (List ℕ)
 policy_names = map (λ p. p.0) policy_words
 
+-- the queuing policies
+abbrev pub queuing_names : List (List ℕ)
+queuing_names = codes "fifo_queuing" ∷ codes "priority_queuing" ∷ []
+
 -- an argument is a dispatching policy
 abbrev pub is_policy : Argument Expression → Bool
 is_policy a = unwrap_or (option_map (λ w. list_any (bytes_eq w) policy_names) (word_in a)) false
@@ -146,8 +150,7 @@ is_of_profile last p =
     (codes "task_dispatching_policy", is_one_word policy_names (words_in p))
     ∷ (codes "priority_specific_dispatching", is_specific last (all_of p.arguments))
     ∷ (codes "locking_policy", is_one_word (codes "ceiling_locking" ∷ []) (words_in p))
-    ∷ (codes "queuing_policy", is_one_word (codes "fifo_queuing" ∷ codes "priority_queuing" ∷ [])
-    (words_in p))
+    ∷ (codes "queuing_policy", is_one_word queuing_names (words_in p))
     ∷ (codes "restrictions", list_all is_restriction (all_of p.arguments))
     ∷ (codes "priority_range", is_one_word (codes "wide" ∷ []) (words_in p)) ∷ []
 

@@ -1,0 +1,269 @@
+-- The formals of what is called (6.1, 9.5.2, annex D), and which actual is for which formal
+-- (6.4.1).
+use Rattle.std.specs.List.{list_all, list_any}
+use Rattle.std.specs.Prelude.{Bool, List, None, Option, Some, [], codes, cond, false, is_none, is_some, length, ltb, map, not, option_map, slice_get, suc, true, unwrap_or, ℕ, ◌&&◌, ◌++◌, ◌||◌, ◌∷◌}
+use Rattle.std.specs.Str.{bytes_eq}
+use Rattle.ada_regions.specs.PredefinedUnits.{names_of_formals}
+use Rattle.ada_regions.specs.declared.entities.EntityKind.TheVariants as entity
+use Rattle.ada_regions.specs.declared.entities.EntityKind.{EntityKind}
+use Rattle.ada_regions.specs.declared.predefined.Operation.TheVariants as operations
+use Rattle.ada_regions.specs.declared.predefined.Operation.{Operation}
+use Rattle.ada_regions.specs.declared.types.AdaType.TheVariants as types
+use Rattle.ada_regions.specs.declared.types.AdaType.{AdaType}
+use Rattle.ada_regions.specs.declared.types.Formal.{Formal}
+use Rattle.ada_regions.specs.declared.types.Mode.TheVariants as mode
+use Rattle.ada_regions.specs.declared.types.Mode.{Mode}
+use Rattle.ada_regions.specs.declared.types.Subtype.{Subtype}
+use Rattle.ada_tree.specs.declared.expressions.Argument.{Argument}
+use Rattle.ada_tree.specs.declared.names.Identifier.{Identifier}
+use Rattle.ann_base.specs.declared.places.Place.{Place}
+use Rattle.ada_legality.specs.Constructs.{ActualPart, FormalPart, Typed, Wanted, of_subtype, wanted_handler, wanted_type}
+use Rattle.ada_legality.specs.Types.{is_of_time, is_span_of_time}
+
+-- ---- formals
+
+abbrev pub wanted_subtype : Option Subtype → Wanted
+wanted_subtype s = wanted_type (option_map (λ x. x.of_type) s)
+
+-- a formal of the source
+abbrev pub formal_part : Formal → FormalPart
+formal_part f =
+    record {
+      name = f.name;
+      mode = f.mode;
+      wanted = wanted_subtype f.subtype;
+      may_be_omitted = false;
+    }
+
+-- the formals of a subprogram or an entry
+abbrev pub formals_of_kind : EntityKind → List FormalPart
+formals_of_kind (entity.Subprogram number is_function specified formals unit) =
+    map formal_part formals
+formals_of_kind (entity.Entry number unit formals) = map formal_part formals
+formals_of_kind _ = []
+
+-- an index and the argument of Image have no name
+abbrev pub without_name : Option AdaType → List FormalPart
+without_name t =
+    record { name = []; mode = mode.In; wanted = wanted_type t; may_be_omitted = false } ∷ []
+
+-- a formal of mode in
+abbrev pub input : AdaType → Mode × Wanted
+input t = (mode.In, wanted_type (Some t))
+
+-- a formal of mode out
+abbrev pub output : AdaType → Mode × Wanted
+output t = (mode.Out, wanted_type (Some t))
+
+-- a formal of mode in out
+abbrev pub changed : AdaType → Mode × Wanted
+changed t = (mode.InOut, wanted_type (Some t))
+
+-- a formal for a handler
+abbrev pub handler_for : AdaType → Mode × Wanted
+handler_for t = (mode.In, wanted_handler t)
+
+-- modes and types of the formals of predefined subprograms; a moment where it is a span
+abbrev pub parts_of_operation : Operation → Bool → List (Mode × Wanted)
+parts_of_operation operations.PutLine is_span = (mode.In, wanted_type None) ∷ []
+parts_of_operation operations.Clock is_span = []
+parts_of_operation operations.Microseconds is_span = input types.Integer ∷ []
+parts_of_operation operations.Milliseconds is_span = input types.Integer ∷ []
+parts_of_operation operations.Seconds is_span = input types.Integer ∷ []
+parts_of_operation operations.Minutes is_span = input types.Integer ∷ []
+parts_of_operation operations.ToDuration is_span = input types.TimeSpan ∷ []
+parts_of_operation operations.ToTimeSpan is_span = input types.Duration ∷ []
+parts_of_operation operations.SetEvent is_span =
+    changed types.TimingEvent ∷ input (cond is_span types.TimeSpan types.Time)
+    ∷ handler_for types.TimingEvent ∷ []
+parts_of_operation operations.CancelEvent is_span =
+    changed types.TimingEvent ∷ output types.Boolean ∷ []
+parts_of_operation operations.TimeOfEvent is_span = input types.TimingEvent ∷ []
+parts_of_operation operations.ExecutionClock is_span = input types.TaskId ∷ []
+parts_of_operation operations.SetTimer is_span =
+    changed types.Timer ∷ input (cond is_span types.TimeSpan types.CpuTime)
+    ∷ handler_for types.Timer ∷ []
+parts_of_operation operations.CancelTimer is_span = changed types.Timer ∷ output types.Boolean ∷ []
+parts_of_operation operations.TimeRemaining is_span = input types.Timer ∷ []
+parts_of_operation operations.AddTask is_span = changed types.GroupBudget ∷ input types.TaskId ∷ []
+parts_of_operation operations.RemoveTask is_span =
+    changed types.GroupBudget ∷ input types.TaskId ∷ []
+parts_of_operation operations.Replenish is_span =
+    changed types.GroupBudget ∷ input types.TimeSpan ∷ []
+parts_of_operation operations.Add is_span = changed types.GroupBudget ∷ input types.TimeSpan ∷ []
+parts_of_operation operations.BudgetHasExpired is_span = input types.GroupBudget ∷ []
+parts_of_operation operations.BudgetRemaining is_span = input types.GroupBudget ∷ []
+parts_of_operation operations.SetBudget is_span =
+    changed types.GroupBudget ∷ handler_for types.GroupBudget ∷ []
+parts_of_operation operations.CancelBudget is_span =
+    changed types.GroupBudget ∷ output types.Boolean ∷ []
+parts_of_operation operations.SetPriority is_span = input types.Integer ∷ input types.TaskId ∷ []
+parts_of_operation operations.GetPriority is_span = input types.TaskId ∷ []
+parts_of_operation operations.CurrentTask is_span = []
+parts_of_operation operations.SetQuantum is_span = input types.Integer ∷ input types.TimeSpan ∷ []
+parts_of_operation operations.SetDeadline is_span = input types.Time ∷ input types.TaskId ∷ []
+parts_of_operation operations.GetDeadline is_span = input types.TaskId ∷ []
+parts_of_operation operations.DelayUntilAndSetDeadline is_span =
+    input types.Time ∷ input types.TimeSpan ∷ []
+parts_of_operation operations.PortValue is_span = input types.Integer ∷ []
+
+-- the task of these is the one that calls, where it is not given
+abbrev pub has_own_task : Operation → Bool
+has_own_task operations.ExecutionClock = true
+has_own_task operations.SetPriority = true
+has_own_task operations.GetPriority = true
+has_own_task operations.SetDeadline = true
+has_own_task operations.GetDeadline = true
+has_own_task _ = false
+
+-- the names of the formals, where the moment has the name for a span or that for a moment
+abbrev pub moment_name : Bool → List ℕ
+moment_name true = codes "in_time"
+moment_name false = codes "at_time"
+
+-- the names of a predefined subprogram's formals
+abbrev pub formal_names : Operation → Bool → List (List ℕ)
+formal_names operations.SetEvent is_span =
+    codes "event" ∷ moment_name is_span ∷ codes "handler" ∷ []
+formal_names operations.SetTimer is_span = codes "tm" ∷ moment_name is_span ∷ codes "handler" ∷ []
+formal_names o is_span = names_of_formals o
+
+-- the last formal may be omitted
+abbrev pub last_omitted : Bool → List (List ℕ) → Bool
+last_omitted own_task [] = own_task
+last_omitted own_task (n ∷ rest) = false
+
+-- formals from their names and parts
+abbrev pub named_parts : Bool → List (List ℕ) → List (Mode × Wanted) → List FormalPart
+named_parts own_task [] parts = []
+named_parts own_task (n ∷ ns) [] = []
+named_parts own_task (n ∷ ns) (p ∷ ps) =
+    record { name = n; mode = p.0; wanted = p.1; may_be_omitted = last_omitted own_task ns }
+    ∷ named_parts own_task ns ps
+
+-- the formals of a predefined subprogram
+abbrev pub formals_of_operation : Operation → Bool → List FormalPart
+formals_of_operation o is_span =
+    named_parts (has_own_task o) (formal_names o is_span) (parts_of_operation o is_span)
+
+-- ---- the moment of a Set_Handler (D.14.1, D.15): told by its name, else by the second actual's
+-- type
+
+module _ {E : Type 0} where
+  -- an argument has this name
+  abbrev pub is_named_as : List ℕ → Argument E → Bool
+  is_named_as name a = unwrap_or (option_map (λ i. bytes_eq i.text name) a.formal) false
+
+  -- some argument has this name
+  abbrev pub has_named : List ℕ → List (Argument E) → Bool
+  has_named name arguments = list_any (is_named_as name) arguments
+
+  -- an argument without a name
+  abbrev pub positional : Argument E → Option E
+  positional a = cond (is_some a.formal) None (Some a.value)
+
+  -- the second argument, where it has no name
+  abbrev pub second_positional : List (Argument E) → Option E
+  second_positional [] = None
+  second_positional (a ∷ []) = None
+  second_positional (a ∷ b ∷ rest) = positional b
+
+  -- an argument's name and place
+  abbrev pub actual_part : (E → Place) → Argument E → ActualPart
+  actual_part place a =
+      record {
+        formal = a.formal;
+        place = unwrap_or (option_map (λ i. i.place) a.formal) (place a.value);
+      }
+
+-- where nothing tells it, a timer has a span and an event a moment
+abbrev pub has_span_first : Operation → Bool
+has_span_first operations.SetTimer = true
+has_span_first _ = false
+
+-- a span, where the type tells it
+abbrev pub span_if_typed : Bool → Typed → Bool
+span_if_typed first (of_subtype s) =
+    cond (is_span_of_time s.of_type) true (cond (is_of_time s.of_type) false first)
+span_if_typed first _ = first
+
+-- a span, by the names that are there or by the second actual
+abbrev pub span_by : Bool → Bool → Bool → Option Typed → Bool
+span_by first true at_time second = true
+span_by first false true second = false
+span_by first false false second = unwrap_or (option_map (span_if_typed first) second) first
+
+-- ---- actuals and formals by number and name (6.4.1)
+
+abbrev pub is_formal_named : List ℕ → FormalPart → Bool
+is_formal_named name f = bytes_eq f.name name
+
+-- a name is one of the formals'
+abbrev pub names_formal : List FormalPart → Identifier → Bool
+names_formal formals i = list_any (is_formal_named i.text) formals
+
+-- an actual gives a formal by this name
+abbrev pub gives_name : List ℕ → ActualPart → Bool
+gives_name name a = unwrap_or (option_map (λ i. bytes_eq i.text name) a.formal) false
+
+-- the name of the formal in this place, where it is given in place
+abbrev pub formal_at : List FormalPart → ℕ → List ℕ
+formal_at formals at = unwrap_or (option_map (λ f. f.name) (slice_get formals at)) []
+
+-- an actual gives the formal of this name by its place
+abbrev pub given_in_place : List FormalPart → ActualPart → ℕ → List ℕ → Bool
+given_in_place formals a at name = is_none a.formal && bytes_eq (formal_at formals at) name
+
+-- those before give the formal of this name already, in its place or by its name
+abbrev pub given_before : List FormalPart → List ActualPart → ℕ → List ℕ → Bool
+given_before formals [] at name = false
+given_before formals (a ∷ before) at name =
+    gives_name name a
+    || (given_in_place formals a at name || given_before formals before (suc at) name)
+
+-- a name stands before
+abbrev pub some_are_named : List ActualPart → Bool
+some_are_named before = list_any (λ a. is_some a.formal) before
+
+-- an actual is for one formal, which no other before it is for; one without a name stands before
+-- those with one
+abbrev pub is_for_a_formal : List FormalPart → List ActualPart → ActualPart → Option Identifier
+    → Bool
+is_for_a_formal formals before a None =
+    not (some_are_named before) && ltb (length before) (length formals)
+is_for_a_formal formals before a (Some i) =
+    names_formal formals i && not (given_before formals before 0 i.text)
+
+-- the actuals that are for no formal
+abbrev pub stray_actuals : List FormalPart → List ActualPart → List ActualPart → List Place
+stray_actuals formals before [] = []
+stray_actuals formals before (a ∷ rest) =
+    cond (is_for_a_formal formals before a a.formal) [] (a.place ∷ [])
+    ++ stray_actuals formals (before ++ a ∷ []) rest
+
+-- an actual that has a name and no formal, or that stands in no place
+abbrev pub is_misnamed : List FormalPart → List ActualPart → ActualPart → Bool
+is_misnamed formals before a =
+    cond (is_some a.formal) (not (is_for_a_formal formals before a a.formal))
+    (some_are_named before)
+
+-- some actual is misnamed
+abbrev pub some_are_misnamed : List FormalPart → List ActualPart → List ActualPart → Bool
+some_are_misnamed formals before [] = false
+some_are_misnamed formals before (a ∷ rest) =
+    is_misnamed formals before a || some_are_misnamed formals (before ++ a ∷ []) rest
+
+-- a formal has its actual, or may be omitted
+abbrev pub is_given : List FormalPart → List ActualPart → FormalPart → Bool
+is_given formals actuals f = f.may_be_omitted || given_before formals actuals 0 f.name
+
+-- each formal has its actual
+abbrev pub all_given : List FormalPart → List ActualPart → Bool
+all_given formals actuals = list_all (is_given formals actuals) formals
+
+-- the places at which actuals do not fit formals by number and name: a stray one, and the call
+-- where some are too few
+abbrev pub wrong_actuals : Place → List FormalPart → List ActualPart → List Place
+wrong_actuals call formals actuals =
+    cond (all_given formals actuals || some_are_misnamed formals [] actuals) [] (call ∷ [])
+    ++ stray_actuals formals [] actuals

@@ -1,0 +1,4 @@
+pub mod ActionLemmas
+pub mod HeadLemmas
+pub mod PlaceLemmas
+pub mod TurnLemmas

@@ -1,0 +1,3 @@
+pub mod SettingSteps
+pub mod Settings
+pub mod Ticks

@@ -1,0 +1,3 @@
+pub mod Aborted
+pub mod Created
+pub mod KeptTasks

@@ -1,0 +1,141 @@
+//! What an effect brings about elsewhere: terminate alternatives that are taken, and struck
+//! constructs that are left (ISO/IEC 8652:2012, 9.7.1, 9.8).
+ghost use Rattle.std.specs.Prelude.{◌≡◌, filter, map, IfOk, OnOk};
+ghost use Rattle.profile_machine.specs.Masters.{may_terminate, leave_by_terminate};
+ghost use Rattle.profile_machine.specs.Steps.{for_each, looks};
+ghost use Rattle.profile_machine.specs.Tasks.{waiting_of};
+ghost use Rattle.profile_machine.specs.Tasking.{unwind_one, block_at_terminate, take_terminates, unwind_all};
+ghost use Rattle.profile_machine.specs.Unwinding.{any_struck};
+ghost use Rattle.machine_frames.specs.Did.{Did};
+ghost use Rattle.machine_tasking.specs.KeptTasks.{kept_of, task_kept, tasks_kept};
+
+use crate::kept::{Kept, kept_of};
+use ann_base::NoMemory;
+use machine_calls::{any_struck, unwind};
+use machine_dispatching::{says_waits, word_of};
+use machine_frames::{Effect, waiting_of};
+use machine_masters::{leave_by_terminate, may_terminate, part_of, waits_at_terminate};
+use machine_operators::Program;
+use profile_machine::world::{Part, Task, World};
+use std::alloc::Global;
+use trace_text::Who;
+use world_tables::List;
+
+// A task that has come to its select with an open terminate alternative blocks there.
+#[tactic(auto, unfolding(profile_machine::specs::Tasking::block_at_terminate, profile_machine::specs::Dispatching::says_block))]
+fn block_at_terminate(effect: &mut Effect, name: Who) -> Result<(), NoMemory>
+    ensures { OnOk result (Did (looks (λ w. block_at_terminate name (waiting_of w name))) effect.old effect.new) }
+{
+    match waiting_of(&effect.world, name) {
+        Some(waiting) if waits_at_terminate(waiting) => {
+            let waits = word_of(waiting);
+            says_waits(effect, Part::TheBlock, name, waits)
+        }
+        _ => Ok(()),
+    }
+}
+
+// The tasks that may terminate by their open terminate alternatives.
+fn all_that_may_terminate(alloc: Global, world: &World) -> Result<List<Kept>, NoMemory>
+    ensures { IfOk result (λ kept. kept ≡ map kept_of (filter (may_terminate world.now) world.now.tasks)) }
+{
+    let mut kept = List::new(alloc);
+    for task in world.tasks.iter() {
+        if may_terminate(world, task) {
+            kept.push_back(kept_of(task))?;
+        }
+    }
+    Ok(kept)
+}
+
+// Each of these tasks leaves its select by the terminate alternative.
+fn all_leave_by_terminate(
+    p: &Program,
+    effect: &mut Effect,
+    actor: Who,
+    tasks: &List<Kept>,
+) -> Result<(), NoMemory>
+    ensures { OnOk result (Did (for_each (tasks_kept tasks.now) (leave_by_terminate p.now actor)) effect.old effect.new) }
+{
+    for task in tasks.iter() {
+        leave_by_terminate(p, effect, actor, task.who)?;
+    }
+    Ok(())
+}
+
+// The tasks that may terminate by their open terminate alternatives leave their selects so.
+#[tactic(auto, using(crate::proofs::KeptLemmas::kept_laws))]
+fn leave_selects(
+    alloc: Global,
+    p: &Program,
+    effect: &mut Effect,
+    actor: Who,
+) -> Result<(), NoMemory>
+    ensures { OnOk result (Did (looks (λ w. for_each (filter (may_terminate w) w.tasks) (leave_by_terminate p.now actor))) effect.old effect.new) }
+{
+    let tasks = all_that_may_terminate(alloc, &effect.world)?;
+    all_leave_by_terminate(p, effect, actor, &tasks)
+}
+
+/// Tasks at open terminate alternatives that may end become ready, in order of number (9.7.1).
+#[tactic(auto, unfolding(profile_machine::specs::Tasking::take_terminates))]
+pub fn take_terminates(
+    alloc: Global,
+    p: &Program,
+    effect: &mut Effect,
+    actor: Who,
+) -> Result<(), NoMemory>
+    ensures { OnOk result (Did (take_terminates p.now actor) effect.old effect.new) }
+{
+    leave_selects(alloc, p, effect, actor)?;
+    block_at_terminate(effect, actor)
+}
+
+#[tactic(auto, unfolding(profile_machine::specs::Tasking::unwind_one))]
+fn unwind_one(p: &Program, effect: &mut Effect, actor: Who, task: Kept) -> Result<(), NoMemory>
+    ensures { OnOk result (Did (unwind_one p.now actor (task_kept task)) effect.old effect.new) }
+{
+    unwind(p, effect, part_of(actor, task.who), task.who)
+}
+
+/// Each of these tasks is unwound where its struck construct may be left.
+pub(crate) fn unwind_kept(
+    p: &Program,
+    effect: &mut Effect,
+    actor: Who,
+    tasks: &List<Kept>,
+) -> Result<(), NoMemory>
+    ensures { OnOk result (Did (for_each (tasks_kept tasks.now) (unwind_one p.now actor)) effect.old effect.new) }
+{
+    for task in tasks.iter() {
+        unwind_one(p, effect, actor, *task)?;
+    }
+    Ok(())
+}
+
+// The tasks with struck constructs.
+fn all_struck(alloc: Global, tasks: &List<Task>) -> Result<List<Kept>, NoMemory>
+    ensures { IfOk result (λ kept. kept ≡ map kept_of (filter (λ t. any_struck t.frames) tasks.now)) }
+{
+    let mut kept = List::new(alloc);
+    for task in tasks.iter() {
+        if any_struck(&task.frames) {
+            kept.push_back(kept_of(task))?;
+        }
+    }
+    Ok(kept)
+}
+
+/// The tasks whose struck constructs may be left now are unwound (9.8).
+#[tactic(auto, using(crate::proofs::KeptLemmas::kept_laws), unfolding(profile_machine::specs::Tasking::unwind_all))]
+pub fn unwind_all(
+    alloc: Global,
+    p: &Program,
+    effect: &mut Effect,
+    actor: Who,
+) -> Result<(), NoMemory>
+    ensures { OnOk result (Did (unwind_all p.now actor) effect.old effect.new) }
+{
+    let tasks = all_struck(alloc, &effect.world.tasks)?;
+    unwind_kept(p, effect, actor, &tasks)
+}

@@ -107,9 +107,15 @@ is_type_form k (definition.Derived parent components) = is_controlled_root k par
 
 -- ---- aspects (13.1.1): a number with a point is one where a whole one is expected
 
+abbrev pub aspect_names : List (List ℕ)
+aspect_names =
+    codes "priority" ∷ codes "interrupt_priority" ∷ codes "cpu" ∷ codes "relative_deadline"
+    ∷ codes "attach_handler" ∷ []
+
+-- an aspect with its value
 abbrev pub aspect_stands : Aspect → Known → Text
 aspect_stands a k =
-    formed an_aspect_form a.name.place k
+    formed_if (list_any (bytes_eq a.name.text) aspect_names) an_aspect_form a.name.place k
     (if_stands (λ e known. each_stands known (without_point (read_expression e) known)) a.value k)
 
 -- the aspects of what they stand on

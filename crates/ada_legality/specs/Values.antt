@@ -1,6 +1,6 @@
 -- What a name stands for in an expression, and of which type it is (4.1, 4.4, 6.4).
 use Rattle.std.specs.List.{list_any}
-use Rattle.std.specs.Prelude.{Bool, List, None, Option, Some, cond, eqb, false, find, is_some, not, option_map, pos, slice_get, suc, true, unwrap_or, ℕ, ◌||◌}
+use Rattle.std.specs.Prelude.{Bool, List, None, Option, Some, [], cond, eqb, false, find, is_some, not, option_map, pos, slice_get, suc, true, unwrap_or, ℕ, ◌||◌}
 use Rattle.ada_image.specs.Layout.{array_of}
 use Rattle.ada_image.specs.TypesOfExpressions.{type_of_operation}
 use Rattle.ada_regions.specs.Completions.{holds_of}
@@ -21,6 +21,7 @@ use Rattle.ada_regions.specs.declared.predefined.PredefinedUnit.TheVariants as u
 use Rattle.ada_regions.specs.declared.predefined.PredefinedUnit.{PredefinedUnit}
 use Rattle.ada_regions.specs.declared.types.AdaType.TheVariants as types
 use Rattle.ada_regions.specs.declared.types.AdaType.{AdaType}
+use Rattle.ada_regions.specs.declared.types.Formal.{Formal}
 use Rattle.ada_regions.specs.declared.types.Subtype.{Subtype}
 use Rattle.ada_tree.specs.declared.names.Name.{Name}
 use Rattle.profile_machine.specs.declared.numbers.DeclNo.{DeclNo}
@@ -71,6 +72,11 @@ is_procedure_kind _ = false
 abbrev pub is_entry_kind : EntityKind → Bool
 is_entry_kind (entity.Entry number unit formals) = true
 is_entry_kind _ = false
+
+-- the formals of a subprogram
+abbrev pub formals_of_subprogram : EntityKind → List Formal
+formals_of_subprogram (entity.Subprogram number is_function specified formals unit) = formals
+formals_of_subprogram _ = []
 
 -- ---- predefined names
 

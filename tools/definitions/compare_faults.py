@@ -6,6 +6,7 @@
     tools/definitions/compare_faults.py --front-end FOLDER --table FILE      a table of sources against its own answers
     tools/definitions/compare_faults.py --front-end FOLDER --tell FILE       such a table against the front end's answers
     .. --built 2           of the forms that the program runs today, where the others are refused with L40
+    .. --all               all faults of each source, and not the first alone (not of a table)
     .. --plain             every look-up by its definition, which is slower
     .. --changed N SEED    of each source, N changed ones too: a name, a number, an operator or any token is another one
 
@@ -123,6 +124,7 @@ def main():
     parser.add_argument("--built", type=int, default=17)
     parser.add_argument("--changed", nargs=2, type=int, default=[0, 1])
     parser.add_argument("--plain", action="store_true")
+    parser.add_argument("--all", action="store_true")
     parser.add_argument("sources", nargs="*")
     a = parser.parse_args()
     sys.path.append(a.front_end)
@@ -168,12 +170,20 @@ def main():
         u = convert.unit(t)
         runs_now = a.built < 17 or "(today)" in title
         got = faults_where(today if runs_now else all_run, u, names_of(u))
-        got = ((got[0].d["place"].d["line"], got[0].d["place"].d["column"]), number_of_rule(got[0].d["rule"])) if got else None
+        every = [((f.d["place"].d["line"], f.d["place"].d["column"]), number_of_rule(f.d["rule"])) for f in got]
+        got = every[0] if every else None
         if a.table:
             want = None if title.startswith("none ") else (tuple(map(int, title.split()[1].split(":"))), int(title.split()[0][1:]))
         else:
             faults = legal.check(t, 2 if runs_now else a.built)
             want = (tuple(faults[0][0]), faults[0][1]) if faults else None
+            if a.all:
+                theirs = [(tuple(p), r) for p, r in faults]
+                if every != theirs:
+                    print(f"{title}: also {[words(f) for f in every if f not in theirs]}, and not {[words(f) for f in theirs if f not in every]}")
+                    print("    " + source.decode("latin-1").strip().replace("\n", "\n    "))
+                    other += 1
+                    continue
         told[want and want[1]] = told.get(want and want[1], 0) + 1
         if got != want:
             other += 1

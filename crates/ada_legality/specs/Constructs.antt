@@ -2,8 +2,6 @@
 -- names denote. The rules
 -- are said of this list alone.
 use Rattle.std.specs.Prelude.{Bool, List, Option, [], false, map, true, ℕ, ◌++◌, ◌∷◌}
-use Rattle.ada_image.specs.ImageOfExpressions.{known}
-use Rattle.ada_regions.specs.Denoted.{around}
 use Rattle.ada_regions.specs.Names.{Names}
 use Rattle.ada_regions.specs.declared.types.AdaType.{AdaType}
 use Rattle.ada_regions.specs.declared.types.Mode.{Mode}

@@ -4,12 +4,13 @@ use Rattle.std.specs.Prelude.{Bool, List, None, Option, Some, [], codes, cond, f
 use Rattle.std.specs.Str.{bytes_eq}
 use Rattle.ada_image.specs.ImageOfDeclarations.{subprogram_of_kind}
 use Rattle.ada_image.specs.UnitsOfImage.{overrides}
-use Rattle.ada_regions.specs.Names.{NumberedControlled, NumberedSubprogram, denoted_by, entity_denoted, kind_at, last_part}
+use Rattle.ada_regions.specs.Names.{Names, NumberedControlled, NumberedSubprogram, denoted_by, last_part}
 use Rattle.ada_regions.specs.PredefinedUnits.{whole_integer}
 use Rattle.ada_regions.specs.Subtypes.{mark_denoted}
 use Rattle.ada_regions.specs.Visibility.{same_denoted}
 use Rattle.ada_regions.specs.Words.{all_of, and_then}
 use Rattle.ada_regions.specs.declared.entities.Denoted.TheVariants as denotes
+use Rattle.ada_regions.specs.declared.entities.EntityKind.{EntityKind}
 use Rattle.ada_regions.specs.declared.predefined.Predefined.TheVariants as items
 use Rattle.ada_regions.specs.declared.predefined.PredefinedUnit.TheVariants as units
 use Rattle.ada_tree.specs.declared.declarations.Aspect.{Aspect}
@@ -43,6 +44,7 @@ use Rattle.ada_tree.specs.declared.statements.Sequence.{Sequence}
 use Rattle.ada_tree.specs.declared.statements.SequenceParts.{SequenceParts}
 use Rattle.ada_tree.specs.declared.statements.Statement.{Statement}
 use Rattle.ann_base.specs.declared.places.Place.{Place}
+use Rattle.ada_legality.specs.Attributes.{kind_of_identifier}
 use Rattle.ada_legality.specs.Constructs.{AspectOwner, IndicationUse, Known, Text, a_barrier, a_declared_object, a_form, a_handler_form, a_parent_type, a_protected_body, a_protected_declaration, a_protected_form, a_subprogram_body, a_subprogram_declaration, a_subprogram_form, a_subtype_form, a_task_body, a_task_declaration, a_task_form, a_type_form, a_use_clause, an_array_type, an_aspect_form, an_aspect_list, an_entry_body, an_entry_list, an_exception_form, an_object_form, each_stands, first_name, for_array_component, for_component, for_object, for_protected_component, for_result, for_subtype, formed, formed_if, in_entry, in_protected, in_subprogram, in_task, on_operation, on_protected, on_subprogram, on_task, part_of, some_handlers, stands, with_around}
 use Rattle.ada_legality.specs.ConstructsInCalls.{all_stand, bounds_stand, condition_stands, if_stands, indication_stands, parameters_stand, type_of_mark, typed_expression, value_stands, value_stands_alone}
 use Rattle.ada_legality.specs.ConstructsInExpressions.{read_expression}
@@ -50,7 +52,7 @@ use Rattle.ada_legality.specs.ConstructsInStatements.{handler_stands, statement_
 use Rattle.ada_legality.specs.Places.{place_of_specification}
 use Rattle.ada_legality.specs.Reading.{without_point}
 use Rattle.ada_legality.specs.Types.{is_root_controlled, type_of_bounds}
-use Rattle.ada_legality.specs.Values.{is_denoted}
+use Rattle.ada_legality.specs.Values.{formals_of_subprogram, is_denoted}
 
 -- ---- objects, types and components
 
@@ -107,9 +109,15 @@ is_type_form k (definition.Derived parent components) = is_controlled_root k par
 
 -- ---- aspects (13.1.1): a number with a point is one where a whole one is expected
 
+abbrev pub aspect_names : List (List ℕ)
+aspect_names =
+    codes "priority" ∷ codes "interrupt_priority" ∷ codes "cpu" ∷ codes "relative_deadline"
+    ∷ codes "attach_handler" ∷ []
+
+-- an aspect with its value
 abbrev pub aspect_stands : Aspect → Known → Text
 aspect_stands a k =
-    formed an_aspect_form a.name.place k
+    formed_if (list_any (bytes_eq a.name.text) aspect_names) an_aspect_form a.name.place k
     (if_stands (λ e known. each_stands known (without_point (read_expression e) known)) a.value k)
 
 -- the aspects of what they stand on
@@ -119,12 +127,19 @@ aspects_stand on place aspects k =
 
 -- ---- specifications (6.1, 9.5.2)
 
+-- a subprogram, with its formals as first declared
+abbrev pub as_first_declared : EntityKind → NumberedSubprogram → NumberedSubprogram
+as_first_declared kind s = record s { formals = formals_of_subprogram kind }
+
+-- the same, of an entity
+abbrev pub subprogram_of_entity : Names → EntityKind → Option NumberedSubprogram
+subprogram_of_entity n kind =
+    and_then (subprogram_of_kind kind)
+    (λ s. option_map (as_first_declared kind) (slice_get n.subprograms s.0))
+
+-- the subprogram that an identifier denotes
 abbrev pub subprogram_numbered : Known → Identifier → Option NumberedSubprogram
-subprogram_numbered k i =
-    and_then (entity_denoted k.names i.place)
-    (λ e.
-    and_then (kind_at k.names e)
-    (λ x. and_then (subprogram_of_kind x) (λ s. slice_get k.names.subprograms s.0)))
+subprogram_numbered k i = and_then (kind_of_identifier k i) (subprogram_of_entity k.names)
 
 -- the names of the operations of a controlled type (7.6); Adjust is one of a type derived from
 -- Controlled alone

@@ -5,8 +5,6 @@ use Rattle.std.specs.Str.{bytes_eq}
 use Rattle.ada_image.specs.UnitsOfImage.{is_in_out}
 use Rattle.ada_regions.specs.Names.{kind_at}
 use Rattle.ada_regions.specs.Words.{same_place}
-use Rattle.ada_regions.specs.declared.entities.EntityKind.TheVariants as entity
-use Rattle.ada_regions.specs.declared.entities.EntityKind.{EntityKind}
 use Rattle.ada_regions.specs.declared.types.AdaType.{AdaType}
 use Rattle.ada_regions.specs.declared.types.Formal.{Formal}
 use Rattle.ada_tree.specs.declared.declarations.Aspect.{Aspect}
@@ -26,7 +24,7 @@ use Rattle.ada_legality.specs.ConstructsInDeclarations.{controlled_names, is_ove
 use Rattle.ada_legality.specs.Places.{place_of_specification}
 use Rattle.ada_legality.specs.RulesOfNames.{denotes_subprogram}
 use Rattle.ada_legality.specs.Types.{is_controlled_type, same_type}
-use Rattle.ada_legality.specs.Values.{is_denoted}
+use Rattle.ada_legality.specs.Values.{formals_of_subprogram, is_denoted}
 
 -- ---- handlers (C.3.1, D.14.1, D.14.2, D.15)
 
@@ -39,11 +37,6 @@ wanted_of_handler t [] = false
 wanted_of_handler t (f ∷ []) =
     is_in_out f.mode && unwrap_or (option_map (λ s. same_type s.of_type t) f.subtype) false
 wanted_of_handler t (f ∷ g ∷ rest) = false
-
--- the formals of a subprogram
-abbrev pub formals_of_subprogram : EntityKind → List Formal
-formals_of_subprogram (entity.Subprogram number is_function specified formals unit) = formals
-formals_of_subprogram _ = []
 
 -- a procedure is a handler for objects of the type
 abbrev pub handles_objects_of : Known → AdaType → ℕ → Bool

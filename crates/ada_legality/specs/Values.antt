@@ -1,6 +1,6 @@
 -- What a name stands for in an expression, and of which type it is (4.1, 4.4, 6.4).
 use Rattle.std.specs.List.{list_any}
-use Rattle.std.specs.Prelude.{Bool, List, None, Option, Some, cond, eqb, false, find, is_some, not, option_map, pos, slice_get, suc, true, unwrap_or, ℕ, ◌||◌}
+use Rattle.std.specs.Prelude.{Bool, List, None, Option, Some, [], cond, eqb, false, find, is_some, not, option_map, pos, slice_get, suc, true, unwrap_or, ℕ, ◌||◌}
 use Rattle.ada_image.specs.Layout.{array_of}
 use Rattle.ada_image.specs.TypesOfExpressions.{type_of_operation}
 use Rattle.ada_regions.specs.Completions.{holds_of}
@@ -17,8 +17,11 @@ use Rattle.ada_regions.specs.declared.predefined.Operation.TheVariants as operat
 use Rattle.ada_regions.specs.declared.predefined.Operation.{Operation}
 use Rattle.ada_regions.specs.declared.predefined.Predefined.TheVariants as items
 use Rattle.ada_regions.specs.declared.predefined.Predefined.{Predefined}
+use Rattle.ada_regions.specs.declared.predefined.PredefinedUnit.TheVariants as units
+use Rattle.ada_regions.specs.declared.predefined.PredefinedUnit.{PredefinedUnit}
 use Rattle.ada_regions.specs.declared.types.AdaType.TheVariants as types
 use Rattle.ada_regions.specs.declared.types.AdaType.{AdaType}
+use Rattle.ada_regions.specs.declared.types.Formal.{Formal}
 use Rattle.ada_regions.specs.declared.types.Subtype.{Subtype}
 use Rattle.ada_tree.specs.declared.names.Name.{Name}
 use Rattle.profile_machine.specs.declared.numbers.DeclNo.{DeclNo}
@@ -69,6 +72,11 @@ is_procedure_kind _ = false
 abbrev pub is_entry_kind : EntityKind → Bool
 is_entry_kind (entity.Entry number unit formals) = true
 is_entry_kind _ = false
+
+-- the formals of a subprogram
+abbrev pub formals_of_subprogram : EntityKind → List Formal
+formals_of_subprogram (entity.Subprogram number is_function specified formals unit) = formals
+formals_of_subprogram _ = []
 
 -- ---- predefined names
 
@@ -169,10 +177,16 @@ abbrev pub unless_index : Bool → Option AdaType → Option AdaType
 unless_index true t = None
 unless_index false t = t
 
+-- the type of a predefined constant; that of System is of Priority (13.7)
+abbrev pub typed_constant : Known → PredefinedUnit → Option AdaType → Typed
+typed_constant k units.System (Some types.Integer) =
+    of_subtype (subtype_with types.Integer (constraint.Whole (pos 0) (pos k.names.last_priority)))
+typed_constant k u t = typed_if t
+
 -- the type of a value, or of an element of it
 abbrev pub typed_value : Known → Bool → Denoted → Typed
 typed_value k has_index (denotes.Item u item) =
-    typed_if (unless_index has_index (type_of_constant item))
+    typed_constant k u (unless_index has_index (type_of_constant item))
 typed_value k has_index d = typed_by (subtype_with_index k.names has_index (subtype_of_entity k d))
 
 -- the subtype of a function's result, as its declaration or its only body says

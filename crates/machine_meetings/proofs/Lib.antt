@@ -1,0 +1,3 @@
+pub mod AlternativeLemmas
+pub mod ParameterLemmas
+pub mod QueueLemmas

@@ -1,0 +1,8 @@
+use Rattle.std.proofs.Common.{◌≡◌, ◌++◌}
+use Rattle.std.specs.VecDeque.Iter.{deque_iter_rest}
+use Rattle.profile_machine.specs.EntryCalls.{values_in}
+use Rattle.machine_meetings.proofs.parameters.values_in.Given as goal
+
+-- those so far before those that are to come
+abbrev pub invariant-loop-parameter : goal.invariant-loop-parameter
+invariant-loop-parameter l = l.values ++ values_in (deque_iter_rest l.parameter-iterator) ≡ values_in l.parameters

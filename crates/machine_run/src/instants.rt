@@ -1,0 +1,36 @@
+//! An instant: what the present moment brings about, in seven parts.
+ghost use Rattle.std.specs.Prelude.{◌≡◌, [], OnOk};
+ghost use Rattle.profile_machine.specs.Instant.{instant};
+ghost use Rattle.machine_run.specs.Moved.{Moved};
+
+use crate::appointments::appointments_due;
+use crate::effects::finish_action;
+use crate::expiries::{budgets_due, quantum_spent, timers_due};
+use crate::script::script_items;
+use ann_base::NoMemory;
+use machine_frames::Effect;
+use machine_operators::Program;
+use profile_machine::world::Line;
+use std::alloc::Global;
+use world_tables::List;
+
+/// An instant of the machine: its lines stand behind those that are there.
+///
+/// Errors: memory ran out.
+pub fn instant(
+    alloc: Global,
+    p: &Program,
+    effect: &mut Effect,
+    lines: &mut List<Line>,
+) -> Result<(), NoMemory>
+    requires { effect.old.said ≡ [] }
+    ensures { OnOk result (Moved p.now (instant p.now) effect.old lines.old effect.new lines.new) }
+{
+    finish_action(alloc, p, effect, lines)?;
+    script_items(alloc, p, effect, lines)?;
+    appointments_due(alloc, p, true, effect, lines)?;
+    appointments_due(alloc, p, false, effect, lines)?;
+    timers_due(alloc, p, effect, lines)?;
+    budgets_due(alloc, p, effect, lines)?;
+    quantum_spent(alloc, p, effect, lines)
+}

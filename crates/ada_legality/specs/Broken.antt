@@ -3,7 +3,8 @@
 use Rattle.std.specs.List.{flat_map}
 use Rattle.std.specs.Prelude.{Bool, List, None, Option, Some, [], cond, eqb, false, filter, find, int_le, not, option_map, pos, true, unwrap_or, ℕ, ℤ, ◌&&◌, ◌||◌, ◌∷◌}
 use Rattle.std.specs.Str.{bytes_eq}
-use Rattle.ada_regions.specs.Names.{Names, denoted_by, entity_denoted, last_part}
+use Rattle.ada_regions.specs.declared.table.Names.{Names}
+use Rattle.ada_regions.specs.Names.{denoted_by, entity_denoted, last_part}
 use Rattle.ada_regions.specs.PredefinedUnits.{same_unit}
 use Rattle.ada_regions.specs.Statics.{static_value}
 use Rattle.ada_regions.specs.declared.entities.Denoted.TheVariants as denotes

@@ -78,12 +78,7 @@ pub fn leaves(effect: &mut Effect, name: Who, leaving: Leaving)
 
 /// An exception is raised, and the marks are left with it (11.3).
 #[tactic(auto, unfolding(profile_machine::specs::Frames::raises))]
-pub fn raises(
-    effect: &mut Effect,
-    part: Part,
-    name: Who,
-    exception: Raised,
-) -> Result<(), NoMemory>
+pub fn raises(effect: &mut Effect, part: Part, name: Who, exception: Raised) -> Result<(), NoMemory>
     ensures { OnOk result (Did (raises part name exception) effect.old effect.new) }
 {
     says(

@@ -5,7 +5,7 @@ use Rattle.profile_machine.specs.declared.image.Image.{Image}
 use Rattle.profile_machine.specs.declared.world.World.{World}
 use Rattle.profile_machine.specs.declared.world.lines.Said.{Said}
 use Rattle.profile_machine.specs.declared.world.tasks.Task.{Task}
-use Rattle.profile_machine.specs.Steps.{Step, Done, changes, for_each, ◌▷◌}
+use Rattle.profile_machine.specs.Steps.{Step, changes, for_each, ◌▷◌}
 use Rattle.profile_machine.specs.Tasks.{edit_task, is_made, is_made_state}
 use Rattle.profile_machine.specs.Unwinding.{strike_outermost}
 use Rattle.profile_machine.specs.Masters.{leave_by_terminate}

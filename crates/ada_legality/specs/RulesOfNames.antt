@@ -30,7 +30,7 @@ use Rattle.ada_legality.specs.ConstructsInCalls.{type_of_mark}
 use Rattle.ada_legality.specs.ConstructsInDeclarations.{is_controlled_root}
 use Rattle.ada_legality.specs.RulesOfBodies.{has_range}
 use Rattle.ada_legality.specs.RulesOfUnits.{is_unit_name}
-use Rattle.ada_legality.specs.Types.{has_ranges, is_controlled_type, is_event_timer_or_budget, is_protected_unit, is_root_controlled, is_scalar, is_scalar_or_array, is_task_unit}
+use Rattle.ada_legality.specs.Types.{has_ranges, is_controlled_type, is_event_timer_or_budget, is_root_controlled, is_scalar, is_scalar_or_array}
 use Rattle.ada_legality.specs.Values.{denoted_kind, denotes_function, denotes_object, denotes_procedure, denotes_value, is_denoted, is_entry_kind, is_function_kind, is_kind, is_object_kind, is_procedure_kind, subtype_of_entity}
 
 -- ---- subtype marks (3.2.2): a type that is no root of controlled types, of which a range may be

@@ -1,5 +1,5 @@
 -- What is left of a list from a place on, by the item at that place.
-use Rattle.std.proofs.Common.{◌≡◌, ℕ, ◌+◌, zero, suc, List, [], ◌∷◌, Option, Some, None, drop, length, ◌≤◌, slice_get, refl, ap, ◌∙◌, sym, arith}
+use Rattle.std.proofs.Common.{◌≡◌, ℕ, ◌+◌, zero, suc, List, [], ◌∷◌, Some, None, drop, length, ◌≤◌, slice_get, refl, ap, ◌∙◌, sym, arith}
 
 step : {X : Type 0} (x : X) (xs : List X) (i : ℕ) → drop (i + 1) xs ≡ drop (suc i + 1) (x ∷ xs)
 step x xs i = let e : suc i + 1 ≡ suc (i + 1) = omega arith in sym (ap (λ n. drop n (x ∷ xs)) e)

@@ -1,5 +1,5 @@
 -- What use clauses make visible, from a place of a list on.
-use Rattle.std.proofs.Common.{◌≡◌, ◌<◌, ◌-◌, ℕ, ◌+◌, zero, suc, cond, eqb, List, [], ◌∷◌, Option, Some, None, drop, length, slice_get, refl, ap, ◌∙◌, sym, arith}
+use Rattle.std.proofs.Common.{◌≡◌, ◌<◌, ◌-◌, ℕ, ◌+◌, zero, suc, cond, eqb, List, [], ◌∷◌, Some, drop, length, slice_get, refl, ap, ◌∙◌, sym, arith}
 use Rattle.ada_regions.specs.declared.entities.Sought.{Sought}
 use Rattle.ada_regions.specs.declared.table.Names.{Names}
 use Rattle.ada_regions.specs.declared.table.Frame.{Frame}

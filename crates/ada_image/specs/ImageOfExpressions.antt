@@ -55,7 +55,8 @@ use Rattle.ada_regions.specs.declared.entities.ComponentOwner.{ComponentOwner}
 use Rattle.ada_regions.specs.declared.entities.ComponentOwner.TheVariants as owner
 use Rattle.ada_regions.specs.Words.{and_then}
 use Rattle.ada_regions.specs.PredefinedUnits.{names_of_formals}
-use Rattle.ada_regions.specs.Names.{Names, denoted_by, kind_at, entity_denoted, entity_of}
+use Rattle.ada_regions.specs.declared.table.Names.{Names}
+use Rattle.ada_regions.specs.Names.{denoted_by, kind_at, entity_denoted, entity_of}
 use Rattle.ada_regions.specs.Statics.{literal_value, negated, attribute_value}
 use Rattle.ada_image.specs.Making.{Making, Within, ◌>>=◌, pure, value_put}
 use Rattle.ada_image.specs.Layout.{is_thing, subtype_is}

@@ -73,7 +73,9 @@ use Rattle.ada_regions.specs.declared.entities.Denoted.TheVariants as denotes
 use Rattle.ada_regions.specs.declared.entities.EntityKind.{EntityKind}
 use Rattle.ada_regions.specs.declared.entities.EntityKind.TheVariants as entity
 use Rattle.ada_regions.specs.Words.{and_then, same_place}
-use Rattle.ada_regions.specs.Names.{Names, NumberedScope, denoted_by, kind_at, entity_denoted, last_part}
+use Rattle.ada_regions.specs.declared.table.Names.{Names}
+use Rattle.ada_regions.specs.declared.table.NumberedScope.{NumberedScope}
+use Rattle.ada_regions.specs.Names.{denoted_by, kind_at, entity_denoted, last_part}
 use Rattle.ada_regions.specs.Statics.{static_value, subtype_of_name}
 use Rattle.ada_image.specs.Making.{Making, Within, OpenLoop, ◌>>=◌, ◌>>◌, pure, action_put, reserved, put_at, first_put, the_action, in_loop, in_construct, in_scope, in_handler}
 use Rattle.ada_image.specs.Layout.{is_array, is_kept, subtype_is, scope_no}

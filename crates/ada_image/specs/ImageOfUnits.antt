@@ -30,7 +30,10 @@ use Rattle.ada_regions.specs.declared.types.AdaType.{AdaType}
 use Rattle.ada_regions.specs.declared.types.AdaType.TheVariants as types
 use Rattle.ada_regions.specs.declared.types.Subtype.{Subtype}
 use Rattle.ada_regions.specs.PredefinedUnits.{default_priority}
-use Rattle.ada_regions.specs.Names.{Names, NumberedDeclaration, Sort, of_object, of_component, of_parameter, of_loop_parameter, of_exception}
+use Rattle.ada_regions.specs.declared.table.Names.{Names}
+use Rattle.ada_regions.specs.declared.table.NumberedDeclaration.{NumberedDeclaration}
+use Rattle.ada_regions.specs.declared.table.Sort.{Sort}
+use Rattle.ada_regions.specs.declared.table.Sort.TheVariants as sort
 use Rattle.ada_regions.specs.Numbered.{names_of}
 use Rattle.ada_image.specs.Making.{Making, Lists, Within, ◌>>=◌, ◌>>◌, pure, action_put, first_put, nothing_made}
 use Rattle.ada_image.specs.Layout.{is_thing, is_array, subtype_is, range_of_cells, index_range, cells_of_declaration, place_behind, scope_no, scopes_made, subprogram_made, enumeration_made}
@@ -160,22 +163,22 @@ kind_of_subtype None task i = kind.Object i
 kind_of_subtype (Some s) task i = kind_with_task s.of_type task i
 
 abbrev pub kind_of_sort : Sort → Option Subtype → Option ℕ → Initial → DeclarationKind
-kind_of_sort of_object s task i = kind_of_subtype s task i
-kind_of_sort (of_component o) s task i = kind.Object i
-kind_of_sort of_parameter s task i = kind.Parameter
-kind_of_sort of_loop_parameter s task i = kind.Parameter
-kind_of_sort of_exception s task i = kind.Other
+kind_of_sort sort.Object s task i = kind_of_subtype s task i
+kind_of_sort (sort.Component o) s task i = kind.Object i
+kind_of_sort sort.Parameter s task i = kind.Parameter
+kind_of_sort sort.LoopParameter s task i = kind.Parameter
+kind_of_sort sort.Exception s task i = kind.Other
 
 -- what stands for itself has no range
 abbrev pub range_if_value : Names → Option Subtype → Constraint
 range_if_value n s = cond (subtype_is is_thing s) constraint.Free (range_of_cells n s)
 
 abbrev pub range_of_sort : Names → Sort → Option Subtype → Constraint
-range_of_sort n of_object s = range_if_value n s
-range_of_sort n (of_component o) s = range_if_value n s
-range_of_sort n of_parameter s = range_if_value n s
-range_of_sort n of_loop_parameter s = constraint.Free
-range_of_sort n of_exception s = constraint.Free
+range_of_sort n sort.Object s = range_if_value n s
+range_of_sort n (sort.Component o) s = range_if_value n s
+range_of_sort n sort.Parameter s = range_if_value n s
+range_of_sort n sort.LoopParameter s = constraint.Free
+range_of_sort n sort.Exception s = constraint.Free
 
 abbrev pub numbered_object : Names → List NumberedDeclaration → NumberedDeclaration → Initial → NumberedObject
 numbered_object n before d i = record {

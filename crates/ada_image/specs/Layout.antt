@@ -21,7 +21,12 @@ use Rattle.ada_regions.specs.declared.types.Subtype.{Subtype}
 use Rattle.ada_regions.specs.declared.entities.ComponentOwner.{ComponentOwner}
 use Rattle.ada_regions.specs.declared.entities.ComponentOwner.TheVariants as owner
 use Rattle.ada_regions.specs.Words.{and_then}
-use Rattle.ada_regions.specs.Names.{Names, NumberedDeclaration, NumberedScope, NumberedSubprogram, Sort, of_object, of_component, of_parameter, of_loop_parameter, of_exception}
+use Rattle.ada_regions.specs.declared.table.Names.{Names}
+use Rattle.ada_regions.specs.declared.table.NumberedDeclaration.{NumberedDeclaration}
+use Rattle.ada_regions.specs.declared.table.NumberedScope.{NumberedScope}
+use Rattle.ada_regions.specs.declared.table.NumberedSubprogram.{NumberedSubprogram}
+use Rattle.ada_regions.specs.declared.table.Sort.{Sort}
+use Rattle.ada_regions.specs.declared.table.Sort.TheVariants as sort
 use Rattle.ada_image.specs.Making.{FirstAction}
 
 -- ---- kinds of types
@@ -149,11 +154,11 @@ same_owner (owner.Controlled a) (owner.Protected b) = false
 same_owner (owner.Controlled a) (owner.Controlled b) = eqb a.0 b.0
 
 abbrev pub is_component_of : ComponentOwner → Sort → Bool
-is_component_of o of_object = false
-is_component_of o (of_component p) = same_owner o p
-is_component_of o of_parameter = false
-is_component_of o of_loop_parameter = false
-is_component_of o of_exception = false
+is_component_of o sort.Object = false
+is_component_of o (sort.Component p) = same_owner o p
+is_component_of o sort.Parameter = false
+is_component_of o sort.LoopParameter = false
+is_component_of o sort.Exception = false
 
 abbrev pub components_of_owner : Names → ComponentOwner → List NumberedDeclaration
 components_of_owner n o = filter (λ d. is_component_of o d.sort) n.declarations
@@ -188,11 +193,11 @@ abbrev pub width_of_object : Names → Option Subtype → ℕ
 width_of_object n s = unwrap_or (option_map (λ t. width_of_type n t.of_type) s) 1
 
 abbrev pub cells_of_sort : Names → Sort → Option Subtype → ℕ
-cells_of_sort n of_object s = width_of_object n s
-cells_of_sort n (of_component o) s = width_of_subtype n s
-cells_of_sort n of_parameter s = width_of_object n s
-cells_of_sort n of_loop_parameter s = 2
-cells_of_sort n of_exception s = 0
+cells_of_sort n sort.Object s = width_of_object n s
+cells_of_sort n (sort.Component o) s = width_of_subtype n s
+cells_of_sort n sort.Parameter s = width_of_object n s
+cells_of_sort n sort.LoopParameter s = 2
+cells_of_sort n sort.Exception s = 0
 
 abbrev pub cells_of_declaration : Names → NumberedDeclaration → ℕ
 cells_of_declaration n d = cells_of_sort n d.sort d.subtype
@@ -200,21 +205,21 @@ cells_of_declaration n d = cells_of_sort n d.sort d.subtype
 -- ---- places: behind those before it in its scope, or among the components of its owner
 
 abbrev pub stands_in_scope : Sort → Bool
-stands_in_scope of_object = true
-stands_in_scope (of_component o) = false
-stands_in_scope of_parameter = true
-stands_in_scope of_loop_parameter = true
-stands_in_scope of_exception = false
+stands_in_scope sort.Object = true
+stands_in_scope (sort.Component o) = false
+stands_in_scope sort.Parameter = true
+stands_in_scope sort.LoopParameter = true
+stands_in_scope sort.Exception = false
 
 abbrev pub is_in_scope : ℕ → NumberedDeclaration → Bool
 is_in_scope scope d = stands_in_scope d.sort && eqb d.scope scope
 
 abbrev pub stands_beside : NumberedDeclaration → Sort → NumberedDeclaration → Bool
-stands_beside d of_object e = is_in_scope d.scope e
-stands_beside d (of_component o) e = is_component_of o e.sort
-stands_beside d of_parameter e = is_in_scope d.scope e
-stands_beside d of_loop_parameter e = is_in_scope d.scope e
-stands_beside d of_exception e = false
+stands_beside d sort.Object e = is_in_scope d.scope e
+stands_beside d (sort.Component o) e = is_component_of o e.sort
+stands_beside d sort.Parameter e = is_in_scope d.scope e
+stands_beside d sort.LoopParameter e = is_in_scope d.scope e
+stands_beside d sort.Exception e = false
 
 -- the place of a declaration, where those before it are given
 abbrev pub place_behind : Names → List NumberedDeclaration → NumberedDeclaration → ℕ
@@ -262,11 +267,11 @@ abbrev pub runs_of_parameter : Names → ℕ → Option Subtype → List CellRun
 runs_of_parameter n place s = cond (subtype_is is_thing s) [] (runs_of_subtype n place s)
 
 abbrev pub runs_of_sort : Names → ℕ → Option Subtype → Sort → List CellRun
-runs_of_sort n place s of_object = runs_of_subtype n place s
-runs_of_sort n place s (of_component o) = []
-runs_of_sort n place s of_parameter = runs_of_parameter n place s
-runs_of_sort n place s of_loop_parameter = []
-runs_of_sort n place s of_exception = []
+runs_of_sort n place s sort.Object = runs_of_subtype n place s
+runs_of_sort n place s (sort.Component o) = []
+runs_of_sort n place s sort.Parameter = runs_of_parameter n place s
+runs_of_sort n place s sort.LoopParameter = []
+runs_of_sort n place s sort.Exception = []
 
 abbrev pub runs_from : Names → ℕ → List NumberedDeclaration → List CellRun
 runs_from n place [] = []
@@ -282,11 +287,11 @@ extra_cell true = 1
 extra_cell false = 0
 
 abbrev pub keeps : Sort → Option Subtype → Bool
-keeps of_object s = subtype_is is_kept s
-keeps (of_component o) s = false
-keeps of_parameter s = false
-keeps of_loop_parameter s = false
-keeps of_exception s = false
+keeps sort.Object s = subtype_is is_kept s
+keeps (sort.Component o) s = false
+keeps sort.Parameter s = false
+keeps sort.LoopParameter s = false
+keeps sort.Exception s = false
 
 abbrev pub first_action : List FirstAction → ℕ → Option FirstAction
 first_action firsts scope = find (λ f. eqb f.scope scope) firsts

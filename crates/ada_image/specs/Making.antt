@@ -8,7 +8,7 @@ use Rattle.profile_machine.specs.declared.expressions.Expression.{Expression as 
 use Rattle.profile_machine.specs.declared.statements.Statement.{Statement as Action}
 use Rattle.profile_machine.specs.declared.statements.StatementForm.{StatementForm}
 use Rattle.profile_machine.specs.Program.{no_statement}
-use Rattle.ada_regions.specs.Names.{Names}
+use Rattle.ada_regions.specs.declared.table.Names.{Names}
 
 -- the first action of a scope
 pub record FirstAction : Type 0 where

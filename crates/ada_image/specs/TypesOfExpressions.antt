@@ -30,7 +30,9 @@ use Rattle.ada_regions.specs.declared.entities.Denoted.TheVariants as denotes
 use Rattle.ada_regions.specs.declared.entities.EntityKind.{EntityKind}
 use Rattle.ada_regions.specs.declared.entities.EntityKind.TheVariants as entity
 use Rattle.ada_regions.specs.Words.{and_then, nothing_there}
-use Rattle.ada_regions.specs.Names.{Names, NumberedSubprogram, denoted_by, kind_at}
+use Rattle.ada_regions.specs.declared.table.Names.{Names}
+use Rattle.ada_regions.specs.declared.table.NumberedSubprogram.{NumberedSubprogram}
+use Rattle.ada_regions.specs.Names.{denoted_by, kind_at}
 use Rattle.ada_image.specs.Layout.{array_of}
 
 abbrev pub type_of_subtype : Option Subtype → Option AdaType

@@ -25,7 +25,14 @@ use Rattle.ada_regions.specs.declared.types.Mode.TheVariants as mode
 use Rattle.ada_regions.specs.declared.entities.ComponentOwner.{ComponentOwner}
 use Rattle.ada_regions.specs.declared.entities.ComponentOwner.TheVariants as owner
 use Rattle.ada_regions.specs.Words.{and_then, or_else}
-use Rattle.ada_regions.specs.Names.{Names, NumberedDeclaration, NumberedSubprogram, NumberedTask, NumberedProtected, NumberedControlled, NumberedEntry, NumberedEntryBody}
+use Rattle.ada_regions.specs.declared.table.Names.{Names}
+use Rattle.ada_regions.specs.declared.table.NumberedDeclaration.{NumberedDeclaration}
+use Rattle.ada_regions.specs.declared.table.NumberedSubprogram.{NumberedSubprogram}
+use Rattle.ada_regions.specs.declared.table.NumberedTask.{NumberedTask}
+use Rattle.ada_regions.specs.declared.table.NumberedProtected.{NumberedProtected}
+use Rattle.ada_regions.specs.declared.table.NumberedControlled.{NumberedControlled}
+use Rattle.ada_regions.specs.declared.table.NumberedEntry.{NumberedEntry}
+use Rattle.ada_regions.specs.declared.table.NumberedEntryBody.{NumberedEntryBody}
 use Rattle.ada_regions.specs.Statics.{static_value}
 use Rattle.ada_image.specs.Making.{Making, Within, ◌>>=◌, pure}
 use Rattle.ada_image.specs.Layout.{is_component_of, formal_made, scope_no, subtype_is}

@@ -1,17 +1,24 @@
 -- Small words for rules: where something is broken, which constructs a text has, and comparing what
 -- is named.
 use Rattle.std.specs.List.{flat_map}
-use Rattle.std.specs.Prelude.{Bool, List, None, Option, Some, [], cond, eqb, false, filter, find, int_le, not, option_map, pos, true, unwrap_or, ℕ, ℤ, ◌&&◌, ◌||◌, ◌∷◌}
+use Rattle.std.specs.Prelude.{Bool, List, None, Option, Some, [], cond, eqb, false, filter, find, int_le, is_some, neg_ℤ, not, option_map, pos, true, ℕ, ℤ, ◌&&◌, ◌||◌, ◌∷◌}
 use Rattle.std.specs.Str.{bytes_eq}
-use Rattle.ada_regions.specs.Names.{Names, denoted_by, entity_denoted, last_part}
+use Rattle.ada_lex.specs.Meaning.{decimals_of, whole_of}
+use Rattle.ada_regions.specs.declared.table.Names.{Names}
+use Rattle.ada_regions.specs.Names.{denoted_by, entity_denoted, last_part}
 use Rattle.ada_regions.specs.PredefinedUnits.{same_unit}
-use Rattle.ada_regions.specs.Statics.{static_value}
+use Rattle.ada_regions.specs.Statics.{literal_of, micros_of, static_value}
+use Rattle.ada_regions.specs.Words.{and_then, nothing_there, or_else}
 use Rattle.ada_regions.specs.declared.entities.Denoted.TheVariants as denotes
 use Rattle.ada_regions.specs.declared.entities.Denoted.{Denoted}
 use Rattle.ada_regions.specs.declared.types.AdaType.{AdaType}
+use Rattle.ada_tree.specs.declared.expressions.Expression.TheViews.{out-Expression}
 use Rattle.ada_tree.specs.declared.expressions.Expression.{Expression}
+use Rattle.ada_tree.specs.declared.expressions.ExpressionForm.TheVariants as form
+use Rattle.ada_tree.specs.declared.expressions.ExpressionForm.{ExpressionForm}
 use Rattle.ada_tree.specs.declared.names.Identifier.{Identifier}
 use Rattle.ada_tree.specs.declared.names.Name.{Name}
+use Rattle.ada_tree.specs.declared.operators.Sign.TheVariants as sign
 use Rattle.ann_base.specs.declared.places.Place.{Place}
 use Rattle.profile_machine.specs.declared.values.Value.TheVariants as value
 use Rattle.profile_machine.specs.declared.values.Value.{Value}
@@ -43,34 +50,47 @@ abbrev pub truth_number : Bool → ℤ
 truth_number false = pos 0
 truth_number true = pos 1
 
--- the place of a value in the order of its type
-abbrev pub number_of_value : Value → ℤ
-number_of_value (value.Whole n) = n
-number_of_value (value.Truth b) = truth_number b
-number_of_value (value.Literal n) = pos n
-number_of_value (value.Ticks n) = n
-number_of_value (value.Task t) = pos 0
-number_of_value (value.Thing n) = pos n
+-- the place of a value in the order of its type; a Task_Id has none
+abbrev pub number_of_value : Value → Option ℤ
+number_of_value (value.Whole n) = Some n
+number_of_value (value.Truth b) = Some (truth_number b)
+number_of_value (value.Literal n) = Some (pos n)
+number_of_value (value.Ticks n) = Some n
+number_of_value (value.Task t) = None
+number_of_value (value.Thing n) = Some (pos n)
 
 -- whole numbers are equal
 abbrev pub same_number : ℤ → ℤ → Bool
 same_number a b = int_le a b && int_le b a
 
--- ---- static expressions (4.9): a Task_Id is none
+-- ---- static expressions (4.9)
 
-abbrev pub is_static_value : Value → Bool
-is_static_value (value.Task t) = false
-is_static_value v = true
+-- the number of a literal by its text, which may lie outside its type
+abbrev pub number_of_literal : List ℕ → ℤ
+number_of_literal literal =
+    pos (cond (nothing_there (decimals_of literal)) (whole_of literal) (micros_of literal))
+
+-- the number of a literal, or of minus a literal
+abbrev pub literal_number : ExpressionForm Expression → Option ℤ
+literal_number (form.Signed place sign.Minus operand) =
+    option_map (λ l. neg_ℤ (number_of_literal l)) (literal_of (out-Expression operand).form)
+literal_number f = option_map number_of_literal (literal_of f)
+
+-- the number of an expression that has one: a literal outside its type has no value
+abbrev pub number_of_expression : Known → Expression → Option ℤ
+number_of_expression k e =
+    or_else (literal_number (out-Expression e).form)
+    (and_then (static_value k.names e) number_of_value)
 
 -- an expression is static
 abbrev pub is_static : Known → Expression → Bool
-is_static k e = unwrap_or (option_map is_static_value (static_value k.names e)) false
+is_static k e = is_some (number_of_expression k e)
 
 -- the number of a static expression of this type
 abbrev pub static_number : Known → AdaType → Expression → Option ℤ
 static_number k t e =
-    cond (fits (typed_expression k e) t && (is_static k e && has_type (typed_expression k e)))
-    (option_map number_of_value (static_value k.names e)) None
+    cond (fits (typed_expression k e) t && has_type (typed_expression k e))
+    (number_of_expression k e) None
 
 -- ---- what is named
 

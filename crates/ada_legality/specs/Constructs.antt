@@ -2,7 +2,7 @@
 -- names denote. The rules
 -- are said of this list alone.
 use Rattle.std.specs.Prelude.{Bool, List, Option, [], false, map, true, ℕ, ◌++◌, ◌∷◌}
-use Rattle.ada_regions.specs.Names.{Names}
+use Rattle.ada_regions.specs.declared.table.Names.{Names}
 use Rattle.ada_regions.specs.declared.types.AdaType.{AdaType}
 use Rattle.ada_regions.specs.declared.types.Mode.{Mode}
 use Rattle.ada_regions.specs.declared.types.Subtype.{Subtype}

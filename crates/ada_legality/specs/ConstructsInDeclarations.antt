@@ -4,7 +4,10 @@ use Rattle.std.specs.Prelude.{Bool, List, None, Option, Some, [], codes, cond, f
 use Rattle.std.specs.Str.{bytes_eq}
 use Rattle.ada_image.specs.ImageOfDeclarations.{subprogram_of_kind}
 use Rattle.ada_image.specs.UnitsOfImage.{overrides}
-use Rattle.ada_regions.specs.Names.{Names, NumberedControlled, NumberedSubprogram, denoted_by, last_part}
+use Rattle.ada_regions.specs.declared.table.Names.{Names}
+use Rattle.ada_regions.specs.declared.table.NumberedControlled.{NumberedControlled}
+use Rattle.ada_regions.specs.declared.table.NumberedSubprogram.{NumberedSubprogram}
+use Rattle.ada_regions.specs.Names.{denoted_by, last_part}
 use Rattle.ada_regions.specs.PredefinedUnits.{whole_integer}
 use Rattle.ada_regions.specs.Subtypes.{mark_denoted}
 use Rattle.ada_regions.specs.Visibility.{same_denoted}

@@ -1,7 +1,7 @@
 -- The constructs in a source (clauses 7, 10), in the order of the text.
 use Rattle.std.specs.List.{flat_map}
 use Rattle.std.specs.Prelude.{Bool, List, [], cond, false, not, ◌++◌, ◌||◌, ◌∷◌}
-use Rattle.ada_regions.specs.Names.{Names}
+use Rattle.ada_regions.specs.declared.table.Names.{Names}
 use Rattle.ada_regions.specs.NamesInUnits.{names_in_unit}
 use Rattle.ada_regions.specs.Occurrences.{Declared, Occurrence, an_array, declares}
 use Rattle.ada_regions.specs.PredefinedUnits.{same_unit}

@@ -3,7 +3,7 @@
 -- by the numbers of the rules.
 use Rattle.std.specs.List.{flat_map, list_any}
 use Rattle.std.specs.Prelude.{Bool, List, None, Option, Some, [], cond, eqb, filter, ltb, map, not, ℕ, ◌&&◌, ◌||◌, ◌∷◌}
-use Rattle.ada_regions.specs.Names.{Names}
+use Rattle.ada_regions.specs.declared.table.Names.{Names}
 use Rattle.ada_regions.specs.Numbered.{names_of}
 use Rattle.ada_regions.specs.Words.{same_place, stands_before}
 use Rattle.ada_tree.specs.declared.units.Unit.{Unit as Tree}

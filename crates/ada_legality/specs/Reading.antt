@@ -1,7 +1,8 @@
 -- How expressions are read (clause 4), and what is asked of them in their places.
 use Rattle.std.specs.Prelude.{Bool, List, None, Option, Some, [], cond, false, is_some, length, max, not, option_map, slice_get, true, unwrap_or, ℕ, ◌&&◌, ◌++◌, ◌+◌, ◌||◌, ◌∷◌}
 use Rattle.ada_regions.specs.Completions.{holds_of}
-use Rattle.ada_regions.specs.Names.{Names, denoted_by}
+use Rattle.ada_regions.specs.declared.table.Names.{Names}
+use Rattle.ada_regions.specs.Names.{denoted_by}
 use Rattle.ada_regions.specs.Subtypes.{mark_denoted}
 use Rattle.ada_regions.specs.Words.{and_then}
 use Rattle.ada_regions.specs.declared.entities.ComponentOwner.TheVariants as owner

@@ -3,7 +3,8 @@ use Rattle.std.specs.List.{flat_map}
 use Rattle.std.specs.Prelude.{Bool, List, None, Option, Some, [], cond, false, find, map, not, option_map, pos, true, unwrap_or, ℕ, ℤ, ◌&&◌, ◌++◌, ◌∷◌}
 use Rattle.std.specs.Str.{bytes_eq}
 use Rattle.ada_regions.specs.Completions.{has_body}
-use Rattle.ada_regions.specs.Names.{Names, entity_denoted}
+use Rattle.ada_regions.specs.declared.table.Names.{Names}
+use Rattle.ada_regions.specs.Names.{entity_denoted}
 use Rattle.ada_regions.specs.Subtypes.{indicated_subtype, mode_of}
 use Rattle.ada_regions.specs.Words.{all_of, and_then}
 use Rattle.ada_regions.specs.declared.types.Mode.TheVariants as mode

@@ -3,7 +3,7 @@ use Rattle.std.specs.List.{flat_map}
 use Rattle.std.specs.Prelude.{Bool, List, None, Option, Some, [], cond, false, filter, find, int_le, leb, map, not, option_map, pos, suc, true, unwrap_or, ℕ, ℤ, ◌&&◌, ◌++◌, ◌||◌, ◌∷◌}
 use Rattle.ada_image.specs.PoliciesOfImage.{ranges_of_pragma}
 use Rattle.ada_image.specs.UnitsOfImage.{entries_of}
-use Rattle.ada_regions.specs.Names.{Names}
+use Rattle.ada_regions.specs.declared.table.Names.{Names}
 use Rattle.ada_regions.specs.Numbered.{last_priority_of}
 use Rattle.ada_regions.specs.PredefinedUnits.{default_priority}
 use Rattle.ada_regions.specs.Words.{all_of, and_then, nothing_there}

@@ -4,7 +4,9 @@ use Rattle.std.specs.List.{flat_map}
 use Rattle.std.specs.Prelude.{Bool, List, Option, Some, [], cond, eqb, false, filter, leb, length, ltb, map, option_map, pos, suc, unwrap_or, ℕ, ◌&&◌, ◌++◌, ◌+◌, ◌∷◌}
 use Rattle.ada_image.specs.Layout.{cells_of_declaration, is_in_scope}
 use Rattle.ada_regions.specs.Declaring.{object_number}
-use Rattle.ada_regions.specs.Names.{Names, NumberedDeclaration, entity_denoted, expanded, kind_at}
+use Rattle.ada_regions.specs.declared.table.Names.{Names}
+use Rattle.ada_regions.specs.declared.table.NumberedDeclaration.{NumberedDeclaration}
+use Rattle.ada_regions.specs.Names.{entity_denoted, expanded, kind_at}
 use Rattle.ada_regions.specs.NamesInUnits.{names_in_unit}
 use Rattle.ada_regions.specs.Numbered.{behind, last_priority_of, nothing_known}
 use Rattle.ada_regions.specs.Occurrences.{Occurrence, Occurrences, completes, declares}

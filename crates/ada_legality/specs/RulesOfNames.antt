@@ -3,6 +3,8 @@
 use Rattle.std.specs.List.{flat_map}
 use Rattle.std.specs.Prelude.{Bool, List, None, Option, Some, [], codes, false, is_none, is_some, not, option_map, true, unwrap_or, ℕ, ◌&&◌, ◌||◌}
 use Rattle.std.specs.Str.{bytes_eq}
+use Rattle.ada_regions.specs.declared.entities.UnitKind.{UnitKind}
+use Rattle.ada_regions.specs.declared.entities.UnitKind.TheVariants as unit
 use Rattle.ada_regions.specs.Completions.{holds_of, is_unit}
 use Rattle.ada_regions.specs.Names.{entity_denoted}
 use Rattle.ada_regions.specs.Words.{all_of}
@@ -28,7 +30,7 @@ use Rattle.ada_legality.specs.ConstructsInCalls.{type_of_mark}
 use Rattle.ada_legality.specs.ConstructsInDeclarations.{is_controlled_root}
 use Rattle.ada_legality.specs.RulesOfBodies.{has_range}
 use Rattle.ada_legality.specs.RulesOfUnits.{is_unit_name}
-use Rattle.ada_legality.specs.Types.{has_ranges, is_controlled_type, is_event_timer_or_budget, is_protected_unit, is_root_controlled, is_scalar, is_scalar_or_array, is_task_unit}
+use Rattle.ada_legality.specs.Types.{has_ranges, is_controlled_type, is_event_timer_or_budget, is_root_controlled, is_scalar, is_scalar_or_array}
 use Rattle.ada_legality.specs.Values.{denoted_kind, denotes_function, denotes_object, denotes_procedure, denotes_value, is_denoted, is_entry_kind, is_function_kind, is_kind, is_object_kind, is_procedure_kind, subtype_of_entity}
 
 -- ---- subtype marks (3.2.2): a type that is no root of controlled types, of which a range may be
@@ -144,9 +146,9 @@ unless_kind test k i = unless (holds_of test (kind_of_identifier k i)) i.place
 
 -- ---- bodies (9.1, 9.4, 9.5.2): of a task, of a protected unit, of an entry of the unit around
 
-abbrev pub is_unit_of : (AdaType → Bool) → Known → Identifier → Bool
-is_unit_of test k i =
-    unwrap_or (option_map (is_unit test k.names) (entity_denoted k.names i.place)) false
+abbrev pub is_unit_of : UnitKind → Known → Identifier → Bool
+is_unit_of kind k i =
+    unwrap_or (option_map (is_unit kind k.names) (entity_denoted k.names i.place)) false
 
 -- ---- aspects (13.1.1): which may stand where; Relative_Deadline and Attach_Handler have rules of
 -- their own
@@ -196,8 +198,8 @@ of_the_wrong_kind k (an_exit e) =
 of_the_wrong_kind k (a_requeue place name) = unless (is_kind is_entry_kind k name) (place_of name)
 of_the_wrong_kind k (a_use_clause name) = unless_denoted (is_unit_name k.names) k name
 of_the_wrong_kind k (an_accept_statement place i parameters) = unless_kind is_entry_kind k i
-of_the_wrong_kind k (a_task_body i) = unless (is_unit_of is_task_unit k i) i.place
-of_the_wrong_kind k (a_protected_body i) = unless (is_unit_of is_protected_unit k i) i.place
+of_the_wrong_kind k (a_task_body i) = unless (is_unit_of unit.Task k i) i.place
+of_the_wrong_kind k (a_protected_body i) = unless (is_unit_of unit.Protected k i) i.place
 of_the_wrong_kind k (an_entry_body h) = unless (is_own_entry k h.name) h.name.place
 of_the_wrong_kind k (an_aspect_list on place aspects) =
     flat_map (λ a. unless (is_known_aspect on a.name.text) a.name.place) aspects

@@ -1,7 +1,8 @@
 -- Statements (clauses 5, 6.5, 11).
 use Rattle.std.specs.List.{flat_map, list_all, list_any}
 use Rattle.std.specs.Prelude.{Bool, List, None, Option, Some, [], cond, eqb, false, int_le, int_lt, is_some, length, map, negsuc, not, option_map, pos, slice_get, true, unwrap_or, ℕ, ℤ, ◌&&◌, ◌++◌, ◌+ℤ◌, ◌-◌, ◌||◌, ◌∷◌}
-use Rattle.ada_regions.specs.Names.{Names, entity_denoted}
+use Rattle.ada_regions.specs.declared.table.Names.{Names}
+use Rattle.ada_regions.specs.Names.{entity_denoted}
 use Rattle.ada_regions.specs.Words.{same_place}
 use Rattle.ada_regions.specs.declared.types.AdaType.TheVariants as types
 use Rattle.ada_regions.specs.declared.types.AdaType.{AdaType}

@@ -3,8 +3,8 @@
 use Rattle.std.specs.List.{flat_map, list_any}
 use Rattle.std.specs.Prelude.{Bool, List, None, Option, Some, [], false, find, int_le, int_lt, is_some, leb, length, neg_ℤ, negsuc, not, option_map, pos, true, unwrap_or, ℕ, ℤ, ◌&&◌, ◌++◌, ◌-ℤ◌, ◌||◌, ◌∷◌}
 use Rattle.ada_lex.specs.Meaning.{decimals_of, whole_of}
-use Rattle.ada_regions.specs.Names.{Names}
-use Rattle.ada_regions.specs.Statics.{ticks_of}
+use Rattle.ada_regions.specs.declared.table.Names.{Names}
+use Rattle.ada_regions.specs.Statics.{micros_of}
 use Rattle.ada_regions.specs.Words.{all_of, and_then}
 use Rattle.ada_regions.specs.declared.entities.ComponentOwner.TheVariants as owner
 use Rattle.ada_regions.specs.declared.entities.EntityKind.TheVariants as entity
@@ -110,7 +110,7 @@ integer_literals_broken text = by_construct outside_integer text
 
 abbrev pub lies_in_duration : Literal → Bool
 lies_in_duration l =
-    leb (length (decimals_of l.text)) 6 && int_le (ticks_of l.text) (pos 4611686018427387903)
+    leb (length (decimals_of l.text)) 6 && int_le (pos (micros_of l.text)) (pos 4611686018427387903)
 
 -- a literal outside Duration, or where no Duration is expected
 abbrev pub outside_duration : Known → Construct → Places

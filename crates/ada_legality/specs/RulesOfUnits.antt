@@ -2,7 +2,8 @@
 use Rattle.std.specs.List.{flat_map, list_any}
 use Rattle.std.specs.Prelude.{Bool, List, None, Option, Some, [], cond, false, is_some, not, option_map, true, unwrap_or, ℕ, ◌&&◌, ◌++◌, ◌||◌, ◌∷◌}
 use Rattle.ada_regions.specs.Completions.{holds_of}
-use Rattle.ada_regions.specs.Names.{Names, denoted_at, denoted_by, entity_denoted, kind_at}
+use Rattle.ada_regions.specs.declared.table.Names.{Names}
+use Rattle.ada_regions.specs.Names.{denoted_at, denoted_by, entity_denoted, kind_at}
 use Rattle.ada_regions.specs.NamesInUnits.{names_in_unit}
 use Rattle.ada_regions.specs.Numbered.{behind, last_priority_of, nothing_known}
 use Rattle.ada_regions.specs.Occurrences.{Occurrence, Occurrences, mentions, use_package}

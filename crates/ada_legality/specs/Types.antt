@@ -1,7 +1,7 @@
 -- Kinds of types, and for which types each operator is defined (3.2, 3.5, 4.5, D.8, D.14).
 use Rattle.std.specs.Prelude.{Bool, None, Option, Some, cond, eqb, false, not, option_map, slice_get, true, unwrap_or, ℕ, ◌&&◌, ◌||◌}
 use Rattle.ada_regions.specs.Declaring.{free_subtype}
-use Rattle.ada_regions.specs.Names.{Names}
+use Rattle.ada_regions.specs.declared.table.Names.{Names}
 use Rattle.ada_regions.specs.Words.{and_then, or_else}
 use Rattle.ada_regions.specs.declared.types.AdaType.TheVariants as types
 use Rattle.ada_regions.specs.declared.types.AdaType.{AdaType}

@@ -5,7 +5,8 @@ use Rattle.ada_image.specs.Layout.{array_of}
 use Rattle.ada_image.specs.TypesOfExpressions.{type_of_operation}
 use Rattle.ada_regions.specs.Completions.{holds_of}
 use Rattle.ada_regions.specs.Declaring.{free_subtype}
-use Rattle.ada_regions.specs.Names.{Names, denoted_by, entity_denoted, entity_of, kind_at}
+use Rattle.ada_regions.specs.declared.table.Names.{Names}
+use Rattle.ada_regions.specs.Names.{denoted_by, entity_denoted, entity_of, kind_at}
 use Rattle.ada_regions.specs.PredefinedUnits.{subtype_with}
 use Rattle.ada_regions.specs.Statics.{subtype_of_kind}
 use Rattle.ada_regions.specs.Words.{and_then}

@@ -34,23 +34,34 @@ use Rattle.ada_regions.specs.declared.entities.ComponentOwner.TheVariants as own
 use Rattle.ada_regions.specs.declared.faults.NameFault.TheVariants as fault
 use Rattle.ada_regions.specs.Words.{and_then, all_of}
 use Rattle.ada_regions.specs.Occurrences.{Declared, the_package, the_main_procedure, an_object, a_component, a_parameter, a_loop_parameter, an_enumeration, a_literal, an_array, a_derived_type, a_subtype, an_exception, a_label, a_subprogram, an_entry, a_task, a_protected}
-use Rattle.ada_regions.specs.Names.{Names, Frame, Sort, of_object, of_component, of_parameter, of_loop_parameter, of_exception, NumberedDeclaration, NumberedSubprogram, NumberedTask, NumberedProtected, NumberedControlled, NumberedEntry, denoted_by, entity_of, binding_in, innermost_frame, region_here, scope_in, scope_of_loops, expanded, kind_at, noted, told}
+use Rattle.ada_regions.specs.declared.table.Names.{Names}
+use Rattle.ada_regions.specs.declared.table.Frame.{Frame}
+use Rattle.ada_regions.specs.declared.table.Enclosure.{Enclosure}
+use Rattle.ada_regions.specs.declared.table.Sort.{Sort}
+use Rattle.ada_regions.specs.declared.table.NumberedDeclaration.{NumberedDeclaration}
+use Rattle.ada_regions.specs.declared.table.NumberedSubprogram.{NumberedSubprogram}
+use Rattle.ada_regions.specs.declared.table.NumberedTask.{NumberedTask}
+use Rattle.ada_regions.specs.declared.table.NumberedProtected.{NumberedProtected}
+use Rattle.ada_regions.specs.declared.table.NumberedControlled.{NumberedControlled}
+use Rattle.ada_regions.specs.declared.table.NumberedEntry.{NumberedEntry}
+use Rattle.ada_regions.specs.declared.table.Sort.TheVariants as sort
+use Rattle.ada_regions.specs.Names.{denoted_by, entity_of, binding_in, innermost_frame, enclosure_of, enclosure_here, region_here, scope_in, scope_of_loops, expanded, kind_at, noted, told}
 use Rattle.ada_regions.specs.Statics.{static_value, subtype_of_kind}
 use Rattle.ada_regions.specs.Subtypes.{indicated_subtype, mark_denoted, array_type, formals_of, mode_of}
 use Rattle.ada_regions.specs.Visibility.{in_standard, bound}
 
 -- ---- bindings
 
-abbrev pub with_binding : Frame → List ℕ → Option ℕ → Names → Names
+abbrev pub with_binding : Enclosure → List ℕ → Option ℕ → Names → Names
 with_binding f name e n = record n { bindings = record { region = f.region; name = name; entity = e; exported = f.exports } ∷ n.bindings }
 
 -- a name is hidden where its region has none of it (8.3)
-abbrev pub hidden : Identifier → Names → Names
-hidden i n = cond (is_some (binding_in n.bindings (region_here n) i.text)) n (with_binding (innermost_frame n.frames) i.text None n)
+unfoldable pub hidden : Identifier → Names → Names
+hidden i n = cond (is_some (binding_in n.bindings (region_here n) i.text)) n (with_binding (enclosure_here n) i.text None n)
 
 -- whether a region has a declaration of this name already
-abbrev pub is_taken : Names → Frame → List ℕ → Bool
-is_taken n f name = is_some (and_then (binding_in n.bindings f.region name) bound)
+abbrev pub is_taken : Names → ℕ → List ℕ → Bool
+is_taken n region name = is_some (and_then (binding_in n.bindings region name) bound)
 
 abbrev pub told_if_taken : Bool → Identifier → Names → Names
 told_if_taken taken i n = cond taken (told (fault.Twice i.place) n) n
@@ -59,25 +70,25 @@ told_if_taken taken i n = cond taken (told (fault.Twice i.place) n) n
 abbrev pub with_entity : Place → EntityKind → Option ℕ → Names → Names
 with_entity place kind region n = record n { entities = n.entities ++ record { place = place; kind = kind; region = region } ∷ [] }
 
--- a name is declared in the region of this frame
-abbrev pub entered : Frame → Bool → Identifier → EntityKind → Option ℕ → Names → Names
+-- a name is declared in this region
+unfoldable pub entered : Enclosure → Bool → Identifier → EntityKind → Option ℕ → Names → Names
 entered f taken i kind region n =
     let e = length n.entities in
     noted i.place (denotes.Entity e) (with_binding f i.text (Some e) (with_entity i.place kind region (told_if_taken taken i n)))
 
-abbrev pub entered_here : Identifier → EntityKind → Option ℕ → Names → Names
-entered_here i kind region n = entered (innermost_frame n.frames) (is_taken n (innermost_frame n.frames) i.text) i kind region n
+unfoldable pub entered_here : Identifier → EntityKind → Option ℕ → Names → Names
+entered_here i kind region n = entered (enclosure_here n) (is_taken n (region_here n) i.text) i kind region n
 
 -- ---- the region of Standard, in which library units stand (10.1)
 
 abbrev pub library_frame : Frame
 library_frame = record { region = 0; owner = None; scope = Some 0; is_accept = false; name = None; exports = false; components = None; part = 0 }
 
-abbrev pub unit_is_taken : Names → List ℕ → Bool
-unit_is_taken n name = is_taken n library_frame name || is_some (in_standard n.last_priority name)
+unfoldable pub unit_is_taken : Names → List ℕ → Bool
+unit_is_taken n name = is_taken n library_frame.region name || is_some (in_standard n.last_priority name)
 
-abbrev pub entered_as_unit : Identifier → EntityKind → Option ℕ → Names → Names
-entered_as_unit i kind region n = entered library_frame (unit_is_taken n i.text) i kind region n
+unfoldable pub entered_as_unit : Identifier → EntityKind → Option ℕ → Names → Names
+entered_as_unit i kind region n = entered (enclosure_of library_frame) (unit_is_taken n i.text) i kind region n
 
 -- ---- numbers of the image
 
@@ -91,7 +102,7 @@ numbered_declaration n i sort scope s initial =
 abbrev pub with_declaration : NumberedDeclaration → Names → Names
 with_declaration d n = record n { declarations = n.declarations ++ d ∷ [] }
 
-abbrev pub numbered : Identifier → Sort → ℕ → Option Subtype → Option Expression → Names → Names
+unfoldable pub numbered : Identifier → Sort → ℕ → Option Subtype → Option Expression → Names → Names
 numbered i sort scope s initial n = with_declaration (numbered_declaration n i sort scope s initial) n
 
 -- a region that is opened later
@@ -100,7 +111,7 @@ with_region n = record n { regions = suc n.regions }
 
 -- ---- objects, components and parameters
 
-abbrev pub constant_value : Names → ObjectDeclaration → Option Value
+unfoldable pub constant_value : Names → ObjectDeclaration → Option Value
 constant_value n o = cond o.constant (and_then o.initial (static_value n)) None
 
 -- the constant that a timer's indication names (D.14.1)
@@ -111,16 +122,16 @@ object_number _ = None
 abbrev pub number_of_object : Names → Denoted → Option ℕ
 number_of_object n d = option_map (λ x. x.0) (and_then (entity_of d) (λ e. and_then (kind_at n e) object_number))
 
-abbrev pub task_indicated : Names → Option Indicated → Option ℕ
+unfoldable pub task_indicated : Names → Option Indicated → Option ℕ
 task_indicated n None = None
 task_indicated n (Some (indicated.Access name)) = and_then (denoted_by n name) (number_of_object n)
 task_indicated n (Some (indicated.Range low high)) = None
 
-abbrev pub object_declared : Identifier → ObjectDeclaration → Names → Names
+unfoldable pub object_declared : Identifier → ObjectDeclaration → Names → Names
 object_declared i o n =
     let s = indicated_subtype n o.subtype in
     entered_here i (entity.Object s o.constant (constant_value n o) (next_declaration n)) None
-    (with_declaration (record (numbered_declaration n i of_object (scope_in n.frames) s o.initial) { task = task_indicated n o.subtype.constraint }) n)
+    (with_declaration (record (numbered_declaration n i sort.Object (scope_in n.frames) s o.initial) { task = task_indicated n o.subtype.constraint }) n)
 
 abbrev pub no_owner : ComponentOwner
 no_owner = owner.Controlled (record { 0 = 0 })
@@ -129,24 +140,24 @@ abbrev pub owner_or_none : Option ComponentOwner → ComponentOwner
 owner_or_none None = no_owner
 owner_or_none (Some o) = o
 
-abbrev pub component_declared : Identifier → Component → Names → Names
+unfoldable pub component_declared : Identifier → Component → Names → Names
 component_declared i c n =
     let s = indicated_subtype n c.subtype in
     let o = owner_or_none (innermost_frame n.frames).components in
-    entered_here i (entity.Component s o (next_declaration n)) None (numbered i (of_component o) 0 s c.initial n)
+    entered_here i (entity.Component s o (next_declaration n)) None (numbered i (sort.Component o) 0 s c.initial n)
 
-abbrev pub parameter_declared : Bool → Identifier → Parameter → Names → Names
+unfoldable pub parameter_declared : Bool → Identifier → Parameter → Names → Names
 parameter_declared true i p n =
     let s = indicated_subtype n p.subtype in
-    entered_here i (entity.Parameter s (mode_of p.is_in p.is_out) (Some (next_declaration n))) None (numbered i of_parameter (scope_in n.frames) s None n)
+    entered_here i (entity.Parameter s (mode_of p.is_in p.is_out) (Some (next_declaration n))) None (numbered i sort.Parameter (scope_in n.frames) s None n)
 parameter_declared false i p n = entered_here i (entity.Parameter (indicated_subtype n p.subtype) (mode_of p.is_in p.is_out) None) None n
 
-abbrev pub loop_parameter_declared : Identifier → Names → Names
+unfoldable pub loop_parameter_declared : Identifier → Names → Names
 loop_parameter_declared i n =
-    entered_here i (entity.LoopParameter (next_declaration n)) None (numbered i of_loop_parameter (scope_of_loops n.frames) None None n)
+    entered_here i (entity.LoopParameter (next_declaration n)) None (numbered i sort.LoopParameter (scope_of_loops n.frames) None None n)
 
-abbrev pub exception_declared : Identifier → Names → Names
-exception_declared i n = entered_here i (entity.Exception (next_declaration n)) None (numbered i of_exception 0 None None n)
+unfoldable pub exception_declared : Identifier → Names → Names
+exception_declared i n = entered_here i (entity.Exception (next_declaration n)) None (numbered i sort.Exception 0 None None n)
 
 -- ---- types
 
@@ -159,22 +170,25 @@ newest_enumeration n = record { 0 = length n.enumerations - 1 }
 abbrev pub enumeration_subtype : EnumerationNo → OneOrMore Identifier → Subtype
 enumeration_subtype e literals = record { of_type = types.Enumeration e; range = constraint.Literal 0 (length literals.others) }
 
-abbrev pub enumeration_declared : Identifier → OneOrMore Identifier → Names → Names
+abbrev pub text_of : Identifier → List ℕ
+text_of i = i.text
+
+unfoldable pub enumeration_declared : Identifier → OneOrMore Identifier → Names → Names
 enumeration_declared i literals n =
     entered_here i (entity.Mark (Some (enumeration_subtype (next_enumeration n) literals))) None
-    (record n { enumerations = n.enumerations ++ map (λ l. l.text) (all_of literals) ∷ [] })
+    (record n { enumerations = n.enumerations ++ map text_of (all_of literals) ∷ [] })
 
 -- a literal's position is that of its name in the list
 abbrev pub newest_literals : Names → List (List ℕ)
 newest_literals n = unwrap_or (slice_get n.enumerations (newest_enumeration n).0) []
 
-abbrev pub position_of_literal : Names → List ℕ → ℕ
+unfoldable pub position_of_literal : Names → List ℕ → ℕ
 position_of_literal n name = unwrap_or (position (bytes_eq name) (newest_literals n)) 0
 
-abbrev pub literal_declared : Identifier → Names → Names
+unfoldable pub literal_declared : Identifier → Names → Names
 literal_declared i n = entered_here i (entity.Literal (newest_enumeration n) (position_of_literal n i.text)) None n
 
-abbrev pub array_declared : Identifier → Expression → Expression → SubtypeIndication → Names → Names
+unfoldable pub array_declared : Identifier → Expression → Expression → SubtypeIndication → Names → Names
 array_declared i low high component n =
     entered_here i (entity.Mark (Some (record { of_type = types.Array (length n.arrays); range = constraint.Free }))) None
     (record n { arrays = n.arrays ++ array_type n low high component ∷ [] })
@@ -190,16 +204,16 @@ abbrev pub is_limited_parent : Option Subtype → Bool
 is_limited_parent None = true
 is_limited_parent (Some s) = is_limited_root s.of_type
 
-abbrev pub numbered_controlled : Names → Name → NumberedControlled
+unfoldable pub numbered_controlled : Names → Name → NumberedControlled
 numbered_controlled n parent =
     record { region = n.regions; part = (innermost_frame n.frames).part; is_limited = is_limited_parent (and_then (denoted_by n parent) (mark_denoted n)) }
 
-abbrev pub derived_declared : Identifier → Name → Names → Names
+unfoldable pub derived_declared : Identifier → Name → Names → Names
 derived_declared i parent n =
     entered_here i (entity.Mark (Some (free_subtype (types.Derived (record { 0 = length n.controlled_types }))))) (Some n.regions)
     (with_region (record n { controlled_types = n.controlled_types ++ numbered_controlled n parent ∷ [] }))
 
-abbrev pub subtype_declared : Identifier → SubtypeIndication → Names → Names
+unfoldable pub subtype_declared : Identifier → SubtypeIndication → Names → Names
 subtype_declared i m n = entered_here i (entity.Mark (indicated_subtype n m)) None n
 
 -- ---- subprograms and entries: those of a protected unit stand in its region (9.4)
@@ -207,7 +221,7 @@ subtype_declared i m n = entered_here i (entity.Mark (indicated_subtype n m)) No
 abbrev pub type_of_kind : EntityKind → Option AdaType
 type_of_kind kind = option_map (λ s. s.of_type) (subtype_of_kind kind)
 
-abbrev pub owner_type : Names → Frame → Option AdaType
+unfoldable pub owner_type : Names → Frame → Option AdaType
 owner_type n f = and_then f.owner (λ e. and_then (kind_at n e) type_of_kind)
 
 abbrev pub protected_unit_of : Option ComponentOwner → Option ProtectedUnitNo
@@ -215,7 +229,7 @@ protected_unit_of None = None
 protected_unit_of (Some (owner.Protected u)) = Some u
 protected_unit_of (Some (owner.Controlled c)) = None
 
-abbrev pub numbered_subprogram : Names → Frame → ℕ → Identifier → SubprogramSpecification → NumberedSubprogram
+abbrev pub numbered_subprogram : Names → Enclosure → ℕ → Identifier → SubprogramSpecification → NumberedSubprogram
 numbered_subprogram n f scope i s = record {
   name = i.text;
   scope = scope;
@@ -226,10 +240,10 @@ numbered_subprogram n f scope i s = record {
   aspects = s.aspects;
 }
 
--- a subprogram in the region of this frame: its declaration, or the body that declares it
-abbrev pub subprogram_declared : Frame → Bool → ℕ → Identifier → SubprogramSpecification → Names → Names
+-- a subprogram in this region: its declaration, or the body that declares it
+unfoldable pub subprogram_declared : Enclosure → Bool → ℕ → Identifier → SubprogramSpecification → Names → Names
 subprogram_declared f specified scope i s n =
-    entered f (is_taken n f i.text) i
+    entered f (is_taken n f.region i.text) i
     (entity.Subprogram (record { 0 = length n.subprograms }) (is_some s.result) specified (formals_of n s.parameters) (protected_unit_of f.components)) None
     (record n { subprograms = n.subprograms ++ numbered_subprogram n f scope i s ∷ [] })
 
@@ -259,7 +273,7 @@ entry_unit_of (Some t) = entry_unit_in t
 abbrev pub numbered_entry : Identifier → EntryUnit → List Formal → NumberedEntry
 numbered_entry i unit formals = record { name = i.text; unit = unit; formals = formals; body = None }
 
-abbrev pub entry_declared : Identifier → List Parameter → Names → Names
+unfoldable pub entry_declared : Identifier → List Parameter → Names → Names
 entry_declared i parameters n =
     let unit = entry_unit_of (owner_type n (innermost_frame n.frames)) in
     entered_here i (entity.Entry (record { 0 = length n.entries }) unit (formals_of n parameters)) None
@@ -267,11 +281,11 @@ entry_declared i parameters n =
 
 -- ---- task and protected units: a type, or a single object of a type without a name (9.1, 9.4)
 
-abbrev pub unit_entered : Bool → Identifier → Subtype → Names → Names
+unfoldable pub unit_entered : Bool → Identifier → Subtype → Names → Names
 unit_entered true i s n = entered_here i (entity.Mark (Some s)) (Some n.regions) (with_region n)
 unit_entered false i s n =
     entered_here i (entity.Object (Some s) false None (next_declaration n)) (Some n.regions)
-    (with_region (numbered i of_object (scope_in n.frames) (Some s) None n))
+    (with_region (numbered i sort.Object (scope_in n.frames) (Some s) None n))
 
 abbrev pub numbered_task : Names → List Aspect → NumberedTask
 numbered_task n aspects = record { region = n.regions; aspects = aspects; scope = 0 }
@@ -279,18 +293,18 @@ numbered_task n aspects = record { region = n.regions; aspects = aspects; scope 
 abbrev pub numbered_protected : Names → List Aspect → NumberedProtected
 numbered_protected n aspects = record { region = n.regions; aspects = aspects }
 
-abbrev pub task_declared : Bool → List Aspect → Identifier → Names → Names
+unfoldable pub task_declared : Bool → List Aspect → Identifier → Names → Names
 task_declared is_type aspects i n =
     unit_entered is_type i (free_subtype (types.Task (record { 0 = length n.task_units }))) (record n { task_units = n.task_units ++ numbered_task n aspects ∷ [] })
 
-abbrev pub protected_declared : Bool → List Aspect → Identifier → Names → Names
+unfoldable pub protected_declared : Bool → List Aspect → Identifier → Names → Names
 protected_declared is_type aspects i n =
     unit_entered is_type i (free_subtype (types.Protected (record { 0 = length n.protected_units })))
     (record n { protected_units = n.protected_units ++ numbered_protected n aspects ∷ [] })
 
 -- ---- all declarations
 
-abbrev pub declared : Identifier → Declared → Names → Names
+unfoldable pub declared : Identifier → Declared → Names → Names
 declared i the_package n = entered_as_unit i entity.Package (Some n.regions) (with_region n)
 declared i the_main_procedure n = entered_as_unit i entity.Main None n
 declared i (an_object o) n = object_declared i o n
@@ -304,7 +318,7 @@ declared i (a_derived_type parent) n = derived_declared i parent n
 declared i (a_subtype m) n = subtype_declared i m n
 declared i an_exception n = exception_declared i n
 declared i a_label n = entered_here i entity.Label None n
-declared i (a_subprogram s) n = subprogram_declared (innermost_frame n.frames) true 0 i s n
+declared i (a_subprogram s) n = subprogram_declared (enclosure_here n) true 0 i s n
 declared i (an_entry parameters) n = entry_declared i parameters n
 declared i (a_task is_type aspects) n = task_declared is_type aspects i n
 declared i (a_protected is_type aspects) n = protected_declared is_type aspects i n

@@ -16,7 +16,8 @@ use Rattle.ada_regions.specs.Words.{or_else, and_then, same_place}
 use Rattle.ada_regions.specs.PredefinedUnits.{same_unit, child_unit}
 use Rattle.ada_regions.specs.Occurrences.{Occurrence, Occurrences, Region, the_context_of, package_region, package_body, a_unit, task_body, protected_body, a_subprogram, begins, ends, private_from_here, hides, heads, declares, declares_unit, completes, mentions, mentions_simply, with_unit, use_package}
 use Rattle.ada_regions.specs.NamesInUnits.{names_in_unit}
-use Rattle.ada_regions.specs.Names.{Names, denoted_at, entity_at}
+use Rattle.ada_regions.specs.declared.table.Names.{Names}
+use Rattle.ada_regions.specs.Names.{denoted_at, entity_at}
 use Rattle.ada_regions.specs.Visibility.{item_of, in_standard, is_withed_by}
 use Rattle.ada_regions.specs.Regions.{unit_named, unit_to_with}
 use Rattle.ada_regions.specs.Numbered.{names_of, last_priority_of}

@@ -8,7 +8,7 @@ use Rattle.ada_tree.specs.declared.units.Pragma.{Pragma}
 use Rattle.ada_regions.specs.declared.faults.NameFault.{NameFault}
 use Rattle.ada_regions.specs.Occurrences.{Occurrence, Occurrences, begins, ends, private_from_here, hides, heads, declares, declares_unit, completes, is_called, mentions, mentions_simply, mentions_entry, with_unit, use_package}
 use Rattle.ada_regions.specs.NamesInUnits.{names_in_unit}
-use Rattle.ada_regions.specs.Names.{Names}
+use Rattle.ada_regions.specs.declared.table.Names.{Names}
 use Rattle.ada_regions.specs.Visibility.{resolved}
 use Rattle.ada_regions.specs.SelectedNames.{name_resolved}
 use Rattle.ada_regions.specs.Declaring.{hidden, declared, library_frame}
@@ -16,7 +16,7 @@ use Rattle.ada_regions.specs.Completions.{headed, completed, entry_mentioned}
 use Rattle.ada_regions.specs.Regions.{begun, ended, made_private, named_as, withed, library_unit, used}
 
 -- what is known behind an occurrence
-abbrev pub behind : Occurrence → Names → Names
+unfoldable pub behind : Occurrence → Names → Names
 behind (begins region) n = begun region n
 behind ends n = ended n
 behind private_from_here n = made_private n

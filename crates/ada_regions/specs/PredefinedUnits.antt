@@ -37,7 +37,7 @@ unit_number units.Edf = 13
 unit_number units.Finalization = 14
 unit_number units.ScriptPorts = 15
 
-abbrev pub same_unit : PredefinedUnit → PredefinedUnit → Bool
+unfoldable pub same_unit : PredefinedUnit → PredefinedUnit → Bool
 same_unit a b = eqb (unit_number a) (unit_number b)
 
 -- the units that stand in no other
@@ -67,14 +67,14 @@ child_units units.Edf = []
 child_units units.Finalization = []
 child_units units.ScriptPorts = []
 
-abbrev pub child_unit : PredefinedUnit → List ℕ → Option PredefinedUnit
+unfoldable pub child_unit : PredefinedUnit → List ℕ → Option PredefinedUnit
 child_unit unit name = entry_named name (child_units unit)
 
-abbrev pub root_unit : List ℕ → Option PredefinedUnit
+unfoldable pub root_unit : List ℕ → Option PredefinedUnit
 root_unit name = entry_named name root_units
 
 -- a unit itself, or one in which it stands
-abbrev pub parent_unit : PredefinedUnit → Option PredefinedUnit
+unfoldable pub parent_unit : PredefinedUnit → Option PredefinedUnit
 parent_unit units.Standard = None
 parent_unit units.Ada = None
 parent_unit units.System = None
@@ -117,53 +117,98 @@ whole_duration = subtype_with types.Duration (constraint.Ticks (negsuc 461168601
 abbrev pub default_priority : ℕ → ℕ
 default_priority last = cond (eqb last 97) 48 15
 
-abbrev pub declared_in : ℕ → PredefinedUnit → List (List ℕ × Predefined)
-declared_in last units.Standard =
+unfoldable pub declared_in_standard : List (List ℕ × Predefined)
+declared_in_standard =
     (codes "integer", items.Mark whole_integer) ∷ (codes "natural", integers (pos 0) (pos 2147483647)) ∷ (codes "positive", integers (pos 1) (pos 2147483647))
     ∷ (codes "boolean", items.Mark whole_boolean) ∷ (codes "false", items.Truth false) ∷ (codes "true", items.Truth true)
     ∷ (codes "duration", items.Mark whole_duration) ∷ (codes "constraint_error", items.Exception raised.Constraint)
     ∷ (codes "program_error", items.Exception raised.Program) ∷ (codes "storage_error", items.Exception raised.Storage)
     ∷ (codes "tasking_error", items.Exception raised.Tasking) ∷ []
-declared_in last units.Ada = []
-declared_in last units.System =
+
+unfoldable pub declared_in_system : ℕ → List (List ℕ × Predefined)
+declared_in_system last =
     (codes "any_priority", integers (pos 0) (pos (suc last))) ∷ (codes "priority", integers (pos 0) (pos last))
     ∷ (codes "interrupt_priority", integers (pos (suc last)) (pos (suc last)))
     ∷ (codes "default_priority", items.Constant types.Integer (value.Whole (pos (default_priority last)))) ∷ []
-declared_in last units.TextIo = (codes "put_line", items.Operation operations.PutLine) ∷ []
-declared_in last units.RealTime =
+
+unfoldable pub declared_in_text_io : List (List ℕ × Predefined)
+declared_in_text_io = (codes "put_line", items.Operation operations.PutLine) ∷ []
+
+unfoldable pub declared_in_real_time : List (List ℕ × Predefined)
+declared_in_real_time =
     (codes "time", free types.Time) ∷ (codes "time_span", free types.TimeSpan) ∷ (codes "time_first", items.Constant types.Time (value.Ticks (pos 0)))
     ∷ (codes "time_last", items.Constant types.Time (value.Ticks (pos 4611686018427387903)))
     ∷ (codes "time_span_zero", items.Constant types.TimeSpan (value.Ticks (pos 0))) ∷ (codes "clock", items.Operation operations.Clock)
     ∷ (codes "microseconds", items.Operation operations.Microseconds) ∷ (codes "milliseconds", items.Operation operations.Milliseconds)
     ∷ (codes "seconds", items.Operation operations.Seconds) ∷ (codes "minutes", items.Operation operations.Minutes)
     ∷ (codes "to_duration", items.Operation operations.ToDuration) ∷ (codes "to_time_span", items.Operation operations.ToTimeSpan) ∷ []
-declared_in last units.TimingEvents =
+
+unfoldable pub declared_in_timing_events : List (List ℕ × Predefined)
+declared_in_timing_events =
     (codes "timing_event", free types.TimingEvent) ∷ (codes "set_handler", items.Operation operations.SetEvent)
     ∷ (codes "cancel_handler", items.Operation operations.CancelEvent) ∷ (codes "time_of_event", items.Operation operations.TimeOfEvent) ∷ []
-declared_in last units.ExecutionTime = (codes "cpu_time", free types.CpuTime) ∷ (codes "clock", items.Operation operations.ExecutionClock) ∷ []
-declared_in last units.Timers =
+
+unfoldable pub declared_in_execution_time : List (List ℕ × Predefined)
+declared_in_execution_time = (codes "cpu_time", free types.CpuTime) ∷ (codes "clock", items.Operation operations.ExecutionClock) ∷ []
+
+unfoldable pub declared_in_timers : List (List ℕ × Predefined)
+declared_in_timers =
     (codes "timer", free types.Timer) ∷ (codes "set_handler", items.Operation operations.SetTimer) ∷ (codes "cancel_handler", items.Operation operations.CancelTimer)
     ∷ (codes "time_remaining", items.Operation operations.TimeRemaining) ∷ (codes "timer_resource_error", items.Exception raised.TimerResource) ∷ []
-declared_in last units.GroupBudgets =
+
+unfoldable pub declared_in_group_budgets : List (List ℕ × Predefined)
+declared_in_group_budgets =
     (codes "group_budget", free types.GroupBudget) ∷ (codes "add_task", items.Operation operations.AddTask)
     ∷ (codes "remove_task", items.Operation operations.RemoveTask) ∷ (codes "replenish", items.Operation operations.Replenish)
     ∷ (codes "add", items.Operation operations.Add) ∷ (codes "budget_has_expired", items.Operation operations.BudgetHasExpired)
     ∷ (codes "budget_remaining", items.Operation operations.BudgetRemaining) ∷ (codes "set_handler", items.Operation operations.SetBudget)
     ∷ (codes "cancel_handler", items.Operation operations.CancelBudget) ∷ (codes "group_budget_error", items.Exception raised.GroupBudget) ∷ []
-declared_in last units.DynamicPriorities =
+
+unfoldable pub declared_in_dynamic_priorities : List (List ℕ × Predefined)
+declared_in_dynamic_priorities =
     (codes "set_priority", items.Operation operations.SetPriority) ∷ (codes "get_priority", items.Operation operations.GetPriority) ∷ []
-declared_in last units.TaskIdentification =
+
+unfoldable pub declared_in_task_identification : List (List ℕ × Predefined)
+declared_in_task_identification =
     (codes "task_id", free types.TaskId) ∷ (codes "null_task_id", items.Constant types.TaskId (value.Task None))
     ∷ (codes "current_task", items.Operation operations.CurrentTask) ∷ []
-declared_in last units.Dispatching = (codes "dispatching_policy_error", items.Exception raised.DispatchingPolicy) ∷ []
-declared_in last units.RoundRobin = (codes "set_quantum", items.Operation operations.SetQuantum) ∷ []
-declared_in last units.Edf =
+
+unfoldable pub declared_in_dispatching : List (List ℕ × Predefined)
+declared_in_dispatching = (codes "dispatching_policy_error", items.Exception raised.DispatchingPolicy) ∷ []
+
+unfoldable pub declared_in_round_robin : List (List ℕ × Predefined)
+declared_in_round_robin = (codes "set_quantum", items.Operation operations.SetQuantum) ∷ []
+
+unfoldable pub declared_in_edf : List (List ℕ × Predefined)
+declared_in_edf =
     (codes "set_deadline", items.Operation operations.SetDeadline) ∷ (codes "get_deadline", items.Operation operations.GetDeadline)
     ∷ (codes "delay_until_and_set_deadline", items.Operation operations.DelayUntilAndSetDeadline) ∷ []
-declared_in last units.Finalization = (codes "limited_controlled", free types.LimitedControlled) ∷ (codes "controlled", free types.Controlled) ∷ []
-declared_in last units.ScriptPorts = (codes "value", items.Operation operations.PortValue) ∷ []
 
-abbrev pub item_in : ℕ → PredefinedUnit → List ℕ → Option Predefined
+unfoldable pub declared_in_finalization : List (List ℕ × Predefined)
+declared_in_finalization = (codes "limited_controlled", free types.LimitedControlled) ∷ (codes "controlled", free types.Controlled) ∷ []
+
+unfoldable pub declared_in_script_ports : List (List ℕ × Predefined)
+declared_in_script_ports = (codes "value", items.Operation operations.PortValue) ∷ []
+
+abbrev pub declared_in : ℕ → PredefinedUnit → List (List ℕ × Predefined)
+declared_in last units.Standard = declared_in_standard
+declared_in last units.Ada = []
+declared_in last units.System = declared_in_system last
+declared_in last units.TextIo = declared_in_text_io
+declared_in last units.RealTime = declared_in_real_time
+declared_in last units.TimingEvents = declared_in_timing_events
+declared_in last units.ExecutionTime = declared_in_execution_time
+declared_in last units.Timers = declared_in_timers
+declared_in last units.GroupBudgets = declared_in_group_budgets
+declared_in last units.DynamicPriorities = declared_in_dynamic_priorities
+declared_in last units.TaskIdentification = declared_in_task_identification
+declared_in last units.Dispatching = declared_in_dispatching
+declared_in last units.RoundRobin = declared_in_round_robin
+declared_in last units.Edf = declared_in_edf
+declared_in last units.Finalization = declared_in_finalization
+declared_in last units.ScriptPorts = declared_in_script_ports
+
+unfoldable pub item_in : ℕ → PredefinedUnit → List ℕ → Option Predefined
 item_in last unit name = entry_named name (declared_in last unit)
 
 -- ---- the formals of predefined subprograms, by name; those that may be left out stand last

@@ -17,10 +17,15 @@ use Rattle.ada_regions.specs.declared.entities.EntityKind.TheVariants as entity
 use Rattle.ada_regions.specs.Words.{and_then, or_else}
 use Rattle.ada_regions.specs.PredefinedUnits.{root_unit, child_unit, same_unit}
 use Rattle.ada_regions.specs.Occurrences.{Region, the_context, the_context_of, further_context, package_region, package_body, main_body, a_profile, subprogram_body, a_unit, task_body, protected_body, entry_body, an_accept, a_block, a_loop, a_record}
-use Rattle.ada_regions.specs.Names.{Names, Frame, PackageContext, no_frame, innermost_frame, frames_outside, opened, region_here, scope_in, kind_at, region_of_entity, entity_denoted, denoted_by, noted, last_part}
+use Rattle.ada_regions.specs.declared.entities.UnitKind.TheVariants as unit
+use Rattle.ada_regions.specs.declared.table.NumberedEntry.{NumberedEntry}
+use Rattle.ada_regions.specs.declared.table.Names.{Names}
+use Rattle.ada_regions.specs.declared.table.Frame.{Frame}
+use Rattle.ada_regions.specs.declared.table.PackageContext.{PackageContext}
+use Rattle.ada_regions.specs.Names.{no_frame, innermost_frame, frames_outside, opened, region_here, scope_in, kind_at, region_of_entity, entity_denoted, denoted_by, noted, last_part}
 use Rattle.ada_regions.specs.SelectedNames.{name_resolved}
 use Rattle.ada_regions.specs.Declaring.{library_frame, type_of_kind}
-use Rattle.ada_regions.specs.Completions.{entity_bound, holds_of, is_task_type, is_protected_type, body_begun, body_apart, components_of}
+use Rattle.ada_regions.specs.Completions.{entity_bound, holds_of, body_begun, body_apart, components_of}
 
 -- ---- frames
 
@@ -41,7 +46,7 @@ abbrev pub frame_with_scope : Option ℕ → Option ℕ → Option (List ℕ) �
 frame_with_scope scope e name = record { region = 0; owner = e; scope = scope; is_accept = false; name = name; exports = false; components = None; part = 0 }
 
 -- a construct with a region and a scope of its own
-abbrev pub scope_begun : Place → Bool → Option ℕ → Option (List ℕ) → Names → Names
+unfoldable pub scope_begun : Place → Bool → Option ℕ → Option (List ℕ) → Names → Names
 scope_begun place is_function e name n = opened_new (frame_with_scope (next_scope n) e name) (with_scope place is_function false n)
 
 -- ---- library units (10.1): a package's body has the region and the context of its declaration
@@ -53,13 +58,13 @@ is_package _ = false
 abbrev pub package_if : Names → ℕ → Option ℕ
 package_if n e = cond (holds_of is_package (kind_at n e)) (Some e) None
 
-abbrev pub package_named : Names → List ℕ → Option ℕ
-package_named n name = and_then (entity_bound n library_frame name) (package_if n)
+unfoldable pub package_named : Names → List ℕ → Option ℕ
+package_named n name = and_then (entity_bound n library_frame.region name) (package_if n)
 
-abbrev pub context_of_package : Names → ℕ → Option PackageContext
+unfoldable pub context_of_package : Names → ℕ → Option PackageContext
 context_of_package n e = find (λ c. eqb c.of_package e) n.contexts
 
-abbrev pub context_again : Option PackageContext → Names → Names
+unfoldable pub context_again : Option PackageContext → Names → Names
 context_again None n = opened_new no_frame (record n { withs = [] })
 context_again (Some c) n = opened (record no_frame { region = c.region }) (record n { withs = c.withs })
 
@@ -73,11 +78,11 @@ abbrev pub package_opened : ℕ → Identifier → Bool → Option ℕ → Names
 package_opened e i exports None n = body_apart None i None [] n
 package_opened e i exports (Some region) n = opened (frame_of_package e i exports region) n
 
-abbrev pub package_begun : Option ℕ → Identifier → Names → Names
+unfoldable pub package_begun : Option ℕ → Identifier → Names → Names
 package_begun None i n = body_apart None i None [] n
 package_begun (Some e) i n = package_opened e i true (region_of_entity n e) (with_context e n)
 
-abbrev pub package_body_begun : Option ℕ → Identifier → Names → Names
+unfoldable pub package_body_begun : Option ℕ → Identifier → Names → Names
 package_body_begun None i n = body_apart None i None [] n
 package_body_begun (Some e) i n = package_opened e i false (region_of_entity n e) (noted i.place (denotes.Entity e) n)
 
@@ -105,10 +110,10 @@ abbrev pub opened_if : Option Frame → Names → Names
 opened_if None n = opened_new no_frame n
 opened_if (Some f) n = opened f n
 
-abbrev pub unit_begun : Option ℕ → Identifier → Names → Names
+unfoldable pub unit_begun : Option ℕ → Identifier → Names → Names
 unit_begun e i n = opened_if (option_map (unit_frame (entity_or_none e) i (type_at n e)) (region_at n e)) n
 
-abbrev pub record_begun : Option ℕ → Identifier → Names → Names
+unfoldable pub record_begun : Option ℕ → Identifier → Names → Names
 record_begun e i n = opened_if (option_map (record_frame i (type_at n e)) (region_at n e)) n
 
 -- ---- accepts, blocks, loops
@@ -129,24 +134,27 @@ abbrev pub is_entry : EntityKind → Bool
 is_entry (entity.Entry number unit formals) = true
 is_entry _ = false
 
-abbrev pub entry_owner : Names → Option ℕ → Option ℕ
+unfoldable pub entry_owner : Names → Option ℕ → Option ℕ
 entry_owner n e = and_then e (λ x. cond (holds_of is_entry (kind_at n x)) (Some x) None)
 
 abbrev pub entry_number : EntityKind → Option EntryNo
 entry_number (entity.Entry number unit formals) = Some number
 entry_number _ = None
 
-abbrev pub entry_body_numbered : Expression → Names → Option EntryNo → Names
+abbrev pub with_entry_body : Expression → ℕ → NumberedEntry → NumberedEntry
+with_entry_body barrier scope e = record e { body = Some (record { barrier = barrier; scope = scope }) }
+
+unfoldable pub entry_body_numbered : Expression → Names → Option EntryNo → Names
 entry_body_numbered barrier n None = n
 entry_body_numbered barrier n (Some number) =
-    record n { entries = edit_at number.0 (λ e. record e { body = Some (record { barrier = barrier; scope = length n.scopes }) }) n.entries }
+    record n { entries = edit_at number.0 (with_entry_body barrier (length n.scopes)) n.entries }
 
-abbrev pub entry_body_begun : Option ℕ → Place → Expression → Names → Names
+unfoldable pub entry_body_begun : Option ℕ → Place → Expression → Names → Names
 entry_body_begun e place barrier n = scope_begun place false e None (entry_body_numbered barrier n (and_then e (λ x. and_then (kind_at n x) entry_number)))
 
 -- ---- all regions
 
-abbrev pub begun : Region → Names → Names
+unfoldable pub begun : Region → Names → Names
 begun the_context n = opened_new no_frame (record n { withs = [] })
 begun (the_context_of i) n = context_again (and_then (package_named n i.text) (context_of_package n)) n
 begun further_context n = opened_new no_frame n
@@ -156,8 +164,8 @@ begun (main_body i place) n = scope_begun place false (entity_denoted n i.place)
 begun a_profile n = opened_new no_frame n
 begun (subprogram_body place is_function) n = scope_begun place is_function None None n
 begun (a_unit i) n = unit_begun (entity_denoted n i.place) i n
-begun (task_body i place) n = body_begun is_task_type i (next_scope n) (with_scope place false false n)
-begun (protected_body i) n = body_begun is_protected_type i None n
+begun (task_body i place) n = body_begun unit.Task i (next_scope n) (with_scope place false false n)
+begun (protected_body i) n = body_begun unit.Protected i None n
 begun (entry_body i place barrier) n = entry_body_begun (entry_owner n (entity_denoted n i.place)) place barrier n
 begun (an_accept i place) n = opened_new (accept_frame (next_scope n) (entity_denoted n i.place)) (with_scope place false true n)
 begun (a_block label place) n = scope_begun place false (label_entity n label) (label_text label) n
@@ -182,7 +190,7 @@ unit_behind None (i ∷ rest) = None
 unit_behind (Some u) (i ∷ rest) = unit_behind (child_unit u i.text) rest
 
 -- the predefined unit of this full name
-abbrev pub unit_named : Name → Option PredefinedUnit
+unfoldable pub unit_named : Name → Option PredefinedUnit
 unit_named name = unit_behind (root_unit name.parts.first.text) name.parts.others
 
 -- Ada alone is no library unit of this profile
@@ -194,10 +202,10 @@ package_to_with n name [] = option_map denotes.Entity (package_named n name.part
 package_to_with n name (i ∷ rest) = None
 
 -- the library unit that a with clause names: a predefined one, or an earlier package
-abbrev pub library_unit : Names → Name → Option Denoted
+unfoldable pub library_unit : Names → Name → Option Denoted
 library_unit n name = or_else (and_then (unit_named name) unit_to_with) (package_to_with n name name.parts.others)
 
-abbrev pub withed : Name → Option Denoted → Names → Names
+unfoldable pub withed : Name → Option Denoted → Names → Names
 withed name None n = n
 withed name (Some d) n = noted (last_part name).place d (record n { withs = d ∷ n.withs })
 
@@ -210,5 +218,5 @@ abbrev pub used_if : Option Denoted → Names → Names
 used_if None n = n
 used_if (Some d) n = cond (is_used_package n d) (record n { uses = n.uses ++ record { region = region_here n; used = d } ∷ [] }) n
 
-abbrev pub used : Name → Names → Names
+unfoldable pub used : Name → Names → Names
 used name n = let m = name_resolved name n in used_if (denoted_by m name) m

@@ -15,12 +15,14 @@ use Rattle.ada_regions.specs.declared.entities.EntityKind.TheVariants as entity
 use Rattle.ada_regions.specs.declared.faults.NameFault.TheVariants as fault
 use Rattle.ada_regions.specs.Words.{or_else, and_then}
 use Rattle.ada_regions.specs.PredefinedUnits.{child_unit}
-use Rattle.ada_regions.specs.Names.{Names, Frame, binding_in, entity_at, denoted_at, noted, told}
+use Rattle.ada_regions.specs.declared.table.Names.{Names}
+use Rattle.ada_regions.specs.declared.table.Frame.{Frame}
+use Rattle.ada_regions.specs.Names.{binding_in, entity_at, denoted_at, noted, told}
 use Rattle.ada_regions.specs.Visibility.{item_of, bound, exported_from, resolved}
 
 -- ---- the region of a type's declaration
 
-abbrev pub region_of_type : Names → AdaType → Option ℕ
+unfoldable pub region_of_type : Names → AdaType → Option ℕ
 region_of_type n types.Integer = None
 region_of_type n types.Boolean = None
 region_of_type n types.Duration = None
@@ -43,7 +45,7 @@ abbrev pub region_of_subtype : Names → Option Subtype → Option ℕ
 region_of_subtype n s = and_then s (λ t. region_of_type n t.of_type)
 
 -- the region whose exported names stand behind an entity's name
-abbrev pub region_selected : Names → Option ℕ → EntityKind → Option ℕ
+unfoldable pub region_selected : Names → Option ℕ → EntityKind → Option ℕ
 region_selected n own entity.Package = own
 region_selected n own entity.Main = None
 region_selected n own (entity.Mark s) = None
@@ -57,7 +59,7 @@ region_selected n own (entity.Subprogram number is_function specified formals un
 region_selected n own (entity.Entry number unit formals) = None
 region_selected n own entity.Label = None
 
-abbrev pub exported_by : Names → List ℕ → Entity → Option Denoted
+unfoldable pub exported_by : Names → List ℕ → Entity → Option Denoted
 exported_by n name e = and_then (region_selected n e.region e.kind) (exported_from n name)
 
 -- ---- constructs around the name
@@ -69,7 +71,7 @@ is_owned_by e (Some owner) = eqb owner e
 abbrev pub frame_owned_by : ℕ → Frame → Bool
 frame_owned_by e f = is_owned_by e f.owner
 
-abbrev pub declared_inside : Names → List ℕ → Frame → Option Denoted
+unfoldable pub declared_inside : Names → List ℕ → Frame → Option Denoted
 declared_inside n name f = and_then (binding_in n.bindings f.region name) bound
 
 abbrev pub selected_from_entity : Names → List ℕ → ℕ → Option Frame → Option Denoted
@@ -78,7 +80,7 @@ selected_from_entity n name e (Some f) = declared_inside n name f
 
 -- ---- selecting
 
-abbrev pub selected : Names → List ℕ → Denoted → Option Denoted
+unfoldable pub selected : Names → List ℕ → Denoted → Option Denoted
 selected n name (denotes.Entity e) = selected_from_entity n name e (find (frame_owned_by e) n.frames)
 selected n name (denotes.Unit u) = or_else (item_of n.last_priority u name) (option_map denotes.Unit (child_unit u name))
 selected n name (denotes.Item u item) = None
@@ -97,5 +99,5 @@ abbrev pub behind_first : Identifier → List Identifier → Names → Names
 behind_first first others n = parts_resolved (denoted_at n first.place) others n
 
 -- a name is used
-abbrev pub name_resolved : Name → Names → Names
+unfoldable pub name_resolved : Name → Names → Names
 name_resolved name n = behind_first name.parts.first name.parts.others (resolved name.parts.first n)

@@ -1,8 +1,7 @@
 -- Static expressions (4.9): literals, minus a literal, constants of these, enumeration literals, First and Last. A number
 -- with a point is one of ticks, any other one a whole number.
-use Rattle.std.specs.Prelude.{ℕ, ◌+◌, ◌*◌, ℤ, pos, neg_ℤ, cond, List, ◌++◌, Option, Some, None, take, codes}
+use Rattle.std.specs.Prelude.{ℕ, ◌+◌, ◌-◌, ◌*◌, pos, neg_ℤ, leb, cond, List, Option, Some, None, unwrap_or}
 use Rattle.ada_lex.specs.Meaning.{whole_of, decimals_of}
-use Rattle.ada_lex.specs.Shapes.{value_of}
 use Rattle.ada_tree.specs.declared.names.Name.{Name}
 use Rattle.ada_tree.specs.declared.operators.Sign.{Sign}
 use Rattle.ada_tree.specs.declared.operators.Sign.TheVariants as sign
@@ -28,17 +27,26 @@ use Rattle.ada_regions.specs.declared.entities.Denoted.TheVariants as denotes
 use Rattle.ada_regions.specs.declared.entities.EntityKind.{EntityKind}
 use Rattle.ada_regions.specs.declared.entities.EntityKind.TheVariants as entity
 use Rattle.ada_regions.specs.Words.{and_then, nothing_there}
-use Rattle.ada_regions.specs.Names.{Names, denoted_by, kind_at}
-use Rattle.std.specs.Prelude.{slice_get, option_map}
+use Rattle.ada_regions.specs.declared.table.Names.{Names}
+use Rattle.ada_regions.specs.Names.{denoted_by, kind_at}
+use Rattle.std.specs.Prelude.{slice_get}
 
 -- ---- numeric literals (2.4)
 
--- six decimals, in ticks of a microsecond
-abbrev pub ticks_of : List ℕ → ℤ
-ticks_of literal = pos (whole_of literal * 1000000 + value_of (take 6 (decimals_of literal ++ codes "000000")))
+-- the digit at a place behind the point; 0 where none stands there
+abbrev pub digit_at : List ℕ → ℕ → ℕ
+digit_at digits place = unwrap_or (slice_get digits place) 48 - 48
 
-abbrev pub literal_value : List ℕ → Value
-literal_value literal = cond (nothing_there (decimals_of literal)) (value.Whole (pos (whole_of literal))) (value.Ticks (ticks_of literal))
+abbrev pub six_digits : List ℕ → ℕ
+six_digits d =
+    ((((digit_at d 0 * 10 + digit_at d 1) * 10 + digit_at d 2) * 10 + digit_at d 3) * 10 + digit_at d 4) * 10 + digit_at d 5
+
+-- six decimals, in ticks of a microsecond
+unfoldable pub micros_of : List ℕ → ℕ
+micros_of literal = whole_of literal * 1000000 + six_digits (decimals_of literal)
+
+unfoldable pub literal_value : List ℕ → Value
+literal_value literal = cond (nothing_there (decimals_of literal)) (value.Whole (pos (whole_of literal))) (value.Ticks (pos (micros_of literal)))
 
 abbrev pub negated : Value → Value
 negated (value.Whole n) = value.Whole (neg_ℤ n)
@@ -48,15 +56,35 @@ negated (value.Ticks n) = value.Ticks (neg_ℤ n)
 negated (value.Task t) = value.Task t
 negated (value.Thing n) = value.Thing n
 
--- the value of a form that is a numeric literal
-abbrev pub literal_of : {E : Type 0} → ExpressionForm E → Option Value
+-- a literal, or its negative, that lies in Integer (3.5.4) or in Duration (9.6); one that does not is refused itself
+abbrev pub in_integer : ℕ → Option Value
+in_integer n = cond (leb n 2147483647) (Some (value.Whole (pos n))) None
+
+abbrev pub in_duration : ℕ → Option Value
+in_duration n = cond (leb n 4611686018427387903) (Some (value.Ticks (pos n))) None
+
+abbrev pub negative_in_integer : ℕ → Option Value
+negative_in_integer n = cond (leb n 2147483648) (Some (value.Whole (neg_ℤ (pos n)))) None
+
+abbrev pub negative_in_duration : ℕ → Option Value
+negative_in_duration n = cond (leb n 4611686018427387904) (Some (value.Ticks (neg_ℤ (pos n)))) None
+
+unfoldable pub static_literal : List ℕ → Option Value
+static_literal literal = cond (nothing_there (decimals_of literal)) (in_integer (whole_of literal)) (in_duration (micros_of literal))
+
+unfoldable pub static_negative : List ℕ → Option Value
+static_negative literal =
+    cond (nothing_there (decimals_of literal)) (negative_in_integer (whole_of literal)) (negative_in_duration (micros_of literal))
+
+-- the literal of a form that is one
+abbrev pub literal_of : {E : Type 0} → ExpressionForm E → Option (List ℕ)
 literal_of (form.Logical operator first others) = None
 literal_of (form.Relational left place operator right) = None
 literal_of (form.Adding first others) = None
 literal_of (form.Signed place s operand) = None
 literal_of (form.Multiplying first others) = None
 literal_of (form.Highest place operator operand) = None
-literal_of (form.Number place literal) = Some (literal_value literal)
+literal_of (form.Number place literal) = Some literal
 literal_of (form.Text place text) = None
 literal_of (form.Null place) = None
 literal_of (form.Bracketed place inner) = None
@@ -83,7 +111,7 @@ index_or_free None = constraint.Free
 index_or_free (Some a) = a.index
 
 -- the range of an array's index, and of any other subtype
-abbrev pub range_of_type : Names → Subtype → AdaType → Constraint
+unfoldable pub range_of_type : Names → Subtype → AdaType → Constraint
 range_of_type n s types.Integer = s.range
 range_of_type n s types.Boolean = s.range
 range_of_type n s types.Duration = s.range
@@ -128,7 +156,7 @@ value_of_item (items.Truth b) = Some (value.Truth b)
 value_of_item (items.Exception raised) = None
 value_of_item (items.Operation operation) = None
 
-abbrev pub value_denoted : Names → Denoted → Option Value
+unfoldable pub value_denoted : Names → Denoted → Option Value
 value_denoted n (denotes.Entity e) = and_then (kind_at n e) value_of_kind
 value_denoted n (denotes.Unit u) = None
 value_denoted n (denotes.Item u item) = value_of_item item
@@ -156,7 +184,7 @@ subtype_of_item (items.Truth b) = None
 subtype_of_item (items.Exception raised) = None
 subtype_of_item (items.Operation operation) = None
 
-abbrev pub subtype_denoted : Names → Denoted → Option Subtype
+unfoldable pub subtype_denoted : Names → Denoted → Option Subtype
 subtype_denoted n (denotes.Entity e) = and_then (kind_at n e) subtype_of_kind
 subtype_denoted n (denotes.Unit u) = None
 subtype_denoted n (denotes.Item u item) = subtype_of_item item
@@ -166,7 +194,7 @@ subtype_of_name n name = and_then (denoted_by n name) (subtype_denoted n)
 
 -- ---- names and their attributes
 
-abbrev pub attribute_value : Names → Name → Attribute → Option Value
+unfoldable pub attribute_value : Names → Name → Attribute → Option Value
 attribute_value n name attribute.First = and_then (subtype_of_name n name) (λ s. low_of (range_named n s))
 attribute_value n name attribute.Last = and_then (subtype_of_name n name) (λ s. high_of (range_named n s))
 attribute_value n name attribute.Image = None
@@ -174,13 +202,13 @@ attribute_value n name attribute.Count = None
 attribute_value n name attribute.Identity = None
 attribute_value n name attribute.Access = None
 
-abbrev pub static_name : Names → Name → Option AttributeDesignator → Option Value
+unfoldable pub static_name : Names → Name → Option AttributeDesignator → Option Value
 static_name n name None = and_then (denoted_by n name) (value_denoted n)
 static_name n name (Some a) = attribute_value n name a.attribute
 
-abbrev pub signed_literal : Sign → Option Value → Option Value
+abbrev pub signed_literal : Sign → Option (List ℕ) → Option Value
 signed_literal sign.Plus literal = None
-signed_literal sign.Minus literal = option_map negated literal
+signed_literal sign.Minus literal = and_then literal static_negative
 
 abbrev pub static_form : Names → ExpressionForm Expression → Option Value
 static_form n (form.Logical operator first others) = None
@@ -189,12 +217,12 @@ static_form n (form.Adding first others) = None
 static_form n (form.Signed place s operand) = signed_literal s (literal_of (out-Expression operand).form)
 static_form n (form.Multiplying first others) = None
 static_form n (form.Highest place operator operand) = None
-static_form n (form.Number place literal) = Some (literal_value literal)
+static_form n (form.Number place literal) = static_literal literal
 static_form n (form.Text place text) = None
 static_form n (form.Null place) = None
 static_form n (form.Bracketed place inner) = None
 static_form n (form.Named name attribute arguments) = cond (nothing_there arguments) (static_name n name attribute) None
 
 -- the value of an expression that is static, given what its names denote
-abbrev pub static_value : Names → Expression → Option Value
+unfoldable pub static_value : Names → Expression → Option Value
 static_value n e = static_form n (out-Expression e).form

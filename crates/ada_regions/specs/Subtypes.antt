@@ -1,6 +1,7 @@
 -- Subtype indications, array types and the formals of profiles (3.2.2, 3.5, 3.6, 6.1), given what their names denote.
 use Rattle.std.specs.Prelude.{ℕ, ℤ, Bool, true, false, List, Option, Some, None, map}
 use Rattle.std.specs.List.{flat_map}
+use Rattle.ada_tree.specs.declared.names.Identifier.{Identifier}
 use Rattle.ada_tree.specs.declared.expressions.Expression.{Expression}
 use Rattle.ada_tree.specs.declared.declarations.Parameter.{Parameter}
 use Rattle.ada_tree.specs.declared.declarations.SubtypeIndication.{SubtypeIndication}
@@ -20,7 +21,8 @@ use Rattle.ada_regions.specs.declared.entities.Denoted.TheVariants as denotes
 use Rattle.ada_regions.specs.declared.entities.EntityKind.{EntityKind}
 use Rattle.ada_regions.specs.declared.entities.EntityKind.TheVariants as entity
 use Rattle.ada_regions.specs.Words.{and_then, all_of}
-use Rattle.ada_regions.specs.Names.{Names, denoted_by, kind_at}
+use Rattle.ada_regions.specs.declared.table.Names.{Names}
+use Rattle.ada_regions.specs.Names.{denoted_by, kind_at}
 use Rattle.ada_regions.specs.Statics.{static_value, subtype_of_item}
 
 -- ---- ranges
@@ -50,7 +52,7 @@ range_from (value.Task t) high range = range
 range_from (value.Thing t) high range = range
 
 -- the range from one value to another, where both are static and of one type; else the one that is given
-abbrev pub range_between : Option Value → Option Value → Constraint → Constraint
+unfoldable pub range_between : Option Value → Option Value → Constraint → Constraint
 range_between None high range = range
 range_between (Some low) high range = range_from low high range
 
@@ -70,21 +72,21 @@ mark_of_kind (entity.Subprogram number is_function specified formals unit) = Non
 mark_of_kind (entity.Entry number unit formals) = None
 mark_of_kind entity.Label = None
 
-abbrev pub mark_denoted : Names → Denoted → Option Subtype
+unfoldable pub mark_denoted : Names → Denoted → Option Subtype
 mark_denoted n (denotes.Entity e) = and_then (kind_at n e) mark_of_kind
 mark_denoted n (denotes.Unit u) = None
 mark_denoted n (denotes.Item u item) = subtype_of_item item
 
-abbrev pub constrained : Names → Option Indicated → Subtype → Subtype
+unfoldable pub constrained : Names → Option Indicated → Subtype → Subtype
 constrained n None s = s
 constrained n (Some (indicated.Access name)) s = s
 constrained n (Some (indicated.Range low high)) s = record s { range = range_between (static_value n low) (static_value n high) s.range }
 
 -- the subtype that an indication denotes, where its name is that of a type
-abbrev pub indicated_subtype : Names → SubtypeIndication → Option Subtype
+unfoldable pub indicated_subtype : Names → SubtypeIndication → Option Subtype
 indicated_subtype n m = and_then (denoted_by n m.name) (λ d. and_then (mark_denoted n d) (λ s. Some (constrained n m.constraint s)))
 
-abbrev pub array_type : Names → Expression → Expression → SubtypeIndication → ArrayType
+unfoldable pub array_type : Names → Expression → Expression → SubtypeIndication → ArrayType
 array_type n low high component =
     record { index = range_between (static_value n low) (static_value n high) constraint.Free; component = indicated_subtype n component }
 
@@ -98,9 +100,11 @@ abbrev pub mode_of : Bool → Bool → Mode
 mode_of is_in true = mode_out is_in
 mode_of is_in false = mode.In
 
-abbrev pub formals_of_parameter : Names → Parameter → List Formal
-formals_of_parameter n p =
-    map (λ i. record { name = i.text; mode = mode_of p.is_in p.is_out; subtype = indicated_subtype n p.subtype }) (all_of p.names)
+abbrev pub formal_with : Mode → Option Subtype → Identifier → Formal
+formal_with m s i = record { name = i.text; mode = m; subtype = s }
 
-abbrev pub formals_of : Names → List Parameter → List Formal
+abbrev pub formals_of_parameter : Names → Parameter → List Formal
+formals_of_parameter n p = map (formal_with (mode_of p.is_in p.is_out) (indicated_subtype n p.subtype)) (all_of p.names)
+
+unfoldable pub formals_of : Names → List Parameter → List Formal
 formals_of n parameters = flat_map (formals_of_parameter n) parameters

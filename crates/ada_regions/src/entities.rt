@@ -23,6 +23,26 @@ pub enum Denoted {
     },
 }
 
+/// What a direct name denotes, as it is sought (8.3, 8.4).
+#[derive(Clone, Copy)]
+pub enum Sought {
+    /// This.
+    Found(Denoted),
+    /// Nothing.
+    Unknown,
+    /// Different things, by different use clauses.
+    Ambiguous,
+}
+
+/// Whose body it is.
+#[derive(Clone, Copy)]
+pub enum UnitKind {
+    /// A task's (9.1).
+    Task,
+    /// A protected unit's (9.4).
+    Protected,
+}
+
 /// Of which objects something is a component.
 #[derive(Clone, Copy, Debug, PartialEq, Eq)]
 pub enum ComponentOwner {

@@ -1,13 +1,21 @@
-//! What the names of a source denote (ISO/IEC 8652:2012, clause 8): the plain data of declared entities, and, in
-//! `specs/`, the definitions of regions, visibility and the table that a source gives.
+//! What the names of a source denote (ISO/IEC 8652:2012, clause 8): the plain data of declared entities and of the table
+//! that a source gives, and, in `specs/`, the definitions of regions, visibility and that table.
 #![tactic(auto)]
 
 mod entities;
 mod faults;
+mod parts;
 mod predefined;
+mod table;
 mod types;
 
-pub use entities::{ComponentOwner, Denoted, Entity, EntityKind};
+pub use entities::{ComponentOwner, Denoted, Entity, EntityKind, Sought, UnitKind};
 pub use faults::NameFault;
+pub use parts::{AspectsOf, ExpressionOf};
 pub use predefined::{Operation, Predefined, PredefinedUnit};
+pub use table::{
+    Binding, Denotation, Enclosure, Frame, Names, NumberedControlled, NumberedDeclaration,
+    NumberedEntry, NumberedEntryBody, NumberedProtected, NumberedScope, NumberedSubprogram,
+    NumberedTask, PackageContext, Sort, UseClause,
+};
 pub use types::{AdaType, ArrayType, Formal, Mode, Subtype};

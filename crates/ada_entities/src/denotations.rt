@@ -1,0 +1,123 @@
+//! What names denote, the entities of a text, and the earliest fault of its names (ISO/IEC 8652:2012, 3.1, 8.6).
+ghost use Rattle.std.specs.Prelude.{◌≡◌, OnOk, option_copied};
+ghost use Rattle.ada_regions.specs.Names.{place_of_fault, earlier, told, noted, denoted_at, last_part, denoted_by, entity_at, kind_at, region_of_entity, entity_of, entity_denoted};
+
+use crate::places::{same_place, stands_before};
+use ada_regions::{Denotation, Denoted, Entity, EntityKind, NameFault, Names};
+use ada_tree::{Identifier, Name};
+use ann_base::{NoMemory, Place};
+
+fn place_of_fault(fault: NameFault) -> Place
+    ensures { result ≡ place_of_fault fault }
+{
+    match fault {
+        NameFault::Unknown(place) => place,
+        NameFault::Twice(place) => place,
+        NameFault::Ambiguous(place) => place,
+    }
+}
+
+/// The earlier in the text of a fault that was told, if one was, and another one.
+pub fn earlier(fault: Option<NameFault>, other: NameFault) -> NameFault
+    ensures { result ≡ earlier fault other }
+{
+    match fault {
+        None => other,
+        Some(fault) => {
+            if stands_before(place_of_fault(other), place_of_fault(fault)) {
+                other
+            } else {
+                fault
+            }
+        }
+    }
+}
+
+/// A fault is told; the earliest in the text counts.
+pub fn told(names: &mut Names<'_>, fault: NameFault)
+    ensures { names.new ≡ told fault names.old }
+{
+    names.fault = Some(earlier(names.fault, fault));
+}
+
+/// The name at a place denotes this.
+pub fn noted(names: &mut Names<'_>, place: Place, denoted: Denoted) -> Result<(), NoMemory>
+    ensures { OnOk result (names.new ≡ noted place denoted names.old) }
+{
+    names.denotations.push_front(Denotation { place, denoted })?;
+    Ok(())
+}
+
+/// What the name at this place denotes.
+pub fn denoted_at(names: &Names<'_>, place: Place) -> Option<Denoted>
+    ensures { result ≡ denoted_at names.now place }
+{
+    match names
+        .denotations
+        .iter()
+        .find(|denotation| same_place(denotation.place, place))
+    {
+        Some(denotation) => Some(denotation.denoted),
+        None => None,
+    }
+}
+
+/// The last identifier of a name.
+pub fn last_part(name: &Name) -> &Identifier
+    ensures { result.now ≡ last_part name.now }
+{
+    let mut last = &name.parts.first;
+    for part in name.parts.others.as_slice() {
+        last = part;
+    }
+    last
+}
+
+/// What a name denotes.
+pub fn denoted_by(names: &Names<'_>, name: &Name) -> Option<Denoted>
+    ensures { result ≡ denoted_by names.now name.now }
+{
+    denoted_at(names, last_part(name).place)
+}
+
+/// The entity with this number, if there is one.
+pub fn entity_at<'n>(names: &'n Names<'_>, entity: u32) -> Option<&'n Entity>
+    ensures { option_copied result ≡ entity_at names.now entity }
+{
+    names.entities.get(entity as usize)
+}
+
+/// What the entity with this number is, if there is one.
+pub fn kind_at<'n>(names: &'n Names<'_>, entity: u32) -> Option<&'n EntityKind>
+    ensures { option_copied result ≡ kind_at names.now entity }
+{
+    match entity_at(names, entity) {
+        Some(entity) => Some(&entity.kind),
+        None => None,
+    }
+}
+
+/// The region of an entity that has one.
+pub fn region_of_entity(names: &Names<'_>, entity: u32) -> Option<u32>
+    ensures { result ≡ region_of_entity names.now entity }
+{
+    entity_at(names, entity)?.region
+}
+
+/// The number of the entity that is denoted; what is predefined has none.
+pub fn entity_of(denoted: Denoted) -> Option<u32>
+    ensures { result ≡ entity_of denoted }
+{
+    match denoted {
+        Denoted::Entity(entity) => Some(entity),
+        Denoted::Unit(_) => None,
+        Denoted::Item { .. } => None,
+    }
+}
+
+/// The number of the entity that the name at this place denotes.
+pub fn entity_denoted(names: &Names<'_>, place: Place) -> Option<u32>
+    ensures { result ≡ entity_denoted names.now place }
+{
+    entity_of(denoted_at(names, place)?)
+}

@@ -1,0 +1,8 @@
+//! The predefined units and what they declare (ISO/IEC 8652:2012, annex A, C.7.1, annex D), by name.
+#![tactic(auto)]
+
+mod items;
+mod units;
+
+pub use items::item_in;
+pub use units::{child_unit, parent_unit, root_unit, same_unit};

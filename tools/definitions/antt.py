@@ -95,7 +95,7 @@ def _inside(kind, f, x):
     return x
 def _fold(kind, f, x): return ap(f, Rec({k: _inside(kind, f, v) for k, v in x.d.items()}))
 BCONS = {"Some", "None", "Ok", "Err"}
-TOK = re.compile(r'''\s+|--[^\n]*|(?P<str>"(?:\\.|[^"\\])*")|(?P<num>\d+)|(?P<op>\+ℤ|-ℤ|\*ℤ|>>=|>>|\+\+|&&|\|\||▷|∷|↦|≡|→|×|\+|-|\*|=|;|:|,|\(|\)|\[|\]|\{|\}|\||λ|\.)|(?P<id>[^\W\d][\w'ℕℤ₀-₉]*(?:\.[\w'₀-₉]+)*)|(?P<mix>◌\S+◌)''')
+TOK = re.compile(r'''\s+|--[^\n]*|(?P<str>"(?:\\.|[^"\\])*")|(?P<num>\d+)|(?P<op>\+ℤ|-ℤ|\*ℤ|>>=|>>|\+\+|&&|\|\||▷|▶|∷|↦|≡|→|×|\+|-|\*|=|;|:|,|\(|\)|\[|\]|\{|\}|\||λ|\.)|(?P<id>[^\W\d][\w'ℕℤ₀-₉]*(?:\.[\w'₀-₉]+)*)|(?P<mix>◌\S+◌)''')
 FIELD = re.compile(r"\.[\w']+")
 def tokens(s):
     out = []; i = 0
@@ -166,7 +166,7 @@ def load(name, text=None):
             elif t == ("op", "=") and depth == 0: eq = i; break
         if eq is None: print("no = in", m.name, c[:200]); continue
         lhs, rhs = toks[:eq], toks[eq+1:]
-        if any(t[0] == "op" and t[1] in ("▷", ">>=", ">>") for t in lhs): continue
+        if any(t[0] == "op" and t[1] in ("▷", "▶", ">>=", ">>") for t in lhs): continue
         if lhs[0][1][0].isupper(): continue
         if params: m.sections[lhs[0][1]] = params
         groups.setdefault(lhs[0][1], []).append(([("id", p) for p in params] + lhs[1:], rhs))
@@ -221,7 +221,7 @@ def do_use(m, c):
             elif n in B and n not in m.names: m.names[n] = ("builtin", n)
     return
 
-PREC = {"▷": (20, "r"), ">>=": (15, "l"), "||": (30, "r"), "&&": (36, "r"), "∷": (67, "r"), "++": (65, "r"), "+": (70, "l"), "-": (70, "l"), "*": (80, "l"), "+ℤ": (70, "l"), "-ℤ": (70, "l"), "*ℤ": (80, "l")}
+PREC = {"▷": (20, "r"), "▶": (20, "r"), ">>=": (15, "l"), "||": (30, "r"), "&&": (36, "r"), "∷": (67, "r"), "++": (65, "r"), "+": (70, "l"), "-": (70, "l"), "*": (80, "l"), "+ℤ": (70, "l"), "-ℤ": (70, "l"), "*ℤ": (80, "l")}
 def mang(n): return "v_" + n.replace("'", "_q")
 class MatchError(Exception): pass
 GLOBALS["MatchError"] = MatchError

@@ -1,0 +1,2 @@
+mod FutureLemmas
+mod KernelLemmas

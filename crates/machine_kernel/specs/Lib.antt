@@ -1,0 +1,4 @@
+pub mod Reached
+pub mod Future
+pub mod Kernel
+pub mod Next

@@ -1,0 +1,260 @@
+//! The kernel: it opens a run, and goes on by at most one line a call.
+ghost use Rattle.std.specs.Prelude.{◌≡◌, ◌≤◌, ◌<◌, ◌+◌, ℕ, [], Some, None, true, false, IsTrue, length};
+ghost use Rattle.machine_kernel.specs.Reached.{is_in_time};
+ghost use Rattle.machine_run.specs.declared.stops.Stopped.TheVariants as stopped;
+
+use crate::events::{ended_by, event_of, tick_event};
+use ann_base::{Moment, NoMemory};
+use machine_frames::Effect;
+use machine_laws::time::{instants_take_no_time, runs_begin_at_0, tocks_take_one_tick};
+use machine_operators::Program;
+use machine_run::{Stopped, TickLine, instant, opening, stop, tock};
+use profile_machine::world::Line;
+use profile_machine::{Image, Item};
+use std::alloc::Global;
+use trace_text::{Ended, Event, LineBuffer, write_line};
+use world_tables::List;
+
+/// Why a run ends.
+pub type Stop = Ended;
+
+/// What a call of `next` did.
+#[derive(Drop)]
+pub enum Next {
+    /// It went on.
+    Going,
+    /// The run has ended for this reason.
+    Ended(Stop),
+}
+
+/// A run under way.
+#[derive(Drop)]
+pub struct Kernel {
+    alloc: Global,
+    program: Program,
+    bound: u64,
+    /// The world. Between calls every effect is over.
+    effect: Effect,
+    /// Whether an instant comes next, or a tock.
+    at_instant: bool,
+    stop: Option<Stopped>,
+    /// The tick of the lines that are owed: first those of an instant, then those of a tock, then the last of the run.
+    told_at: u64,
+    said: List<Line>,
+    ticks: List<TickLine>,
+    last: Option<Stopped>,
+    ghost in_order: { effect.said ≡ [] },
+    ghost in_time: { IsTrue (is_in_time at_instant stop effect.world.time bound) },
+}
+
+impl Kernel {
+    ghost use Rattle.std.specs.Prelude.{◌++◌, OnOk, IfOk, OnErr};
+    ghost use Rattle.trace_text.specs.Text.{text_of};
+    ghost use Rattle.machine_kernel.specs.Kernel.{shown, future, stop_to_come, left_to_do};
+    ghost use Rattle.machine_kernel.specs.Next.{IfGoing, IfEnded};
+    ghost use Rattle.machine_kernel.specs.Future.{advanced, opened, goes_by, after_instant, after_tock, unless_stopped, written_of};
+    ghost use Rattle.profile_machine.specs.Instant.{instant};
+    ghost use Rattle.profile_machine.specs.Run.{tock};
+
+    /// The opening world of the run of a program with a script, up to a bound. Its first lines are owed.
+    pub(crate) fn open(
+        alloc: Global,
+        image: Image,
+        script: List<(Moment, Item)>,
+        bound: u64,
+    ) -> Result<Kernel, NoMemory>
+        ensures { IfOk result (λ kernel. shown kernel ≡ opened image script bound) }
+    {
+        runs_begin_at_0();
+        let program = Program::of(alloc, image);
+        let mut said = List::new(alloc);
+        let effect = opening(alloc, &program, script, &mut said)?;
+        Ok(Kernel {
+            alloc,
+            program,
+            bound,
+            effect,
+            at_instant: true,
+            stop: None,
+            told_at: 0,
+            said,
+            ticks: List::new(alloc),
+            last: None,
+        })
+    }
+
+    /// Appends the first owed line; where none is owed, goes on by an instant or a tock, until a stop is reached.
+    /// It needs 1,100 free bytes. After an error the kernel is not used again.
+    ///
+    /// Errors: memory ran out, or a line has a name or a text that no trace can have.
+    pub fn next(&mut self, out: &mut LineBuffer) -> Result<Next, NoMemory>
+        requires { length out.old + 1100 ≤ 65536 }
+        ensures step { OnOk result (shown self.new ≡ advanced (shown self.old)) }
+        ensures told { OnOk result (out.new ≡ out.old ++ written_of (shown self.old).owed) }
+        ensures err { OnErr result (out.new ≡ out.old) }
+        ensures future { OnOk result (out.new ++ text_of (future self.new) ≡ out.old ++ text_of (future self.old)) }
+        ensures stop { OnOk result (stop_to_come self.new ≡ stop_to_come self.old) }
+        ensures going { IfOk result (IfGoing (left_to_do self.new < left_to_do self.old)) }
+        ensures ended { IfOk result (IfEnded (λ why. (future self.old ≡ []) × (why ≡ stop_to_come self.old))) }
+    {
+        instants_take_no_time();
+        tocks_take_one_tick();
+        self.step(out)
+    }
+
+    /// One step: an owed line is told, or the run goes on.
+    fn step(&mut self, out: &mut LineBuffer) -> Result<Next, NoMemory>
+        requires { length out.old + 1100 ≤ 65536 }
+        ensures step { OnOk result (shown self.new ≡ advanced (shown self.old)) }
+        ensures told { OnOk result (out.new ≡ out.old ++ written_of (shown self.old).owed) }
+        ensures err { OnErr result (out.new ≡ out.old) }
+        ensures going { IfOk result (IfGoing ((shown self.old).owed ≡ [] → (shown self.old).stop ≡ None)) }
+        ensures ended { IfOk result (IfEnded (λ why. ((shown self.old).owed ≡ []) × ((shown self.old).stop ≡ Some why))) }
+    {
+        match self.said.front() {
+            Some(line) => {
+                let event = event_of(self.alloc, &self.program, line)?;
+                self.said.pop_front();
+                write_line(self.told_at, &event, out);
+                Ok(Next::Going)
+            }
+            None => self.tell_tick(out),
+        }
+    }
+
+    /// A line of a tock is told, where none of an instant is owed.
+    fn tell_tick(&mut self, out: &mut LineBuffer) -> Result<Next, NoMemory>
+        requires room { length out.old + 1100 ≤ 65536 }
+        requires said { self.old.said ≡ [] }
+        ensures step { OnOk result (shown self.new ≡ advanced (shown self.old)) }
+        ensures told { OnOk result (out.new ≡ out.old ++ written_of (shown self.old).owed) }
+        ensures err { OnErr result (out.new ≡ out.old) }
+        ensures going { IfOk result (IfGoing ((shown self.old).owed ≡ [] → (shown self.old).stop ≡ None)) }
+        ensures ended { IfOk result (IfEnded (λ why. ((shown self.old).owed ≡ []) × ((shown self.old).stop ≡ Some why))) }
+    {
+        match self.ticks.front() {
+            Some(line) => {
+                let event = tick_event(*line);
+                self.ticks.pop_front();
+                write_line(self.told_at, &event, out);
+                Ok(Next::Going)
+            }
+            None => self.tell_last(out),
+        }
+    }
+
+    /// The last line of the run is told, where no other is owed.
+    fn tell_last(&mut self, out: &mut LineBuffer) -> Result<Next, NoMemory>
+        requires room { length out.old + 1100 ≤ 65536 }
+        requires said { self.old.said ≡ [] }
+        requires ticks { self.old.ticks ≡ [] }
+        ensures step { OnOk result (shown self.new ≡ advanced (shown self.old)) }
+        ensures told { OnOk result (out.new ≡ out.old ++ written_of (shown self.old).owed) }
+        ensures err { OnErr result (out.new ≡ out.old) }
+        ensures going { IfOk result (IfGoing ((shown self.old).owed ≡ [] → (shown self.old).stop ≡ None)) }
+        ensures ended { IfOk result (IfEnded (λ why. ((shown self.old).owed ≡ []) × ((shown self.old).stop ≡ Some why))) }
+    {
+        match self.last {
+            Some(stopped) => {
+                let why = ended_by(&self.program, stopped)?;
+                self.last = None;
+                write_line(self.told_at, &Event::End { why }, out);
+                Ok(Next::Going)
+            }
+            None => self.go_on(),
+        }
+    }
+
+    /// Goes on where no line is owed.
+    fn go_on(&mut self) -> Result<Next, NoMemory>
+        requires said { self.old.said ≡ [] }
+        requires ticks { self.old.ticks ≡ [] }
+        requires last { self.old.last ≡ None }
+        ensures step { OnOk result (shown self.new ≡ unless_stopped (shown self.old).stop (shown self.old)) }
+        ensures going { IfOk result (IfGoing ((shown self.old).stop ≡ None)) }
+        ensures ended { IfOk result (IfEnded (λ why. (shown self.old).stop ≡ Some why)) }
+    {
+        match self.stop {
+            Some(stopped) => Ok(Next::Ended(ended_by(&self.program, stopped)?)),
+            None => {
+                self.advance()?;
+                Ok(Next::Going)
+            }
+        }
+    }
+
+    /// An instant or a tock.
+    fn advance(&mut self) -> Result<(), NoMemory>
+        requires said { self.old.said ≡ [] }
+        requires ticks { self.old.ticks ≡ [] }
+        requires last { self.old.last ≡ None }
+        requires running { self.old.stop ≡ None }
+        ensures { OnOk result (shown self.new ≡ goes_by self.old.at_instant (shown self.old)) }
+    {
+        if self.at_instant {
+            self.instant()
+        } else {
+            self.tock()
+        }
+    }
+
+    /// An instant: what the present moment brings about, and the test for a stop.
+    fn instant(&mut self) -> Result<(), NoMemory>
+        requires said { self.old.said ≡ [] }
+        requires ticks { self.old.ticks ≡ [] }
+        requires last { self.old.last ≡ None }
+        requires running { self.old.stop ≡ None }
+        requires at_instant { self.old.at_instant ≡ true }
+        ensures { OnOk result (shown self.new ≡ after_instant (shown self.old) (instant (shown self.old).program (shown self.old).world)) }
+    {
+        instants_take_no_time();
+        let now = self.effect.world.time;
+        match instant(self.alloc, &self.program, &mut self.effect, &mut self.said) {
+            Ok(()) => {
+                let found = stop(self.bound, &self.effect.world);
+                self.told_at = now;
+                self.stop = found;
+                self.last = found;
+                self.at_instant = false;
+                Ok(())
+            }
+            Err(fault) => {
+                give_up(&mut self.effect, &mut self.stop);
+                Err(fault)
+            }
+        }
+    }
+
+    /// A tock: one tick passes.
+    fn tock(&mut self) -> Result<(), NoMemory>
+        requires said { self.old.said ≡ [] }
+        requires ticks { self.old.ticks ≡ [] }
+        requires last { self.old.last ≡ None }
+        requires running { self.old.stop ≡ None }
+        requires at_tock { self.old.at_instant ≡ false }
+        ensures { OnOk result (shown self.new ≡ after_tock (shown self.old) (tock (shown self.old).program (shown self.old).world)) }
+    {
+        tocks_take_one_tick();
+        let now = self.effect.world.time;
+        match tock(&self.program, &mut self.effect.world, &mut self.ticks) {
+            Ok(()) => {
+                self.told_at = now;
+                self.at_instant = true;
+                Ok(())
+            }
+            Err(fault) => {
+                give_up(&mut self.effect, &mut self.stop);
+                Err(fault)
+            }
+        }
+    }
+}
+
+// Memory ran out within an effect: nothing more of it is told, and the run goes on no more.
+fn give_up(effect: &mut Effect, stop: &mut Option<Stopped>)
+    ensures said { effect.new.said ≡ [] }
+    ensures stop { stop.new ≡ Some stopped.Stuck }
+{
+    effect.said.clear();
+    *stop = Some(Stopped::Stuck);
+}

@@ -1,0 +1,12 @@
+//! The run of a program, line by line.
+//!
+//! A kernel keeps a world of the profile machine. Each call of `next` writes an owed line, or goes on by an instant or a
+//! tock of that world.
+#![tactic(auto)]
+
+mod events;
+mod kernel;
+mod openings;
+
+pub use kernel::{Kernel, Next, Stop};
+pub use openings::boot;

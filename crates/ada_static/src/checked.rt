@@ -6,6 +6,7 @@ ghost use Rattle.ada_static.specs.Faults.{IsNumbered, IsChecked, Breaks, rule_fa
 use crate::legality::first_fault;
 use crate::refusals::Refusal;
 use ada_names::Image;
+use profile_machine::Image as Program;
 use std::alloc::Global;
 use std::marker::Model;
 
@@ -36,6 +37,13 @@ impl Checked {
         ensures legal { IsLegal result.now.program }
     {
         &self.image
+    }
+
+    /// Gives away the program of the image.
+    pub fn into_program(self) -> Program
+        ensures { result ≡ self.program }
+    {
+        self.image.program
     }
 }
 

@@ -3,16 +3,16 @@ ghost use Rattle.std.specs.Prelude.{◌≡◌, ◌≤◌, ◌<◌, codes, IfOk, 
 ghost use Rattle.ann_base.specs.Answers.{OfFault};
 ghost use Rattle.ann_base.specs.Outside.{Rose, extended};
 ghost use Rattle.outside_bytes.specs.Pieces.{HoldsPrefix};
-ghost use Rattle.ann_kernel.specs.Next.{IsPlainStop};
 ghost use Rattle.commands.specs.Runs.{text_of_run, stop_of};
 
 use ada_static::Checked;
 use ann_base::{Failed, OrMemory, Sink};
-use ann_kernel::{Next, Stop, boot};
 use commands::MOST_TICKS;
+use machine_kernel::{Next, Stop, boot};
 use outside_bytes::write_all;
 use std::alloc::Global;
 use trace_text::LineBuffer;
+use world_tables::List;
 
 /// Writes the run of a checked program up to so many ticks, line by line: all of its text where it ends, and a prefix
 /// of it otherwise.
@@ -26,12 +26,11 @@ pub fn run<K: Sink>(
     requires bounded { ticks ≤ MOST_TICKS }
     ensures written { OnOk result (K.held out.new ≡ extended (K.held out.old) (text_of_run checked ticks)) }
     ensures stop { IfOk result (λ stop. stop ≡ stop_of checked ticks) }
-    ensures plain { IfOk result IsPlainStop }
     ensures prefix { OnErr result (HoldsPrefix (K.held out.old) (K.held out.new) (text_of_run checked ticks)) }
     ensures monotone { K.faults out.old ≤ K.faults out.new }
     ensures cause { IfErr result (OfFault (λ _. Rose (K.faults out.old) (K.faults out.new))) }
 {
-    let mut kernel = boot(alloc, checked, ticks)?;
+    let mut kernel = boot(alloc, checked.into_program(), List::new(alloc), ticks)?;
     let mut buffer = LineBuffer::new(alloc)?;
     loop {
         buffer.clear();

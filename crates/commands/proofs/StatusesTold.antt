@@ -6,7 +6,6 @@ use Rattle.trace_text.specs.declared.events.Ended.TheVariants as why
 use Rattle.ada_names.specs.declared.image.Image.{Image}
 use Rattle.ada_front.specs.declared.refusing.Refusal.{Refusal}
 use Rattle.ada_front.specs.Accepted.{Accepted as IsAccepted}
-use Rattle.ann_kernel.specs.Next.{IsPlainStop}
 use Rattle.sched_tests.specs.declared.duties.Duty.{Duty}
 use Rattle.sched_tests.specs.declared.duties.TableFault.{TableFault}
 use Rattle.sched_tests.specs.Demand.{first_over_of, busy_of}
@@ -107,7 +106,7 @@ undisturbed : (asked : Option Asked) (shelf : ShelfChange) (out notes : SinkChan
     Gained out (text_for a image) × (status ≡ status_of (outcome_for a image)) × IsKept notes
 undisturbed asked shelf out notes (Ended stop) status p c source a bytes image is there fits u =
     let told = concluded (Ended stop) notes status c u.1 in
-    served a bytes image out notes (Ended stop) status (at_source asked shelf source a bytes (λ x b. IsDone x b out (Ended stop)) is there p.0) fits told.0 told.1
+    served a bytes image out notes (Ended stop) status (at_source asked shelf source a bytes (λ x b. IsDone x b out (Ended stop)) is there p) fits told.0 told.1
 undisturbed asked shelf out notes Accepted status p c source a bytes image is there fits u =
     let told = concluded Accepted notes status c u.1 in
     served a bytes image out notes Accepted status (at_source asked shelf source a bytes (λ x b. IsDone x b out Accepted) is there p) fits told.0 told.1
@@ -144,7 +143,7 @@ refused_answer : (t : TableTest) (bytes : List ℕ) (out notes : SinkChange) (fa
 refused_answer t bytes out notes fault status h kept is note = subst (λ read. IsAnswer t read out notes status) (sym h) (kept, is, note)
 
 pub table_told : (asked : Option Asked) (shelf : ShelfChange) (out notes : SinkChange) (o : Outcome) (status : ℕ) → Performs asked shelf out o → Concludes o notes status → TableTold asked shelf out notes status
-table_told asked shelf out notes (Ended stop) status p c table bytes t is there u = absurd (no_source asked shelf table t (λ x b. IsDone x b out (Ended stop)) is p.0)
+table_told asked shelf out notes (Ended stop) status p c table bytes t is there u = absurd (no_source asked shelf table t (λ x b. IsDone x b out (Ended stop)) is p)
 table_told asked shelf out notes Accepted status p c table bytes t is there u = absurd (no_source asked shelf table t (λ x b. IsDone x b out Accepted) is p)
 table_told asked shelf out notes (Tested failed) status p c table bytes t is there u =
     let told = concluded (Tested failed) notes status c u.1 in
@@ -186,7 +185,7 @@ never_over bytes duties busy out failed status h read is zero_is busy_is =
     subst NeverOver same (h.beyond busy none (ap busy_of same ∙ busy_is))
 
 pub beyond : (asked : Option Asked) (shelf : ShelfChange) (out notes : SinkChange) (o : Outcome) (status : ℕ) → Performs asked shelf out o → Concludes o notes status → BeyondTold asked shelf status
-beyond asked shelf out notes (Ended stop) status p c table bytes duties busy is there read zero_is busy_is = absurd (no_source asked shelf table test.Demand (λ x b. IsDone x b out (Ended stop)) is p.0)
+beyond asked shelf out notes (Ended stop) status p c table bytes duties busy is there read zero_is busy_is = absurd (no_source asked shelf table test.Demand (λ x b. IsDone x b out (Ended stop)) is p)
 beyond asked shelf out notes Accepted status p c table bytes duties busy is there read zero_is busy_is = absurd (no_source asked shelf table test.Demand (λ x b. IsDone x b out Accepted) is p)
 beyond asked shelf out notes (Tested failed) status p c table bytes duties busy is there read zero_is busy_is =
     never_over bytes duties busy out failed status (at_table asked shelf table test.Demand bytes (λ x b. IsTested x b out failed) is there p) read
@@ -209,7 +208,7 @@ no_trace : (w : TraceWork) (bytes : List ℕ) (out notes : SinkChange) (line : �
 no_trace w bytes out notes line status h kept is note = subst (λ answer. IsTraceAnswer answer out notes status) (sym h) (kept, is, note)
 
 pub trace_told : (asked : Option Asked) (shelf : ShelfChange) (out notes : SinkChange) (o : Outcome) (status : ℕ) → Performs asked shelf out o → Concludes o notes status → TraceTold asked shelf out notes status
-trace_told asked shelf out notes (Ended stop) status p c trace bytes w is there u = absurd (trace_no_source asked shelf trace w (λ x b. IsDone x b out (Ended stop)) is p.0)
+trace_told asked shelf out notes (Ended stop) status p c trace bytes w is there u = absurd (trace_no_source asked shelf trace w (λ x b. IsDone x b out (Ended stop)) is p)
 trace_told asked shelf out notes Accepted status p c trace bytes w is there u = absurd (trace_no_source asked shelf trace w (λ x b. IsDone x b out Accepted) is p)
 trace_told asked shelf out notes (Tested failed) status p c trace bytes w is there u = absurd (trace_no_table asked shelf trace w (λ x b. IsTested x b out failed) is p)
 trace_told asked shelf out notes (Traced broken) status p c trace bytes w is there u =
@@ -272,7 +271,7 @@ done_trace (Some (TableAsked table t)) shelf out status h is = absurd h
 done_trace (Some (TraceAsked trace w)) shelf out status h is = (is, h)
 
 done_by : (asked : Option Asked) (shelf : ShelfChange) (out : SinkChange) (o : Outcome) (status : ℕ) → Performs asked shelf out o → status ≡ status_of o → status ≤ 3 → DoneTold asked shelf out status
-done_by asked shelf out (Ended stop) status p is small = done_source asked shelf out (Ended stop) status p.0 is
+done_by asked shelf out (Ended stop) status p is small = done_source asked shelf out (Ended stop) status p is
 done_by asked shelf out Accepted status p is small = done_source asked shelf out Accepted status p is
 done_by asked shelf out (Tested true) status p is small = absurd (omega (arith, is, small))
 done_by asked shelf out (Tested false) status p is small = done_table asked shelf out false status p is is
@@ -307,14 +306,14 @@ quiet o notes status c small = quiet_by o notes status (concluded o notes status
 
 -- ---- which statuses there are
 
-plain_status : (stop : Stop) → IsPlainStop stop → IsStatus (stop_status stop)
-plain_status why.Completed plain = search rules
-plain_status (why.Exception name) plain = absurd plain
-plain_status why.Stuck plain = absurd plain
-plain_status why.Bound plain = search rules
+run_status : (stop : Stop) → IsStatus (stop_status stop)
+run_status why.Completed = search rules
+run_status (why.Exception name) = search rules
+run_status why.Stuck = search rules
+run_status why.Bound = search rules
 
 outcome_status : (asked : Option Asked) (shelf : ShelfChange) (out : SinkChange) (o : Outcome) → Performs asked shelf out o → IsStatus (status_of o)
-outcome_status asked shelf out (Ended stop) p = plain_status stop p.1
+outcome_status asked shelf out (Ended stop) p = run_status stop
 outcome_status asked shelf out Accepted p = search rules
 outcome_status asked shelf out (Tested true) p = search rules
 outcome_status asked shelf out (Tested false) p = search rules
@@ -350,7 +349,7 @@ refused_source asked shelf out notes o status p c e =
 
 pub not_accepted : (asked : Option Asked) (shelf : ShelfChange) (out notes : SinkChange) (o : Outcome) (status : ℕ) → Performs asked shelf out o → Concludes o notes status → NotAccepted asked shelf status
 not_accepted asked shelf out notes (Ended stop) status p c source bytes a is there none u =
-    let done = at_source asked shelf source a bytes (λ x b. IsDone x b out (Ended stop)) is there p.0 in absurd (none done.image done.accepted)
+    let done = at_source asked shelf source a bytes (λ x b. IsDone x b out (Ended stop)) is there p in absurd (none done.image done.accepted)
 not_accepted asked shelf out notes Accepted status p c source bytes a is there none u =
     let done = at_source asked shelf source a bytes (λ x b. IsDone x b out Accepted) is there p in absurd (none done.image done.accepted)
 not_accepted asked shelf out notes (Tested failed) status p c source bytes a is there none u = absurd (no_table asked shelf source a (λ t b. IsTested t b out failed) is p)
@@ -390,7 +389,7 @@ words asked shelf out notes o status p c e =
     (subst (Performs asked shelf out) (is_words o (sym (concluded o notes status c (low status (omega (arith, e)))).0 ∙ e)) p).0
 
 refused_by : (asked : Option Asked) (shelf : ShelfChange) (out : SinkChange) (o : Outcome) → Performs asked shelf out o → asked ≡ None → (status_of o ≡ 8) ⊎ (status_of o ≡ 6)
-refused_by asked shelf out (Ended stop) p none = absurd (subst (λ x. OfSource x shelf (λ a bytes. IsDone a bytes out (Ended stop))) none p.0)
+refused_by asked shelf out (Ended stop) p none = absurd (subst (λ x. OfSource x shelf (λ a bytes. IsDone a bytes out (Ended stop))) none p)
 refused_by asked shelf out Accepted p none = absurd (subst (λ x. OfSource x shelf (λ a bytes. IsDone a bytes out Accepted)) none p)
 refused_by asked shelf out (Tested failed) p none = absurd (subst (λ x. OfTable x shelf (λ t bytes. IsTested t bytes out failed)) none p)
 refused_by asked shelf out (Traced broken) p none = absurd (subst (λ x. OfTrace x shelf (λ w bytes. IsTraced w bytes out broken)) none p)

@@ -7,7 +7,6 @@ use Rattle.outside_bytes.specs.Files.{told, WhereTold}
 use Rattle.ada_names.specs.declared.image.Image.{Image}
 use Rattle.ada_front.specs.declared.refusing.Refusal.{Refusal}
 use Rattle.ada_front.specs.Accepted.{Accepted as IsAccepted, judged}
-use Rattle.ann_kernel.specs.Next.{IsPlainStop}
 use Rattle.sched_tests.specs.declared.duties.Duty.{Duty}
 use Rattle.sched_tests.specs.declared.duties.TableFault.{TableFault}
 use Rattle.sched_tests.specs.Reading.{table_of}
@@ -37,7 +36,7 @@ outcome_for work.Accept image = Accepted
 
 -- where the work was done, the text is written whole; where not, a prefix of it
 abbrev pub ServesImage : Work → Image → SinkChange → Outcome → Type 0
-ServesImage asked image out (Ended stop) = Gained out (text_for asked image) × (outcome_for asked image ≡ Ended stop) × IsPlainStop stop
+ServesImage asked image out (Ended stop) = Gained out (text_for asked image) × (outcome_for asked image ≡ Ended stop)
 ServesImage asked image out Accepted = Gained out (text_for asked image) × (outcome_for asked image ≡ Accepted)
 ServesImage asked image out (Tested failed) = ⊥
 ServesImage asked image out (Traced broken) = ⊥
@@ -74,7 +73,7 @@ abbrev pub IsCutShort : Work → List ℕ → SinkChange → Type 0
 IsCutShort asked bytes out = (image : Image) × IsAccepted bytes image × GainedPrefix out (text_for asked image)
 
 abbrev pub ServesBytes : Work → List ℕ → SinkChange → Outcome → Type 0
-ServesBytes asked bytes out (Ended stop) = IsDone asked bytes out (Ended stop) × IsPlainStop stop
+ServesBytes asked bytes out (Ended stop) = IsDone asked bytes out (Ended stop)
 ServesBytes asked bytes out Accepted = IsDone asked bytes out Accepted
 ServesBytes asked bytes out (Tested failed) = ⊥
 ServesBytes asked bytes out (Traced broken) = ⊥
@@ -200,7 +199,7 @@ abbrev pub IsUnread : Option Asked → ShelfChange → Type 0
 IsUnread asked shelf = OfAsked asked (λ a. Lacks shelf.files (file_of a) (ShelfFailed shelf))
 
 abbrev pub Performs : Option Asked → ShelfChange → SinkChange → Outcome → Type 0
-Performs asked shelf out (Ended stop) = OfSource asked shelf (λ work bytes. IsDone work bytes out (Ended stop)) × IsPlainStop stop
+Performs asked shelf out (Ended stop) = OfSource asked shelf (λ work bytes. IsDone work bytes out (Ended stop))
 Performs asked shelf out Accepted = OfSource asked shelf (λ work bytes. IsDone work bytes out Accepted)
 Performs asked shelf out (Tested failed) = OfTable asked shelf (λ test bytes. IsTested test bytes out failed)
 Performs asked shelf out (Traced broken) = OfTrace asked shelf (λ work bytes. IsTraced work bytes out broken)

@@ -1,13 +1,13 @@
 -- The text of a run and its stop.
-use Rattle.std.specs.Prelude.{ℕ, List}
+use Rattle.std.specs.Prelude.{ℕ, List, []}
 use Rattle.trace_text.specs.declared.events.Ended.{Ended}
 use Rattle.trace_text.specs.Text.{text_of}
 use Rattle.ada_names.specs.declared.image.Image.{Image}
-use Rattle.ann_kernel.specs.Future.{lines_of_run, stop_of_run}
+use Rattle.machine_kernel.specs.Future.{lines_of_run, stop_of_run}
 
--- the text of the run of an image up to so many ticks, and its stop
+-- the text of the run of an image without a script up to so many ticks, and its stop
 abbrev pub text_of_run : Image → ℕ → List ℕ
-text_of_run image ticks = text_of (lines_of_run image.program ticks)
+text_of_run image ticks = text_of (lines_of_run image.program [] ticks)
 
 abbrev pub stop_of : Image → ℕ → Ended
-stop_of image ticks = stop_of_run image.program ticks
+stop_of image ticks = stop_of_run image.program [] ticks

@@ -128,10 +128,10 @@ DoneTold (Some (TableAsked table test)) shelf out status =
 DoneTold (Some (TraceAsked trace work)) shelf out status =
     (status ≡ 0) × WhereTold (told shelf.files trace) (λ bytes. IsTraced work bytes out false)
 
--- 0 and 3 for the run of a program of today's forms, 4, 6 to 9, 11 and 13 where a command was not done, 10 where a law is
+-- 0 to 3 for a run, 4, 6 to 9, 11 and 13 where a command was not done, 10 where a law is
 -- broken, 12 where a test fails
 abbrev pub IsStatus : ℕ → Type 0
-IsStatus status = (status ≤ 13) × (status ≢ 1) × (status ≢ 2) × (status ≢ 5)
+IsStatus status = (status ≤ 13) × (status ≢ 5)
 
 -- A source that is not accepted has status 4.
 abbrev pub NotAccepted : Option Asked → ShelfChange → ℕ → Type 0

@@ -3,7 +3,7 @@ ghost use Rattle.std.specs.Prelude.{◌≡◌, if◌then◌else◌};
 ghost use Rattle.commands.specs.Outcomes.{status_of, stop_status};
 
 use ada_front::Refusal;
-use ann_kernel::Stop;
+use machine_kernel::Stop;
 use sched_tests::TableFault;
 
 /// How a command ended.

@@ -1,6 +1,6 @@
 use Rattle.std.proofs.Common.{◌++◌, ◌∙◌, ap, arith}
 use Rattle.trace_text.specs.Text.{text_of}
-use Rattle.ann_kernel.specs.Kernel.{future}
+use Rattle.machine_kernel.specs.Kernel.{future}
 use Rattle.commands.specs.Runs.{text_of_run}
 use Rattle.outside_bytes.proofs.PiecesWritten.{err-none, one_more_line, cut_line}
 use Rattle.annexd.proofs.running.run.Goals as goal

@@ -1,7 +1,7 @@
 use Rattle.std.proofs.Common.{◌≡◌, ◌≤◌, ◌++◌, List, ℕ}
 use Rattle.ann_base.specs.Outside.{extended}
 use Rattle.trace_text.specs.Text.{text_of}
-use Rattle.ann_kernel.specs.Kernel.{future, stop_to_come, left_to_do}
+use Rattle.machine_kernel.specs.Kernel.{future, stop_to_come, left_to_do}
 use Rattle.commands.specs.Runs.{text_of_run, stop_of}
 use Rattle.annexd.proofs.running.run.Given as goal
 

@@ -1,9 +1,0 @@
-pub mod Variables
-pub mod Assignments
-pub mod DeclaredVariables
-pub mod SimpleShape
-pub mod MainActions
-pub mod MainCall
-pub mod MachineSteps
-pub mod FutureLemmas
-pub mod KernelLemmas

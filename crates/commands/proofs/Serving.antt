@@ -51,7 +51,7 @@ same_image a b h = ap (image_in a) h
 pub accepted_served : (asked : Work) (bytes : List ℕ) (image : Image) (out : SinkChange) (o : Outcome) → IsAccepted bytes image →
     ((other : Image) → IsAccepted bytes other → accepted_as other ≡ Ok image) → ServesImage asked image out o → ServesBytes asked bytes out o
 accepted_served asked bytes image out (Ended stop) accepted only h =
-    (record { image = image; accepted = accepted; only = λ other fits. same_image other image (only other fits); text = h.0; outcome_is = h.1 }, h.2)
+    record { image = image; accepted = accepted; only = λ other fits. same_image other image (only other fits); text = h.0; outcome_is = h.1 }
 accepted_served asked bytes image out Accepted accepted only h =
     record { image = image; accepted = accepted; only = λ other fits. same_image other image (only other fits); text = h.0; outcome_is = h.1 }
 accepted_served asked bytes image out (Tested failed) accepted only h = h
@@ -106,7 +106,7 @@ where_told (Holds source) bytes F read holds = holds source (read_as bytes sourc
 pub bytes_served : (source : List ℕ) (asked : Work) (shelf : ShelfChange) (out : SinkChange) (bytes : List ℕ) (o : Outcome) → LongSourcesAreRefused →
     WhereTold (told shelf.files source) (λ file. bytes ≡ take (MAX_SOURCE + 1) file) → ServesBytes asked bytes out o → Performs (Some (SourceAsked source asked)) shelf out o
 bytes_served source asked shelf out bytes (Ended stop) law read h =
-    (where_told (told shelf.files source) bytes (λ file. IsDone asked file out (Ended stop)) read (λ file same. done_file asked bytes file out (Ended stop) law same h.0), h.1)
+    where_told (told shelf.files source) bytes (λ file. IsDone asked file out (Ended stop)) read (λ file same. done_file asked bytes file out (Ended stop) law same h)
 bytes_served source asked shelf out bytes Accepted law read h =
     where_told (told shelf.files source) bytes (λ file. IsDone asked file out Accepted) read (λ file same. done_file asked bytes file out Accepted law same h)
 bytes_served source asked shelf out bytes (Tested failed) law read h = absurd h

@@ -29,7 +29,7 @@ pub at_once : Moves AtOnce AtOnce
 at_once = record {
   stays = λ w. refl;
   goes_on = λ a b c p q. q ∙ p;
-  says = λ part line w. refl;
+  says = λ part line w no_put. refl;
   rests = λ w. refl;
   leads_on = λ a b c p q. q ∙ p;
   settles = λ p a b xs k. k;
@@ -65,7 +65,7 @@ at_once = record {
   sets_port = λ n value w. refl;
   masks = λ n flag w. refl;
   keeps_interrupt = λ n flag w. refl;
-  cuts_script = λ script w. refl;
+  cuts_script = λ x rest w is due. refl;
 }
 
 -- so what was later before a change is later behind it

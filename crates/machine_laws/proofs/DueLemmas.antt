@@ -121,7 +121,7 @@ module _ (events : Bool) where
   never_more = record {
     stays = λ w. still w;
     goes_on = λ a b c p q. (q.0 ∙ p.0, omega (arith, p.1, q.1));
-    says = λ part line w. still w;
+    says = λ part line w no_put. still w;
     rests = λ w. still w;
     leads_on = λ a b c p q. (q.0 ∙ p.0, omega (arith, p.1, q.1));
     settles = λ p a b xs k. k;
@@ -160,7 +160,7 @@ module _ (events : Bool) where
     sets_port = λ n value w. still w;
     masks = λ n flag w. still w;
     keeps_interrupt = λ n flag w. still w;
-    cuts_script = λ script w. still w;
+    cuts_script = λ x rest w is due. still w;
   }
 
   never_more-tocks : TockMoves NeverMore

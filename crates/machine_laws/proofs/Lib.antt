@@ -3,9 +3,10 @@ mod Moves
 mod AtOnce
 mod Kept
 mod TimeLemmas
-mod LineLemmas
+pub mod LineLemmas
 mod AppointmentLemmas
 mod DueLemmas
+mod ItemLemmas
 mod ReachedLemmas
 mod NumberLemmas
 mod RunLemmas

@@ -72,7 +72,7 @@ of_effects : Moves (λ before said after. Unit {0}) (λ before lines after. AllA
 of_effects = record {
   stays = λ w. tt;
   goes_on = λ a b c {xs} {ys} p q. tt;
-  says = λ part line w. tt;
+  says = λ part line w no_put. tt;
   rests = λ w. tt;
   leads_on = λ a b c {xs} {ys} p q. AllAre-append is_of_effect xs ys p q;
   settles = λ p a b xs k. AllAre-events p (in_order xs);
@@ -108,12 +108,12 @@ of_effects = record {
   sets_port = λ n value w. tt;
   masks = λ n flag w. tt;
   keeps_interrupt = λ n flag w. tt;
-  cuts_script = λ script w. tt;
+  cuts_script = λ x rest w is due. tt;
 }
 
 pub instants_say_effects : (p : Image) (w : World) → AllAre is_of_effect (instant p w).1
 unfolding Leads
-instants_say_effects p w = instant-leads of_effects p w
+instants_say_effects p w = instant-leads of_effects p (record { puts = λ name s pieces text v w is e. tt }) w
 
 -- ---- tocks
 

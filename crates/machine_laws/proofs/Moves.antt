@@ -1,7 +1,7 @@
 -- What every change that the machine makes of a world keeps, as a relation between the world before, the lines that are
 -- said, and the world behind: a law of all instants is one record, with a field for each change that steps are made of.
-use Rattle.std.proofs.Common.{◌≡◌, ℕ, ℤ, suc, Bool, true, List, [], ◌∷◌, ◌++◌, map, Option}
-use Rattle.std.specs.Prelude.{int_lt, pos}
+use Rattle.std.proofs.Common.{◌≡◌, ℕ, ℤ, suc, Bool, true, false, List, [], ◌∷◌, ◌++◌, map, Option}
+use Rattle.std.specs.Prelude.{int_lt, int_le, pos, Ok}
 use Rattle.ann_base.specs.declared.identities.CallNo.{CallNo}
 use Rattle.ann_base.specs.declared.identities.ObjectNo.{ObjectNo}
 use Rattle.ann_base.specs.declared.identities.RegionNo.{RegionNo}
@@ -12,6 +12,9 @@ use Rattle.trace_text.specs.declared.events.Who.TheVariants as who
 use Rattle.profile_machine.specs.declared.image.Image.{Image}
 use Rattle.profile_machine.specs.declared.numbers.ProtectedUnitNo.{ProtectedUnitNo}
 use Rattle.profile_machine.specs.declared.numbers.ScopeNo.{ScopeNo}
+use Rattle.profile_machine.specs.declared.numbers.StatementNo.{StatementNo}
+use Rattle.profile_machine.specs.declared.statements.Piece.{Piece}
+use Rattle.profile_machine.specs.declared.statements.StatementForm.TheVariants as form
 use Rattle.profile_machine.specs.declared.run_data.Item.{Item}
 use Rattle.profile_machine.specs.declared.run_data.Leaving.{Leaving}
 use Rattle.profile_machine.specs.declared.values.Value.{Value}
@@ -29,6 +32,11 @@ use Rattle.profile_machine.specs.Words.{edit_at}
 use Rattle.profile_machine.specs.declared.world.lines.Part.{Part}
 use Rattle.profile_machine.specs.declared.world.lines.Said.{Said}
 use Rattle.profile_machine.specs.declared.world.lines.Line.{Line}
+use Rattle.profile_machine.specs.declared.world.lines.Line.TheVariants as said
+use Rattle.profile_machine.specs.declared.world.lines.Part.TheVariants.{Own}
+use Rattle.profile_machine.specs.Program.{form_of}
+use Rattle.profile_machine.specs.Values.{seen_by}
+use Rattle.profile_machine.specs.Statements.{text_of_pieces}
 use Rattle.profile_machine.specs.Lines.{event_of}
 use Rattle.profile_machine.specs.Steps.{in_order, placed_by}
 use Rattle.profile_machine.specs.Tasks.{edit_task}
@@ -58,11 +66,16 @@ MoveRelation = World → List Event → World → Type 0
 abbrev pub lines_of : Image → List Said → List Event
 lines_of p said = map (λ x. event_of p x.line) (in_order said)
 
+-- the line of a Put_Line
+abbrev pub is_put : Line → Bool
+is_put (said.Put name text) = true
+is_put _ = false
+
 pub record Moves (R : StepRelation) (Q : MoveRelation) : Type 0 where
-  -- nothing is done, one step follows another, and a line of an effect is said
+  -- nothing is done, one step follows another, and a line of an effect is said, which puts no text
   pub stays : (w : World) → R w [] w
   pub goes_on : (a b c : World) {xs ys : List Said} → R a xs b → R b ys c → R a (xs ++ ys) c
-  pub says : (part : Part) (line : Line) (w : World) → R w (record { part = part; line = line } ∷ []) w
+  pub says : (part : Part) (line : Line) (w : World) → is_put line ≡ false → R w (record { part = part; line = line } ∷ []) w
   -- the same of moves; an effect is over, and a change that says nothing is a move too
   pub rests : (w : World) → Q w [] w
   pub leads_on : (a b c : World) {xs ys : List Event} → Q a xs b → Q b ys c → Q a (xs ++ ys) c
@@ -103,11 +116,16 @@ pub record Moves (R : StepRelation) (Q : MoveRelation) : Type 0 where
   pub sets_budget_due : (budget : Option ℕ) (w : World) → R w [] (record w { budget_due = budget })
   pub releases : (h : HandlerOf) (argument : Option ℕ) (w : World) → R w [] (add_release h argument w)
   pub has_served : (w : World) → R w [] (serves_nothing w)
-  -- the outside
+  -- the outside: of the script only the first item that is ahead is taken, when its moment has come
   pub sets_port : (n : ℕ) (value : ℤ) (w : World) → R w [] (with_port n value w)
   pub masks : (n : ℕ) (flag : Bool) (w : World) → R w [] (with_masked n flag w)
   pub keeps_interrupt : (n : ℕ) (flag : Bool) (w : World) → R w [] (with_kept_interrupt n flag w)
-  pub cuts_script : (script : List (ℤ × Item)) (w : World) → R w [] (with_script script w)
+  pub cuts_script : (x : ℤ × Item) (rest : List (ℤ × Item)) (w : World) → w.script ≡ x ∷ rest → int_le x.0 (pos w.time) ≡ true → R w [] (with_script rest w)
+
+-- The line of a Put_Line, of which a relation may ask that the program has such a statement, and that what it puts is the
+-- text of its pieces as somebody sees them.
+pub record Puts (R : StepRelation) (p : Image) : Type 0 where
+  pub puts : (name : Who) (s : StatementNo) (pieces : List Piece) (text : List ℕ) (v w : World) → form_of p s ≡ form.PutLine pieces → text_of_pieces (seen_by p v name) pieces ≡ Ok text → R w (record { part = Own; line = said.Put name text } ∷ []) w
 
 -- what a tock does besides, up to its tick: it says its lines, and the agent takes up the first release that is pending
 pub record TockMoves (Q : MoveRelation) : Type 0 where

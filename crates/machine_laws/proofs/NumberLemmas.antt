@@ -88,7 +88,7 @@ stays_numbered : Moves StaysNumbered StaysNumbered
 stays_numbered = record {
   stays = λ w h. h;
   goes_on = λ a b c p q h. q (p h);
-  says = λ part line w h. h;
+  says = λ part line w no_put h. h;
   rests = λ w h. h;
   leads_on = λ a b c p q h. q (p h);
   settles = λ p a b xs k h. k h;
@@ -124,7 +124,7 @@ stays_numbered = record {
   sets_port = λ n value w h. h;
   masks = λ n flag w h. h;
   keeps_interrupt = λ n flag w h. h;
-  cuts_script = λ script w h. h;
+  cuts_script = λ x rest w is due h. h;
 }
 
 -- the first release that is pending is taken up
@@ -144,7 +144,7 @@ numbered-lasts : Lasts Numbered
 unfolding Leads
 numbered-lasts = record {
   at_opening = λ p script. settles-leads stays_numbered p (opens p) (opens-keeps stays_numbered p) (blank_world p script) (blank-numbered p script);
-  at_instant = λ p w h. instant-leads stays_numbered p w h;
+  at_instant = λ p w h. instant-leads stays_numbered p (record { puts = λ name s pieces text v w is e k. k }) w h;
   at_tock = λ p w h. subst (λ a. Numbered a.0) (sym (tock-parts p w)) (before_tick-leads stays_numbered tocks_stay_numbered p (choose w) w h);
 }
 

@@ -51,7 +51,7 @@ place_by_lines : Moves SamePlaces PlacesFollow
 place_by_lines = record {
   stays = λ w. refl;
   goes_on = λ a b c p q. q ∙ p;
-  says = λ part line w. refl;
+  says = λ part line w no_put. refl;
   rests = λ w. refl;
   leads_on = λ a b c {xs} {ys} p q. follow-on a b c xs ys p q;
   settles = λ p a b xs k. ap (places_after_all (lines_of p xs)) k;
@@ -87,7 +87,7 @@ place_by_lines = record {
   sets_port = λ n value w. refl;
   masks = λ n flag w. refl;
   keeps_interrupt = λ n flag w. refl;
-  cuts_script = λ script w. refl;
+  cuts_script = λ x rest w is due. refl;
 }
 
 -- the lines of a tock move nobody
@@ -110,7 +110,7 @@ openings_place_by_lines p script = settles-leads place_by_lines p (opens p) (ope
 
 pub instants_place_by_lines : (p : Image) (w : World) → (instant p w).0.places ≡ places_after_all (instant p w).1 w.places
 unfolding Leads
-instants_place_by_lines p w = instant-leads place_by_lines p w
+instants_place_by_lines p w = instant-leads place_by_lines p (record { puts = λ name s pieces text v w is e. refl }) w
 
 before_tick-places : (p : Image) (chosen : Option Who) (w : World) → PlacesFollow w (before_tick p chosen w).1 (before_tick p chosen w).0
 unfolding Leads

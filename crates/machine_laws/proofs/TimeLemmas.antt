@@ -13,11 +13,11 @@ use Rattle.machine_laws.proofs.Kept.Instant.{instant-leads}
 
 pub instants_take_no_time : (p : Image) (w : World) → (instant p w).0.time ≡ w.time
 unfolding Leads
-instants_take_no_time p w = ap (λ x. x.0) (instant-leads at_once p w)
+instants_take_no_time p w = ap (λ x. x.0) (instant-leads at_once p (record { puts = λ name s pieces text v w is e. refl }) w)
 
 pub instants_keep_runner : (p : Image) (w : World) → (instant p w).0.ran ≡ w.ran
 unfolding Leads
-instants_keep_runner p w = ap (λ x. x.1) (instant-leads at_once p w)
+instants_keep_runner p w = ap (λ x. x.1) (instant-leads at_once p (record { puts = λ name s pieces text v w is e. refl }) w)
 
 pub tocks_take_one_tick : (p : Image) (w : World) → (tock p w).0.time ≡ suc w.time
 unfolding Leads

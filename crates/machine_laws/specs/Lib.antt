@@ -1,6 +1,7 @@
 pub mod DispatchLaws
 pub mod DueLaws
 pub mod IdleLaws
+pub mod ItemLaws
 pub mod LineKinds
 pub mod NumberLaws
 pub mod PlaceLaws

@@ -1,5 +1,6 @@
 //! Time: of all that the machine does only a tick takes time, and no moment that is waited for passes by.
 ghost use Rattle.machine_laws.specs.DueLaws.{InstantsLeaveNoneDue, NoneIsBeforeNow};
+ghost use Rattle.machine_laws.specs.ItemLaws.{InstantsLeaveNoItemDue};
 ghost use Rattle.machine_laws.specs.TimeLaws.{RunsBeginAtZero, InstantsTakeNoTime, TocksTakeOneTick};
 
 /// A run begins at 0.
@@ -26,4 +27,11 @@ pub fn tocks_take_one_tick()
 pub fn no_appointment_is_missed()
     ensures instants { InstantsLeaveNoneDue }
     ensures reached { NoneIsBeforeNow }
+{}
+
+/// An instant takes all items of the script whose moment has come, one after another: where one is still ahead, the first is
+/// later than now.
+#[tactic(auto, using(crate::proofs::ItemLemmas::instants_leave_no_item_due))]
+pub fn no_item_is_missed()
+    ensures { InstantsLeaveNoItemDue }
 {}

@@ -1,4 +1,5 @@
 -- The effect of an action: each step keeps a relation that its parts keep.
+use Rattle.std.proofs.Common.{◌≡◌, refl}
 use Rattle.std.specs.Prelude.{ℕ, List, Option, Some, None}
 use Rattle.ann_base.specs.declared.exceptions.Raised.{Raised}
 use Rattle.trace_text.specs.declared.events.Who.{Who}
@@ -20,11 +21,12 @@ use Rattle.profile_machine.specs.declared.world.appointments.Release.{Release}
 use Rattle.profile_machine.specs.declared.world.calls.Call.{Call}
 use Rattle.profile_machine.specs.declared.world.marks.Mark.TheVariants.{Scope, Handled, InProtected, InAccept, Abortable, InInitialize, InFinalize, InAssign}
 use Rattle.profile_machine.specs.declared.world.lines.Part.TheVariants.{Own}
+use Rattle.profile_machine.specs.Program.{form_of}
 use Rattle.profile_machine.specs.Steps.{changes, looks, ◌▷◌}
 use Rattle.profile_machine.specs.Frames.{frames_of}
 use Rattle.profile_machine.specs.Calls.{with_call, attempt_with}
 use Rattle.profile_machine.specs.Act.{call_main, call, handle_or_pass, behind_handled, end_handled, end_top, wait_for_trigger, drop_trigger, below, end_abortable_by, end_in_abortable, act_statement, end_mark, act_frame, act_without, act_top, act}
-use Rattle.machine_laws.proofs.Moves.{StepRelation, MoveRelation, Moves}
+use Rattle.machine_laws.proofs.Moves.{StepRelation, MoveRelation, Moves, Puts}
 use Rattle.machine_laws.proofs.Kept.Combinators.{Keeps, Alters, changes-keeps, cond-keeps, looks-keeps, nothing-keeps, option-keeps, sees-keeps, then-keeps, unchanged-alters}
 use Rattle.machine_laws.proofs.Kept.Dispatching.{block-keeps}
 use Rattle.machine_laws.proofs.Kept.Frames.{edit_top-alters, goes-keeps, pop-alters, raises-keeps, pass_on-keeps, with_room-keeps}
@@ -93,58 +95,58 @@ module _ {R : StepRelation} {Q : MoveRelation} (moves : Moves R Q) where
   unfolding end_in_abortable
   end_in_abortable-keeps p name m leaving = search (cond-keeps, end_top-keeps, end_abortable_by-keeps)
 
-  pub act_statement-keeps : (p : Image) (name : Who) (s : StatementNo) (form : StatementForm) → Keeps R (act_statement p name s form)
+  pub act_statement-keeps : (p : Image) → Puts R p → (name : Who) (s : StatementNo) (form : StatementForm) → form_of p s ≡ form → Keeps R (act_statement p name s form)
   unfolding act_statement
-  act_statement-keeps p name s (form.Declare object) = search (declare-keeps)
-  act_statement-keeps p name s (form.Initialize object) = search (initialize-keeps)
-  act_statement-keeps p name s (form.CreateTask object part) = search (create-keeps)
-  act_statement-keeps p name s (form.Activate part) = search (activate-keeps)
-  act_statement-keeps p name s form.EndActivation = search (end_own_activation-keeps)
-  act_statement-keeps p name s form.CallMain = search (call_main-keeps)
-  act_statement-keeps p name s (form.Handled handlers first) = search (nothing-keeps)
-  act_statement-keeps p name s form.Null = search (null-keeps)
-  act_statement-keeps p name s (form.Assign target e) = search (assign-keeps)
-  act_statement-keeps p name s (form.AssignArray target source) = search (assign_array-keeps)
-  act_statement-keeps p name s (form.AssignControlled target source) = search (assign_controlled-keeps)
-  act_statement-keeps p name s (form.If condition first otherwise) = search (if_statement-keeps)
-  act_statement-keeps p name s (form.Case selector alternatives) = search (case_statement-keeps)
-  act_statement-keeps p name s (form.Loop body within) = search (goes-keeps)
-  act_statement-keeps p name s (form.While condition body within) = search (while_turn-keeps)
-  act_statement-keeps p name s (form.For parameter reverse low high turn within) = search (for_bounds-keeps)
-  act_statement-keeps p name s (form.FirstTurn parameter reverse body) = search (first_turn-keeps)
-  act_statement-keeps p name s (form.LaterTurn parameter reverse body) = search (later_turn-keeps)
-  act_statement-keeps p name s (form.Exit condition of_loop) = search (exit_statement-keeps)
-  act_statement-keeps p name s (form.Block scope) = search (block_statement-keeps)
-  act_statement-keeps p name s form.Return = search (return-keeps)
-  act_statement-keeps p name s (form.ReturnValue function e) = search (return_value-keeps)
-  act_statement-keeps p name s (form.Raise e) = search (raises-keeps)
-  act_statement-keeps p name s (form.RaiseAgain scope) = search (raise_again-keeps)
-  act_statement-keeps p name s (form.Delay e) = search (sees-keeps, delay_until-keeps)
-  act_statement-keeps p name s (form.DelayUntil e) = search (sees-keeps, delay_until-keeps)
-  act_statement-keeps p name s (form.Call callee actuals to) = search (call-keeps)
-  act_statement-keeps p name s (form.PutLine pieces) = search (put_line-keeps)
-  act_statement-keeps p name s (form.EntryCall entry owner actuals) = search (entry_call-keeps)
-  act_statement-keeps p name s (form.ConditionalCall call otherwise) = search (entry_call-keeps)
-  act_statement-keeps p name s (form.TimedCall call delay) = search (entry_call-keeps)
-  act_statement-keeps p name s (form.AsynchronousSelect trigger abortable) = search (asynchronous_select-keeps)
-  act_statement-keeps p name s (form.Accept entry scope) = search (accept-keeps)
-  act_statement-keeps p name s (form.SelectiveAccept alternatives otherwise) = search (selective_accept-keeps)
-  act_statement-keeps p name s (form.Abort tasks) = search (abort_statement-keeps)
-  act_statement-keeps p name s (form.Requeue entry owner with_abort) = search (requeue-keeps)
-  act_statement-keeps p name s (form.SetEvent event set handler) = search (set_event-keeps)
-  act_statement-keeps p name s (form.CancelEvent event cancelled) = search (cancel_event-keeps)
-  act_statement-keeps p name s (form.SetTimer timer set handler) = search (set_timer-keeps)
-  act_statement-keeps p name s (form.CancelTimer timer cancelled) = search (cancel_timer-keeps)
-  act_statement-keeps p name s (form.AddTask budget task) = search (add_member-keeps)
-  act_statement-keeps p name s (form.RemoveTask budget task) = search (remove_member-keeps)
-  act_statement-keeps p name s (form.Replenish budget to) = search (replenish-keeps)
-  act_statement-keeps p name s (form.AddToBudget budget interval) = search (add_to_budget-keeps)
-  act_statement-keeps p name s (form.SetBudget budget handler) = search (set_budget-keeps)
-  act_statement-keeps p name s (form.CancelBudget budget cancelled) = search (cancel_budget-keeps)
-  act_statement-keeps p name s (form.SetPriority priority task) = search (set_priority-keeps)
-  act_statement-keeps p name s (form.SetQuantum level quantum) = search (set_quantum-keeps)
-  act_statement-keeps p name s (form.SetDeadline deadline task) = search (set_deadline_of-keeps)
-  act_statement-keeps p name s (form.DelayUntilAndSetDeadline until offset) = search (delay_and_set_deadline-keeps)
+  act_statement-keeps p puts name s (form.Declare object) is = search (declare-keeps)
+  act_statement-keeps p puts name s (form.Initialize object) is = search (initialize-keeps)
+  act_statement-keeps p puts name s (form.CreateTask object part) is = search (create-keeps)
+  act_statement-keeps p puts name s (form.Activate part) is = search (activate-keeps)
+  act_statement-keeps p puts name s form.EndActivation is = search (end_own_activation-keeps)
+  act_statement-keeps p puts name s form.CallMain is = search (call_main-keeps)
+  act_statement-keeps p puts name s (form.Handled handlers first) is = search (nothing-keeps)
+  act_statement-keeps p puts name s form.Null is = search (null-keeps)
+  act_statement-keeps p puts name s (form.Assign target e) is = search (assign-keeps)
+  act_statement-keeps p puts name s (form.AssignArray target source) is = search (assign_array-keeps)
+  act_statement-keeps p puts name s (form.AssignControlled target source) is = search (assign_controlled-keeps)
+  act_statement-keeps p puts name s (form.If condition first otherwise) is = search (if_statement-keeps)
+  act_statement-keeps p puts name s (form.Case selector alternatives) is = search (case_statement-keeps)
+  act_statement-keeps p puts name s (form.Loop body within) is = search (goes-keeps)
+  act_statement-keeps p puts name s (form.While condition body within) is = search (while_turn-keeps)
+  act_statement-keeps p puts name s (form.For parameter reverse low high turn within) is = search (for_bounds-keeps)
+  act_statement-keeps p puts name s (form.FirstTurn parameter reverse body) is = search (first_turn-keeps)
+  act_statement-keeps p puts name s (form.LaterTurn parameter reverse body) is = search (later_turn-keeps)
+  act_statement-keeps p puts name s (form.Exit condition of_loop) is = search (exit_statement-keeps)
+  act_statement-keeps p puts name s (form.Block scope) is = search (block_statement-keeps)
+  act_statement-keeps p puts name s form.Return is = search (return-keeps)
+  act_statement-keeps p puts name s (form.ReturnValue function e) is = search (return_value-keeps)
+  act_statement-keeps p puts name s (form.Raise e) is = search (raises-keeps)
+  act_statement-keeps p puts name s (form.RaiseAgain scope) is = search (raise_again-keeps)
+  act_statement-keeps p puts name s (form.Delay e) is = search (sees-keeps, delay_until-keeps)
+  act_statement-keeps p puts name s (form.DelayUntil e) is = search (sees-keeps, delay_until-keeps)
+  act_statement-keeps p puts name s (form.Call callee actuals to) is = search (call-keeps)
+  act_statement-keeps p puts name s (form.PutLine pieces) is = put_line-keeps moves p puts name s pieces is
+  act_statement-keeps p puts name s (form.EntryCall entry owner actuals) is = search (entry_call-keeps)
+  act_statement-keeps p puts name s (form.ConditionalCall call otherwise) is = search (entry_call-keeps)
+  act_statement-keeps p puts name s (form.TimedCall call delay) is = search (entry_call-keeps)
+  act_statement-keeps p puts name s (form.AsynchronousSelect trigger abortable) is = search (asynchronous_select-keeps)
+  act_statement-keeps p puts name s (form.Accept entry scope) is = search (accept-keeps)
+  act_statement-keeps p puts name s (form.SelectiveAccept alternatives otherwise) is = search (selective_accept-keeps)
+  act_statement-keeps p puts name s (form.Abort tasks) is = search (abort_statement-keeps)
+  act_statement-keeps p puts name s (form.Requeue entry owner with_abort) is = search (requeue-keeps)
+  act_statement-keeps p puts name s (form.SetEvent event set handler) is = search (set_event-keeps)
+  act_statement-keeps p puts name s (form.CancelEvent event cancelled) is = search (cancel_event-keeps)
+  act_statement-keeps p puts name s (form.SetTimer timer set handler) is = search (set_timer-keeps)
+  act_statement-keeps p puts name s (form.CancelTimer timer cancelled) is = search (cancel_timer-keeps)
+  act_statement-keeps p puts name s (form.AddTask budget task) is = search (add_member-keeps)
+  act_statement-keeps p puts name s (form.RemoveTask budget task) is = search (remove_member-keeps)
+  act_statement-keeps p puts name s (form.Replenish budget to) is = search (replenish-keeps)
+  act_statement-keeps p puts name s (form.AddToBudget budget interval) is = search (add_to_budget-keeps)
+  act_statement-keeps p puts name s (form.SetBudget budget handler) is = search (set_budget-keeps)
+  act_statement-keeps p puts name s (form.CancelBudget budget cancelled) is = search (cancel_budget-keeps)
+  act_statement-keeps p puts name s (form.SetPriority priority task) is = search (set_priority-keeps)
+  act_statement-keeps p puts name s (form.SetQuantum level quantum) is = search (set_quantum-keeps)
+  act_statement-keeps p puts name s (form.SetDeadline deadline task) is = search (set_deadline_of-keeps)
+  act_statement-keeps p puts name s (form.DelayUntilAndSetDeadline until offset) is = search (delay_and_set_deadline-keeps)
 
   pub end_mark-keeps : (p : Image) (name : Who) (f : Frame) (mark : Mark) → Keeps R (end_mark p name f mark)
   unfolding end_mark
@@ -157,21 +159,21 @@ module _ {R : StepRelation} {Q : MoveRelation} (moves : Moves R Q) where
   end_mark-keeps p name f (InFinalize o) = search (end_in_finalize-keeps)
   end_mark-keeps p name f (InAssign m) = search (end_in_assign-keeps)
 
-  pub act_frame-keeps : (p : Image) (name : Who) (f : Frame) (next : Option StatementNo) → Keeps R (act_frame p name f next)
+  pub act_frame-keeps : (p : Image) → Puts R p → (name : Who) (f : Frame) (next : Option StatementNo) → Keeps R (act_frame p name f next)
   unfolding act_frame
-  act_frame-keeps p name f (Some s) = search (act_statement-keeps)
-  act_frame-keeps p name f None = search (end_mark-keeps)
+  act_frame-keeps p puts name f (Some s) = act_statement-keeps p puts name s (form_of p s) refl
+  act_frame-keeps p puts name f None = search (end_mark-keeps)
 
   pub act_without-keeps : (p : Image) (release : Option Release) → Keeps R (act_without p release)
   unfolding act_without
   act_without-keeps p None = search (nothing-keeps)
   act_without-keeps p (Some r) = search (call_handler-keeps)
 
-  pub act_top-keeps : (p : Image) (name : Who) (f : Option Frame) → Keeps R (act_top p name f)
+  pub act_top-keeps : (p : Image) → Puts R p → (name : Who) (f : Option Frame) → Keeps R (act_top p name f)
   unfolding act_top
-  act_top-keeps p name None = search (looks-keeps, act_without-keeps)
-  act_top-keeps p name (Some f) = search (act_frame-keeps)
+  act_top-keeps p puts name None = search (looks-keeps, act_without-keeps)
+  act_top-keeps p puts name (Some f) = act_frame-keeps p puts name f f.onward
 
-  pub act-keeps : (p : Image) (name : Who) → Keeps R (act p name)
+  pub act-keeps : (p : Image) → Puts R p → (name : Who) → Keeps R (act p name)
   unfolding act
-  act-keeps p name = search (looks-keeps, act_top-keeps)
+  act-keeps p puts name = search (looks-keeps, act_top-keeps)

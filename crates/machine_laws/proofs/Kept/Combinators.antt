@@ -11,7 +11,7 @@ use Rattle.profile_machine.specs.Steps.{Step, Move, Done, done, goes_on_with, no
 use Rattle.profile_machine.specs.Operators.{Valued, ◌>>=◌}
 use Rattle.profile_machine.specs.Values.{Seen, seen_by}
 use Rattle.profile_machine.specs.Statements.{sees}
-use Rattle.machine_laws.proofs.Moves.{StepRelation, MoveRelation, Moves, lines_of}
+use Rattle.machine_laws.proofs.Moves.{StepRelation, MoveRelation, Moves, is_put, lines_of}
 
 -- ---- what it is to keep a relation
 
@@ -85,9 +85,12 @@ module _ {R : StepRelation} {Q : MoveRelation} (moves : Moves R Q) where
   unfolding Alters
   unchanged-alters w = moves.stays w
 
-  pub says-keeps : (part : Part) (line : Line) → Keeps R (says part line)
+  pub said-keeps : (part : Part) (line : Line) → ((w : World) → R w (record { part = part; line = line } ∷ []) w) → Keeps R (says part line)
   unfolding Keeps Kept
-  says-keeps part line w said = (record { part = part; line = line } ∷ [], refl, moves.says part line w)
+  said-keeps part line a w said = (record { part = part; line = line } ∷ [], refl, a w)
+
+  pub says-keeps : (part : Part) (line : Line) → is_put line ≡ false → Keeps R (says part line)
+  says-keeps part line no_put = said-keeps part line (λ w. moves.says part line w no_put)
 
   pub looks-keeps : (f : World → Step) → ((v : World) → Keeps R (f v)) → Keeps R (looks f)
   unfolding Keeps

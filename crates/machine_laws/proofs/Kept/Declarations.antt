@@ -1,4 +1,5 @@
 -- Declarations of objects: each step keeps a relation that its parts keep.
+use Rattle.std.proofs.Common.{refl}
 use Rattle.std.specs.Prelude.{ℕ, suc, not, List, [], ◌∷◌, Some, Ok, leb, length}
 use Rattle.ann_base.specs.declared.exceptions.Raised.TheVariants as exception
 use Rattle.profile_machine.specs.declared.world.lines.Line.TheVariants as line
@@ -71,7 +72,7 @@ module _ {R : StepRelation} {Q : MoveRelation} (moves : Moves R Q) where
 
   says_object-keeps : (p : Image) (l : Located) (u : ProtectedUnitNo) → Keeps R (says_object p l u)
   unfolding says_object
-  says_object-keeps p l u = looks-keeps moves _ (λ w. says-keeps moves Own (line.New (created.Object (record { 0 = w.drawn.objects })) (Some l.declared) (protected_unit_of p u).ceiling))
+  says_object-keeps p l u = looks-keeps moves _ (λ w. says-keeps moves Own (line.New (created.Object (record { 0 = w.drawn.objects })) (Some l.declared) (protected_unit_of p u).ceiling) refl)
 
   pub declare_protected-keeps : (p : Image) (name : Who) (s : StatementNo) (d : DeclNo) (u : ProtectedUnitNo) → Keeps R (declare_protected p name s d u)
   unfolding declare_protected

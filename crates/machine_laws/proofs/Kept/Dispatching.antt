@@ -23,7 +23,7 @@ module _ {R : StepRelation} {Q : MoveRelation} (moves : Moves R Q) where
 
   pub says_ready-keeps : (p : Image) (part : Part) (name : Who) (end : QueueEnd) → Keeps R (says_ready p part name end)
   unfolding says_ready
-  says_ready-keeps p part name end = looks-keeps moves _ (λ w. says-keeps moves part (line.Ready name (active p (task_of w name)) end (deadline_shown p (task_of w name))))
+  says_ready-keeps p part name end = looks-keeps moves _ (λ w. says-keeps moves part (line.Ready name (active p (task_of w name)) end (deadline_shown p (task_of w name))) refl)
 
   full_quantum-who : (b : Bool) (n : ℕ) (t : Task) → (cond b (record t { quantum = n }) t).who ≡ t.who
   full_quantum-who true n t = refl

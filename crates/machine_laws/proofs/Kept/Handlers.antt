@@ -53,7 +53,7 @@ module _ {R : StepRelation} {Q : MoveRelation} (moves : Moves R Q) where
 
   says_release-keeps : (part : Part) (h : HandlerOf) → Keeps R (says_release part h)
   unfolding says_release
-  says_release-keeps part h = looks-keeps moves _ (λ w. says-keeps moves part (line.Release w.drawn.releases h))
+  says_release-keeps part h = looks-keeps moves _ (λ w. says-keeps moves part (line.Release w.drawn.releases h) refl)
 
   pub wake_agent-keeps : (p : Image) (part : Part) (state : State) → Keeps R (wake_agent p part state)
   unfolding wake_agent

@@ -1,4 +1,5 @@
 -- The parts of an instant, and the instant: each step keeps a relation that its parts keep.
+use Rattle.std.proofs.Common.{◌≡◌, refl}
 use Rattle.std.specs.Prelude.{ℕ, zero, suc, ℤ, pos, int_le, Bool, true, false, List, [], ◌∷◌, Option, Some, None}
 use Rattle.ann_base.specs.declared.identities.CallNo.{CallNo}
 use Rattle.trace_text.specs.declared.events.Who.{Who}
@@ -6,6 +7,7 @@ use Rattle.trace_text.specs.declared.events.Who.TheVariants as who
 use Rattle.profile_machine.specs.declared.image.Image.{Image}
 use Rattle.profile_machine.specs.declared.run_data.Item.{Item}
 use Rattle.profile_machine.specs.declared.run_data.Item.TheVariants as item
+use Rattle.profile_machine.specs.declared.world.World.{World}
 use Rattle.profile_machine.specs.declared.world.tasks.Waiting.{Waiting}
 use Rattle.profile_machine.specs.declared.world.appointments.Due.{Due}
 use Rattle.profile_machine.specs.declared.world.appointments.Appointment.{Appointment}
@@ -16,8 +18,8 @@ use Rattle.profile_machine.specs.Steps.{Step, changes, nothing, settles, ◌▷�
 use Rattle.profile_machine.specs.Tasks.{task_of}
 use Rattle.profile_machine.specs.Appointments.{first_due}
 use Rattle.profile_machine.specs.Instant.{effect, is_over, effect_of_runner, finish_action, with_port, with_masked, with_kept_interrupt, interrupt_comes, deliver_kept_interrupt, script_item, with_script, take_item, items_due, script_items, take_delay, end_delay, time_out, come_due, take_due, all_due, appointments_due, events_due, moments_due, expire, expire_timer, no_timers_due, timers_due, run_out, no_budget_due, budgets_due, spend_quantum, quantum_spent, instant}
-use Rattle.machine_laws.proofs.Moves.{StepRelation, MoveRelation, Moves}
-use Rattle.machine_laws.proofs.Kept.Combinators.{Keeps, Leads, Alters, branch-keeps, branch-leads, changes-keeps, for_each-keeps, for_some-keeps, looks-keeps, nothing-keeps, says-keeps, settles-leads, then-keeps, then-leads, when-keeps, rests-leads, watches-leads}
+use Rattle.machine_laws.proofs.Moves.{StepRelation, MoveRelation, Moves, Puts}
+use Rattle.machine_laws.proofs.Kept.Combinators.{Keeps, From, Leads, Alters, branch-leads, changes-from, changes-keeps, for_each-keeps, for_some-keeps, keeps-from, looks-from, looks-keeps, nothing-keeps, says-keeps, settles-leads, then-from, then-keeps, then-leads, when-keeps, rests-leads, watches-leads}
 use Rattle.machine_laws.proofs.Kept.Tasks.{edit_task-alters}
 use Rattle.machine_laws.proofs.Kept.Dispatching.{to_tail-keeps, ready-keeps}
 use Rattle.machine_laws.proofs.Kept.Frames.{goes-keeps, open_sequence-keeps, open_if_ready-keeps}
@@ -30,17 +32,17 @@ use Rattle.machine_laws.proofs.Kept.Handlers.{release-keeps, interrupt-keeps, cl
 use Rattle.machine_laws.proofs.Kept.Act.{act-keeps}
 
 module _ {R : StepRelation} {Q : MoveRelation} (moves : Moves R Q) where
-  pub effect-keeps : (p : Image) (name : Who) → Keeps R (effect p name)
+  pub effect-keeps : (p : Image) → Puts R p → (name : Who) → Keeps R (effect p name)
   unfolding effect
-  effect-keeps p name = search (changes-keeps, edit_task-alters, then-keeps, act-keeps, open_if_ready-keeps, take_terminates-keeps, unwind_all-keeps) depth 7
+  effect-keeps p puts name = search (changes-keeps, edit_task-alters, then-keeps, act-keeps, open_if_ready-keeps, take_terminates-keeps, unwind_all-keeps) depth 7
 
-  effect_of_runner-leads : (p : Image) (by : Option Who) → Leads Q (effect_of_runner p by)
-  effect_of_runner-leads p None = rests-leads moves
-  effect_of_runner-leads p (Some name) =
+  effect_of_runner-leads : (p : Image) → Puts R p → (by : Option Who) → Leads Q (effect_of_runner p by)
+  effect_of_runner-leads p puts None = rests-leads moves
+  effect_of_runner-leads p puts (Some name) =
       watches-leads moves _ (λ w. branch-leads moves (is_over (task_of w name).ticks_left) (settles p (effect p name)) rests (search (settles-leads, effect-keeps)) (search (rests-leads)))
 
-  pub finish_action-leads : (p : Image) → Leads Q (finish_action p)
-  finish_action-leads p = search (watches-leads, effect_of_runner-leads)
+  pub finish_action-leads : (p : Image) → Puts R p → Leads Q (finish_action p)
+  finish_action-leads p puts = search (watches-leads, effect_of_runner-leads)
 
   with_port-alters : (n : ℕ) (value : ℤ) → Alters R (with_port n value)
   unfolding Alters
@@ -71,21 +73,21 @@ module _ {R : StepRelation} {Q : MoveRelation} (moves : Moves R Q) where
   script_item-keeps p (item.Mask n) = search (changes-keeps, with_masked-alters, then-keeps, says-keeps)
   script_item-keeps p (item.Unmask n) = search (changes-keeps, with_masked-alters, then-keeps, says-keeps, looks-keeps, deliver_kept_interrupt-keeps) depth 7
 
-  with_script-alters : (script : List (ℤ × Item)) → Alters R (with_script script)
-  unfolding Alters
-  with_script-alters script w = moves.cuts_script script w
+  take_item_if-from : (p : Image) (again : Step) (x : ℤ × Item) (xs : List (ℤ × Item)) (w : World) (test : Bool) → w.script ≡ x ∷ xs → int_le x.0 (pos w.time) ≡ test → Keeps R again → From R w (elim test as (λ _. Step) [ true ↦ changes (with_script xs) ▷ script_item p x.1 ▷ again | false ↦ nothing ])
+  take_item_if-from p again x xs w true is due kept =
+      then-from moves (changes (with_script xs)) (script_item p x.1 ▷ again) w (changes-from moves (with_script xs) w (moves.cuts_script x xs w is due))
+      (then-keeps moves (script_item p x.1) again (script_item-keeps p x.1) kept)
+  take_item_if-from p again x xs w false is due kept = keeps-from moves nothing w (nothing-keeps moves)
 
-  take_item-keeps : (p : Image) (now : ℕ) (again : Step) (script : List (ℤ × Item)) → Keeps R again → Keeps R (take_item p now again script)
-  take_item-keeps p now again [] kept = search (nothing-keeps)
-  take_item-keeps p now again (x ∷ xs) kept =
-      branch-keeps moves (int_le x.0 (pos now)) (changes (with_script xs) ▷ script_item p x.1 ▷ again) nothing
-      (then-keeps moves (changes (with_script xs)) _ (search (changes-keeps, with_script-alters)) (then-keeps moves (script_item p x.1) _ (script_item-keeps p x.1) kept)) (search (nothing-keeps))
+  take_item-from : (p : Image) (again : Step) (w : World) (script : List (ℤ × Item)) → w.script ≡ script → Keeps R again → From R w (take_item p w.time again script)
+  take_item-from p again w [] is kept = keeps-from moves nothing w (nothing-keeps moves)
+  take_item-from p again w (x ∷ xs) is kept = take_item_if-from p again x xs w (int_le x.0 (pos w.time)) is refl kept
 
   items_due-keeps : (fuel : ℕ) (p : Image) → Keeps R (items_due fuel p)
   unfolding items_due
   items_due-keeps zero p = search (nothing-keeps)
   items_due-keeps (suc fuel) p =
-      looks-keeps moves _ (λ w. take_item-keeps p w.time (items_due fuel p) w.script (items_due-keeps fuel p))
+      looks-from moves _ (λ w. take_item-from p (items_due fuel p) w w.script refl (items_due-keeps fuel p))
 
   pub script_items-leads : (p : Image) → Leads Q (script_items p)
   script_items-leads p = search (settles-leads, looks-keeps, items_due-keeps)
@@ -165,5 +167,5 @@ module _ {R : StepRelation} {Q : MoveRelation} (moves : Moves R Q) where
   pub quantum_spent-leads : (p : Image) → Leads Q (quantum_spent p)
   quantum_spent-leads p = search (settles-leads, looks-keeps, spend_quantum-keeps)
 
-  pub instant-leads : (p : Image) → Leads Q (instant p)
-  instant-leads p = search (finish_action-leads, then-leads, script_items-leads, events_due-leads, moments_due-leads, timers_due-leads, budgets_due-leads, quantum_spent-leads) depth 8
+  pub instant-leads : (p : Image) → Puts R p → Leads Q (instant p)
+  instant-leads p puts = search (finish_action-leads, then-leads, script_items-leads, events_due-leads, moments_due-leads, timers_due-leads, budgets_due-leads, quantum_spent-leads) depth 8

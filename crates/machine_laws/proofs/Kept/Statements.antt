@@ -1,6 +1,6 @@
 -- Simple and compound statements: each step keeps a relation that its parts keep.
 use Rattle.std.proofs.Common.{◌≡◌, refl}
-use Rattle.std.specs.Prelude.{ℤ, pos, int_lt, Bool, true, false, List, Option, Some, None, Ok}
+use Rattle.std.specs.Prelude.{ℕ, ℤ, pos, int_lt, Bool, true, false, List, Option, Some, None, Ok, Err}
 use Rattle.trace_text.specs.declared.events.Who.{Who}
 use Rattle.trace_text.specs.declared.events.Who.TheVariants as who
 use Rattle.profile_machine.specs.declared.image.Image.{Image}
@@ -12,23 +12,25 @@ use Rattle.profile_machine.specs.declared.expressions.ObjectName.{ObjectName}
 use Rattle.profile_machine.specs.declared.expressions.VariableName.{VariableName}
 use Rattle.profile_machine.specs.declared.statements.CaseAlternative.{CaseAlternative}
 use Rattle.profile_machine.specs.declared.statements.Piece.{Piece}
+use Rattle.profile_machine.specs.declared.statements.StatementForm.TheVariants as form
 use Rattle.profile_machine.specs.declared.values.Value.{Value}
 use Rattle.profile_machine.specs.declared.world.World.{World}
 use Rattle.profile_machine.specs.declared.world.scopes.Variable.{Variable}
 use Rattle.profile_machine.specs.declared.world.appointments.Due.TheVariants as due_for
 use Rattle.profile_machine.specs.declared.world.tasks.Waiting.TheVariants as waits_for
-use Rattle.profile_machine.specs.Program.{declaration_of, next_of}
+use Rattle.profile_machine.specs.Program.{declaration_of, form_of, next_of}
+use Rattle.profile_machine.specs.declared.world.lines.Line.TheVariants as line
 use Rattle.profile_machine.specs.declared.world.lines.Part.TheVariants.{Own, TheBlock}
-use Rattle.profile_machine.specs.Steps.{changes}
-use Rattle.profile_machine.specs.Frames.{goes}
+use Rattle.profile_machine.specs.Steps.{changes, says, ◌▷◌}
+use Rattle.profile_machine.specs.Frames.{given, goes}
 use Rattle.profile_machine.specs.Appointments.{appoint}
 use Rattle.profile_machine.specs.Dispatching.{block}
 use Rattle.profile_machine.specs.Operators.{Valued, ◌>>=◌}
 use Rattle.profile_machine.specs.Values.{Seen, seen_by, value, variable, object_cell}
 use Rattle.profile_machine.specs.CallEnds.{store}
-use Rattle.profile_machine.specs.Statements.{null, assign, cells_from, put_cells, copy_cells, array_copied, assign_array, if_statement, go_to_alternative, case_statement, while_turn, loop_cell, put, first_bound, last_bound, bounds_set, for_bounds, first_turn, advance, later_turn, exit_where, exit_statement, block_statement, raise_again, wait_until, delay_to, delay_until, put_line}
-use Rattle.machine_laws.proofs.Moves.{StepRelation, MoveRelation, Moves}
-use Rattle.machine_laws.proofs.Kept.Combinators.{Keeps, From, Alters, Gives, bind-gives, changes-keeps, keeps-from, looks-from, looks-keeps, nothing-keeps, ok-gives, says-keeps, sees-keeps, then-from, then-keeps}
+use Rattle.profile_machine.specs.Statements.{null, assign, cells_from, put_cells, copy_cells, array_copied, assign_array, if_statement, go_to_alternative, case_statement, while_turn, loop_cell, put, first_bound, last_bound, bounds_set, for_bounds, first_turn, advance, later_turn, exit_where, exit_statement, block_statement, raise_again, wait_until, delay_to, delay_until, text_of_pieces, put_line}
+use Rattle.machine_laws.proofs.Moves.{StepRelation, MoveRelation, Moves, Puts}
+use Rattle.machine_laws.proofs.Kept.Combinators.{Keeps, From, Alters, Gives, bind-gives, changes-keeps, keeps-from, looks-from, looks-keeps, nothing-keeps, ok-gives, said-keeps, sees-keeps, then-from, then-keeps}
 use Rattle.machine_laws.proofs.Kept.Frames.{given_world-from, goes-keeps, raises-keeps, exit_loop-keeps, given-keeps, raise_if-keeps, with_room-keeps}
 use Rattle.machine_laws.proofs.Kept.Dispatching.{to_tail-keeps, block-keeps}
 use Rattle.machine_laws.proofs.Kept.Scopes.{write_cell-alters, open_scope-alters}
@@ -157,6 +159,13 @@ module _ {R : StepRelation} {Q : MoveRelation} (moves : Moves R Q) where
   unfolding delay_until
   delay_until-keeps p name s until = search (looks-keeps, raise_if-keeps, given-keeps, goes-keeps, then-keeps, delay_to-keeps) depth 7
 
-  pub put_line-keeps : (p : Image) (name : Who) (s : StatementNo) (pieces : List Piece) → Keeps R (put_line p name s pieces)
+  put_text-keeps : (p : Image) → Puts R p → (name : Who) (s : StatementNo) (pieces : List Piece) (v : World) (text : Valued (List ℕ)) → form_of p s ≡ form.PutLine pieces → text_of_pieces (seen_by p v name) pieces ≡ text → Keeps R (given Own name text (λ text. goes name (next_of p s) ▷ says Own (line.Put name text)))
+  put_text-keeps p puts name s pieces v (Ok text) is e =
+      then-keeps moves (goes name (next_of p s)) (says Own (line.Put name text)) (goes-keeps moves name (next_of p s))
+      (said-keeps moves Own (line.Put name text) (λ w. puts.puts name s pieces text v w is e))
+  put_text-keeps p puts name s pieces v (Err raised) is e = raises-keeps moves Own name raised
+
+  pub put_line-keeps : (p : Image) → Puts R p → (name : Who) (s : StatementNo) (pieces : List Piece) → form_of p s ≡ form.PutLine pieces → Keeps R (put_line p name s pieces)
   unfolding put_line
-  put_line-keeps p name s pieces = search (sees-keeps, given-keeps, goes-keeps, then-keeps, says-keeps) depth 8
+  put_line-keeps p puts name s pieces is =
+      looks-keeps moves _ (λ v. put_text-keeps p puts name s pieces v (text_of_pieces (seen_by p v name) pieces) is refl)

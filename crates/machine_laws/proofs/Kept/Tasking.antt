@@ -47,7 +47,7 @@ use Rattle.machine_laws.proofs.Kept.Declarations.{set_thing-alters}
 module _ {R : StepRelation} {Q : MoveRelation} (moves : Moves R Q) where
   says_created-keeps : (d : DeclNo) (t : world.Task) → Keeps R (says_created d t)
   unfolding says_created
-  says_created-keeps d t = looks-keeps moves _ (λ w. says-keeps moves Own (line.New (created.Task (record { 0 = w.drawn.tasks - 1 })) (Some d) t.base))
+  says_created-keeps d t = looks-keeps moves _ (λ w. says-keeps moves Own (line.New (created.Task (record { 0 = w.drawn.tasks - 1 })) (Some d) t.base) refl)
 
   -- the new task, behind its creator's going on
   added_behind : (onward : Option StatementNo) (name : Who) (t : world.Task) (w : World) → t.who ≡ who.Task (record { 0 = w.drawn.tasks }) → R (edit_top name (goes_on onward) w) [] (add_task t (edit_top name (goes_on onward) w))

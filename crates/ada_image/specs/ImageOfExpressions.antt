@@ -58,7 +58,8 @@ use Rattle.ada_regions.specs.PredefinedUnits.{names_of_formals}
 use Rattle.ada_regions.specs.declared.table.Names.{Names}
 use Rattle.ada_regions.specs.Names.{denoted_by, kind_at, entity_denoted, entity_of}
 use Rattle.ada_regions.specs.Statics.{literal_value, negated, attribute_value}
-use Rattle.ada_image.specs.Making.{Making, Within, ◌>>=◌, pure, value_put}
+use Rattle.ada_image.specs.declared.making.Within.{Within}
+use Rattle.ada_image.specs.Making.{Making, ◌>>=◌, pure, value_put}
 use Rattle.ada_image.specs.Layout.{is_thing, subtype_is}
 
 -- ---- operators (4.5)
@@ -115,7 +116,7 @@ before_last i [] = None
 before_last i (j ∷ []) = Some i
 before_last i (j ∷ k ∷ rest) = before_last j (k ∷ rest)
 
-abbrev pub prefix_part : Name → Option Identifier
+unfoldable pub prefix_part : Name → Option Identifier
 prefix_part name = before_last name.parts.first name.parts.others
 
 -- the number of an object, a parameter or a component
@@ -136,26 +137,26 @@ object_number entity.Label = None
 abbrev pub is_around : Within → ℕ → Bool
 is_around within e = list_any (eqb e) within.units
 
-abbrev pub object_outside : Within → ℕ → Option DeclNo
+unfoldable pub object_outside : Within → ℕ → Option DeclNo
 object_outside within e = cond (is_around within e) None (and_then (kind_at within.names e) object_number)
 
 -- the object before the last part of a name; the unit in whose body the name stands is none, as in an expanded name (4.1.3)
-abbrev pub object_before : Within → Name → Option DeclNo
+unfoldable pub object_before : Within → Name → Option DeclNo
 object_before within name = and_then (prefix_part name) (λ i. and_then (entity_denoted within.names i.place) (object_outside within))
 
 -- the same, where the unit counts too
-abbrev pub named_before : Within → Name → Option DeclNo
+unfoldable pub named_before : Within → Name → Option DeclNo
 named_before within name =
     and_then (prefix_part name) (λ i. and_then (entity_denoted within.names i.place) (λ e. and_then (kind_at within.names e) object_number))
 
 abbrev pub no_declaration_no : DeclNo
 no_declaration_no = record { 0 = 0 }
 
-abbrev pub component_name : ComponentOwner → Option DeclNo → DeclNo → ObjectName
+unfoldable pub component_name : ComponentOwner → Option DeclNo → DeclNo → ObjectName
 component_name (owner.Protected u) prefix d = object.OwnComponent u d
 component_name (owner.Controlled c) prefix d = object.Component (unwrap_or prefix no_declaration_no) d
 
-abbrev pub object_of_kind : Within → Name → EntityKind → ObjectName
+unfoldable pub object_of_kind : Within → Name → EntityKind → ObjectName
 object_of_kind within name entity.Package = object.Declared no_declaration_no
 object_of_kind within name entity.Main = object.Declared no_declaration_no
 object_of_kind within name (entity.Mark s) = object.Declared no_declaration_no
@@ -169,33 +170,33 @@ object_of_kind within name (entity.Subprogram number is_function specified forma
 object_of_kind within name (entity.Entry number unit formals) = object.Declared no_declaration_no
 object_of_kind within name entity.Label = object.Declared no_declaration_no
 
-abbrev pub kind_named : Within → Name → Option EntityKind
+unfoldable pub kind_named : Within → Name → Option EntityKind
 kind_named within name = and_then (denoted_by within.names name) (λ d. and_then (entity_of d) (kind_at within.names))
 
-abbrev pub object_named : Within → Name → ObjectName
+unfoldable pub object_named : Within → Name → ObjectName
 object_named within name = unwrap_or (option_map (object_of_kind within name) (kind_named within name)) (object.Declared no_declaration_no)
 
 -- the object of an actual that stands for itself
-abbrev pub thing_named : Within → Name → DeclNo
+unfoldable pub thing_named : Within → Name → DeclNo
 thing_named within name = unwrap_or (and_then (kind_named within name) object_number) no_declaration_no
 
-abbrev pub thing_in : Within → Option Name → DeclNo
+unfoldable pub thing_in : Within → Option Name → DeclNo
 thing_in within name = unwrap_or (option_map (thing_named within) name) no_declaration_no
 
 -- ---- variables: an object, or an element of an array by its index
 
-abbrev pub index_made : Option (Making ExprNo) → Making (Option ExprNo)
+unfoldable pub index_made : Option (Making ExprNo) → Making (Option ExprNo)
 index_made None = pure None
 index_made (Some m) = do
   e ← m
   pure (Some e)
 
-abbrev pub variable_made : Within → Name → Option (Making ExprNo) → Making VariableName
+unfoldable pub variable_made : Within → Name → Option (Making ExprNo) → Making VariableName
 variable_made within name index = do
   i ← index_made index
   pure (record { object = object_named within name; index = i })
 
-abbrev pub variable_put : Within → Name → Option (Making ExprNo) → Making ExprNo
+unfoldable pub variable_put : Within → Name → Option (Making ExprNo) → Making ExprNo
 variable_put within name index = do
   v ← variable_made within name index
   value_put (valuation.Variable v)
@@ -209,17 +210,17 @@ known v = value_put (valuation.Known v)
 abbrev pub no_value : Making ExprNo
 no_value = known (value.Whole (pos 0))
 
-abbrev pub unary_made : UnaryOperator → Making ExprNo → Making ExprNo
+unfoldable pub unary_made : UnaryOperator → Making ExprNo → Making ExprNo
 unary_made operator operand = do
   e ← operand
   value_put (valuation.Unary operator e)
 
-abbrev pub binary_put : BinaryOperator → ExprNo → Making ExprNo → Making ExprNo
+unfoldable pub binary_put : BinaryOperator → ExprNo → Making ExprNo → Making ExprNo
 binary_put operator left right = do
   e ← right
   value_put (valuation.Binary operator left e)
 
-abbrev pub signed_made : Sign → Option Value → Making ExprNo → Making ExprNo
+unfoldable pub signed_made : Sign → Option Value → Making ExprNo → Making ExprNo
 signed_made sign.Plus literal operand = unary_made unary.Plus operand
 signed_made sign.Minus None operand = unary_made unary.Minus operand
 signed_made sign.Minus (Some v) operand = known (negated v)
@@ -229,15 +230,15 @@ sign_counts sign.Plus literal = 1
 sign_counts sign.Minus None = 1
 sign_counts sign.Minus (Some v) = 0
 
-abbrev pub count_of : EntityKind → Making ExprNo
+unfoldable pub count_of : EntityKind → Making ExprNo
 count_of (entity.Entry number unit formals) = value_put (valuation.Count number)
 count_of _ = no_value
 
-abbrev pub count_made : Option EntityKind → Making ExprNo
+unfoldable pub count_made : Option EntityKind → Making ExprNo
 count_made None = no_value
 count_made (Some kind) = count_of kind
 
-abbrev pub attribute_made : Within → Name → Attribute → Making ExprNo
+unfoldable pub attribute_made : Within → Name → Attribute → Making ExprNo
 attribute_made within name attribute.First = known (unwrap_or (attribute_value within.names name attribute.First) (value.Whole (pos 0)))
 attribute_made within name attribute.Last = known (unwrap_or (attribute_value within.names name attribute.Last) (value.Whole (pos 0)))
 attribute_made within name attribute.Image = no_value
@@ -246,10 +247,10 @@ attribute_made within name attribute.Identity = value_put (valuation.Thing (thin
 attribute_made within name attribute.Access = no_value
 
 -- an object by its name, or a value
-abbrev pub object_made : Within → Name → Option Subtype → DeclNo → Option (Making ExprNo) → Making ExprNo
+unfoldable pub object_made : Within → Name → Option Subtype → DeclNo → Option (Making ExprNo) → Making ExprNo
 object_made within name s d index = cond (subtype_is is_thing s) (value_put (valuation.Thing d)) (variable_put within name index)
 
-abbrev pub entity_made : Within → Name → Option (Making ExprNo) → EntityKind → Making ExprNo
+unfoldable pub entity_made : Within → Name → Option (Making ExprNo) → EntityKind → Making ExprNo
 entity_made within name index entity.Package = no_value
 entity_made within name index entity.Main = no_value
 entity_made within name index (entity.Mark s) = no_value
@@ -269,16 +270,16 @@ is_for number name at None = eqb at number
 is_for number name at (Some formal) = bytes_eq formal.text name
 
 module _ {E : Type 0} where
-  abbrev pub argument_from : ℕ → List ℕ → ℕ → List (Argument E) → Option E
+  unfoldable pub argument_from : ℕ → List ℕ → ℕ → List (Argument E) → Option E
   argument_from number name at [] = None
   argument_from number name at (a ∷ rest) = cond (is_for number name at a.formal) (Some a.value) (argument_from number name (suc at) rest)
 
-  abbrev pub arguments_from : ℕ → List (List ℕ) → List (Argument E) → List (Option E)
+  unfoldable pub arguments_from : ℕ → List (List ℕ) → List (Argument E) → List (Option E)
   arguments_from number [] arguments = []
   arguments_from number (name ∷ names) arguments = argument_from number name 0 arguments ∷ arguments_from (suc number) names arguments
 
   -- the actuals of formals with these names, in the order of the formals
-  abbrev pub actuals_for : List (List ℕ) → List (Argument E) → List (Option E)
+  unfoldable pub actuals_for : List (List ℕ) → List (Argument E) → List (Option E)
   actuals_for names arguments = arguments_from 0 names arguments
 
   abbrev pub first_argument : List (Argument E) → Option E
@@ -287,7 +288,7 @@ module _ {E : Type 0} where
 
 -- ---- predefined functions (D.2.6, D.5.1, D.8, D.14, D.15, C.7.1), given their actuals
 
-abbrev pub image_or_none : Option ExpressionImage → Within → Making ExprNo
+unfoldable pub image_or_none : Option ExpressionImage → Within → Making ExprNo
 image_or_none None within = no_value
 image_or_none (Some e) within = e.made within
 
@@ -299,28 +300,28 @@ abbrev pub second_actual : List (Option ExpressionImage) → Option ExpressionIm
 second_actual [] = None
 second_actual (e ∷ es) = first_actual es
 
-abbrev pub optional_made : Option ExpressionImage → Within → Making (Option ExprNo)
+unfoldable pub optional_made : Option ExpressionImage → Within → Making (Option ExprNo)
 optional_made None within = pure None
 optional_made (Some e) within = do
   number ← e.made within
   pure (Some number)
 
-abbrev pub span_made : ℤ → Option ExpressionImage → Within → Making ExprNo
+unfoldable pub span_made : ℤ → Option ExpressionImage → Within → Making ExprNo
 span_made ticks e within = do
   count ← image_or_none e within
   value_put (valuation.Span ticks count)
 
-abbrev pub same_ticks_made : Option ExpressionImage → Within → Making ExprNo
+unfoldable pub same_ticks_made : Option ExpressionImage → Within → Making ExprNo
 same_ticks_made e within = do
   span ← image_or_none e within
   value_put (valuation.SameTicks span)
 
-abbrev pub of_task_made : (Option ExprNo → Valuation) → Option ExpressionImage → Within → Making ExprNo
+unfoldable pub of_task_made : (Option ExprNo → Valuation) → Option ExpressionImage → Within → Making ExprNo
 of_task_made f e within = do
   task ← optional_made e within
   value_put (f task)
 
-abbrev pub port_made : Option ExpressionImage → Within → Making ExprNo
+unfoldable pub port_made : Option ExpressionImage → Within → Making ExprNo
 port_made e within = do
   port ← image_or_none e within
   value_put (valuation.PortValue port)
@@ -328,10 +329,10 @@ port_made e within = do
 abbrev pub name_in : Option ExpressionImage → Option Name
 name_in e = and_then e (λ x. x.name)
 
-abbrev pub of_thing_made : (DeclNo → Valuation) → Option ExpressionImage → Within → Making ExprNo
+unfoldable pub of_thing_made : (DeclNo → Valuation) → Option ExpressionImage → Within → Making ExprNo
 of_thing_made f e within = value_put (f (thing_in within (name_in e)))
 
-abbrev pub function_made : Operation → List (Option ExpressionImage) → Within → Making ExprNo
+unfoldable pub function_made : Operation → List (Option ExpressionImage) → Within → Making ExprNo
 function_made operations.PutLine es within = no_value
 function_made operations.Clock es within = value_put valuation.Clock
 function_made operations.Microseconds es within = span_made (pos 1) (first_actual es) within
@@ -371,7 +372,7 @@ is_operation (items.Truth b) = false
 is_operation (items.Exception raised) = false
 is_operation (items.Operation operation) = true
 
-abbrev pub calls_predefined : Option Denoted → Bool
+unfoldable pub calls_predefined : Option Denoted → Bool
 calls_predefined None = false
 calls_predefined (Some (denotes.Entity e)) = false
 calls_predefined (Some (denotes.Unit u)) = false
@@ -387,7 +388,7 @@ module _ {E : Type 0} (expression : E → ExpressionImage) where
   images_for [] = []
   images_for (e ∷ es) = image_for e ∷ images_for es
 
-  abbrev pub item_made : Predefined → List (Argument E) → Within → Making ExprNo
+  unfoldable pub item_made : Predefined → List (Argument E) → Within → Making ExprNo
   item_made (items.Mark s) arguments within = no_value
   item_made (items.Constant of_type v) arguments within = known v
   item_made (items.Truth b) arguments within = known (value.Truth b)
@@ -398,72 +399,72 @@ module _ {E : Type 0} (expression : E → ExpressionImage) where
   abbrev pub index_in : List (Argument E) → Within → Option (Making ExprNo)
   index_in arguments within = option_map (λ e. (expression e).made within) (first_argument arguments)
 
-  abbrev pub denoted_made : Name → List (Argument E) → Within → Option Denoted → Making ExprNo
+  unfoldable pub denoted_made : Name → List (Argument E) → Within → Option Denoted → Making ExprNo
   denoted_made name arguments within None = no_value
   denoted_made name arguments within (Some (denotes.Entity e)) =
       unwrap_or (option_map (entity_made within name (index_in arguments within)) (kind_at within.names e)) no_value
   denoted_made name arguments within (Some (denotes.Unit u)) = no_value
   denoted_made name arguments within (Some (denotes.Item u item)) = item_made item arguments within
 
-  abbrev pub named_made : Name → Option AttributeDesignator → List (Argument E) → Within → Making ExprNo
+  unfoldable pub named_made : Name → Option AttributeDesignator → List (Argument E) → Within → Making ExprNo
   named_made name None arguments within = denoted_made name arguments within (denoted_by within.names name)
   named_made name (Some a) arguments within = attribute_made within name a.attribute
 
-  abbrev pub signs_in_arguments : List (Argument E) → Names → ℕ
+  unfoldable pub signs_in_arguments : List (Argument E) → Names → ℕ
   signs_in_arguments [] n = 0
   signs_in_arguments (a ∷ rest) n = (expression a.value).signs n + signs_in_arguments rest n
 
-  abbrev pub call_counts : Option AttributeDesignator → Option Denoted → ℕ
+  unfoldable pub call_counts : Option AttributeDesignator → Option Denoted → ℕ
   call_counts None d = cond (calls_predefined d) 1 0
   call_counts (Some a) d = 0
 
-  abbrev pub signs_in_operands : List (Operand E) → Names → ℕ
+  unfoldable pub signs_in_operands : List (Operand E) → Names → ℕ
   signs_in_operands [] n = 0
   signs_in_operands (o ∷ os) n = suc ((expression o.relation).signs n + signs_in_operands os n)
 
-  abbrev pub signs_in_addends : List (Addend E) → Names → ℕ
+  unfoldable pub signs_in_addends : List (Addend E) → Names → ℕ
   signs_in_addends [] n = 0
   signs_in_addends (a ∷ rest) n = suc ((expression a.term).signs n + signs_in_addends rest n)
 
-  abbrev pub signs_in_factors : List (Multiplied E) → Names → ℕ
+  unfoldable pub signs_in_factors : List (Multiplied E) → Names → ℕ
   signs_in_factors [] n = 0
   signs_in_factors (m ∷ rest) n = suc ((expression m.factor).signs n + signs_in_factors rest n)
 
   -- operators of one level, from left to right
-  abbrev pub operands_made : BinaryOperator → ExprNo → List (Operand E) → Within → Making ExprNo
+  unfoldable pub operands_made : BinaryOperator → ExprNo → List (Operand E) → Within → Making ExprNo
   operands_made operator left [] within = pure left
   operands_made operator left (o ∷ os) within = do
     e ← binary_put operator left ((expression o.relation).made within)
     operands_made operator e os within
 
-  abbrev pub addends_made : ExprNo → List (Addend E) → Within → Making ExprNo
+  unfoldable pub addends_made : ExprNo → List (Addend E) → Within → Making ExprNo
   addends_made left [] within = pure left
   addends_made left (a ∷ rest) within = do
     e ← binary_put (adding_operator a.operator) left ((expression a.term).made within)
     addends_made e rest within
 
-  abbrev pub factors_made : ExprNo → List (Multiplied E) → Within → Making ExprNo
+  unfoldable pub factors_made : ExprNo → List (Multiplied E) → Within → Making ExprNo
   factors_made left [] within = pure left
   factors_made left (m ∷ rest) within = do
     e ← binary_put (multiplying_operator m.operator) left ((expression m.factor).made within)
     factors_made e rest within
 
-  abbrev pub logical_made : LogicalOperator → E → OneOrMore (Operand E) → Within → Making ExprNo
+  unfoldable pub logical_made : LogicalOperator → E → OneOrMore (Operand E) → Within → Making ExprNo
   logical_made operator first others within = do
     left ← (expression first).made within
     operands_made (logical_operator operator) left (others.first ∷ others.others) within
 
-  abbrev pub relational_made : E → RelationalOperator → E → Within → Making ExprNo
+  unfoldable pub relational_made : E → RelationalOperator → E → Within → Making ExprNo
   relational_made first operator second within = do
     left ← (expression first).made within
     binary_put (relational_operator operator) left ((expression second).made within)
 
-  abbrev pub adding_made : E → OneOrMore (Addend E) → Within → Making ExprNo
+  unfoldable pub adding_made : E → OneOrMore (Addend E) → Within → Making ExprNo
   adding_made first others within = do
     left ← (expression first).made within
     addends_made left (others.first ∷ others.others) within
 
-  abbrev pub multiplying_made : E → OneOrMore (Multiplied E) → Within → Making ExprNo
+  unfoldable pub multiplying_made : E → OneOrMore (Multiplied E) → Within → Making ExprNo
   multiplying_made first others within = do
     left ← (expression first).made within
     factors_made left (others.first ∷ others.others) within
@@ -530,12 +531,12 @@ image_layer e = form_image same_image e.form
 abbrev pub expression_image : Expression → ExpressionImage
 expression_image = fold-Expression ExpressionImage image_layer
 
-abbrev pub expression_made : Expression → Within → Making ExprNo
+unfoldable pub expression_made : Expression → Within → Making ExprNo
 expression_made e within = (expression_image e).made within
 
-abbrev pub signs_in : Within → Expression → ℕ
+unfoldable pub signs_in : Within → Expression → ℕ
 signs_in within e = (expression_image e).signs within.names
 
-abbrev pub signs_if : Within → Option Expression → ℕ
+unfoldable pub signs_if : Within → Option Expression → ℕ
 signs_if within None = 0
 signs_if within (Some e) = signs_in within e

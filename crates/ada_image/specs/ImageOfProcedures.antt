@@ -26,7 +26,8 @@ use Rattle.ada_regions.specs.declared.entities.EntityKind.TheVariants as entity
 use Rattle.ada_regions.specs.Words.{and_then, or_else}
 use Rattle.ada_regions.specs.PredefinedUnits.{names_of_formals}
 use Rattle.ada_regions.specs.Names.{entity_denoted, kind_at}
-use Rattle.ada_image.specs.Making.{Making, Within, ◌>>=◌, pure, action_put}
+use Rattle.ada_image.specs.declared.making.Within.{Within}
+use Rattle.ada_image.specs.Making.{Making, ◌>>=◌, pure, action_put}
 use Rattle.ada_image.specs.TypesOfExpressions.{is_span}
 use Rattle.ada_image.specs.ImageOfExpressions.{expression_image, expression_made, no_declaration_no, thing_in, kind_named, prefix_part, object_number, argument_from, actuals_for}
 use Rattle.ada_image.specs.ImageOfCalls.{no_variable, variable_in, value_or_none, put_line_put, not_built}
@@ -44,14 +45,14 @@ third_of [] = None
 third_of (e ∷ es) = second_of es
 
 -- the event, timer or budget that an actual names
-abbrev pub thing_of : Within → Option Expression → DeclNo
+unfoldable pub thing_of : Within → Option Expression → DeclNo
 thing_of within e = thing_in within (and_then e (λ x. (expression_image x).name))
 
-abbrev pub variable_of : Within → Option Expression → Making VariableName
+unfoldable pub variable_of : Within → Option Expression → Making VariableName
 variable_of within None = no_variable
 variable_of within (Some e) = variable_in within e
 
-abbrev pub optional_value : Within → Option Expression → Making (Option ExprNo)
+unfoldable pub optional_value : Within → Option Expression → Making (Option ExprNo)
 optional_value within None = pure None
 optional_value within (Some e) = do
   x ← expression_made e within
@@ -60,16 +61,16 @@ optional_value within (Some e) = do
 -- ---- handlers: `'Access` of a procedure of a protected object, or null
 
 -- the single object of the unit in whose body the name stands
-abbrev pub innermost_object : Within → List ℕ → Option DeclNo
+unfoldable pub innermost_object : Within → List ℕ → Option DeclNo
 innermost_object within [] = None
 innermost_object within (e ∷ es) = or_else (and_then (kind_at within.names e) object_number) (innermost_object within es)
 
-abbrev pub object_of_handler : Within → Name → Option DeclNo
+unfoldable pub object_of_handler : Within → Name → Option DeclNo
 object_of_handler within name =
     or_else (and_then (prefix_part name) (λ i. and_then (entity_denoted within.names i.place) (λ e. and_then (kind_at within.names e) object_number)))
     (innermost_object within within.units)
 
-abbrev pub handler_with : Within → Name → EntityKind → Option HandlerName
+unfoldable pub handler_with : Within → Name → EntityKind → Option HandlerName
 handler_with within name (entity.Subprogram number is_function specified formals unit) =
     Some (record { object = unwrap_or (object_of_handler within name) no_declaration_no; procedure = number })
 handler_with within name _ = None
@@ -87,7 +88,7 @@ handler_in_form within (form.Null place) = None
 handler_in_form within (form.Bracketed place inner) = None
 handler_in_form within (form.Named name a arguments) = and_then (kind_named within name) (handler_with within name)
 
-abbrev pub handler_of : Within → Option Expression → Option HandlerName
+unfoldable pub handler_of : Within → Option Expression → Option HandlerName
 handler_of within e = and_then e (λ x. handler_in_form within (out-Expression x).form)
 
 -- ---- Set_Handler: a span is In_Time, a moment At_Time; a formal's name tells too
@@ -99,10 +100,10 @@ formal_is name (Some i) = bytes_eq i.text name
 abbrev pub is_called : List ℕ → Argument Expression → Bool
 is_called name a = formal_is name a.formal
 
-abbrev pub moment_of : List (Argument Expression) → Option Expression
+unfoldable pub moment_of : List (Argument Expression) → Option Expression
 moment_of arguments = or_else (argument_from 1 (codes "at_time") 0 arguments) (argument_from 1 (codes "in_time") 0 arguments)
 
-abbrev pub is_in_time : Within → List (Argument Expression) → Bool
+unfoldable pub is_in_time : Within → List (Argument Expression) → Bool
 is_in_time within arguments = cond (list_any (is_called (codes "in_time")) arguments) true
     (cond (list_any (is_called (codes "at_time")) arguments) false (unwrap_or (option_map (is_span within.names) (moment_of arguments)) false))
 
@@ -110,46 +111,46 @@ abbrev pub setting_with : Bool → ExprNo → Setting
 setting_with true e = setting.In e
 setting_with false e = setting.At e
 
-abbrev pub setting_made : Within → List (Argument Expression) → Making Setting
+unfoldable pub setting_made : Within → List (Argument Expression) → Making Setting
 setting_made within arguments = do
   e ← value_or_none within (moment_of arguments)
   pure (setting_with (is_in_time within arguments) e)
 
-abbrev pub set_event_put : Within → List (Argument Expression) → List (Option Expression) → ℕ → Option StatementNo → Making (Option StatementNo)
+unfoldable pub set_event_put : Within → List (Argument Expression) → List (Option Expression) → ℕ → Option StatementNo → Making (Option StatementNo)
 set_event_put within arguments es signs next = do
   s ← setting_made within arguments
   action_put (action.SetEvent (thing_of within (first_of es)) s (handler_of within (third_of es))) signs next
 
-abbrev pub set_timer_put : Within → List (Argument Expression) → List (Option Expression) → ℕ → Option StatementNo → Making (Option StatementNo)
+unfoldable pub set_timer_put : Within → List (Argument Expression) → List (Option Expression) → ℕ → Option StatementNo → Making (Option StatementNo)
 set_timer_put within arguments es signs next = do
   s ← setting_made within arguments
   action_put (action.SetTimer (thing_of within (first_of es)) s (handler_of within (third_of es))) signs next
 
 -- ---- actions of a thing and a variable, of a thing and a value, of values
 
-abbrev pub cancel_put : (DeclNo → VariableName → StatementForm) → Within → List (Option Expression) → ℕ → Option StatementNo → Making (Option StatementNo)
+unfoldable pub cancel_put : (DeclNo → VariableName → StatementForm) → Within → List (Option Expression) → ℕ → Option StatementNo → Making (Option StatementNo)
 cancel_put f within es signs next = do
   v ← variable_of within (second_of es)
   action_put (f (thing_of within (first_of es)) v) signs next
 
-abbrev pub budget_put : (DeclNo → ExprNo → StatementForm) → Within → List (Option Expression) → ℕ → Option StatementNo → Making (Option StatementNo)
+unfoldable pub budget_put : (DeclNo → ExprNo → StatementForm) → Within → List (Option Expression) → ℕ → Option StatementNo → Making (Option StatementNo)
 budget_put f within es signs next = do
   e ← value_or_none within (second_of es)
   action_put (f (thing_of within (first_of es)) e) signs next
 
-abbrev pub task_put : (ExprNo → Option ExprNo → StatementForm) → Within → List (Option Expression) → ℕ → Option StatementNo → Making (Option StatementNo)
+unfoldable pub task_put : (ExprNo → Option ExprNo → StatementForm) → Within → List (Option Expression) → ℕ → Option StatementNo → Making (Option StatementNo)
 task_put f within es signs next = do
   e ← value_or_none within (first_of es)
   t ← optional_value within (second_of es)
   action_put (f e t) signs next
 
-abbrev pub values_put : (ExprNo → ExprNo → StatementForm) → Within → List (Option Expression) → ℕ → Option StatementNo → Making (Option StatementNo)
+unfoldable pub values_put : (ExprNo → ExprNo → StatementForm) → Within → List (Option Expression) → ℕ → Option StatementNo → Making (Option StatementNo)
 values_put f within es signs next = do
   a ← value_or_none within (first_of es)
   b ← value_or_none within (second_of es)
   action_put (f a b) signs next
 
-abbrev pub procedure_with : Within → Operation → List (Argument Expression) → List (Option Expression) → ℕ → Option StatementNo → Making (Option StatementNo)
+unfoldable pub procedure_with : Within → Operation → List (Argument Expression) → List (Option Expression) → ℕ → Option StatementNo → Making (Option StatementNo)
 procedure_with within operations.PutLine arguments es signs next = put_line_put within es signs next
 procedure_with within operations.Clock arguments es signs next = not_built next
 procedure_with within operations.Microseconds arguments es signs next = not_built next
@@ -183,5 +184,5 @@ procedure_with within operations.GetDeadline arguments es signs next = not_built
 procedure_with within operations.DelayUntilAndSetDeadline arguments es signs next = values_put action.DelayUntilAndSetDeadline within es signs next
 procedure_with within operations.PortValue arguments es signs next = not_built next
 
-abbrev pub procedure_put : Within → Operation → List (Argument Expression) → ℕ → Option StatementNo → Making (Option StatementNo)
+unfoldable pub procedure_put : Within → Operation → List (Argument Expression) → ℕ → Option StatementNo → Making (Option StatementNo)
 procedure_put within operation arguments signs next = procedure_with within operation arguments (actuals_for (names_of_formals operation) arguments) signs next

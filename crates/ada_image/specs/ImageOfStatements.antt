@@ -77,7 +77,11 @@ use Rattle.ada_regions.specs.declared.table.Names.{Names}
 use Rattle.ada_regions.specs.declared.table.NumberedScope.{NumberedScope}
 use Rattle.ada_regions.specs.Names.{denoted_by, kind_at, entity_denoted, last_part}
 use Rattle.ada_regions.specs.Statics.{static_value, subtype_of_name}
-use Rattle.ada_image.specs.Making.{Making, Within, OpenLoop, ◌>>=◌, ◌>>◌, pure, action_put, reserved, put_at, first_put, the_action, in_loop, in_construct, in_scope, in_handler}
+use Rattle.ada_image.specs.declared.making.Within.{Within}
+use Rattle.ada_image.specs.declared.making.SequencePlace.{SequencePlace}
+use Rattle.ada_image.specs.declared.making.SequencePlace.TheVariants as sequence_place
+use Rattle.ada_image.specs.declared.making.OpenLoop.{OpenLoop}
+use Rattle.ada_image.specs.Making.{Making, ◌>>=◌, ◌>>◌, pure, action_put, reserved, put_at, first_put, the_action, in_loop, in_construct, in_scope, in_handler}
 use Rattle.ada_image.specs.Layout.{is_array, is_kept, subtype_is, scope_no}
 use Rattle.ada_image.specs.ImageOfExpressions.{expression_made, signs_in, signs_if, no_declaration_no, object_named, thing_named, thing_in, expression_image, kind_named}
 use Rattle.ada_image.specs.ImageOfCalls.{target_made, FunctionCall, function_call, function_call_put, owner_of_entry}
@@ -85,27 +89,27 @@ use Rattle.ada_image.specs.CallStatements.{call_statement_put, signs_in_actuals}
 
 -- ---- scopes by the places of their constructs
 
-abbrev pub position_of_scope : ℕ → Place → List NumberedScope → ℕ
+unfoldable pub position_of_scope : ℕ → Place → List NumberedScope → ℕ
 position_of_scope number place [] = 0
 position_of_scope number place (s ∷ ss) = cond (same_place s.place place) number (position_of_scope (suc number) place ss)
 
-abbrev pub scope_at : Names → Place → ℕ
+unfoldable pub scope_at : Names → Place → ℕ
 scope_at n place = position_of_scope 0 place n.scopes
 
 -- ---- assignments (5.2): of a scalar, a whole array or a controlled object, or the value of a function's call
 
-abbrev pub array_name : Within → Option Name → ObjectName
+unfoldable pub array_name : Within → Option Name → ObjectName
 array_name within name = unwrap_or (option_map (object_named within) name) (object.Declared no_declaration_no)
 
-abbrev pub array_assigned : Within → Assignment → ℕ → Option StatementNo → Making (Option StatementNo)
+unfoldable pub array_assigned : Within → Assignment → ℕ → Option StatementNo → Making (Option StatementNo)
 array_assigned within a signs next =
     action_put (action.AssignArray (object_named within a.target) (array_name within (expression_image a.value).name)) signs next
 
-abbrev pub controlled_assigned : Within → Assignment → Option StatementNo → Making (Option StatementNo)
+unfoldable pub controlled_assigned : Within → Assignment → Option StatementNo → Making (Option StatementNo)
 controlled_assigned within a next =
     action_put (action.AssignControlled (thing_named within a.target) (thing_in within (expression_image a.value).name)) 0 next
 
-abbrev pub value_assigned : Within → Assignment → Option FunctionCall → ℕ → Option StatementNo → Making (Option StatementNo)
+unfoldable pub value_assigned : Within → Assignment → Option FunctionCall → ℕ → Option StatementNo → Making (Option StatementNo)
 value_assigned within a None signs next = do
   target ← target_made within a.target a.index
   value ← expression_made a.value within
@@ -114,15 +118,15 @@ value_assigned within a (Some c) signs next = do
   target ← target_made within a.target a.index
   function_call_put within c (destination.Variable target) signs next
 
-abbrev pub assigned_whole : Within → Assignment → Option Subtype → ℕ → Option StatementNo → Making (Option StatementNo)
+unfoldable pub assigned_whole : Within → Assignment → Option Subtype → ℕ → Option StatementNo → Making (Option StatementNo)
 assigned_whole within a s signs next = cond (subtype_is is_kept s) (controlled_assigned within a next)
     (cond (subtype_is is_array s) (array_assigned within a signs next) (value_assigned within a (function_call within a.value) signs next))
 
-abbrev pub assigned : Within → Assignment → Option Expression → ℕ → Option StatementNo → Making (Option StatementNo)
+unfoldable pub assigned : Within → Assignment → Option Expression → ℕ → Option StatementNo → Making (Option StatementNo)
 assigned within a None signs next = assigned_whole within a (subtype_of_name within.names a.target) signs next
 assigned within a (Some i) signs next = value_assigned within a (function_call within a.value) signs next
 
-abbrev pub assignment_put : Within → Assignment → Option StatementNo → Making (Option StatementNo)
+unfoldable pub assignment_put : Within → Assignment → Option StatementNo → Making (Option StatementNo)
 assignment_put within a next = assigned within a a.index (signs_if within a.index + signs_in within a.value) next
 
 -- ---- simple statements
@@ -131,7 +135,7 @@ abbrev pub delay_form : Bool → ExprNo → StatementForm
 delay_form true e = action.DelayUntil e
 delay_form false e = action.Delay e
 
-abbrev pub delay_put : Within → Delay → Option StatementNo → Making (Option StatementNo)
+unfoldable pub delay_put : Within → Delay → Option StatementNo → Making (Option StatementNo)
 delay_put within d next = do
   e ← expression_made d.value within
   action_put (delay_form d.until e) (signs_in within d.value) next
@@ -139,13 +143,13 @@ delay_put within d next = do
 abbrev pub no_function : SubprogramNo
 no_function = record { 0 = 0 }
 
-abbrev pub value_returned : Within → SubprogramNo → Expression → Option FunctionCall → Option StatementNo → Making (Option StatementNo)
+unfoldable pub value_returned : Within → SubprogramNo → Expression → Option FunctionCall → Option StatementNo → Making (Option StatementNo)
 value_returned within f e None next = do
   value ← expression_made e within
   action_put (action.ReturnValue f value) (signs_in within e) next
 value_returned within f e (Some c) next = function_call_put within c (destination.Return f) (signs_in within e) next
 
-abbrev pub return_put : Within → Option Expression → Option StatementNo → Making (Option StatementNo)
+unfoldable pub return_put : Within → Option Expression → Option StatementNo → Making (Option StatementNo)
 return_put within None next = action_put action.Return 0 next
 return_put within (Some e) next = value_returned within (unwrap_or within.function no_function) e (function_call within e) next
 
@@ -164,22 +168,22 @@ raised_kind (entity.Subprogram number is_function specified formals unit) = rais
 raised_kind (entity.Entry number unit formals) = raised.Program
 raised_kind entity.Label = raised.Program
 
-abbrev pub raised_item : Predefined → Raised
+unfoldable pub raised_item : Predefined → Raised
 raised_item (items.Mark s) = raised.Program
 raised_item (items.Constant of_type value) = raised.Program
 raised_item (items.Truth b) = raised.Program
 raised_item (items.Exception e) = e
 raised_item (items.Operation operation) = raised.Program
 
-abbrev pub exception_denoted : Names → Denoted → Raised
+unfoldable pub exception_denoted : Names → Denoted → Raised
 exception_denoted n (denotes.Entity e) = unwrap_or (option_map raised_kind (kind_at n e)) raised.Program
 exception_denoted n (denotes.Unit u) = raised.Program
 exception_denoted n (denotes.Item u item) = raised_item item
 
-abbrev pub exception_named : Within → Name → Raised
+unfoldable pub exception_named : Within → Name → Raised
 exception_named within name = unwrap_or (option_map (exception_denoted within.names) (denoted_by within.names name)) raised.Program
 
-abbrev pub raise_put : Within → Option Name → Option StatementNo → Making (Option StatementNo)
+unfoldable pub raise_put : Within → Option Name → Option StatementNo → Making (Option StatementNo)
 raise_put within None next = action_put (action.RaiseAgain (scope_no (unwrap_or within.handling 0))) 0 next
 raise_put within (Some name) next = action_put (action.Raise (exception_named within name)) 0 next
 
@@ -189,14 +193,14 @@ is_label None label = false
 is_label (Some e) None = false
 is_label (Some e) (Some label) = eqb label e
 
-abbrev pub has_label : Option ℕ → OpenLoop → Bool
+unfoldable pub has_label : Option ℕ → OpenLoop → Bool
 has_label e l = is_label e l.label
 
 abbrev pub innermost_loop : List OpenLoop → Option OpenLoop
 innermost_loop [] = None
 innermost_loop (l ∷ ls) = Some l
 
-abbrev pub loop_left : Within → Option Identifier → Option OpenLoop
+unfoldable pub loop_left : Within → Option Identifier → Option OpenLoop
 loop_left within None = innermost_loop within.loops
 loop_left within (Some i) = find (has_label (entity_denoted within.names i.place)) within.loops
 
@@ -204,31 +208,31 @@ abbrev pub loop_statement : Option OpenLoop → StatementNo
 loop_statement None = record { 0 = 0 }
 loop_statement (Some l) = l.statement
 
-abbrev pub condition_made : Within → Option Expression → Making (Option ExprNo)
+unfoldable pub condition_made : Within → Option Expression → Making (Option ExprNo)
 condition_made within None = pure None
 condition_made within (Some e) = do
   c ← expression_made e within
   pure (Some c)
 
-abbrev pub exit_put : Within → Exit → Option StatementNo → Making (Option StatementNo)
+unfoldable pub exit_put : Within → Exit → Option StatementNo → Making (Option StatementNo)
 exit_put within e next = do
   c ← condition_made within e.condition
   action_put (action.Exit c (loop_statement (loop_left within e.loop_name))) (signs_if within e.condition) next
 
 -- ---- choices (5.4, 11.2)
 
-abbrev pub static_or_zero : Within → Expression → Value
+unfoldable pub static_or_zero : Within → Expression → Value
 static_or_zero within e = unwrap_or (static_value within.names e) (value.Whole (pos 0))
 
-abbrev pub choice_made : Within → Choice → CaseChoice
+unfoldable pub choice_made : Within → Choice → CaseChoice
 choice_made within (choice.Value v) = case_choice.Single (static_or_zero within v)
 choice_made within (choice.Range low high) = case_choice.Range (static_or_zero within low) (static_or_zero within high)
 choice_made within (choice.Others place) = case_choice.Others
 
-abbrev pub choices_made : Within → OneOrMore Choice → List CaseChoice
+unfoldable pub choices_made : Within → OneOrMore Choice → List CaseChoice
 choices_made within cs = choice_made within cs.first ∷ map (choice_made within) cs.others
 
-abbrev pub handled_made : Within → HandledExceptions → List ExceptionChoice
+unfoldable pub handled_made : Within → HandledExceptions → List ExceptionChoice
 handled_made within (exceptions.Named names) =
     exception_choice.Named (exception_named within names.first) ∷ map (λ name. exception_choice.Named (exception_named within name)) names.others
 handled_made within (exceptions.Others place) = exception_choice.Others ∷ []
@@ -246,10 +250,10 @@ entry_of_kind _ = None
 abbrev pub no_entry : EntryNo
 no_entry = record { 0 = 0 }
 
-abbrev pub entry_at : Within → Place → EntryNo
+unfoldable pub entry_at : Within → Place → EntryNo
 entry_at within place = unwrap_or (and_then (entity_denoted within.names place) (λ e. and_then (kind_at within.names e) entry_of_kind)) no_entry
 
-abbrev pub abort_put : Within → OneOrMore Name → Option StatementNo → Making (Option StatementNo)
+unfoldable pub abort_put : Within → OneOrMore Name → Option StatementNo → Making (Option StatementNo)
 abort_put within tasks next = action_put (action.Abort (thing_named within tasks.first ∷ map (thing_named within) tasks.others)) 0 next
 
 abbrev pub unit_of_kind : EntityKind → Option EntryUnit
@@ -259,69 +263,61 @@ unit_of_kind _ = None
 abbrev pub no_unit : EntryUnit
 no_unit = entry_unit.Task (record { 0 = 0 })
 
-abbrev pub unit_of_entry : Within → Name → EntryUnit
+unfoldable pub unit_of_entry : Within → Name → EntryUnit
 unit_of_entry within name = unwrap_or (and_then (kind_named within name) unit_of_kind) no_unit
 
-abbrev pub requeue_put : Within → Name → Bool → Option StatementNo → Making (Option StatementNo)
+unfoldable pub requeue_put : Within → Name → Bool → Option StatementNo → Making (Option StatementNo)
 requeue_put within name with_abort next =
     action_put (action.Requeue (entry_at within (last_part name).place) (owner_of_entry within name (unit_of_entry within name)) with_abort) 0 next
 
 abbrev pub guard_of : Option Guard → Option Expression
 guard_of guard = option_map (λ g. g.condition) guard
 
-abbrev pub signs_in_trigger : Within → Trigger → ℕ
+unfoldable pub signs_in_trigger : Within → Trigger → ℕ
 signs_in_trigger within (trigger.Call c) = signs_in_actuals within c.arguments
 signs_in_trigger within (trigger.Delay d) = signs_in within d.value
 
 -- ---- sequences: what is made of one depends on where it stands
 
-pub data SequencePlace : Type 0 where
-  -- the statements of a compound statement
-  statements_alone : SequencePlace
-  -- statements and handlers behind declarations whose tasks they activate, if any (by the number of their part)
-  behind_declarations : Option ℕ → SequencePlace
-  -- all of a body or block; a task's has the end of its activation
-  as_body : Bool → SequencePlace
-
 abbrev pub SequenceMaking : Type 0
 SequenceMaking = SequencePlace → Within → Option StatementNo → Making (Option StatementNo)
 
 module _ {Q : Type 0} (sequence : Q → SequenceMaking) where
-  abbrev pub inside : Q → Within → Option StatementNo → Making (Option StatementNo)
-  inside q within next = sequence q statements_alone within next
+  unfoldable pub inside : Q → Within → Option StatementNo → Making (Option StatementNo)
+  inside q within next = sequence q sequence_place.StatementsAlone within next
 
-  abbrev pub inside_if : Option Q → Within → Option StatementNo → Making (Option StatementNo)
+  unfoldable pub inside_if : Option Q → Within → Option StatementNo → Making (Option StatementNo)
   inside_if None within next = pure next
   inside_if (Some q) within next = inside q within next
 
   -- ---- if and case (5.3, 5.4)
 
-  abbrev pub branch_put : Within → Expression → Q → Option StatementNo → Option StatementNo → Making (Option StatementNo)
+  unfoldable pub branch_put : Within → Expression → Q → Option StatementNo → Option StatementNo → Making (Option StatementNo)
   branch_put within c q otherwise next = do
     first ← inside q within next
     e ← expression_made c within
     action_put (action.If e (the_action first) otherwise) (signs_in within c) next
 
-  abbrev pub elsifs_put : Within → List (Elsif Q) → Option StatementNo → Option StatementNo → Making (Option StatementNo)
+  unfoldable pub elsifs_put : Within → List (Elsif Q) → Option StatementNo → Option StatementNo → Making (Option StatementNo)
   elsifs_put within [] otherwise next = pure otherwise
   elsifs_put within (e ∷ es) otherwise next = do
     later ← elsifs_put within es otherwise next
     branch_put within e.condition e.statements later next
 
-  abbrev pub if_put : Within → If Q → Option StatementNo → Making (Option StatementNo)
+  unfoldable pub if_put : Within → If Q → Option StatementNo → Making (Option StatementNo)
   if_put within i next = do
     otherwise ← inside_if i.otherwise within next
     later ← elsifs_put within i.elsifs otherwise next
     branch_put within i.condition i.statements later next
 
-  abbrev pub alternatives_put : Within → List (CaseAlternative Q) → Option StatementNo → Making (List CaseActions)
+  unfoldable pub alternatives_put : Within → List (CaseAlternative Q) → Option StatementNo → Making (List CaseActions)
   alternatives_put within [] next = pure []
   alternatives_put within (a ∷ rest) next = do
     first ← inside a.statements within next
     others ← alternatives_put within rest next
     pure (record { choices = choices_made within a.choices; first = the_action first } ∷ others)
 
-  abbrev pub case_put : Within → Case Q → Option StatementNo → Making (Option StatementNo)
+  unfoldable pub case_put : Within → Case Q → Option StatementNo → Making (Option StatementNo)
   case_put within c next = do
     alternatives ← alternatives_put within (c.alternatives.first ∷ c.alternatives.others) next
     selector ← expression_made c.selector within
@@ -329,29 +325,29 @@ module _ {Q : Type 0} (sequence : Q → SequenceMaking) where
 
   -- ---- loops (5.5): the body leads back to the loop's statement
 
-  abbrev pub label_of : Within → Loop Q → Option ℕ
+  unfoldable pub label_of : Within → Loop Q → Option ℕ
   label_of within l = and_then l.label (λ x. entity_denoted within.names x.name.place)
 
-  abbrev pub loop_body : Within → Loop Q → StatementNo → StatementNo → Making (Option StatementNo)
+  unfoldable pub loop_body : Within → Loop Q → StatementNo → StatementNo → Making (Option StatementNo)
   loop_body within l s turn = inside l.statements (in_loop (label_of within l) s within) (Some turn)
 
-  abbrev pub forever_put : Within → Loop Q → Option StatementNo → Making (Option StatementNo)
+  unfoldable pub forever_put : Within → Loop Q → Option StatementNo → Making (Option StatementNo)
   forever_put within l next = do
     s ← reserved
     body ← loop_body within l s s
     put_at s (action.Loop (the_action body) within.construct) 0 next
 
-  abbrev pub while_put : Within → Loop Q → Expression → Option StatementNo → Making (Option StatementNo)
+  unfoldable pub while_put : Within → Loop Q → Expression → Option StatementNo → Making (Option StatementNo)
   while_put within l c next = do
     s ← reserved
     body ← loop_body within l s s
     e ← expression_made c within
     put_at s (action.While e (the_action body) within.construct) (signs_in within c) next
 
-  abbrev pub parameter_of : Within → Identifier → DeclNo
+  unfoldable pub parameter_of : Within → Identifier → DeclNo
   parameter_of within i = unwrap_or (and_then (entity_denoted within.names i.place) (λ e. and_then (kind_at within.names e) loop_parameter_number)) no_declaration_no
 
-  abbrev pub for_put : Within → Loop Q → DeclNo → Bool → Expression → Expression → Option StatementNo → Making (Option StatementNo)
+  unfoldable pub for_put : Within → Loop Q → DeclNo → Bool → Expression → Expression → Option StatementNo → Making (Option StatementNo)
   for_put within l d reverse low high next = do
     s ← reserved
     first ← reserved
@@ -363,26 +359,26 @@ module _ {Q : Type 0} (sequence : Q → SequenceMaking) where
     b ← expression_made high within
     put_at s (action.For d reverse a b first within.construct) (signs_in within low + signs_in within high) next
 
-  abbrev pub iteration_put : Within → Loop Q → Iteration → Option StatementNo → Making (Option StatementNo)
+  unfoldable pub iteration_put : Within → Loop Q → Iteration → Option StatementNo → Making (Option StatementNo)
   iteration_put within l iteration.Forever next = forever_put within l next
   iteration_put within l (iteration.While place c) next = while_put within l c next
   iteration_put within l (iteration.For place i reverse low high) next = for_put within l (parameter_of within i) reverse low high next
 
-  abbrev pub loop_put : Within → Loop Q → Option StatementNo → Making (Option StatementNo)
+  unfoldable pub loop_put : Within → Loop Q → Option StatementNo → Making (Option StatementNo)
   loop_put within l next = iteration_put within l l.iteration next
 
   -- ---- blocks (5.6)
 
-  abbrev pub block_put : Within → Block Q → Option StatementNo → Making (Option StatementNo)
+  unfoldable pub block_put : Within → Block Q → Option StatementNo → Making (Option StatementNo)
   block_put within b next = do
     s ← reserved
-    first ← sequence b.sequence (as_body false) (in_construct s (in_scope (scope_at within.names b.place) within)) None
+    first ← sequence b.sequence (sequence_place.AsBody false) (in_construct s (in_scope (scope_at within.names b.place) within)) None
     first_put (scope_at within.names b.place) first
     put_at s (action.Block (scope_no (scope_at within.names b.place))) 0 next
 
   -- ---- handlers (11.2)
 
-  abbrev pub handlers_put : Within → List (Handler Q) → Option StatementNo → Making (List ExceptionHandler)
+  unfoldable pub handlers_put : Within → List (Handler Q) → Option StatementNo → Making (List ExceptionHandler)
   handlers_put within [] next = pure []
   handlers_put within (h ∷ hs) next = do
     first ← inside h.statements (in_handler within) next
@@ -391,11 +387,11 @@ module _ {Q : Type 0} (sequence : Q → SequenceMaking) where
 
   -- ---- accepts (9.5.2): without statements nothing stands in its scope
 
-  abbrev pub accept_body_put : Within → StatementNo → ℕ → Option (AcceptBody Q) → Making (Option StatementNo)
+  unfoldable pub accept_body_put : Within → StatementNo → ℕ → Option (AcceptBody Q) → Making (Option StatementNo)
   accept_body_put within s scope None = pure None
-  accept_body_put within s scope (Some b) = sequence b.sequence (behind_declarations None) (in_construct s (in_scope scope within)) None
+  accept_body_put within s scope (Some b) = sequence b.sequence (sequence_place.BehindDeclarations None) (in_construct s (in_scope scope within)) None
 
-  abbrev pub accept_put : Within → Accept Q → Option StatementNo → Making (Option StatementNo)
+  unfoldable pub accept_put : Within → Accept Q → Option StatementNo → Making (Option StatementNo)
   accept_put within a next = do
     s ← reserved
     first ← accept_body_put within s (scope_at within.names a.place) a.body
@@ -404,7 +400,7 @@ module _ {Q : Type 0} (sequence : Q → SequenceMaking) where
 
   -- ---- selects (9.7): an accept, a delay and a call have statements of their own, which lead to those behind them
 
-  abbrev pub alternative_put : Within → Alternative Q → Option StatementNo → Making SelectKind
+  unfoldable pub alternative_put : Within → Alternative Q → Option StatementNo → Making SelectKind
   alternative_put within (alternative.Accept a statements) next = do
     behind ← inside_if statements within next
     s ← accept_put within a behind
@@ -415,74 +411,74 @@ module _ {Q : Type 0} (sequence : Q → SequenceMaking) where
     pure (select_kind.Delay (the_action s))
   alternative_put within (alternative.Terminate place) next = pure select_kind.Terminate
 
-  abbrev pub select_alternative_put : Within → SelectAlternative Q → Option StatementNo → Making GuardedAlternative
+  unfoldable pub select_alternative_put : Within → SelectAlternative Q → Option StatementNo → Making GuardedAlternative
   select_alternative_put within a next = do
     guard ← condition_made within (guard_of a.guard)
     kind ← alternative_put within a.alternative next
     pure (record { guard = guard; kind = kind })
 
-  abbrev pub select_alternatives_put : Within → List (SelectAlternative Q) → Option StatementNo → Making (List GuardedAlternative)
+  unfoldable pub select_alternatives_put : Within → List (SelectAlternative Q) → Option StatementNo → Making (List GuardedAlternative)
   select_alternatives_put within [] next = pure []
   select_alternatives_put within (a ∷ rest) next = do
     one ← select_alternative_put within a next
     others ← select_alternatives_put within rest next
     pure (one ∷ others)
 
-  abbrev pub signs_in_alternative : Within → Alternative Q → ℕ
+  unfoldable pub signs_in_alternative : Within → Alternative Q → ℕ
   signs_in_alternative within (alternative.Accept a statements) = 0
   signs_in_alternative within (alternative.Delay d statements) = signs_in within d.value
   signs_in_alternative within (alternative.Terminate place) = 0
 
-  abbrev pub signs_in_alternatives : Within → List (SelectAlternative Q) → ℕ
+  unfoldable pub signs_in_alternatives : Within → List (SelectAlternative Q) → ℕ
   signs_in_alternatives within [] = 0
   signs_in_alternatives within (a ∷ rest) =
       signs_if within (guard_of a.guard) + (signs_in_alternative within a.alternative + signs_in_alternatives within rest)
 
-  abbrev pub else_put : Within → Option Q → Option StatementNo → Making (Option StatementNo)
+  unfoldable pub else_put : Within → Option Q → Option StatementNo → Making (Option StatementNo)
   else_put within None next = pure None
   else_put within (Some q) next = inside q within next
 
-  abbrev pub selective_accept_put : Within → SelectiveAccept Q → Option StatementNo → Making (Option StatementNo)
+  unfoldable pub selective_accept_put : Within → SelectiveAccept Q → Option StatementNo → Making (Option StatementNo)
   selective_accept_put within s next = do
     alternatives ← select_alternatives_put within (s.alternatives.first ∷ s.alternatives.others) next
     otherwise ← else_put within s.otherwise next
     action_put (action.SelectiveAccept alternatives otherwise) (signs_in_alternatives within (s.alternatives.first ∷ s.alternatives.others)) next
 
-  abbrev pub call_before : Within → Call → Option Q → Option StatementNo → Making (Option StatementNo)
+  unfoldable pub call_before : Within → Call → Option Q → Option StatementNo → Making (Option StatementNo)
   call_before within c statements next = do
     behind ← inside_if statements within next
     call_statement_put within c.name c.arguments behind
 
-  abbrev pub delay_before : Within → Delay → Option Q → Option StatementNo → Making (Option StatementNo)
+  unfoldable pub delay_before : Within → Delay → Option Q → Option StatementNo → Making (Option StatementNo)
   delay_before within d statements next = do
     behind ← inside_if statements within next
     delay_put within d behind
 
-  abbrev pub timed_call_put : Within → TimedEntryCall Q → Option StatementNo → Making (Option StatementNo)
+  unfoldable pub timed_call_put : Within → TimedEntryCall Q → Option StatementNo → Making (Option StatementNo)
   timed_call_put within t next = do
     call ← call_before within t.call t.statements next
     delay ← delay_before within t.delay t.delay_statements next
     action_put (action.TimedCall (the_action call) (the_action delay)) (signs_in_actuals within t.call.arguments + signs_in within t.delay.value) next
 
-  abbrev pub conditional_call_put : Within → ConditionalEntryCall Q → Option StatementNo → Making (Option StatementNo)
+  unfoldable pub conditional_call_put : Within → ConditionalEntryCall Q → Option StatementNo → Making (Option StatementNo)
   conditional_call_put within c next = do
     call ← call_before within c.call c.statements next
     otherwise ← inside c.otherwise within next
     action_put (action.ConditionalCall (the_action call) (the_action otherwise)) (signs_in_actuals within c.call.arguments) next
 
-  abbrev pub trigger_put : Within → Trigger → Option Q → Option StatementNo → Making (Option StatementNo)
+  unfoldable pub trigger_put : Within → Trigger → Option Q → Option StatementNo → Making (Option StatementNo)
   trigger_put within (trigger.Call c) statements next = call_before within c statements next
   trigger_put within (trigger.Delay d) statements next = delay_before within d statements next
 
   -- what is aborted ends inside the select
-  abbrev pub asynchronous_put : Within → AsynchronousSelect Q → Option StatementNo → Making (Option StatementNo)
+  unfoldable pub asynchronous_put : Within → AsynchronousSelect Q → Option StatementNo → Making (Option StatementNo)
   asynchronous_put within a next = do
     s ← reserved
     trigger ← trigger_put within a.trigger a.statements next
     abortable ← inside a.abortable (in_construct s within) None
     put_at s (action.AsynchronousSelect (the_action trigger) (the_action abortable)) (signs_in_trigger within a.trigger) next
 
-  abbrev pub select_put : Within → SelectForm Q → Option StatementNo → Making (Option StatementNo)
+  unfoldable pub select_put : Within → SelectForm Q → Option StatementNo → Making (Option StatementNo)
   select_put within (select.SelectiveAccept s) next = selective_accept_put within s next
   select_put within (select.TimedEntryCall t) next = timed_call_put within t next
   select_put within (select.ConditionalEntryCall c) next = conditional_call_put within c next
@@ -490,7 +486,7 @@ module _ {Q : Type 0} (sequence : Q → SequenceMaking) where
 
   -- ---- all statements
 
-  abbrev pub statement_put : Within → Statement Q → Option StatementNo → Making (Option StatementNo)
+  unfoldable pub statement_put : Within → Statement Q → Option StatementNo → Making (Option StatementNo)
   statement_put within (statement.Null place) next = action_put action.Null 0 next
   statement_put within (statement.Assignment a) next = assignment_put within a next
   statement_put within (statement.Call c) next = call_statement_put within c.name c.arguments next
@@ -508,7 +504,7 @@ module _ {Q : Type 0} (sequence : Q → SequenceMaking) where
   statement_put within (statement.Select s) next = select_put within s.form next
 
   -- the statements of a list, from the last to the first
-  abbrev pub statements_put : Within → List (Statement Q) → Option StatementNo → Making (Option StatementNo)
+  unfoldable pub statements_put : Within → List (Statement Q) → Option StatementNo → Making (Option StatementNo)
   statements_put within [] next = pure next
   statements_put within (s ∷ ss) next = do
     later ← statements_put within ss next

@@ -19,8 +19,6 @@ use Rattle.profile_machine.specs.declared.numbers.StatementNo.{StatementNo}
 use Rattle.profile_machine.specs.declared.values.Constraint.{Constraint}
 use Rattle.profile_machine.specs.declared.values.Constraint.TheVariants as constraint
 use Rattle.profile_machine.specs.declared.declarations.Declaration.{Declaration as NumberedObject}
-use Rattle.profile_machine.specs.declared.declarations.TaskUnit.{TaskUnit}
-use Rattle.profile_machine.specs.declared.declarations.Entry.{Entry}
 use Rattle.profile_machine.specs.declared.declarations.DeclarationKind.{DeclarationKind}
 use Rattle.profile_machine.specs.declared.declarations.DeclarationKind.TheVariants as kind
 use Rattle.profile_machine.specs.declared.declarations.Initial.{Initial}
@@ -35,13 +33,17 @@ use Rattle.ada_regions.specs.declared.table.NumberedDeclaration.{NumberedDeclara
 use Rattle.ada_regions.specs.declared.table.Sort.{Sort}
 use Rattle.ada_regions.specs.declared.table.Sort.TheVariants as sort
 use Rattle.ada_regions.specs.Numbered.{names_of}
-use Rattle.ada_image.specs.Making.{Making, Lists, Within, ◌>>=◌, ◌>>◌, pure, action_put, first_put, nothing_made}
+use Rattle.ada_image.specs.declared.making.Lists.{Lists}
+use Rattle.ada_image.specs.declared.making.Within.{Within}
+use Rattle.ada_image.specs.declared.making.MadeLists.{MadeLists}
+use Rattle.ada_image.specs.Making.{Making, ◌>>=◌, ◌>>◌, pure, action_put, first_put, nothing_made}
 use Rattle.ada_image.specs.Layout.{is_thing, is_array, subtype_is, range_of_cells, index_range, cells_of_declaration, place_behind, scope_no, scopes_made, subprogram_made, enumeration_made}
 use Rattle.ada_image.specs.UnitsOfImage.{decl_no, priority_of, task_units_made, entries_made, protected_units_made, controlled_types_made}
 use Rattle.ada_image.specs.PoliciesOfImage.{policies_of}
 use Rattle.ada_image.specs.ImageOfExpressions.{expression_made, expression_image}
 use Rattle.ada_image.specs.ImageOfCalls.{function_call}
-use Rattle.ada_image.specs.ImageOfStatements.{array_name, scope_at, behind_declarations}
+use Rattle.ada_image.specs.declared.making.SequencePlace.TheVariants as sequence_place
+use Rattle.ada_image.specs.ImageOfStatements.{array_name, scope_at}
 use Rattle.ada_image.specs.ImageOfDeclarations.{sequence_put, inner_bodies_put, declarations_put, make_tasks, part_if, activation_put, body_put}
 
 -- ---- library packages: each has a number, the same for its declaration and its body, from 1 on
@@ -50,22 +52,22 @@ abbrev pub name_of_package : Package → Identifier
 name_of_package (packages.Declaration p) = p.name
 name_of_package (packages.Body p) = p.name
 
-abbrev pub declarations_of_package : Package → Option (List (Declaration Sequence))
+unfoldable pub declarations_of_package : Package → Option (List (Declaration Sequence))
 declarations_of_package (packages.Declaration p) = Some (p.declarations ++ unwrap_or p.private [])
 declarations_of_package (packages.Body p) = None
 
-abbrev pub declares_package : List ℕ → LibraryPackage → Option (List (Declaration Sequence))
+unfoldable pub declares_package : List ℕ → LibraryPackage → Option (List (Declaration Sequence))
 declares_package name l = cond (bytes_eq (name_of_package l.package).text name) (declarations_of_package l.package) None
 
 abbrev pub is_body_of : List ℕ → Package → Bool
 is_body_of name (packages.Declaration p) = false
 is_body_of name (packages.Body p) = bytes_eq p.name.text name
 
-abbrev pub has_body : List LibraryPackage → List ℕ → Bool
+unfoldable pub has_body : List LibraryPackage → List ℕ → Bool
 has_body ls name = list_any (λ l. is_body_of name l.package) ls
 
 -- what the package's declaration declares
-abbrev pub declared_by_package : List LibraryPackage → List ℕ → List (Declaration Sequence)
+unfoldable pub declared_by_package : List LibraryPackage → List ℕ → List (Declaration Sequence)
 declared_by_package [] name = []
 declared_by_package (l ∷ ls) name = unwrap_or (declares_package name l) (declared_by_package ls name)
 
@@ -73,42 +75,42 @@ abbrev pub is_declaration : Package → Bool
 is_declaration (packages.Declaration p) = true
 is_declaration (packages.Body p) = false
 
-abbrev pub part_from : ℕ → List LibraryPackage → List ℕ → ℕ
+unfoldable pub part_from : ℕ → List LibraryPackage → List ℕ → ℕ
 part_from number [] name = 0
 part_from number (l ∷ ls) name = cond (is_declaration l.package)
     (cond (bytes_eq (name_of_package l.package).text name) number (part_from (suc number) ls name)) (part_from number ls name)
 
-abbrev pub part_of : List LibraryPackage → List ℕ → ℕ
+unfoldable pub part_of : List LibraryPackage → List ℕ → ℕ
 part_of ls name = part_from 1 ls name
 
 -- ---- elaboration (10.2): what comes next is that of the later units
 
-abbrev pub package_declaration_put : List LibraryPackage → Within → PackageDeclaration → Option StatementNo → Making (Option StatementNo)
+unfoldable pub package_declaration_put : List LibraryPackage → Within → PackageDeclaration → Option StatementNo → Making (Option StatementNo)
 package_declaration_put ls within p next = do
   inner_bodies_put sequence_put within (p.declarations ++ unwrap_or p.private [])
   first ← activation_put (part_if (not (has_body ls p.name.text) && make_tasks within (p.declarations ++ unwrap_or p.private [])) (part_of ls p.name.text)) next
   declarations_put within (part_of ls p.name.text) (p.declarations ++ unwrap_or p.private []) first
 
-abbrev pub package_part : List LibraryPackage → Within → PackageBody → Option ℕ
+unfoldable pub package_part : List LibraryPackage → Within → PackageBody → Option ℕ
 package_part ls within p =
     part_if (make_tasks within p.declarations || make_tasks within (declared_by_package ls p.name.text)) (part_of ls p.name.text)
 
-abbrev pub package_statements_put : Within → Option ℕ → Option Sequence → Option StatementNo → Making (Option StatementNo)
+unfoldable pub package_statements_put : Within → Option ℕ → Option Sequence → Option StatementNo → Making (Option StatementNo)
 package_statements_put within part None next = activation_put part next
-package_statements_put within part (Some s) next = sequence_put s (behind_declarations part) within next
+package_statements_put within part (Some s) next = sequence_put s (sequence_place.BehindDeclarations part) within next
 
-abbrev pub package_body_put : List LibraryPackage → Within → PackageBody → Option StatementNo → Making (Option StatementNo)
+unfoldable pub package_body_put : List LibraryPackage → Within → PackageBody → Option StatementNo → Making (Option StatementNo)
 package_body_put ls within p next = do
   inner_bodies_put sequence_put within p.declarations
   first ← package_statements_put within (package_part ls within p) p.sequence next
   declarations_put within (part_of ls p.name.text) p.declarations first
 
-abbrev pub package_put : List LibraryPackage → Within → Package → Option StatementNo → Making (Option StatementNo)
+unfoldable pub package_put : List LibraryPackage → Within → Package → Option StatementNo → Making (Option StatementNo)
 package_put ls within (packages.Declaration p) next = package_declaration_put ls within p next
 package_put ls within (packages.Body p) next = package_body_put ls within p next
 
 -- the packages of a list, from the last to the first; all of the source are given
-abbrev pub packages_put : List LibraryPackage → Within → List LibraryPackage → Option StatementNo → Making (Option StatementNo)
+unfoldable pub packages_put : List LibraryPackage → Within → List LibraryPackage → Option StatementNo → Making (Option StatementNo)
 packages_put all within [] next = pure next
 packages_put all within (l ∷ ls) next = do
   later ← packages_put all within ls next
@@ -116,25 +118,25 @@ packages_put all within (l ∷ ls) next = do
 
 -- ---- initial values, in the order of the declarations
 
-abbrev pub scalar_initial : Within → Expression → Making Initial
+unfoldable pub scalar_initial : Within → Expression → Making Initial
 scalar_initial within e = do
   v ← expression_made e within
   pure (initial.Scalar v)
 
-abbrev pub scalar_or_array : Within → Option Subtype → Expression → Making Initial
+unfoldable pub scalar_or_array : Within → Option Subtype → Expression → Making Initial
 scalar_or_array within s e = cond (subtype_is is_array s) (pure (initial.Array (array_name within (expression_image e).name))) (scalar_initial within e)
 
-abbrev pub initial_of_call : Within → Option Subtype → Expression → Bool → Making Initial
+unfoldable pub initial_of_call : Within → Option Subtype → Expression → Bool → Making Initial
 initial_of_call within s e true = pure initial.Default
 initial_of_call within s e false = scalar_or_array within s e
 
-abbrev pub initial_made : Within → Option Subtype → Option Expression → Making Initial
+unfoldable pub initial_made : Within → Option Subtype → Option Expression → Making Initial
 initial_made within s None = pure initial.Default
 initial_made within s (Some e) = initial_of_call within s e (is_some (function_call within e))
 
 -- ---- declarations
 
-abbrev pub kind_of_type : AdaType → Initial → DeclarationKind
+unfoldable pub kind_of_type : AdaType → Initial → DeclarationKind
 kind_of_type types.Integer i = kind.Object i
 kind_of_type types.Boolean i = kind.Object i
 kind_of_type types.Duration i = kind.Object i
@@ -154,15 +156,15 @@ kind_of_type (types.Task u) i = kind.Task u
 kind_of_type (types.Protected u) i = kind.Protected u
 
 -- a timer is that of the task which its constant identifies (D.14.1)
-abbrev pub kind_with_task : AdaType → Option ℕ → Initial → DeclarationKind
+unfoldable pub kind_with_task : AdaType → Option ℕ → Initial → DeclarationKind
 kind_with_task t None i = kind_of_type t i
 kind_with_task t (Some task) i = kind.Timer (decl_no task)
 
-abbrev pub kind_of_subtype : Option Subtype → Option ℕ → Initial → DeclarationKind
+unfoldable pub kind_of_subtype : Option Subtype → Option ℕ → Initial → DeclarationKind
 kind_of_subtype None task i = kind.Object i
 kind_of_subtype (Some s) task i = kind_with_task s.of_type task i
 
-abbrev pub kind_of_sort : Sort → Option Subtype → Option ℕ → Initial → DeclarationKind
+unfoldable pub kind_of_sort : Sort → Option Subtype → Option ℕ → Initial → DeclarationKind
 kind_of_sort sort.Object s task i = kind_of_subtype s task i
 kind_of_sort (sort.Component o) s task i = kind.Object i
 kind_of_sort sort.Parameter s task i = kind.Parameter
@@ -170,17 +172,17 @@ kind_of_sort sort.LoopParameter s task i = kind.Parameter
 kind_of_sort sort.Exception s task i = kind.Other
 
 -- what stands for itself has no range
-abbrev pub range_if_value : Names → Option Subtype → Constraint
+unfoldable pub range_if_value : Names → Option Subtype → Constraint
 range_if_value n s = cond (subtype_is is_thing s) constraint.Free (range_of_cells n s)
 
-abbrev pub range_of_sort : Names → Sort → Option Subtype → Constraint
+unfoldable pub range_of_sort : Names → Sort → Option Subtype → Constraint
 range_of_sort n sort.Object s = range_if_value n s
 range_of_sort n (sort.Component o) s = range_if_value n s
 range_of_sort n sort.Parameter s = range_if_value n s
 range_of_sort n sort.LoopParameter s = constraint.Free
 range_of_sort n sort.Exception s = constraint.Free
 
-abbrev pub numbered_object : Names → List NumberedDeclaration → NumberedDeclaration → Initial → NumberedObject
+unfoldable pub numbered_object : Names → List NumberedDeclaration → NumberedDeclaration → Initial → NumberedObject
 numbered_object n before d i = record {
   name = d.name;
   expanded = d.expanded;
@@ -192,12 +194,12 @@ numbered_object n before d i = record {
   index = index_range n d.subtype;
 }
 
-abbrev pub declaration_made : Within → List NumberedDeclaration → NumberedDeclaration → Making NumberedObject
+unfoldable pub declaration_made : Within → List NumberedDeclaration → NumberedDeclaration → Making NumberedObject
 declaration_made within before d = do
   i ← initial_made within d.subtype d.initial
   pure (numbered_object within.names before d i)
 
-abbrev pub declarations_made : Within → List NumberedDeclaration → List NumberedDeclaration → Making (List NumberedObject)
+unfoldable pub declarations_made : Within → List NumberedDeclaration → List NumberedDeclaration → Making (List NumberedObject)
 declarations_made within before [] = pure []
 declarations_made within before (d ∷ ds) = do
   one ← declaration_made within before d
@@ -210,20 +212,15 @@ abbrev pub outermost : Names → Within
 outermost n = record { names = n; scope = 0; loops = []; construct = None; handling = None; function = None; units = [] }
 
 -- all actions: the call of the main procedure, that procedure, and the packages from the last to the first
-abbrev pub actions_made : Tree → Within → Making (Unit {0})
+unfoldable pub actions_made : Tree → Within → Making (Unit {0})
 actions_made unit within = do
   call ← action_put action.CallMain 0 None
   body_put sequence_put within unit.main.place None false unit.main.body.sequence
   first ← packages_put unit.packages within unit.packages call
   first_put 0 first
 
--- what has numbers of its own and expressions: the units' deadlines first, then the barriers, then the initial values
-pub record MadeLists : Type 0 where
-  pub task_units : List TaskUnit
-  pub entries : List Entry
-  pub declarations : List NumberedObject
-
-abbrev pub all_made : Tree → Within → Making MadeLists
+-- what has numbers of its own and expressions is made last: the units' deadlines first, then the barriers, then the initial values
+unfoldable pub all_made : Tree → Within → Making MadeLists
 all_made unit within = do
   actions_made unit within
   task_units ← task_units_made within 0 within.names.task_units
@@ -231,14 +228,14 @@ all_made unit within = do
   declarations ← declarations_made within [] within.names.declarations
   pure (record { task_units = task_units; entries = entries; declarations = declarations })
 
-abbrev pub main_of : Names → Tree → MainProcedure
+unfoldable pub main_of : Names → Tree → MainProcedure
 main_of n unit = record {
   name = unit.main.name.text;
   priority = unwrap_or (priority_of n unit.main.aspects) (default_priority n.last_priority);
   scope = scope_no (scope_at n unit.main.place);
 }
 
-abbrev pub program_with : Names → Tree → Lists → MadeLists → Program
+unfoldable pub program_with : Names → Tree → Lists → MadeLists → Program
 program_with n unit lists made = record {
   declarations = made.declarations;
   expressions = lists.expressions;
@@ -255,11 +252,11 @@ program_with n unit lists made = record {
   main = main_of n unit;
 }
 
-abbrev pub program_from : Names → Tree → Program
+unfoldable pub program_from : Names → Tree → Program
 program_from n unit =
     let made = all_made unit (outermost n) nothing_made in
     program_with n unit made.0 made.1
 
 -- the program of a source
-abbrev pub program_of : Tree → Program
+unfoldable pub program_of : Tree → Program
 program_of unit = program_from (names_of unit) unit

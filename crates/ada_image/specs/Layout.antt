@@ -27,7 +27,7 @@ use Rattle.ada_regions.specs.declared.table.NumberedScope.{NumberedScope}
 use Rattle.ada_regions.specs.declared.table.NumberedSubprogram.{NumberedSubprogram}
 use Rattle.ada_regions.specs.declared.table.Sort.{Sort}
 use Rattle.ada_regions.specs.declared.table.Sort.TheVariants as sort
-use Rattle.ada_image.specs.Making.{FirstAction}
+use Rattle.ada_image.specs.declared.making.FirstAction.{FirstAction}
 
 -- ---- kinds of types
 
@@ -66,7 +66,7 @@ is_kept _ = false
 
 -- ---- ranges and first values (3.5; the first value is this profile's)
 
-abbrev pub array_of : Names → AdaType → Option ArrayType
+unfoldable pub array_of : Names → AdaType → Option ArrayType
 array_of n (types.Array a) = slice_get n.arrays a
 array_of n _ = None
 
@@ -75,13 +75,13 @@ scalar_of None s = Some s
 scalar_of (Some a) s = a.component
 
 -- the subtype itself, or that of an array's components
-abbrev pub cell_subtype : Names → Subtype → Option Subtype
+unfoldable pub cell_subtype : Names → Subtype → Option Subtype
 cell_subtype n s = scalar_of (array_of n s.of_type) s
 
-abbrev pub range_of_cells : Names → Option Subtype → Constraint
+unfoldable pub range_of_cells : Names → Option Subtype → Constraint
 range_of_cells n s = unwrap_or (option_map (λ t. t.range) (and_then s (cell_subtype n))) constraint.Free
 
-abbrev pub index_range : Names → Option Subtype → Option Constraint
+unfoldable pub index_range : Names → Option Subtype → Option Constraint
 index_range n s = and_then s (λ t. option_map (λ a. a.index) (array_of n t.of_type))
 
 -- the number of a range that is nearest to zero
@@ -107,7 +107,7 @@ first_of_free (types.Derived c) = value.Whole (pos 0)
 first_of_free (types.Task u) = value.Whole (pos 0)
 first_of_free (types.Protected u) = value.Whole (pos 0)
 
-abbrev pub first_in : Constraint → AdaType → Value
+unfoldable pub first_in : Constraint → AdaType → Value
 first_in constraint.Free t = first_of_free t
 first_in (constraint.Whole low high) t = value.Whole (nearest low high)
 first_in (constraint.Truth low high) t = value.Truth low
@@ -117,7 +117,7 @@ first_in (constraint.Ticks low high) t = value.Ticks (nearest low high)
 abbrev pub first_of_subtype : Subtype → Value
 first_of_subtype s = first_in s.range s.of_type
 
-abbrev pub first_value : Names → Option Subtype → Value
+unfoldable pub first_value : Names → Option Subtype → Value
 first_value n s = unwrap_or (option_map first_of_subtype (and_then s (cell_subtype n))) (value.Whole (pos 0))
 
 -- ---- cells: a scalar has one, an array one for each component, a protected object 16 and a controlled one 1 more than
@@ -132,19 +132,19 @@ truth_width true true = 1
 truth_width false true = 2
 truth_width false false = 1
 
-abbrev pub width : Constraint → ℕ
+unfoldable pub width : Constraint → ℕ
 width constraint.Free = 1
 width (constraint.Whole low high) = width_between low high
 width (constraint.Truth low high) = truth_width low high
 width (constraint.Literal low high) = suc high - low
 width (constraint.Ticks low high) = 1
 
-abbrev pub width_of_array : Option ArrayType → ℕ
+unfoldable pub width_of_array : Option ArrayType → ℕ
 width_of_array None = 1
 width_of_array (Some a) = width a.index
 
 -- a scalar's or an array's
-abbrev pub width_of_subtype : Names → Option Subtype → ℕ
+unfoldable pub width_of_subtype : Names → Option Subtype → ℕ
 width_of_subtype n s = unwrap_or (option_map (λ t. width_of_array (array_of n t.of_type)) s) 1
 
 abbrev pub same_owner : ComponentOwner → ComponentOwner → Bool
@@ -160,17 +160,17 @@ is_component_of o sort.Parameter = false
 is_component_of o sort.LoopParameter = false
 is_component_of o sort.Exception = false
 
-abbrev pub components_of_owner : Names → ComponentOwner → List NumberedDeclaration
+unfoldable pub components_of_owner : Names → ComponentOwner → List NumberedDeclaration
 components_of_owner n o = filter (λ d. is_component_of o d.sort) n.declarations
 
 abbrev pub total : List ℕ → ℕ
 total [] = 0
 total (x ∷ xs) = x + total xs
 
-abbrev pub width_of_components : Names → ComponentOwner → ℕ
+unfoldable pub width_of_components : Names → ComponentOwner → ℕ
 width_of_components n o = total (map (λ d. width_of_subtype n d.subtype) (components_of_owner n o))
 
-abbrev pub width_of_type : Names → AdaType → ℕ
+unfoldable pub width_of_type : Names → AdaType → ℕ
 width_of_type n types.Integer = 1
 width_of_type n types.Boolean = 1
 width_of_type n types.Duration = 1
@@ -189,17 +189,17 @@ width_of_type n (types.Derived c) = 1 + width_of_components n (owner.Controlled 
 width_of_type n (types.Task u) = 1
 width_of_type n (types.Protected u) = 16 + width_of_components n (owner.Protected u)
 
-abbrev pub width_of_object : Names → Option Subtype → ℕ
+unfoldable pub width_of_object : Names → Option Subtype → ℕ
 width_of_object n s = unwrap_or (option_map (λ t. width_of_type n t.of_type) s) 1
 
-abbrev pub cells_of_sort : Names → Sort → Option Subtype → ℕ
+unfoldable pub cells_of_sort : Names → Sort → Option Subtype → ℕ
 cells_of_sort n sort.Object s = width_of_object n s
 cells_of_sort n (sort.Component o) s = width_of_subtype n s
 cells_of_sort n sort.Parameter s = width_of_object n s
 cells_of_sort n sort.LoopParameter s = 2
 cells_of_sort n sort.Exception s = 0
 
-abbrev pub cells_of_declaration : Names → NumberedDeclaration → ℕ
+unfoldable pub cells_of_declaration : Names → NumberedDeclaration → ℕ
 cells_of_declaration n d = cells_of_sort n d.sort d.subtype
 
 -- ---- places: behind those before it in its scope, or among the components of its owner
@@ -214,7 +214,7 @@ stands_in_scope sort.Exception = false
 abbrev pub is_in_scope : ℕ → NumberedDeclaration → Bool
 is_in_scope scope d = stands_in_scope d.sort && eqb d.scope scope
 
-abbrev pub stands_beside : NumberedDeclaration → Sort → NumberedDeclaration → Bool
+unfoldable pub stands_beside : NumberedDeclaration → Sort → NumberedDeclaration → Bool
 stands_beside d sort.Object e = is_in_scope d.scope e
 stands_beside d (sort.Component o) e = is_component_of o e.sort
 stands_beside d sort.Parameter e = is_in_scope d.scope e
@@ -222,7 +222,7 @@ stands_beside d sort.LoopParameter e = is_in_scope d.scope e
 stands_beside d sort.Exception e = false
 
 -- the place of a declaration, where those before it are given
-abbrev pub place_behind : Names → List NumberedDeclaration → NumberedDeclaration → ℕ
+unfoldable pub place_behind : Names → List NumberedDeclaration → NumberedDeclaration → ℕ
 place_behind n before d = total (map (cells_of_declaration n) (filter (stands_beside d d.sort) before))
 
 -- ---- a scope's first values, where they are not `Whole (pos 0)`
@@ -231,15 +231,15 @@ abbrev pub is_plain_zero : Value → Bool
 is_plain_zero (value.Whole (pos zero)) = true
 is_plain_zero _ = false
 
-abbrev pub run_of : ℕ → ℕ → Value → List CellRun
+unfoldable pub run_of : ℕ → ℕ → Value → List CellRun
 run_of place count v = cond (is_plain_zero v) [] (record { place = place; count = count; value = v } ∷ [])
 
-abbrev pub runs_of_components : Names → ℕ → List NumberedDeclaration → List CellRun
+unfoldable pub runs_of_components : Names → ℕ → List NumberedDeclaration → List CellRun
 runs_of_components n place [] = []
 runs_of_components n place (c ∷ cs) =
     run_of place (width_of_subtype n c.subtype) (first_value n c.subtype) ++ runs_of_components n (place + width_of_subtype n c.subtype) cs
 
-abbrev pub runs_of_type : Names → ℕ → Option Subtype → AdaType → List CellRun
+unfoldable pub runs_of_type : Names → ℕ → Option Subtype → AdaType → List CellRun
 runs_of_type n place s types.Integer = run_of place (width_of_object n s) (first_value n s)
 runs_of_type n place s types.Boolean = run_of place (width_of_object n s) (first_value n s)
 runs_of_type n place s types.Duration = run_of place (width_of_object n s) (first_value n s)
@@ -258,48 +258,48 @@ runs_of_type n place s (types.Derived c) = runs_of_components n (place + 1) (com
 runs_of_type n place s (types.Task u) = []
 runs_of_type n place s (types.Protected u) = runs_of_components n (place + 16) (components_of_owner n (owner.Protected u))
 
-abbrev pub runs_of_subtype : Names → ℕ → Option Subtype → List CellRun
+unfoldable pub runs_of_subtype : Names → ℕ → Option Subtype → List CellRun
 runs_of_subtype n place None = []
 runs_of_subtype n place (Some s) = runs_of_type n place (Some s) s.of_type
 
 -- an object that stands for itself in a parameter has no components of its own
-abbrev pub runs_of_parameter : Names → ℕ → Option Subtype → List CellRun
+unfoldable pub runs_of_parameter : Names → ℕ → Option Subtype → List CellRun
 runs_of_parameter n place s = cond (subtype_is is_thing s) [] (runs_of_subtype n place s)
 
-abbrev pub runs_of_sort : Names → ℕ → Option Subtype → Sort → List CellRun
+unfoldable pub runs_of_sort : Names → ℕ → Option Subtype → Sort → List CellRun
 runs_of_sort n place s sort.Object = runs_of_subtype n place s
 runs_of_sort n place s (sort.Component o) = []
 runs_of_sort n place s sort.Parameter = runs_of_parameter n place s
 runs_of_sort n place s sort.LoopParameter = []
 runs_of_sort n place s sort.Exception = []
 
-abbrev pub runs_from : Names → ℕ → List NumberedDeclaration → List CellRun
+unfoldable pub runs_from : Names → ℕ → List NumberedDeclaration → List CellRun
 runs_from n place [] = []
 runs_from n place (d ∷ ds) = runs_of_sort n place d.subtype d.sort ++ runs_from n (place + cells_of_declaration n d) ds
 
 -- ---- scopes
 
-abbrev pub declarations_in_scope : Names → ℕ → List NumberedDeclaration
+unfoldable pub declarations_in_scope : Names → ℕ → List NumberedDeclaration
 declarations_in_scope n scope = filter (is_in_scope scope) n.declarations
 
 abbrev pub extra_cell : Bool → ℕ
 extra_cell true = 1
 extra_cell false = 0
 
-abbrev pub keeps : Sort → Option Subtype → Bool
+unfoldable pub keeps : Sort → Option Subtype → Bool
 keeps sort.Object s = subtype_is is_kept s
 keeps (sort.Component o) s = false
 keeps sort.Parameter s = false
 keeps sort.LoopParameter s = false
 keeps sort.Exception s = false
 
-abbrev pub first_action : List FirstAction → ℕ → Option FirstAction
+unfoldable pub first_action : List FirstAction → ℕ → Option FirstAction
 first_action firsts scope = find (λ f. eqb f.scope scope) firsts
 
 abbrev pub scope_no : ℕ → ScopeNo
 scope_no s = record { 0 = s }
 
-abbrev pub scope_made : Names → List FirstAction → ℕ → NumberedScope → Scope
+unfoldable pub scope_made : Names → List FirstAction → ℕ → NumberedScope → Scope
 scope_made n firsts number s =
     let ds = declarations_in_scope n number in
     record {
@@ -310,20 +310,20 @@ scope_made n firsts number s =
       first = and_then (first_action firsts number) (λ f. f.action);
     }
 
-abbrev pub scopes_made : Names → List FirstAction → ℕ → List NumberedScope → List Scope
+unfoldable pub scopes_made : Names → List FirstAction → ℕ → List NumberedScope → List Scope
 scopes_made n firsts number [] = []
 scopes_made n firsts number (s ∷ ss) = scope_made n firsts number s ∷ scopes_made n firsts (suc number) ss
 
 -- ---- subprograms and enumerations
 
-abbrev pub formal_made : Names → Formal → FormalCell
+unfoldable pub formal_made : Names → Formal → FormalCell
 formal_made n f = cond (subtype_is is_thing f.subtype) (record { constraint = constraint.Free; initial = value.Whole (pos 0) })
     (record { constraint = range_of_cells n f.subtype; initial = first_value n f.subtype })
 
 abbrev pub unit_no : ℕ → ProtectedUnitNo
 unit_no u = record { 0 = u }
 
-abbrev pub subprogram_made : Names → NumberedSubprogram → Subprogram
+unfoldable pub subprogram_made : Names → NumberedSubprogram → Subprogram
 subprogram_made n s = record {
   name = s.name;
   scope = scope_no s.scope;
@@ -332,5 +332,5 @@ subprogram_made n s = record {
   unit = option_map unit_no s.unit;
 }
 
-abbrev pub enumeration_made : List (List ℕ) → Enumeration
+unfoldable pub enumeration_made : List (List ℕ) → Enumeration
 enumeration_made literals = record { literals = map (map to_ascii_uppercase) literals }

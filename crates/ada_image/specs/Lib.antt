@@ -1,4 +1,5 @@
 pub mod Making
+pub mod Made
 pub mod Layout
 pub mod ImageOfExpressions
 pub mod TypesOfExpressions

@@ -1,6 +1,6 @@
 -- Making the lists of an image: what is made is put at the end of its list and named by its number there. A statement
 -- that others lead back to gets its number first, and is put there later.
-use Rattle.std.specs.Prelude.{ℕ, List, [], ◌∷◌, ◌++◌, Option, Some, None, length, slice_set}
+use Rattle.std.specs.Prelude.{ℕ, [], ◌∷◌, ◌++◌, Option, Some, None, length, slice_set}
 use Rattle.profile_machine.specs.declared.numbers.ExprNo.{ExprNo}
 use Rattle.profile_machine.specs.declared.numbers.StatementNo.{StatementNo}
 use Rattle.profile_machine.specs.declared.numbers.SubprogramNo.{SubprogramNo}
@@ -8,17 +8,8 @@ use Rattle.profile_machine.specs.declared.expressions.Expression.{Expression as 
 use Rattle.profile_machine.specs.declared.statements.Statement.{Statement as Action}
 use Rattle.profile_machine.specs.declared.statements.StatementForm.{StatementForm}
 use Rattle.profile_machine.specs.Program.{no_statement}
-use Rattle.ada_regions.specs.declared.table.Names.{Names}
-
--- the first action of a scope
-pub record FirstAction : Type 0 where
-  pub scope : ℕ
-  pub action : Option StatementNo
-
-pub record Lists : Type 0 where
-  pub expressions : List Valuation
-  pub statements : List Action
-  pub firsts : List FirstAction
+use Rattle.ada_image.specs.declared.making.Lists.{Lists}
+use Rattle.ada_image.specs.declared.making.Within.{Within}
 
 abbrev pub nothing_made : Lists
 nothing_made = record { expressions = []; statements = []; firsts = [] }
@@ -39,7 +30,7 @@ pure x = λ lists. (lists, x)
 
 -- ---- expressions
 
-abbrev pub value_put : Valuation → Making ExprNo
+unfoldable pub value_put : Valuation → Making ExprNo
 value_put e lists = (record lists { expressions = lists.expressions ++ e ∷ [] }, record { 0 = length lists.expressions })
 
 -- ---- statements
@@ -48,16 +39,16 @@ abbrev pub action : StatementForm → ℕ → Option StatementNo → Action
 action form signs next = record { form = form; signs = signs; next = next }
 
 -- an action that comes next: the answer is what leads to it
-abbrev pub action_put : StatementForm → ℕ → Option StatementNo → Making (Option StatementNo)
+unfoldable pub action_put : StatementForm → ℕ → Option StatementNo → Making (Option StatementNo)
 action_put form signs next lists = (record lists { statements = lists.statements ++ action form signs next ∷ [] }, Some (record { 0 = length lists.statements }))
 
-abbrev pub reserved : Making StatementNo
+unfoldable pub reserved : Making StatementNo
 reserved lists = (record lists { statements = lists.statements ++ no_statement ∷ [] }, record { 0 = length lists.statements })
 
-abbrev pub put_at : StatementNo → StatementForm → ℕ → Option StatementNo → Making (Option StatementNo)
+unfoldable pub put_at : StatementNo → StatementForm → ℕ → Option StatementNo → Making (Option StatementNo)
 put_at s form signs next lists = (record lists { statements = slice_set lists.statements s.0 (action form signs next) }, Some s)
 
-abbrev pub first_put : ℕ → Option StatementNo → Making (Unit {0})
+unfoldable pub first_put : ℕ → Option StatementNo → Making (Unit {0})
 first_put scope first lists = (record lists { firsts = record { scope = scope; action = first } ∷ lists.firsts }, tt)
 
 -- the action that is there: a sequence has one statement at least
@@ -66,22 +57,6 @@ the_action None = record { 0 = 0 }
 the_action (Some s) = s
 
 -- ---- where a statement stands
-
--- a loop that is open, with its label's entity
-pub record OpenLoop : Type 0 where
-  pub label : Option ℕ
-  pub statement : StatementNo
-
--- The innermost scope; the loops that are open, the innermost first; the statement of the innermost construct that is open
--- inside the body; in a handler the scope that keeps its exception; the function whose body it is; the units around.
-pub record Within : Type 0 where
-  pub names : Names
-  pub scope : ℕ
-  pub loops : List OpenLoop
-  pub construct : Option StatementNo
-  pub handling : Option ℕ
-  pub function : Option SubprogramNo
-  pub units : List ℕ
 
 -- in the body of a subprogram, a task or an entry
 abbrev pub in_body_of : ℕ → Option SubprogramNo → Within → Within

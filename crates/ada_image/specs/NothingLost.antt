@@ -31,10 +31,13 @@ use Rattle.profile_machine.specs.Program.{form_of, next_of}
 use Rattle.ada_regions.specs.Words.{all_of}
 use Rattle.ada_regions.specs.Names.{entity_denoted}
 use Rattle.ada_regions.specs.Numbered.{names_of}
-use Rattle.ada_image.specs.Making.{Within, in_body_of, in_construct, in_unit}
+use Rattle.ada_image.specs.declared.making.Within.{Within}
+use Rattle.ada_image.specs.Making.{in_body_of, in_construct, in_unit}
 use Rattle.ada_image.specs.Layout.{subtype_is}
 use Rattle.ada_image.specs.ImageOfCalls.{FunctionCall}
-use Rattle.ada_image.specs.ImageOfStatements.{SequencePlace, statements_alone, behind_declarations, as_body, scope_at}
+use Rattle.ada_image.specs.declared.making.SequencePlace.{SequencePlace}
+use Rattle.ada_image.specs.declared.making.SequencePlace.TheVariants as sequence_place
+use Rattle.ada_image.specs.ImageOfStatements.{scope_at}
 use Rattle.ada_image.specs.ImageOfDeclarations.{is_task, is_controlled, number_declared, subtype_declared_as, subprogram_declared_as, function_call_if, make_tasks, part_if}
 use Rattle.ada_image.specs.ImageOfUnits.{outermost, program_of, has_body, part_of, package_part}
 use Rattle.ada_image.specs.ReadExpressions.{same_decl}
@@ -139,7 +142,7 @@ module _ (p : Program) where
   module _ {Q : Type 0} (sequence : Q → SequencePlace → Within → Reading) where
     abbrev pub body_reads : Within → Place → Option SubprogramNo → Bool → Q → Bool
     body_reads within place function is_task_body q =
-        sequence q (as_body is_task_body) (in_body_of (scope_at within.names place) function within) (first_of_scope p (scope_at within.names place)) None
+        sequence q (sequence_place.AsBody is_task_body) (in_body_of (scope_at within.names place) function within) (first_of_scope p (scope_at within.names place)) None
 
     abbrev pub operation_reads : Within → OperationBody Q → Bool
     operation_reads within (body_of.Subprogram s body) = body_reads within s.place (subprogram_declared_as within s.name) false body.sequence
@@ -192,9 +195,9 @@ module _ (p : Program) where
         (and_behind (declarations_read within 0 s.declarations from) (action_if is_task_body is_end_of_activation))
 
     abbrev pub parts_read : SequenceParts Q → SequencePlace → Within → Reading
-    parts_read s statements_alone within from to = statements_stand p sequence within (s.statements.first ∷ s.statements.others) from to
-    parts_read s (behind_declarations part) within from to = handled_reads within part s s.handlers from to
-    parts_read s (as_body is_task_body) within from to = whole_reads within is_task_body s from to
+    parts_read s sequence_place.StatementsAlone within from to = statements_stand p sequence within (s.statements.first ∷ s.statements.others) from to
+    parts_read s (sequence_place.BehindDeclarations part) within from to = handled_reads within part s s.handlers from to
+    parts_read s (sequence_place.AsBody is_task_body) within from to = whole_reads within is_task_body s from to
 
 abbrev pub SequenceReading : Type 0
 SequenceReading = SequencePlace → Within → Reading
@@ -243,7 +246,7 @@ abbrev pub package_statements_read : Program → Within → Option ℕ → Optio
 package_statements_read p within part None from = activation_read p part from
 package_statements_read p within part (Some s) from =
     let to = behind_statements p part (Some s) from in
-    cond (sequence_reads p s (behind_declarations part) within from to) (Some to) None
+    cond (sequence_reads p s (sequence_place.BehindDeclarations part) within from to) (Some to) None
 
 abbrev pub package_body_read : Program → List LibraryPackage → Within → PackageBody → Option StatementNo → Rest
 package_body_read p ls within x from =

@@ -44,7 +44,7 @@ use Rattle.ada_regions.specs.Words.{and_then}
 use Rattle.ada_regions.specs.PredefinedUnits.{names_of_formals}
 use Rattle.ada_regions.specs.Names.{denoted_by, kind_at}
 use Rattle.ada_regions.specs.Statics.{literal_value, negated, attribute_value}
-use Rattle.ada_image.specs.Making.{Within}
+use Rattle.ada_image.specs.declared.making.Within.{Within}
 use Rattle.ada_image.specs.Layout.{is_thing, subtype_is}
 use Rattle.ada_image.specs.ImageOfExpressions.{logical_operator, relational_operator, adding_operator, multiplying_operator, highest_operator, object_named, thing_named, thing_in, kind_named, actuals_for, first_argument}
 

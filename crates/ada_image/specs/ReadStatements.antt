@@ -86,12 +86,15 @@ use Rattle.ada_regions.specs.Words.{and_then}
 use Rattle.ada_regions.specs.PredefinedUnits.{names_of_formals}
 use Rattle.ada_regions.specs.Names.{denoted_by, kind_at, last_part, entity_denoted}
 use Rattle.ada_regions.specs.Statics.{subtype_of_name}
-use Rattle.ada_image.specs.Making.{Within, in_construct, in_handler, in_loop, in_scope}
+use Rattle.ada_image.specs.declared.making.Within.{Within}
+use Rattle.ada_image.specs.Making.{in_construct, in_handler, in_loop, in_scope}
 use Rattle.ada_image.specs.Layout.{is_array, is_kept, is_thing, subtype_is, scope_no}
 use Rattle.ada_image.specs.ImageOfExpressions.{object_named, thing_named, thing_in, expression_image, first_argument, actuals_for, no_declaration_no}
 use Rattle.ada_image.specs.ImageOfCalls.{FunctionCall, function_call, callee_of, owner_of_entry, names_of, image_piece}
 use Rattle.ada_image.specs.ImageOfProcedures.{first_of, second_of, third_of, thing_of, handler_of, is_in_time, moment_of}
-use Rattle.ada_image.specs.ImageOfStatements.{SequencePlace, statements_alone, behind_declarations, as_body, scope_at, array_name, exception_named, loop_left, loop_statement, choices_made, handled_made, loop_parameter_number, entry_at, unit_of_entry, guard_of, no_function}
+use Rattle.ada_image.specs.declared.making.SequencePlace.{SequencePlace}
+use Rattle.ada_image.specs.declared.making.SequencePlace.TheVariants as sequence_place
+use Rattle.ada_image.specs.ImageOfStatements.{scope_at, array_name, exception_named, loop_left, loop_statement, choices_made, handled_made, loop_parameter_number, entry_at, unit_of_entry, guard_of, no_function}
 use Rattle.ada_image.specs.ReadExpressions.{same_decl, same_object, same_truth, is_value, expression_stands, is_variable}
 
 -- ---- the same thing
@@ -411,7 +414,7 @@ module _ (p : Program) where
 
   module _ {Q : Type 0} (sequence : Q → SequencePlace → Within → Reading) where
     abbrev pub inside_stands : Within → Q → Reading
-    inside_stands within q from to = sequence q statements_alone within from to
+    inside_stands within q from to = sequence q sequence_place.StatementsAlone within from to
 
     abbrev pub inside_stands_if : Within → Option Q → Reading
     inside_stands_if within None from to = same_next from to
@@ -489,12 +492,12 @@ module _ (p : Program) where
     abbrev pub block_stands : Within → Block Q → StatementNo → StatementForm → Bool
     block_stands within b s (action.Block scope) =
         eqb scope.0 (scope_at within.names b.place)
-        && sequence b.sequence (as_body false) (in_construct s (in_scope scope.0 within)) (first_of_scope scope.0) None
+        && sequence b.sequence (sequence_place.AsBody false) (in_construct s (in_scope scope.0 within)) (first_of_scope scope.0) None
     block_stands within b s _ = false
 
     abbrev pub accept_body_stands : Within → StatementNo → ℕ → Option (AcceptBody Q) → Bool
     accept_body_stands within s scope None = is_none (first_of_scope scope)
-    accept_body_stands within s scope (Some b) = sequence b.sequence (behind_declarations None) (in_construct s (in_scope scope within)) (first_of_scope scope) None
+    accept_body_stands within s scope (Some b) = sequence b.sequence (sequence_place.BehindDeclarations None) (in_construct s (in_scope scope within)) (first_of_scope scope) None
 
     abbrev pub accept_stands : Within → Accept Q → StatementNo → StatementForm → Bool
     accept_stands within a s (action.Accept e scope) =

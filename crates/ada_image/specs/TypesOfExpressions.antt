@@ -39,15 +39,15 @@ abbrev pub type_of_subtype : Option Subtype → Option AdaType
 type_of_subtype s = option_map (λ t. t.of_type) s
 
 -- the type of an element, where an index stands behind an array
-abbrev pub indexed : Names → Bool → Option Subtype → Option AdaType
+unfoldable pub indexed : Names → Bool → Option Subtype → Option AdaType
 indexed n false s = type_of_subtype s
 indexed n true s = and_then s (λ t. and_then (array_of n t.of_type) (λ a. type_of_subtype a.component))
 
-abbrev pub type_of_result : Option NumberedSubprogram → Option AdaType
+unfoldable pub type_of_result : Option NumberedSubprogram → Option AdaType
 type_of_result None = None
 type_of_result (Some s) = and_then s.result type_of_subtype
 
-abbrev pub type_of_kind : Names → Bool → EntityKind → Option AdaType
+unfoldable pub type_of_kind : Names → Bool → EntityKind → Option AdaType
 type_of_kind n has_index entity.Package = None
 type_of_kind n has_index entity.Main = None
 type_of_kind n has_index (entity.Mark s) = None
@@ -94,21 +94,21 @@ type_of_operation operations.GetDeadline = Some types.Time
 type_of_operation operations.DelayUntilAndSetDeadline = None
 type_of_operation operations.PortValue = Some types.Integer
 
-abbrev pub type_of_item : Predefined → Option AdaType
+unfoldable pub type_of_item : Predefined → Option AdaType
 type_of_item (items.Mark s) = None
 type_of_item (items.Constant of_type v) = Some of_type
 type_of_item (items.Truth b) = Some types.Boolean
 type_of_item (items.Exception raised) = None
 type_of_item (items.Operation operation) = type_of_operation operation
 
-abbrev pub type_denoted : Names → Bool → Denoted → Option AdaType
+unfoldable pub type_denoted : Names → Bool → Denoted → Option AdaType
 type_denoted n has_index (denotes.Entity e) = and_then (kind_at n e) (type_of_kind n has_index)
 type_denoted n has_index (denotes.Unit u) = None
 type_denoted n has_index (denotes.Item u item) = type_of_item item
 
 -- ---- operators (4.5, D.8): a moment and a span make a moment, two moments a span
 
-abbrev pub type_of_sum : Option AdaType → AddingOperator → Option AdaType → Option AdaType
+unfoldable pub type_of_sum : Option AdaType → AddingOperator → Option AdaType → Option AdaType
 type_of_sum (Some types.TimeSpan) operator (Some types.Time) = Some types.Time
 type_of_sum (Some types.TimeSpan) operator (Some types.CpuTime) = Some types.CpuTime
 type_of_sum (Some types.Time) adding.Minus (Some types.Time) = Some types.TimeSpan
@@ -116,7 +116,7 @@ type_of_sum (Some types.CpuTime) adding.Minus (Some types.CpuTime) = Some types.
 type_of_sum left operator right = left
 
 -- an Integer times something is of the other's type
-abbrev pub type_of_product : Option AdaType → Option AdaType → Option AdaType
+unfoldable pub type_of_product : Option AdaType → Option AdaType → Option AdaType
 type_of_product (Some types.Integer) right = right
 type_of_product left right = left
 
@@ -133,15 +133,15 @@ type_of_attribute attribute.Identity = Some types.TaskId
 type_of_attribute attribute.Access = None
 
 module _ {E : Type 0} (expression : E → Names → Option AdaType) where
-  abbrev pub type_of_addends : Option AdaType → List (Addend E) → Names → Option AdaType
+  unfoldable pub type_of_addends : Option AdaType → List (Addend E) → Names → Option AdaType
   type_of_addends left [] n = left
   type_of_addends left (a ∷ rest) n = type_of_addends (type_of_sum left a.operator (expression a.term n)) rest n
 
-  abbrev pub type_of_factors : Option AdaType → List (Multiplied E) → Names → Option AdaType
+  unfoldable pub type_of_factors : Option AdaType → List (Multiplied E) → Names → Option AdaType
   type_of_factors left [] n = left
   type_of_factors left (m ∷ rest) n = type_of_factors (type_of_product left (expression m.factor n)) rest n
 
-  abbrev pub type_of_named : Name → Option AttributeDesignator → List (Argument E) → Names → Option AdaType
+  unfoldable pub type_of_named : Name → Option AttributeDesignator → List (Argument E) → Names → Option AdaType
   type_of_named name None arguments n = and_then (denoted_by n name) (type_denoted n (not (nothing_there arguments)))
   type_of_named name (Some a) arguments n = type_of_attribute a.attribute
 
@@ -167,7 +167,7 @@ same_typing t = t
 abbrev pub typing_layer : Expression-F Typing → Typing
 typing_layer e = type_of_form same_typing e.form
 
-abbrev pub type_of_expression : Expression → Typing
+unfoldable pub type_of_expression : Expression → Typing
 type_of_expression = fold-Expression Typing typing_layer
 
 -- whether an expression is of type Time_Span
@@ -175,5 +175,5 @@ abbrev pub is_span_type : AdaType → Bool
 is_span_type types.TimeSpan = true
 is_span_type _ = false
 
-abbrev pub is_span : Names → Expression → Bool
+unfoldable pub is_span : Names → Expression → Bool
 is_span n e = unwrap_or (option_map is_span_type (type_of_expression e n)) false

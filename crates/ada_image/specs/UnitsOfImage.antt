@@ -34,30 +34,31 @@ use Rattle.ada_regions.specs.declared.table.NumberedControlled.{NumberedControll
 use Rattle.ada_regions.specs.declared.table.NumberedEntry.{NumberedEntry}
 use Rattle.ada_regions.specs.declared.table.NumberedEntryBody.{NumberedEntryBody}
 use Rattle.ada_regions.specs.Statics.{static_value}
-use Rattle.ada_image.specs.Making.{Making, Within, ◌>>=◌, pure}
+use Rattle.ada_image.specs.declared.making.Within.{Within}
+use Rattle.ada_image.specs.Making.{Making, ◌>>=◌, pure}
 use Rattle.ada_image.specs.Layout.{is_component_of, formal_made, scope_no, subtype_is}
 use Rattle.ada_image.specs.ImageOfExpressions.{expression_made}
 
 -- ---- aspects (13.1.1)
 
-abbrev pub level_of : Value → Option ℕ
+unfoldable pub level_of : Value → Option ℕ
 level_of (value.Whole (pos n)) = Some n
 level_of _ = None
 
-abbrev pub aspect_value : List ℕ → List Aspect → Option Expression
+unfoldable pub aspect_value : List ℕ → List Aspect → Option Expression
 aspect_value name [] = None
 aspect_value name (a ∷ rest) = cond (bytes_eq a.name.text name) a.value (aspect_value name rest)
 
-abbrev pub static_aspect : Names → List ℕ → List Aspect → Option ℕ
+unfoldable pub static_aspect : Names → List ℕ → List Aspect → Option ℕ
 static_aspect n name aspects = and_then (aspect_value name aspects) (λ e. and_then (static_value n e) level_of)
 
 -- Priority or Interrupt_Priority
-abbrev pub priority_of : Names → List Aspect → Option ℕ
+unfoldable pub priority_of : Names → List Aspect → Option ℕ
 priority_of n aspects = or_else (static_aspect n (codes "priority") aspects) (static_aspect n (codes "interrupt_priority") aspects)
 
 -- ---- entries, in the order of the text
 
-abbrev pub same_entry_unit : EntryUnit → EntryUnit → Bool
+unfoldable pub same_entry_unit : EntryUnit → EntryUnit → Bool
 same_entry_unit (entry_unit.Task a) (entry_unit.Task b) = eqb a.0 b.0
 same_entry_unit (entry_unit.Task a) (entry_unit.Protected b) = false
 same_entry_unit (entry_unit.Protected a) (entry_unit.Task b) = false
@@ -66,23 +67,23 @@ same_entry_unit (entry_unit.Protected a) (entry_unit.Protected b) = eqb a.0 b.0
 abbrev pub entry_no : ℕ → EntryNo
 entry_no e = record { 0 = e }
 
-abbrev pub entries_from : ℕ → EntryUnit → List NumberedEntry → List EntryNo
+unfoldable pub entries_from : ℕ → EntryUnit → List NumberedEntry → List EntryNo
 entries_from number unit [] = []
 entries_from number unit (e ∷ es) =
     cond (same_entry_unit e.unit unit) (entry_no number ∷ entries_from (suc number) unit es) (entries_from (suc number) unit es)
 
-abbrev pub entries_of : Names → EntryUnit → List EntryNo
+unfoldable pub entries_of : Names → EntryUnit → List EntryNo
 entries_of n unit = entries_from 0 unit n.entries
 
 -- ---- task units
 
-abbrev pub deadline_made : Within → Option Expression → Making (Option ExprNo)
+unfoldable pub deadline_made : Within → Option Expression → Making (Option ExprNo)
 deadline_made within None = pure None
 deadline_made within (Some e) = do
   number ← expression_made e within
   pure (Some number)
 
-abbrev pub task_unit_with : Names → ℕ → NumberedTask → Option ExprNo → TaskUnit
+unfoldable pub task_unit_with : Names → ℕ → NumberedTask → Option ExprNo → TaskUnit
 task_unit_with n number t deadline = record {
   scope = scope_no t.scope;
   priority = priority_of n t.aspects;
@@ -90,7 +91,7 @@ task_unit_with n number t deadline = record {
   entries = entries_of n (entry_unit.Task (record { 0 = number }));
 }
 
-abbrev pub task_units_made : Within → ℕ → List NumberedTask → Making (List TaskUnit)
+unfoldable pub task_units_made : Within → ℕ → List NumberedTask → Making (List TaskUnit)
 task_units_made within number [] = pure []
 task_units_made within number (t ∷ ts) = do
   deadline ← deadline_made within (aspect_value (codes "relative_deadline") t.aspects)
@@ -99,11 +100,11 @@ task_units_made within number (t ∷ ts) = do
 
 -- ---- entries
 
-abbrev pub place_among : EntryUnit → List NumberedEntry → ℕ
+unfoldable pub place_among : EntryUnit → List NumberedEntry → ℕ
 place_among unit [] = 0
 place_among unit (e ∷ es) = cond (same_entry_unit e.unit unit) (suc (place_among unit es)) (place_among unit es)
 
-abbrev pub entry_with : Names → List NumberedEntry → NumberedEntry → Option EntryBody → Entry
+unfoldable pub entry_with : Names → List NumberedEntry → NumberedEntry → Option EntryBody → Entry
 entry_with n before e body = record {
   name = e.name;
   unit = e.unit;
@@ -112,13 +113,13 @@ entry_with n before e body = record {
   body = body;
 }
 
-abbrev pub entry_body_made : Within → Option NumberedEntryBody → Making (Option EntryBody)
+unfoldable pub entry_body_made : Within → Option NumberedEntryBody → Making (Option EntryBody)
 entry_body_made within None = pure None
 entry_body_made within (Some b) = do
   barrier ← expression_made b.barrier within
   pure (Some (record { barrier = barrier; scope = scope_no b.scope }))
 
-abbrev pub entries_made : Within → List NumberedEntry → List NumberedEntry → Making (List Entry)
+unfoldable pub entries_made : Within → List NumberedEntry → List NumberedEntry → Making (List Entry)
 entries_made within before [] = pure []
 entries_made within before (e ∷ es) = do
   body ← entry_body_made within e.body
@@ -130,12 +131,12 @@ entries_made within before (e ∷ es) = do
 abbrev pub decl_no : ℕ → DeclNo
 decl_no d = record { 0 = d }
 
-abbrev pub components_from : ℕ → ComponentOwner → List NumberedDeclaration → List DeclNo
+unfoldable pub components_from : ℕ → ComponentOwner → List NumberedDeclaration → List DeclNo
 components_from number o [] = []
 components_from number o (d ∷ ds) =
     cond (is_component_of o d.sort) (decl_no number ∷ components_from (suc number) o ds) (components_from (suc number) o ds)
 
-abbrev pub component_numbers : Names → ComponentOwner → List DeclNo
+unfoldable pub component_numbers : Names → ComponentOwner → List DeclNo
 component_numbers n o = components_from 0 o n.declarations
 
 -- ---- protected units: what is attached to an interrupt, by the numbers of the interrupts
@@ -143,7 +144,7 @@ component_numbers n o = components_from 0 o n.declarations
 abbrev pub subprogram_no : ℕ → SubprogramNo
 subprogram_no s = record { 0 = s }
 
-abbrev pub inserted : Attachment → List Attachment → List Attachment
+unfoldable pub inserted : Attachment → List Attachment → List Attachment
 inserted a [] = a ∷ []
 inserted a (b ∷ bs) = cond (leb a.interrupt b.interrupt) (a ∷ b ∷ bs) (b ∷ inserted a bs)
 
@@ -151,26 +152,26 @@ abbrev pub is_operation_of : ℕ → Option ℕ → Bool
 is_operation_of u None = false
 is_operation_of u (Some v) = eqb v u
 
-abbrev pub attached_interrupt : Names → ℕ → NumberedSubprogram → Option ℕ
+unfoldable pub attached_interrupt : Names → ℕ → NumberedSubprogram → Option ℕ
 attached_interrupt n u s = cond (is_operation_of u s.unit) (static_aspect n (codes "attach_handler") s.aspects) None
 
-abbrev pub inserted_if : Option ℕ → ℕ → List Attachment → List Attachment
+unfoldable pub inserted_if : Option ℕ → ℕ → List Attachment → List Attachment
 inserted_if None number attached = attached
 inserted_if (Some interrupt) number attached = inserted (record { interrupt = interrupt; handler = subprogram_no number }) attached
 
-abbrev pub attachments_from : Names → ℕ → ℕ → List NumberedSubprogram → List Attachment
+unfoldable pub attachments_from : Names → ℕ → ℕ → List NumberedSubprogram → List Attachment
 attachments_from n u number [] = []
 attachments_from n u number (s ∷ ss) = inserted_if (attached_interrupt n u s) number (attachments_from n u (suc number) ss)
 
-abbrev pub attachments_of : Names → ℕ → List Attachment
+unfoldable pub attachments_of : Names → ℕ → List Attachment
 attachments_of n u = attachments_from n u 0 n.subprograms
 
 -- without an aspect the ceiling is the last Priority, and the one above where a handler is attached (this profile's)
-abbrev pub default_ceiling : ℕ → List Attachment → ℕ
+unfoldable pub default_ceiling : ℕ → List Attachment → ℕ
 default_ceiling last [] = last
 default_ceiling last (a ∷ rest) = suc last
 
-abbrev pub protected_unit_made : Names → ℕ → NumberedProtected → ProtectedUnit
+unfoldable pub protected_unit_made : Names → ℕ → NumberedProtected → ProtectedUnit
 protected_unit_made n number p = record {
   ceiling = unwrap_or (priority_of n p.aspects) (default_ceiling n.last_priority (attachments_of n number));
   entries = entries_of n (entry_unit.Protected (record { 0 = number }));
@@ -178,7 +179,7 @@ protected_unit_made n number p = record {
   attached = attachments_of n number;
 }
 
-abbrev pub protected_units_made : Names → ℕ → List NumberedProtected → List ProtectedUnit
+unfoldable pub protected_units_made : Names → ℕ → List NumberedProtected → List ProtectedUnit
 protected_units_made n number [] = []
 protected_units_made n number (p ∷ ps) = protected_unit_made n number p ∷ protected_units_made n (suc number) ps
 
@@ -193,31 +194,31 @@ is_in_out mode.In = false
 is_in_out mode.Out = false
 is_in_out mode.InOut = true
 
-abbrev pub is_of_type : ℕ → Formal → Bool
+unfoldable pub is_of_type : ℕ → Formal → Bool
 is_of_type c f = is_in_out f.mode && subtype_is (is_derived c) f.subtype
 
-abbrev pub has_one_of_type : ℕ → List Formal → Bool
+unfoldable pub has_one_of_type : ℕ → List Formal → Bool
 has_one_of_type c [] = false
 has_one_of_type c (f ∷ []) = is_of_type c f
 has_one_of_type c (f ∷ g ∷ more) = false
 
-abbrev pub overrides : ℕ → NumberedControlled → List ℕ → NumberedSubprogram → Bool
+unfoldable pub overrides : ℕ → NumberedControlled → List ℕ → NumberedSubprogram → Bool
 overrides number t name s =
     bytes_eq s.name name && (is_none s.result && (is_none s.unit && (eqb s.part t.part && has_one_of_type number s.formals)))
 
-abbrev pub overriding_from : ℕ → NumberedControlled → List ℕ → ℕ → List NumberedSubprogram → Option SubprogramNo
+unfoldable pub overriding_from : ℕ → NumberedControlled → List ℕ → ℕ → List NumberedSubprogram → Option SubprogramNo
 overriding_from c t name number [] = None
 overriding_from c t name number (s ∷ ss) =
     or_else (overriding_from c t name (suc number) ss) (cond (overrides c t name s) (Some (subprogram_no number)) None)
 
-abbrev pub overriding : Names → ℕ → NumberedControlled → List ℕ → Option SubprogramNo
+unfoldable pub overriding : Names → ℕ → NumberedControlled → List ℕ → Option SubprogramNo
 overriding n c t name = overriding_from c t name 0 n.subprograms
 
 abbrev pub unless_limited : Bool → Option SubprogramNo → Option SubprogramNo
 unless_limited true s = None
 unless_limited false s = s
 
-abbrev pub controlled_type_made : Names → ℕ → NumberedControlled → ControlledType
+unfoldable pub controlled_type_made : Names → ℕ → NumberedControlled → ControlledType
 controlled_type_made n number t = record {
   components = component_numbers n (owner.Controlled (record { 0 = number }));
   initialize = overriding n number t (codes "initialize");
@@ -225,6 +226,6 @@ controlled_type_made n number t = record {
   adjust = unless_limited t.is_limited (overriding n number t (codes "adjust"));
 }
 
-abbrev pub controlled_types_made : Names → ℕ → List NumberedControlled → List ControlledType
+unfoldable pub controlled_types_made : Names → ℕ → List NumberedControlled → List ControlledType
 controlled_types_made n number [] = []
 controlled_types_made n number (t ∷ ts) = controlled_type_made n number t ∷ controlled_types_made n (suc number) ts

@@ -1,0 +1,132 @@
+//! Array types, controlled types and subtypes (ISO/IEC 8652:2012, 3.2.2, 3.6, 7.6).
+ghost use Rattle.std.specs.Prelude.{◌≡◌, OnOk};
+ghost use Rattle.ada_regions.specs.Words.{and_then};
+ghost use Rattle.ada_regions.specs.Names.{denoted_by};
+ghost use Rattle.ada_regions.specs.Subtypes.{mark_denoted};
+ghost use Rattle.ada_regions.specs.Declaring.{free_subtype, is_limited_root, is_limited_parent, numbered_controlled, array_declared, derived_declared, subtype_declared};
+
+use crate::entering::{entered_here, number};
+use crate::numbering::with_region;
+use ada_entities::{denoted_by, enclosure_here};
+use ada_regions::{AdaType, EntityKind, Names, NumberedControlled, Subtype};
+use ada_subtypes::{array_type, indicated_subtype, mark_denoted};
+use ada_tree::{Expression, Identifier, Name, SubtypeIndication};
+use ann_base::NoMemory;
+use profile_machine::{Constraint, ControlledNo};
+use std::alloc::Global;
+
+/// A type without a range.
+pub(crate) fn free_subtype(of_type: AdaType) -> Subtype
+    ensures { result ≡ free_subtype of_type }
+{
+    Subtype {
+        of_type,
+        range: Constraint::Free,
+    }
+}
+
+/// An array type is declared.
+#[tactic(auto, unfolding(ada_regions::specs::Declaring::array_declared))]
+pub fn array_declared(
+    alloc: Global,
+    names: &mut Names<'_>,
+    identifier: &Identifier,
+    low: &Expression,
+    high: &Expression,
+    component: &SubtypeIndication,
+) -> Result<(), NoMemory>
+    ensures { OnOk result (names.new ≡ array_declared identifier.now low.now high.now component.now names.old) }
+{
+    let array = number(names.arrays.len())?;
+    let of_type = array_type(names, low, high, component);
+    names.arrays.push_back(of_type)?;
+    let kind = EntityKind::Mark(Some(free_subtype(AdaType::Array(array))));
+    entered_here(alloc, names, identifier, kind, None)
+}
+
+fn is_limited_root(of_type: AdaType) -> bool
+    ensures { result ≡ is_limited_root of_type }
+{
+    match of_type {
+        AdaType::Integer => false,
+        AdaType::Boolean => false,
+        AdaType::Duration => false,
+        AdaType::Enumeration(_) => false,
+        AdaType::Array(_) => false,
+        AdaType::Time => false,
+        AdaType::TimeSpan => false,
+        AdaType::CpuTime => false,
+        AdaType::TaskId => false,
+        AdaType::TimingEvent => false,
+        AdaType::Timer => false,
+        AdaType::GroupBudget => false,
+        AdaType::LimitedControlled => true,
+        AdaType::Controlled => false,
+        AdaType::Derived(_) => false,
+        AdaType::Task(_) => false,
+        AdaType::Protected(_) => false,
+    }
+}
+
+fn is_limited_parent(parent: Option<Subtype>) -> bool
+    ensures { result ≡ is_limited_parent parent }
+{
+    match parent {
+        None => true,
+        Some(parent) => is_limited_root(parent.of_type),
+    }
+}
+
+/// The subtype that the name of a parent denotes.
+fn parent_of(names: &Names<'_>, parent: &Name) -> Option<Subtype>
+    ensures { result ≡ and_then (denoted_by names.now parent.now) (mark_denoted names.now) }
+{
+    match denoted_by(names, parent) {
+        None => None,
+        Some(denoted) => mark_denoted(names, denoted),
+    }
+}
+
+#[tactic(auto, unfolding(ada_regions::specs::Declaring::numbered_controlled))]
+fn numbered_controlled(names: &Names<'_>, parent: &Name) -> NumberedControlled
+    ensures { result ≡ numbered_controlled names.now parent.now }
+{
+    NumberedControlled {
+        region: names.regions,
+        part: enclosure_here(names).part,
+        is_limited: is_limited_parent(parent_of(names, parent)),
+    }
+}
+
+/// A controlled type is declared.
+#[tactic(auto, unfolding(ada_regions::specs::Declaring::derived_declared))]
+pub fn derived_declared(
+    alloc: Global,
+    names: &mut Names<'_>,
+    identifier: &Identifier,
+    parent: &Name,
+) -> Result<(), NoMemory>
+    ensures { OnOk result (names.new ≡ derived_declared identifier.now parent.now names.old) }
+{
+    let derived = ControlledNo(number(names.controlled_types.len())?);
+    let region = names.regions;
+    let controlled = numbered_controlled(names, parent);
+    names.controlled_types.push_back(controlled)?;
+    with_region(names)?;
+    let kind = EntityKind::Mark(Some(free_subtype(AdaType::Derived(derived))));
+    entered_here(alloc, names, identifier, kind, Some(region))
+}
+
+/// A subtype is declared.
+#[tactic(auto, unfolding(ada_regions::specs::Declaring::subtype_declared))]
+pub fn subtype_declared(
+    alloc: Global,
+    names: &mut Names<'_>,
+    identifier: &Identifier,
+    indication: &SubtypeIndication,
+) -> Result<(), NoMemory>
+    ensures { OnOk result (names.new ≡ subtype_declared identifier.now indication.now names.old) }
+{
+    let kind = EntityKind::Mark(indicated_subtype(names, indication));
+    entered_here(alloc, names, identifier, kind, None)
+}

@@ -1,0 +1,25 @@
+//! What the making of an image stands on: its lists, the places of statements, and the cells of declarations (ISO/IEC
+//! 8652:2012, 3.3.1, 3.5, 3.6, 5.1). Each function has the name of the definition of `ada_image` of which it is the
+//! counterpart.
+#![tactic(auto)]
+
+mod first_values;
+mod making;
+mod places;
+mod subprograms;
+mod subtypes;
+mod widths;
+mod within;
+
+pub use first_values::first_value;
+pub use making::{action_put, counted, first_put, put_at, reserved, the_action, value_put};
+pub use places::{is_component_of, is_in_scope};
+pub use subprograms::{enumerations_made, formal_made, formals_made};
+pub use subtypes::{
+    array_of, index_range, is_array, is_kept, is_thing, range_of_cells, subtype_is_array,
+    subtype_is_kept, subtype_is_thing,
+};
+pub use widths::{added, cells_of_declaration, width_of_object, width_of_subtype};
+pub use within::{
+    in_body_of, in_construct, in_handler, in_loop, in_scope, in_unit, nothing_made, outermost,
+};

@@ -28,7 +28,6 @@ pub enum Next {
 }
 
 /// A run under way.
-#[derive(Drop)]
 pub struct Kernel {
     alloc: Global,
     program: Program,
@@ -45,6 +44,24 @@ pub struct Kernel {
     last: Option<Stopped>,
     ghost in_order: { effect.said ≡ [] },
     ghost in_time: { IsTrue (is_in_time at_instant stop effect.world.time bound) },
+}
+
+// Written out, so that whoever drops a kernel does not have the drops of all its parts to prove.
+impl Drop for Kernel {
+    fn drop(self) {
+        let Kernel {
+            alloc: _,
+            program: _,
+            bound: _,
+            effect: _,
+            at_instant: _,
+            stop: _,
+            told_at: _,
+            said: _,
+            ticks: _,
+            last: _,
+        } = self;
+    }
 }
 
 impl Kernel {

@@ -1,8 +1,9 @@
-use Rattle.std.proofs.Common.{◌++◌, ◌∙◌, ap, arith}
+use Rattle.std.proofs.Common.{◌≡◌, ◌++◌, ◌∙◌, [], sym, ap, arith}
 use Rattle.trace_text.specs.Text.{text_of}
-use Rattle.machine_kernel.specs.Kernel.{future}
+use Rattle.machine_kernel.specs.Kernel.{future, stop_to_come}
+use Rattle.machine_kernel.specs.Future.{lines_of_run, stop_of_run}
 use Rattle.commands.specs.Runs.{text_of_run}
-use Rattle.outside_bytes.proofs.PiecesWritten.{err-none, one_more_line, cut_line}
+use Rattle.outside_bytes.proofs.PiecesWritten.{extended-nil, err-none, one_more_line, cut_line}
 use Rattle.annexd.proofs.running.run.Goals as goal
 
 pub returns-in_err-kernel-clause-prefix : goal.returns-in_err-kernel-clause-prefix
@@ -10,6 +11,21 @@ returns-in_err-kernel-clause-prefix g c = err-none c.from_residual.result (g.K.S
 
 pub returns-in_err-buffer-clause-prefix : goal.returns-in_err-buffer-clause-prefix
 returns-in_err-buffer-clause-prefix g c = err-none c.from_residual-in_err-buffer.result (g.K.Sink.held c.args.out.now) (text_of_run c.args.checked c.args.ticks)
+
+-- the run is that of the program that the checked image gives away, and of no script
+pub loop-buffer-init : goal.loop-buffer-init
+loop-buffer-init g c =
+    let lines : future c.in_ok-kernel.kernel ≡ lines_of_run c.args.checked.program [] c.args.ticks =
+    c.in_ok-kernel.ensures.lines ∙ (ap (λ p. lines_of_run p c.new.result c.args.ticks) c.into_program.ensures
+    ∙ ap (λ script. lines_of_run c.args.checked.program script c.args.ticks) c.new.ensures) in
+    let stop : stop_to_come c.in_ok-kernel.kernel ≡ stop_of_run c.args.checked.program [] c.args.ticks =
+    c.in_ok-kernel.ensures.stop ∙ (ap (λ p. stop_of_run p c.new.result c.args.ticks) c.into_program.ensures
+    ∙ ap (λ script. stop_of_run c.args.checked.program script c.args.ticks) c.new.ensures) in
+    record {
+      text = ([], ap text_of (sym lines), sym (extended-nil (g.K.Sink.held c.args.out.now)));
+      stop = stop;
+      monotone = omega arith;
+    }
 
 pub loop-buffer-preserved : goal.loop-buffer-preserved
 loop-buffer-preserved g c = record {

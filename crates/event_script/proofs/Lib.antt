@@ -1,0 +1,5 @@
+pub mod Endings
+pub mod InOrder
+pub mod LongScripts
+pub mod OneMore
+pub mod Refusals

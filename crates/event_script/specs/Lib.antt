@@ -1,0 +1,5 @@
+pub mod Words
+pub mod Numbers
+pub mod Entries
+pub mod Items
+pub mod Script

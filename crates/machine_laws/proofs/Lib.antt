@@ -1,18 +1,18 @@
 mod ListLemmas
-mod Moves
+pub mod Moves
 mod AtOnce
-mod Kept
-mod TimeLemmas
+pub mod Kept
+pub mod TimeLemmas
 pub mod LineLemmas
 mod AppointmentLemmas
 mod DueLemmas
 mod ItemLemmas
-mod ReachedLemmas
+pub mod ReachedLemmas
 mod NumberLemmas
-mod RunLemmas
+pub mod RunLemmas
 mod IdleLemmas
 mod RepresentationLemmas
 mod OrderLemmas
-mod PlaceLemmas
-mod QueueLemmas
+pub mod PlaceLemmas
+pub mod QueueLemmas
 mod DispatchLemmas

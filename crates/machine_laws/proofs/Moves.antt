@@ -66,16 +66,17 @@ MoveRelation = World → List Event → World → Type 0
 abbrev pub lines_of : Image → List Said → List Event
 lines_of p said = map (λ x. event_of p x.line) (in_order said)
 
--- the line of a Put_Line
-abbrev pub is_put : Line → Bool
-is_put (said.Put name text) = true
-is_put _ = false
+-- The lines that are said only together with what they tell: that of a Put_Line, and that of a release.
+abbrev pub is_told_apart : Line → Bool
+is_told_apart (said.Put name text) = true
+is_told_apart (said.Release release handler) = true
+is_told_apart _ = false
 
 pub record Moves (R : StepRelation) (Q : MoveRelation) : Type 0 where
-  -- nothing is done, one step follows another, and a line of an effect is said, which puts no text
+  -- nothing is done, one step follows another, and a line of an effect is said, unless it is told apart
   pub stays : (w : World) → R w [] w
   pub goes_on : (a b c : World) {xs ys : List Said} → R a xs b → R b ys c → R a (xs ++ ys) c
-  pub says : (part : Part) (line : Line) (w : World) → is_put line ≡ false → R w (record { part = part; line = line } ∷ []) w
+  pub says : (part : Part) (line : Line) (w : World) → is_told_apart line ≡ false → R w (record { part = part; line = line } ∷ []) w
   -- the same of moves; an effect is over, and a change that says nothing is a move too
   pub rests : (w : World) → Q w [] w
   pub leads_on : (a b c : World) {xs ys : List Event} → Q a xs b → Q b ys c → Q a (xs ++ ys) c
@@ -105,7 +106,7 @@ pub record Moves (R : StepRelation) (Q : MoveRelation) : Type 0 where
   -- controlled objects: a new one has the next number
   pub registers : (r : RegionNo) (l : Located) (w : World) → R w [] (registered_as (suc w.drawn.controlled) r l w)
   pub unregisters : (n : ℕ) (w : World) → R w [] (no_longer_registered n w)
-  -- events, timers, budgets and releases
+  -- events, timers and budgets; a release has the next number, and is told
   pub draws_event : (w : World) → R w [] (record w { drawn = event_drawn w.drawn })
   pub adds_timer : (t : TaskNo) (w : World) → R w [] (with_timer t w)
   pub clears_timer : (k : ℕ) (w : World) → R w [] (clear_timer k w)
@@ -114,7 +115,7 @@ pub record Moves (R : StepRelation) (Q : MoveRelation) : Type 0 where
   pub adds_budget : (w : World) → R w [] (with_budget w)
   pub edits_budget : (b : ℕ) (f : Budget → Budget) (w : World) → R w [] (edit_budget b f w)
   pub sets_budget_due : (budget : Option ℕ) (w : World) → R w [] (record w { budget_due = budget })
-  pub releases : (h : HandlerOf) (argument : Option ℕ) (w : World) → R w [] (add_release h argument w)
+  pub releases : (h : HandlerOf) (argument : Option ℕ) (w : World) → R w (record { part = Own; line = said.Release (suc w.drawn.releases) h } ∷ []) (add_release h argument w)
   pub has_served : (w : World) → R w [] (serves_nothing w)
   -- the outside: of the script only the first item that is ahead is taken, when its moment has come
   pub sets_port : (n : ℕ) (value : ℤ) (w : World) → R w [] (with_port n value w)

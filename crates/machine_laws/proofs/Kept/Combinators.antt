@@ -11,7 +11,7 @@ use Rattle.profile_machine.specs.Steps.{Step, Move, Done, done, goes_on_with, no
 use Rattle.profile_machine.specs.Operators.{Valued, ◌>>=◌}
 use Rattle.profile_machine.specs.Values.{Seen, seen_by}
 use Rattle.profile_machine.specs.Statements.{sees}
-use Rattle.machine_laws.proofs.Moves.{StepRelation, MoveRelation, Moves, is_put, lines_of}
+use Rattle.machine_laws.proofs.Moves.{StepRelation, MoveRelation, Moves, is_told_apart, lines_of}
 
 -- ---- what it is to keep a relation
 
@@ -89,8 +89,8 @@ module _ {R : StepRelation} {Q : MoveRelation} (moves : Moves R Q) where
   unfolding Keeps Kept
   said-keeps part line a w said = (record { part = part; line = line } ∷ [], refl, a w)
 
-  pub says-keeps : (part : Part) (line : Line) → is_put line ≡ false → Keeps R (says part line)
-  says-keeps part line no_put = said-keeps part line (λ w. moves.says part line w no_put)
+  pub says-keeps : (part : Part) (line : Line) → is_told_apart line ≡ false → Keeps R (says part line)
+  says-keeps part line other = said-keeps part line (λ w. moves.says part line w other)
 
   pub looks-keeps : (f : World → Step) → ((v : World) → Keeps R (f v)) → Keeps R (looks f)
   unfolding Keeps

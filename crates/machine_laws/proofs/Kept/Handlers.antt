@@ -1,5 +1,5 @@
 -- Events, timers, budgets, interrupts and releases: each step keeps a relation that its parts keep.
-use Rattle.std.specs.Prelude.{ℕ, ◌+◌, ◌-◌, ℤ, pos, int_lt, Bool, true, false, cond, Option, Some, None}
+use Rattle.std.specs.Prelude.{ℕ, suc, ◌+◌, ◌-◌, ℤ, pos, int_lt, Bool, true, false, cond, [], ◌∷◌, Option, Some, None}
 use Rattle.ann_base.specs.declared.identities.TaskNo.{TaskNo}
 use Rattle.profile_machine.specs.declared.world.objects.Entering.{Entering}
 use Rattle.profile_machine.specs.declared.world.objects.Entering.TheVariants as entering_is
@@ -26,7 +26,7 @@ use Rattle.profile_machine.specs.declared.world.tasks.Task as world
 use Rattle.profile_machine.specs.Program.{is_robin_level, marks_of, subprogram_of}
 use Rattle.profile_machine.specs.declared.world.lines.Part.{Part}
 use Rattle.profile_machine.specs.declared.world.lines.Part.TheVariants.{Own}
-use Rattle.profile_machine.specs.Steps.{Step}
+use Rattle.profile_machine.specs.Steps.{Step, changes, looks, ◌▷◌}
 use Rattle.profile_machine.specs.Tasks.{task_of, edit_task}
 use Rattle.profile_machine.specs.Frames.{has_room}
 use Rattle.profile_machine.specs.Values.{Seen}
@@ -36,7 +36,7 @@ use Rattle.profile_machine.specs.Handlers.{add_release, says_release, wake_agent
 use Rattle.std.proofs.Common.{◌≡◌, refl}
 use Rattle.std.specs.Prelude.{Bool}
 use Rattle.machine_laws.proofs.Moves.{StepRelation, MoveRelation, Moves}
-use Rattle.machine_laws.proofs.Kept.Combinators.{Keeps, From, Alters, branch-keeps, changes-keeps, for_some-keeps, keeps-from, looks-from, looks-keeps, nothing-keeps, says-keeps, sees-keeps, then-keeps, unchanged-alters}
+use Rattle.machine_laws.proofs.Kept.Combinators.{Keeps, Kept, From, Alters, branch-keeps, changes-keeps, for_some-keeps, keeps-from, looks-from, looks-keeps, nothing-keeps, says-keeps, sees-keeps, then-keeps, unchanged-alters}
 use Rattle.machine_laws.proofs.Kept.Frames.{becomes-from, goes-keeps, given-keeps, raise_if-keeps}
 use Rattle.machine_laws.proofs.Kept.Tasks.{edit_task-alters}
 use Rattle.machine_laws.proofs.Kept.Dispatching.{ready-keeps}
@@ -47,13 +47,10 @@ use Rattle.machine_laws.proofs.Kept.Protected.{find_held-keeps, begin_action_on-
 use Rattle.machine_laws.proofs.Kept.Serving.{end_release-keeps}
 
 module _ {R : StepRelation} {Q : MoveRelation} (moves : Moves R Q) where
-  add_release-alters : (h : HandlerOf) (argument : Option ℕ) → Alters R (add_release h argument)
-  unfolding Alters
-  add_release-alters h argument w = moves.releases h argument w
-
-  says_release-keeps : (part : Part) (h : HandlerOf) → Keeps R (says_release part h)
-  unfolding says_release
-  says_release-keeps part h = looks-keeps moves _ (λ w. says-keeps moves part (line.Release w.drawn.releases h) refl)
+  -- a release is drawn, and told
+  told_release-keeps : (h : HandlerOf) (argument : Option ℕ) → Keeps R (changes (add_release h argument) ▷ says_release Own h)
+  unfolding Keeps Kept says_release
+  told_release-keeps h argument w said = (record { part = Own; line = line.Release (suc w.drawn.releases) h } ∷ [], refl, moves.releases h argument w)
 
   pub wake_agent-keeps : (p : Image) (part : Part) (state : State) → Keeps R (wake_agent p part state)
   unfolding wake_agent
@@ -61,9 +58,10 @@ module _ {R : StepRelation} {Q : MoveRelation} (moves : Moves R Q) where
   wake_agent-keeps p part Runnable = search (nothing-keeps)
   wake_agent-keeps p part Made = search (nothing-keeps)
 
-  pub release-keeps : (p : Image) (part : Part) (h : HandlerOf) (argument : Option ℕ) → Keeps R (release p part h argument)
+  pub release-keeps : (p : Image) (h : HandlerOf) (argument : Option ℕ) → Keeps R (release p Own h argument)
   unfolding release
-  release-keeps p part h argument = search (changes-keeps, add_release-alters, then-keeps, says_release-keeps, looks-keeps, wake_agent-keeps) depth 6
+  release-keeps p h argument =
+      then-keeps moves (changes (add_release h argument) ▷ says_release Own h) (looks (λ w. wake_agent p Own w.agent.state)) (told_release-keeps h argument) (search (looks-keeps, wake_agent-keeps))
 
   pub with_room_for_release-keeps : (name : Who) (needed : Bool) (step : Step) → Keeps R step → Keeps R (with_room_for_release name needed step)
   with_room_for_release-keeps name needed step kept = search (looks-keeps, raise_if-keeps)
@@ -104,7 +102,7 @@ module _ {R : StepRelation} {Q : MoveRelation} (moves : Moves R Q) where
   appoint_event-from : (p : Image) (e : ℕ) (h : HandlerOf) (m : ℤ) (test : Bool) (w : World) → int_lt (pos w.time) m ≡ test → From R w (appoint_event p e h m test)
   unfolding appoint_event
   appoint_event-from p e h m true w is = appoint-from moves (due_for.Event e h) m w is
-  appoint_event-from p e h m false w is = keeps-from moves (release p Own h (Some e)) w (release-keeps p Own h (Some e))
+  appoint_event-from p e h m false w is = keeps-from moves (release p Own h (Some e)) w (release-keeps p h (Some e))
 
   pub event_set_to-keeps : (p : Image) (e : ℕ) (h : Option HandlerOf) (m : ℤ) → Keeps R (event_set_to p e h m)
   unfolding event_set_to

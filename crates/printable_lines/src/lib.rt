@@ -1,0 +1,48 @@
+//! Every line of a run can be printed: laws of the profile machine's definitions alone, which hold of every program, script
+//! and bound. Each is the contract of a function that does nothing.
+#![tactic(auto)]
+
+ghost use Rattle.std.specs.Prelude.{IsTrue};
+ghost use Rattle.machine_laws.specs.Rows.Row24_1.{row_24_1_program};
+ghost use Rattle.printable_lines.specs.Names.{is_named, NamesAreTested, EventsArePrintable, LinesArePrintable, RunsArePrintable};
+ghost use Rattle.printable_lines.specs.Texts.{TextsAreOfPuts, TextsAreShort};
+
+use machine_laws::runs::runs_stay_within;
+
+/// Where the test computes to true, the names of a program can stand in a line. It does of a worked program.
+#[tactic(auto, using(crate::proofs::Tests::names_are_tested, crate::proofs::Tests::row_is_named))]
+pub fn names_are_tested()
+    ensures test { NamesAreTested }
+    ensures row { IsTrue (is_named row_24_1_program) }
+{}
+
+/// Where the names of a program can stand in a line, each line that an effect says is printable with its names, but for the
+/// two kinds below.
+#[tactic(auto, using(crate::proofs::NameLemmas::events_are_printable))]
+pub fn events_are_printable()
+    ensures { EventsArePrintable }
+{}
+
+/// Where the names of a program can stand in a line, every line of each of its runs is printable, but for two kinds: a line
+/// that names an item which the program does not have, so that its name is empty, and a line that puts what is no text.
+#[tactic(auto, using(crate::proofs::Printable::lines_are_printable))]
+pub fn lines_are_printable()
+    ensures { LinesArePrintable }
+{}
+
+/// Each text that a run puts is that of the pieces of a Put_Line of the program, whose expressions had some values (A.10.7).
+/// Where a line has room for each Put_Line of the program, and these values were within 32 bits, a line can have it.
+#[tactic(auto, using(crate::proofs::Puts::texts_are_of_puts, crate::proofs::Puts::texts_are_short))]
+pub fn texts_are_put()
+    ensures puts { TextsAreOfPuts }
+    ensures short { TextsAreShort }
+{}
+
+/// Where besides no line of a run lacks a name or puts what is no text, and the numbers and ticks of its lines fit their
+/// types, the run is a list of printable lines: another such list has another text.
+#[tactic(auto, using(crate::proofs::Runs::runs_are_printable))]
+pub fn runs_are_printable()
+    ensures { RunsArePrintable }
+{
+    runs_stay_within();
+}

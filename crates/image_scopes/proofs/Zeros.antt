@@ -1,5 +1,5 @@
 -- What a cell holds that is no zero.
-use Rattle.std.proofs.Common.{◌≡◌, ℕ, zero, suc, ℤ, pos, negsuc, ◌≢◌, false, refl}
+use Rattle.std.proofs.Common.{◌≡◌, zero, suc, ℤ, pos, negsuc, ◌≢◌, false, refl}
 use Rattle.profile_machine.specs.declared.values.Value.TheVariants as value
 use Rattle.ada_image.specs.Layout.{is_plain_zero}
 

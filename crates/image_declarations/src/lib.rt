@@ -1,0 +1,9 @@
+//! What a declaration of an image is, and where its cells stand (ISO/IEC 8652:2012, 3.1, 3.5). Each function has the name of
+//! the definition of `ada_image` of which it is the counterpart. A number that its type cannot hold is answered as want of
+//! memory.
+#![tactic(auto)]
+
+mod declarations;
+mod kinds;
+
+pub use declarations::numbered_object;

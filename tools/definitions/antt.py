@@ -440,7 +440,8 @@ class Parser:
         if k == "op" and v == "(":
             items = [self.expr(env)]
             while self.peek() == ("op", ","):
-                self.next(); items.append(self.expr(env))
+                self.next()
+                if self.peek() != ("op", ")"): items.append(self.expr(env))
             self.expect(")")
             h = items[-1]
             for x in reversed(items[:-1]): h = f"Rec({{'0': {x}, '1': {h}}})"

@@ -2,17 +2,16 @@
 """Compares the legality faults of a source by the definitions of `ada_legality` with what a front end in Python answers.
 
     tools/definitions/compare_faults.py --front-end FOLDER SOURCE..          the first fault, its code and place
-    tools/definitions/compare_faults.py --front-end FOLDER --seeds FIRST LAST --size N --built K    the same of generated sources
+    tools/definitions/compare_faults.py --front-end FOLDER --seeds FIRST LAST --size N    the same of generated sources
     tools/definitions/compare_faults.py --front-end FOLDER --table FILE      a table of sources against its own answers
     tools/definitions/compare_faults.py --front-end FOLDER --tell FILE       such a table against the front end's answers
-    .. --built 2           of the forms that the program runs today, where the others are refused with L40
     .. --all               all faults of each source, and not the first alone (not of a table)
     .. --plain             every look-up by its definition, which is slower
     .. --changed N SEED    of each source, N changed ones too: a name, a number, an operator or any token is another one
 
 Run at the root of the repository. FOLDER is that of ../program_data.py, which also has a generator. A table has for each source a
 line `## none TITLE` or `## L6 LINE:COLUMN TITLE`, and the source behind it; `@N TEXT@` in a source stands for TEXT N times, in
-which `#` is the number of the turn. `(today)` in a title: of the forms that the program runs today. Sources that are no trees, or whose names have a fault, are counted and left.
+which `#` is the number of the turn. Sources that are no trees, or whose names have a fault, are counted and left.
 """
 import argparse
 import os
@@ -22,8 +21,10 @@ import sys
 import threading
 
 sys.path.insert(0, os.path.dirname(os.path.abspath(__file__)))
-from antt import GLOBALS, Fn, load
+from antt import GLOBALS, load
 from tree_value import Converter
+
+ALL_FORMS = 17    # the front end in Python has forms that it does not run yet, by this number; here all are asked
 
 
 def definition(module, name):
@@ -121,7 +122,6 @@ def main():
     parser.add_argument("--tell")
     parser.add_argument("--seeds", nargs=2, type=int)
     parser.add_argument("--size", type=int, default=3)
-    parser.add_argument("--built", type=int, default=17)
     parser.add_argument("--changed", nargs=2, type=int, default=[0, 1])
     parser.add_argument("--plain", action="store_true")
     parser.add_argument("--all", action="store_true")
@@ -132,7 +132,6 @@ def main():
     convert = Converter(tree)
     names_of = definition("ada_regions.specs.Numbered", "names_of")
     faults_where = definition("ada_legality.specs.Faults", "faults_where")
-    all_run, today = (Fn(1, definition("ada_legality.specs.Forms", f)) for f in ("runs_all", "runs"))
     number_of_rule = definition("ada_legality.specs.Faults", "number_of_rule")
     same, other, skipped, told = 0, 0, 0, {}
     if not a.plain:
@@ -144,7 +143,7 @@ def main():
         elif a.seeds:
             import gen
             for seed in range(*a.seeds):
-                yield f"seed {seed}", gen.generate(seed, a.size, a.built)[0]
+                yield f"seed {seed}", gen.generate(seed, a.size, ALL_FORMS)[0]
         else:
             for path in a.sources:
                 with open(path, encoding="latin-1") as f:
@@ -168,14 +167,13 @@ def main():
                 print(f"{title}: {fault!r}")
             continue
         u = convert.unit(t)
-        runs_now = a.built < 17 or "(today)" in title
-        got = faults_where(today if runs_now else all_run, u, names_of(u))
+        got = faults_where(u, names_of(u))
         every = [((f.d["place"].d["line"], f.d["place"].d["column"]), number_of_rule(f.d["rule"])) for f in got]
         got = every[0] if every else None
         if a.table:
             want = None if title.startswith("none ") else (tuple(map(int, title.split()[1].split(":"))), int(title.split()[0][1:]))
         else:
-            faults = legal.check(t, 2 if runs_now else a.built)
+            faults = legal.check(t, ALL_FORMS)
             want = (tuple(faults[0][0]), faults[0][1]) if faults else None
             if a.all:
                 theirs = [(tuple(p), r) for p, r in faults]

@@ -1,32 +1,26 @@
 -- The faults of a source (1.1.5): all pairs of a place and a rule that is broken there, in the
 -- order of the text, at one place
 -- by the numbers of the rules.
-use Rattle.std.specs.List.{flat_map, list_any}
-use Rattle.std.specs.Prelude.{Bool, List, None, Option, Some, [], cond, eqb, filter, ltb, map, not, ℕ, ◌&&◌, ◌||◌, ◌∷◌}
-use Rattle.ada_regions.specs.declared.table.Names.{Names}
-use Rattle.ada_regions.specs.Numbered.{names_of}
-use Rattle.ada_regions.specs.Words.{same_place, stands_before}
-use Rattle.ada_tree.specs.declared.units.Unit.{Unit as Tree}
-use Rattle.ada_legality.specs.Broken.{Places}
-use Rattle.ada_legality.specs.Constructs.{Form, Text}
-use Rattle.ada_legality.specs.ConstructsInUnits.{text_of}
-use Rattle.ada_legality.specs.Forms.{forms_broken, runs, text_where}
-use Rattle.ada_legality.specs.RulesOfAspects.{cpu_aspects_broken, priority_aspects_broken, relative_deadlines_broken}
-use Rattle.ada_legality.specs.RulesOfBodies.{completions_broken}
-use Rattle.ada_legality.specs.RulesOfDeadlines.{deadline_scheduling_broken}
-use Rattle.ada_legality.specs.RulesOfExpressions.{actuals_broken, assigned_variables_broken, calls_alone_broken, expected_types_broken, lines_broken, operand_types_broken}
-use Rattle.ada_legality.specs.RulesOfHandlers.{controlled_operations_broken, handlers_broken, interrupts_broken}
-use Rattle.ada_legality.specs.RulesOfLimits.{limits_broken}
-use Rattle.ada_legality.specs.RulesOfNames.{kinds_of_names_broken}
-use Rattle.ada_legality.specs.RulesOfPragmas.{pragmas_broken}
-use Rattle.ada_legality.specs.RulesOfRestrictions.{restrictions_broken}
-use Rattle.ada_legality.specs.RulesOfStatements.{conditions_and_choices_broken, exits_broken, raises_and_handlers_broken, returns_broken}
-use Rattle.ada_legality.specs.RulesOfTasks.{aborts_broken, accepts_broken, asynchronous_selects_broken, barriers_broken, entry_calls_broken, requeues_broken, selective_accepts_broken}
-use Rattle.ada_legality.specs.RulesOfTypes.{duration_literals_broken, integer_literals_broken, library_level_broken, limited_objects_broken, protected_components_broken, static_bounds_broken}
-use Rattle.ada_legality.specs.RulesOfUnits.{discriminants_broken, library_units_broken, main_procedure_last_broken, package_bodies_broken}
+use Rattle.ada_legality.specs.Findings.{Found}
+use Rattle.ada_legality.specs.InForce.{deadline_ranges_of, in_force_by}
+use Rattle.ada_legality.specs.Packages.{packages_judged}
+use Rattle.ada_legality.specs.Pragmas.{pragmas_judged}
+use Rattle.ada_legality.specs.Units.{known_of, units_found}
+use Rattle.ada_legality.specs.UnitsUsed.{found_from}
+use Rattle.ada_legality.specs.WholeSource.{found_beside}
 use Rattle.ada_legality.specs.declared.faults.Fault.{Fault}
-use Rattle.ada_legality.specs.declared.rules.Rule.TheVariants as rule
+use Rattle.ada_legality.specs.declared.findings.Finding.{Finding}
 use Rattle.ada_legality.specs.declared.rules.Rule.{Rule}
+use Rattle.ada_regions.specs.NamesInUnits.{names_in_unit}
+use Rattle.ada_regions.specs.Numbered.{last_priority_of, names_of, nothing_known}
+use Rattle.ada_regions.specs.Occurrences.{Occurrences}
+use Rattle.ada_regions.specs.Words.{same_place, stands_before}
+use Rattle.ada_regions.specs.declared.table.Names.{Names}
+use Rattle.ada_tree.specs.declared.units.Unit.{Unit as Tree}
+use Rattle.std.specs.List.{flat_map}
+use Rattle.std.specs.Prelude.{Bool, List, None, Option, Some, [], cond, eqb, ltb, ℕ, ◌&&◌, ◌++◌, ◌||◌, ◌∷◌}
+use Rattle.ada_legality.specs.declared.findings.Finding.TheVariants as finding
+use Rattle.ada_legality.specs.declared.rules.Rule.TheVariants as rule
 
 -- ---- the number of a rule, as the note of a refusal has it
 
@@ -70,7 +64,6 @@ number_of_rule rule.Restriction = 36
 number_of_rule rule.Discriminant = 37
 number_of_rule rule.Limit = 38
 number_of_rule rule.PutLineForm = 39
-number_of_rule rule.FormNotBuilt = 40
 
 -- ---- order
 
@@ -94,94 +87,41 @@ abbrev pub in_order_of_text : List Fault → List Fault
 in_order_of_text [] = []
 in_order_of_text (f ∷ fs) = fault_put f (in_order_of_text fs)
 
--- ---- the places at which each rule is broken
+-- ---- the faults among what is found
 
-abbrev pub broken_at : Rule → (Form → Bool) → Tree → Names → Text → Places
-broken_at rule.LibraryUnits run u n text = library_units_broken u text
-broken_at rule.PackageBodies run u n text = package_bodies_broken text
-broken_at rule.MainProcedureLast run u n text = main_procedure_last_broken text
-broken_at rule.Completions run u n text = completions_broken text
-broken_at rule.KindOfName run u n text = kinds_of_names_broken text
-broken_at rule.StaticBounds run u n text = static_bounds_broken text
-broken_at rule.IntegerLiteral run u n text = integer_literals_broken text
-broken_at rule.DurationLiteral run u n text = duration_literals_broken text
-broken_at rule.ExpectedType run u n text = expected_types_broken text
-broken_at rule.OperandTypes run u n text = operand_types_broken text
-broken_at rule.AssignedVariable run u n text = assigned_variables_broken text
-broken_at rule.Actuals run u n text = actuals_broken text
-broken_at rule.FunctionCallAlone run u n text = calls_alone_broken text
-broken_at rule.LimitedObject run u n text = limited_objects_broken text
-broken_at rule.ConditionsAndChoices run u n text = conditions_and_choices_broken text
-broken_at rule.ExitFromLoop run u n text = exits_broken text
-broken_at rule.ReturnStatement run u n text = returns_broken text
-broken_at rule.RaiseAndHandlers run u n text = raises_and_handlers_broken text
-broken_at rule.AcceptStatement run u n text = accepts_broken text
-broken_at rule.SelectiveAccept run u n text = selective_accepts_broken text
-broken_at rule.AsynchronousSelect run u n text = asynchronous_selects_broken text
-broken_at rule.EntryCallAlternative run u n text = entry_calls_broken text
-broken_at rule.AbortedTask run u n text = aborts_broken text
-broken_at rule.EntryBarrier run u n text = barriers_broken text
-broken_at rule.ProtectedComponents run u n text = protected_components_broken text
-broken_at rule.PriorityAspect run u n text = priority_aspects_broken text
-broken_at rule.CpuAspect run u n text = cpu_aspects_broken text
-broken_at rule.HandlerProcedure run u n text = handlers_broken text
-broken_at rule.AttachedInterrupt run u n text = interrupts_broken text
-broken_at rule.ConfigurationPragma run u n text = pragmas_broken u
-broken_at rule.DeadlineScheduling run u n text = deadline_scheduling_broken u text
-broken_at rule.RelativeDeadlineAspect run u n text = relative_deadlines_broken text
-broken_at rule.ControlledOperations run u n text = controlled_operations_broken text
-broken_at rule.LibraryLevelObject run u n text = library_level_broken text
-broken_at rule.RequeueStatement run u n text = requeues_broken u text
-broken_at rule.Restriction run u n text = restrictions_broken u text
-broken_at rule.Discriminant run u n text = discriminants_broken text
-broken_at rule.Limit run u n text = limits_broken u n text
-broken_at rule.PutLineForm run u n text = lines_broken text
-broken_at rule.FormNotBuilt run u n text = forms_broken run u text
+abbrev pub fault_in : Finding → List Fault
+fault_in (finding.Broken f) = f ∷ []
+fault_in f = []
 
--- all rules, by number
-abbrev pub all_rules : List Rule
-all_rules =
-    rule.LibraryUnits ∷ rule.PackageBodies ∷ rule.MainProcedureLast ∷ rule.Completions
-    ∷ rule.KindOfName ∷ rule.StaticBounds
-    ∷ rule.IntegerLiteral ∷ rule.DurationLiteral ∷ rule.ExpectedType ∷ rule.OperandTypes
-    ∷ rule.AssignedVariable ∷ rule.Actuals
-    ∷ rule.FunctionCallAlone ∷ rule.LimitedObject ∷ rule.ConditionsAndChoices ∷ rule.ExitFromLoop
-    ∷ rule.ReturnStatement
-    ∷ rule.RaiseAndHandlers ∷ rule.AcceptStatement ∷ rule.SelectiveAccept ∷ rule.AsynchronousSelect
-    ∷ rule.EntryCallAlternative
-    ∷ rule.AbortedTask ∷ rule.EntryBarrier ∷ rule.ProtectedComponents ∷ rule.PriorityAspect
-    ∷ rule.CpuAspect ∷ rule.HandlerProcedure
-    ∷ rule.AttachedInterrupt ∷ rule.ConfigurationPragma ∷ rule.DeadlineScheduling
-    ∷ rule.RelativeDeadlineAspect
-    ∷ rule.ControlledOperations ∷ rule.LibraryLevelObject ∷ rule.RequeueStatement ∷ rule.Restriction
-    ∷ rule.Discriminant
-    ∷ rule.Limit ∷ rule.PutLineForm ∷ rule.FormNotBuilt ∷ []
+-- all of them
+unfoldable pub faults_in : Found → List Fault
+faults_in found = flat_map fault_in found
 
--- the faults of one rule
-abbrev pub faults_of_rule : (Form → Bool) → Tree → Names → Text → Rule → List Fault
-faults_of_rule run u n text r =
-    map (λ place. record { place = place; rule = r }) (broken_at r run u n text)
+-- ---- the faults of a source, with what its names denote
 
--- no other rule is told where a form begins that does not run
-abbrev pub is_told : Places → Fault → Bool
-is_told forms f = eqb (number_of_rule f.rule) 40 || not (list_any (same_place f.place) forms)
+-- what a walk over the source finds
+unfoldable pub walked : Tree → Names → Occurrences → Found
+walked u n occurrences = units_found u (known_of n occurrences (in_force_by u.pragmas))
 
--- the faults of a text
-abbrev pub faults_in : (Form → Bool) → Tree → Names → Text → List Fault
-faults_in run u n text =
-    in_order_of_text
-    (filter (is_told (forms_broken run u text)) (flat_map (faults_of_rule run u n text) all_rules))
+-- what is found of pragmas, packages and units, and beside what the walk found
+unfoldable pub found_of : Tree → Names → Occurrences → Found
+found_of u n occurrences =
+    let found = walked u n occurrences in
+    found
+    ++ (found_beside n (deadline_ranges_of u.pragmas) found
+    ++ (pragmas_judged u.pragmas
+    ++ (packages_judged n u.packages
+    ++ found_from occurrences (nothing_known (last_priority_of u.pragmas)))))
 
--- the faults of a source, of which the program runs these forms
-abbrev pub faults_where : (Form → Bool) → Tree → Names → List Fault
-faults_where run u n = faults_in run u n (text_where run (text_of u n))
+-- the faults in the order of the text
+unfoldable pub faults_where : Tree → Names → List Fault
+faults_where u n = in_order_of_text (faults_in (found_of u n (names_in_unit u)))
 
--- ---- the faults of a source whose names are numbered, and the one that is told
+-- the faults of a source whose names are numbered
+unfoldable pub faults_of : Tree → List Fault
+faults_of u = faults_where u (names_of u)
 
-abbrev pub faults_of : Tree → List Fault
-faults_of u = faults_where runs u (names_of u)
-
--- the first of them
+-- the first of some faults
 abbrev pub first_fault_in : List Fault → Option Fault
 first_fault_in [] = None
 first_fault_in (f ∷ fs) = Some f

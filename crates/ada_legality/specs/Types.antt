@@ -1,17 +1,18 @@
 -- Kinds of types, and for which types each operator is defined (3.2, 3.5, 4.5, D.8, D.14).
-use Rattle.std.specs.Prelude.{Bool, None, Option, Some, cond, eqb, false, not, option_map, slice_get, true, unwrap_or, ℕ, ◌&&◌, ◌||◌}
+use Rattle.ada_legality.specs.declared.reading.Typed.{Typed}
 use Rattle.ada_regions.specs.Declaring.{free_subtype}
-use Rattle.ada_regions.specs.declared.table.Names.{Names}
 use Rattle.ada_regions.specs.Words.{and_then, or_else}
-use Rattle.ada_regions.specs.declared.types.AdaType.TheVariants as types
+use Rattle.ada_regions.specs.declared.table.Names.{Names}
 use Rattle.ada_regions.specs.declared.types.AdaType.{AdaType}
 use Rattle.ada_regions.specs.declared.types.Subtype.{Subtype}
-use Rattle.profile_machine.specs.declared.expressions.BinaryOperator.TheVariants as binary
 use Rattle.profile_machine.specs.declared.expressions.BinaryOperator.{BinaryOperator}
-use Rattle.profile_machine.specs.declared.expressions.UnaryOperator.TheVariants as unary
 use Rattle.profile_machine.specs.declared.expressions.UnaryOperator.{UnaryOperator}
 use Rattle.profile_machine.specs.declared.numbers.ControlledNo.{ControlledNo}
-use Rattle.ada_legality.specs.Constructs.{Typed, of_handler, of_null, of_pointed_number, of_subtype, of_text, of_whole_number, without_type}
+use Rattle.std.specs.Prelude.{Bool, None, Option, Some, cond, eqb, false, not, option_map, slice_get, true, unwrap_or, ℕ, ◌&&◌, ◌||◌}
+use Rattle.profile_machine.specs.declared.expressions.BinaryOperator.TheVariants as binary
+use Rattle.ada_regions.specs.declared.types.AdaType.TheVariants as types
+use Rattle.ada_legality.specs.declared.reading.Typed.TheVariants as typing
+use Rattle.profile_machine.specs.declared.expressions.UnaryOperator.TheVariants as unary
 
 -- ---- kinds of types
 
@@ -45,7 +46,7 @@ declared_number (types.Protected u) = u.0
 declared_number _ = 0
 
 -- two types are the same
-abbrev pub same_type : AdaType → AdaType → Bool
+unfoldable pub same_type : AdaType → AdaType → Bool
 same_type a b = eqb (type_number a) (type_number b) && eqb (declared_number a) (declared_number b)
 
 -- two types are the same, or both are none
@@ -161,17 +162,17 @@ is_limited_controlled n c =
     unwrap_or (option_map (λ t. t.is_limited) (slice_get n.controlled_types c.0)) true
 
 -- objects of these types are not copied (7.5): a Controlled one is
-abbrev pub is_limited : Names → AdaType → Bool
+unfoldable pub is_limited : Names → AdaType → Bool
 is_limited n (types.Derived c) = is_limited_controlled n c
 is_limited n t = has_no_values t
 
 -- a type derived from Controlled
-abbrev pub is_copied_controlled : Names → AdaType → Bool
+unfoldable pub is_copied_controlled : Names → AdaType → Bool
 is_copied_controlled n t = is_controlled_type t && not (is_limited n t)
 
 -- ---- operators, by the types of their operands
 
-abbrev pub sum_of : AdaType → AdaType → Option AdaType
+unfoldable pub sum_of : AdaType → AdaType → Option AdaType
 sum_of types.Integer types.Integer = Some types.Integer
 sum_of types.Duration types.Duration = Some types.Duration
 sum_of types.TimeSpan types.TimeSpan = Some types.TimeSpan
@@ -182,7 +183,7 @@ sum_of types.TimeSpan types.CpuTime = Some types.CpuTime
 sum_of a b = None
 
 -- `-` of two operands
-abbrev pub difference_of : AdaType → AdaType → Option AdaType
+unfoldable pub difference_of : AdaType → AdaType → Option AdaType
 difference_of types.Integer types.Integer = Some types.Integer
 difference_of types.Duration types.Duration = Some types.Duration
 difference_of types.TimeSpan types.TimeSpan = Some types.TimeSpan
@@ -193,7 +194,7 @@ difference_of types.CpuTime types.CpuTime = Some types.TimeSpan
 difference_of a b = None
 
 -- `*`
-abbrev pub product_of : AdaType → AdaType → Option AdaType
+unfoldable pub product_of : AdaType → AdaType → Option AdaType
 product_of types.Integer types.Integer = Some types.Integer
 product_of types.Duration types.Integer = Some types.Duration
 product_of types.Integer types.Duration = Some types.Duration
@@ -202,14 +203,14 @@ product_of types.Integer types.TimeSpan = Some types.TimeSpan
 product_of a b = None
 
 -- `/`
-abbrev pub quotient_of : AdaType → AdaType → Option AdaType
+unfoldable pub quotient_of : AdaType → AdaType → Option AdaType
 quotient_of types.Integer types.Integer = Some types.Integer
 quotient_of types.Duration types.Integer = Some types.Duration
 quotient_of types.TimeSpan types.Integer = Some types.TimeSpan
 quotient_of a b = None
 
 -- `mod` and `rem`
-abbrev pub remainder_of : AdaType → AdaType → Option AdaType
+unfoldable pub remainder_of : AdaType → AdaType → Option AdaType
 remainder_of types.Integer types.Integer = Some types.Integer
 remainder_of a b = None
 
@@ -232,7 +233,7 @@ abbrev pub ordering_of : AdaType → AdaType → Option AdaType
 ordering_of a b = boolean_if (same_type a b && is_ordered a)
 
 -- the type of an operator's result, where it is defined for operands of these types
-abbrev pub result_of : BinaryOperator → AdaType → AdaType → Option AdaType
+unfoldable pub result_of : BinaryOperator → AdaType → AdaType → Option AdaType
 result_of binary.And a b = logical_of a b
 result_of binary.Or a b = logical_of a b
 result_of binary.Xor a b = logical_of a b
@@ -258,7 +259,7 @@ same_if false t = None
 
 -- an operator with one operand: of numbers and spans, `+` and `abs` not of Time_Span; `not` of
 -- Boolean
-abbrev pub result_of_one : UnaryOperator → AdaType → Option AdaType
+unfoldable pub result_of_one : UnaryOperator → AdaType → Option AdaType
 result_of_one unary.Plus t = same_if (is_integer t || is_duration t) t
 result_of_one unary.Minus t = same_if (is_integer t || (is_duration t || is_span_of_time t)) t
 result_of_one unary.Abs t = same_if (is_integer t || is_duration t) t
@@ -267,67 +268,67 @@ result_of_one unary.Not t = same_if (is_boolean t) t
 -- ---- the types of expressions
 
 abbrev pub typed_as : AdaType → Typed
-typed_as t = of_subtype (free_subtype t)
+typed_as t = typing.OfSubtype (free_subtype t)
 
 -- an expression of this type, or of none
 abbrev pub typed_if : Option AdaType → Typed
-typed_if None = without_type
+typed_if None = typing.WithoutType
 typed_if (Some t) = typed_as t
 
 -- an expression of this subtype, or of none
 abbrev pub typed_by : Option Subtype → Typed
-typed_by None = without_type
-typed_by (Some s) = of_subtype s
+typed_by None = typing.WithoutType
+typed_by (Some s) = typing.OfSubtype s
 
 -- the type that an operand has: a number is an Integer, one with a point a Duration
 abbrev pub operand_type : Typed → Option AdaType
-operand_type without_type = None
-operand_type (of_subtype s) = Some s.of_type
-operand_type of_whole_number = Some types.Integer
-operand_type of_pointed_number = Some types.Duration
-operand_type of_text = None
-operand_type of_null = None
-operand_type (of_handler e) = None
+operand_type typing.WithoutType = None
+operand_type (typing.OfSubtype s) = Some s.of_type
+operand_type typing.OfWholeNumber = Some types.Integer
+operand_type typing.OfPointedNumber = Some types.Duration
+operand_type typing.OfText = None
+operand_type typing.OfNull = None
+operand_type (typing.OfHandler e) = None
 
 -- an expression that has a type
 abbrev pub has_type : Typed → Bool
-has_type without_type = false
+has_type typing.WithoutType = false
 has_type _ = true
 
 -- a text, or texts that are joined
 abbrev pub is_text : Typed → Bool
-is_text of_text = true
+is_text typing.OfText = true
 is_text _ = false
 
 -- a number with a point
 abbrev pub is_pointed : Typed → Bool
-is_pointed of_pointed_number = true
+is_pointed typing.OfPointedNumber = true
 is_pointed _ = false
 
 -- an expression whose type is such
-abbrev pub typed_is : (AdaType → Bool) → Typed → Bool
+unfoldable pub typed_is : (AdaType → Bool) → Typed → Bool
 typed_is test t = unwrap_or (option_map test (operand_type t)) false
 
 -- the type of an operation, where its operator is defined for its operands
-abbrev pub operation_type : BinaryOperator → Typed → Typed → Option AdaType
+unfoldable pub operation_type : BinaryOperator → Typed → Typed → Option AdaType
 operation_type operator a b =
     and_then (operand_type a) (λ x. and_then (operand_type b) (result_of operator x))
 
 -- the type of an operation with one operand
-abbrev pub operation_type_of_one : UnaryOperator → Typed → Option AdaType
+unfoldable pub operation_type_of_one : UnaryOperator → Typed → Option AdaType
 operation_type_of_one operator a = and_then (operand_type a) (result_of_one operator)
 
 -- an expression of this type fits where that type is expected; one without a type fits, and the
 -- value of a literal is
 -- asked apart
-abbrev pub fits : Typed → AdaType → Bool
-fits without_type t = true
-fits (of_subtype s) t = same_type s.of_type t
-fits of_whole_number t = is_integer t
-fits of_pointed_number t = is_duration t
-fits of_text t = false
-fits of_null t = false
-fits (of_handler e) t = false
+unfoldable pub fits : Typed → AdaType → Bool
+fits typing.WithoutType t = true
+fits (typing.OfSubtype s) t = same_type s.of_type t
+fits typing.OfWholeNumber t = is_integer t
+fits typing.OfPointedNumber t = is_duration t
+fits typing.OfText t = false
+fits typing.OfNull t = false
+fits (typing.OfHandler e) t = false
 
 -- the type of the values from one bound to another: that of the low one, where it is discrete, else
 -- that of the high one
@@ -335,11 +336,11 @@ abbrev pub discrete_if : AdaType → Option AdaType
 discrete_if t = cond (is_discrete t) (Some t) None
 
 -- the type that a bound gives
-abbrev pub type_of_low : Typed → Option AdaType
-type_of_low of_whole_number = Some types.Integer
-type_of_low (of_subtype s) = discrete_if s.of_type
+unfoldable pub type_of_low : Typed → Option AdaType
+type_of_low typing.OfWholeNumber = Some types.Integer
+type_of_low (typing.OfSubtype s) = discrete_if s.of_type
 type_of_low _ = None
 
 -- the type of the values between two bounds
-abbrev pub type_of_bounds : Typed → Typed → AdaType
+unfoldable pub type_of_bounds : Typed → Typed → AdaType
 type_of_bounds low high = unwrap_or (or_else (type_of_low low) (type_of_low high)) types.Integer

@@ -3,7 +3,7 @@ use crate::Rule;
 use ann_base::Place;
 
 /// A rule that a source breaks, and where.
-#[derive(Clone, Copy, Debug, PartialEq, Eq)]
+#[derive(Clone, Copy)]
 pub struct Fault {
     /// The first token of what breaks it.
     pub place: Place,

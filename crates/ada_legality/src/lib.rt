@@ -1,9 +1,22 @@
 //! Legality (ISO/IEC 8652:2012, 1.1.2): the rules that a source of the profile has to keep, as definitions in `specs/`, with
-//! the plain data of rules and faults.
+//! the plain data of rules, faults, and what is known and found on the way through a source.
 #![tactic(auto)]
 
 mod faults;
+mod findings;
+mod parts;
+mod reading;
 mod rules;
+mod standing;
 
 pub use faults::Fault;
+pub use findings::{Attached, BodyKind, Ceiling, DeadlineRange, Finding, ProtectedObject};
+pub use parts::{
+    ActualPart, AlternativeKind, AlternativePart, AspectName, AspectOwner, AspectPart, ChoicePart,
+    FormalPart, IndicationUse, Span, Wanted,
+};
+pub use reading::{Asked, Literal, NameShape, Read, Shape, Typed};
 pub use rules::Rule;
+pub use standing::{
+    Around, InForce, IndexesOf, Known, LoopParameter, OccurrencesOf, SubprogramAround, UnitAround,
+};

@@ -1,7 +1,7 @@
 //! The rules of legality.
 
 /// A rule of legality of the profile. The clause is that of ISO/IEC 8652:2012; a profile's own rule says so.
-#[derive(Clone, Copy, Debug, PartialEq, Eq)]
+#[derive(Clone, Copy)]
 pub enum Rule {
     /// A with clause names a library unit, and a unit is used under a with clause alone (10.1.2, 10.1.6).
     LibraryUnits,
@@ -81,6 +81,4 @@ pub enum Rule {
     Limit,
     /// The forms of Put_Line (this profile's own; A.10.7).
     PutLineForm,
-    /// A form that the program does not run yet (this program's own).
-    FormNotBuilt,
 }

@@ -1,0 +1,255 @@
+//! Kinds of types (ISO/IEC 8652:2012, 3.2, 3.5, 7.5, 7.6, D.8, D.14, D.15).
+ghost use Rattle.std.specs.Prelude.{◌≡◌};
+ghost use Rattle.ada_legality.specs.Types.{type_number, declared_number, same_type, same_type_if, has_ranges, is_ordered, is_scalar, is_scalar_or_array, has_no_values, is_discrete, is_of_time, is_task_id, is_array_type, is_integer, is_boolean, is_duration, is_span_of_time, is_timer, is_event_timer_or_budget, is_controlled_type, is_task_unit, is_protected_unit, is_root_controlled};
+
+use ada_regions::AdaType;
+
+/// Which kind of type it is.
+fn type_number(t: AdaType) -> u32
+    ensures { result ≡ type_number t }
+{
+    match t {
+        AdaType::Integer => 0,
+        AdaType::Boolean => 1,
+        AdaType::Duration => 2,
+        AdaType::Enumeration(_) => 3,
+        AdaType::Array(_) => 4,
+        AdaType::Time => 5,
+        AdaType::TimeSpan => 6,
+        AdaType::CpuTime => 7,
+        AdaType::TaskId => 8,
+        AdaType::TimingEvent => 9,
+        AdaType::Timer => 10,
+        AdaType::GroupBudget => 11,
+        AdaType::LimitedControlled => 12,
+        AdaType::Controlled => 13,
+        AdaType::Derived(_) => 14,
+        AdaType::Task(_) => 15,
+        AdaType::Protected(_) => 16,
+    }
+}
+
+/// Which of the types that the source declares it is.
+fn declared_number(t: AdaType) -> u32
+    ensures { result ≡ declared_number t }
+{
+    match t {
+        AdaType::Enumeration(enumeration) => enumeration.0,
+        AdaType::Array(array) => array,
+        AdaType::Derived(controlled) => controlled.0,
+        AdaType::Task(unit) => unit.0,
+        AdaType::Protected(unit) => unit.0,
+        _ => 0,
+    }
+}
+
+/// Two types are the same.
+#[tactic(auto, unfolding(ada_legality::specs::Types::same_type))]
+pub fn same_type(a: AdaType, b: AdaType) -> bool
+    ensures { result ≡ same_type a b }
+{
+    type_number(a) == type_number(b) && declared_number(a) == declared_number(b)
+}
+
+/// Two types are the same, or both are none.
+pub fn same_type_if(a: Option<AdaType>, b: Option<AdaType>) -> bool
+    ensures { result ≡ same_type_if a b }
+{
+    match a {
+        None => match b {
+            None => true,
+            Some(_) => false,
+        },
+        Some(a) => match b {
+            None => false,
+            Some(b) => same_type(a, b),
+        },
+    }
+}
+
+/// Types whose values come one after another (3.2).
+pub fn is_discrete(t: AdaType) -> bool
+    ensures { result ≡ is_discrete t }
+{
+    match t {
+        AdaType::Integer => true,
+        AdaType::Boolean => true,
+        AdaType::Enumeration(_) => true,
+        _ => false,
+    }
+}
+
+/// Types whose values are moments or spans (9.6, D.8, D.14).
+pub fn is_of_time(t: AdaType) -> bool
+    ensures { result ≡ is_of_time t }
+{
+    match t {
+        AdaType::Duration => true,
+        AdaType::Time => true,
+        AdaType::TimeSpan => true,
+        AdaType::CpuTime => true,
+        _ => false,
+    }
+}
+
+/// Task_Id (C.7.1).
+pub fn is_task_id(t: AdaType) -> bool
+    ensures { result ≡ is_task_id t }
+{
+    match t {
+        AdaType::TaskId => true,
+        _ => false,
+    }
+}
+
+/// An array type (3.6).
+pub fn is_array_type(t: AdaType) -> bool
+    ensures { result ≡ is_array_type t }
+{
+    match t {
+        AdaType::Array(_) => true,
+        _ => false,
+    }
+}
+
+/// Integer (3.5.4).
+pub fn is_integer(t: AdaType) -> bool
+    ensures { result ≡ is_integer t }
+{
+    match t {
+        AdaType::Integer => true,
+        _ => false,
+    }
+}
+
+/// Boolean (3.5.3).
+pub fn is_boolean(t: AdaType) -> bool
+    ensures { result ≡ is_boolean t }
+{
+    match t {
+        AdaType::Boolean => true,
+        _ => false,
+    }
+}
+
+/// Duration (9.6).
+pub fn is_duration(t: AdaType) -> bool
+    ensures { result ≡ is_duration t }
+{
+    match t {
+        AdaType::Duration => true,
+        _ => false,
+    }
+}
+
+/// Time_Span (D.8).
+pub fn is_span_of_time(t: AdaType) -> bool
+    ensures { result ≡ is_span_of_time t }
+{
+    match t {
+        AdaType::TimeSpan => true,
+        _ => false,
+    }
+}
+
+/// Timer (D.14.1).
+pub fn is_timer(t: AdaType) -> bool
+    ensures { result ≡ is_timer t }
+{
+    match t {
+        AdaType::Timer => true,
+        _ => false,
+    }
+}
+
+/// Events, timers and group budgets (D.14, D.15).
+pub fn is_event_timer_or_budget(t: AdaType) -> bool
+    ensures { result ≡ is_event_timer_or_budget t }
+{
+    match t {
+        AdaType::TimingEvent => true,
+        AdaType::Timer => true,
+        AdaType::GroupBudget => true,
+        _ => false,
+    }
+}
+
+/// A type of the source that is derived from Limited_Controlled or Controlled (7.6).
+pub fn is_controlled_type(t: AdaType) -> bool
+    ensures { result ≡ is_controlled_type t }
+{
+    match t {
+        AdaType::Derived(_) => true,
+        _ => false,
+    }
+}
+
+/// A task type (9.1).
+pub fn is_task_unit(t: AdaType) -> bool
+    ensures { result ≡ is_task_unit t }
+{
+    match t {
+        AdaType::Task(_) => true,
+        _ => false,
+    }
+}
+
+/// A protected type (9.4).
+pub fn is_protected_unit(t: AdaType) -> bool
+    ensures { result ≡ is_protected_unit t }
+{
+    match t {
+        AdaType::Protected(_) => true,
+        _ => false,
+    }
+}
+
+/// Limited_Controlled and Controlled themselves (7.6).
+pub fn is_root_controlled(t: AdaType) -> bool
+    ensures { result ≡ is_root_controlled t }
+{
+    match t {
+        AdaType::LimitedControlled => true,
+        AdaType::Controlled => true,
+        _ => false,
+    }
+}
+
+/// Types of which a range may be taken.
+pub fn has_ranges(t: AdaType) -> bool
+    ensures { result ≡ has_ranges t }
+{
+    match t {
+        AdaType::Duration => true,
+        _ => is_discrete(t),
+    }
+}
+
+/// Types whose values stand in an order.
+pub fn is_ordered(t: AdaType) -> bool
+    ensures { result ≡ is_ordered t }
+{
+    is_discrete(t) || is_of_time(t)
+}
+
+/// Types whose values take one cell (this profile's own: Task_Id is one of them).
+pub fn is_scalar(t: AdaType) -> bool
+    ensures { result ≡ is_scalar t }
+{
+    is_ordered(t) || is_task_id(t)
+}
+
+/// A scalar type or an array type.
+pub fn is_scalar_or_array(t: AdaType) -> bool
+    ensures { result ≡ is_scalar_or_array t }
+{
+    is_scalar(t) || is_array_type(t)
+}
+
+/// Objects of these types have no initial value (7.5).
+pub fn has_no_values(t: AdaType) -> bool
+    ensures { result ≡ has_no_values t }
+{
+    is_event_timer_or_budget(t)
+        || (is_controlled_type(t) || (is_task_unit(t) || is_protected_unit(t)))
+}

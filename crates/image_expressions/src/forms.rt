@@ -1,0 +1,269 @@
+//! The forms of expressions (ISO/IEC 8652:2012, 4.1, 4.4, 4.5). Brackets leave no trace, and a
+//! minus before a literal is part of its value.
+ghost use Rattle.std.specs.Prelude.{◌≡◌, option_copied, option_map, IfOk};
+ghost use Rattle.ada_image.specs.Made.{Made};
+ghost use Rattle.ada_image.specs.ImageOfExpressions.{expression_image, expression_made, signs_in, signs_if, item_made, denoted_made, named_made};
+
+use crate::arguments::first_argument;
+use crate::functions::function_made;
+use crate::images::Imaged;
+use crate::literals::literal_value;
+use crate::operators::highest_operator;
+use crate::primaries::{attribute_made, entity_made};
+use crate::sequences::{adding_made, logical_made, multiplying_made, relational_made};
+use crate::sums::{
+    one_and_both, one_more, sign_counts, signs_in_addends, signs_in_factors, signs_in_named,
+    signs_in_operands,
+};
+use crate::values::{known, no_value, signed_made, unary_made};
+use ada_entities::{denoted_by, kind_at};
+use ada_image::{Lists, Within};
+use ada_regions::{Denoted, Names, Predefined};
+use ada_tree::{Argument, AttributeDesignator, Expression, ExpressionForm, Name};
+use ann_base::NoMemory;
+use image_layout::added;
+use profile_machine::{ExprNo, Value};
+
+/// What a predefined unit declares, as a value.
+#[tactic(auto, unfolding(ada_image::specs::ImageOfExpressions::item_made))]
+fn item_made<E: Imaged>(
+    lists: &mut Lists,
+    item: Predefined,
+    arguments: &[Argument<E>],
+    within: &Within<'_, '_>,
+) -> Result<ExprNo, NoMemory>
+    ensures { Made (item_made E.image item arguments.now within.now) lists.old lists.new result }
+{
+    match item {
+        Predefined::Mark(_) => no_value(lists),
+        Predefined::Constant { value, .. } => known(lists, value),
+        Predefined::Truth(truth) => known(lists, Value::Truth(truth)),
+        Predefined::Exception(_) => no_value(lists),
+        Predefined::Operation(operation) => function_made(lists, operation, arguments, within),
+    }
+}
+
+/// What a name denotes, as a value. An element's index is its one argument (4.1.1).
+#[tactic(auto, unfolding(ada_image::specs::ImageOfExpressions::denoted_made))]
+fn denoted_made<E: Imaged>(
+    lists: &mut Lists,
+    name: &Name,
+    arguments: &[Argument<E>],
+    within: &Within<'_, '_>,
+    denoted: Option<Denoted>,
+) -> Result<ExprNo, NoMemory>
+    ensures { Made (denoted_made E.image name.now arguments.now within.now denoted) lists.old lists.new result }
+{
+    match denoted {
+        None => no_value(lists),
+        Some(Denoted::Entity(entity)) => match kind_at(within.names.get(), entity) {
+            Some(kind) => entity_made(lists, within, name, first_argument(arguments), kind),
+            None => no_value(lists),
+        },
+        Some(Denoted::Unit(_)) => no_value(lists),
+        Some(Denoted::Item { item, .. }) => item_made(lists, item, arguments, within),
+    }
+}
+
+/// A name, an attribute of it, an element of it or a call of it, as a value.
+#[tactic(auto, unfolding(ada_image::specs::ImageOfExpressions::named_made))]
+fn named_made<E: Imaged>(
+    lists: &mut Lists,
+    name: &Name,
+    attribute: &Option<AttributeDesignator>,
+    arguments: &[Argument<E>],
+    within: &Within<'_, '_>,
+) -> Result<ExprNo, NoMemory>
+    ensures { Made (named_made E.image name.now attribute.now arguments.now within.now) lists.old lists.new result }
+{
+    match attribute {
+        None => {
+            let denoted = denoted_by(within.names.get(), name);
+            denoted_made(lists, name, arguments, within, denoted)
+        }
+        Some(designator) => attribute_made(lists, within, name, designator.attribute),
+    }
+}
+
+impl<E: Imaged> Imaged for ExpressionForm<E> {
+    ghost use Rattle.ada_image.specs.ImageOfExpressions.{form_image};
+
+    ghost image = { form_image E.image };
+
+    fn made(&self, lists: &mut Lists, within: &Within<'_, '_>) -> Result<ExprNo, NoMemory> {
+        match self {
+            ExpressionForm::Logical {
+                operator,
+                first,
+                others,
+            } => logical_made(lists, *operator, first, others, within),
+            ExpressionForm::Relational {
+                left,
+                operator,
+                right,
+                ..
+            } => relational_made(lists, left, *operator, right, within),
+            ExpressionForm::Adding { first, others } => adding_made(lists, first, others, within),
+            ExpressionForm::Signed { sign, operand, .. } => {
+                signed_made(lists, *sign, operand, within)
+            }
+            ExpressionForm::Multiplying { first, others } => {
+                multiplying_made(lists, first, others, within)
+            }
+            ExpressionForm::Highest {
+                operator,
+                operand,
+                ..
+            } => unary_made(lists, highest_operator(*operator), operand, within),
+            ExpressionForm::Number { literal, .. } => {
+                let value = literal_value(literal.as_slice())?;
+                known(lists, value)
+            }
+            ExpressionForm::Text { .. } => no_value(lists),
+            ExpressionForm::Null { .. } => no_value(lists),
+            ExpressionForm::Bracketed { inner, .. } => inner.made(lists, within),
+            ExpressionForm::Named {
+                name,
+                attribute,
+                arguments,
+            } => named_made(lists, name, attribute, arguments.as_slice(), within),
+        }
+    }
+
+    #[tactic(auto, unfolding(ada_image::specs::ImageOfExpressions::signs_in_operands, ada_image::specs::ImageOfExpressions::signs_in_addends, ada_image::specs::ImageOfExpressions::signs_in_factors))]
+    fn signs(&self, names: &Names<'_>) -> Result<u32, NoMemory> {
+        match self {
+            ExpressionForm::Logical { first, others, .. } => {
+                let first = first.signs(names)?;
+                let signs = one_and_both(first, others.first.relation.signs(names)?)?;
+                signs_in_operands(signs, others.others.as_slice(), names)
+            }
+            ExpressionForm::Relational { left, right, .. } => {
+                one_and_both(left.signs(names)?, right.signs(names)?)
+            }
+            ExpressionForm::Adding { first, others } => {
+                let first = first.signs(names)?;
+                let signs = one_and_both(first, others.first.term.signs(names)?)?;
+                signs_in_addends(signs, others.others.as_slice(), names)
+            }
+            ExpressionForm::Signed { sign, operand, .. } => {
+                added(sign_counts(*sign, operand.literal()), operand.signs(names)?)
+            }
+            ExpressionForm::Multiplying { first, others } => {
+                let first = first.signs(names)?;
+                let signs = one_and_both(first, others.first.factor.signs(names)?)?;
+                signs_in_factors(signs, others.others.as_slice(), names)
+            }
+            ExpressionForm::Highest { operand, .. } => one_more(operand.signs(names)?),
+            ExpressionForm::Number { .. } => Ok(0),
+            ExpressionForm::Text { .. } => Ok(0),
+            ExpressionForm::Null { .. } => Ok(0),
+            ExpressionForm::Bracketed { inner, .. } => inner.signs(names),
+            ExpressionForm::Named {
+                name,
+                attribute,
+                arguments,
+            } => signs_in_named(name, attribute, arguments.as_slice(), names),
+        }
+    }
+
+    fn literal(&self) -> Option<&[u8]> {
+        match self {
+            ExpressionForm::Logical { .. } => None,
+            ExpressionForm::Relational { .. } => None,
+            ExpressionForm::Adding { .. } => None,
+            ExpressionForm::Signed { .. } => None,
+            ExpressionForm::Multiplying { .. } => None,
+            ExpressionForm::Highest { .. } => None,
+            ExpressionForm::Number { literal, .. } => Some(literal.as_slice()),
+            ExpressionForm::Text { .. } => None,
+            ExpressionForm::Null { .. } => None,
+            ExpressionForm::Bracketed { .. } => None,
+            ExpressionForm::Named { .. } => None,
+        }
+    }
+
+    fn name(&self) -> Option<&Name> {
+        match self {
+            ExpressionForm::Logical { .. } => None,
+            ExpressionForm::Relational { .. } => None,
+            ExpressionForm::Adding { .. } => None,
+            ExpressionForm::Signed { .. } => None,
+            ExpressionForm::Multiplying { .. } => None,
+            ExpressionForm::Highest { .. } => None,
+            ExpressionForm::Number { .. } => None,
+            ExpressionForm::Text { .. } => None,
+            ExpressionForm::Null { .. } => None,
+            ExpressionForm::Bracketed { inner, .. } => inner.name(),
+            ExpressionForm::Named { name, .. } => Some(name),
+        }
+    }
+}
+
+impl Imaged for Expression {
+    ghost use Rattle.ada_image.specs.ImageOfExpressions.{expression_image};
+
+    ghost image = { expression_image };
+
+    #[cycle(expression)]
+    #[tactic(auto, using(crate::proofs::ExpressionFolds::expression_makes))]
+    fn made(&self, lists: &mut Lists, within: &Within<'_, '_>) -> Result<ExprNo, NoMemory> {
+        self.form.get().made(lists, within)
+    }
+
+    #[cycle(expression)]
+    #[tactic(auto, using(crate::proofs::ExpressionFolds::expression_counts))]
+    fn signs(&self, names: &Names<'_>) -> Result<u32, NoMemory> {
+        self.form.get().signs(names)
+    }
+
+    #[cycle(expression)]
+    #[tactic(auto, using(crate::proofs::ExpressionFolds::expression_has_literal))]
+    fn literal(&self) -> Option<&[u8]> {
+        self.form.get().literal()
+    }
+
+    #[cycle(expression)]
+    #[tactic(auto, using(crate::proofs::ExpressionFolds::expression_has_name))]
+    fn name(&self) -> Option<&Name> {
+        self.form.get().name()
+    }
+}
+
+/// The expressions that an expression is are made.
+#[tactic(auto, unfolding(ada_image::specs::ImageOfExpressions::expression_made))]
+pub fn expression_made(
+    lists: &mut Lists,
+    expression: &Expression,
+    within: &Within<'_, '_>,
+) -> Result<ExprNo, NoMemory>
+    ensures { Made (expression_made expression.now within.now) lists.old lists.new result }
+{
+    expression.made(lists, within)
+}
+
+/// The number of the operator signs and calls of predefined functions in an expression.
+#[tactic(auto, unfolding(ada_image::specs::ImageOfExpressions::signs_in))]
+pub fn signs_in(within: &Within<'_, '_>, expression: &Expression) -> Result<u32, NoMemory>
+    ensures { IfOk result (λ n. n ≡ signs_in within.now expression.now) }
+{
+    expression.signs(within.names.get())
+}
+
+/// The same where the expression may be missing.
+#[tactic(auto, unfolding(ada_image::specs::ImageOfExpressions::signs_if))]
+pub fn signs_if(within: &Within<'_, '_>, expression: &Option<Expression>) -> Result<u32, NoMemory>
+    ensures { IfOk result (λ n. n ≡ signs_if within.now expression.now) }
+{
+    match expression {
+        None => Ok(0),
+        Some(expression) => signs_in(within, expression),
+    }
+}
+
+/// The name that an expression is, if it is one, in brackets or without.
+pub fn named(expression: &Expression) -> Option<&Name>
+    ensures { option_copied result ≡ (expression_image expression.now).name }
+{
+    expression.name()
+}

@@ -1,0 +1,260 @@
+//! Predefined functions, given their arguments (ISO/IEC 8652:2012, C.7.1, D.2.6, D.5.1, D.8, D.14,
+//! D.15).
+ghost use Rattle.std.specs.Prelude.{◌≡◌, option_copied, option_map};
+ghost use Rattle.ada_regions.specs.PredefinedUnits.{names_of_formals};
+ghost use Rattle.ada_image.specs.Made.{Made};
+ghost use Rattle.ada_image.specs.ImageOfExpressions.{actuals_for, image_or_none, optional_made, span_made, same_ticks_made, of_task_made, port_made, name_in, of_thing_made, thing_in, images_for, function_made};
+ghost use Rattle.profile_machine.specs.declared.expressions.Expression.TheVariants as valuation;
+
+use crate::arguments::argument_from;
+use crate::images::Imaged;
+use crate::names::thing_in;
+use crate::values::no_value;
+use ada_image::{Lists, Within};
+use ada_regions::Operation;
+use ada_tree::Argument;
+use ann_base::{Moment, NoMemory};
+use image_layout::value_put;
+use profile_machine::{DeclNo, ExprNo, Expression};
+
+/// An actual; where it is missing, what no accepted source has there.
+#[tactic(auto, unfolding(ada_image::specs::ImageOfExpressions::image_or_none))]
+fn image_or_none<E: Imaged>(
+    lists: &mut Lists,
+    actual: Option<&E>,
+    within: &Within<'_, '_>,
+) -> Result<ExprNo, NoMemory>
+    ensures { Made (image_or_none (option_map E.image (option_copied actual.entry)) within.now) lists.old lists.new result }
+{
+    match actual {
+        None => no_value(lists),
+        Some(actual) => actual.made(lists, within),
+    }
+}
+
+/// An actual that may be missing.
+#[tactic(auto, unfolding(ada_image::specs::ImageOfExpressions::optional_made))]
+fn optional_made<E: Imaged>(
+    lists: &mut Lists,
+    actual: Option<&E>,
+    within: &Within<'_, '_>,
+) -> Result<Option<ExprNo>, NoMemory>
+    ensures { Made (optional_made (option_map E.image (option_copied actual.entry)) within.now) lists.old lists.new result }
+{
+    match actual {
+        None => Ok(None),
+        Some(actual) => Ok(Some(actual.made(lists, within)?)),
+    }
+}
+
+/// A span of some units of this many ticks (D.8).
+#[tactic(auto, unfolding(ada_image::specs::ImageOfExpressions::span_made))]
+fn span_made<E: Imaged>(
+    lists: &mut Lists,
+    ticks: Moment,
+    actual: Option<&E>,
+    within: &Within<'_, '_>,
+) -> Result<ExprNo, NoMemory>
+    ensures { Made (span_made ticks (option_map E.image (option_copied actual.entry)) within.now) lists.old lists.new result }
+{
+    let count = image_or_none(lists, actual, within)?;
+    value_put(lists, Expression::Span { ticks, count })
+}
+
+/// To_Duration and To_Time_Span (D.8).
+#[tactic(auto, unfolding(ada_image::specs::ImageOfExpressions::same_ticks_made))]
+fn same_ticks_made<E: Imaged>(
+    lists: &mut Lists,
+    actual: Option<&E>,
+    within: &Within<'_, '_>,
+) -> Result<ExprNo, NoMemory>
+    ensures { Made (same_ticks_made (option_map E.image (option_copied actual.entry)) within.now) lists.old lists.new result }
+{
+    let span = image_or_none(lists, actual, within)?;
+    value_put(lists, Expression::SameTicks(span))
+}
+
+/// The processor time of a task (D.14).
+#[tactic(auto, unfolding(ada_image::specs::ImageOfExpressions::of_task_made))]
+fn execution_time_made<E: Imaged>(
+    lists: &mut Lists,
+    actual: Option<&E>,
+    within: &Within<'_, '_>,
+) -> Result<ExprNo, NoMemory>
+    ensures { Made (of_task_made valuation.ExecutionTime (option_map E.image (option_copied actual.entry)) within.now) lists.old lists.new result }
+{
+    let task = optional_made(lists, actual, within)?;
+    value_put(lists, Expression::ExecutionTime(task))
+}
+
+/// The base priority of a task (D.5.1).
+#[tactic(auto, unfolding(ada_image::specs::ImageOfExpressions::of_task_made))]
+fn priority_made<E: Imaged>(
+    lists: &mut Lists,
+    actual: Option<&E>,
+    within: &Within<'_, '_>,
+) -> Result<ExprNo, NoMemory>
+    ensures { Made (of_task_made valuation.Priority (option_map E.image (option_copied actual.entry)) within.now) lists.old lists.new result }
+{
+    let task = optional_made(lists, actual, within)?;
+    value_put(lists, Expression::Priority(task))
+}
+
+/// The deadline of a task (D.2.6).
+#[tactic(auto, unfolding(ada_image::specs::ImageOfExpressions::of_task_made))]
+fn deadline_made<E: Imaged>(
+    lists: &mut Lists,
+    actual: Option<&E>,
+    within: &Within<'_, '_>,
+) -> Result<ExprNo, NoMemory>
+    ensures { Made (of_task_made valuation.Deadline (option_map E.image (option_copied actual.entry)) within.now) lists.old lists.new result }
+{
+    let task = optional_made(lists, actual, within)?;
+    value_put(lists, Expression::Deadline(task))
+}
+
+/// The value of a port of the script.
+#[tactic(auto, unfolding(ada_image::specs::ImageOfExpressions::port_made))]
+fn port_made<E: Imaged>(
+    lists: &mut Lists,
+    actual: Option<&E>,
+    within: &Within<'_, '_>,
+) -> Result<ExprNo, NoMemory>
+    ensures { Made (port_made (option_map E.image (option_copied actual.entry)) within.now) lists.old lists.new result }
+{
+    let port = image_or_none(lists, actual, within)?;
+    value_put(lists, Expression::PortValue(port))
+}
+
+/// The event, timer or budget that an actual names.
+fn thing_of_actual<E: Imaged>(within: &Within<'_, '_>, actual: Option<&E>) -> DeclNo
+    ensures { result ≡ thing_in within.now (name_in (option_map E.image (option_copied actual.entry))) }
+{
+    match actual {
+        None => thing_in(within, None),
+        Some(actual) => thing_in(within, actual.name()),
+    }
+}
+
+/// The time of the event that an actual names (D.15).
+#[tactic(auto, unfolding(ada_image::specs::ImageOfExpressions::of_thing_made))]
+fn time_of_event_made<E: Imaged>(
+    lists: &mut Lists,
+    actual: Option<&E>,
+    within: &Within<'_, '_>,
+) -> Result<ExprNo, NoMemory>
+    ensures { Made (of_thing_made valuation.TimeOfEvent (option_map E.image (option_copied actual.entry)) within.now) lists.old lists.new result }
+{
+    let event = thing_of_actual(within, actual);
+    value_put(lists, Expression::TimeOfEvent(event))
+}
+
+/// The time that remains of the timer that an actual names (D.14.1).
+#[tactic(auto, unfolding(ada_image::specs::ImageOfExpressions::of_thing_made))]
+fn time_remaining_made<E: Imaged>(
+    lists: &mut Lists,
+    actual: Option<&E>,
+    within: &Within<'_, '_>,
+) -> Result<ExprNo, NoMemory>
+    ensures { Made (of_thing_made valuation.TimeRemaining (option_map E.image (option_copied actual.entry)) within.now) lists.old lists.new result }
+{
+    let timer = thing_of_actual(within, actual);
+    value_put(lists, Expression::TimeRemaining(timer))
+}
+
+/// Whether the group budget that an actual names has expired (D.14.2).
+#[tactic(auto, unfolding(ada_image::specs::ImageOfExpressions::of_thing_made))]
+fn budget_has_expired_made<E: Imaged>(
+    lists: &mut Lists,
+    actual: Option<&E>,
+    within: &Within<'_, '_>,
+) -> Result<ExprNo, NoMemory>
+    ensures { Made (of_thing_made valuation.BudgetHasExpired (option_map E.image (option_copied actual.entry)) within.now) lists.old lists.new result }
+{
+    let budget = thing_of_actual(within, actual);
+    value_put(lists, Expression::BudgetHasExpired(budget))
+}
+
+/// What remains of the group budget that an actual names (D.14.2).
+#[tactic(auto, unfolding(ada_image::specs::ImageOfExpressions::of_thing_made))]
+fn budget_remaining_made<E: Imaged>(
+    lists: &mut Lists,
+    actual: Option<&E>,
+    within: &Within<'_, '_>,
+) -> Result<ExprNo, NoMemory>
+    ensures { Made (of_thing_made valuation.BudgetRemaining (option_map E.image (option_copied actual.entry)) within.now) lists.old lists.new result }
+{
+    let budget = thing_of_actual(within, actual);
+    value_put(lists, Expression::BudgetRemaining(budget))
+}
+
+/// A call of a predefined function.
+#[tactic(auto, unfolding(ada_image::specs::ImageOfExpressions::function_made, ada_image::specs::ImageOfExpressions::actuals_for, ada_image::specs::ImageOfExpressions::arguments_from))]
+pub(crate) fn function_made<E: Imaged>(
+    lists: &mut Lists,
+    operation: Operation,
+    arguments: &[Argument<E>],
+    within: &Within<'_, '_>,
+) -> Result<ExprNo, NoMemory>
+    ensures { Made (function_made operation (images_for E.image (actuals_for (names_of_formals operation) arguments.now)) within.now) lists.old lists.new result }
+{
+    match operation {
+        Operation::PutLine => no_value(lists),
+        Operation::Clock => value_put(lists, Expression::Clock),
+        Operation::Microseconds => {
+            span_made(lists, 1, argument_from(0, b"us", arguments), within)
+        }
+        Operation::Milliseconds => {
+            span_made(lists, 1_000, argument_from(0, b"ms", arguments), within)
+        }
+        Operation::Seconds => {
+            span_made(lists, 1_000_000, argument_from(0, b"s", arguments), within)
+        }
+        Operation::Minutes => {
+            span_made(lists, 60_000_000, argument_from(0, b"m", arguments), within)
+        }
+        Operation::ToDuration => {
+            same_ticks_made(lists, argument_from(0, b"ts", arguments), within)
+        }
+        Operation::ToTimeSpan => {
+            same_ticks_made(lists, argument_from(0, b"d", arguments), within)
+        }
+        Operation::SetEvent => no_value(lists),
+        Operation::CancelEvent => no_value(lists),
+        Operation::TimeOfEvent => {
+            time_of_event_made(lists, argument_from(0, b"event", arguments), within)
+        }
+        Operation::ExecutionClock => {
+            execution_time_made(lists, argument_from(0, b"t", arguments), within)
+        }
+        Operation::SetTimer => no_value(lists),
+        Operation::CancelTimer => no_value(lists),
+        Operation::TimeRemaining => {
+            time_remaining_made(lists, argument_from(0, b"tm", arguments), within)
+        }
+        Operation::AddTask => no_value(lists),
+        Operation::RemoveTask => no_value(lists),
+        Operation::Replenish => no_value(lists),
+        Operation::Add => no_value(lists),
+        Operation::BudgetHasExpired => {
+            budget_has_expired_made(lists, argument_from(0, b"gb", arguments), within)
+        }
+        Operation::BudgetRemaining => {
+            budget_remaining_made(lists, argument_from(0, b"gb", arguments), within)
+        }
+        Operation::SetBudget => no_value(lists),
+        Operation::CancelBudget => no_value(lists),
+        Operation::SetPriority => no_value(lists),
+        Operation::GetPriority => {
+            priority_made(lists, argument_from(0, b"t", arguments), within)
+        }
+        Operation::CurrentTask => value_put(lists, Expression::CurrentTask),
+        Operation::SetQuantum => no_value(lists),
+        Operation::SetDeadline => no_value(lists),
+        Operation::GetDeadline => {
+            deadline_made(lists, argument_from(0, b"t", arguments), within)
+        }
+        Operation::DelayUntilAndSetDeadline => no_value(lists),
+        Operation::PortValue => port_made(lists, argument_from(0, b"n", arguments), within),
+    }
+}

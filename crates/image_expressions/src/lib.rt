@@ -1,0 +1,27 @@
+//! The expressions of the image of a source (ISO/IEC 8652:2012, clause 4). Each function has the
+//! name of the definition of `ada_image` of which it is the counterpart. A number that its type
+//! cannot hold is answered as want of memory.
+#![tactic(auto)]
+
+mod arguments;
+mod forms;
+mod functions;
+mod images;
+mod literals;
+mod names;
+mod operators;
+mod primaries;
+mod sequences;
+mod sums;
+mod values;
+mod variables;
+
+pub use arguments::{argument_from, first_argument};
+pub use forms::{expression_made, named, signs_if, signs_in};
+pub use images::Imaged;
+pub use names::{
+    declared_as, kind_named, named_before, no_declaration_no, object_before, object_named,
+    object_number, prefix_part, thing_in, thing_named,
+};
+pub use values::{known, no_value};
+pub use variables::variable_made;

@@ -138,8 +138,12 @@ module _ (events : Bool) where
     edits_call = λ c f w k. still w;
     adds_call = λ c w. still w;
     forgets_call = λ c w. still w;
-    edits_object = λ o f w k. still w;
+    edits_object = λ o f w k a. still w;
     adds_object = λ p l u w. still w;
+    enters = λ name o mode w h. still w;
+    exits = λ name o w. still w;
+    visits = λ name o mode xs w v h others k. k;
+    finds_held = λ name o mode w h. still w;
     appoints = λ due moment w later.
         let new : Appointment = record { due = due; moment = moment } in
         let same = put-count events w.time new w.appointments (later-is_due events w.time new later) in

@@ -11,6 +11,7 @@ pub mod CallEnds
 pub mod Masters
 pub mod Statements
 pub mod Subprograms
+pub mod Entering
 pub mod Protected
 pub mod Priorities
 pub mod Sending

@@ -1,4 +1,4 @@
-mod ListLemmas
+pub mod ListLemmas
 pub mod Moves
 mod AtOnce
 pub mod Kept

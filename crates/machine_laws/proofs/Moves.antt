@@ -1,12 +1,13 @@
 -- What every change that the machine makes of a world keeps, as a relation between the world before, the lines that are
 -- said, and the world behind: a law of all instants is one record, with a field for each change that steps are made of.
-use Rattle.std.proofs.Common.{◌≡◌, ℕ, ℤ, suc, Bool, true, false, List, [], ◌∷◌, ◌++◌, map, Option}
+use Rattle.std.proofs.Common.{◌≡◌, ℕ, ℤ, suc, Bool, true, false, List, [], ◌∷◌, ◌++◌, map, Option, Some}
 use Rattle.std.specs.Prelude.{int_lt, int_le, pos, Ok}
 use Rattle.ann_base.specs.declared.identities.CallNo.{CallNo}
 use Rattle.ann_base.specs.declared.identities.ObjectNo.{ObjectNo}
 use Rattle.ann_base.specs.declared.identities.RegionNo.{RegionNo}
 use Rattle.ann_base.specs.declared.identities.TaskNo.{TaskNo}
 use Rattle.trace_text.specs.declared.events.Event.{Event}
+use Rattle.trace_text.specs.declared.events.Mode.{Mode}
 use Rattle.trace_text.specs.declared.events.Who.{Who}
 use Rattle.trace_text.specs.declared.events.Who.TheVariants as who
 use Rattle.profile_machine.specs.declared.image.Image.{Image}
@@ -28,14 +29,15 @@ use Rattle.profile_machine.specs.declared.world.appointments.Due.{Due}
 use Rattle.profile_machine.specs.declared.world.appointments.Budget.{Budget}
 use Rattle.profile_machine.specs.declared.world.appointments.HandlerOf.{HandlerOf}
 use Rattle.profile_machine.specs.declared.world.appointments.Release.{Release}
-use Rattle.profile_machine.specs.Words.{edit_at}
+use Rattle.profile_machine.specs.Words.{edit_at, without}
 use Rattle.profile_machine.specs.declared.world.lines.Part.{Part}
 use Rattle.profile_machine.specs.declared.world.lines.Said.{Said}
 use Rattle.profile_machine.specs.declared.world.lines.Line.{Line}
 use Rattle.profile_machine.specs.declared.world.lines.Line.TheVariants as said
 use Rattle.profile_machine.specs.declared.world.lines.Part.TheVariants.{Own}
 use Rattle.profile_machine.specs.Program.{form_of}
-use Rattle.profile_machine.specs.Values.{seen_by}
+use Rattle.profile_machine.specs.Values.{object_of, seen_by}
+use Rattle.profile_machine.specs.Protected.{is_action_of, has_open, excludes, open_action}
 use Rattle.profile_machine.specs.Statements.{text_of_pieces}
 use Rattle.profile_machine.specs.Lines.{event_of}
 use Rattle.profile_machine.specs.Steps.{in_order, placed_by}
@@ -49,7 +51,7 @@ use Rattle.profile_machine.specs.EntryCalls.{add_call}
 use Rattle.profile_machine.specs.Controlled.{registered_as, no_longer_registered}
 use Rattle.profile_machine.specs.Declarations.{new_object, object_drawn, event_drawn, with_budget, with_timer}
 use Rattle.profile_machine.specs.Tasking.{add_task, end_environment}
-use Rattle.profile_machine.specs.Serving.{serves_nothing}
+use Rattle.profile_machine.specs.Serving.{serves_nothing, close_action}
 use Rattle.profile_machine.specs.Handlers.{add_release, clear_timer, with_timer_set, edit_budget}
 use Rattle.profile_machine.specs.Run.{with_serving}
 use Rattle.machine_laws.specs.LineKinds.{is_of_tock}
@@ -66,11 +68,35 @@ MoveRelation = World → List Event → World → Type 0
 abbrev pub lines_of : Image → List Said → List Event
 lines_of p said = map (λ x. event_of p x.line) (in_order said)
 
--- The lines that are said only together with what they tell: that of a Put_Line, and that of a release.
+-- The lines that are said only together with what they tell: those of a Put_Line, of a release, and of protected actions.
 abbrev pub is_told_apart : Line → Bool
 is_told_apart (said.Put name text) = true
 is_told_apart (said.Release release handler) = true
+is_told_apart (said.Enter name object mode) = true
+is_told_apart (said.Exit name object) = true
+is_told_apart (said.Held name object mode) = true
 is_told_apart _ = false
+
+abbrev pub own : Line → Said
+own line = record { part = Own; line = line }
+
+-- lines that are not told apart
+abbrev pub AreOthers : List Said → Type 0
+AreOthers [] = Unit {0}
+AreOthers (x ∷ xs) = (is_told_apart x.line ≡ false) × AreOthers xs
+
+-- The object is there, somebody has no action open on it, and those of others do not exclude one of this mode (9.5.1).
+pub record LetsIn (name : Who) (o : ObjectNo) (mode : Mode) (w : World) : Type 0 where
+  pub object : Object
+  pub found : object_of w o ≡ Some object
+  pub outside : has_open name object.actions ≡ false
+  pub free : excludes mode (without (is_action_of name) object.actions) ≡ false
+
+-- the same, but that they exclude it
+pub record FindsHeld (name : Who) (o : ObjectNo) (mode : Mode) (w : World) : Type 0 where
+  pub object : Object
+  pub found : object_of w o ≡ Some object
+  pub held : excludes mode (without (is_action_of name) object.actions) ≡ true
 
 pub record Moves (R : StepRelation) (Q : MoveRelation) : Type 0 where
   -- nothing is done, one step follows another, and a line of an effect is said, unless it is told apart
@@ -97,9 +123,14 @@ pub record Moves (R : StepRelation) (Q : MoveRelation) : Type 0 where
   pub edits_call : (c : CallNo) (f : Call → Call) (w : World) → ((d : Call) → (f d).number ≡ d.number) → R w [] (edit_call c f w)
   pub adds_call : (c : Call) (w : World) → R w [] (add_call c w)
   pub forgets_call : (c : CallNo) (w : World) → R w [] (forget_call c w)
-  -- protected objects
-  pub edits_object : (o : ObjectNo) (f : Object → Object) (w : World) → ((x : Object) → (f x).number ≡ x.number) → R w [] (edit_object o f w)
+  -- protected objects: no other edit changes the actions that are open
+  pub edits_object : (o : ObjectNo) (f : Object → Object) (w : World) → ((x : Object) → (f x).number ≡ x.number) → ((x : Object) → (f x).actions ≡ x.actions) → R w [] (edit_object o f w)
   pub adds_object : (p : Image) (l : Located) (u : ProtectedUnitNo) (w : World) → R w [] (record w { objects = new_object p l u (suc w.drawn.objects) ∷ w.objects; drawn = object_drawn w.drawn })
+  -- protected actions: one begins, one ends, one begins and ends at once round other lines and a change, and one may not begin
+  pub enters : (name : Who) (o : ObjectNo) (mode : Mode) (w : World) → LetsIn name o mode w → R w (own (said.Enter name o mode) ∷ []) (open_action name o mode w)
+  pub exits : (name : Who) (o : ObjectNo) (w : World) → R w (own (said.Exit name o) ∷ []) (close_action name o w)
+  pub visits : (name : Who) (o : ObjectNo) (mode : Mode) (xs : List Said) (w v : World) → LetsIn name o mode w → AreOthers xs → R w [] v → R w (own (said.Enter name o mode) ∷ xs ++ own (said.Exit name o) ∷ []) v
+  pub finds_held : (name : Who) (o : ObjectNo) (mode : Mode) (w : World) → FindsHeld name o mode w → R w (own (said.Held name o mode) ∷ []) w
   -- appointments: one that is set is later than now
   pub appoints : (due : Due) (moment : ℤ) (w : World) → int_lt (pos w.time) moment ≡ true → R w [] (appoint due moment w)
   pub drops_appointment : (test : Due → Bool) (w : World) → R w [] (drop_appointment test w)

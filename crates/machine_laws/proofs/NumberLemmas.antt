@@ -17,6 +17,8 @@ use Rattle.profile_machine.specs.declared.world.appointments.Release.{Release}
 use Rattle.profile_machine.specs.Tasks.{is_who, task_at, edit_task_found, edit_task}
 use Rattle.profile_machine.specs.Scopes.{goes_with, is_id, with_cells}
 use Rattle.profile_machine.specs.Calls.{is_call}
+use Rattle.profile_machine.specs.Words.{without}
+use Rattle.profile_machine.specs.Protected.{is_action_of}
 use Rattle.profile_machine.specs.Values.{is_object}
 use Rattle.profile_machine.specs.Controlled.{is_number}
 use Rattle.profile_machine.specs.Dispatching.{choose}
@@ -105,8 +107,12 @@ stays_numbered = record {
   edits_call = λ c f w k h. (h.0, Falls-edit_where call_number (is_call c) f (λ d. ap (λ n. n.0) (k d)) (suc w.drawn.calls) w.calls h.1, h.2, h.3, h.4, h.5, h.6);
   adds_call = λ c w h. (h.0, (omega arith, h.1), h.2, h.3, h.4, h.5, h.6);
   forgets_call = λ c w h. (h.0, Falls-without call_number (is_call c) (suc w.drawn.calls) w.calls h.1, h.2, h.3, h.4, h.5, h.6);
-  edits_object = λ o f w k h. (h.0, h.1, h.2, h.3, Falls-edit_where object_number (is_object o) f (λ x. ap (λ n. n.0) (k x)) (suc w.drawn.objects) w.objects h.4, h.5, h.6);
+  edits_object = λ o f w k a h. (h.0, h.1, h.2, h.3, Falls-edit_where object_number (is_object o) f (λ x. ap (λ n. n.0) (k x)) (suc w.drawn.objects) w.objects h.4, h.5, h.6);
   adds_object = λ p l u w h. (h.0, h.1, h.2, h.3, (omega arith, h.4), h.5, h.6);
+  enters = λ name o mode w lets h. (h.0, h.1, h.2, h.3, Falls-edit_where object_number (is_object o) (λ x. record x { actions = record { who = name; mode = mode } ∷ x.actions }) (λ x. refl) (suc w.drawn.objects) w.objects h.4, h.5, h.6);
+  exits = λ name o w h. (h.0, h.1, h.2, h.3, Falls-edit_where object_number (is_object o) (λ x. record x { actions = without (is_action_of name) x.actions }) (λ x. refl) (suc w.drawn.objects) w.objects h.4, h.5, h.6);
+  visits = λ name o mode xs w v lets others k h. k h;
+  finds_held = λ name o mode w found h. h;
   appoints = λ due moment w later h. (h.0, h.1, h.2, h.3, h.4, h.5, InOrder-put (record { due = due; moment = moment }) w.appointments h.6);
   drops_appointment = λ test w h. (h.0, h.1, h.2, h.3, h.4, h.5, InOrder-without (λ a. test a.due) w.appointments h.6);
   registers = λ r l w h. (h.0, h.1, (omega arith, h.2), h.3, h.4, h.5, h.6);

@@ -14,7 +14,7 @@ use Rattle.profile_machine.specs.Steps.{is_part_before, put_in_order, in_order}
 use Rattle.profile_machine.specs.Values.{seen_by}
 use Rattle.profile_machine.specs.Run.{opens, blank_world, tock, stop, run_of}
 use Rattle.machine_laws.specs.LineKinds.{is_of_tock, AllAre}
-use Rattle.machine_laws.proofs.Moves.{is_told_apart, Moves, Puts}
+use Rattle.machine_laws.proofs.Moves.{is_told_apart, AreOthers, own, Moves, Puts}
 use Rattle.machine_laws.proofs.LineLemmas.{tocks_say_ticks}
 use Rattle.machine_laws.proofs.Kept.Combinators.{Leads, settles-leads}
 use Rattle.machine_laws.proofs.Kept.Instant.{instant-leads}
@@ -63,6 +63,10 @@ module _ (P : List ℕ → Type 0) where
   no_put-kept (line.Put who text) e = absurd cc
   no_put-kept _ e = tt
 
+  others-kept : (xs : List Said) → AreOthers xs → EachSaid xs
+  others-kept [] a = tt
+  others-kept (x ∷ xs) a = (no_put-kept x.line a.0, others-kept xs a.1)
+
   of_puts : Moves (λ before said after. EachSaid said) (λ before lines after. AllOf (OfPut P) lines)
   of_puts = record {
     stays = λ w. tt;
@@ -84,8 +88,12 @@ module _ (P : List ℕ → Type 0) where
     edits_call = λ c f w k. tt;
     adds_call = λ c w. tt;
     forgets_call = λ c w. tt;
-    edits_object = λ o f w k. tt;
+    edits_object = λ o f w k a. tt;
     adds_object = λ p l u w. tt;
+    enters = λ name o mode w h. (tt, tt);
+    exits = λ name o w. (tt, tt);
+    visits = λ name o mode xs w v h others k. (tt, EachSaid-append xs (own (line.Exit name o) ∷ []) (others-kept xs others) (tt, tt));
+    finds_held = λ name o mode w h. (tt, tt);
     appoints = λ due moment w later. tt;
     drops_appointment = λ test w. tt;
     registers = λ r l w. tt;

@@ -26,7 +26,7 @@ use Rattle.profile_machine.specs.Cost.{cost}
 use Rattle.profile_machine.specs.Handlers.{charge}
 use Rattle.profile_machine.specs.Instant.{instant}
 use Rattle.profile_machine.specs.Run.{opens, opening, blank_world, say, says_run, serve_if_free, serve, says_idle, ticks_or, one_tick_less, begin_action, spend_tick, tock, run_of}
-use Rattle.machine_laws.proofs.Moves.{Moves, is_told_apart}
+use Rattle.machine_laws.proofs.Moves.{Moves, AreOthers, own, is_told_apart}
 use Rattle.machine_laws.proofs.Kept.Combinators.{Leads, Alters, settles-leads}
 use Rattle.machine_laws.proofs.Kept.Handlers.{charge-alters}
 use Rattle.machine_laws.proofs.Kept.Instant.{instant-leads}
@@ -162,9 +162,17 @@ edit_found-unmoved who.Agent f w (Some t) = unmoved w
 edit_task-unmoved : (name : Who) (f : Task → Task) (w : World) → TellsReleases w [] (edit_task name f w)
 edit_task-unmoved name f w = edit_found-unmoved name f w (task_at w name)
 
+other-on : (part : Part) (x : Line) (count : ℕ) (f : ℕ → Type 0) → is_told_apart x ≡ false → f count → told part (release_of x) count f
+other-on part (said.Release number handler) count f e h = cc
+other-on part _ count f e h = h
+
 said-other : (part : Part) (x : Line) (count : ℕ) → is_told_apart x ≡ false → told part (release_of x) count (λ n. n ≡ count)
 said-other part (said.Release number handler) count e = cc
 said-other part _ count e = refl
+
+others-told : (xs : List Said) (count : ℕ) → AreOthers xs → Told xs count count
+others-told [] count a = refl
+others-told (x ∷ xs) count a = other-on x.part x.line count (λ n. Told xs n count) a.0 (others-told xs count a.1)
 
 tells_releases : Moves TellsReleases ShowsReleases
 tells_releases = record {
@@ -187,8 +195,12 @@ tells_releases = record {
   edits_call = λ c f w k. unmoved w;
   adds_call = λ c w. unmoved w;
   forgets_call = λ c w. unmoved w;
-  edits_object = λ o f w k. unmoved w;
+  edits_object = λ o f w k a. unmoved w;
   adds_object = λ p l u w. unmoved w;
+  enters = λ name o mode w h. unmoved w;
+  exits = λ name o w. unmoved w;
+  visits = λ name o mode xs w v h others k. (Told-append xs (own (said.Exit name o) ∷ []) w.drawn.releases w.drawn.releases v.drawn.releases (others-told xs w.drawn.releases others) k.0, k.1);
+  finds_held = λ name o mode w h. unmoved w;
   appoints = λ due moment w later. unmoved w;
   drops_appointment = λ test w. unmoved w;
   registers = λ r l w. unmoved w;

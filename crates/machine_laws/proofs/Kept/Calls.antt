@@ -33,9 +33,9 @@ module _ {R : StepRelation} {Q : MoveRelation} (moves : Moves R Q) where
   unfolding says_call
   says_call-keeps part c = search (says-keeps)
 
-  pub edit_object-alters : (o : ObjectNo) (f : Object → Object) → ((x : Object) → (f x).number ≡ x.number) → Alters R (edit_object o f)
+  pub edit_object-alters : (o : ObjectNo) (f : Object → Object) → ((x : Object) → (f x).number ≡ x.number) → ((x : Object) → (f x).actions ≡ x.actions) → Alters R (edit_object o f)
   unfolding Alters
-  edit_object-alters o f a w = moves.edits_object o f w a
+  edit_object-alters o f a b w = moves.edits_object o f w a b
 
   pub edit_queue-alters : (owner : Owner) (place : ℕ) (f : List CallNo → List CallNo) → Alters R (edit_queue owner place f)
   edit_queue-alters (owned_by.Task t) place f = search (edit_task-alters)

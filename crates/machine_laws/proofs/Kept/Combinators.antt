@@ -146,6 +146,21 @@ module _ {R : StepRelation} {Q : MoveRelation} (moves : Moves R Q) where
   unfolding From
   changes-from f w a said = silent-kept w (f w) said a
 
+  -- a line is said, alone and before a step
+  pub said-from : (part : Part) (line : Line) (w : World) → R w (record { part = part; line = line } ∷ []) w → From R w (says part line)
+  unfolding From Kept
+  said-from part line w a said = (record { part = part; line = line } ∷ [], refl, a)
+
+  pub said_then-from : (part : Part) (line : Line) (g : Step) (w : World) → R w (record { part = part; line = line } ∷ []) w → From R w g → From R w (says part line ▷ g)
+  unfolding From
+  said_then-from part line g w a b said =
+      let more = said ++ record { part = part; line = line } ∷ [] in
+      then-kept w w said more (g w more) (said-from part line w a said) (b more)
+
+  pub either-from : (b : Bool) (f g : Step) (w : World) → From R w f → From R w g → From R w (elim b as (λ _. Step) [ true ↦ f | false ↦ g ])
+  either-from true f g w a b = a
+  either-from false f g w a b = b
+
   -- a change, and a step from the world that it makes
   pub changes_then-from : (f : World → World) (g : Step) (w : World) → R w [] (f w) → From R (f w) g → From R w (changes f ▷ g)
   unfolding From

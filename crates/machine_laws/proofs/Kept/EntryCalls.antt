@@ -1,10 +1,15 @@
 -- Entry calls: each step keeps a relation that its parts keep.
-use Rattle.std.proofs.Common.{◌≡◌, refl}
-use Rattle.std.specs.Prelude.{ℕ, ℤ, pos, int_lt, Bool, true, false, Option, Some, None, length}
+use Rattle.std.proofs.Common.{◌≡◌, refl, ap, ◌∙◌, append_assoc}
+use Rattle.std.specs.Prelude.{ℕ, suc, ℤ, pos, int_lt, Bool, true, false, List, [], ◌∷◌, ◌++◌, Option, Some, None, length}
 use Rattle.ann_base.specs.declared.identities.CallNo.{CallNo}
 use Rattle.ann_base.specs.declared.identities.ObjectNo.{ObjectNo}
 use Rattle.ann_base.specs.declared.identities.TaskNo.{TaskNo}
 use Rattle.ann_base.specs.declared.exceptions.Raised.{Raised}
+use Rattle.ann_base.specs.declared.exceptions.Raised.TheVariants as exception
+use Rattle.trace_text.specs.declared.events.Mode.TheVariants.{Write}
+use Rattle.profile_machine.specs.declared.world.lines.Line.TheVariants as line
+use Rattle.profile_machine.specs.declared.world.lines.MeetingEnd.TheVariants as meeting
+use Rattle.profile_machine.specs.declared.world.lines.Said.{Said}
 use Rattle.trace_text.specs.declared.events.Who.{Who}
 use Rattle.trace_text.specs.declared.events.Who.TheVariants as who
 use Rattle.profile_machine.specs.declared.world.calls.EntryCallNamed.{EntryCallNamed}
@@ -21,21 +26,25 @@ use Rattle.profile_machine.specs.declared.world.calls.Owner.{Owner}
 use Rattle.profile_machine.specs.declared.world.appointments.Due.TheVariants as due_for
 use Rattle.profile_machine.specs.declared.world.calls.Owner.TheVariants as owned_by
 use Rattle.profile_machine.specs.declared.world.lines.Part.{Part}
-use Rattle.profile_machine.specs.declared.world.lines.Part.TheVariants.{Own}
-use Rattle.profile_machine.specs.Steps.{Step, changes, looks, ◌▷◌}
+use Rattle.profile_machine.specs.declared.world.lines.Part.TheVariants.{Own, TheCall}
+use Rattle.profile_machine.specs.Steps.{Step, goes_on_with, says, changes, looks, for_some, ◌▷◌}
 use Rattle.profile_machine.specs.Program.{next_of}
-use Rattle.profile_machine.specs.Frames.{frames_of, edit_top, goes_on}
-use Rattle.profile_machine.specs.Sending.{open_abortable}
-use Rattle.profile_machine.specs.EntryCalls.{add_call, make_call, end_at_once, call_gone, call_meets, call_queues, call_not_met, call_accepted_by, call_callable, call_task, call_runs, call_without_room, has_room_for_action, call_runs_if_room, call_passes, call_refused, call_closed, call_by_barrier, call_object, call_owner, call_named, entry_call, appoint_trigger, trigger_delay, async_delay, async_by_trigger, asynchronous_select, mark_sending, requeue}
-use Rattle.machine_laws.proofs.Moves.{StepRelation, MoveRelation, Moves}
-use Rattle.machine_laws.proofs.Kept.Combinators.{Keeps, From, Alters, branch-keeps, changes-keeps, keeps-from, looks-from, looks-keeps, looks_at-from, nothing-keeps, says-keeps, sees-keeps, then-keeps, unchanged-alters, changes_then-from}
+use Rattle.profile_machine.specs.Frames.{frames_of, edit_first, edit_top, goes_on}
+use Rattle.profile_machine.specs.Tasks.{with_frames}
+use Rattle.profile_machine.specs.Calls.{call_of, says_call, enqueued, enqueue, is_full}
+use Rattle.profile_machine.specs.Protected.{begin_action_on, is_barrier_open}
+use Rattle.profile_machine.specs.Sending.{open_abortable, not_accepted}
+use Rattle.profile_machine.specs.EntryCalls.{numbered, marks_if_queued, add_call, make_call, end_at_once, call_gone, call_meets, call_queues, call_not_met, call_accepted_by, call_callable, call_task, call_runs, call_without_room, has_room_for_action, call_runs_if_room, call_passes, call_refused, call_closed, call_by_barrier, call_object, call_owner, call_named, entry_call, appoint_trigger, trigger_delay, async_delay, async_by_trigger, asynchronous_select, mark_sending, requeue}
+use Rattle.machine_laws.proofs.Moves.{StepRelation, MoveRelation, Moves, LetsIn, own}
+use Rattle.machine_laws.proofs.Kept.Entering.{LetsIn-same, edit_task-objects}
+use Rattle.machine_laws.proofs.Kept.Combinators.{Keeps, Kept, From, Alters, either-from, said_then-from, then-from, changes-keeps, keeps-from, looks-from, looks-keeps, looks_at-from, nothing-keeps, sees-keeps, then-keeps, unchanged-alters, changes_then-from}
 use Rattle.machine_laws.proofs.AtOnce.{at_once, later_behind}
 use Rattle.machine_laws.proofs.Kept.Dispatching.{block-keeps}
 use Rattle.machine_laws.proofs.Kept.Frames.{goes-keeps, leaves-keeps, raises-keeps, given-from, given-keeps, raise_if-from, raise_if-keeps, with_room-from, with_room-keeps, edit_top-alters, goes_then-from}
 use Rattle.machine_laws.proofs.Kept.Appointments.{appoint-from}
-use Rattle.machine_laws.proofs.Kept.Calls.{edit_call-alters, forget_call-alters, says_call-keeps, enqueue-keeps}
+use Rattle.machine_laws.proofs.Kept.Calls.{edit_call-alters, forget_call-alters, says_call-keeps, enqueued-alters, enqueue-keeps}
 use Rattle.machine_laws.proofs.Kept.CallEnds.{gone-keeps}
-use Rattle.machine_laws.proofs.Kept.Protected.{where_let_inside-keeps, begin_action_on-keeps, serve_call-keeps}
+use Rattle.machine_laws.proofs.Kept.Protected.{where_let_inside-keeps, begin_action_on-from, serve_call-keeps}
 use Rattle.machine_laws.proofs.Kept.Sending.{open_abortable-alters, not_accepted-keeps}
 use Rattle.machine_laws.proofs.Kept.Rendezvous.{meet-keeps}
 
@@ -82,39 +91,96 @@ module _ {R : StepRelation} {Q : MoveRelation} (moves : Moves R Q) where
   unfolding call_task
   call_task-keeps p t c = search (looks-keeps, call_callable-keeps)
 
-  pub call_runs-keeps : (p : Image) (o : ObjectNo) (c : Call) → Keeps R (call_runs p o c)
+  -- ---- a call of a protected entry, whose caller is let in
+
+  -- the call is made, and the caller is let in still
+  make_call-from : (p : Image) (o : ObjectNo) (c : Call) (step : Call → Step) (w : World) → LetsIn (who.Task c.caller) o Write w → ((n : ℕ) (v : World) → LetsIn (who.Task c.caller) o Write v → From R v (step (numbered n c))) → From R w (make_call p c step)
+  unfolding says_call
+  make_call-from p o c step w h kept =
+      let name = who.Task c.caller in
+      let onward = edit_top name (goes_on (next_of p c.statement)) w in
+      let made = add_call c onward in
+      let d = numbered (suc onward.drawn.calls) c in
+      let still : LetsIn name o Write made = LetsIn-same name o Write w made (edit_task-objects name (λ t. with_frames (edit_first (goes_on (next_of p c.statement)) t.frames) t) w) h in
+      goes_then-from moves name (next_of p c.statement) _ w
+      (looks_at-from moves (λ v. changes (add_call c) ▷ says_call TheCall (numbered (suc v.drawn.calls) c) ▷ step (numbered (suc v.drawn.calls) c)) onward
+      (changes_then-from moves (add_call c) _ onward (moves.adds_call c onward)
+      (said_then-from moves TheCall (line.Call d.caller d.number d.owner d.entry d.priority) (step d) made (moves.says TheCall (line.Call d.caller d.number d.owner d.entry d.priority) made refl) (kept (suc onward.drawn.calls) made still))))
+
+  call_runs-from : (p : Image) (o : ObjectNo) (c : Call) (w : World) → LetsIn (who.Task c.caller) o Write w → From R w (call_runs p o c)
   unfolding call_runs
-  call_runs-keeps p o c = search (begin_action_on-keeps, then-keeps, serve_call-keeps, nothing-keeps)
+  call_runs-from p o c w h =
+      then-from moves (begin_action_on p (who.Task c.caller) o Write (Some c.number) None) _ w (begin_action_on-from moves p (who.Task c.caller) o Write (Some c.number) None w h) (search (serve_call-keeps, nothing-keeps))
 
-  pub call_without_room-keeps : (o : ObjectNo) (c : Call) → Keeps R (call_without_room o c)
+  -- the action ends at once, without room
+  told_without_room-from : (o : ObjectNo) (c : Call) (w : World) → LetsIn (who.Task c.caller) o Write w
+      → From R w (says Own (line.Enter (who.Task c.caller) o Write) ▷ says Own (line.Start (who.Task c.caller) c.number) ▷ says Own (line.Finish (who.Task c.caller) c.number (meeting.Raised exception.Storage)) ▷ says Own (line.Exit (who.Task c.caller) o))
+  unfolding From Kept
+  told_without_room-from o c w h said =
+      let name = who.Task c.caller in
+      let a = own (line.Enter name o Write) in
+      let b = own (line.Start name c.number) in
+      let d = own (line.Finish name c.number (meeting.Raised exception.Storage)) in
+      let e = own (line.Exit name o) in (
+        a ∷ b ∷ d ∷ e ∷ [],
+        ap (λ xs. xs ++ e ∷ []) (ap (λ xs. xs ++ d ∷ []) (append_assoc said (a ∷ []) (b ∷ [])) ∙ append_assoc said (a ∷ b ∷ []) (d ∷ [])) ∙ append_assoc said (a ∷ b ∷ d ∷ []) (e ∷ []),
+        moves.visits name o Write (b ∷ d ∷ []) w w h (refl, (refl, tt)) (moves.stays w),
+      )
+
+  call_without_room-from : (o : ObjectNo) (c : Call) (w : World) → LetsIn (who.Task c.caller) o Write w → From R w (call_without_room o c)
   unfolding call_without_room
-  call_without_room-keeps o c = search (says-keeps, then-keeps, end_at_once-keeps) depth 10
+  call_without_room-from o c w h = then-from moves (says Own (line.Enter (who.Task c.caller) o Write) ▷ says Own (line.Start (who.Task c.caller) c.number) ▷ says Own (line.Finish (who.Task c.caller) c.number (meeting.Raised exception.Storage)) ▷ says Own (line.Exit (who.Task c.caller) o)) (end_at_once Own c exception.Storage) w (told_without_room-from o c w h) (end_at_once-keeps Own c exception.Storage)
 
-  pub call_runs_if_room-keeps : (p : Image) (o : ObjectNo) (c : Call) → Keeps R (call_runs_if_room p o c)
+  call_runs_if_room-from : (p : Image) (o : ObjectNo) (c : Call) (w : World) → LetsIn (who.Task c.caller) o Write w → From R w (call_runs_if_room p o c)
   unfolding call_runs_if_room
-  call_runs_if_room-keeps p o c = looks-keeps moves _ (λ w. branch-keeps moves (has_room_for_action p w c) (call_runs p o c) (call_without_room o c) (search (call_runs-keeps)) (search (call_without_room-keeps)))
+  call_runs_if_room-from p o c w h =
+      looks_at-from moves (λ v. elim (has_room_for_action p v c) as (λ _. Step) [ true ↦ call_runs p o c | false ↦ call_without_room o c ]) w (either-from moves (has_room_for_action p w c) (call_runs p o c) (call_without_room o c) w (call_runs-from p o c w h) (call_without_room-from o c w h))
 
-  pub call_passes-keeps : (p : Image) (o : ObjectNo) (c : Call) → Keeps R (call_passes p o c)
-  unfolding call_passes
-  call_passes-keeps p o c = search (says-keeps, then-keeps, enqueue-keeps, not_accepted-keeps) depth 7
+  told_refused-from : (o : ObjectNo) (c : Call) (w : World) → LetsIn (who.Task c.caller) o Write w → From R w (says Own (line.Enter (who.Task c.caller) o Write) ▷ says Own (line.Exit (who.Task c.caller) o))
+  unfolding From Kept
+  told_refused-from o c w h said =
+      let name = who.Task c.caller in
+      (own (line.Enter name o Write) ∷ own (line.Exit name o) ∷ [], append_assoc said (own (line.Enter name o Write) ∷ []) (own (line.Exit name o) ∷ []), moves.visits name o Write [] w w h tt (moves.stays w))
 
-  pub call_refused-keeps : (o : ObjectNo) (c : Call) → Keeps R (call_refused o c)
+  -- it is queued in the action
+  told_queued-from : (p : Image) (o : ObjectNo) (c d : Call) (w : World) → LetsIn (who.Task c.caller) o Write w → From R w (says Own (line.Enter (who.Task c.caller) o Write) ▷ changes (enqueued p d) ▷ says Own (line.Exit (who.Task c.caller) o))
+  unfolding From Kept Alters
+  told_queued-from p o c d w h said =
+      let name = who.Task c.caller in
+      (own (line.Enter name o Write) ∷ own (line.Exit name o) ∷ [], append_assoc said (own (line.Enter name o Write) ∷ []) (own (line.Exit name o) ∷ []), moves.visits name o Write [] w (enqueued p d w) h tt (enqueued-alters moves p d w))
+
+  passes_found-kept : (p : Image) (o : ObjectNo) (c : Call) (w : World) (found : Option Call) (said : List Said) → LetsIn (who.Task c.caller) o Write w
+      → Kept R w said (goes_on_with (says Own (line.Exit (who.Task c.caller) o) ▷ not_accepted p Own c c.kind) (for_some found (λ d. changes (enqueued p d)) w (said ++ own (line.Enter (who.Task c.caller) o Write) ∷ [])))
+  unfolding From
+  passes_found-kept p o c w None said h =
+      then-from moves (says Own (line.Enter (who.Task c.caller) o Write) ▷ says Own (line.Exit (who.Task c.caller) o)) (not_accepted p Own c c.kind) w (told_refused-from o c w h) (not_accepted-keeps moves p Own c c.kind) said
+  passes_found-kept p o c w (Some d) said h =
+      then-from moves (says Own (line.Enter (who.Task c.caller) o Write) ▷ changes (enqueued p d) ▷ says Own (line.Exit (who.Task c.caller) o)) (not_accepted p Own c c.kind) w (told_queued-from p o c d w h) (not_accepted-keeps moves p Own c c.kind) said
+
+  call_passes-from : (p : Image) (o : ObjectNo) (c : Call) (w : World) → LetsIn (who.Task c.caller) o Write w → From R w (call_passes p o c)
+  unfolding call_passes From enqueue
+  call_passes-from p o c w h said = passes_found-kept p o c w (call_of w c.number) said h
+
+  call_refused-from : (o : ObjectNo) (c : Call) (w : World) → LetsIn (who.Task c.caller) o Write w → From R w (call_refused o c)
   unfolding call_refused
-  call_refused-keeps o c = search (says-keeps, then-keeps, end_at_once-keeps) depth 6
+  call_refused-from o c w h = then-from moves (says Own (line.Enter (who.Task c.caller) o Write) ▷ says Own (line.Exit (who.Task c.caller) o)) (end_at_once Own c exception.Program) w (told_refused-from o c w h) (end_at_once-keeps Own c exception.Program)
 
-  pub call_closed-keeps : (p : Image) (o : ObjectNo) (c : Call) (test : Bool) → Keeps R (call_closed p o c test)
+  call_closed-from : (p : Image) (o : ObjectNo) (c : Call) (test : Bool) (w : World) → LetsIn (who.Task c.caller) o Write w → From R w (call_closed p o c test)
   unfolding call_closed
-  call_closed-keeps p o c true = search (make_call-keeps, call_refused-keeps)
-  call_closed-keeps p o c false = search (with_room-keeps, make_call-keeps, call_passes-keeps)
+  call_closed-from p o c true w h = make_call-from p o c (call_refused o) w h (λ n v k. call_refused-from o (numbered n c) v k)
+  call_closed-from p o c false w h =
+      with_room-from moves (who.Task c.caller) (marks_if_queued c.kind) 0 (make_call p c (call_passes p o)) w (make_call-from p o c (call_passes p o) w h (λ n v k. call_passes-from p o (numbered n c) v k))
 
-  pub call_by_barrier-keeps : (p : Image) (o : ObjectNo) (c : Call) (test : Bool) → Keeps R (call_by_barrier p o c test)
+  call_by_barrier-from : (p : Image) (o : ObjectNo) (c : Call) (test : Bool) (w : World) → LetsIn (who.Task c.caller) o Write w → From R w (call_by_barrier p o c test)
   unfolding call_by_barrier
-  call_by_barrier-keeps p o c true = search (with_room-keeps, make_call-keeps, call_runs_if_room-keeps)
-  call_by_barrier-keeps p o c false = search (looks-keeps, call_closed-keeps)
+  call_by_barrier-from p o c true w h =
+      with_room-from moves (who.Task c.caller) 1 0 (make_call p c (call_runs_if_room p o)) w (make_call-from p o c (call_runs_if_room p o) w h (λ n v k. call_runs_if_room-from p o (numbered n c) v k))
+  call_by_barrier-from p o c false w h = looks_at-from moves (λ v. call_closed p o c (is_full p v c.owner c.entry)) w (call_closed-from p o c (is_full p w c.owner c.entry) w h)
 
   pub call_object-keeps : (p : Image) (o : ObjectNo) (c : Call) → Keeps R (call_object p o c)
   unfolding call_object
-  call_object-keeps p o c = search (where_let_inside-keeps, looks-keeps, call_by_barrier-keeps)
+  call_object-keeps p o c =
+      where_let_inside-keeps moves p (who.Task c.caller) o Write _ (λ w h. looks_at-from moves (λ v. call_by_barrier p o c (is_barrier_open p v (who.Task c.caller) o c.entry)) w (call_by_barrier-from p o c (is_barrier_open p w (who.Task c.caller) o c.entry) w h))
 
   pub call_owner-keeps : (p : Image) (c : Call) (owner : Owner) → Keeps R (call_owner p c owner)
   unfolding call_owner

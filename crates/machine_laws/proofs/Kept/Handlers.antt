@@ -31,19 +31,22 @@ use Rattle.profile_machine.specs.Tasks.{task_of, edit_task}
 use Rattle.profile_machine.specs.Frames.{has_room}
 use Rattle.profile_machine.specs.Values.{Seen}
 use Rattle.profile_machine.specs.CallEnds.{store}
+use Rattle.trace_text.specs.declared.events.Mode.TheVariants.{Write}
+use Rattle.profile_machine.specs.Protected.{entering, begin_action_on}
 use Rattle.profile_machine.specs.Serving.{end_release}
 use Rattle.profile_machine.specs.Handlers.{add_release, says_release, wake_agent, release, with_room_for_release, scope_size_of, begin_handler, begin_handler_if_room, enter_handler, call_handler, interrupt, setting_of, answer, cancel_event_setting, appoint_event, event_set_to, set_event, cancel_event, clear_timer, with_timer_set, timer_set_beyond, timer_set_to, set_timer, cancel_timer, edit_budget, change_member, add_member, remove_member, fill_budget, replenish, add_to_budget, set_budget, cancel_budget, clock_risen, due_by_tick, charge_budget, timers_reached, quantum_spent_by, charge_clock, charge_group, charge_task, charge}
 use Rattle.std.proofs.Common.{◌≡◌, refl}
 use Rattle.std.specs.Prelude.{Bool}
-use Rattle.machine_laws.proofs.Moves.{StepRelation, MoveRelation, Moves}
-use Rattle.machine_laws.proofs.Kept.Combinators.{Keeps, Kept, From, Alters, branch-keeps, changes-keeps, for_some-keeps, keeps-from, looks-from, looks-keeps, nothing-keeps, says-keeps, sees-keeps, then-keeps, unchanged-alters}
+use Rattle.machine_laws.proofs.Moves.{StepRelation, MoveRelation, Moves, LetsIn}
+use Rattle.machine_laws.proofs.Kept.Combinators.{Keeps, Kept, From, Alters, either-from, looks_at-from, then-from, changes-keeps, for_some-keeps, keeps-from, looks-from, looks-keeps, nothing-keeps, says-keeps, sees-keeps, then-keeps, unchanged-alters}
 use Rattle.machine_laws.proofs.Kept.Frames.{becomes-from, goes-keeps, given-keeps, raise_if-keeps}
 use Rattle.machine_laws.proofs.Kept.Tasks.{edit_task-alters}
 use Rattle.machine_laws.proofs.Kept.Dispatching.{ready-keeps}
 use Rattle.machine_laws.proofs.Kept.Scopes.{open_scope-alters}
 use Rattle.machine_laws.proofs.Kept.Appointments.{appoint-from, drop_appointment-alters}
 use Rattle.machine_laws.proofs.Kept.CallEnds.{store-gives}
-use Rattle.machine_laws.proofs.Kept.Protected.{find_held-keeps, begin_action_on-keeps}
+use Rattle.machine_laws.proofs.Kept.Protected.{find_held-from, begin_action_on-from}
+use Rattle.machine_laws.proofs.Kept.Entering.{entering-inside, entering-held}
 use Rattle.machine_laws.proofs.Kept.Serving.{end_release-keeps}
 
 module _ {R : StepRelation} {Q : MoveRelation} (moves : Moves R Q) where
@@ -66,24 +69,28 @@ module _ {R : StepRelation} {Q : MoveRelation} (moves : Moves R Q) where
   pub with_room_for_release-keeps : (name : Who) (needed : Bool) (step : Step) → Keeps R step → Keeps R (with_room_for_release name needed step)
   with_room_for_release-keeps name needed step kept = search (looks-keeps, raise_if-keeps)
 
-  pub begin_handler-keeps : (p : Image) (r : Release) → Keeps R (begin_handler p r)
+  begin_handler-from : (p : Image) (r : Release) (w : World) → LetsIn who.Agent r.handler.object Write w → From R w (begin_handler p r)
   unfolding begin_handler
-  begin_handler-keeps p r = search (begin_action_on-keeps, then-keeps, looks-keeps, changes-keeps, open_scope-alters)
+  begin_handler-from p r w h =
+      then-from moves (begin_action_on p who.Agent r.handler.object Write None (Some r.number)) _ w (begin_action_on-from moves p who.Agent r.handler.object Write None (Some r.number) w h)
+      (search (looks-keeps, changes-keeps, open_scope-alters))
 
-  pub begin_handler_if_room-keeps : (p : Image) (r : Release) → Keeps R (begin_handler_if_room p r)
+  begin_handler_if_room-from : (p : Image) (r : Release) (w : World) → LetsIn who.Agent r.handler.object Write w → From R w (begin_handler_if_room p r)
   unfolding begin_handler_if_room
-  begin_handler_if_room-keeps p r = looks-keeps moves _ (λ w. branch-keeps moves (has_room w who.Agent (1 + marks_of p (subprogram_of p r.handler.procedure).scope) (scope_size_of p r.handler.procedure)) (begin_handler p r) (end_release r.number) (search (begin_handler-keeps)) (search (end_release-keeps)))
+  begin_handler_if_room-from p r w h =
+      looks_at-from moves (λ v. elim (has_room v who.Agent (1 + marks_of p (subprogram_of p r.handler.procedure).scope) (scope_size_of p r.handler.procedure)) as (λ _. Step) [ true ↦ begin_handler p r | false ↦ end_release r.number ]) w (either-from moves (has_room w who.Agent (1 + marks_of p (subprogram_of p r.handler.procedure).scope) (scope_size_of p r.handler.procedure)) (begin_handler p r) (end_release r.number) w
+      (begin_handler-from p r w h) (keeps-from moves (end_release r.number) w (end_release-keeps moves r.number)))
 
-  pub enter_handler-keeps : (p : Image) (r : Release) (entering : Entering) → Keeps R (enter_handler p r entering)
+  enter_handler-from : (p : Image) (r : Release) (w : World) (is : Entering) → entering p w who.Agent r.handler.object Write ≡ is → From R w (enter_handler p r is)
   unfolding enter_handler
-  enter_handler-keeps p r entering_is.SameObject = search (end_release-keeps)
-  enter_handler-keeps p r entering_is.AboveCeiling = search (end_release-keeps)
-  enter_handler-keeps p r entering_is.Held = search (find_held-keeps)
-  enter_handler-keeps p r entering_is.Inside = search (begin_handler_if_room-keeps)
+  enter_handler-from p r w entering_is.SameObject e = keeps-from moves (end_release r.number) w (end_release-keeps moves r.number)
+  enter_handler-from p r w entering_is.AboveCeiling e = keeps-from moves (end_release r.number) w (end_release-keeps moves r.number)
+  enter_handler-from p r w entering_is.Held e = find_held-from moves p who.Agent r.handler.object Write w (entering-held p w who.Agent r.handler.object Write e)
+  enter_handler-from p r w entering_is.Inside e = begin_handler_if_room-from p r w (entering-inside p w who.Agent r.handler.object Write e)
 
   pub call_handler-keeps : (p : Image) (r : Release) → Keeps R (call_handler p r)
   unfolding call_handler
-  call_handler-keeps p r = search (looks-keeps, enter_handler-keeps)
+  call_handler-keeps p r = looks-from moves _ (λ w. enter_handler-from p r w (entering p w who.Agent r.handler.object Write) refl)
 
   pub interrupt-keeps : (p : Image) (n : ℕ) → Keeps R (interrupt p n)
   unfolding interrupt

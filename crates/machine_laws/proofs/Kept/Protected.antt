@@ -1,5 +1,5 @@
 -- Protected actions and entry bodies: each step keeps a relation that its parts keep.
-use Rattle.std.specs.Prelude.{ℕ, List, Option, Some, None}
+use Rattle.std.specs.Prelude.{ℕ, List, [], ◌∷◌, Option, Some, None}
 use Rattle.ann_base.specs.declared.exceptions.Raised.TheVariants as exception
 use Rattle.ann_base.specs.declared.identities.ObjectNo.{ObjectNo}
 use Rattle.ann_base.specs.declared.identities.CallNo.{CallNo}
@@ -20,45 +20,67 @@ use Rattle.profile_machine.specs.declared.world.marks.ResultTo.{ResultTo}
 use Rattle.profile_machine.specs.declared.world.marks.ProtectedMark.{ProtectedMark}
 use Rattle.profile_machine.specs.declared.world.calls.Call.{Call}
 use Rattle.profile_machine.specs.declared.world.lines.Part.{Part}
-use Rattle.profile_machine.specs.Steps.{Step, says, ◌▷◌}
-use Rattle.profile_machine.specs.Protected.{find_held, enter_or, where_let_inside, open_action, begin_action_on, begin_operation, call_operation_of, call_operation, begin_own_operation, call_own_operation, edit_top_protected, begin_call, body_opens, has_room_for_body, serve_call}
-use Rattle.machine_laws.proofs.Moves.{StepRelation, MoveRelation, Moves}
-use Rattle.machine_laws.proofs.Kept.Combinators.{Keeps, Alters, branch-keeps, changes-keeps, looks-keeps, says-keeps, sees-keeps, then-keeps}
+use Rattle.profile_machine.specs.declared.world.World.{World}
+use Rattle.profile_machine.specs.declared.world.lines.Part.TheVariants.{Own, ThePlacing}
+use Rattle.profile_machine.specs.Program.{next_of, subprogram_of}
+use Rattle.profile_machine.specs.Tasks.{with_frames}
+use Rattle.profile_machine.specs.Dispatching.{to_tail}
+use Rattle.profile_machine.specs.Frames.{new_frame, edit_first, edit_top, goes_on, push, raises}
+use Rattle.profile_machine.specs.declared.world.tasks.Cause.TheVariants as inherited_by
+use Rattle.profile_machine.specs.Values.{object_of}
+use Rattle.profile_machine.specs.Inheritance.{inherit_running}
+use Rattle.profile_machine.specs.Steps.{Step, says, changes, looks, ◌▷◌}
+use Rattle.std.proofs.Common.{◌≡◌, refl}
+use Rattle.profile_machine.specs.Protected.{entering, ceiling_of, new_protected_mark, mode_of, find_held, enter_or, where_let_inside, open_action, begin_action_on, begin_operation, call_operation_of, call_operation, begin_own_operation, call_own_operation, edit_top_protected, begin_call, body_opens, has_room_for_body, serve_call}
+use Rattle.machine_laws.proofs.Moves.{StepRelation, MoveRelation, Moves, LetsIn, FindsHeld, own}
+use Rattle.machine_laws.proofs.Kept.Entering.{entering-inside, entering-held, LetsIn-same, edit_task-objects}
+use Rattle.machine_laws.proofs.Kept.Combinators.{Keeps, Kept, From, Alters, branch-keeps, changes-keeps, keeps-from, looks-from, looks-keeps, said-from, says-keeps, sees-keeps, then-from, then-keeps}
 use Rattle.machine_laws.proofs.Kept.Dispatching.{to_tail-keeps}
-use Rattle.machine_laws.proofs.Kept.Frames.{edit_top-alters, goes-keeps, push-alters, raises-keeps, given-keeps, raise_if-keeps, with_room-keeps}
+use Rattle.machine_laws.proofs.Kept.Frames.{edit_top-alters, goes_then-from, push-alters, raises-keeps, given-keeps, raise_if-keeps, with_room-keeps}
 use Rattle.machine_laws.proofs.Kept.Scopes.{open_scope-alters}
 use Rattle.machine_laws.proofs.Kept.Inheritance.{inherit_running-keeps}
-use Rattle.machine_laws.proofs.Kept.Calls.{edit_call-alters, edit_object-alters, unqueued-alters}
+use Rattle.machine_laws.proofs.Kept.Calls.{edit_call-alters, unqueued-alters}
 use Rattle.machine_laws.proofs.Kept.Subprograms.{begin_body-keeps, handing-keeps}
 
 module _ {R : StepRelation} {Q : MoveRelation} (moves : Moves R Q) where
-  pub find_held-keeps : (p : Image) (name : Who) (o : ObjectNo) (mode : Mode) → Keeps R (find_held p name o mode)
+  pub find_held-from : (p : Image) (name : Who) (o : ObjectNo) (mode : Mode) (w : World) → FindsHeld name o mode w → From R w (find_held p name o mode)
   unfolding find_held
-  find_held-keeps p name o mode = search (says-keeps, then-keeps, to_tail-keeps)
+  find_held-from p name o mode w h =
+      then-from moves (says Own (line.Held name o mode)) (to_tail p ThePlacing name) w (said-from moves Own (line.Held name o mode) w (moves.finds_held name o mode w h)) (to_tail-keeps moves p ThePlacing name)
 
-  pub enter_or-keeps : (p : Image) (name : Who) (o : ObjectNo) (mode : Mode) (step : Step) (entering : Entering) → Keeps R step → Keeps R (enter_or p name o mode step entering)
-  enter_or-keeps p name o mode step entering_is.SameObject kept = search (raises-keeps)
-  enter_or-keeps p name o mode step entering_is.AboveCeiling kept = search (raises-keeps)
-  enter_or-keeps p name o mode step entering_is.Held kept = search (find_held-keeps)
-  enter_or-keeps p name o mode step entering_is.Inside kept = search
+  enter_or-from : (p : Image) (name : Who) (o : ObjectNo) (mode : Mode) (step : Step) (w : World) (is : Entering) → entering p w name o mode ≡ is → (LetsIn name o mode w → From R w step) → From R w (enter_or p name o mode step is)
+  enter_or-from p name o mode step w entering_is.SameObject e kept = keeps-from moves (raises Own name exception.Program) w (raises-keeps moves Own name exception.Program)
+  enter_or-from p name o mode step w entering_is.AboveCeiling e kept = keeps-from moves (raises Own name exception.Program) w (raises-keeps moves Own name exception.Program)
+  enter_or-from p name o mode step w entering_is.Held e kept = find_held-from p name o mode w (entering-held p w name o mode e)
+  enter_or-from p name o mode step w entering_is.Inside e kept = kept (entering-inside p w name o mode e)
 
-  pub where_let_inside-keeps : (p : Image) (name : Who) (o : ObjectNo) (mode : Mode) (step : Step) → Keeps R step → Keeps R (where_let_inside p name o mode step)
-  where_let_inside-keeps p name o mode step kept = search (looks-keeps, enter_or-keeps)
+  -- the step is done where somebody is let in
+  pub where_let_inside-keeps : (p : Image) (name : Who) (o : ObjectNo) (mode : Mode) (step : Step) → ((w : World) → LetsIn name o mode w → From R w step) → Keeps R (where_let_inside p name o mode step)
+  where_let_inside-keeps p name o mode step kept =
+      looks-from moves _ (λ w. enter_or-from p name o mode step w (entering p w name o mode) refl (kept w))
 
-  pub open_action-alters : (name : Who) (o : ObjectNo) (mode : Mode) → Alters R (open_action name o mode)
-  open_action-alters name o mode = search (edit_object-alters)
+  told_enter-from : (name : Who) (o : ObjectNo) (mode : Mode) (w : World) → LetsIn name o mode w → From R w (says Own (line.Enter name o mode) ▷ changes (open_action name o mode))
+  unfolding From Kept
+  told_enter-from name o mode w h said = (own (line.Enter name o mode) ∷ [], refl, moves.enters name o mode w h)
 
-  pub begin_action_on-keeps : (p : Image) (name : Who) (o : ObjectNo) (mode : Mode) (call : Option CallNo) (release : Option ℕ) → Keeps R (begin_action_on p name o mode call release)
+  pub begin_action_on-from : (p : Image) (name : Who) (o : ObjectNo) (mode : Mode) (call : Option CallNo) (release : Option ℕ) (w : World) → LetsIn name o mode w → From R w (begin_action_on p name o mode call release)
   unfolding begin_action_on
-  begin_action_on-keeps p name o mode call release = search (says-keeps, then-keeps, changes-keeps, open_action-alters, looks-keeps, inherit_running-keeps, push-alters) depth 9
+  begin_action_on-from p name o mode call release w h =
+      then-from moves (says Own (line.Enter name o mode) ▷ changes (open_action name o mode)) (looks (λ v. inherit_running p name (inherited_by.Ceiling o) (ceiling_of (object_of v o))) ▷ changes (push name (new_frame (new_protected_mark o mode call release) None))) w (told_enter-from name o mode w h)
+      (search (looks-keeps, inherit_running-keeps, then-keeps, changes-keeps, push-alters) depth 6)
 
-  pub begin_operation-keeps : (p : Image) (name : Who) (s : StatementNo) (f : SubprogramNo) (o : ObjectNo) (h : Handed) (to : ResultTo) → Keeps R (begin_operation p name s f o h to)
+  pub begin_operation-from : (p : Image) (name : Who) (s : StatementNo) (f : SubprogramNo) (o : ObjectNo) (h : Handed) (to : ResultTo) (w : World) → LetsIn name o (mode_of (subprogram_of p f)) w → From R w (begin_operation p name s f o h to)
   unfolding begin_operation
-  begin_operation-keeps p name s f o h to = search (goes-keeps, then-keeps, begin_action_on-keeps, looks-keeps, changes-keeps, open_scope-alters) depth 6
+  begin_operation-from p name s f o h to w lets =
+      let onward = edit_top name (goes_on (next_of p s)) w in
+      let still : LetsIn name o (mode_of (subprogram_of p f)) onward = LetsIn-same name o (mode_of (subprogram_of p f)) w onward (edit_task-objects name (λ t. with_frames (edit_first (goes_on (next_of p s)) t.frames) t) w) lets in
+      goes_then-from moves name (next_of p s) _ w
+      (then-from moves (begin_action_on p name o (mode_of (subprogram_of p f)) None None) _ onward (begin_action_on-from p name o (mode_of (subprogram_of p f)) None None onward still)
+      (search (looks-keeps, changes-keeps, open_scope-alters) depth 6))
 
   pub call_operation_of-keeps : (p : Image) (name : Who) (s : StatementNo) (f : SubprogramNo) (actuals : List Actual) (to : Destination) (o : ObjectNo) → Keeps R (call_operation_of p name s f actuals to o)
   unfolding call_operation_of
-  call_operation_of-keeps p name s f actuals to o = search (looks-keeps, raise_if-keeps, with_room-keeps, handing-keeps, where_let_inside-keeps, begin_operation-keeps) depth 9
+  call_operation_of-keeps p name s f actuals to o = search (looks-keeps, raise_if-keeps, with_room-keeps, handing-keeps, where_let_inside-keeps, begin_operation-from) depth 9
 
   pub call_operation-keeps : (p : Image) (name : Who) (s : StatementNo) (d : DeclNo) (f : SubprogramNo) (actuals : List Actual) (to : Destination) → Keeps R (call_operation p name s d f actuals to)
   unfolding call_operation

@@ -1,5 +1,5 @@
 -- Queued calls that are served, and objects that are released: each step keeps a relation that its parts keep.
-use Rattle.std.specs.Prelude.{ℕ, zero, suc, Bool, true, false, List, Option, Some, None}
+use Rattle.std.specs.Prelude.{ℕ, zero, suc, Bool, true, false, List, [], ◌∷◌, Option, Some, None}
 use Rattle.ann_base.specs.declared.identities.CallNo.{CallNo}
 use Rattle.ann_base.specs.declared.identities.ObjectNo.{ObjectNo}
 use Rattle.ann_base.specs.declared.exceptions.Raised.{Raised}
@@ -14,17 +14,23 @@ use Rattle.profile_machine.specs.declared.world.marks.ProtectedMark.{ProtectedMa
 use Rattle.profile_machine.specs.declared.world.calls.Call.{Call}
 use Rattle.profile_machine.specs.declared.world.calls.Outcome.{Outcome}
 use Rattle.profile_machine.specs.declared.world.calls.Sending.{Sending}
-use Rattle.profile_machine.specs.Steps.{Step}
+use Rattle.profile_machine.specs.declared.world.lines.Line.TheVariants as line
+use Rattle.profile_machine.specs.declared.world.lines.Part.TheVariants.{Own}
+use Rattle.profile_machine.specs.declared.world.tasks.Cause.TheVariants as inherited_by
+use Rattle.profile_machine.specs.Frames.{pop}
+use Rattle.profile_machine.specs.Inheritance.{lose_running}
+use Rattle.profile_machine.specs.Priorities.{set_deferred}
+use Rattle.profile_machine.specs.Steps.{Step, says, changes, ◌▷◌}
 use Rattle.profile_machine.specs.Protected.{served_next}
 use Rattle.profile_machine.specs.Values.{object_of}
 use Rattle.profile_machine.specs.Serving.{serves_nothing, end_release, close_action, wait_or_unwind, wait_for_own, resume_own, behind_action, release_object, settle_sent, begins_part, chosen_is_sent, serve_chosen, serve_next, serve_calls, go_on_by_mode, end_operation, finish_raised, finish_well, finish_call, end_entry_body, end_in_protected_by, end_in_protected, keep_values, keeps_sending, end_body_of_entry}
 use Rattle.std.proofs.Common.{◌≡◌, refl}
-use Rattle.machine_laws.proofs.Moves.{StepRelation, MoveRelation, Moves}
-use Rattle.machine_laws.proofs.Kept.Combinators.{Keeps, Alters, changes-keeps, looks-keeps, nothing-keeps, says-keeps, then-keeps, when-keeps}
+use Rattle.machine_laws.proofs.Moves.{StepRelation, MoveRelation, Moves, own}
+use Rattle.machine_laws.proofs.Kept.Combinators.{Keeps, Kept, Alters, changes-keeps, looks-keeps, nothing-keeps, says-keeps, then-keeps, when-keeps}
 use Rattle.machine_laws.proofs.Kept.Dispatching.{block-keeps}
 use Rattle.machine_laws.proofs.Kept.Frames.{edit_top-alters, pop-alters, leaves-keeps, pass_on-keeps}
 use Rattle.machine_laws.proofs.Kept.Inheritance.{lose_running-keeps}
-use Rattle.machine_laws.proofs.Kept.Calls.{edit_call-alters, forget_call-alters, with_call-keeps, edit_object-alters, enqueue-keeps, attempt_with-keeps}
+use Rattle.machine_laws.proofs.Kept.Calls.{edit_call-alters, forget_call-alters, with_call-keeps, enqueue-keeps, attempt_with-keeps}
 use Rattle.machine_laws.proofs.Kept.CallEnds.{resume-keeps, deliver-keeps}
 use Rattle.machine_laws.proofs.Kept.Protected.{edit_top_protected-alters, serve_call-keeps}
 use Rattle.machine_laws.proofs.Kept.Priorities.{set_deferred-keeps}
@@ -39,8 +45,10 @@ module _ {R : StepRelation} {Q : MoveRelation} (moves : Moves R Q) where
   unfolding end_release
   end_release-keeps n = search (says-keeps, then-keeps, changes-keeps, serves_nothing-alters, looks-keeps, when-keeps, block-keeps) depth 8
 
-  pub close_action-alters : (name : Who) (o : ObjectNo) → Alters R (close_action name o)
-  close_action-alters name o = search (edit_object-alters)
+  told_exit-keeps : (name : Who) (o : ObjectNo) → Keeps R (says Own (line.Exit name o) ▷ changes (pop name) ▷ changes (close_action name o))
+  unfolding Keeps Kept Alters
+  told_exit-keeps name o w said =
+      (own (line.Exit name o) ∷ [], refl, moves.goes_on w (pop name w) (close_action name o (pop name w)) {xs = []} {ys = own (line.Exit name o) ∷ []} (pop-alters moves name w) (moves.exits name o (pop name w)))
 
   pub wait_or_unwind-keeps : (p : Image) (name : Who) (c : Call) (test : Bool) → Keeps R (wait_or_unwind p name c test)
   unfolding wait_or_unwind
@@ -65,7 +73,9 @@ module _ {R : StepRelation} {Q : MoveRelation} (moves : Moves R Q) where
 
   pub release_object-keeps : (p : Image) (name : Who) (m : ProtectedMark) → Keeps R (release_object p name m)
   unfolding release_object
-  release_object-keeps p name m = search (says-keeps, then-keeps, changes-keeps, pop-alters, close_action-alters, lose_running-keeps, set_deferred-keeps, behind_action-keeps) depth 10
+  release_object-keeps p name m =
+      then-keeps moves (says Own (line.Exit name m.object) ▷ changes (pop name) ▷ changes (close_action name m.object)) (lose_running p name (inherited_by.Ceiling m.object) ▷ set_deferred p name ▷ behind_action p name m m.release m.own_call)
+      (told_exit-keeps name m.object) (search (lose_running-keeps, then-keeps, set_deferred-keeps, behind_action-keeps))
 
   pub settle_sent-keeps : (p : Image) (c : Option CallNo) (test : Bool) → Keeps R (settle_sent p c test)
   unfolding settle_sent

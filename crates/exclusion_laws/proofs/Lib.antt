@@ -1,0 +1,4 @@
+pub mod OwnLines
+pub mod ObjectLists
+pub mod ActionLists
+pub mod ExclusionLemmas

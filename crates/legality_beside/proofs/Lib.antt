@@ -1,0 +1,4 @@
+mod BodiesNamed
+mod PassingCells
+mod JudgedFrom
+mod Ordering

@@ -1,0 +1,4 @@
+pub mod Bodies
+pub mod Passing
+pub mod Ordered
+pub mod Judging

@@ -1,0 +1,30 @@
+//! What is found grows at its end, and is read from its beginning.
+ghost use Rattle.std.specs.Prelude.{◌≡◌, ◌≤◌, length, take, IfOk};
+
+use ada_legality::Finding;
+use ann_base::NoMemory;
+use profile_machine::Sequence;
+use std::alloc::Global;
+use world_tables::List;
+
+/// What was found, as one piece of memory.
+pub(crate) fn in_one_piece(
+    alloc: Global,
+    found: &List<Finding>,
+) -> Result<Sequence<Finding>, NoMemory>
+    ensures { IfOk result (λ all. all ≡ found.now) }
+{
+    let mut all = Sequence::new(alloc);
+    for finding in found.iter() {
+        all.push(*finding)?;
+    }
+    Ok(all)
+}
+
+/// What was found before a place.
+pub(crate) fn before_place(found: &[Finding], place: usize) -> &[Finding]
+    requires { place ≤ length found.now }
+    ensures { result.now ≡ take place found.now }
+{
+    found.split_at(place).0
+}

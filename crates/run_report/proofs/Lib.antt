@@ -5,3 +5,8 @@ pub mod JobsOn
 pub mod TallyOn
 pub mod Quiet
 pub mod ReportOn
+pub mod Waits
+pub mod Fits
+pub mod Places
+pub mod Lines
+pub mod Loops

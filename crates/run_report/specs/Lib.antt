@@ -1,3 +1,4 @@
 pub mod Accounts
+pub mod Clocks
 pub mod Kept
 pub mod Texts

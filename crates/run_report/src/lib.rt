@@ -2,6 +2,8 @@
 #![tactic(auto)]
 
 mod accounts;
+mod clocks;
+mod dated;
 mod report;
 mod tallies;
 #[cfg(test)]

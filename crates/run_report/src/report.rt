@@ -1,24 +1,36 @@
 //! The report of a list of lines, which is kept line by line.
-ghost use Rattle.std.specs.Prelude.{◌≡◌, ◌↔◌, ◌<◌, ◌≤◌, ◌++◌, true, false, List, Some, map, length, vec_len, vec_capacity, OnOk, OnErr};
-ghost use Rattle.std.specs.List.{slice_get, list_all};
+ghost use Rattle.std.specs.Prelude.{◌≡◌, ◌↔◌, ℕ, ◌<◌, ◌≤◌, ◌+◌, ◌++◌, true, false, List, None, Some, map, length, vec_len, vec_capacity, OnOk, OnErr};
+ghost use Rattle.std.specs.List.{AllByRecursion, slice_get};
+ghost use Rattle.std.specs.Ordering.{nat_cmp};
+ghost use Rattle.std.specs.BTreeMap.{get};
 ghost use Rattle.trace_text.specs.declared.events.Who.TheVariants as subject;
 ghost use Rattle.trace_text.specs.Queue.{Line, last_from, somebody_eq};
 ghost use Rattle.trace_text.specs.Laws.{Formed};
 ghost use Rattle.trace_lines.specs.Seen.{with_line, is_formed_after, IsFault};
 ghost use Rattle.run_report.specs.Accounts.{accounts_of, run_of, idle_of, runner_base};
-ghost use Rattle.run_report.specs.Kept.{nothing_reported, report_line, StandsFor, passing_in, kept_after, newly_kept, account_in, accounts_in, has_room, has_room_in};
+ghost use Rattle.run_report.specs.Kept.{nothing_reported, report_line, StandsFor, passing_in, account_in, accounts_in};
+ghost use Rattle.run_report.specs.Clocks.{newly_dated, created_number, passed, followed, told, made_quiet, place_in, place_at, step_at, IsEachOnce, IsFit, IsWithin, IsShown, IsKnown, IsSame, IsReady};
+ghost use Rattle.run_report.specs.declared.tallies.TheConstants.{ROOM};
 
 use crate::accounts::Account;
+use crate::clocks::{Clock, add_clock, go_on, pass};
+use crate::dated::{
+    Dated, Step, named_by, note_place, number_in, place_at, settle, step_at, tally_at, write,
+};
 use crate::tallies::{Passing, ROOM, Tally, ticks_if};
 use crate::theorems::accounts_tell;
 use ann_base::{Level, Name, NoMemory, OrMemory, TaskNo};
 use std::alloc::Global;
+use std::collections::BTreeMap;
 use std::marker::Model;
 use trace_lines::{Lines, Malformed, is_same};
 use trace_text::{Created, Event, Who};
 
 /// The most tasks of a trace: each has a number of 32 bits, and they are counted in as many.
 const MOST_TASKS: usize = 4_294_967_295;
+
+/// The most ticks that pass between two lines: the greatest tick of a formed list.
+const MOST_TICKS: u64 = 1_000_000_000;
 
 /// What is kept of one task.
 #[derive(Drop)]
@@ -29,30 +41,39 @@ pub struct Kept {
 }
 
 /// What is kept of a formed list of lines for its report: as many facts as there are tasks and protected objects, and no
-/// lines. Contracts see these facts, which stand for the list.
+/// lines. Contracts see these facts, which stand for the list. How long a task waited is told by the clocks, so that a line
+/// changes the task that it names and the one that ran, and no other; only where a waiting ends each task is told once.
 #[derive(Drop)]
 pub struct Report {
     lines: Lines,
-    kept: Vec<Kept>,
+    items: Vec<Dated>,
+    clocks: Vec<Clock>,
+    // The place of each task among the items, by its number.
+    places: BTreeMap<u32, usize>,
+    // No figure that is counted is above this one.
+    most: u64,
     agent_run: u64,
     idle: u64,
 }
 
 impl Model for Report {
-    ghost use Rattle.std.specs.Prelude.{◌≤◌, vec_len};
+    ghost use Rattle.std.specs.Prelude.{◌≤◌, map, vec_len};
+    ghost use Rattle.std.specs.Ordering.{nat_cmp};
+    ghost use Rattle.std.specs.BTreeMap.{get};
     ghost use Rattle.run_report.specs.declared.report.TheConstants.{MOST_TASKS};
     ghost use Rattle.run_report.specs.Kept.{Reported};
+    ghost use Rattle.run_report.specs.Clocks.{told, IsReport};
 
     ghost Value = { Reported };
 
     ghost view = { λ report. record {
       seen = report.lines;
-      kept = report.kept.items;
+      kept = map (told report.clocks.items report.lines.tick) report.items.items;
       agent_run = report.agent_run;
       idle = report.idle;
     } };
 
-    ghost invariant = { λ report. vec_len report.kept ≤ MOST_TASKS };
+    ghost invariant = { λ report. IsReport report.lines report.most report.agent_run report.idle (vec_len report.items) report.items.items report.clocks.items (get nat_cmp report.places) };
 }
 
 impl Report {
@@ -62,7 +83,10 @@ impl Report {
     {
         Report {
             lines: Lines::new(alloc),
-            kept: Vec::new(alloc),
+            items: Vec::new(alloc),
+            clocks: Vec::new(alloc),
+            places: BTreeMap::new(alloc),
+            most: 0,
             agent_run: 0,
             idle: 0,
         }
@@ -73,7 +97,8 @@ impl Report {
     /// # Errors
     ///
     /// `Malformed` exactly where the list that this stands for is formed and does not stay so with this line. A count that
-    /// would pass its type is answered as want of memory. An error changes nothing.
+    /// might pass its type, after 18,000,000,000 lines at the earliest, is answered as want of memory. An error changes
+    /// nothing.
     pub fn line(&mut self, now: u64, event: &Event) -> Result<(), OrMemory<Malformed>>
         ensures malformed { (lines : List Line) → Formed lines → StandsFor self.old lines → (IsFault result ↔ (Formed (with_line lines now event.now) → ⊥)) }
         ensures stands { (lines : List Line) → StandsFor self.old lines → OnOk result (StandsFor self.new (with_line lines now event.now)) }
@@ -92,37 +117,44 @@ impl Report {
         if !self.lines.keeps_form(now, event) {
             return Err(OrMemory::Fault(Malformed));
         }
-        if !self.has_room() {
-            return Err(OrMemory::Memory);
-        }
         self.add(now, event)?;
         Ok(())
-    }
-
-    // Whether no count passes its type with one line more.
-    fn has_room(&self) -> bool
-        ensures { result ≡ has_room_in self.now }
-    {
-        self.kept.len() < MOST_TASKS
-            && self.agent_run <= ROOM
-            && self.idle <= ROOM
-            && have_room(&self.kept)
     }
 
     // One line more.
     fn add(&mut self, now: u64, event: &Event) -> Result<(), NoMemory>
         requires formed { is_formed_after self.old.seen now event.now ≡ true }
-        requires room { has_room_in self.old ≡ true }
         ensures added { OnOk result (self.new ≡ report_line self.old (now, event.now)) }
         ensures unchanged { OnErr result (self.new ≡ self.old) }
     {
+        if self.most > ROOM || self.items.len() >= MOST_TASKS {
+            return Err(NoMemory);
+        }
         let passing = passing_in(&self.lines, now);
-        self.kept.reserve(1)?;
+        let last = self.lines.last();
+        prepare(
+            &mut self.items,
+            &mut self.clocks,
+            &mut self.places,
+            last,
+            &passing,
+            event,
+        )?;
         self.lines.add(now, event)?;
-        follow(&mut self.kept, &passing, now, event);
-        create(&mut self.kept, event);
-        self.agent_run += ticks_if(is_agent(passing.runner), passing.elapsed);
-        self.idle += ticks_if(passing.runner.is_none(), passing.elapsed);
+        advance(
+            &mut self.items,
+            &mut self.clocks,
+            &self.places,
+            last,
+            &passing,
+            now,
+            event,
+        );
+        let agent_ticks = ticks_if(is_agent(passing.runner), passing.elapsed);
+        let idle_ticks = ticks_if(is_nobody(passing.runner), passing.elapsed);
+        self.agent_run += agent_ticks;
+        self.idle += idle_ticks;
+        self.most += MOST_TICKS;
         Ok(())
     }
 
@@ -130,7 +162,7 @@ impl Report {
     pub fn len(&self) -> u32
         ensures { result ≡ length self.now.kept }
     {
-        self.kept.len() as u32
+        self.items.len() as u32
     }
 
     /// The account of the task at this place, in the order of the `new` lines, counted from 0; None exactly past the last.
@@ -142,13 +174,11 @@ impl Report {
         self.account_at(place)
     }
 
+    #[tactic(auto, using(crate::proofs::Lines::report_fit, crate::proofs::Lines::report_tick))]
     fn account_at(&self, place: u32) -> Option<Account>
         ensures { result ≡ slice_get (accounts_in self.now) place }
     {
-        match self.kept.as_slice().get(place as usize) {
-            None => None,
-            Some(kept) => Some(account_in(kept)),
-        }
+        told_at(&self.items, &self.clocks, self.lines.last(), place as usize)
     }
 
     /// The ticks in which the agent ran.
@@ -179,11 +209,30 @@ impl Report {
     }
 }
 
-// The account of a task of which this is kept.
-fn account_in(kept: &Kept) -> Account
-    ensures { result ≡ account_in kept.now }
+// The account of the task at a place, at the last line.
+fn told_at(items: &[Dated], clocks: &[Clock], last: u64, place: usize) -> Option<Account>
+    requires fit { AllByRecursion (IsFit clocks.now last) items.now }
+    requires tick { last ≤ 1000000000 }
+    ensures { result ≡ slice_get (map account_in (map (told clocks.now last) items.now)) place }
 {
-    let tally = kept.tally;
+    match items.get(place) {
+        None => None,
+        Some(one) => Some(told_account(one, clocks, last)),
+    }
+}
+
+fn told_account(one: &Dated, clocks: &[Clock], last: u64) -> Account
+    requires fit { IsFit clocks.now last one.now }
+    requires tick { last ≤ 1000000000 }
+    ensures { result ≡ account_in (told clocks.now last one.now) }
+{
+    account_in(&one.kept, &tally_at(clocks, last, one))
+}
+
+// The account of a task of which this is kept, with this tally.
+fn account_in(kept: &Kept, tally: &Tally) -> Account
+    ensures { result ≡ account_in (record kept.now { tally = tally.now }) }
+{
     Account {
         task: kept.task,
         name: Name::from_bytes(kept.name.as_bytes()),
@@ -230,28 +279,146 @@ fn is_agent(runner: Option<Who>) -> bool
     }
 }
 
-fn have_room(kept: &[Kept]) -> bool
-    ensures { result ≡ list_all (λ one. has_room one.tally) kept.now }
+fn is_nobody(somebody: Option<Who>) -> bool
+    ensures { result ≡ somebody_eq somebody None }
 {
-    kept.iter().all(|one| one.tally.has_room())
-}
-
-// Each task goes on with the line.
-fn follow(kept: &mut [Kept], passing: &Passing, now: u64, event: &Event)
-    requires room { list_all (λ one. has_room one.tally) kept.old ≡ true }
-    requires elapsed { passing.now.elapsed ≤ 1000000000 }
-    requires tick { now ≤ 1000000000 }
-    ensures { kept.new ≡ map (kept_after passing.now now event.now) kept.old }
-{
-    for one in kept.iter_mut() {
-        one.tally = one.tally.after(one.task, passing, now, event);
+    match somebody {
+        None => true,
+        Some(_) => false,
     }
 }
 
+// Makes all ready for a line, so that nothing wants memory after it is taken. What is told stays the same.
+fn prepare(
+    items: &mut Vec<Dated>,
+    clocks: &mut Vec<Clock>,
+    places: &mut BTreeMap<u32, usize>,
+    last: u64,
+    passing: &Passing,
+    event: &Event,
+) -> Result<(), NoMemory>
+    requires last { last ≤ 1000000000 }
+    requires fit { AllByRecursion (IsFit clocks.old.items last) items.old.items }
+    requires known { IsKnown items.old.items (get nat_cmp places.old) }
+    requires created { (number : ℕ) → created_number event.now ≡ Some number → place_in number items.old.items ≡ None }
+    ensures same { IsSame last items.old.items clocks.old.items items.new.items clocks.new.items (get nat_cmp places.new) }
+    ensures ready { OnOk result (IsReady event.now passing.now last items.new.items clocks.new.items (get nat_cmp places.new)) }
+    ensures room { OnOk result (vec_len items.new < vec_capacity items.new) }
+    ensures len { vec_len items.new ≡ vec_len items.old }
+{
+    items.reserve(1)?;
+    add_clock(clocks, event)?;
+    note_place(places, event, items.len())?;
+    make_quiet(items, clocks, last, passing);
+    Ok(())
+}
+
+// No waiting that is not told yet ends while these ticks pass.
+fn make_quiet(items: &mut Vec<Dated>, clocks: &[Clock], last: u64, passing: &Passing)
+    requires last { last ≤ 1000000000 }
+    requires fit { AllByRecursion (IsFit clocks.now last) items.old.items }
+    ensures items { items.new.items ≡ made_quiet clocks.now last passing.now items.old.items }
+    ensures capacity { vec_capacity items.new ≡ vec_capacity items.old }
+    ensures len { vec_len items.new ≡ vec_len items.old }
+{
+    if !go_on(clocks, passing) {
+        settle(items, clocks, last);
+    }
+}
+
+// The line tells of the task that it names and of the one that ran, and the clocks go on.
+fn advance(
+    items: &mut Vec<Dated>,
+    clocks: &mut Vec<Clock>,
+    places: &BTreeMap<u32, usize>,
+    last: u64,
+    passing: &Passing,
+    now: u64,
+    event: &Event,
+)
+    requires last { last ≤ 1000000000 }
+    requires elapsed { passing.now.elapsed ≤ 1000000000 }
+    requires tick { now ≤ 1000000000 }
+    requires fit { AllByRecursion (IsFit clocks.old.items last) items.old.items }
+    requires within { AllByRecursion (IsWithin ROOM) items.old.items }
+    requires shown { AllByRecursion (IsShown 1000000000) clocks.old.items }
+    requires once { IsEachOnce items.old.items }
+    requires known { IsKnown items.old.items (get nat_cmp places.now) }
+    requires room { vec_len items.old < vec_capacity items.old }
+    ensures items { items.new.items ≡ map (followed clocks.old.items last passing.now now event.now) items.old.items ++ newly_dated now event.now }
+    ensures clocks { clocks.new.items ≡ map (passed passing.now) clocks.old.items }
+    ensures len { vec_len items.new ≤ vec_len items.old + 1 }
+{
+    follow(items, clocks, places, last, passing, now, event);
+    pass(clocks, passing);
+    create(items, now, event);
+}
+
+// The line tells of the task that it names and of the one that ran.
+fn follow(
+    items: &mut [Dated],
+    clocks: &[Clock],
+    places: &BTreeMap<u32, usize>,
+    last: u64,
+    passing: &Passing,
+    now: u64,
+    event: &Event,
+)
+    requires last { last ≤ 1000000000 }
+    requires elapsed { passing.now.elapsed ≤ 1000000000 }
+    requires tick { now ≤ 1000000000 }
+    requires fit { AllByRecursion (IsFit clocks.now last) items.old }
+    requires within { AllByRecursion (IsWithin ROOM) items.old }
+    requires shown { AllByRecursion (IsShown 1000000000) clocks.now }
+    requires once { IsEachOnce items.old }
+    requires known { IsKnown items.old (get nat_cmp places.now) }
+    ensures { items.new ≡ map (followed clocks.now last passing.now now event.now) items.old }
+{
+    let named = step_for(
+        items,
+        clocks,
+        places,
+        last,
+        passing,
+        now,
+        event,
+        named_by(event),
+    );
+    let runs = number_in(passing.runner);
+    let ran = step_for(items, clocks, places, last, passing, now, event, runs);
+    write(items, named, now);
+    write(items, ran, now);
+}
+
+// What a line leaves of the task with a number.
+fn step_for(
+    items: &[Dated],
+    clocks: &[Clock],
+    places: &BTreeMap<u32, usize>,
+    last: u64,
+    passing: &Passing,
+    now: u64,
+    event: &Event,
+    number: Option<u32>,
+) -> Option<Step>
+    requires last { last ≤ 1000000000 }
+    requires elapsed { passing.now.elapsed ≤ 1000000000 }
+    requires tick { now ≤ 1000000000 }
+    requires fit { AllByRecursion (IsFit clocks.now last) items.now }
+    requires within { AllByRecursion (IsWithin ROOM) items.now }
+    requires shown { AllByRecursion (IsShown 1000000000) clocks.now }
+    requires known { IsKnown items.now (get nat_cmp places.now) }
+    ensures { result ≡ step_at clocks.now last passing.now now event.now (place_at number items.now) items.now }
+{
+    let place = place_at(items, places, number);
+    step_at(items, clocks, last, passing, now, event, place)
+}
+
 // A task that is created comes behind the others. There must be room for one.
-fn create(kept: &mut Vec<Kept>, event: &Event)
-    requires { vec_len kept.old < vec_capacity kept.old }
-    ensures created { kept.new.items ≡ kept.old.items ++ newly_kept event.now }
+fn create(items: &mut Vec<Dated>, now: u64, event: &Event)
+    requires { vec_len items.old < vec_capacity items.old }
+    ensures created { items.new.items ≡ items.old.items ++ newly_dated now event.now }
+    ensures len { vec_len items.new ≤ vec_len items.old + 1 }
 {
     if let Event::New {
         what: Created::Task(task),
@@ -259,11 +426,16 @@ fn create(kept: &mut Vec<Kept>, event: &Event)
         level,
     } = event
     {
-        let one = Kept {
+        let kept = Kept {
             task: *task,
             name: Name::from_bytes(name.as_bytes()),
             tally: Tally::created(*level),
         };
-        kept.push(one).unwrap();
+        let one = Dated {
+            kept,
+            tick: now,
+            waited: 0,
+        };
+        items.push(one).unwrap();
     }
 }

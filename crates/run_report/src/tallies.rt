@@ -132,7 +132,8 @@ fn is_task(somebody: Option<Who>, task: TaskNo) -> bool
     }
 }
 
-fn is_lower(other: Option<Level>, own: Option<Level>) -> bool
+/// Whether a base priority is lower than another.
+pub fn is_lower(other: Option<Level>, own: Option<Level>) -> bool
     ensures { result ≡ is_lower other own }
 {
     match (other, own) {
@@ -177,8 +178,8 @@ fn or_zero(ticks: Option<u64>) -> u64
     }
 }
 
-// For how many ticks directly before the line it waits.
-fn streak_after(elapsed: u64, waits: bool, streak: u64) -> u64
+/// For how many ticks directly before the line it waits.
+pub fn streak_after(elapsed: u64, waits: bool, streak: u64) -> u64
     requires room { streak ≤ ROOM }
     requires within { elapsed ≤ 1000000000 }
     ensures { result ≡ streak_after elapsed waits streak }

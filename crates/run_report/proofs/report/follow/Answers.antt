@@ -1,8 +1,8 @@
-use Rattle.std.proofs.Common.{rules}
-use Rattle.std.proofs.lemmas.List.{get_or_default}
-use Rattle.std.proofs.lemmas.List.Edits.{map_over_more}
-use Rattle.run_report.specs.Kept.{kept_after}
+-- The task that is named, and the one that ran.
+use Rattle.run_report.proofs.Places.{both_written}
 use Rattle.run_report.proofs.report.follow.Goals as goal
 
-pub loop-one-preserved : goal.loop-one-preserved
-loop-one-preserved c = rw c.after-one.ensures (search (rules, map_over_more (kept_after c.args.passing.now c.args.now c.args.event.now), get_or_default))
+pub returns : goal.returns
+returns c =
+    rw (c.write-2.ensures, c.write.ensures, c.step_for-ran.ensures, c.step_for-named.ensures, c.number_in-runs.ensures, c.named_by.ensures)
+    (both_written c.args.clocks.now c.args.last c.args.passing.now c.args.now c.args.event.now c.args.items.now c.requires.once)

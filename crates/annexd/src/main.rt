@@ -5,6 +5,7 @@ mod noting;
 mod performing;
 mod reporting;
 mod running;
+mod scripting;
 mod testing;
 #[cfg(test)]
 mod tests;

@@ -5,12 +5,13 @@ ghost use Rattle.outside_bytes.specs.Pieces.{HoldsPrefix};
 ghost use Rattle.commands.specs.Outside.{sink_of};
 ghost use Rattle.commands.specs.Traces.{trace_note};
 ghost use Rattle.sched_tests.specs.Reports.{table_note};
-ghost use Rattle.commands.specs.Outcomes.{Concludes, ConcludesWith, refusal_text};
+ghost use Rattle.commands.specs.Outcomes.{Concludes, ConcludesWith, refusal_text, script_note};
 
 use crate::words::{write_labelled, write_words};
 use ada_front::Refusal;
 use ann_base::{Failed, Sink};
 use commands::Outcome;
+use event_script::ScriptFault;
 use itoa::Buffer;
 use outside_bytes::{write_all, write_four};
 use sched_tests::TableFault;
@@ -29,6 +30,7 @@ pub fn conclude<K: Sink>(notes: &mut K, outcome: Outcome) -> u8
         Outcome::Traced { .. } => status,
         Outcome::WordsRefused => note(notes, b"words refused\n", status),
         Outcome::SourceRefused(refusal) => note_refusal(notes, refusal, status),
+        Outcome::ScriptRefused(fault) => note_script(notes, fault, status),
         Outcome::TableRefused(fault) => note_table(notes, fault, status),
         Outcome::TraceRefused(line) => note_trace(notes, line, status),
         Outcome::ReadFault => note(notes, b"read fault\n", status),
@@ -56,6 +58,18 @@ fn note_refusal<K: Sink>(notes: &mut K, refusal: Refusal, status: u8) -> u8
     ensures monotone { K.faults notes.old ≤ K.faults notes.new }
 {
     match write_refusal(notes, refusal) {
+        Ok(()) => status,
+        Err(_) => 8,
+    }
+}
+
+/// The same of the note on a refused script.
+fn note_script<K: Sink>(notes: &mut K, fault: ScriptFault, status: u8) -> u8
+    ensures concluded { ConcludesWith (Some (script_note fault)) status
+        (sink_of K.held K.faults notes.old notes.new) result }
+    ensures monotone { K.faults notes.old ≤ K.faults notes.new }
+{
+    match write_script_fault(notes, fault) {
         Ok(()) => status,
         Err(_) => 8,
     }
@@ -98,6 +112,19 @@ fn write_refusal<K: Sink>(notes: &mut K, refusal: Refusal) -> Result<(), Failed>
     let number = number.format(refusal.code.number()).as_bytes();
     write_four(notes, b"source refused ", line, b":", column)?;
     write_four(notes, b" ", &[refusal.code.letter()], number, b"\n")
+}
+
+/// Writes `script refused LINE KIND` and a line feed. After a failure a prefix of it was written.
+fn write_script_fault<K: Sink>(notes: &mut K, fault: ScriptFault) -> Result<(), Failed>
+    ensures written { OnOk result (K.held notes.new ≡ extended (K.held notes.old) (script_note fault)) }
+    ensures monotone { K.faults notes.old ≤ K.faults notes.new }
+    ensures cause { OnErr result (Rose (K.faults notes.old) (K.faults notes.new)) }
+    ensures prefix { OnErr result (HoldsPrefix (K.held notes.old) (K.held notes.new) (script_note fault)) }
+{
+    let (mut line, mut kind) = (Buffer::new(), Buffer::new());
+    let line = line.format(fault.line).as_bytes();
+    let kind = kind.format(fault.kind.number()).as_bytes();
+    write_labelled(notes, b"script refused ", line, kind)
 }
 
 /// Writes `table refused LINE KIND` and a line feed. After a failure a prefix of it was written.

@@ -1,11 +1,12 @@
 //! What is done for the words.
-ghost use Rattle.std.specs.Prelude.{◌≡◌, ◌≤◌, Some};
+ghost use Rattle.std.specs.Prelude.{◌≡◌, ◌≤◌, [], Some};
 ghost use Rattle.commands.specs.Requests.{SourceAsked, seen, HasTicks, IsWork};
 ghost use Rattle.commands.specs.Asked.{asked_of};
 ghost use Rattle.commands.specs.Outside.{shelf_of, sink_of};
 ghost use Rattle.commands.specs.Performed.{Performs, ServesBytes, ServesImage, without_image};
 
 use crate::running::{accepted, run};
+use crate::scripting::serve_script;
 use crate::testing::serve_table;
 use crate::tracing::serve_trace;
 use ada_front::{Refusal, accept, long_sources_are_refused};
@@ -17,7 +18,7 @@ use outside_bytes::read_file;
 use std::alloc::Global;
 
 /// How many bytes of a source are read: one more than it may have, so that one that is too long is seen to be.
-const BYTES: usize = MAX_SOURCE + 1;
+pub const SOURCE_READ: usize = MAX_SOURCE + 1;
 
 /// Does what the words ask for, and tells how it ended. What was asked for goes to `out`.
 pub fn perform<S: Shelf, K: Sink>(
@@ -49,6 +50,11 @@ fn serve<S: Shelf, K: Sink>(alloc: Global, request: Request, shelf: &mut S, out:
 {
     match request {
         Request::Source { source, work } => serve_source(alloc, source, work, shelf, out),
+        Request::Script {
+            source,
+            script,
+            ticks,
+        } => serve_script(alloc, source, script, ticks, shelf, out),
         Request::Table { table, test } => serve_table(alloc, table, test, shelf, out),
         Request::Trace { trace, work } => serve_trace(alloc, trace, work, shelf, out),
     }
@@ -71,7 +77,7 @@ fn serve_source<S: Shelf, K: Sink>(
 {
     // A source that was not read to its end is refused as the whole of it is.
     long_sources_are_refused();
-    match read_file(alloc, shelf, source, BYTES) {
+    match read_file(alloc, shelf, source, SOURCE_READ) {
         Ok(bytes) => serve_bytes(alloc, work, &bytes, out),
         Err(OrMemory::Fault(_)) => Outcome::ReadFault,
         Err(OrMemory::Memory) => Outcome::NoMemory,
@@ -92,7 +98,7 @@ fn serve_bytes<K: Sink>(alloc: Global, work: Work, bytes: &[u8], out: &mut K) ->
 }
 
 /// The outcome of a source without an image.
-fn without_image(refused: OrMemory<Refusal>) -> Outcome
+pub fn without_image(refused: OrMemory<Refusal>) -> Outcome
     ensures { result ≡ without_image refused }
 {
     match refused {
@@ -104,7 +110,7 @@ fn without_image(refused: OrMemory<Refusal>) -> Outcome
 /// Does what is asked with the image of a source.
 fn serve_image<K: Sink>(alloc: Global, work: Work, checked: Checked, out: &mut K) -> Outcome
     requires { IsWork work }
-    ensures served { ServesImage work checked
+    ensures served { ServesImage [] work checked
         (sink_of K.held K.faults out.old out.new) result }
     ensures monotone_out { K.faults out.old ≤ K.faults out.new }
 {

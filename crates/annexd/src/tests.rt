@@ -178,11 +178,34 @@ fn answer(
 ) -> Result<Answered, AllocError>
     requires { 0 < most }
 {
+    answer_over(
+        alloc,
+        words,
+        &[(b"source", source)],
+        most,
+        read_fails,
+        write_fails,
+    )
+}
+
+/// The same over a shelf with these files.
+fn answer_over(
+    alloc: Global,
+    words: &[&[u8]],
+    named: &[(&[u8], &[u8])],
+    most: usize,
+    read_fails: &[u64],
+    write_fails: &[u64],
+) -> Result<Answered, AllocError>
+    requires { 0 < most }
+{
     let mut files = Vec::new(alloc);
-    files.push((
-        Vec::from_slice(alloc, b"source")?,
-        Vec::from_slice(alloc, source)?,
-    ))?;
+    for (name, bytes) in named {
+        files.push((
+            Vec::from_slice(alloc, name)?,
+            Vec::from_slice(alloc, bytes)?,
+        ))?;
+    }
     let mut shelf = MemShelf::new(files, most, read_fails.to_vec(alloc)?);
     let mut out = sink(alloc, most, write_fails)?;
     let mut notes = sink(alloc, most, &[])?;
@@ -252,7 +275,7 @@ fn each_write_fails_in_turn(rt: HostRuntime) -> Result<(), Fail> {
 }
 
 /// Words that are not asked for; the shelf has a file `source`.
-const REFUSED_WORDS: [&[&[u8]]; 21] = [
+const REFUSED_WORDS: [&[&[u8]]; 28] = [
     &[],
     &[b"run"],
     &[b"accept"],
@@ -268,6 +291,13 @@ const REFUSED_WORDS: [&[&[u8]]; 21] = [
     &[b"run", b"source", b"--ticks", b"05"],
     &[b"run", b"source", b"--ticks", b"5x"],
     &[b"run", b"source", b"--ticks", b"1000000001"],
+    &[b"run", b"source", b"-script"],
+    &[b"run", b"source", b""],
+    &[b"run", b"source", b"script", b"--ticks"],
+    &[b"run", b"source", b"script", b"--ticks", b"0"],
+    &[b"run", b"source", b"script", b"--bound", b"5"],
+    &[b"run", b"source", b"script", b"--ticks", b"5", b"6"],
+    &[b"accept", b"source", b"script"],
     &[b"rta"],
     &[b"rta", b"-source"],
     &[b"demand", b""],
@@ -355,6 +385,101 @@ fn what_is_not_accepted_is_refused_with_its_place(rt: HostRuntime) -> Result<(),
         assert_eq!(rt; got.status, 4);
         assert_eq!(rt; got.notes.held(), note);
         assert_eq!(rt; got.out.held(), b"".as_slice());
+    }
+    Ok(())
+}
+
+/// Scripts with what `run source script` and the further words write, the note and the status.
+const SCRIPTS: [(&[u8], &[&[u8]], &[u8], &[u8], u8); 9] = [
+    (b"", &[], TRACE, b"", 0),
+    (b"20 interrupt 1\n", &[], TRACE, b"", 0),
+    (
+        b"5 interrupt 3\n7 port 0 -12\n",
+        &[],
+        b"0 t0 new main 15\n0 t0 ready 15 tail\n0 t0 run\n5 interrupt 3\n7 t0 put hi\n7 port 0 -12\n9 t0 done\n9 end completed\n",
+        b"",
+        0,
+    ),
+    (
+        b"version 2\r\n2 every 3 3 interrupt 0\n4 mask 0\n8 unmask 0",
+        &[],
+        b"0 t0 new main 15\n0 t0 ready 15 tail\n0 t0 run\n2 interrupt 0\n4 mask 0\n5 masked 0\n7 t0 put hi\n8 masked 0\n8 unmask 0\n8 interrupt 0\n9 t0 done\n9 end completed\n",
+        b"",
+        0,
+    ),
+    (
+        b"version 2\r\n2 every 3 3 interrupt 0\n4 mask 0\n8 unmask 0",
+        &[b"--ticks", b"6"],
+        b"0 t0 new main 15\n0 t0 ready 15 tail\n0 t0 run\n2 interrupt 0\n4 mask 0\n5 masked 0\n6 end bound\n",
+        b"",
+        3,
+    ),
+    (b"x", &[], b"", b"script refused 1 1\n", 5),
+    (
+        b"5 port 0 -0",
+        &[b"--ticks", b"1"],
+        b"",
+        b"script refused 1 2\n",
+        5,
+    ),
+    (
+        b"5 interrupt 3\n4 port 0 1\n",
+        &[],
+        b"",
+        b"script refused 2 3\n",
+        5,
+    ),
+    (b"5 interrupt 16\n", &[], b"", b"script refused 1 4\n", 5),
+];
+
+#[test]
+fn scripts_are_run_or_refused(rt: HostRuntime) -> Result<(), Fail> {
+    for (script, more, lines, note, status) in SCRIPTS {
+        let alloc = rt.alloc();
+        let mut words = Vec::from_slice(alloc, &[b"run".as_slice(), b"source", b"script"])?;
+        words.extend_from_slice(more)?;
+        let got = answer_over(
+            alloc,
+            &words,
+            &[(b"source", HELLO), (b"script", script)],
+            50,
+            &[],
+            &[],
+        )?;
+        assert_eq!(rt; got.status, status);
+        assert_eq!(rt; got.out.held(), lines);
+        assert_eq!(rt; got.notes.held(), note);
+    }
+    Ok(())
+}
+
+#[test]
+fn a_script_is_read_behind_its_source(rt: HostRuntime) -> Result<(), Fail> {
+    let words: [&[u8]; 3] = [b"run", b"source", b"script"];
+    // Of a source that is refused no script is read, be it there or not.
+    let (source, note) = REFUSALS[0];
+    let got = answer(rt.alloc(), &words, source, 100, &[], &[])?;
+    assert_eq!(rt; got.status, 4);
+    assert_eq!(rt; got.notes.held(), note);
+    // The call that picks a script which is not there, then calls that fail: twelve read the source, four the script.
+    let got = answer(rt.alloc(), &words, HELLO, 100, &[], &[])?;
+    assert_eq!(rt; got.status, 7);
+    for call in 1..=16 {
+        let got = answer_over(
+            rt.alloc(),
+            &words,
+            &[(b"source", HELLO), (b"script", b"5 interrupt 3")],
+            10,
+            &[call],
+            &[],
+        )?;
+        assert_eq!(rt; got.status, 7, "at call {call}");
+        assert_eq!(rt; got.out.held(), b"".as_slice(), "at call {call}");
+        assert_eq!(rt;
+            got.notes.held(),
+            b"read fault\n".as_slice(),
+            "at call {call}"
+        );
     }
     Ok(())
 }

@@ -4,7 +4,7 @@ ghost use Rattle.ann_base.specs.Outside.{Rose, extended};
 ghost use Rattle.commands.specs.Asked.{asked_of};
 ghost use Rattle.commands.specs.Outside.{shelf_of, sink_of};
 ghost use Rattle.commands.specs.Performed.{IsUnread};
-ghost use Rattle.commands.specs.Statuses.{Headline, AcceptanceTold, TableTold, BeyondTold, TraceTold, LawsTold, ReportTold, DoneTold, NotAccepted, RefusalTold, BreachTold, TraceRefusalTold, FailureTold, TableRefusalTold, PrefixTold, NoteTried, IsStatus};
+ghost use Rattle.commands.specs.Statuses.{Headline, HeadlineUnder, AcceptanceTold, TableTold, BeyondTold, TraceTold, LawsTold, ReportTold, DoneTold, NotAccepted, NotAcceptedUnder, NoScript, ScriptRefusalTold, RefusalTold, BreachTold, TraceRefusalTold, FailureTold, TableRefusalTold, PrefixTold, NoteTried, IsStatus};
 
 use crate::noting::conclude;
 use crate::performing::perform;
@@ -15,7 +15,7 @@ use trace_laws::verdicts_tell;
 
 /// Does what the words ask for, and answers the status with which the program ends: 0 a run is completed, a source is
 /// accepted, a table passes its test, or a trace keeps the laws or is reported, 1 a run ended by an exception, 2 it is stuck, 3 its bound
-/// was reached, 4 the source is refused, 6 the words are refused, 7 the file could not be read, 8 something could not be
+/// was reached, 4 the source is refused, 5 the script is refused, 6 the words are refused, 7 a file could not be read, 8 something could not be
 /// written, 9 memory ran out, 10 a trace breaks a law, 11 the trace is refused, 12 a table fails its test, 13 the table is
 /// refused. What was asked for goes to `out`, and notes on statuses 4 to 9, 11 and 13 to `notes`.
 pub fn top<S: Shelf, K: Sink>(
@@ -27,6 +27,11 @@ pub fn top<S: Shelf, K: Sink>(
 ) -> u8
     // What is accepted is run, and its run is written whole.
     ensures headline { Headline (asked_of words.now)
+        (shelf_of S.files S.faults shelf.old shelf.new)
+        (sink_of K.held K.faults out.old out.new)
+        (sink_of K.held K.faults notes.old notes.new) result }
+    // The same under the items of a script that is asked for.
+    ensures headline_under { HeadlineUnder (asked_of words.now)
         (shelf_of S.files S.faults shelf.old shelf.new)
         (sink_of K.held K.faults out.old out.new)
         (sink_of K.held K.faults notes.old notes.new) result }
@@ -70,14 +75,23 @@ pub fn top<S: Shelf, K: Sink>(
         (sink_of K.held K.faults notes.old notes.new) }
     ensures not_accepted { NotAccepted (asked_of words.now)
         (shelf_of S.files S.faults shelf.old shelf.new) result }
+    ensures not_accepted_under { NotAcceptedUnder (asked_of words.now)
+        (shelf_of S.files S.faults shelf.old shelf.new) result }
     ensures kept_4 { result ≡ 4 → K.held out.new ≡ K.held out.old }
+    // 5: the script is refused, exactly where the source is accepted and it is none.
+    ensures refused_script { result ≡ 5 → ScriptRefusalTold (asked_of words.now)
+        (shelf_of S.files S.faults shelf.old shelf.new)
+        (sink_of K.held K.faults notes.old notes.new) }
+    ensures no_script { NoScript (asked_of words.now)
+        (shelf_of S.files S.faults shelf.old shelf.new) result }
+    ensures kept_5 { result ≡ 5 → K.held out.new ≡ K.held out.old }
     // 6: the words are refused, exactly where they are not asked for.
     ensures words { result ≡ 6 → asked_of words.now ≡ None }
     ensures refused_words { asked_of words.now ≡ None → result ≢ 8 → result ≡ 6 }
     ensures kept_6 { result ≡ 6 → K.held out.new ≡ K.held out.old }
     ensures note_6 { result ≡ 6 →
         K.held notes.new ≡ extended (K.held notes.old) (codes "words refused\n") }
-    // 7: only where the shelf's faults rose, or it tells its files and the named one is not among them.
+    // 7: only where the shelf's faults rose, or it tells its files and a named one is not among them.
     ensures read_fault { result ≡ 7 → IsUnread (asked_of words.now)
         (shelf_of S.files S.faults shelf.old shelf.new) }
     ensures kept_7 { result ≡ 7 → K.held out.new ≡ K.held out.old }

@@ -1,3 +1,5 @@
-pub mod Serving
 pub mod Conclusions
+pub mod Serving
+pub mod ServingScripts
 pub mod StatusesTold
+pub mod Told

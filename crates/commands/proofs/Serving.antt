@@ -1,5 +1,5 @@
 -- From an image or duties to the bytes of a file, from these to the words.
-use Rattle.std.proofs.Common.{◌≡◌, ◌<◌, ◌+◌, ◌⊎◌, inl, inr, ℕ, Bool, false, List, ◌++◌, Some, Result, Ok, Err, sym, ap, subst, ◌∙◌, length, take, arith}
+use Rattle.std.proofs.Common.{◌≡◌, ◌<◌, ◌+◌, ◌⊎◌, inl, inr, ℕ, ℤ, Bool, false, List, [], ◌++◌, Some, Result, Ok, Err, sym, ap, subst, ◌∙◌, length, take, arith}
 use Rattle.std.proofs.lemmas.Bool.{cases_lt}
 use Rattle.std.proofs.lemmas.List.{take_all, length-take-le}
 use Rattle.ann_base.specs.declared.faults.OrMemory.{OrMemory}
@@ -7,6 +7,7 @@ use Rattle.ann_base.specs.declared.faults.OrMemory.TheVariants as answer
 use Rattle.ann_base.specs.Answers.{Answers}
 use Rattle.outside_bytes.specs.Files.{ToldFile, Untold, Missing, Holds, told, WhereTold}
 use Rattle.ada_lex.specs.declared.lexing.TheConstants.{MAX_SOURCE}
+use Rattle.profile_machine.specs.declared.run_data.Item.{Item}
 use Rattle.ada_names.specs.declared.image.Image.{Image}
 use Rattle.ada_front.specs.declared.refusing.Refusal.{Refusal}
 use Rattle.ada_front.specs.Accepted.{Accepted as IsAccepted, judged, LongSourcesAreRefused}
@@ -26,18 +27,18 @@ use Rattle.trace_laws.specs.declared.verdicts.Verdict.{Verdict}
 use Rattle.trace_laws.specs.Verdicts.{laws_answer}
 use Rattle.commands.specs.declared.requests.TraceWork.TheVariants as question
 use Rattle.commands.specs.declared.outcomes.Outcome.{Outcome}
-use Rattle.commands.specs.declared.outcomes.Outcome.TheVariants.{Ended, Accepted, Tested, Traced, WordsRefused, SourceRefused, TableRefused, TraceRefused, ReadFault, WriteFault, NoMemory}
+use Rattle.commands.specs.declared.outcomes.Outcome.TheVariants.{Ended, Accepted, Tested, Traced, WordsRefused, SourceRefused, ScriptRefused, TableRefused, TraceRefused, ReadFault, WriteFault, NoMemory}
 use Rattle.commands.specs.declared.requests.Work.{Work}
 use Rattle.commands.specs.declared.requests.TableTest.{TableTest}
 use Rattle.commands.specs.declared.requests.TraceWork.{TraceWork}
 use Rattle.commands.specs.Requests.{SourceAsked, TableAsked, TraceAsked}
 use Rattle.commands.specs.Outside.{ShelfChange, SinkChange, IsKept, Gained, GainedPrefix}
 use Rattle.commands.specs.Traces.{trace_answer, verdict_answer, report_answer, file_answer}
-use Rattle.commands.specs.Performed.{without_image, ServesImage, ServesBytes, TestsDuties, TestsBytes, TellsTrace, Performs, IsDone, IsRefused, IsCutShort, IsTested, IsNoTable, IsTestCutShort}
+use Rattle.commands.specs.Performed.{text_for, outcome_for, without_image, ServesImage, ServesBytes, TestsDuties, TestsBytes, TellsTrace, Performs, IsDone, IsRefused, IsCutShort, IsTested, IsNoTable, IsTestCutShort}
 
 -- ---- from an image to the bytes
 
-abbrev accepted_as : Image → Result Image Refusal
+abbrev pub accepted_as : Image → Result Image Refusal
 accepted_as image = Ok image
 
 abbrev image_in : Image → Result Image Refusal → Image
@@ -47,24 +48,32 @@ image_in other (Err refusal) = other
 same_image : (a b : Image) → accepted_as a ≡ Ok b → a ≡ b
 same_image a b h = ap (image_in a) h
 
+-- the image of accepted bytes is the only one
+abbrev pub IsAnswered : List ℕ → Image → Type 0
+IsAnswered bytes image = (other : Image) → IsAccepted bytes other → accepted_as other ≡ Ok image
+
+pub is_done : (items : List (ℤ × Item)) (asked : Work) (bytes : List ℕ) (image : Image) (out : SinkChange) (o : Outcome) → IsAccepted bytes image → IsAnswered bytes image →
+    Gained out (text_for items asked image) → outcome_for items asked image ≡ o → IsDone items asked bytes out o
+is_done items asked bytes image out o accepted only text is =
+    record { image = image; accepted = accepted; only = λ other fits. same_image other image (only other fits); text = text; outcome_is = is }
+
 -- what is done with the image of accepted bytes is done with the bytes
 pub accepted_served : (asked : Work) (bytes : List ℕ) (image : Image) (out : SinkChange) (o : Outcome) → IsAccepted bytes image →
-    ((other : Image) → IsAccepted bytes other → accepted_as other ≡ Ok image) → ServesImage asked image out o → ServesBytes asked bytes out o
-accepted_served asked bytes image out (Ended stop) accepted only h =
-    record { image = image; accepted = accepted; only = λ other fits. same_image other image (only other fits); text = h.0; outcome_is = h.1 }
-accepted_served asked bytes image out Accepted accepted only h =
-    record { image = image; accepted = accepted; only = λ other fits. same_image other image (only other fits); text = h.0; outcome_is = h.1 }
+    IsAnswered bytes image → ServesImage [] asked image out o → ServesBytes asked bytes out o
+accepted_served asked bytes image out (Ended stop) accepted only h = is_done [] asked bytes image out (Ended stop) accepted only h.0 h.1
+accepted_served asked bytes image out Accepted accepted only h = is_done [] asked bytes image out Accepted accepted only h.0 h.1
 accepted_served asked bytes image out (Tested failed) accepted only h = h
 accepted_served asked bytes image out (Traced broken) accepted only h = h
 accepted_served asked bytes image out WordsRefused accepted only h = h
 accepted_served asked bytes image out (SourceRefused refusal) accepted only h = absurd h
+accepted_served asked bytes image out (ScriptRefused fault) accepted only h = h
 accepted_served asked bytes image out (TableRefused fault) accepted only h = h
 accepted_served asked bytes image out (TraceRefused line) accepted only h = h
 accepted_served asked bytes image out ReadFault accepted only h = h
 accepted_served asked bytes image out WriteFault accepted only h = (h.0, (image, accepted, h.1))
 accepted_served asked bytes image out NoMemory accepted only h = inr (image, accepted, h)
 
-never : (image : Image) (refusal : Refusal) → accepted_as image ≡ Err refusal → ⊥
+pub never : (image : Image) (refusal : Refusal) → accepted_as image ≡ Err refusal → ⊥
 never image refusal h = cc
 
 -- bytes that are refused are not accepted; where memory ran out nothing is written
@@ -76,28 +85,31 @@ refused_served asked bytes answer.Memory out reason only kept = inl kept
 -- ---- from the bytes that were read to those of the file
 
 -- they are the same, or both are too long
-pub read_as : (bytes file : List ℕ) → bytes ≡ take (MAX_SOURCE + 1) file → (bytes ≡ file) ⊎ ((MAX_SOURCE < length bytes) × (MAX_SOURCE < length file))
+abbrev pub IsReadAs : List ℕ → List ℕ → Type 0
+IsReadAs bytes file = (bytes ≡ file) ⊎ ((MAX_SOURCE < length bytes) × (MAX_SOURCE < length file))
+
+pub read_as : (bytes file : List ℕ) → bytes ≡ take (MAX_SOURCE + 1) file → IsReadAs bytes file
 read_as bytes file read = elim (cases_lt MAX_SOURCE (length file)) [
   | inl long ↦ inr (omega (arith, ap length read, length-take-le (MAX_SOURCE + 1) file (omega (arith, long))), long)
   | inr short ↦ inl (read ∙ take_all (MAX_SOURCE + 1) file (omega (arith, short)))
 ]
 
 -- what is refused of the bytes is refused of the file
-refused_file : (bytes file : List ℕ) (refusal : Refusal) → LongSourcesAreRefused → (bytes ≡ file) ⊎ ((MAX_SOURCE < length bytes) × (MAX_SOURCE < length file)) → IsRefused bytes refusal → IsRefused file refusal
+pub refused_file : (bytes file : List ℕ) (refusal : Refusal) → LongSourcesAreRefused → IsReadAs bytes file → IsRefused bytes refusal → IsRefused file refusal
 refused_file bytes file refusal law (inl same) refused = subst (λ source. IsRefused source refusal) same refused
 refused_file bytes file refusal law (inr long) refused = record { reason = (law file long.1).0 ∙ sym (law bytes long.0).0 ∙ refused.reason; never = (law file long.1).1 }
 
-done_file : (asked : Work) (bytes file : List ℕ) (out : SinkChange) (o : Outcome) → LongSourcesAreRefused → (bytes ≡ file) ⊎ ((MAX_SOURCE < length bytes) × (MAX_SOURCE < length file)) → IsDone asked bytes out o → IsDone asked file out o
-done_file asked bytes file out o law (inl same) done = subst (λ source. IsDone asked source out o) same done
-done_file asked bytes file out o law (inr long) done = absurd ((law bytes long.0).1 done.image done.accepted)
+pub done_file : (items : List (ℤ × Item)) (asked : Work) (bytes file : List ℕ) (out : SinkChange) (o : Outcome) → LongSourcesAreRefused → IsReadAs bytes file → IsDone items asked bytes out o → IsDone items asked file out o
+done_file items asked bytes file out o law (inl same) done = subst (λ source. IsDone items asked source out o) same done
+done_file items asked bytes file out o law (inr long) done = absurd ((law bytes long.0).1 done.image done.accepted)
 
-cut_file : (asked : Work) (bytes file : List ℕ) (out : SinkChange) → LongSourcesAreRefused → (bytes ≡ file) ⊎ ((MAX_SOURCE < length bytes) × (MAX_SOURCE < length file)) → IsCutShort asked bytes out → IsCutShort asked file out
-cut_file asked bytes file out law (inl same) cut = subst (λ source. IsCutShort asked source out) same cut
-cut_file asked bytes file out law (inr long) cut = absurd ((law bytes long.0).1 cut.0 cut.1)
+pub cut_file : (items : List (ℤ × Item)) (asked : Work) (bytes file : List ℕ) (out : SinkChange) → LongSourcesAreRefused → IsReadAs bytes file → IsCutShort items asked bytes out → IsCutShort items asked file out
+cut_file items asked bytes file out law (inl same) cut = subst (λ source. IsCutShort items asked source out) same cut
+cut_file items asked bytes file out law (inr long) cut = absurd ((law bytes long.0).1 cut.0 cut.1)
 
 -- a fact of the bytes that were read is one of the file
-where_told : (file : ToldFile) (bytes : List ℕ) (F : List ℕ → Type 0) → WhereTold file (λ source. bytes ≡ take (MAX_SOURCE + 1) source) →
-    ((source : List ℕ) → (bytes ≡ source) ⊎ ((MAX_SOURCE < length bytes) × (MAX_SOURCE < length source)) → F source) → WhereTold file F
+pub where_told : (file : ToldFile) (bytes : List ℕ) (F : List ℕ → Type 0) → WhereTold file (λ source. bytes ≡ take (MAX_SOURCE + 1) source) →
+    ((source : List ℕ) → IsReadAs bytes source → F source) → WhereTold file F
 where_told Untold bytes F read holds = tt
 where_told Missing bytes F read holds = read
 where_told (Holds source) bytes F read holds = holds source (read_as bytes source read)
@@ -106,22 +118,23 @@ where_told (Holds source) bytes F read holds = holds source (read_as bytes sourc
 pub bytes_served : (source : List ℕ) (asked : Work) (shelf : ShelfChange) (out : SinkChange) (bytes : List ℕ) (o : Outcome) → LongSourcesAreRefused →
     WhereTold (told shelf.files source) (λ file. bytes ≡ take (MAX_SOURCE + 1) file) → ServesBytes asked bytes out o → Performs (Some (SourceAsked source asked)) shelf out o
 bytes_served source asked shelf out bytes (Ended stop) law read h =
-    where_told (told shelf.files source) bytes (λ file. IsDone asked file out (Ended stop)) read (λ file same. done_file asked bytes file out (Ended stop) law same h)
+    where_told (told shelf.files source) bytes (λ file. IsDone [] asked file out (Ended stop)) read (λ file same. done_file [] asked bytes file out (Ended stop) law same h)
 bytes_served source asked shelf out bytes Accepted law read h =
-    where_told (told shelf.files source) bytes (λ file. IsDone asked file out Accepted) read (λ file same. done_file asked bytes file out Accepted law same h)
+    where_told (told shelf.files source) bytes (λ file. IsDone [] asked file out Accepted) read (λ file same. done_file [] asked bytes file out Accepted law same h)
 bytes_served source asked shelf out bytes (Tested failed) law read h = absurd h
 bytes_served source asked shelf out bytes (Traced broken) law read h = absurd h
 bytes_served source asked shelf out bytes WordsRefused law read h = absurd h
 bytes_served source asked shelf out bytes (SourceRefused refusal) law read h =
     (where_told (told shelf.files source) bytes (λ file. IsRefused file refusal) read (λ file same. refused_file bytes file refusal law same h.0), h.1)
+bytes_served source asked shelf out bytes (ScriptRefused fault) law read h = absurd h
 bytes_served source asked shelf out bytes (TableRefused fault) law read h = absurd h
 bytes_served source asked shelf out bytes (TraceRefused line) law read h = absurd h
 bytes_served source asked shelf out bytes ReadFault law read h = absurd h
 bytes_served source asked shelf out bytes WriteFault law read h =
-    (h.0, where_told (told shelf.files source) bytes (λ file. IsCutShort asked file out) read (λ file same. cut_file asked bytes file out law same h.1))
+    (h.0, where_told (told shelf.files source) bytes (λ file. IsCutShort [] asked file out) read (λ file same. cut_file [] asked bytes file out law same h.1))
 bytes_served source asked shelf out bytes NoMemory law read (inl kept) = inl kept
 bytes_served source asked shelf out bytes NoMemory law read (inr cut) =
-    inr (where_told (told shelf.files source) bytes (λ file. IsCutShort asked file out) read (λ file same. cut_file asked bytes file out law same cut))
+    inr (where_told (told shelf.files source) bytes (λ file. IsCutShort [] asked file out) read (λ file same. cut_file [] asked bytes file out law same cut))
 
 -- ---- tables
 
@@ -133,6 +146,7 @@ duties_tested test bytes duties out (Tested failed) read h = record { duties = d
 duties_tested test bytes duties out (Traced broken) read h = h
 duties_tested test bytes duties out WordsRefused read h = h
 duties_tested test bytes duties out (SourceRefused refusal) read h = h
+duties_tested test bytes duties out (ScriptRefused fault) read h = h
 duties_tested test bytes duties out (TableRefused fault) read h = absurd h
 duties_tested test bytes duties out (TraceRefused line) read h = h
 duties_tested test bytes duties out ReadFault read h = h
@@ -161,6 +175,7 @@ bytes_tested table test shelf out bytes (Tested failed) law read h =
 bytes_tested table test shelf out bytes (Traced broken) law read h = absurd h
 bytes_tested table test shelf out bytes WordsRefused law read h = absurd h
 bytes_tested table test shelf out bytes (SourceRefused refusal) law read h = absurd h
+bytes_tested table test shelf out bytes (ScriptRefused fault) law read h = absurd h
 bytes_tested table test shelf out bytes (TableRefused fault) law read h =
     (table_told (told shelf.files table) bytes (λ file. IsNoTable fault file) law read (λ file same. sym same ∙ h.0), h.1)
 bytes_tested table test shelf out bytes (TraceRefused line) law read h = absurd h
@@ -186,6 +201,7 @@ answer_told trace work shelf out answer (Tested failed) is h = absurd h
 answer_told trace work shelf out answer (Traced broken) is h = same_answer (told shelf.files trace) work answer (λ a. (text : List ℕ) × (a ≡ Ok (text, broken)) × Gained out text) is h
 answer_told trace work shelf out answer WordsRefused is h = absurd h
 answer_told trace work shelf out answer (SourceRefused refusal) is h = absurd h
+answer_told trace work shelf out answer (ScriptRefused fault) is h = absurd h
 answer_told trace work shelf out answer (TableRefused fault) is h = absurd h
 answer_told trace work shelf out answer (TraceRefused line) is h = (same_answer (told shelf.files trace) work answer (λ a. a ≡ Err line) is h.0, h.1)
 answer_told trace work shelf out answer ReadFault is h = absurd h

@@ -1,18 +1,21 @@
 -- What each status tells, from what was performed and how it was concluded.
-use Rattle.std.proofs.Common.{◌≡◌, ◌≢◌, ◌≤◌, ◌⊎◌, inl, inr, ℕ, Bool, true, false, List, [], Option, Some, None, Result, Ok, Err, if◌then◌else◌, is_some, refl, sym, ap, subst, ◌∙◌, append-nil, arith, codes, rules}
-use Rattle.outside_bytes.specs.Files.{ToldFile, Untold, Missing, Holds, told, WhereTold}
+use Rattle.std.proofs.Common.{◌≡◌, ◌≢◌, ◌≤◌, ◌⊎◌, inl, inr, ℕ, ℤ, Bool, true, false, List, [], Option, Some, None, Result, Ok, Err, if◌then◌else◌, is_some, refl, sym, ap, subst, ◌∙◌, append-nil, arith, codes, rules}
+use Rattle.outside_bytes.specs.Files.{Untold, Holds, file_in, told, WhereTold}
 use Rattle.trace_text.specs.declared.events.Ended.{Ended as Stop}
 use Rattle.trace_text.specs.declared.events.Ended.TheVariants as why
+use Rattle.profile_machine.specs.declared.run_data.Item.{Item}
 use Rattle.ada_names.specs.declared.image.Image.{Image}
 use Rattle.ada_front.specs.declared.refusing.Refusal.{Refusal}
 use Rattle.ada_front.specs.Accepted.{Accepted as IsAccepted}
+use Rattle.event_script.specs.declared.faults.ScriptFault.{ScriptFault}
+use Rattle.event_script.specs.Script.{script_of}
 use Rattle.sched_tests.specs.declared.duties.Duty.{Duty}
 use Rattle.sched_tests.specs.declared.duties.TableFault.{TableFault}
 use Rattle.sched_tests.specs.Demand.{first_over_of, busy_of}
 use Rattle.sched_tests.specs.Reading.{table_of}
 use Rattle.sched_tests.specs.Reports.{table_note}
 use Rattle.commands.specs.declared.outcomes.Outcome.{Outcome}
-use Rattle.commands.specs.declared.outcomes.Outcome.TheVariants.{Ended, Accepted, Tested, Traced, WordsRefused, SourceRefused, TableRefused, TraceRefused, ReadFault, WriteFault, NoMemory}
+use Rattle.commands.specs.declared.outcomes.Outcome.TheVariants.{Ended, Accepted, Tested, Traced, WordsRefused, SourceRefused, ScriptRefused, TableRefused, TraceRefused, ReadFault, WriteFault, NoMemory}
 use Rattle.trace_laws.specs.declared.verdicts.Verdict.{Verdict}
 use Rattle.trace_laws.specs.Verdicts.{texts_in, laws_answer, Says}
 use Rattle.commands.specs.declared.requests.Work.{Work}
@@ -24,18 +27,40 @@ use Rattle.commands.specs.declared.requests.TraceWork.TheVariants as question
 use Rattle.trace_text.specs.Queue.{Line}
 use Rattle.trace_files.specs.Reported.{formed_lines, IsFormedTrace}
 use Rattle.commands.specs.Traces.{trace_answer, report_answer, trace_note}
-use Rattle.commands.specs.Requests.{Asked, SourceAsked, TableAsked, TraceAsked}
+use Rattle.commands.specs.Requests.{Asked, SourceAsked, ScriptAsked, TableAsked, TraceAsked}
 use Rattle.commands.specs.Tests.{test_status, is_failed, NeverOver}
 use Rattle.commands.specs.Outside.{ShelfChange, SinkChange, SinkFailed, IsKept, Gained, GainedPrefix}
-use Rattle.commands.specs.Outcomes.{stop_status, status_of, note_of, refusal_text, IsNoted, Concludes}
-use Rattle.commands.specs.Performed.{text_for, outcome_for, OfAsked, OfSource, OfTable, OfTrace, IsDone, IsRefused, IsTested, IsNoTable, IsTraced, IsNoTrace, IsFileCutShort, IsUnread, Performs}
-use Rattle.commands.specs.Statuses.{IsUndisturbed, Headline, AcceptanceTold, IsAnswer, TableTold, IsTraceAnswer, TraceTold, LawsTold, ReportTold, BeyondTold, IsPrinted, DoneTold, IsStatus, NotAccepted, RefusalTold, FailureTold, TableRefusalTold, BreachTold, TraceRefusalTold, IsCause, NoteTried, PrefixTold}
-use Rattle.commands.proofs.Conclusions.{stop_status-small, is_refused, is_failed_test, is_refused_table, is_breach, is_refused_trace, is_words, is_read_fault, is_write_fault, is_memory, concluded, known, FailedNote, failed, low}
+use Rattle.commands.specs.Outcomes.{stop_status, status_of, note_of, refusal_text, script_note, IsNoted, Concludes}
+use Rattle.commands.specs.Performed.{text_for, outcome_for, OfAsked, OfSource, OfRun, OfNoScript, OfItems, IsAcceptable, OfTable, OfTrace, IsDone, IsRefused, IsTested, IsNoTable, IsTraced, IsNoTrace, IsFileCutShort, IsUnread, Performs}
+use Rattle.commands.specs.Statuses.{IsUndisturbed, Headline, HeadlineUnder, AcceptanceTold, IsAnswer, TableTold, IsTraceAnswer, TraceTold, LawsTold, ReportTold, BeyondTold, IsPrinted, DoneTold, IsStatus, NotAccepted, NotAcceptedUnder, NoScript, ScriptRefusalTold, RefusalTold, FailureTold, TableRefusalTold, BreachTold, TraceRefusalTold, IsCause, NoteTried, PrefixTold}
+use Rattle.commands.proofs.Told.{told_map, ItemsWith, items_map}
+use Rattle.commands.proofs.Conclusions.{stop_status-small, is_refused, is_refused_script, is_failed_test, is_refused_table, is_breach, is_refused_trace, is_words, is_read_fault, is_write_fault, is_memory, concluded, known, FailedNote, failed, low}
 
 -- ---- files
 
 at_source : (asked : Option Asked) (shelf : ShelfChange) (source : List ℕ) (a : Work) (bytes : List ℕ) (F : Work → List ℕ → Type 0) → asked ≡ Some (SourceAsked source a) → told shelf.files source ≡ Holds bytes → OfSource asked shelf F → F a bytes
 at_source asked shelf source a bytes F is there h = subst (λ file. WhereTold file (F a)) there (subst (λ x. OfSource x shelf F) is h)
+
+-- the same of a source that is to be run under a script
+at_source_under : (asked : Option Asked) (shelf : ShelfChange) (source script : List ℕ) (ticks : ℕ) (bytes : List ℕ) (F : Work → List ℕ → Type 0) → asked ≡ Some (ScriptAsked source script ticks) → told shelf.files source ≡ Holds bytes → OfSource asked shelf F → F (work.Run ticks) bytes
+at_source_under asked shelf source script ticks bytes F is there h = subst (λ file. WhereTold file (F (work.Run ticks))) there (subst (λ x. OfSource x shelf F) is h)
+
+at_run : (asked : Option Asked) (shelf : ShelfChange) (source : List ℕ) (a : Work) (bytes : List ℕ) (F : List (ℤ × Item) → Work → List ℕ → Type 0) → asked ≡ Some (SourceAsked source a) → told shelf.files source ≡ Holds bytes → OfRun asked shelf F → F [] a bytes
+at_run asked shelf source a bytes F is there h = subst (λ file. WhereTold file (F [] a)) there (subst (λ x. OfRun x shelf F) is h)
+
+at_run_under : (asked : Option Asked) (shelf : ShelfChange) (source script : List ℕ) (ticks : ℕ) (bytes : List ℕ) (F : List (ℤ × Item) → Work → List ℕ → Type 0) → asked ≡ Some (ScriptAsked source script ticks) → told shelf.files source ≡ Holds bytes → OfRun asked shelf F → OfItems shelf script (λ items. F items (work.Run ticks) bytes)
+at_run_under asked shelf source script ticks bytes F is there h = subst (λ file. WhereTold file (λ b. OfItems shelf script (λ items. F items (work.Run ticks) b))) there (subst (λ x. OfRun x shelf F) is h)
+
+-- the items of a script that is there
+at_items : (shelf : ShelfChange) (script text : List ℕ) (F : List (ℤ × Item) → Type 0) → told shelf.files script ≡ Holds text → OfItems shelf script F → (items : List (ℤ × Item)) × (script_of text ≡ Ok items) × F items
+at_items shelf script text F there h = subst (λ file. WhereTold file (λ t. (items : List (ℤ × Item)) × (script_of t ≡ Ok items) × F items)) there h
+
+at_no_script : (asked : Option Asked) (shelf : ShelfChange) (source script : List ℕ) (ticks : ℕ) (text : List ℕ) (fault : ScriptFault) → asked ≡ Some (ScriptAsked source script ticks) → told shelf.files script ≡ Holds text → OfNoScript asked shelf fault → script_of text ≡ Err fault
+at_no_script asked shelf source script ticks text fault is there h = subst (λ file. WhereTold file (λ t. script_of t ≡ Err fault)) there (subst (λ x. OfNoScript x shelf fault) is h).1
+
+-- its source is accepted
+at_acceptable : (asked : Option Asked) (shelf : ShelfChange) (source script : List ℕ) (ticks : ℕ) (bytes : List ℕ) (fault : ScriptFault) → asked ≡ Some (ScriptAsked source script ticks) → told shelf.files source ≡ Holds bytes → OfNoScript asked shelf fault → IsAcceptable bytes
+at_acceptable asked shelf source script ticks bytes fault is there h = subst (λ file. WhereTold file IsAcceptable) there (subst (λ x. OfNoScript x shelf fault) is h).0
 
 at_table : (asked : Option Asked) (shelf : ShelfChange) (table : List ℕ) (t : TableTest) (bytes : List ℕ) (F : TableTest → List ℕ → Type 0) → asked ≡ Some (TableAsked table t) → told shelf.files table ≡ Holds bytes → OfTable asked shelf F → F t bytes
 at_table asked shelf table t bytes F is there h = subst (λ file. WhereTold file (F t)) there (subst (λ x. OfTable x shelf F) is h)
@@ -45,6 +70,21 @@ no_table asked shelf source a F is h = subst (λ x. OfTable x shelf F) is h
 
 no_source : (asked : Option Asked) (shelf : ShelfChange) (table : List ℕ) (t : TableTest) (F : Work → List ℕ → Type 0) → asked ≡ Some (TableAsked table t) → OfSource asked shelf F → ⊥
 no_source asked shelf table t F is h = subst (λ x. OfSource x shelf F) is h
+
+source_no_script : (asked : Option Asked) (shelf : ShelfChange) (source : List ℕ) (a : Work) (fault : ScriptFault) → asked ≡ Some (SourceAsked source a) → OfNoScript asked shelf fault → ⊥
+source_no_script asked shelf source a fault is h = subst (λ x. OfNoScript x shelf fault) is h
+
+table_no_run : (asked : Option Asked) (shelf : ShelfChange) (table : List ℕ) (t : TableTest) (F : List (ℤ × Item) → Work → List ℕ → Type 0) → asked ≡ Some (TableAsked table t) → OfRun asked shelf F → ⊥
+table_no_run asked shelf table t F is h = subst (λ x. OfRun x shelf F) is h
+
+table_no_script : (asked : Option Asked) (shelf : ShelfChange) (table : List ℕ) (t : TableTest) (fault : ScriptFault) → asked ≡ Some (TableAsked table t) → OfNoScript asked shelf fault → ⊥
+table_no_script asked shelf table t fault is h = subst (λ x. OfNoScript x shelf fault) is h
+
+script_no_table : (asked : Option Asked) (shelf : ShelfChange) (source script : List ℕ) (ticks : ℕ) (F : TableTest → List ℕ → Type 0) → asked ≡ Some (ScriptAsked source script ticks) → OfTable asked shelf F → ⊥
+script_no_table asked shelf source script ticks F is h = subst (λ x. OfTable x shelf F) is h
+
+script_no_trace : (asked : Option Asked) (shelf : ShelfChange) (source script : List ℕ) (ticks : ℕ) (F : TraceWork → List ℕ → Type 0) → asked ≡ Some (ScriptAsked source script ticks) → OfTrace asked shelf F → ⊥
+script_no_trace asked shelf source script ticks F is h = subst (λ x. OfTrace x shelf F) is h
 
 at_trace : (asked : Option Asked) (shelf : ShelfChange) (trace : List ℕ) (w : TraceWork) (bytes : List ℕ) (F : TraceWork → List ℕ → Type 0) → asked ≡ Some (TraceAsked trace w) → told shelf.files trace ≡ Holds bytes → OfTrace asked shelf F → F w bytes
 at_trace asked shelf trace w bytes F is there h = subst (λ file. WhereTold file (F w)) there (subst (λ x. OfTrace x shelf F) is h)
@@ -58,29 +98,33 @@ table_no_trace asked shelf table t F is h = subst (λ x. OfTrace x shelf F) is h
 trace_no_source : (asked : Option Asked) (shelf : ShelfChange) (trace : List ℕ) (w : TraceWork) (F : Work → List ℕ → Type 0) → asked ≡ Some (TraceAsked trace w) → OfSource asked shelf F → ⊥
 trace_no_source asked shelf trace w F is h = subst (λ x. OfSource x shelf F) is h
 
+trace_no_run : (asked : Option Asked) (shelf : ShelfChange) (trace : List ℕ) (w : TraceWork) (F : List (ℤ × Item) → Work → List ℕ → Type 0) → asked ≡ Some (TraceAsked trace w) → OfRun asked shelf F → ⊥
+trace_no_run asked shelf trace w F is h = subst (λ x. OfRun x shelf F) is h
+
+trace_no_script : (asked : Option Asked) (shelf : ShelfChange) (trace : List ℕ) (w : TraceWork) (fault : ScriptFault) → asked ≡ Some (TraceAsked trace w) → OfNoScript asked shelf fault → ⊥
+trace_no_script asked shelf trace w fault is h = subst (λ x. OfNoScript x shelf fault) is h
+
 trace_no_table : (asked : Option Asked) (shelf : ShelfChange) (trace : List ℕ) (w : TraceWork) (F : TableTest → List ℕ → Type 0) → asked ≡ Some (TraceAsked trace w) → OfTable asked shelf F → ⊥
 trace_no_table asked shelf trace w F is h = subst (λ x. OfTable x shelf F) is h
-
-told_map : (file : ToldFile) (F G : List ℕ → Type 0) → ((bytes : List ℕ) → F bytes → G bytes) → WhereTold file F → WhereTold file G
-told_map Untold F G f h = tt
-told_map Missing F G f h = h
-told_map (Holds bytes) F G f h = f bytes h
 
 source_map : (asked : Option Asked) (shelf : ShelfChange) (F G : Work → List ℕ → Type 0) → ((a : Work) (bytes : List ℕ) → F a bytes → G a bytes) → OfSource asked shelf F → OfSource asked shelf G
 source_map None shelf F G f h = h
 source_map (Some (SourceAsked source a)) shelf F G f h = told_map (told shelf.files source) (F a) (G a) (f a) h
+source_map (Some (ScriptAsked source script ticks)) shelf F G f h = told_map (told shelf.files source) (F (work.Run ticks)) (G (work.Run ticks)) (f (work.Run ticks)) h
 source_map (Some (TableAsked table t)) shelf F G f h = h
 source_map (Some (TraceAsked trace w)) shelf F G f h = h
 
 table_map : (asked : Option Asked) (shelf : ShelfChange) (F G : TableTest → List ℕ → Type 0) → ((t : TableTest) (bytes : List ℕ) → F t bytes → G t bytes) → OfTable asked shelf F → OfTable asked shelf G
 table_map None shelf F G f h = h
 table_map (Some (SourceAsked source a)) shelf F G f h = h
+table_map (Some (ScriptAsked source script ticks)) shelf F G f h = h
 table_map (Some (TableAsked table t)) shelf F G f h = told_map (told shelf.files table) (F t) (G t) (f t) h
 table_map (Some (TraceAsked trace w)) shelf F G f h = h
 
 trace_map : (asked : Option Asked) (shelf : ShelfChange) (F G : TraceWork → List ℕ → Type 0) → ((w : TraceWork) (bytes : List ℕ) → F w bytes → G w bytes) → OfTrace asked shelf F → OfTrace asked shelf G
 trace_map None shelf F G f h = h
 trace_map (Some (SourceAsked source a)) shelf F G f h = h
+trace_map (Some (ScriptAsked source script ticks)) shelf F G f h = h
 trace_map (Some (TableAsked table t)) shelf F G f h = h
 trace_map (Some (TraceAsked trace w)) shelf F G f h = told_map (told shelf.files trace) (F w) (G w) (f w) h
 
@@ -92,30 +136,31 @@ no_request asked a none is = cc
 
 -- ---- what is accepted is done
 
-served : (a : Work) (bytes : List ℕ) (image : Image) (out notes : SinkChange) (o : Outcome) (status : ℕ) → IsDone a bytes out o → IsAccepted bytes image → status ≡ status_of o → IsKept notes →
-    Gained out (text_for a image) × (status ≡ status_of (outcome_for a image)) × IsKept notes
-served a bytes image out notes o status done fits is kept =
+served : (items : List (ℤ × Item)) (a : Work) (bytes : List ℕ) (image : Image) (out notes : SinkChange) (o : Outcome) (status : ℕ) → IsDone items a bytes out o → IsAccepted bytes image → status ≡ status_of o → IsKept notes →
+    Gained out (text_for items a image) × (status ≡ status_of (outcome_for items a image)) × IsKept notes
+served items a bytes image out notes o status done fits is kept =
     let same = sym (done.only image fits) in
-    (subst (λ i. Gained out (text_for a i)) same done.text, is ∙ ap status_of (sym done.outcome_is ∙ ap (outcome_for a) same), kept)
+    (subst (λ i. Gained out (text_for items a i)) same done.text, is ∙ ap status_of (sym done.outcome_is ∙ ap (outcome_for items a) same), kept)
 
 disturbed : (o : Outcome) (notes : SinkChange) (status : ℕ) (fault : ℕ) → Concludes o notes status → status_of o ≡ fault → (status ≢ fault) → status ≢ 8 → ⊥
 disturbed o notes status fault c is other stream = other ((concluded o notes status c stream).0 ∙ is)
 
 undisturbed : (asked : Option Asked) (shelf : ShelfChange) (out notes : SinkChange) (o : Outcome) (status : ℕ) → Performs asked shelf out o → Concludes o notes status →
     (source : List ℕ) (a : Work) (bytes : List ℕ) (image : Image) → asked ≡ Some (SourceAsked source a) → told shelf.files source ≡ Holds bytes → IsAccepted bytes image → IsUndisturbed status →
-    Gained out (text_for a image) × (status ≡ status_of (outcome_for a image)) × IsKept notes
+    Gained out (text_for [] a image) × (status ≡ status_of (outcome_for [] a image)) × IsKept notes
 undisturbed asked shelf out notes (Ended stop) status p c source a bytes image is there fits u =
     let told = concluded (Ended stop) notes status c u.1 in
-    served a bytes image out notes (Ended stop) status (at_source asked shelf source a bytes (λ x b. IsDone x b out (Ended stop)) is there p) fits told.0 told.1
+    served [] a bytes image out notes (Ended stop) status (at_run asked shelf source a bytes (λ xs x b. IsDone xs x b out (Ended stop)) is there p) fits told.0 told.1
 undisturbed asked shelf out notes Accepted status p c source a bytes image is there fits u =
     let told = concluded Accepted notes status c u.1 in
-    served a bytes image out notes Accepted status (at_source asked shelf source a bytes (λ x b. IsDone x b out Accepted) is there p) fits told.0 told.1
+    served [] a bytes image out notes Accepted status (at_run asked shelf source a bytes (λ xs x b. IsDone xs x b out Accepted) is there p) fits told.0 told.1
 undisturbed asked shelf out notes (Tested failed) status p c source a bytes image is there fits u =
     absurd (no_table asked shelf source a (λ t b. IsTested t b out failed) is p)
 undisturbed asked shelf out notes (Traced broken) status p c source a bytes image is there fits u = absurd (source_no_trace asked shelf source a (λ x b. IsTraced x b out broken) is p)
 undisturbed asked shelf out notes WordsRefused status p c source a bytes image is there fits u = absurd (no_request asked (SourceAsked source a) p.0 is)
 undisturbed asked shelf out notes (SourceRefused refusal) status p c source a bytes image is there fits u =
     absurd ((at_source asked shelf source a bytes (λ x b. IsRefused b refusal) is there p.0).never image fits)
+undisturbed asked shelf out notes (ScriptRefused fault) status p c source a bytes image is there fits u = absurd (source_no_script asked shelf source a fault is p.0)
 undisturbed asked shelf out notes (TableRefused fault) status p c source a bytes image is there fits u =
     absurd (no_table asked shelf source a (λ t b. IsNoTable fault b) is p.0)
 undisturbed asked shelf out notes (TraceRefused line) status p c source a bytes image is there fits u = absurd (source_no_trace asked shelf source a (λ x b. IsNoTrace line x b) is p.0)
@@ -123,8 +168,52 @@ undisturbed asked shelf out notes ReadFault status p c source a bytes image is t
 undisturbed asked shelf out notes WriteFault status p c source a bytes image is there fits u = absurd (disturbed WriteFault notes status 8 c refl u.1 u.1)
 undisturbed asked shelf out notes NoMemory status p c source a bytes image is there fits u = absurd (disturbed NoMemory notes status 9 c refl u.2 u.1)
 
+-- the same of a run under a script
+abbrev items_in : List (ℤ × Item) → Result (List (ℤ × Item)) ScriptFault → List (ℤ × Item)
+items_in other (Ok items) = items
+items_in other (Err fault) = other
+
+same_items : (text : List ℕ) (a b : List (ℤ × Item)) → script_of text ≡ Ok a → script_of text ≡ Ok b → a ≡ b
+same_items text a b one other = ap (items_in a) (sym one ∙ other)
+
+no_items : (text : List ℕ) (items : List (ℤ × Item)) (fault : ScriptFault) → script_of text ≡ Ok items → script_of text ≡ Err fault → ⊥
+no_items text items fault read refused = cc
+
+served_under : (shelf : ShelfChange) (script text : List ℕ) (ticks : ℕ) (items : List (ℤ × Item)) (bytes : List ℕ) (image : Image) (out notes : SinkChange) (o : Outcome) (status : ℕ) → OfItems shelf script (λ xs. IsDone xs (work.Run ticks) bytes out o) →
+    told shelf.files script ≡ Holds text → script_of text ≡ Ok items → IsAccepted bytes image → status ≡ status_of o → IsKept notes →
+    Gained out (text_for items (work.Run ticks) image) × (status ≡ status_of (outcome_for items (work.Run ticks) image)) × IsKept notes
+served_under shelf script text ticks items bytes image out notes o status h there read fits is kept =
+    let known = at_items shelf script text (λ xs. IsDone xs (work.Run ticks) bytes out o) there h in
+    served items (work.Run ticks) bytes image out notes o status (subst (λ xs. IsDone xs (work.Run ticks) bytes out o) (same_items text known.0 items known.1 read) known.2) fits is kept
+
+undisturbed_under : (asked : Option Asked) (shelf : ShelfChange) (out notes : SinkChange) (o : Outcome) (status : ℕ) → Performs asked shelf out o → Concludes o notes status →
+    (source script : List ℕ) (ticks : ℕ) (bytes text : List ℕ) (image : Image) (items : List (ℤ × Item)) → asked ≡ Some (ScriptAsked source script ticks) → told shelf.files source ≡ Holds bytes → told shelf.files script ≡ Holds text →
+    IsAccepted bytes image → script_of text ≡ Ok items → IsUndisturbed status →
+    Gained out (text_for items (work.Run ticks) image) × (status ≡ status_of (outcome_for items (work.Run ticks) image)) × IsKept notes
+undisturbed_under asked shelf out notes (Ended stop) status p c source script ticks bytes text image items is there beside fits read u =
+    let told = concluded (Ended stop) notes status c u.1 in
+    served_under shelf script text ticks items bytes image out notes (Ended stop) status (at_run_under asked shelf source script ticks bytes (λ xs x b. IsDone xs x b out (Ended stop)) is there p) beside read fits told.0 told.1
+undisturbed_under asked shelf out notes Accepted status p c source script ticks bytes text image items is there beside fits read u =
+    let told = concluded Accepted notes status c u.1 in
+    served_under shelf script text ticks items bytes image out notes Accepted status (at_run_under asked shelf source script ticks bytes (λ xs x b. IsDone xs x b out Accepted) is there p) beside read fits told.0 told.1
+undisturbed_under asked shelf out notes (Tested failed) status p c source script ticks bytes text image items is there beside fits read u = absurd (script_no_table asked shelf source script ticks (λ t b. IsTested t b out failed) is p)
+undisturbed_under asked shelf out notes (Traced broken) status p c source script ticks bytes text image items is there beside fits read u = absurd (script_no_trace asked shelf source script ticks (λ x b. IsTraced x b out broken) is p)
+undisturbed_under asked shelf out notes WordsRefused status p c source script ticks bytes text image items is there beside fits read u = absurd (no_request asked (ScriptAsked source script ticks) p.0 is)
+undisturbed_under asked shelf out notes (SourceRefused refusal) status p c source script ticks bytes text image items is there beside fits read u =
+    absurd ((at_source_under asked shelf source script ticks bytes (λ x b. IsRefused b refusal) is there p.0).never image fits)
+undisturbed_under asked shelf out notes (ScriptRefused fault) status p c source script ticks bytes text image items is there beside fits read u =
+    absurd (no_items text items fault read (at_no_script asked shelf source script ticks text fault is beside p.0))
+undisturbed_under asked shelf out notes (TableRefused fault) status p c source script ticks bytes text image items is there beside fits read u = absurd (script_no_table asked shelf source script ticks (λ t b. IsNoTable fault b) is p.0)
+undisturbed_under asked shelf out notes (TraceRefused line) status p c source script ticks bytes text image items is there beside fits read u = absurd (script_no_trace asked shelf source script ticks (λ x b. IsNoTrace line x b) is p.0)
+undisturbed_under asked shelf out notes ReadFault status p c source script ticks bytes text image items is there beside fits read u = absurd (disturbed ReadFault notes status 7 c refl u.0 u.1)
+undisturbed_under asked shelf out notes WriteFault status p c source script ticks bytes text image items is there beside fits read u = absurd (disturbed WriteFault notes status 8 c refl u.1 u.1)
+undisturbed_under asked shelf out notes NoMemory status p c source script ticks bytes text image items is there beside fits read u = absurd (disturbed NoMemory notes status 9 c refl u.2 u.1)
+
 pub headline : (asked : Option Asked) (shelf : ShelfChange) (out notes : SinkChange) (o : Outcome) (status : ℕ) → Performs asked shelf out o → Concludes o notes status → Headline asked shelf out notes status
 headline asked shelf out notes o status p c source bytes ticks image is there fits u = undisturbed asked shelf out notes o status p c source (work.Run ticks) bytes image is there fits u
+
+pub headline_under : (asked : Option Asked) (shelf : ShelfChange) (out notes : SinkChange) (o : Outcome) (status : ℕ) → Performs asked shelf out o → Concludes o notes status → HeadlineUnder asked shelf out notes status
+headline_under asked shelf out notes o status p c source bytes script text ticks image items is there beside fits read u = undisturbed_under asked shelf out notes o status p c source script ticks bytes text image items is there beside fits read u
 
 pub acceptance : (asked : Option Asked) (shelf : ShelfChange) (out notes : SinkChange) (o : Outcome) (status : ℕ) → Performs asked shelf out o → Concludes o notes status → AcceptanceTold asked shelf out notes status
 acceptance asked shelf out notes o status p c source bytes image is there fits u = undisturbed asked shelf out notes o status p c source work.Accept bytes image is there fits u
@@ -143,14 +232,15 @@ refused_answer : (t : TableTest) (bytes : List ℕ) (out notes : SinkChange) (fa
 refused_answer t bytes out notes fault status h kept is note = subst (λ read. IsAnswer t read out notes status) (sym h) (kept, is, note)
 
 pub table_told : (asked : Option Asked) (shelf : ShelfChange) (out notes : SinkChange) (o : Outcome) (status : ℕ) → Performs asked shelf out o → Concludes o notes status → TableTold asked shelf out notes status
-table_told asked shelf out notes (Ended stop) status p c table bytes t is there u = absurd (no_source asked shelf table t (λ x b. IsDone x b out (Ended stop)) is p)
-table_told asked shelf out notes Accepted status p c table bytes t is there u = absurd (no_source asked shelf table t (λ x b. IsDone x b out Accepted) is p)
+table_told asked shelf out notes (Ended stop) status p c table bytes t is there u = absurd (table_no_run asked shelf table t (λ xs x b. IsDone xs x b out (Ended stop)) is p)
+table_told asked shelf out notes Accepted status p c table bytes t is there u = absurd (table_no_run asked shelf table t (λ xs x b. IsDone xs x b out Accepted) is p)
 table_told asked shelf out notes (Tested failed) status p c table bytes t is there u =
     let told = concluded (Tested failed) notes status c u.1 in
     answered t bytes out notes failed status (at_table asked shelf table t bytes (λ x b. IsTested x b out failed) is there p) told.0 told.1
 table_told asked shelf out notes (Traced broken) status p c table bytes t is there u = absurd (table_no_trace asked shelf table t (λ x b. IsTraced x b out broken) is p)
 table_told asked shelf out notes WordsRefused status p c table bytes t is there u = absurd (no_request asked (TableAsked table t) p.0 is)
 table_told asked shelf out notes (SourceRefused refusal) status p c table bytes t is there u = absurd (no_source asked shelf table t (λ x b. IsRefused b refusal) is p.0)
+table_told asked shelf out notes (ScriptRefused fault) status p c table bytes t is there u = absurd (table_no_script asked shelf table t fault is p.0)
 table_told asked shelf out notes (TableRefused fault) status p c table bytes t is there u =
     let told = concluded (TableRefused fault) notes status c u.1 in
     refused_answer t bytes out notes fault status (at_table asked shelf table t bytes (λ x b. IsNoTable fault b) is there p.0) p.1 told.0 told.1
@@ -185,14 +275,15 @@ never_over bytes duties busy out failed status h read is zero_is busy_is =
     subst NeverOver same (h.beyond busy none (ap busy_of same ∙ busy_is))
 
 pub beyond : (asked : Option Asked) (shelf : ShelfChange) (out notes : SinkChange) (o : Outcome) (status : ℕ) → Performs asked shelf out o → Concludes o notes status → BeyondTold asked shelf status
-beyond asked shelf out notes (Ended stop) status p c table bytes duties busy is there read zero_is busy_is = absurd (no_source asked shelf table test.Demand (λ x b. IsDone x b out (Ended stop)) is p)
-beyond asked shelf out notes Accepted status p c table bytes duties busy is there read zero_is busy_is = absurd (no_source asked shelf table test.Demand (λ x b. IsDone x b out Accepted) is p)
+beyond asked shelf out notes (Ended stop) status p c table bytes duties busy is there read zero_is busy_is = absurd (table_no_run asked shelf table test.Demand (λ xs x b. IsDone xs x b out (Ended stop)) is p)
+beyond asked shelf out notes Accepted status p c table bytes duties busy is there read zero_is busy_is = absurd (table_no_run asked shelf table test.Demand (λ xs x b. IsDone xs x b out Accepted) is p)
 beyond asked shelf out notes (Tested failed) status p c table bytes duties busy is there read zero_is busy_is =
     never_over bytes duties busy out failed status (at_table asked shelf table test.Demand bytes (λ x b. IsTested x b out failed) is there p) read
     (concluded (Tested failed) notes status c (low status (omega (arith, zero_is)))).0 zero_is busy_is
 beyond asked shelf out notes (Traced broken) status p c table bytes duties busy is there read zero_is busy_is = absurd (table_no_trace asked shelf table test.Demand (λ x b. IsTraced x b out broken) is p)
 beyond asked shelf out notes WordsRefused status p c table bytes duties busy is there read zero_is busy_is = absurd (no_request asked (TableAsked table test.Demand) p.0 is)
 beyond asked shelf out notes (SourceRefused refusal) status p c table bytes duties busy is there read zero_is busy_is = absurd (no_source asked shelf table test.Demand (λ x b. IsRefused b refusal) is p.0)
+beyond asked shelf out notes (ScriptRefused fault) status p c table bytes duties busy is there read zero_is busy_is = absurd (table_no_script asked shelf table test.Demand fault is p.0)
 beyond asked shelf out notes (TableRefused fault) status p c table bytes duties busy is there read zero_is busy_is = absurd (omega (arith, (concluded (TableRefused fault) notes status c (low status (omega (arith, zero_is)))).0, zero_is))
 beyond asked shelf out notes (TraceRefused line) status p c table bytes duties busy is there read zero_is busy_is = absurd (table_no_trace asked shelf table test.Demand (λ x b. IsNoTrace line x b) is p.0)
 beyond asked shelf out notes ReadFault status p c table bytes duties busy is there read zero_is busy_is = absurd (omega (arith, (concluded ReadFault notes status c (low status (omega (arith, zero_is)))).0, zero_is))
@@ -208,14 +299,15 @@ no_trace : (w : TraceWork) (bytes : List ℕ) (out notes : SinkChange) (line : �
 no_trace w bytes out notes line status h kept is note = subst (λ answer. IsTraceAnswer answer out notes status) (sym h) (kept, is, note)
 
 pub trace_told : (asked : Option Asked) (shelf : ShelfChange) (out notes : SinkChange) (o : Outcome) (status : ℕ) → Performs asked shelf out o → Concludes o notes status → TraceTold asked shelf out notes status
-trace_told asked shelf out notes (Ended stop) status p c trace bytes w is there u = absurd (trace_no_source asked shelf trace w (λ x b. IsDone x b out (Ended stop)) is p)
-trace_told asked shelf out notes Accepted status p c trace bytes w is there u = absurd (trace_no_source asked shelf trace w (λ x b. IsDone x b out Accepted) is p)
+trace_told asked shelf out notes (Ended stop) status p c trace bytes w is there u = absurd (trace_no_run asked shelf trace w (λ xs x b. IsDone xs x b out (Ended stop)) is p)
+trace_told asked shelf out notes Accepted status p c trace bytes w is there u = absurd (trace_no_run asked shelf trace w (λ xs x b. IsDone xs x b out Accepted) is p)
 trace_told asked shelf out notes (Tested failed) status p c trace bytes w is there u = absurd (trace_no_table asked shelf trace w (λ x b. IsTested x b out failed) is p)
 trace_told asked shelf out notes (Traced broken) status p c trace bytes w is there u =
     let told = concluded (Traced broken) notes status c u.1 in
     traced w bytes out notes broken status (at_trace asked shelf trace w bytes (λ x b. IsTraced x b out broken) is there p) told.0 told.1
 trace_told asked shelf out notes WordsRefused status p c trace bytes w is there u = absurd (no_request asked (TraceAsked trace w) p.0 is)
 trace_told asked shelf out notes (SourceRefused refusal) status p c trace bytes w is there u = absurd (trace_no_source asked shelf trace w (λ x b. IsRefused b refusal) is p.0)
+trace_told asked shelf out notes (ScriptRefused fault) status p c trace bytes w is there u = absurd (trace_no_script asked shelf trace w fault is p.0)
 trace_told asked shelf out notes (TableRefused fault) status p c trace bytes w is there u = absurd (trace_no_table asked shelf trace w (λ x b. IsNoTable fault b) is p.0)
 trace_told asked shelf out notes (TraceRefused line) status p c trace bytes w is there u =
     let told = concluded (TraceRefused line) notes status c u.1 in
@@ -247,12 +339,19 @@ report_told formed only asked shelf out notes o status p c trace bytes is there 
 
 -- ---- 0 to 3
 
-done_source : (asked : Option Asked) (shelf : ShelfChange) (out : SinkChange) (o : Outcome) (status : ℕ) → OfSource asked shelf (λ a bytes. IsDone a bytes out o) → status ≡ status_of o → DoneTold asked shelf out status
-done_source None shelf out o status h is = h
-done_source (Some (SourceAsked source a)) shelf out o status h is =
-    told_map (told shelf.files source) (λ bytes. IsDone a bytes out o) (λ bytes. (o : Outcome) × IsDone a bytes out o × (status ≡ status_of o)) (λ bytes done. (o, done, is)) h
-done_source (Some (TableAsked table t)) shelf out o status h is = absurd h
-done_source (Some (TraceAsked trace w)) shelf out o status h is = absurd h
+-- what was done ended with this status
+abbrev EndedWith : List (ℤ × Item) → Work → List ℕ → SinkChange → ℕ → Type 0
+EndedWith items a bytes out status = (o : Outcome) × IsDone items a bytes out o × (status ≡ status_of o)
+
+done_run : (asked : Option Asked) (shelf : ShelfChange) (out : SinkChange) (o : Outcome) (status : ℕ) → OfRun asked shelf (λ xs a bytes. IsDone xs a bytes out o) → status ≡ status_of o → DoneTold asked shelf out status
+done_run None shelf out o status h is = h
+done_run (Some (SourceAsked source a)) shelf out o status h is =
+    told_map (told shelf.files source) (λ bytes. IsDone [] a bytes out o) (λ bytes. EndedWith [] a bytes out status) (λ bytes done. (o, done, is)) h
+done_run (Some (ScriptAsked source script ticks)) shelf out o status h is =
+    told_map (told shelf.files source) (λ bytes. OfItems shelf script (λ items. IsDone items (work.Run ticks) bytes out o)) (λ bytes. OfItems shelf script (λ items. EndedWith items (work.Run ticks) bytes out status))
+    (λ bytes known. items_map shelf script (λ items. IsDone items (work.Run ticks) bytes out o) (λ items. EndedWith items (work.Run ticks) bytes out status) (λ items done. (o, done, is)) known) h
+done_run (Some (TableAsked table t)) shelf out o status h is = absurd h
+done_run (Some (TraceAsked trace w)) shelf out o status h is = absurd h
 
 printed : (t : TableTest) (bytes : List ℕ) (out : SinkChange) (failed : Bool) (status : ℕ) → status ≡ status_of (Tested failed) → IsTested t bytes out failed → IsPrinted t bytes out status
 printed t bytes out failed status is h = (h.duties, h.read, h.text, is ∙ status_by t h.duties failed h.failed_is)
@@ -260,6 +359,7 @@ printed t bytes out failed status is h = (h.duties, h.read, h.text, is ∙ statu
 done_table : (asked : Option Asked) (shelf : ShelfChange) (out : SinkChange) (failed : Bool) (status : ℕ) → OfTable asked shelf (λ t bytes. IsTested t bytes out failed) → status ≡ status_of (Tested failed) → status ≡ 0 → DoneTold asked shelf out status
 done_table None shelf out failed status h is zero_is = h
 done_table (Some (SourceAsked source a)) shelf out failed status h is zero_is = absurd h
+done_table (Some (ScriptAsked source script ticks)) shelf out failed status h is zero_is = absurd h
 done_table (Some (TableAsked table t)) shelf out failed status h is zero_is =
     (zero_is, told_map (told shelf.files table) (λ bytes. IsTested t bytes out failed) (λ bytes. IsPrinted t bytes out status) (λ bytes h. printed t bytes out failed status is h) h)
 done_table (Some (TraceAsked trace w)) shelf out failed status h is zero_is = absurd h
@@ -267,18 +367,20 @@ done_table (Some (TraceAsked trace w)) shelf out failed status h is zero_is = ab
 done_trace : (asked : Option Asked) (shelf : ShelfChange) (out : SinkChange) (status : ℕ) → OfTrace asked shelf (λ w bytes. IsTraced w bytes out false) → status ≡ 0 → DoneTold asked shelf out status
 done_trace None shelf out status h is = h
 done_trace (Some (SourceAsked source a)) shelf out status h is = absurd h
+done_trace (Some (ScriptAsked source script ticks)) shelf out status h is = absurd h
 done_trace (Some (TableAsked table t)) shelf out status h is = absurd h
 done_trace (Some (TraceAsked trace w)) shelf out status h is = (is, h)
 
 done_by : (asked : Option Asked) (shelf : ShelfChange) (out : SinkChange) (o : Outcome) (status : ℕ) → Performs asked shelf out o → status ≡ status_of o → status ≤ 3 → DoneTold asked shelf out status
-done_by asked shelf out (Ended stop) status p is small = done_source asked shelf out (Ended stop) status p is
-done_by asked shelf out Accepted status p is small = done_source asked shelf out Accepted status p is
+done_by asked shelf out (Ended stop) status p is small = done_run asked shelf out (Ended stop) status p is
+done_by asked shelf out Accepted status p is small = done_run asked shelf out Accepted status p is
 done_by asked shelf out (Tested true) status p is small = absurd (omega (arith, is, small))
 done_by asked shelf out (Tested false) status p is small = done_table asked shelf out false status p is is
 done_by asked shelf out (Traced true) status p is small = absurd (omega (arith, is, small))
 done_by asked shelf out (Traced false) status p is small = done_trace asked shelf out status p is
 done_by asked shelf out WordsRefused status p is small = absurd (omega (arith, is, small))
 done_by asked shelf out (SourceRefused refusal) status p is small = absurd (omega (arith, is, small))
+done_by asked shelf out (ScriptRefused fault) status p is small = absurd (omega (arith, is, small))
 done_by asked shelf out (TableRefused fault) status p is small = absurd (omega (arith, is, small))
 done_by asked shelf out (TraceRefused line) status p is small = absurd (omega (arith, is, small))
 done_by asked shelf out ReadFault status p is small = absurd (omega (arith, is, small))
@@ -295,6 +397,7 @@ quiet_by (Tested failed) notes status c small = c.1
 quiet_by (Traced broken) notes status c small = c.1
 quiet_by WordsRefused notes status c small = absurd (omega (arith, c.0, small))
 quiet_by (SourceRefused refusal) notes status c small = absurd (omega (arith, c.0, small))
+quiet_by (ScriptRefused fault) notes status c small = absurd (omega (arith, c.0, small))
 quiet_by (TableRefused fault) notes status c small = absurd (omega (arith, c.0, small))
 quiet_by (TraceRefused line) notes status c small = absurd (omega (arith, c.0, small))
 quiet_by ReadFault notes status c small = absurd (omega (arith, c.0, small))
@@ -321,6 +424,7 @@ outcome_status asked shelf out (Traced true) p = search rules
 outcome_status asked shelf out (Traced false) p = search rules
 outcome_status asked shelf out WordsRefused p = search rules
 outcome_status asked shelf out (SourceRefused refusal) p = search rules
+outcome_status asked shelf out (ScriptRefused fault) p = search rules
 outcome_status asked shelf out (TableRefused fault) p = search rules
 outcome_status asked shelf out (TraceRefused line) p = search rules
 outcome_status asked shelf out ReadFault p = search rules
@@ -349,18 +453,88 @@ refused_source asked shelf out notes o status p c e =
 
 pub not_accepted : (asked : Option Asked) (shelf : ShelfChange) (out notes : SinkChange) (o : Outcome) (status : ℕ) → Performs asked shelf out o → Concludes o notes status → NotAccepted asked shelf status
 not_accepted asked shelf out notes (Ended stop) status p c source bytes a is there none u =
-    let done = at_source asked shelf source a bytes (λ x b. IsDone x b out (Ended stop)) is there p in absurd (none done.image done.accepted)
+    let done = at_run asked shelf source a bytes (λ xs x b. IsDone xs x b out (Ended stop)) is there p in absurd (none done.image done.accepted)
 not_accepted asked shelf out notes Accepted status p c source bytes a is there none u =
-    let done = at_source asked shelf source a bytes (λ x b. IsDone x b out Accepted) is there p in absurd (none done.image done.accepted)
+    let done = at_run asked shelf source a bytes (λ xs x b. IsDone xs x b out Accepted) is there p in absurd (none done.image done.accepted)
 not_accepted asked shelf out notes (Tested failed) status p c source bytes a is there none u = absurd (no_table asked shelf source a (λ t b. IsTested t b out failed) is p)
 not_accepted asked shelf out notes (Traced broken) status p c source bytes a is there none u = absurd (source_no_trace asked shelf source a (λ x b. IsTraced x b out broken) is p)
 not_accepted asked shelf out notes WordsRefused status p c source bytes a is there none u = absurd (no_request asked (SourceAsked source a) p.0 is)
 not_accepted asked shelf out notes (SourceRefused refusal) status p c source bytes a is there none u = (concluded (SourceRefused refusal) notes status c u.1).0
+not_accepted asked shelf out notes (ScriptRefused fault) status p c source bytes a is there none u = absurd (source_no_script asked shelf source a fault is p.0)
 not_accepted asked shelf out notes (TableRefused fault) status p c source bytes a is there none u = absurd (no_table asked shelf source a (λ t b. IsNoTable fault b) is p.0)
 not_accepted asked shelf out notes (TraceRefused line) status p c source bytes a is there none u = absurd (source_no_trace asked shelf source a (λ x b. IsNoTrace line x b) is p.0)
 not_accepted asked shelf out notes ReadFault status p c source bytes a is there none u = absurd (disturbed ReadFault notes status 7 c refl u.0 u.1)
 not_accepted asked shelf out notes WriteFault status p c source bytes a is there none u = absurd (disturbed WriteFault notes status 8 c refl u.1 u.1)
 not_accepted asked shelf out notes NoMemory status p c source bytes a is there none u = absurd (disturbed NoMemory notes status 9 c refl u.2 u.1)
+
+-- where a file is told another one is, or is missing
+file_there : (file : Option (List ℕ)) (F : List ℕ → Type 0) → WhereTold (file_in file) F → (text : List ℕ) × F text
+file_there None F h = absurd h
+file_there (Some text) F h = (text, h)
+
+untold : (bytes : List ℕ) → Untold ≡ Holds bytes → ⊥
+untold bytes there = cc
+
+told_too : (files : Option (List ℕ → Option (List ℕ))) (source script bytes : List ℕ) (F : List ℕ → Type 0) → told files source ≡ Holds bytes → WhereTold (told files script) F → (text : List ℕ) × F text
+told_too None source script bytes F there h = absurd (untold bytes there)
+told_too (Some files) source script bytes F there h = file_there (files script) F h
+
+-- what was run under a script is accepted
+accepted_under : (shelf : ShelfChange) (source script : List ℕ) (ticks : ℕ) (bytes : List ℕ) (out : SinkChange) (o : Outcome) → told shelf.files source ≡ Holds bytes → OfItems shelf script (λ items. IsDone items (work.Run ticks) bytes out o) → IsAcceptable bytes
+accepted_under shelf source script ticks bytes out o there h =
+    let known = told_too shelf.files source script bytes (ItemsWith (λ items. IsDone items (work.Run ticks) bytes out o)) there h in
+    (known.1.2.image, known.1.2.accepted)
+
+never_under : (bytes : List ℕ) → IsAcceptable bytes → ((image : Image) → IsAccepted bytes image → ⊥) → ⊥
+never_under bytes fits none = none fits.0 fits.1
+
+pub not_accepted_under : (asked : Option Asked) (shelf : ShelfChange) (out notes : SinkChange) (o : Outcome) (status : ℕ) → Performs asked shelf out o → Concludes o notes status → NotAcceptedUnder asked shelf status
+not_accepted_under asked shelf out notes (Ended stop) status p c source bytes script ticks is there none u =
+    absurd (never_under bytes (accepted_under shelf source script ticks bytes out (Ended stop) there (at_run_under asked shelf source script ticks bytes (λ xs x b. IsDone xs x b out (Ended stop)) is there p)) none)
+not_accepted_under asked shelf out notes Accepted status p c source bytes script ticks is there none u =
+    absurd (never_under bytes (accepted_under shelf source script ticks bytes out Accepted there (at_run_under asked shelf source script ticks bytes (λ xs x b. IsDone xs x b out Accepted) is there p)) none)
+not_accepted_under asked shelf out notes (Tested failed) status p c source bytes script ticks is there none u = absurd (script_no_table asked shelf source script ticks (λ t b. IsTested t b out failed) is p)
+not_accepted_under asked shelf out notes (Traced broken) status p c source bytes script ticks is there none u = absurd (script_no_trace asked shelf source script ticks (λ x b. IsTraced x b out broken) is p)
+not_accepted_under asked shelf out notes WordsRefused status p c source bytes script ticks is there none u = absurd (no_request asked (ScriptAsked source script ticks) p.0 is)
+not_accepted_under asked shelf out notes (SourceRefused refusal) status p c source bytes script ticks is there none u = (concluded (SourceRefused refusal) notes status c u.1).0
+not_accepted_under asked shelf out notes (ScriptRefused fault) status p c source bytes script ticks is there none u = absurd (never_under bytes (at_acceptable asked shelf source script ticks bytes fault is there p.0) none)
+not_accepted_under asked shelf out notes (TableRefused fault) status p c source bytes script ticks is there none u = absurd (script_no_table asked shelf source script ticks (λ t b. IsNoTable fault b) is p.0)
+not_accepted_under asked shelf out notes (TraceRefused line) status p c source bytes script ticks is there none u = absurd (script_no_trace asked shelf source script ticks (λ x b. IsNoTrace line x b) is p.0)
+not_accepted_under asked shelf out notes ReadFault status p c source bytes script ticks is there none u = absurd (disturbed ReadFault notes status 7 c refl u.0 u.1)
+not_accepted_under asked shelf out notes WriteFault status p c source bytes script ticks is there none u = absurd (disturbed WriteFault notes status 8 c refl u.1 u.1)
+not_accepted_under asked shelf out notes NoMemory status p c source bytes script ticks is there none u = absurd (disturbed NoMemory notes status 9 c refl u.2 u.1)
+
+-- ---- 5
+
+-- a script that is refused has no items under which it was run
+ran_under : (shelf : ShelfChange) (script text : List ℕ) (ticks : ℕ) (bytes : List ℕ) (out : SinkChange) (o : Outcome) (fault : ScriptFault) → told shelf.files script ≡ Holds text → script_of text ≡ Err fault → OfItems shelf script (λ items. IsDone items (work.Run ticks) bytes out o) → ⊥
+ran_under shelf script text ticks bytes out o fault beside refused h =
+    let known = at_items shelf script text (λ items. IsDone items (work.Run ticks) bytes out o) beside h in
+    no_items text known.0 fault known.1 refused
+
+pub no_script : (asked : Option Asked) (shelf : ShelfChange) (out notes : SinkChange) (o : Outcome) (status : ℕ) → Performs asked shelf out o → Concludes o notes status → NoScript asked shelf status
+no_script asked shelf out notes (Ended stop) status p c source bytes script text ticks image fault is there beside fits refused u =
+    absurd (ran_under shelf script text ticks bytes out (Ended stop) fault beside refused (at_run_under asked shelf source script ticks bytes (λ xs x b. IsDone xs x b out (Ended stop)) is there p))
+no_script asked shelf out notes Accepted status p c source bytes script text ticks image fault is there beside fits refused u =
+    absurd (ran_under shelf script text ticks bytes out Accepted fault beside refused (at_run_under asked shelf source script ticks bytes (λ xs x b. IsDone xs x b out Accepted) is there p))
+no_script asked shelf out notes (Tested failed) status p c source bytes script text ticks image fault is there beside fits refused u = absurd (script_no_table asked shelf source script ticks (λ t b. IsTested t b out failed) is p)
+no_script asked shelf out notes (Traced broken) status p c source bytes script text ticks image fault is there beside fits refused u = absurd (script_no_trace asked shelf source script ticks (λ x b. IsTraced x b out broken) is p)
+no_script asked shelf out notes WordsRefused status p c source bytes script text ticks image fault is there beside fits refused u = absurd (no_request asked (ScriptAsked source script ticks) p.0 is)
+no_script asked shelf out notes (SourceRefused refusal) status p c source bytes script text ticks image fault is there beside fits refused u =
+    absurd ((at_source_under asked shelf source script ticks bytes (λ x b. IsRefused b refusal) is there p.0).never image fits)
+no_script asked shelf out notes (ScriptRefused other) status p c source bytes script text ticks image fault is there beside fits refused u = (concluded (ScriptRefused other) notes status c u.1).0
+no_script asked shelf out notes (TableRefused other) status p c source bytes script text ticks image fault is there beside fits refused u = absurd (script_no_table asked shelf source script ticks (λ t b. IsNoTable other b) is p.0)
+no_script asked shelf out notes (TraceRefused line) status p c source bytes script text ticks image fault is there beside fits refused u = absurd (script_no_trace asked shelf source script ticks (λ x b. IsNoTrace line x b) is p.0)
+no_script asked shelf out notes ReadFault status p c source bytes script text ticks image fault is there beside fits refused u = absurd (disturbed ReadFault notes status 7 c refl u.0 u.1)
+no_script asked shelf out notes WriteFault status p c source bytes script text ticks image fault is there beside fits refused u = absurd (disturbed WriteFault notes status 8 c refl u.1 u.1)
+no_script asked shelf out notes NoMemory status p c source bytes script text ticks image fault is there beside fits refused u = absurd (disturbed NoMemory notes status 9 c refl u.2 u.1)
+
+pub refused_script : (asked : Option Asked) (shelf : ShelfChange) (out notes : SinkChange) (o : Outcome) (status : ℕ) → Performs asked shelf out o → Concludes o notes status → status ≡ 5 → ScriptRefusalTold asked shelf notes
+refused_script asked shelf out notes o status p c e =
+    let told = concluded o notes status c (low status (omega (arith, e))) in
+    let is = is_refused_script o (sym told.0 ∙ e) in
+    let noted : Gained notes (script_note is.0) = subst (λ x. IsNoted (note_of x) notes) is.1 told.1 in
+    (is.0, (subst (Performs asked shelf out) is.1 p).0, noted)
 
 -- ---- 4 to 7: nothing is written to out
 
@@ -373,6 +547,7 @@ kept_by asked shelf out (Traced true) status p is from to = absurd (omega (arith
 kept_by asked shelf out (Traced false) status p is from to = absurd (omega (arith, is, from))
 kept_by asked shelf out WordsRefused status p is from to = p.1
 kept_by asked shelf out (SourceRefused refusal) status p is from to = p.1
+kept_by asked shelf out (ScriptRefused fault) status p is from to = p.1
 kept_by asked shelf out (TableRefused fault) status p is from to = p.1
 kept_by asked shelf out (TraceRefused line) status p is from to = p.1
 kept_by asked shelf out ReadFault status p is from to = p.1
@@ -389,12 +564,13 @@ words asked shelf out notes o status p c e =
     (subst (Performs asked shelf out) (is_words o (sym (concluded o notes status c (low status (omega (arith, e)))).0 ∙ e)) p).0
 
 refused_by : (asked : Option Asked) (shelf : ShelfChange) (out : SinkChange) (o : Outcome) → Performs asked shelf out o → asked ≡ None → (status_of o ≡ 8) ⊎ (status_of o ≡ 6)
-refused_by asked shelf out (Ended stop) p none = absurd (subst (λ x. OfSource x shelf (λ a bytes. IsDone a bytes out (Ended stop))) none p)
-refused_by asked shelf out Accepted p none = absurd (subst (λ x. OfSource x shelf (λ a bytes. IsDone a bytes out Accepted)) none p)
+refused_by asked shelf out (Ended stop) p none = absurd (subst (λ x. OfRun x shelf (λ xs a bytes. IsDone xs a bytes out (Ended stop))) none p)
+refused_by asked shelf out Accepted p none = absurd (subst (λ x. OfRun x shelf (λ xs a bytes. IsDone xs a bytes out Accepted)) none p)
 refused_by asked shelf out (Tested failed) p none = absurd (subst (λ x. OfTable x shelf (λ t bytes. IsTested t bytes out failed)) none p)
 refused_by asked shelf out (Traced broken) p none = absurd (subst (λ x. OfTrace x shelf (λ w bytes. IsTraced w bytes out broken)) none p)
 refused_by asked shelf out WordsRefused p none = inr refl
 refused_by asked shelf out (SourceRefused refusal) p none = absurd (subst (λ x. OfSource x shelf (λ a bytes. IsRefused bytes refusal)) none p.0)
+refused_by asked shelf out (ScriptRefused fault) p none = absurd (subst (λ x. OfNoScript x shelf fault) none p.0)
 refused_by asked shelf out (TableRefused fault) p none = absurd (subst (λ x. OfTable x shelf (λ t bytes. IsNoTable fault bytes)) none p.0)
 refused_by asked shelf out (TraceRefused line) p none = absurd (subst (λ x. OfTrace x shelf (λ w bytes. IsNoTrace line w bytes)) none p.0)
 refused_by asked shelf out ReadFault p none = absurd (subst (λ x. IsUnread x shelf) none p.0)
@@ -440,6 +616,7 @@ cause_of asked shelf out (Tested failed) note p is = cc
 cause_of asked shelf out (Traced broken) note p is = cc
 cause_of asked shelf out WordsRefused note p is = p.0
 cause_of asked shelf out (SourceRefused refusal) note p is = p.0
+cause_of asked shelf out (ScriptRefused fault) note p is = p.0
 cause_of asked shelf out (TableRefused fault) note p is = p.0
 cause_of asked shelf out (TraceRefused line) note p is = p.0
 cause_of asked shelf out ReadFault note p is = p.0
@@ -479,6 +656,7 @@ prefix_told asked shelf out notes (Traced false) status p (inl c) high = absurd 
 prefix_told asked shelf out notes (Traced broken) status p (inr c) high = absurd c.2
 prefix_told asked shelf out notes WordsRefused status p c high = inl p.1
 prefix_told asked shelf out notes (SourceRefused refusal) status p c high = inl p.1
+prefix_told asked shelf out notes (ScriptRefused fault) status p c high = inl p.1
 prefix_told asked shelf out notes (TableRefused fault) status p c high = inl p.1
 prefix_told asked shelf out notes (TraceRefused line) status p c high = inl p.1
 prefix_told asked shelf out notes ReadFault status p c high = inl p.1

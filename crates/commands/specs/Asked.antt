@@ -1,5 +1,5 @@
--- What words ask for: `run SOURCE`, `run SOURCE --ticks N`, `accept SOURCE`, `rta TABLE`, `demand TABLE`, `laws TRACE`
--- and `report TRACE`. A name is not empty and does not begin with a hyphen. N is from 1 to 1,000,000,000, in plain decimal
+-- What words ask for: `run SOURCE` and `run SOURCE SCRIPT`, each also with `--ticks N` at the end, `accept SOURCE`,
+-- `rta TABLE`, `demand TABLE`, `laws TRACE` and `report TRACE`. A name is not empty and does not begin with a hyphen. N is from 1 to 1,000,000,000, in plain decimal
 -- without leading zeros.
 use Rattle.std.specs.Prelude.{ℕ, ◌+◌, ◌-◌, ◌*◌, ◌==◌, nat_le, Bool, ◌&&◌, if◌then◌else◌, List, [], ◌∷◌, Option, Some, None, codes}
 use Rattle.std.specs.Option.{option_map}
@@ -11,7 +11,7 @@ use Rattle.commands.specs.declared.requests.TableTest.{TableTest}
 use Rattle.commands.specs.declared.requests.TableTest.TheVariants as test
 use Rattle.commands.specs.declared.requests.TraceWork.{TraceWork}
 use Rattle.commands.specs.declared.requests.TraceWork.TheVariants as question
-use Rattle.commands.specs.Requests.{Asked, SourceAsked, TableAsked, TraceAsked}
+use Rattle.commands.specs.Requests.{Asked, SourceAsked, ScriptAsked, TableAsked, TraceAsked}
 
 abbrev pub name_of : List ℕ → Option (List ℕ)
 name_of [] = None
@@ -34,13 +34,25 @@ abbrev pub run_up_to : List ℕ → Option ℕ → Option Asked
 run_up_to source None = None
 run_up_to source (Some ticks) = option_map (λ name. SourceAsked name (work.Run ticks)) (name_of source)
 
+-- a run under a script, where both names are names
+abbrev pub scripted : Option (List ℕ) → Option (List ℕ) → ℕ → Option Asked
+scripted None script ticks = None
+scripted (Some source) None ticks = None
+scripted (Some source) (Some script) ticks = Some (ScriptAsked source script ticks)
+
+abbrev pub run_under : List ℕ → List ℕ → Option ℕ → Option Asked
+run_under source script None = None
+run_under source script (Some ticks) = scripted (name_of source) (name_of script) ticks
+
 abbrev pub run_of : List (Vec ℕ) → Option Asked
 run_of [] = None
 run_of (source ∷ []) = run_up_to source.items (Some DEFAULT_TICKS)
-run_of (source ∷ option ∷ []) = None
+run_of (source ∷ script ∷ []) = run_under source.items script.items (Some DEFAULT_TICKS)
 run_of (source ∷ option ∷ ticks ∷ []) =
     if bytes_eq option.items (codes "--ticks") then run_up_to source.items (ticks_of ticks.items) else None
-run_of (source ∷ option ∷ ticks ∷ more ∷ rest) = None
+run_of (source ∷ script ∷ option ∷ ticks ∷ []) =
+    if bytes_eq option.items (codes "--ticks") then run_under source.items script.items (ticks_of ticks.items) else None
+run_of (source ∷ script ∷ option ∷ ticks ∷ more ∷ rest) = None
 
 abbrev pub accept_of : List (Vec ℕ) → Option Asked
 accept_of [] = None

@@ -4,9 +4,13 @@ use Rattle.trace_text.specs.declared.events.Ended.{Ended as Stop}
 use Rattle.trace_text.specs.declared.events.Ended.TheVariants as why
 use Rattle.ada_front.specs.declared.refusing.Refusal.{Refusal}
 use Rattle.ada_front.specs.Refusals.{letter_of, number_of}
+use Rattle.event_script.specs.declared.faults.ScriptFault.{ScriptFault}
+use Rattle.event_script.specs.Script.{kind_number}
 use Rattle.sched_tests.specs.Reports.{table_note}
 use Rattle.commands.specs.declared.outcomes.Outcome.{Outcome}
-use Rattle.commands.specs.declared.outcomes.Outcome.TheVariants.{Ended, Accepted, Tested, Traced, WordsRefused, SourceRefused, TableRefused, TraceRefused, ReadFault, WriteFault, NoMemory}
+use Rattle.commands.specs.declared.outcomes.NoItems.{NoItems}
+use Rattle.commands.specs.declared.outcomes.NoItems.TheVariants as missing
+use Rattle.commands.specs.declared.outcomes.Outcome.TheVariants.{Ended, Accepted, Tested, Traced, WordsRefused, SourceRefused, ScriptRefused, TableRefused, TraceRefused, ReadFault, WriteFault, NoMemory}
 use Rattle.commands.specs.Traces.{traced_status, trace_note}
 use Rattle.commands.specs.Outside.{SinkChange, SinkFailed, IsKept, Gained, GainedPrefix}
 
@@ -23,6 +27,7 @@ status_of (Tested failed) = if failed then 12 else 0
 status_of (Traced broken) = traced_status broken
 status_of WordsRefused = 6
 status_of (SourceRefused refusal) = 4
+status_of (ScriptRefused fault) = 5
 status_of (TableRefused fault) = 13
 status_of (TraceRefused line) = 11
 status_of ReadFault = 7
@@ -35,6 +40,11 @@ refusal_text refusal =
     ((codes "source refused " ++ decimal refusal.place.line) ++ (codes ":" ++ decimal refusal.place.column))
     ++ ((codes " " ++ letter_of refusal.code ∷ []) ++ (decimal (number_of refusal.code) ++ codes "\n"))
 
+-- `script refused LINE KIND` and a line feed
+abbrev pub script_note : ScriptFault → List ℕ
+script_note fault =
+    codes "script refused " ++ decimal fault.line ++ 32 ∷ (decimal (kind_number fault.kind) ++ 10 ∷ [])
+
 -- what is noted, where the command was not done
 abbrev pub note_of : Outcome → Option (List ℕ)
 note_of (Ended stop) = None
@@ -43,6 +53,7 @@ note_of (Tested failed) = None
 note_of (Traced broken) = None
 note_of WordsRefused = Some (codes "words refused\n")
 note_of (SourceRefused refusal) = Some (refusal_text refusal)
+note_of (ScriptRefused fault) = Some (script_note fault)
 note_of (TableRefused fault) = Some (table_note fault)
 note_of (TraceRefused line) = Some (trace_note line)
 note_of ReadFault = Some (codes "read fault\n")
@@ -66,3 +77,9 @@ ConcludesWith note wanted notes status =
 -- the same with the status and the note of an outcome
 abbrev pub Concludes : Outcome → SinkChange → ℕ → Type 0
 Concludes outcome notes status = ConcludesWith (note_of outcome) (status_of outcome) notes status
+
+-- the outcome of a run that has no items of its script
+abbrev pub without_items : NoItems → Outcome
+without_items (missing.Refused fault) = ScriptRefused fault
+without_items missing.Unread = ReadFault
+without_items missing.NoMemory = NoMemory

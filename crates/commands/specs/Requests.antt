@@ -10,27 +10,27 @@ use Rattle.commands.specs.declared.requests.TheConstants.{MOST_TICKS}
 
 pub data Asked : Type 0 where
   SourceAsked : List ℕ → Work → Asked
+  ScriptAsked : List ℕ → List ℕ → ℕ → Asked
   TableAsked : List ℕ → TableTest → Asked
   TraceAsked : List ℕ → TraceWork → Asked
 
 -- a request of the code
 abbrev pub seen : Request → Asked
 seen (request.Source source work) = SourceAsked source.now work
+seen (request.Script source script ticks) = ScriptAsked source.now script.now ticks
 seen (request.Table table test) = TableAsked table.now test
 seen (request.Trace trace work) = TraceAsked trace.now work
 
--- the name of the file that a request needs
-abbrev pub file_of : Asked → List ℕ
-file_of (SourceAsked source work) = source
-file_of (TableAsked table test) = table
-file_of (TraceAsked trace work) = trace
-
 -- a run has from 1 to MOST_TICKS ticks
+abbrev pub IsTicks : ℕ → Type 0
+IsTicks ticks = (0 < ticks) × (ticks ≤ MOST_TICKS)
+
 abbrev pub IsWork : Work → Type 0
-IsWork (work.Run ticks) = (0 < ticks) × (ticks ≤ MOST_TICKS)
+IsWork (work.Run ticks) = IsTicks ticks
 IsWork work.Accept = Unit {0}
 
 abbrev pub HasTicks : Asked → Type 0
 HasTicks (SourceAsked source work) = IsWork work
+HasTicks (ScriptAsked source script ticks) = IsTicks ticks
 HasTicks (TableAsked table test) = Unit {0}
 HasTicks (TraceAsked trace work) = Unit {0}

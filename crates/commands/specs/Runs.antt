@@ -1,7 +1,8 @@
 -- The text of a run and its stop.
-use Rattle.std.specs.Prelude.{ℕ, List, []}
+use Rattle.std.specs.Prelude.{ℕ, ℤ, List, []}
 use Rattle.trace_text.specs.declared.events.Ended.{Ended}
 use Rattle.trace_text.specs.Text.{text_of}
+use Rattle.profile_machine.specs.declared.run_data.Item.{Item}
 use Rattle.ada_names.specs.declared.image.Image.{Image}
 use Rattle.machine_kernel.specs.Future.{lines_of_run, stop_of_run}
 
@@ -11,3 +12,10 @@ text_of_run image ticks = text_of (lines_of_run image.program [] ticks)
 
 abbrev pub stop_of : Image → ℕ → Ended
 stop_of image ticks = stop_of_run image.program [] ticks
+
+-- the text of the run of an image under the items of a script up to so many ticks, and its stop
+abbrev pub text_under : List (ℤ × Item) → Image → ℕ → List ℕ
+text_under items image ticks = text_of (lines_of_run image.program items ticks)
+
+abbrev pub stop_under : List (ℤ × Item) → Image → ℕ → Ended
+stop_under items image ticks = stop_of_run image.program items ticks

@@ -1,9 +1,12 @@
 -- What each status of the program tells: the words of the clauses of `top`.
-use Rattle.std.specs.Prelude.{◌≡◌, ◌≢◌, ◌≤◌, ◌⊎◌, ℕ, Bool, false, true, List, Option, Some, None, Result, Ok, Err, codes}
+use Rattle.std.specs.Prelude.{◌≡◌, ◌≢◌, ◌≤◌, ◌⊎◌, ℕ, ℤ, Bool, false, true, List, [], Option, Some, None, Result, Ok, Err, codes}
 use Rattle.outside_bytes.specs.Files.{told, Holds, WhereTold}
+use Rattle.profile_machine.specs.declared.run_data.Item.{Item}
 use Rattle.ada_names.specs.declared.image.Image.{Image}
 use Rattle.ada_front.specs.declared.refusing.Refusal.{Refusal}
 use Rattle.ada_front.specs.Accepted.{Accepted as IsAccepted}
+use Rattle.event_script.specs.declared.faults.ScriptFault.{ScriptFault}
+use Rattle.event_script.specs.Script.{script_of}
 use Rattle.sched_tests.specs.declared.duties.Duty.{Duty}
 use Rattle.sched_tests.specs.declared.duties.TableFault.{TableFault}
 use Rattle.sched_tests.specs.Demand.{busy_of}
@@ -21,14 +24,14 @@ use Rattle.commands.specs.declared.requests.TableTest.TheVariants as test
 use Rattle.commands.specs.declared.requests.TraceWork.{TraceWork}
 use Rattle.commands.specs.declared.requests.TraceWork.TheVariants as question
 use Rattle.commands.specs.declared.outcomes.Outcome.{Outcome}
-use Rattle.commands.specs.declared.outcomes.Outcome.TheVariants.{Ended, Accepted, Tested, Traced, WordsRefused, SourceRefused, TableRefused, TraceRefused, ReadFault, WriteFault, NoMemory}
-use Rattle.commands.specs.Requests.{Asked, SourceAsked, TableAsked, TraceAsked}
+use Rattle.commands.specs.declared.outcomes.Outcome.TheVariants.{Ended, Accepted, Tested, Traced, WordsRefused, SourceRefused, ScriptRefused, TableRefused, TraceRefused, ReadFault, WriteFault, NoMemory}
+use Rattle.commands.specs.Requests.{Asked, SourceAsked, ScriptAsked, TableAsked, TraceAsked}
 use Rattle.commands.specs.Outside.{ShelfChange, SinkChange, SinkFailed, IsKept, Gained, GainedPrefix}
-use Rattle.commands.specs.Runs.{text_of_run, stop_of}
+use Rattle.commands.specs.Runs.{text_of_run, stop_of, text_under, stop_under}
 use Rattle.commands.specs.Tests.{test_text, test_status, NeverOver}
 use Rattle.commands.specs.Traces.{verdict_answer, trace_answer, traced_status, trace_note}
-use Rattle.commands.specs.Outcomes.{stop_status, status_of, note_of, refusal_text}
-use Rattle.commands.specs.Performed.{OfAsked, OfSource, OfTable, OfTrace, IsDone, IsRefused, IsNoTable, IsTraced, IsNoTrace, IsFileCutShort, IsUnread}
+use Rattle.commands.specs.Outcomes.{stop_status, status_of, note_of, refusal_text, script_note}
+use Rattle.commands.specs.Performed.{OfAsked, OfSource, OfNoScript, OfItems, OfTable, OfTrace, IsDone, IsRefused, IsNoTable, IsTraced, IsNoTrace, IsFileCutShort, IsUnread}
 
 -- neither a fault of the outside nor want of memory
 abbrev pub IsUndisturbed : ℕ → Type 0
@@ -43,6 +46,14 @@ Headline asked shelf out notes status =
     asked ≡ Some (SourceAsked source (work.Run ticks)) → told shelf.files source ≡ Holds bytes → IsAccepted bytes image →
     IsUndisturbed status →
     Gained out (text_of_run image ticks) × (status ≡ stop_status (stop_of image ticks)) × IsKept notes
+
+-- The same where they ask for a run under a script that is there and is one: the run is that under its items.
+abbrev pub HeadlineUnder : Option Asked → ShelfChange → SinkChange → SinkChange → ℕ → Type 0
+HeadlineUnder asked shelf out notes status =
+    (source bytes script text : List ℕ) (ticks : ℕ) (image : Image) (items : List (ℤ × Item)) →
+    asked ≡ Some (ScriptAsked source script ticks) → told shelf.files source ≡ Holds bytes → told shelf.files script ≡ Holds text →
+    IsAccepted bytes image → script_of text ≡ Ok items → IsUndisturbed status →
+    Gained out (text_under items image ticks) × (status ≡ stop_status (stop_under items image ticks)) × IsKept notes
 
 -- The same where they ask whether a source is accepted: `accepted` and a line feed are written, and the status is 0.
 abbrev pub AcceptanceTold : Option Asked → ShelfChange → SinkChange → SinkChange → ℕ → Type 0
@@ -117,21 +128,25 @@ IsPrinted test bytes out status =
     (duties : List Duty) × (table_of bytes ≡ Ok duties) × Gained out (test_text test duties) × (status ≡ test_status test duties)
 
 -- A status of 0 to 3 comes where the file is there and what was asked for was written whole: of a source whose bytes are
--- accepted with the status of the run's stop, and 0 where no run was asked for; of a table with that of the test; of a
+-- accepted with the status of the run's stop, and 0 where no run was asked for; of a run under a script that is there and
+-- is one the same; of a table with that of the test; of a
 -- trace with 0, where no law that was asked for is broken.
 abbrev pub DoneTold : Option Asked → ShelfChange → SinkChange → ℕ → Type 0
 DoneTold None shelf out status = ⊥
 DoneTold (Some (SourceAsked source work)) shelf out status =
-    WhereTold (told shelf.files source) (λ bytes. (outcome : Outcome) × IsDone work bytes out outcome × (status ≡ status_of outcome))
+    WhereTold (told shelf.files source) (λ bytes. (outcome : Outcome) × IsDone [] work bytes out outcome × (status ≡ status_of outcome))
+DoneTold (Some (ScriptAsked source script ticks)) shelf out status =
+    WhereTold (told shelf.files source) (λ bytes. OfItems shelf script (λ items.
+    (outcome : Outcome) × IsDone items (work.Run ticks) bytes out outcome × (status ≡ status_of outcome)))
 DoneTold (Some (TableAsked table test)) shelf out status =
     (status ≡ 0) × WhereTold (told shelf.files table) (λ bytes. IsPrinted test bytes out status)
 DoneTold (Some (TraceAsked trace work)) shelf out status =
     (status ≡ 0) × WhereTold (told shelf.files trace) (λ bytes. IsTraced work bytes out false)
 
--- 0 to 3 for a run, 4, 6 to 9, 11 and 13 where a command was not done, 10 where a law is
+-- 0 to 3 for a run, 4 to 9, 11 and 13 where a command was not done, 10 where a law is
 -- broken, 12 where a test fails
 abbrev pub IsStatus : ℕ → Type 0
-IsStatus status = (status ≤ 13) × (status ≢ 5)
+IsStatus status = status ≤ 13
 
 -- A source that is not accepted has status 4.
 abbrev pub NotAccepted : Option Asked → ShelfChange → ℕ → Type 0
@@ -139,11 +154,29 @@ NotAccepted asked shelf status =
     (source bytes : List ℕ) (work : Work) → asked ≡ Some (SourceAsked source work) → told shelf.files source ≡ Holds bytes →
     ((image : Image) → IsAccepted bytes image → ⊥) → IsUndisturbed status → status ≡ 4
 
+-- The same of a source that is to be run under a script, whatever that is.
+abbrev pub NotAcceptedUnder : Option Asked → ShelfChange → ℕ → Type 0
+NotAcceptedUnder asked shelf status =
+    (source bytes script : List ℕ) (ticks : ℕ) → asked ≡ Some (ScriptAsked source script ticks) → told shelf.files source ≡ Holds bytes →
+    ((image : Image) → IsAccepted bytes image → ⊥) → IsUndisturbed status → status ≡ 4
+
 -- Status 4 comes only where a source is asked for, it is there, and its bytes are not accepted, and the note tells the
 -- first reason.
 abbrev pub RefusalTold : Option Asked → ShelfChange → SinkChange → Type 0
 RefusalTold asked shelf notes =
     OfSource asked shelf (λ work bytes. (refusal : Refusal) × IsRefused bytes refusal × Gained notes (refusal_text refusal))
+
+-- A script that is refused has status 5 where its source is accepted.
+abbrev pub NoScript : Option Asked → ShelfChange → ℕ → Type 0
+NoScript asked shelf status =
+    (source bytes script text : List ℕ) (ticks : ℕ) (image : Image) (fault : ScriptFault) →
+    asked ≡ Some (ScriptAsked source script ticks) → told shelf.files source ≡ Holds bytes → told shelf.files script ≡ Holds text →
+    IsAccepted bytes image → script_of text ≡ Err fault → IsUndisturbed status → status ≡ 5
+
+-- Status 5 comes only where a run under a script is asked for, its source is there and is accepted, its script is there and
+-- is refused, and the note tells the first line.
+abbrev pub ScriptRefusalTold : Option Asked → ShelfChange → SinkChange → Type 0
+ScriptRefusalTold asked shelf notes = (fault : ScriptFault) × OfNoScript asked shelf fault × Gained notes (script_note fault)
 
 -- Status 12 comes only where a test is asked for, its table is there and the test fails, and its lines are written.
 abbrev pub FailureTold : Option Asked → ShelfChange → SinkChange → ℕ → Type 0
@@ -171,6 +204,7 @@ IsCause asked shelf out (Tested failed) = ⊥
 IsCause asked shelf out (Traced broken) = ⊥
 IsCause asked shelf out WordsRefused = asked ≡ None
 IsCause asked shelf out (SourceRefused refusal) = OfSource asked shelf (λ work bytes. IsRefused bytes refusal)
+IsCause asked shelf out (ScriptRefused fault) = OfNoScript asked shelf fault
 IsCause asked shelf out (TableRefused fault) = OfTable asked shelf (λ test bytes. IsNoTable fault bytes)
 IsCause asked shelf out (TraceRefused line) = OfTrace asked shelf (λ work bytes. IsNoTrace line work bytes)
 IsCause asked shelf out ReadFault = IsUnread asked shelf
@@ -184,6 +218,6 @@ NoteTried asked shelf out notes =
     (outcome : Outcome) × (note : List ℕ) × IsCause asked shelf out outcome × (note_of outcome ≡ Some note) × GainedPrefix notes note
 
 -- After a fault of writing and want of memory out gained nothing, or a prefix of the text that the words ask for, of the
--- file that is there and accepted, or is a table or a trace.
+-- file that is there and accepted, under a script that is there and is one, or that is a table or a trace.
 abbrev pub PrefixTold : Option Asked → ShelfChange → SinkChange → Type 0
 PrefixTold asked shelf out = IsKept out ⊎ OfAsked asked (λ a. IsFileCutShort a shelf out)

@@ -2,7 +2,7 @@
 ghost use Rattle.std.specs.Prelude.{◌≡◌, ◌≤◌, ◌<◌, IfSome};
 ghost use Rattle.std.specs.Option.{option_map, option_copied};
 ghost use Rattle.commands.specs.Requests.{seen, HasTicks};
-ghost use Rattle.commands.specs.Asked.{asked_of, run_of, run_up_to, accept_of, test_of, trace_of, name_of, ticks_of, ticks_from};
+ghost use Rattle.commands.specs.Asked.{asked_of, run_of, run_up_to, run_under, accept_of, test_of, trace_of, name_of, ticks_of, ticks_from};
 
 use crate::requests::{DEFAULT_TICKS, MOST_TICKS, Request, TableTest, TraceWork, Work};
 
@@ -34,15 +34,19 @@ pub fn asked(words: &[Vec<u8>]) -> Option<Request>
     }
 }
 
-/// `SOURCE`, or `SOURCE --ticks N`.
+/// `SOURCE` or `SOURCE SCRIPT`, also with `--ticks N` at the end.
 fn run_of(words: &[Vec<u8>]) -> Option<Request>
     ensures asked { option_map seen result ≡ run_of words.now }
     ensures ticks { IfSome result (λ request. HasTicks (seen request)) }
 {
     match words {
         [source] => run_up_to(source, Some(DEFAULT_TICKS)),
+        [source, script] => run_under(source, script, Some(DEFAULT_TICKS)),
         [source, option, ticks] if option.as_slice() == b"--ticks".as_slice() => {
             run_up_to(source, ticks_of(ticks))
+        }
+        [source, script, option, ticks] if option.as_slice() == b"--ticks".as_slice() => {
+            run_under(source, script, ticks_of(ticks))
         }
         _ => None,
     }
@@ -58,6 +62,22 @@ fn run_up_to(word: &[u8], ticks: Option<u64>) -> Option<Request>
     let source = file_name(word)?;
     let work = Work::Run { ticks };
     Some(Request::Source { source, work })
+}
+
+/// A run of the named source under the named script, where there is a number of ticks.
+fn run_under<'a>(source: &'a [u8], script: &'a [u8], ticks: Option<u64>) -> Option<Request<'a>>
+    requires { IfSome ticks (λ n. (0 < n) × (n ≤ MOST_TICKS)) }
+    ensures asked { option_map seen result ≡ run_under source.now script.now ticks }
+    ensures ticks { IfSome result (λ request. HasTicks (seen request)) }
+{
+    let ticks = ticks?;
+    let source = file_name(source)?;
+    let script = file_name(script)?;
+    Some(Request::Script {
+        source,
+        script,
+        ticks,
+    })
 }
 
 /// `SOURCE`.

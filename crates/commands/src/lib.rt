@@ -9,5 +9,5 @@ mod outcomes;
 mod requests;
 
 pub use asking::asked;
-pub use outcomes::Outcome;
+pub use outcomes::{NoItems, Outcome};
 pub use requests::{DEFAULT_TICKS, MOST_TICKS, Request, TableTest, TraceWork, Work};

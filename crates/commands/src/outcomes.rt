@@ -1,8 +1,9 @@
 //! How a command ends.
 ghost use Rattle.std.specs.Prelude.{◌≡◌, if◌then◌else◌};
-ghost use Rattle.commands.specs.Outcomes.{status_of, stop_status};
+ghost use Rattle.commands.specs.Outcomes.{status_of, stop_status, without_items};
 
 use ada_front::Refusal;
+use event_script::ScriptFault;
 use machine_kernel::Stop;
 use sched_tests::TableFault;
 
@@ -27,6 +28,8 @@ pub enum Outcome {
     WordsRefused,
     /// The source is not accepted.
     SourceRefused(Refusal),
+    /// The source is accepted, and the other file is not a script.
+    ScriptRefused(ScriptFault),
     /// The file is not a table.
     TableRefused(TableFault),
     /// The file is not a trace: this line is refused.
@@ -52,6 +55,7 @@ impl Outcome {
             Outcome::Traced { broken } => traced_status(*broken),
             Outcome::WordsRefused => 6,
             Outcome::SourceRefused(_) => 4,
+            Outcome::ScriptRefused(_) => 5,
             Outcome::TableRefused(_) => 13,
             Outcome::TraceRefused(_) => 11,
             Outcome::ReadFault => 7,
@@ -84,5 +88,29 @@ fn stop_status(stop: &Stop) -> u8
         Stop::Exception(_) => 1,
         Stop::Stuck => 2,
         Stop::Bound => 3,
+    }
+}
+
+/// Why there are no items of a script that is asked for.
+#[derive(Clone, Copy)]
+pub enum NoItems {
+    /// The file is not a script.
+    Refused(ScriptFault),
+    /// It could not be read.
+    Unread,
+    /// Memory ran out.
+    NoMemory,
+}
+
+impl NoItems {
+    /// How a run ends that has no items of its script.
+    pub fn outcome(self) -> Outcome
+        ensures { result ≡ without_items self }
+    {
+        match self {
+            NoItems::Refused(fault) => Outcome::ScriptRefused(fault),
+            NoItems::Unread => Outcome::ReadFault,
+            NoItems::NoMemory => Outcome::NoMemory,
+        }
     }
 }

@@ -37,9 +37,25 @@ pub enum TraceWork {
 #[derive(Clone, Copy, Debug)]
 pub enum Request<'a> {
     /// `run SOURCE`, also with `--ticks N` at the end, and `accept SOURCE`.
-    Source { source: &'a [u8], work: Work },
+    Source {
+        source: &'a [u8],
+        work: Work,
+    },
+    /// `run SOURCE SCRIPT`, also with `--ticks N` at the end: the trace of its run under the script up to this many
+    /// ticks, from 1 to `MOST_TICKS`.
+    Script {
+        source: &'a [u8],
+        script: &'a [u8],
+        ticks: u64,
+    },
     /// `rta TABLE` and `demand TABLE`.
-    Table { table: &'a [u8], test: TableTest },
+    Table {
+        table: &'a [u8],
+        test: TableTest,
+    },
     /// `laws TRACE` and `report TRACE`.
-    Trace { trace: &'a [u8], work: TraceWork },
+    Trace {
+        trace: &'a [u8],
+        work: TraceWork,
+    },
 }

@@ -1,7 +1,7 @@
 use Rattle.std.proofs.Common.{inl, inr, arith}
 use Rattle.commands.specs.Asked.{asked_of}
 use Rattle.commands.specs.Outside.{shelf_of, sink_of}
-use Rattle.commands.proofs.StatusesTold.{headline, acceptance, table_told, beyond, trace_told, laws_told, report_told, known_status, done_told, quiet, refused_source, not_accepted, kept, words, refused_words, note_words, read_fault, note_read, write_fault, prefix_told, note_tried, note_memory, breach, quiet_breach, refused_trace, kept_refused_trace, failure, quiet_failure, refused_table, kept_refused_table}
+use Rattle.commands.proofs.StatusesTold.{headline, headline_under, acceptance, table_told, beyond, trace_told, laws_told, report_told, known_status, done_told, quiet, refused_source, not_accepted, not_accepted_under, refused_script, no_script, kept, words, refused_words, note_words, read_fault, note_read, write_fault, prefix_told, note_tried, note_memory, breach, quiet_breach, refused_trace, kept_refused_trace, failure, quiet_failure, refused_table, kept_refused_table}
 use Rattle.annexd.proofs.whole.top.Goals as goal
 
 pub returns : goal.returns
@@ -16,6 +16,7 @@ returns g c =
     let n = c.conclude.ensures.concluded in
     record {
       headline = headline asked shelf out notes o status p n;
+      headline_under = headline_under asked shelf out notes o status p n;
       accepted = acceptance asked shelf out notes o status p n;
       tested = table_told asked shelf out notes o status p n;
       beyond = beyond asked shelf out notes o status p n;
@@ -27,7 +28,11 @@ returns g c =
       quiet = quiet o notes status n;
       refused_source = refused_source asked shelf out notes o status p n;
       not_accepted = not_accepted asked shelf out notes o status p n;
+      not_accepted_under = not_accepted_under asked shelf out notes o status p n;
       kept_4 = λ e. kept asked shelf out notes o status p n (omega (arith, e)) (omega (arith, e));
+      refused_script = refused_script asked shelf out notes o status p n;
+      no_script = no_script asked shelf out notes o status p n;
+      kept_5 = λ e. kept asked shelf out notes o status p n (omega (arith, e)) (omega (arith, e));
       words = words asked shelf out notes o status p n;
       refused_words = refused_words asked shelf out notes o status p n;
       kept_6 = λ e. kept asked shelf out notes o status p n (omega (arith, e)) (omega (arith, e));

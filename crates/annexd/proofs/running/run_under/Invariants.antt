@@ -2,14 +2,14 @@ use Rattle.std.proofs.Common.{◌≡◌, ◌≤◌, ◌++◌, List, ℕ}
 use Rattle.ann_base.specs.Outside.{extended}
 use Rattle.trace_text.specs.Text.{text_of}
 use Rattle.machine_kernel.specs.Kernel.{future, stop_to_come, left_to_do}
-use Rattle.commands.specs.Runs.{text_of_run, stop_of}
-use Rattle.annexd.proofs.running.run.Given as goal
+use Rattle.commands.specs.Runs.{text_under, stop_under}
+use Rattle.annexd.proofs.running.run_under.Given as goal
 
 -- a prefix of the text of the run is written, and what is to come is the rest of it
 abbrev pub invariant-loop-buffer : goal.invariant-loop-buffer
 invariant-loop-buffer g l = record {
-  text : (prefix : List ℕ) × (text_of_run l.fn.checked l.fn.ticks ≡ prefix ++ text_of (future l.kernel)) × (g.K.Sink.held l.out ≡ extended (g.K.Sink.held l.fn.out) prefix);
-  stop : stop_to_come l.kernel ≡ stop_of l.fn.checked l.fn.ticks;
+  text : (prefix : List ℕ) × (text_under l.fn.items l.fn.checked l.fn.ticks ≡ prefix ++ text_of (future l.kernel)) × (g.K.Sink.held l.out ≡ extended (g.K.Sink.held l.fn.out) prefix);
+  stop : stop_to_come l.kernel ≡ stop_under l.fn.items l.fn.checked l.fn.ticks;
   monotone : g.K.Sink.faults l.fn.out ≤ g.K.Sink.faults l.out;
 }
 

@@ -1,0 +1,87 @@
+//! Task units (ISO/IEC 8652:2012, 9.1, D.1, D.2.6).
+ghost use Rattle.std.specs.Prelude.{◌≡◌, option_copied, IfOk};
+ghost use Rattle.ada_image.specs.Made.{Made};
+ghost use Rattle.ada_image.specs.UnitsOfImage.{deadline_made, task_unit_with, task_units_made};
+ghost use Rattle.image_units.specs.Parts.{task_unit_made};
+
+use crate::aspects::{aspect_value, priority_given};
+use crate::unit_entries::entries_of;
+use ada_image::{Lists, Within};
+use ada_regions::{Names, NumberedTask};
+use ada_tree::Expression;
+use ann_base::NoMemory;
+use image_expressions::expression_made;
+use image_layout::added;
+use image_scopes::scope_no;
+use profile_machine::{EntryUnit, ExprNo, Sequence, TaskUnit, TaskUnitNo};
+use std::alloc::Global;
+
+/// The relative deadline of a task unit, where it has one (D.2.6).
+#[tactic(auto, unfolding(ada_image::specs::UnitsOfImage::deadline_made))]
+fn deadline_made(
+    lists: &mut Lists,
+    within: &Within<'_, '_>,
+    deadline: Option<&Expression>,
+) -> Result<Option<ExprNo>, NoMemory>
+    ensures { Made (deadline_made within.now (option_copied deadline.entry)) lists.old lists.new result }
+{
+    match deadline {
+        None => Ok(None),
+        Some(deadline) => Ok(Some(expression_made(lists, deadline, within)?)),
+    }
+}
+
+/// A task unit, given the number of its deadline.
+#[tactic(auto, unfolding(ada_image::specs::UnitsOfImage::task_unit_with))]
+fn task_unit_with(
+    alloc: Global,
+    names: &Names<'_>,
+    number: u32,
+    task: &NumberedTask<'_>,
+    deadline: Option<ExprNo>,
+) -> Result<TaskUnit, NoMemory>
+    ensures { IfOk result (λ unit. unit ≡ task_unit_with names.now number task.now deadline) }
+{
+    Ok(TaskUnit {
+        scope: scope_no(task.scope),
+        priority: priority_given(names, task.aspects.as_slice())?,
+        relative_deadline: deadline,
+        entries: entries_of(alloc, names, EntryUnit::Task(TaskUnitNo(number)))?,
+    })
+}
+
+/// A task unit is made: its deadline, and what it is.
+#[tactic(auto, unfolding(crate::specs::Parts::task_unit_made))]
+fn task_unit_made(
+    alloc: Global,
+    lists: &mut Lists,
+    within: &Within<'_, '_>,
+    number: u32,
+    task: &NumberedTask<'_>,
+) -> Result<TaskUnit, NoMemory>
+    ensures { Made (task_unit_made within.now number task.now) lists.old lists.new result }
+{
+    let deadline = aspect_value(b"relative_deadline", task.aspects.as_slice());
+    let number_of_deadline = deadline_made(lists, within, deadline)?;
+    task_unit_with(alloc, within.names.get(), number, task, number_of_deadline)
+}
+
+/// The task units, in the order of the text.
+#[tactic(auto, unfolding(ada_image::specs::UnitsOfImage::task_units_made))]
+pub fn task_units_made(
+    alloc: Global,
+    lists: &mut Lists,
+    within: &Within<'_, '_>,
+) -> Result<Sequence<TaskUnit>, NoMemory>
+    ensures { Made (task_units_made within.now 0 within.now.names.task_units) lists.old lists.new result }
+{
+    let names = within.names.get();
+    let mut units = Sequence::new(alloc);
+    let mut number = 0u32;
+    for task in names.task_units.iter() {
+        let unit = task_unit_made(alloc, lists, within, number, task)?;
+        units.push(unit)?;
+        number = added(number, 1)?;
+    }
+    Ok(units)
+}

@@ -1,0 +1,161 @@
+//! Call statements (ISO/IEC 8652:2012, 6.4, 9.5.3): of a subprogram, an entry or a predefined procedure.
+ghost use Rattle.std.specs.Prelude.{◌≡◌, IfOk};
+ghost use Rattle.ada_image.specs.Made.{Made};
+ghost use Rattle.ada_image.specs.CallStatements.{entity_call_put, item_call_put, denoted_call_put, signs_in_actuals, call_statement_put};
+
+use crate::procedures::procedure_put;
+use ada_entities::{denoted_by, kind_at};
+use ada_image::{Lists, Within};
+use ada_regions::{Denoted, EntityKind, Predefined};
+use ada_tree::{Argument, Expression, Name};
+use ann_base::NoMemory;
+use image_actuals::{call_put, entry_call_put, not_built};
+use image_expressions::signs_in;
+use image_layout::added;
+use profile_machine::{Destination, StatementNo};
+use std::alloc::Global;
+
+/// A call of what an entity is.
+#[tactic(auto, unfolding(ada_image::specs::CallStatements::entity_call_put))]
+fn entity_call_put(
+    alloc: Global,
+    lists: &mut Lists,
+    within: &Within<'_, '_>,
+    name: &Name,
+    arguments: &[Argument<Expression>],
+    kind: &EntityKind,
+    signs: u32,
+    next: Option<StatementNo>,
+) -> Result<Option<StatementNo>, NoMemory>
+    ensures { Made (entity_call_put within.now name.now arguments.now kind.now signs next) lists.old lists.new result }
+{
+    match kind {
+        EntityKind::Package => not_built(lists, next),
+        EntityKind::Main => not_built(lists, next),
+        EntityKind::Mark(_) => not_built(lists, next),
+        EntityKind::Literal { .. } => not_built(lists, next),
+        EntityKind::Object { .. } => not_built(lists, next),
+        EntityKind::Parameter { .. } => not_built(lists, next),
+        EntityKind::LoopParameter(_) => not_built(lists, next),
+        EntityKind::Component { .. } => not_built(lists, next),
+        EntityKind::Exception(_) => not_built(lists, next),
+        EntityKind::Subprogram {
+            number,
+            formals,
+            unit,
+            ..
+        } => call_put(
+            alloc,
+            lists,
+            within,
+            name,
+            arguments,
+            *number,
+            *unit,
+            formals.as_slice(),
+            Destination::Nowhere,
+            signs,
+            next,
+        ),
+        EntityKind::Entry {
+            number,
+            unit,
+            formals,
+        } => entry_call_put(
+            alloc,
+            lists,
+            within,
+            name,
+            arguments,
+            *number,
+            *unit,
+            formals.as_slice(),
+            signs,
+            next,
+        ),
+        EntityKind::Label => not_built(lists, next),
+    }
+}
+
+#[tactic(auto, unfolding(ada_image::specs::CallStatements::item_call_put))]
+fn item_call_put(
+    alloc: Global,
+    lists: &mut Lists,
+    within: &Within<'_, '_>,
+    item: Predefined,
+    arguments: &[Argument<Expression>],
+    signs: u32,
+    next: Option<StatementNo>,
+) -> Result<Option<StatementNo>, NoMemory>
+    ensures { Made (item_call_put within.now item arguments.now signs next) lists.old lists.new result }
+{
+    match item {
+        Predefined::Mark(_) => not_built(lists, next),
+        Predefined::Constant { .. } => not_built(lists, next),
+        Predefined::Truth(_) => not_built(lists, next),
+        Predefined::Exception(_) => not_built(lists, next),
+        Predefined::Operation(operation) => {
+            procedure_put(alloc, lists, within, operation, arguments, signs, next)
+        }
+    }
+}
+
+#[tactic(auto, unfolding(ada_image::specs::CallStatements::denoted_call_put))]
+fn denoted_call_put(
+    alloc: Global,
+    lists: &mut Lists,
+    within: &Within<'_, '_>,
+    name: &Name,
+    arguments: &[Argument<Expression>],
+    denoted: Option<Denoted>,
+    signs: u32,
+    next: Option<StatementNo>,
+) -> Result<Option<StatementNo>, NoMemory>
+    ensures { Made (denoted_call_put within.now name.now arguments.now denoted signs next) lists.old lists.new result }
+{
+    match denoted {
+        None => not_built(lists, next),
+        Some(Denoted::Entity(entity)) => match kind_at(within.names.get(), entity) {
+            None => not_built(lists, next),
+            Some(kind) => {
+                entity_call_put(alloc, lists, within, name, arguments, kind, signs, next)
+            }
+        },
+        Some(Denoted::Unit(_)) => not_built(lists, next),
+        Some(Denoted::Item { item, .. }) => {
+            item_call_put(alloc, lists, within, item, arguments, signs, next)
+        }
+    }
+}
+
+/// The operator signs in the actuals of a call.
+#[tactic(auto, unfolding(ada_image::specs::CallStatements::signs_in_actuals))]
+pub fn signs_in_actuals(
+    within: &Within<'_, '_>,
+    arguments: &[Argument<Expression>],
+) -> Result<u32, NoMemory>
+    ensures { IfOk result (λ signs. signs ≡ signs_in_actuals within.now arguments.now) }
+{
+    let mut signs = 0u32;
+    for argument in arguments {
+        signs = added(signs, signs_in(within, &argument.value)?)?;
+    }
+    Ok(signs)
+}
+
+/// A call statement (6.4, 9.5.3).
+#[tactic(auto, unfolding(ada_image::specs::CallStatements::call_statement_put))]
+pub fn call_statement_put(
+    alloc: Global,
+    lists: &mut Lists,
+    within: &Within<'_, '_>,
+    name: &Name,
+    arguments: &[Argument<Expression>],
+    next: Option<StatementNo>,
+) -> Result<Option<StatementNo>, NoMemory>
+    ensures { Made (call_statement_put within.now name.now arguments.now next) lists.old lists.new result }
+{
+    let signs = signs_in_actuals(within, arguments)?;
+    let denoted = denoted_by(within.names.get(), name);
+    denoted_call_put(alloc, lists, within, name, arguments, denoted, signs, next)
+}

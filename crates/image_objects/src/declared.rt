@@ -1,0 +1,108 @@
+//! What a defining name declares (ISO/IEC 8652:2012, 3.1).
+ghost use Rattle.std.specs.Prelude.{◌≡◌, option_copied};
+ghost use Rattle.ada_image.specs.Layout.{subtype_is};
+ghost use Rattle.ada_image.specs.ImageOfDeclarations.{kind_declared, number_declared, subtype_declared_as, is_task, is_controlled, subprogram_of_kind, subprogram_declared_as};
+
+use ada_entities::{entity_denoted, kind_at};
+use ada_image::Within;
+use ada_regions::{AdaType, EntityKind, Subtype};
+use ada_subtypes::subtype_of_kind;
+use ada_tree::Identifier;
+use image_expressions::object_number;
+use profile_machine::{DeclNo, SubprogramNo};
+
+#[tactic(auto, unfolding(ada_image::specs::ImageOfDeclarations::kind_declared))]
+fn kind_declared<'n>(within: &Within<'n, '_>, identifier: &Identifier) -> Option<&'n EntityKind>
+    ensures { option_copied result ≡ kind_declared within.now identifier.now }
+{
+    match entity_denoted(within.names.get(), identifier.place) {
+        None => None,
+        Some(entity) => kind_at(within.names.get(), entity),
+    }
+}
+
+/// The number of the object that a name declares.
+#[tactic(auto, unfolding(ada_image::specs::ImageOfDeclarations::number_declared))]
+pub(crate) fn number_declared(within: &Within<'_, '_>, identifier: &Identifier) -> DeclNo
+    ensures { result ≡ number_declared within.now identifier.now }
+{
+    match kind_declared(within, identifier) {
+        None => DeclNo(0),
+        Some(kind) => object_number(kind).unwrap_or(DeclNo(0)),
+    }
+}
+
+/// The subtype of what a name declares, if it has one.
+#[tactic(auto, unfolding(ada_image::specs::ImageOfDeclarations::subtype_declared_as))]
+pub(crate) fn subtype_declared_as(
+    within: &Within<'_, '_>,
+    identifier: &Identifier,
+) -> Option<Subtype>
+    ensures { result ≡ subtype_declared_as within.now identifier.now }
+{
+    match kind_declared(within, identifier) {
+        None => None,
+        Some(kind) => subtype_of_kind(kind),
+    }
+}
+
+fn is_task(of_type: AdaType) -> bool
+    ensures { result ≡ is_task of_type }
+{
+    match of_type {
+        AdaType::Task(_) => true,
+        _ => false,
+    }
+}
+
+fn is_controlled(of_type: AdaType) -> bool
+    ensures { result ≡ is_controlled of_type }
+{
+    match of_type {
+        AdaType::Derived(_) => true,
+        _ => false,
+    }
+}
+
+/// Whether objects of a subtype are tasks (9.1).
+pub(crate) fn has_task_type(subtype: Option<Subtype>) -> bool
+    ensures { result ≡ subtype_is is_task subtype }
+{
+    match subtype {
+        None => false,
+        Some(subtype) => is_task(subtype.of_type),
+    }
+}
+
+/// Whether objects of a subtype are controlled (7.6).
+pub(crate) fn has_controlled_type(subtype: Option<Subtype>) -> bool
+    ensures { result ≡ subtype_is is_controlled subtype }
+{
+    match subtype {
+        None => false,
+        Some(subtype) => is_controlled(subtype.of_type),
+    }
+}
+
+fn subprogram_of_kind(kind: &EntityKind) -> Option<SubprogramNo>
+    ensures { result ≡ subprogram_of_kind kind.now }
+{
+    match kind {
+        EntityKind::Subprogram { number, .. } => Some(*number),
+        _ => None,
+    }
+}
+
+/// The subprogram that a name declares.
+#[tactic(auto, unfolding(ada_image::specs::ImageOfDeclarations::subprogram_declared_as))]
+pub fn subprogram_declared_as(
+    within: &Within<'_, '_>,
+    identifier: &Identifier,
+) -> Option<SubprogramNo>
+    ensures { result ≡ subprogram_declared_as within.now identifier.now }
+{
+    match kind_declared(within, identifier) {
+        None => None,
+        Some(kind) => subprogram_of_kind(kind),
+    }
+}

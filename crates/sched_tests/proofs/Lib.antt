@@ -1,11 +1,10 @@
 pub mod Beyond
-pub mod Cuts
 pub mod Deadlines
 pub mod Dues
 pub mod Floors
 pub mod Leasts
 pub mod LongTables
 pub mod Needs
-pub mod Numerals
 pub mod Quotients
 pub mod Refusals
+pub mod SevenWords

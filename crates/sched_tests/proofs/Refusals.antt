@@ -7,7 +7,7 @@ use Rattle.ann_base.specs.declared.faults.OrMemory.{OrMemory}
 use Rattle.ann_base.specs.declared.faults.OrMemory.TheVariants as answer
 use Rattle.sched_tests.specs.declared.duties.Duty.{Duty}
 use Rattle.sched_tests.specs.declared.duties.TableFault.{TableFault}
-use Rattle.sched_tests.specs.Lines.{Line, lines_of}
+use Rattle.text_lines.specs.Lines.{Line, lines_of}
 use Rattle.sched_tests.specs.Reading.{read_line, not_empty, table_of}
 
 pub refused : (bytes : List ℕ) (duties after : List Duty) (line : Line) (lines : List Line) (fault : OrMemory TableFault) → fold read_line (Ok duties) (line ∷ lines) ≡ fold read_line (Ok []) (lines_of bytes) → AnswersAs (λ (unit : Unit {0}). after) (Err fault) (read_line (Ok duties) line) → Answers {X = List Duty} (Err fault) (table_of bytes)

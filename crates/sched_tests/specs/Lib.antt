@@ -1,6 +1,5 @@
 pub mod Least
 pub mod Tables
-pub mod Lines
 pub mod Reading
 pub mod Response
 pub mod Demand

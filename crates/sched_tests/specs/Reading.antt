@@ -1,5 +1,5 @@
 -- What a table says: its duties, or its first line that is refused.
-use Rattle.std.specs.Prelude.{◌≡◌, ℕ, ◌*◌, ◌+◌, ◌-◌, ◌==◌, ◌&&◌, ◌||◌, not, Bool, true, false, nat_le, nat_lt, if◌then◌else◌, List, [], ◌∷◌, ◌++◌, length, take, slice_index, Option, Some, None, Result, Ok, Err}
+use Rattle.std.specs.Prelude.{◌≡◌, ℕ, ◌+◌, ◌==◌, ◌&&◌, ◌||◌, not, Bool, true, false, nat_le, nat_lt, if◌then◌else◌, List, [], ◌∷◌, ◌++◌, length, take, Option, Some, None, Result, Ok, Err}
 use Rattle.std.specs.List.{list_all, list_any, fold}
 use Rattle.std.specs.Str.{bytes_eq}
 use Rattle.sched_tests.specs.declared.duties.TheConstants.{TABLE_BYTES, MOST_DUTIES, NAME_LENGTH, LONGEST, MOST_PRIORITY}
@@ -7,16 +7,13 @@ use Rattle.sched_tests.specs.declared.duties.Duty.{Duty}
 use Rattle.sched_tests.specs.declared.duties.TableFault.{TableFault}
 use Rattle.sched_tests.specs.declared.duties.TableFaultKind.{TableFaultKind}
 use Rattle.sched_tests.specs.declared.duties.TableFaultKind.TheVariants.{BadLine, BadNumber, Twice, TooMany, Empty}
-use Rattle.sched_tests.specs.declared.lines.TextLine.{TextLine}
 use Rattle.sched_tests.specs.declared.reading.Words.{Words}
-use Rattle.sched_tests.specs.Lines.{Line, lines_of, words_of}
+use Rattle.text_lines.specs.Lines.{Line, lines_of, words_of}
+use Rattle.text_lines.specs.Numerals.{is_digit, number_in}
 
 -- a byte is between two others
 abbrev pub is_within : ℕ → ℕ → ℕ → Bool
 is_within low high byte = nat_le low byte && nat_le byte high
-
-abbrev pub is_digit : ℕ → Bool
-is_digit byte = is_within 48 57 byte
 
 -- a letter, a digit or an underscore
 abbrev pub is_name_byte : ℕ → Bool
@@ -25,21 +22,6 @@ is_name_byte byte = is_digit byte || is_within 65 90 byte || is_within 97 122 by
 -- a name has 1 to 80 of them
 abbrev pub is_name : List ℕ → Bool
 is_name word = nat_lt 0 (length word) && nat_le (length word) NAME_LENGTH && list_all is_name_byte word
-
--- a numeral is digits without a leading zero, or the digit 0
-abbrev pub is_numeral : List ℕ → Bool
-is_numeral word = nat_lt 0 (length word) && list_all is_digit word && (not (slice_index word 0 == 48) || (length word == 1))
-
--- the number of a numeral
-abbrev pub numeral_value : List ℕ → ℕ
-numeral_value word = fold (λ value digit. value * 10 + (digit - 48)) 0 word
-
--- the number of a word, where it is one in a range
-abbrev pub number_in : ℕ → ℕ → List ℕ → Option ℕ
-number_in low high word =
-    if is_numeral word && nat_le low (numeral_value word) && nat_le (numeral_value word) high
-    then Some (numeral_value word)
-    else None
 
 -- The six words of a duty: name, cost, period, deadline, blocking, priority.
 pub record Fields : Type 0 where
@@ -50,7 +32,7 @@ pub record Fields : Type 0 where
   pub blocking : List ℕ
   pub priority : List ℕ
 
--- the words, and a line, as the program has them
+-- the words as the program has them
 abbrev pub words_in : Words → Fields
 words_in words = record {
   name = words.name.now;
@@ -60,9 +42,6 @@ words_in words = record {
   blocking = words.blocking.now;
   priority = words.priority.now;
 }
-
-abbrev pub line_in : TextLine → Line
-line_in line = record { number = line.number; stop = line.stop; text = line.text.now }
 
 -- no word is empty, and the first is a name
 abbrev pub are_fields : Fields → Bool

@@ -6,7 +6,6 @@
 mod demands;
 mod duties;
 mod laws;
-mod lines;
 mod reading;
 mod responses;
 #[cfg(test)]

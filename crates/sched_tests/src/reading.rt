@@ -1,18 +1,18 @@
 //! Reading a table.
-ghost use Rattle.std.specs.Prelude.{◌≡◌, ◌<◌, ◌≤◌, ◌+◌, ◌*◌, ◌^◌, [], ◌∷◌, length, IsTrue, MatchOption, OnOk, IfOk, IfSome};
+ghost use Rattle.std.specs.Prelude.{◌≡◌, ◌≤◌, [], ◌∷◌, length, MatchOption, OnOk, IfOk, IfSome};
 ghost use Rattle.std.specs.List.{list_all};
 ghost use Rattle.ann_base.specs.Answers.{Answers, AnswersAs};
-ghost use Rattle.sched_tests.specs.Lines.{words_of};
-ghost use Rattle.sched_tests.specs.Reading.{is_name_byte, is_name, is_digit, is_numeral, numeral_value, number_in, words_in, are_fields, six_words, line_in, duty_in, duty_of, is_taken, is_silent, with_duty, at_line, read_line, table_of};
+ghost use Rattle.text_lines.specs.Lines.{line_in, words_of};
+ghost use Rattle.sched_tests.specs.Reading.{is_name_byte, is_name, words_in, are_fields, six_words, duty_in, duty_of, is_taken, is_silent, with_duty, at_line, read_line, table_of};
 ghost use Rattle.sched_tests.specs.Tables.{IsDuty, IsTable};
 
 use crate::duties::{
     Duty, LONGEST, MOST_DUTIES, MOST_PRIORITY, NAME_LENGTH, TABLE_BYTES, Table, TableFault,
     TableFaultKind,
 };
-use crate::lines::{TextLine, line_at, next_word};
 use ann_base::{Name, OrMemory};
 use std::alloc::Global;
+use text_lines::{TextLine, line_at, next_word, number_in};
 
 /// The six words of a duty.
 #[derive(Clone, Copy)]
@@ -23,12 +23,6 @@ pub struct Words<'a> {
     deadline: &'a [u8],
     blocking: &'a [u8],
     priority: &'a [u8],
-}
-
-fn is_digit(byte: u8) -> bool
-    ensures { result ≡ is_digit byte }
-{
-    byte.is_ascii_digit()
 }
 
 fn is_name_byte(byte: u8) -> bool
@@ -47,51 +41,6 @@ fn is_name(word: &[u8]) -> bool
     ensures { result ≡ is_name word.now }
 {
     !word.is_empty() && word.len() <= NAME_LENGTH && are_name_bytes(word)
-}
-
-fn are_digits(word: &[u8]) -> bool
-    ensures { result ≡ list_all is_digit word.now }
-{
-    word.iter().all(|byte| is_digit(*byte))
-}
-
-/// Digits without a leading zero.
-fn is_numeral(word: &[u8]) -> bool
-    ensures { result ≡ is_numeral word.now }
-{
-    !word.is_empty() && are_digits(word) && (word[0] != b'0' || word.len() == 1)
-}
-
-/// The number of digits; none where it is above the longest time.
-fn numeral_value(word: &[u8]) -> Option<u32>
-    requires { IsTrue (list_all is_digit word.now) }
-    ensures { MatchOption result (LONGEST < numeral_value word.now) (λ value. (value ≡ numeral_value word.now) × (value ≤ LONGEST)) }
-{
-    let mut value = 0;
-    for digit in word {
-        value = value * 10 + (*digit - b'0') as u32;
-        if value > LONGEST {
-            return None;
-        }
-    }
-    Some(value)
-}
-
-/// The number of a word, where it is one in the range.
-fn number_in(word: &[u8], low: u32, high: u32) -> Option<u32>
-    requires { high ≤ LONGEST }
-    ensures read { result ≡ number_in low high word.now }
-    ensures range { IfSome result (λ number. (low ≤ number) × (number ≤ high)) }
-{
-    if !is_numeral(word) {
-        return None;
-    }
-    let value = numeral_value(word)?;
-    if low <= value && value <= high {
-        Some(value)
-    } else {
-        None
-    }
 }
 
 /// No word is empty, and the first is a name.

@@ -1,6 +1,6 @@
 use Rattle.std.proofs.Common.{◌+◌, drop}
 use Rattle.std.proofs.lemmas.Result.{err_from_is_err_and}
-use Rattle.sched_tests.specs.Lines.{parts_at, lines_from}
+use Rattle.text_lines.specs.Lines.{parts_at, lines_from}
 use Rattle.sched_tests.proofs.Refusals.{refused}
 use Rattle.sched_tests.proofs.reading.read_table.Goals as goal
 

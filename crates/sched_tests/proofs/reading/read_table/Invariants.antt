@@ -1,7 +1,7 @@
 use Rattle.std.proofs.Common.{◌≡◌, ◌≤◌, ◌-◌, ◌+◌, length, drop, [], Ok}
 use Rattle.std.specs.List.{fold}
 use Rattle.sched_tests.specs.declared.duties.TheConstants.{TABLE_BYTES}
-use Rattle.sched_tests.specs.Lines.{parts_at, lines_from, lines_of}
+use Rattle.text_lines.specs.Lines.{parts_at, lines_from, lines_of}
 use Rattle.sched_tests.specs.Reading.{read_line}
 use Rattle.sched_tests.specs.Tables.{IsTable}
 use Rattle.sched_tests.proofs.reading.read_table.Given as goal

@@ -1,4 +1,4 @@
-use Rattle.sched_tests.proofs.Cuts.{seven_words}
+use Rattle.sched_tests.proofs.SevenWords.{seven_words}
 use Rattle.sched_tests.proofs.reading.six_words.Goals as goal
 
 pub returns-in-Some : goal.returns-in-Some

@@ -1,19 +1,23 @@
-//! A declaration of the image (ISO/IEC 8652:2012, 3.1).
-ghost use Rattle.std.specs.Prelude.{◌≡◌, IfOk, take};
-ghost use Rattle.ada_image.specs.ImageOfUnits.{numbered_object};
+//! The declarations of the image, by number (ISO/IEC 8652:2012, 3.1).
+ghost use Rattle.std.specs.Prelude.{◌≡◌, [], IfOk, option_copied, take};
+ghost use Rattle.ada_image.specs.ImageOfUnits.{declaration_made, declarations_made, numbered_object};
+ghost use Rattle.ada_image.specs.Made.{Made};
 
+use crate::initial_values::initial_made;
 use crate::kinds::{kind_of_sort, range_of_sort};
 use ada_entities::copy;
+use ada_image::{Lists, Within};
 use ada_regions::{Names, NumberedDeclaration};
+use ada_tree::Expression;
 use ann_base::NoMemory;
 use image_layout::{cells_of_declaration, index_range};
 use image_scopes::{place_behind, scope_no};
-use profile_machine::{Declaration, Initial};
+use profile_machine::{Declaration, Initial, Sequence};
 use std::alloc::Global;
 
 /// A declaration of the image with its initial value, where so many stand before it in the table.
 #[tactic(auto, unfolding(ada_image::specs::ImageOfUnits::numbered_object))]
-pub fn numbered_object(
+fn numbered_object(
     alloc: Global,
     names: &Names<'_>,
     before: usize,
@@ -37,4 +41,49 @@ pub fn numbered_object(
         constraint: range_of_sort(names, declaration.sort, declaration.subtype),
         index: index_range(names, declaration.subtype),
     })
+}
+
+/// The initial value in the text, if there is one.
+fn initial_of<'d>(declaration: &'d NumberedDeclaration<'_>) -> Option<&'d Expression>
+    ensures { option_copied result ≡ declaration.now.initial }
+{
+    match &declaration.initial {
+        None => None,
+        Some(initial) => Some(initial.get()),
+    }
+}
+
+/// A declaration is made: its initial value, and what it is.
+#[tactic(auto, unfolding(ada_image::specs::ImageOfUnits::declaration_made))]
+fn declaration_made(
+    alloc: Global,
+    lists: &mut Lists,
+    within: &Within<'_, '_>,
+    before: usize,
+    declaration: &NumberedDeclaration<'_>,
+) -> Result<Declaration, NoMemory>
+    ensures { Made (declaration_made within.now (take before within.now.names.declarations) declaration.now) lists.old lists.new result }
+{
+    let initial = initial_made(lists, within, declaration.subtype, initial_of(declaration))?;
+    numbered_object(alloc, within.names.get(), before, declaration, initial)
+}
+
+/// All declarations are made, in the order of the text.
+#[tactic(auto, unfolding(ada_image::specs::ImageOfUnits::declarations_made))]
+pub fn declarations_made(
+    alloc: Global,
+    lists: &mut Lists,
+    within: &Within<'_, '_>,
+) -> Result<Sequence<Declaration>, NoMemory>
+    ensures { Made (declarations_made within.now [] within.now.names.declarations) lists.old lists.new result }
+{
+    let names = within.names.get();
+    let mut made = Sequence::new(alloc);
+    let mut before = 0;
+    for declaration in names.declarations.iter() {
+        let one = declaration_made(alloc, lists, within, before, declaration)?;
+        made.push(one)?;
+        before += 1;
+    }
+    Ok(made)
 }

@@ -1,9 +1,10 @@
-//! What a declaration of an image is, and where its cells stand (ISO/IEC 8652:2012, 3.1, 3.5). Each function has the name of
+//! The declarations of an image: what each is, where its cells stand, and its initial value (ISO/IEC 8652:2012, 3.1, 3.3.1, 3.5). Each function has the name of
 //! the definition of `ada_image` of which it is the counterpart. A number that its type cannot hold is answered as want of
 //! memory.
 #![tactic(auto)]
 
 mod declarations;
+mod initial_values;
 mod kinds;
 
-pub use declarations::numbered_object;
+pub use declarations::declarations_made;

@@ -1,0 +1,4 @@
+pub mod OneByOne
+pub mod FromTheLast
+pub mod StatementFolds
+pub mod SequenceFolds

@@ -1,0 +1,124 @@
+//! Blocks, exception handlers and accept statements (ISO/IEC 8652:2012, 5.6, 11.2, 9.5.2).
+ghost use Rattle.std.specs.Prelude.{◌≡◌};
+ghost use Rattle.ada_image.specs.Made.{Made};
+ghost use Rattle.ada_image.specs.ImageOfStatements.{block_put, handlers_put, accept_body_put, accept_put};
+ghost use Rattle.image_bodies.specs.Parts.{handler_made};
+
+use crate::branches::inside;
+use crate::making::MakeSequence;
+use ada_image::{Lists, SequencePlace, Within};
+use ada_tree::{Accept, AcceptBody, Block, Handler};
+use ann_base::NoMemory;
+use image_layout::{first_put, in_construct, in_handler, in_scope, put_at, reserved, the_action};
+use image_statements::{entry_at, handled_made, scope_at};
+use profile_machine::{Handler as ExceptionHandler, ScopeNo, Sequence, StatementForm, StatementNo};
+use std::alloc::Global;
+
+/// A block (5.6).
+#[tactic(auto, unfolding(ada_image::specs::ImageOfStatements::block_put))]
+pub(crate) fn block_put<Q: MakeSequence>(
+    alloc: Global,
+    lists: &mut Lists,
+    within: &Within<'_, '_>,
+    block: &Block<Q>,
+    next: Option<StatementNo>,
+) -> Result<Option<StatementNo>, NoMemory>
+    ensures { Made (block_put Q.making within.now block.now next) lists.old lists.new result }
+{
+    let scope = scope_at(within.names.get(), block.place)?;
+    let s = reserved(lists)?;
+    let outer = in_scope(within, scope)?;
+    let inner = in_construct(&outer, s)?;
+    let place = SequencePlace::AsBody(false);
+    let first = block
+        .sequence
+        .sequence_put(alloc, lists, place, &inner, None)?;
+    first_put(lists, scope, first)?;
+    put_at(lists, s, StatementForm::Block(ScopeNo(scope)), 0, next)
+}
+
+/// An exception handler (11.2).
+#[tactic(auto, unfolding(crate::specs::Parts::handler_made))]
+fn handler_made<Q: MakeSequence>(
+    alloc: Global,
+    lists: &mut Lists,
+    within: &Within<'_, '_>,
+    handler: &Handler<Q>,
+    next: Option<StatementNo>,
+) -> Result<ExceptionHandler, NoMemory>
+    ensures { Made (handler_made Q.making within.now handler.now next) lists.old lists.new result }
+{
+    let choices = handled_made(alloc, within, &handler.exceptions)?;
+    let inner = in_handler(within)?;
+    let first = inside(alloc, lists, &handler.statements, &inner, next)?;
+    Ok(ExceptionHandler {
+        choices,
+        first: the_action(first),
+    })
+}
+
+/// The handlers of a sequence, in the order of the text (11.2).
+#[tactic(auto, unfolding(ada_image::specs::ImageOfStatements::handlers_put))]
+pub fn handlers_put<Q: MakeSequence>(
+    alloc: Global,
+    lists: &mut Lists,
+    within: &Within<'_, '_>,
+    handlers: &[Handler<Q>],
+    next: Option<StatementNo>,
+) -> Result<Sequence<ExceptionHandler>, NoMemory>
+    ensures { Made (handlers_put Q.making within.now handlers.now next) lists.old lists.new result }
+{
+    let mut made = Sequence::new(alloc);
+    for handler in handlers {
+        let one = handler_made(alloc, lists, within, handler, next)?;
+        made.push(one)?;
+    }
+    Ok(made)
+}
+
+/// The statements of an accept; without any nothing stands in its scope.
+#[tactic(auto, unfolding(ada_image::specs::ImageOfStatements::accept_body_put))]
+fn accept_body_put<Q: MakeSequence>(
+    alloc: Global,
+    lists: &mut Lists,
+    within: &Within<'_, '_>,
+    s: StatementNo,
+    scope: u32,
+    body: &Option<AcceptBody<Q>>,
+) -> Result<Option<StatementNo>, NoMemory>
+    ensures { Made (accept_body_put Q.making within.now s scope body.now) lists.old lists.new result }
+{
+    match body {
+        None => Ok(None),
+        Some(body) => {
+            let outer = in_scope(within, scope)?;
+            let inner = in_construct(&outer, s)?;
+            let place = SequencePlace::BehindDeclarations(None);
+            body.sequence
+                .sequence_put(alloc, lists, place, &inner, None)
+        }
+    }
+}
+
+/// An accept statement (9.5.2).
+#[tactic(auto, unfolding(ada_image::specs::ImageOfStatements::accept_put))]
+pub(crate) fn accept_put<Q: MakeSequence>(
+    alloc: Global,
+    lists: &mut Lists,
+    within: &Within<'_, '_>,
+    accept: &Accept<Q>,
+    next: Option<StatementNo>,
+) -> Result<Option<StatementNo>, NoMemory>
+    ensures { Made (accept_put Q.making within.now accept.now next) lists.old lists.new result }
+{
+    let scope = scope_at(within.names.get(), accept.place)?;
+    let entry = entry_at(within, accept.entry.place);
+    let s = reserved(lists)?;
+    let first = accept_body_put(alloc, lists, within, s, scope, &accept.body)?;
+    first_put(lists, scope, first)?;
+    let form = StatementForm::Accept {
+        entry,
+        scope: ScopeNo(scope),
+    };
+    put_at(lists, s, form, 0, next)
+}

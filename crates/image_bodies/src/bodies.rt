@@ -1,0 +1,154 @@
+//! Bodies among declarations (ISO/IEC 8652:2012, 6.3, 9.1, 9.4, 9.5.2).
+ghost use Rattle.std.specs.Prelude.{◌≡◌};
+ghost use Rattle.ada_image.specs.Made.{Made};
+ghost use Rattle.ada_image.specs.ImageOfDeclarations.{body_put, operation_body_put, operation_bodies_put, inner_body_put, inner_bodies_put};
+
+use crate::making::MakeSequence;
+use ada_entities::entity_denoted;
+use ada_image::{Lists, SequencePlace, Within};
+use ada_tree::{Declaration, OperationBody};
+use ann_base::{NoMemory, Place};
+use image_layout::{first_put, in_body_of, in_unit};
+use image_objects::subprogram_declared_as;
+use image_statements::scope_at;
+use profile_machine::SubprogramNo;
+use std::alloc::Global;
+
+/// A body (3.11.1): its scope has its first action.
+#[tactic(auto, unfolding(ada_image::specs::ImageOfDeclarations::body_put))]
+pub fn body_put<Q: MakeSequence>(
+    alloc: Global,
+    lists: &mut Lists,
+    within: &Within<'_, '_>,
+    place: Place,
+    function: Option<SubprogramNo>,
+    is_task_body: bool,
+    sequence: &Q,
+) -> Result<(), NoMemory>
+    ensures { Made (body_put Q.making within.now place function is_task_body sequence.now) lists.old lists.new result }
+{
+    let scope = scope_at(within.names.get(), place)?;
+    let inner = in_body_of(alloc, within, scope, function)?;
+    let whole = SequencePlace::AsBody(is_task_body);
+    let first = sequence.sequence_put(alloc, lists, whole, &inner, None)?;
+    first_put(lists, scope, first)
+}
+
+/// The body of an operation of a protected unit (9.4).
+#[tactic(auto, unfolding(ada_image::specs::ImageOfDeclarations::operation_body_put))]
+fn operation_body_put<Q: MakeSequence>(
+    alloc: Global,
+    lists: &mut Lists,
+    within: &Within<'_, '_>,
+    operation: &OperationBody<Q>,
+) -> Result<(), NoMemory>
+    ensures { Made (operation_body_put Q.making within.now operation.now) lists.old lists.new result }
+{
+    match operation {
+        OperationBody::Subprogram {
+            specification,
+            body,
+        } => {
+            let function = subprogram_declared_as(within, &specification.name);
+            body_put(
+                alloc,
+                lists,
+                within,
+                specification.place,
+                function,
+                false,
+                &body.sequence,
+            )
+        }
+        OperationBody::Entry { head, body } => {
+            body_put(
+                alloc,
+                lists,
+                within,
+                head.place,
+                None,
+                false,
+                &body.sequence,
+            )
+        }
+    }
+}
+
+/// The bodies of the operations of a protected unit, in the order of the text.
+#[tactic(auto, unfolding(ada_image::specs::ImageOfDeclarations::operation_bodies_put))]
+fn operation_bodies_put<Q: MakeSequence>(
+    alloc: Global,
+    lists: &mut Lists,
+    within: &Within<'_, '_>,
+    operations: &[OperationBody<Q>],
+) -> Result<(), NoMemory>
+    ensures { Made (operation_bodies_put Q.making within.now operations.now) lists.old lists.new result }
+{
+    for operation in operations {
+        operation_body_put(alloc, lists, within, operation)?;
+    }
+    Ok(())
+}
+
+/// The body that a declaration is, if it is one.
+#[tactic(auto, unfolding(ada_image::specs::ImageOfDeclarations::inner_body_put))]
+fn inner_body_put<Q: MakeSequence>(
+    alloc: Global,
+    lists: &mut Lists,
+    within: &Within<'_, '_>,
+    declaration: &Declaration<Q>,
+) -> Result<(), NoMemory>
+    ensures { Made (inner_body_put Q.making within.now declaration.now) lists.old lists.new result }
+{
+    match declaration {
+        Declaration::Object(_) => Ok(()),
+        Declaration::Type(_) => Ok(()),
+        Declaration::Subtype(_) => Ok(()),
+        Declaration::Exception { .. } => Ok(()),
+        Declaration::Subprogram(_) => Ok(()),
+        Declaration::SubprogramBody {
+            specification,
+            body,
+        } => {
+            let function = subprogram_declared_as(within, &specification.name);
+            body_put(
+                alloc,
+                lists,
+                within,
+                specification.place,
+                function,
+                false,
+                &body.sequence,
+            )
+        }
+        Declaration::Task(_) => Ok(()),
+        Declaration::TaskBody { place, name, body } => {
+            let unit = entity_denoted(within.names.get(), name.place);
+            let inner = in_unit(within, unit)?;
+            body_put(alloc, lists, &inner, *place, None, true, &body.sequence)
+        }
+        Declaration::Protected(_) => Ok(()),
+        Declaration::ProtectedBody(protected) => {
+            let unit = entity_denoted(within.names.get(), protected.name.place);
+            let inner = in_unit(within, unit)?;
+            operation_bodies_put(alloc, lists, &inner, protected.operations.as_slice())
+        }
+        Declaration::Use { .. } => Ok(()),
+    }
+}
+
+/// The bodies among declarations, in the order of the text (3.11).
+#[tactic(auto, unfolding(ada_image::specs::ImageOfDeclarations::inner_bodies_put))]
+pub fn inner_bodies_put<Q: MakeSequence>(
+    alloc: Global,
+    lists: &mut Lists,
+    within: &Within<'_, '_>,
+    declarations: &[Declaration<Q>],
+) -> Result<(), NoMemory>
+    ensures { Made (inner_bodies_put Q.making within.now declarations.now) lists.old lists.new result }
+{
+    for declaration in declarations {
+        inner_body_put(alloc, lists, within, declaration)?;
+    }
+    Ok(())
+}

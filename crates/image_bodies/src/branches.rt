@@ -1,0 +1,186 @@
+//! If and case statements (ISO/IEC 8652:2012, 5.3, 5.4).
+ghost use Rattle.std.specs.Prelude.{◌≡◌, ◌∷◌};
+ghost use Rattle.ada_image.specs.Made.{Made};
+ghost use Rattle.ada_image.specs.ImageOfStatements.{inside, inside_if, branch_put, elsifs_put, if_put, alternatives_put, case_put};
+ghost use Rattle.image_bodies.specs.Parts.{alternative_made};
+
+use crate::making::MakeSequence;
+use ada_image::{Lists, SequencePlace, Within};
+use ada_tree::{Case, CaseAlternative, Elsif, Expression, If, OneOrMore};
+use ann_base::NoMemory;
+use image_expressions::{expression_made, signs_in};
+use image_layout::{action_put, the_action};
+use image_statements::choices_made;
+use profile_machine::{CaseAlternative as CaseActions, Sequence, StatementForm, StatementNo};
+use std::alloc::Global;
+
+/// The statements of a compound statement lead to what comes behind it.
+#[tactic(auto, unfolding(ada_image::specs::ImageOfStatements::inside))]
+pub fn inside<Q: MakeSequence>(
+    alloc: Global,
+    lists: &mut Lists,
+    sequence: &Q,
+    within: &Within<'_, '_>,
+    next: Option<StatementNo>,
+) -> Result<Option<StatementNo>, NoMemory>
+    ensures { Made (inside Q.making sequence.now within.now next) lists.old lists.new result }
+{
+    sequence.sequence_put(alloc, lists, SequencePlace::StatementsAlone, within, next)
+}
+
+/// The same where such statements stand there.
+#[tactic(auto, unfolding(ada_image::specs::ImageOfStatements::inside_if))]
+pub(crate) fn inside_if<Q: MakeSequence>(
+    alloc: Global,
+    lists: &mut Lists,
+    sequence: &Option<Q>,
+    within: &Within<'_, '_>,
+    next: Option<StatementNo>,
+) -> Result<Option<StatementNo>, NoMemory>
+    ensures { Made (inside_if Q.making sequence.now within.now next) lists.old lists.new result }
+{
+    match sequence {
+        None => Ok(next),
+        Some(sequence) => inside(alloc, lists, sequence, within, next),
+    }
+}
+
+/// A condition and the statements behind it (5.3).
+#[tactic(auto, unfolding(ada_image::specs::ImageOfStatements::branch_put))]
+fn branch_put<Q: MakeSequence>(
+    alloc: Global,
+    lists: &mut Lists,
+    within: &Within<'_, '_>,
+    condition: &Expression,
+    statements: &Q,
+    otherwise: Option<StatementNo>,
+    next: Option<StatementNo>,
+) -> Result<Option<StatementNo>, NoMemory>
+    ensures { Made (branch_put Q.making within.now condition.now statements.now otherwise next) lists.old lists.new result }
+{
+    let signs = signs_in(within, condition)?;
+    let first = inside(alloc, lists, statements, within, next)?;
+    let condition = expression_made(lists, condition, within)?;
+    let form = StatementForm::If {
+        condition,
+        first: the_action(first),
+        otherwise,
+    };
+    action_put(lists, form, signs, next)
+}
+
+/// The branches behind `elsif`, from the last to the first (5.3).
+#[tactic(auto, using(image_objects::proofs::Drops::nothing_left, image_objects::proofs::Drops::one_before), unfolding(ada_image::specs::ImageOfStatements::elsifs_put))]
+fn elsifs_put<Q: MakeSequence>(
+    alloc: Global,
+    lists: &mut Lists,
+    within: &Within<'_, '_>,
+    elsifs: &[Elsif<Q>],
+    otherwise: Option<StatementNo>,
+    next: Option<StatementNo>,
+) -> Result<Option<StatementNo>, NoMemory>
+    ensures { Made (elsifs_put Q.making within.now elsifs.now otherwise next) lists.old lists.new result }
+{
+    let mut later = otherwise;
+    let mut place = elsifs.len();
+    while place > 0 {
+        place -= 1;
+        let elsif = &elsifs[place];
+        later = branch_put(
+            alloc,
+            lists,
+            within,
+            &elsif.condition,
+            &elsif.statements,
+            later,
+            next,
+        )?;
+    }
+    Ok(later)
+}
+
+/// An if statement (5.3).
+#[tactic(auto, unfolding(ada_image::specs::ImageOfStatements::if_put))]
+pub(crate) fn if_put<Q: MakeSequence>(
+    alloc: Global,
+    lists: &mut Lists,
+    within: &Within<'_, '_>,
+    statement: &If<Q>,
+    next: Option<StatementNo>,
+) -> Result<Option<StatementNo>, NoMemory>
+    ensures { Made (if_put Q.making within.now statement.now next) lists.old lists.new result }
+{
+    let otherwise = inside_if(alloc, lists, &statement.otherwise, within, next)?;
+    let elsifs = statement.elsifs.as_slice();
+    let later = elsifs_put(alloc, lists, within, elsifs, otherwise, next)?;
+    branch_put(
+        alloc,
+        lists,
+        within,
+        &statement.condition,
+        &statement.statements,
+        later,
+        next,
+    )
+}
+
+/// An alternative of a case statement.
+#[tactic(auto, unfolding(crate::specs::Parts::alternative_made))]
+fn alternative_made<Q: MakeSequence>(
+    alloc: Global,
+    lists: &mut Lists,
+    within: &Within<'_, '_>,
+    alternative: &CaseAlternative<Q>,
+    next: Option<StatementNo>,
+) -> Result<CaseActions, NoMemory>
+    ensures { Made (alternative_made Q.making within.now alternative.now next) lists.old lists.new result }
+{
+    let choices = choices_made(alloc, within, &alternative.choices)?;
+    let first = inside(alloc, lists, &alternative.statements, within, next)?;
+    Ok(CaseActions {
+        choices,
+        first: the_action(first),
+    })
+}
+
+/// The alternatives of a case statement, in the order of the text.
+#[tactic(auto, unfolding(ada_image::specs::ImageOfStatements::alternatives_put))]
+fn alternatives_put<Q: MakeSequence>(
+    alloc: Global,
+    lists: &mut Lists,
+    within: &Within<'_, '_>,
+    alternatives: &OneOrMore<CaseAlternative<Q>>,
+    next: Option<StatementNo>,
+) -> Result<Sequence<CaseActions>, NoMemory>
+    ensures { Made (alternatives_put Q.making within.now (alternatives.now.first ∷ alternatives.now.others) next) lists.old lists.new result }
+{
+    let mut made = Sequence::new(alloc);
+    let first = alternative_made(alloc, lists, within, &alternatives.first, next)?;
+    made.push(first)?;
+    for alternative in alternatives.others.as_slice() {
+        let one = alternative_made(alloc, lists, within, alternative, next)?;
+        made.push(one)?;
+    }
+    Ok(made)
+}
+
+/// A case statement (5.4).
+#[tactic(auto, unfolding(ada_image::specs::ImageOfStatements::case_put))]
+pub(crate) fn case_put<Q: MakeSequence>(
+    alloc: Global,
+    lists: &mut Lists,
+    within: &Within<'_, '_>,
+    case: &Case<Q>,
+    next: Option<StatementNo>,
+) -> Result<Option<StatementNo>, NoMemory>
+    ensures { Made (case_put Q.making within.now case.now next) lists.old lists.new result }
+{
+    let signs = signs_in(within, &case.selector)?;
+    let alternatives = alternatives_put(alloc, lists, within, &case.alternatives, next)?;
+    let selector = expression_made(lists, &case.selector, within)?;
+    let form = StatementForm::Case {
+        selector,
+        alternatives,
+    };
+    action_put(lists, form, signs, next)
+}

@@ -1,0 +1,210 @@
+//! Loops (ISO/IEC 8652:2012, 5.5): the body leads back to the loop's statement.
+ghost use Rattle.std.specs.Prelude.{◌≡◌};
+ghost use Rattle.ada_image.specs.Made.{Made};
+ghost use Rattle.ada_image.specs.ImageOfStatements.{loop_parameter_number, label_of, loop_body, forever_put, while_put, parameter_of, for_put, iteration_put, loop_put};
+ghost use Rattle.image_bodies.specs.Parts.{turns_put};
+
+use crate::branches::inside;
+use crate::making::MakeSequence;
+use ada_entities::{entity_denoted, kind_at};
+use ada_image::{Lists, Within};
+use ada_regions::EntityKind;
+use ada_tree::{Expression, Identifier, Iteration, Loop};
+use ann_base::NoMemory;
+use image_expressions::{expression_made, signs_in};
+use image_layout::{action_put, added, in_loop, put_at, reserved, the_action};
+use profile_machine::{DeclNo, StatementForm, StatementNo};
+use std::alloc::Global;
+
+/// The entity of a loop's label, where it has one.
+#[tactic(auto, unfolding(ada_image::specs::ImageOfStatements::label_of))]
+fn label_of<Q: MakeSequence>(within: &Within<'_, '_>, statement: &Loop<Q>) -> Option<u32>
+    ensures { result ≡ label_of Q.making within.now statement.now }
+{
+    match &statement.label {
+        None => None,
+        Some(label) => entity_denoted(within.names.get(), label.name.place),
+    }
+}
+
+/// The statements of a loop lead to its next turn.
+#[tactic(auto, unfolding(ada_image::specs::ImageOfStatements::loop_body))]
+fn loop_body<Q: MakeSequence>(
+    alloc: Global,
+    lists: &mut Lists,
+    within: &Within<'_, '_>,
+    statement: &Loop<Q>,
+    s: StatementNo,
+    turn: StatementNo,
+) -> Result<Option<StatementNo>, NoMemory>
+    ensures { Made (loop_body Q.making within.now statement.now s turn) lists.old lists.new result }
+{
+    let within = in_loop(within, label_of(within, statement), s)?;
+    inside(alloc, lists, &statement.statements, &within, Some(turn))
+}
+
+/// A loop without an iteration scheme.
+#[tactic(auto, unfolding(ada_image::specs::ImageOfStatements::forever_put))]
+fn forever_put<Q: MakeSequence>(
+    alloc: Global,
+    lists: &mut Lists,
+    within: &Within<'_, '_>,
+    statement: &Loop<Q>,
+    next: Option<StatementNo>,
+) -> Result<Option<StatementNo>, NoMemory>
+    ensures { Made (forever_put Q.making within.now statement.now next) lists.old lists.new result }
+{
+    let s = reserved(lists)?;
+    let body = loop_body(alloc, lists, within, statement, s, s)?;
+    let form = StatementForm::Loop {
+        body: the_action(body),
+        within: within.construct,
+    };
+    put_at(lists, s, form, 0, next)
+}
+
+/// A while loop.
+#[tactic(auto, unfolding(ada_image::specs::ImageOfStatements::while_put))]
+fn while_put<Q: MakeSequence>(
+    alloc: Global,
+    lists: &mut Lists,
+    within: &Within<'_, '_>,
+    statement: &Loop<Q>,
+    condition: &Expression,
+    next: Option<StatementNo>,
+) -> Result<Option<StatementNo>, NoMemory>
+    ensures { Made (while_put Q.making within.now statement.now condition.now next) lists.old lists.new result }
+{
+    let signs = signs_in(within, condition)?;
+    let s = reserved(lists)?;
+    let body = loop_body(alloc, lists, within, statement, s, s)?;
+    let condition = expression_made(lists, condition, within)?;
+    let form = StatementForm::While {
+        condition,
+        body: the_action(body),
+        within: within.construct,
+    };
+    put_at(lists, s, form, signs, next)
+}
+
+fn loop_parameter_number(kind: &EntityKind) -> Option<DeclNo>
+    ensures { result ≡ loop_parameter_number kind.now }
+{
+    match kind {
+        EntityKind::LoopParameter(declaration) => Some(*declaration),
+        _ => None,
+    }
+}
+
+/// The number of a loop parameter.
+#[tactic(auto, unfolding(ada_image::specs::ImageOfStatements::parameter_of))]
+fn parameter_of<Q: MakeSequence>(within: &Within<'_, '_>, identifier: &Identifier) -> DeclNo
+    ensures { result ≡ parameter_of Q.making within.now identifier.now }
+{
+    match entity_denoted(within.names.get(), identifier.place) {
+        None => DeclNo(0),
+        Some(entity) => match kind_at(within.names.get(), entity) {
+            None => DeclNo(0),
+            Some(kind) => loop_parameter_number(kind).unwrap_or(DeclNo(0)),
+        },
+    }
+}
+
+/// The turns of a for loop, which its statement and its body lead to.
+fn turns_put(
+    lists: &mut Lists,
+    first: StatementNo,
+    later: StatementNo,
+    parameter: DeclNo,
+    reverse: bool,
+    body: StatementNo,
+    next: Option<StatementNo>,
+) -> Result<Option<StatementNo>, NoMemory>
+    ensures { Made (turns_put first later parameter reverse body next) lists.old lists.new result }
+{
+    let first_turn = StatementForm::FirstTurn {
+        parameter,
+        reverse,
+        body,
+    };
+    put_at(lists, first, first_turn, 0, next)?;
+    let later_turn = StatementForm::LaterTurn {
+        parameter,
+        reverse,
+        body,
+    };
+    put_at(lists, later, later_turn, 0, next)
+}
+
+/// A for loop.
+#[tactic(auto, unfolding(ada_image::specs::ImageOfStatements::for_put))]
+fn for_put<Q: MakeSequence>(
+    alloc: Global,
+    lists: &mut Lists,
+    within: &Within<'_, '_>,
+    statement: &Loop<Q>,
+    parameter: DeclNo,
+    reverse: bool,
+    low: &Expression,
+    high: &Expression,
+    next: Option<StatementNo>,
+) -> Result<Option<StatementNo>, NoMemory>
+    ensures { Made (for_put Q.making within.now statement.now parameter reverse low.now high.now next) lists.old lists.new result }
+{
+    let signs = added(signs_in(within, low)?, signs_in(within, high)?)?;
+    let s = reserved(lists)?;
+    let first = reserved(lists)?;
+    let later = reserved(lists)?;
+    let body = loop_body(alloc, lists, within, statement, s, later)?;
+    turns_put(
+        lists,
+        first,
+        later,
+        parameter,
+        reverse,
+        the_action(body),
+        next,
+    )?;
+    let low = expression_made(lists, low, within)?;
+    let high = expression_made(lists, high, within)?;
+    let form = StatementForm::For {
+        parameter,
+        reverse,
+        low,
+        high,
+        turn: first,
+        within: within.construct,
+    };
+    put_at(lists, s, form, signs, next)
+}
+
+/// A loop statement (5.5).
+#[tactic(auto, unfolding(ada_image::specs::ImageOfStatements::loop_put, ada_image::specs::ImageOfStatements::iteration_put))]
+pub(crate) fn loop_put<Q: MakeSequence>(
+    alloc: Global,
+    lists: &mut Lists,
+    within: &Within<'_, '_>,
+    statement: &Loop<Q>,
+    next: Option<StatementNo>,
+) -> Result<Option<StatementNo>, NoMemory>
+    ensures { Made (loop_put Q.making within.now statement.now next) lists.old lists.new result }
+{
+    match &statement.iteration {
+        Iteration::Forever => forever_put(alloc, lists, within, statement, next),
+        Iteration::While { condition, .. } => {
+            while_put(alloc, lists, within, statement, condition, next)
+        }
+        Iteration::For {
+            parameter,
+            reverse,
+            low,
+            high,
+            ..
+        } => {
+            let parameter = parameter_of::<Q>(within, parameter);
+            for_put(
+                alloc, lists, within, statement, parameter, *reverse, low, high, next,
+            )
+        }
+    }
+}

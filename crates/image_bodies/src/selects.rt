@@ -1,0 +1,351 @@
+//! Select statements (ISO/IEC 8652:2012, 9.7): an accept, a delay and a call have statements of their own, which lead to those
+//! behind them.
+ghost use Rattle.std.specs.Prelude.{◌≡◌, ◌∷◌, ◌+◌, option_copied, IfOk};
+ghost use Rattle.ada_image.specs.Made.{Made};
+ghost use Rattle.ada_image.specs.ImageOfExpressions.{signs_if};
+ghost use Rattle.ada_image.specs.ImageOfStatements.{guard_of, signs_in_trigger, alternative_put, select_alternative_put, select_alternatives_put, signs_in_alternative, signs_in_alternatives, else_put, selective_accept_put, call_before, delay_before, timed_call_put, conditional_call_put, trigger_put, asynchronous_put, select_put};
+
+use crate::blocks::accept_put;
+use crate::branches::{inside, inside_if};
+use crate::making::MakeSequence;
+use ada_image::{Lists, Within};
+use ada_tree::{
+    Alternative, AsynchronousSelect, Call, ConditionalEntryCall, Delay, Expression, Guard,
+    OneOrMore, SelectAlternative, SelectForm, SelectiveAccept, TimedEntryCall, Trigger,
+};
+use ann_base::NoMemory;
+use image_calls::{call_statement_put, signs_in_actuals};
+use image_expressions::signs_in;
+use image_layout::{action_put, added, in_construct, put_at, reserved, the_action};
+use image_statements::{condition_made, delay_put};
+use profile_machine::{
+    SelectAlternative as GuardedAlternative, SelectAlternatives, SelectKind, StatementForm,
+    StatementNo,
+};
+use std::alloc::Global;
+
+/// An alternative of a selective accept, without its guard.
+#[tactic(auto, unfolding(ada_image::specs::ImageOfStatements::alternative_put))]
+fn alternative_put<Q: MakeSequence>(
+    alloc: Global,
+    lists: &mut Lists,
+    within: &Within<'_, '_>,
+    alternative: &Alternative<Q>,
+    next: Option<StatementNo>,
+) -> Result<SelectKind, NoMemory>
+    ensures { Made (alternative_put Q.making within.now alternative.now next) lists.old lists.new result }
+{
+    match alternative {
+        Alternative::Accept { accept, statements } => {
+            let behind = inside_if(alloc, lists, statements, within, next)?;
+            let s = accept_put(alloc, lists, within, accept, behind)?;
+            Ok(SelectKind::Accept(the_action(s)))
+        }
+        Alternative::Delay { delay, statements } => {
+            let behind = inside_if(alloc, lists, statements, within, next)?;
+            let s = delay_put(lists, within, delay, behind)?;
+            Ok(SelectKind::Delay(the_action(s)))
+        }
+        Alternative::Terminate { .. } => Ok(SelectKind::Terminate),
+    }
+}
+
+fn guard_of(guard: &Option<Guard>) -> Option<&Expression>
+    ensures { option_copied result ≡ guard_of guard.now }
+{
+    match guard {
+        None => None,
+        Some(guard) => Some(&guard.condition),
+    }
+}
+
+/// An alternative of a selective accept with its guard (9.7.1).
+#[tactic(auto, unfolding(ada_image::specs::ImageOfStatements::select_alternative_put))]
+fn select_alternative_put<Q: MakeSequence>(
+    alloc: Global,
+    lists: &mut Lists,
+    within: &Within<'_, '_>,
+    alternative: &SelectAlternative<Q>,
+    next: Option<StatementNo>,
+) -> Result<GuardedAlternative, NoMemory>
+    ensures { Made (select_alternative_put Q.making within.now alternative.now next) lists.old lists.new result }
+{
+    let guard = condition_made(lists, within, guard_of(&alternative.guard))?;
+    let kind = alternative_put(alloc, lists, within, &alternative.alternative, next)?;
+    Ok(GuardedAlternative { guard, kind })
+}
+
+/// The alternatives of a selective accept, in the order of the text.
+#[tactic(auto, unfolding(ada_image::specs::ImageOfStatements::select_alternatives_put))]
+fn select_alternatives_put<Q: MakeSequence>(
+    alloc: Global,
+    lists: &mut Lists,
+    within: &Within<'_, '_>,
+    alternatives: &OneOrMore<SelectAlternative<Q>>,
+    next: Option<StatementNo>,
+) -> Result<SelectAlternatives, NoMemory>
+    ensures { Made (select_alternatives_put Q.making within.now (alternatives.now.first ∷ alternatives.now.others) next) lists.old lists.new result }
+{
+    let mut made = SelectAlternatives::new(alloc);
+    let first = select_alternative_put(alloc, lists, within, &alternatives.first, next)?;
+    made.push(first)?;
+    for alternative in alternatives.others.as_slice() {
+        let one = select_alternative_put(alloc, lists, within, alternative, next)?;
+        made.push(one)?;
+    }
+    Ok(made)
+}
+
+#[tactic(auto, unfolding(ada_image::specs::ImageOfExpressions::signs_if))]
+fn signs_in_guard(within: &Within<'_, '_>, guard: &Option<Guard>) -> Result<u32, NoMemory>
+    ensures { IfOk result (λ signs. signs ≡ signs_if within.now (guard_of guard.now)) }
+{
+    match guard {
+        None => Ok(0),
+        Some(guard) => signs_in(within, &guard.condition),
+    }
+}
+
+#[tactic(auto, unfolding(ada_image::specs::ImageOfStatements::signs_in_alternative))]
+fn signs_in_alternative<Q: MakeSequence>(
+    within: &Within<'_, '_>,
+    alternative: &Alternative<Q>,
+) -> Result<u32, NoMemory>
+    ensures { IfOk result (λ signs. signs ≡ signs_in_alternative Q.making within.now alternative.now) }
+{
+    match alternative {
+        Alternative::Accept { .. } => Ok(0),
+        Alternative::Delay { delay, .. } => signs_in(within, &delay.value),
+        Alternative::Terminate { .. } => Ok(0),
+    }
+}
+
+/// The signs in the guard and in the delay of an alternative.
+fn signs_in_guarded<Q: MakeSequence>(
+    within: &Within<'_, '_>,
+    alternative: &SelectAlternative<Q>,
+) -> Result<u32, NoMemory>
+    ensures { IfOk result (λ signs. signs ≡ signs_if within.now (guard_of alternative.now.guard) + signs_in_alternative Q.making within.now alternative.now.alternative) }
+{
+    let in_guard = signs_in_guard(within, &alternative.guard)?;
+    let in_alternative = signs_in_alternative(within, &alternative.alternative)?;
+    added(in_guard, in_alternative)
+}
+
+/// The signs in the guards and the delays of a selective accept.
+#[tactic(auto, unfolding(ada_image::specs::ImageOfStatements::signs_in_alternatives))]
+fn signs_in_alternatives<Q: MakeSequence>(
+    within: &Within<'_, '_>,
+    alternatives: &OneOrMore<SelectAlternative<Q>>,
+) -> Result<u32, NoMemory>
+    ensures { IfOk result (λ signs. signs ≡ signs_in_alternatives Q.making within.now (alternatives.now.first ∷ alternatives.now.others)) }
+{
+    let mut signs = signs_in_guarded(within, &alternatives.first)?;
+    for alternative in alternatives.others.as_slice() {
+        signs = added(signs, signs_in_guarded(within, alternative)?)?;
+    }
+    Ok(signs)
+}
+
+#[tactic(auto, unfolding(ada_image::specs::ImageOfStatements::else_put))]
+fn else_put<Q: MakeSequence>(
+    alloc: Global,
+    lists: &mut Lists,
+    within: &Within<'_, '_>,
+    otherwise: &Option<Q>,
+    next: Option<StatementNo>,
+) -> Result<Option<StatementNo>, NoMemory>
+    ensures { Made (else_put Q.making within.now otherwise.now next) lists.old lists.new result }
+{
+    match otherwise {
+        None => Ok(None),
+        Some(otherwise) => inside(alloc, lists, otherwise, within, next),
+    }
+}
+
+/// A selective accept (9.7.1).
+#[tactic(auto, unfolding(ada_image::specs::ImageOfStatements::selective_accept_put))]
+fn selective_accept_put<Q: MakeSequence>(
+    alloc: Global,
+    lists: &mut Lists,
+    within: &Within<'_, '_>,
+    select: &SelectiveAccept<Q>,
+    next: Option<StatementNo>,
+) -> Result<Option<StatementNo>, NoMemory>
+    ensures { Made (selective_accept_put Q.making within.now select.now next) lists.old lists.new result }
+{
+    let signs = signs_in_alternatives(within, &select.alternatives)?;
+    let alternatives = select_alternatives_put(alloc, lists, within, &select.alternatives, next)?;
+    let otherwise = else_put(alloc, lists, within, &select.otherwise, next)?;
+    let form = StatementForm::SelectiveAccept {
+        alternatives,
+        otherwise,
+    };
+    action_put(lists, form, signs, next)
+}
+
+/// An entry call that leads to the statements behind it.
+#[tactic(auto, unfolding(ada_image::specs::ImageOfStatements::call_before))]
+fn call_before<Q: MakeSequence>(
+    alloc: Global,
+    lists: &mut Lists,
+    within: &Within<'_, '_>,
+    call: &Call,
+    statements: &Option<Q>,
+    next: Option<StatementNo>,
+) -> Result<Option<StatementNo>, NoMemory>
+    ensures { Made (call_before Q.making within.now call.now statements.now next) lists.old lists.new result }
+{
+    let behind = inside_if(alloc, lists, statements, within, next)?;
+    call_statement_put(
+        alloc,
+        lists,
+        within,
+        &call.name,
+        call.arguments.as_slice(),
+        behind,
+    )
+}
+
+/// A delay that leads to the statements behind it.
+#[tactic(auto, unfolding(ada_image::specs::ImageOfStatements::delay_before))]
+fn delay_before<Q: MakeSequence>(
+    alloc: Global,
+    lists: &mut Lists,
+    within: &Within<'_, '_>,
+    delay: &Delay,
+    statements: &Option<Q>,
+    next: Option<StatementNo>,
+) -> Result<Option<StatementNo>, NoMemory>
+    ensures { Made (delay_before Q.making within.now delay.now statements.now next) lists.old lists.new result }
+{
+    let behind = inside_if(alloc, lists, statements, within, next)?;
+    delay_put(lists, within, delay, behind)
+}
+
+/// A timed entry call (9.7.2).
+#[tactic(auto, unfolding(ada_image::specs::ImageOfStatements::timed_call_put))]
+fn timed_call_put<Q: MakeSequence>(
+    alloc: Global,
+    lists: &mut Lists,
+    within: &Within<'_, '_>,
+    select: &TimedEntryCall<Q>,
+    next: Option<StatementNo>,
+) -> Result<Option<StatementNo>, NoMemory>
+    ensures { Made (timed_call_put Q.making within.now select.now next) lists.old lists.new result }
+{
+    let in_call = signs_in_actuals(within, select.call.arguments.as_slice())?;
+    let in_delay = signs_in(within, &select.delay.value)?;
+    let signs = added(in_call, in_delay)?;
+    let call = call_before(alloc, lists, within, &select.call, &select.statements, next)?;
+    let behind = &select.delay_statements;
+    let delay = delay_before(alloc, lists, within, &select.delay, behind, next)?;
+    let form = StatementForm::TimedCall {
+        call: the_action(call),
+        delay: the_action(delay),
+    };
+    action_put(lists, form, signs, next)
+}
+
+/// A conditional entry call (9.7.3).
+#[tactic(auto, unfolding(ada_image::specs::ImageOfStatements::conditional_call_put))]
+fn conditional_call_put<Q: MakeSequence>(
+    alloc: Global,
+    lists: &mut Lists,
+    within: &Within<'_, '_>,
+    select: &ConditionalEntryCall<Q>,
+    next: Option<StatementNo>,
+) -> Result<Option<StatementNo>, NoMemory>
+    ensures { Made (conditional_call_put Q.making within.now select.now next) lists.old lists.new result }
+{
+    let signs = signs_in_actuals(within, select.call.arguments.as_slice())?;
+    let call = call_before(alloc, lists, within, &select.call, &select.statements, next)?;
+    let otherwise = inside(alloc, lists, &select.otherwise, within, next)?;
+    let form = StatementForm::ConditionalCall {
+        call: the_action(call),
+        otherwise: the_action(otherwise),
+    };
+    action_put(lists, form, signs, next)
+}
+
+#[tactic(auto, unfolding(ada_image::specs::ImageOfStatements::signs_in_trigger))]
+fn signs_in_trigger(within: &Within<'_, '_>, trigger: &Trigger) -> Result<u32, NoMemory>
+    ensures { IfOk result (λ signs. signs ≡ signs_in_trigger within.now trigger.now) }
+{
+    match trigger {
+        Trigger::Call(call) => signs_in_actuals(within, call.arguments.as_slice()),
+        Trigger::Delay(delay) => signs_in(within, &delay.value),
+    }
+}
+
+#[tactic(auto, unfolding(ada_image::specs::ImageOfStatements::trigger_put))]
+fn trigger_put<Q: MakeSequence>(
+    alloc: Global,
+    lists: &mut Lists,
+    within: &Within<'_, '_>,
+    trigger: &Trigger,
+    statements: &Option<Q>,
+    next: Option<StatementNo>,
+) -> Result<Option<StatementNo>, NoMemory>
+    ensures { Made (trigger_put Q.making within.now trigger.now statements.now next) lists.old lists.new result }
+{
+    match trigger {
+        Trigger::Call(call) => call_before(alloc, lists, within, call, statements, next),
+        Trigger::Delay(delay) => delay_before(alloc, lists, within, delay, statements, next),
+    }
+}
+
+/// An asynchronous select (9.7.4). What is aborted ends inside it.
+#[tactic(auto, unfolding(ada_image::specs::ImageOfStatements::asynchronous_put))]
+fn asynchronous_put<Q: MakeSequence>(
+    alloc: Global,
+    lists: &mut Lists,
+    within: &Within<'_, '_>,
+    select: &AsynchronousSelect<Q>,
+    next: Option<StatementNo>,
+) -> Result<Option<StatementNo>, NoMemory>
+    ensures { Made (asynchronous_put Q.making within.now select.now next) lists.old lists.new result }
+{
+    let signs = signs_in_trigger(within, &select.trigger)?;
+    let s = reserved(lists)?;
+    let trigger = trigger_put(
+        alloc,
+        lists,
+        within,
+        &select.trigger,
+        &select.statements,
+        next,
+    )?;
+    let inner = in_construct(within, s)?;
+    let abortable = inside(alloc, lists, &select.abortable, &inner, None)?;
+    let form = StatementForm::AsynchronousSelect {
+        trigger: the_action(trigger),
+        abortable: the_action(abortable),
+    };
+    put_at(lists, s, form, signs, next)
+}
+
+/// A select statement (9.7).
+#[tactic(auto, unfolding(ada_image::specs::ImageOfStatements::select_put))]
+pub(crate) fn select_put<Q: MakeSequence>(
+    alloc: Global,
+    lists: &mut Lists,
+    within: &Within<'_, '_>,
+    form: &SelectForm<Q>,
+    next: Option<StatementNo>,
+) -> Result<Option<StatementNo>, NoMemory>
+    ensures { Made (select_put Q.making within.now form.now next) lists.old lists.new result }
+{
+    match form {
+        SelectForm::SelectiveAccept(select) => {
+            selective_accept_put(alloc, lists, within, select, next)
+        }
+        SelectForm::TimedEntryCall(select) => timed_call_put(alloc, lists, within, select, next),
+        SelectForm::ConditionalEntryCall(select) => {
+            conditional_call_put(alloc, lists, within, select, next)
+        }
+        SelectForm::AsynchronousSelect(select) => {
+            asynchronous_put(alloc, lists, within, select, next)
+        }
+    }
+}

@@ -1,0 +1,13 @@
+-- What is left of a list at its end, and before an element.
+use Rattle.std.proofs.Common.{◌≡◌, ℕ, ◌+◌, ◌-◌, ◌<◌, ◌≤◌, List, [], ◌∷◌, drop, length, get_or, refl, ap, sym, ◌∙◌, arith}
+use Rattle.std.proofs.lemmas.List.{drop_more}
+
+pub nothing_left : {X : Type 0} (xs : List X) → drop (length xs) xs ≡ []
+nothing_left [] = refl
+nothing_left (x ∷ xs) = nothing_left xs
+
+pub one_before : {X : Type 0} (xs : List X) (j : ℕ) (x : X) → 0 < j → j ≤ length xs → get_or xs (j - 1) x ∷ drop j xs ≡ drop (j - 1) xs
+one_before xs j x positive inside =
+    let back : (j - 1) + 1 ≡ j = omega arith in
+    let place : j - 1 < length xs = omega arith in
+    sym (drop_more xs (j - 1) x place ∙ ap (λ k. get_or xs (j - 1) x ∷ drop k xs) back)

@@ -63,7 +63,7 @@ fn specification_declared<'t>(
 
 /// What is known behind an occurrence.
 #[tactic(auto, unfolding(ada_regions::specs::Numbered::behind, ada_regions::specs::Declaring::declared))]
-fn behind<'t>(
+pub fn behind<'t>(
     alloc: Global,
     names: &mut Names<'t>,
     occurrence: Occurrence<'t>,
@@ -193,7 +193,7 @@ fn any_is_wide(pragmas: &[Pragma]) -> bool
 }
 
 /// The last value of System.Priority under these pragmas.
-fn last_priority_of(pragmas: &[Pragma]) -> u8
+pub fn last_priority_of(pragmas: &[Pragma]) -> u8
     ensures { result ≡ last_priority_of pragmas.now }
 {
     if any_is_wide(pragmas) { 97 } else { 30 }
@@ -216,7 +216,7 @@ fn library_frame() -> Frame
 }
 
 /// At the beginning the region of Standard is open, and the environment has a scope.
-fn nothing_known<'t>(alloc: Global, last: u8) -> Result<Names<'t>, NoMemory>
+pub fn nothing_known<'t>(alloc: Global, last: u8) -> Result<Names<'t>, NoMemory>
     ensures { IfOk result (λ names. names ≡ nothing_known last) }
 {
     let mut frames = List::new(alloc);

@@ -1,0 +1,4 @@
+pub mod Handled
+pub mod Lists
+pub mod StatementFolds
+pub mod SequenceFolds

@@ -1,0 +1,2 @@
+pub mod AlongIs
+pub mod Beside

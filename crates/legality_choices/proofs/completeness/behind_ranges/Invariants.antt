@@ -1,0 +1,7 @@
+use Rattle.std.proofs.Common.{◌≡◌, drop}
+use Rattle.ada_legality.specs.Choices.{behind_ranges}
+use Rattle.legality_choices.proofs.completeness.behind_ranges.Given as goal
+
+-- the choices to come lead from here where all lead from the first value
+abbrev pub invariant-loop-choice : goal.invariant-loop-choice
+invariant-loop-choice l = behind_ranges l.value (drop l.choice-index l.choices) ≡ behind_ranges l.from l.choices

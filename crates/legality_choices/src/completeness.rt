@@ -1,0 +1,138 @@
+//! Complete choices (ISO/IEC 8652:2012, 5.4): every value is that of a choice.
+ghost use Rattle.std.specs.Prelude.{◌≡◌, ◌++◌, OnOk, IfOk};
+ghost use Rattle.std.specs.List.{list_all, list_any};
+ghost use Rattle.ada_legality.specs.Choices.{behind_range, behind_ranges, reached, covers, is_clear_choice, is_complete, wrong_choices, is_name};
+
+use crate::distinct::repeated_choices;
+use crate::ranges::range_typed;
+use ada_legality::{ChoicePart, Finding, Read, Rule, Shape, Span};
+use ada_regions::{AdaType, Names};
+use ann_base::{NoMemory, Place};
+use legality_types::broken_unless;
+use std::alloc::Global;
+use world_tables::List;
+
+/// The value behind a range that holds one, else that one.
+#[tactic(auto, unfolding(ada_legality::specs::Choices::behind_range))]
+fn behind_range(from: i128, range: Option<Span>) -> Result<i128, NoMemory>
+    ensures { IfOk result (λ value. value ≡ behind_range from range) }
+{
+    match range {
+        None => Ok(from),
+        Some(range) => {
+            if range.low <= from && from <= range.high {
+                match range.high.checked_add(1) {
+                    None => Err(NoMemory),
+                    Some(value) => Ok(value),
+                }
+            } else {
+                Ok(from)
+            }
+        }
+    }
+}
+
+/// The value behind all ranges that hold it, in their order.
+#[tactic(auto, unfolding(ada_legality::specs::Choices::behind_ranges))]
+fn behind_ranges(from: i128, choices: &[ChoicePart]) -> Result<i128, NoMemory>
+    ensures { IfOk result (λ value. value ≡ behind_ranges from choices.now) }
+{
+    let mut value = from;
+    for choice in choices {
+        value = behind_range(value, choice.values)?;
+    }
+    Ok(value)
+}
+
+/// A turn past the ranges, one for each choice.
+fn turned(from: i128, choices: &[ChoicePart], _turn: &ChoicePart) -> Result<i128, NoMemory>
+    ensures { IfOk result (λ value. value ≡ behind_ranges from choices.now) }
+{
+    behind_ranges(from, choices)
+}
+
+/// Each turn goes past one range at least, so as many turns as there are choices are enough.
+#[tactic(auto, unfolding(ada_legality::specs::Choices::reached))]
+fn reached(choices: &[ChoicePart], from: i128) -> Result<i128, NoMemory>
+    ensures { IfOk result (λ value. value ≡ reached choices.now choices.now from) }
+{
+    let mut value = from;
+    for turn in choices {
+        value = turned(value, choices, turn)?;
+    }
+    Ok(value)
+}
+
+/// Every value of a range is that of a choice.
+#[tactic(auto, unfolding(ada_legality::specs::Choices::covers))]
+fn covers(choices: &[ChoicePart], whole: Span) -> Result<bool, NoMemory>
+    ensures { IfOk result (λ covered. covered ≡ covers choices.now whole) }
+{
+    let value = reached(choices, whole.low)?;
+    Ok(whole.high < value)
+}
+
+fn is_clear_choice(choice: &ChoicePart) -> bool
+    ensures { result ≡ is_clear_choice choice.now }
+{
+    choice.is_others || choice.values.is_some()
+}
+
+fn has_others(choices: &[ChoicePart]) -> bool
+    ensures { result ≡ list_any (λ c. c.is_others) choices.now }
+{
+    choices.iter().any(|choice| choice.is_others)
+}
+
+fn all_clear(choices: &[ChoicePart]) -> bool
+    ensures { result ≡ list_all is_clear_choice choices.now }
+{
+    choices.iter().all(|choice| is_clear_choice(choice))
+}
+
+/// The choices are complete; where a choice is refused, that is not asked.
+#[tactic(auto, unfolding(ada_legality::specs::Choices::is_complete))]
+pub fn is_complete(whole: Span, choices: &[ChoicePart]) -> Result<bool, NoMemory>
+    ensures { IfOk result (λ complete. complete ≡ is_complete whole choices.now) }
+{
+    if has_others(choices) || !all_clear(choices) {
+        Ok(true)
+    } else {
+        covers(choices, whole)
+    }
+}
+
+/// A name, an element or a call.
+fn is_name(shape: Shape) -> bool
+    ensures { result ≡ is_name shape }
+{
+    match shape {
+        Shape::Name(_) => true,
+        Shape::Number => false,
+        Shape::Other => false,
+    }
+}
+
+/// Choices that meet, or that leave a value out.
+#[tactic(auto, unfolding(ada_legality::specs::Choices::wrong_choices))]
+pub fn wrong_choices(
+    alloc: Global,
+    found: &mut List<Finding>,
+    names: &Names<'_>,
+    place: Place,
+    read: &Read,
+    choices: &[ChoicePart],
+    t: Option<AdaType>,
+) -> Result<(), NoMemory>
+    ensures { OnOk result (found.new ≡ found.old ++ wrong_choices names.now place read.now choices.now t) }
+{
+    match t {
+        None => Ok(()),
+        Some(t) => {
+            repeated_choices(alloc, found, choices)?;
+            let whole = range_typed(names, is_name(read.shape), read.typed, t);
+            let complete = is_complete(whole, choices)?;
+            broken_unless(found, Rule::ConditionsAndChoices, complete, place)
+        }
+    }
+}

@@ -1,0 +1,8 @@
+use Rattle.std.proofs.Common.{◌≡◌, ◌++◌, drop}
+use Rattle.ada_legality.specs.CallStatements.{all_found}
+use Rattle.ada_legality.specs.Declarations.{protected_component_found}
+use Rattle.legality_declarations.proofs.components.protected_components_found.Given as goal
+
+-- what is found by now, and what the components to come give, is all
+abbrev pub invariant-loop-component : goal.invariant-loop-component
+invariant-loop-component l = l.found ++ all_found protected_component_found (drop l.component-index l.components) l.known ≡ l.initial.found ++ all_found protected_component_found l.components l.known

@@ -1,0 +1,100 @@
+//! Components (ISO/IEC 8652:2012, 3.8, 9.4).
+ghost use Rattle.std.specs.Prelude.{◌≡◌, ◌++◌, OnOk};
+ghost use Rattle.ada_legality.specs.CallStatements.{all_found, found_if, value_found};
+ghost use Rattle.ada_legality.specs.Declarations.{component_found, components_found, protected_component_found, record_component_found};
+
+use ada_legality::{Finding, IndicationUse, Known};
+use ada_regions::AdaType;
+use ada_tree::{Component, Expression, OneOrMore};
+use ann_base::NoMemory;
+use legality_parts::{indication_found, type_of_mark, value_found};
+use std::alloc::Global;
+use world_tables::List;
+
+/// The initial value of a component.
+fn initial_found(
+    alloc: Global,
+    found: &mut List<Finding>,
+    known: &Known<'_, '_>,
+    t: Option<AdaType>,
+    initial: &Option<Expression>,
+) -> Result<(), NoMemory>
+    ensures { OnOk result (found.new ≡ found.old ++ found_if (value_found t) initial.now known.now) }
+{
+    match initial {
+        None => Ok(()),
+        Some(value) => value_found(alloc, found, known, t, value),
+    }
+}
+
+/// A component.
+#[tactic(auto, unfolding(ada_legality::specs::Declarations::component_found))]
+fn component_found(
+    alloc: Global,
+    found: &mut List<Finding>,
+    known: &Known<'_, '_>,
+    purpose: IndicationUse,
+    component: &Component,
+) -> Result<(), NoMemory>
+    ensures { OnOk result (found.new ≡ found.old ++ component_found purpose component.now known.now) }
+{
+    indication_found(alloc, found, known, purpose, &component.subtype)?;
+    let t = type_of_mark(known, &component.subtype);
+    initial_found(alloc, found, known, t, &component.initial)
+}
+
+/// A component of a controlled type.
+fn record_component_found(
+    alloc: Global,
+    found: &mut List<Finding>,
+    known: &Known<'_, '_>,
+    component: &Component,
+) -> Result<(), NoMemory>
+    ensures { OnOk result (found.new ≡ found.old ++ record_component_found component.now known.now) }
+{
+    component_found(alloc, found, known, IndicationUse::ForComponent, component)
+}
+
+/// The components of a derived type.
+pub(crate) fn components_found(
+    alloc: Global,
+    found: &mut List<Finding>,
+    known: &Known<'_, '_>,
+    components: &OneOrMore<Component>,
+) -> Result<(), NoMemory>
+    ensures { OnOk result (found.new ≡ found.old ++ components_found components.now known.now) }
+{
+    record_component_found(alloc, found, known, &components.first)?;
+    for component in components.others.as_slice() {
+        record_component_found(alloc, found, known, component)?;
+    }
+    Ok(())
+}
+
+/// A component of a protected unit.
+fn protected_component_found(
+    alloc: Global,
+    found: &mut List<Finding>,
+    known: &Known<'_, '_>,
+    component: &Component,
+) -> Result<(), NoMemory>
+    ensures { OnOk result (found.new ≡ found.old ++ protected_component_found component.now known.now) }
+{
+    let purpose = IndicationUse::ForProtectedComponent(component.names.first.place);
+    component_found(alloc, found, known, purpose, component)
+}
+
+/// The components of a protected unit.
+pub(crate) fn protected_components_found(
+    alloc: Global,
+    found: &mut List<Finding>,
+    known: &Known<'_, '_>,
+    components: &[Component],
+) -> Result<(), NoMemory>
+    ensures { OnOk result (found.new ≡ found.old ++ all_found protected_component_found components.now known.now) }
+{
+    for component in components {
+        protected_component_found(alloc, found, known, component)?;
+    }
+    Ok(())
+}

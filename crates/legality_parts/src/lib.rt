@@ -1,0 +1,20 @@
+//! What is found in parts of statements and declarations: values and conditions, bounds, subtype indications, parameters, calls,
+//! the choices of case statements, and aspects (ISO/IEC 8652:2012, 3.2.2, 3.5, 5.4, clause 6, 13.1.1). Each function has the name
+//! of the definition of `ada_legality` of which it is the counterpart.
+#![tactic(auto)]
+
+mod aspects;
+mod calls;
+mod choices;
+mod marks;
+mod parameters;
+mod values;
+
+pub use aspects::aspects_found;
+pub use calls::call_found;
+pub use choices::{ChoiceOf, add_choices, case_judged, choices_read, type_of_selector};
+pub use marks::{indication_found, type_of_mark};
+pub use parameters::parameters_found;
+pub use values::{
+    bounds_if, bounds_judged, condition_found, not_static, value_alone_found, value_found,
+};

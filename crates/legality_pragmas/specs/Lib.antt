@@ -1,0 +1,4 @@
+pub mod Arguments
+pub mod Judging
+pub mod Restrictions
+pub mod Deadlines

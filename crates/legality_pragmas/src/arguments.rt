@@ -1,0 +1,254 @@
+//! Arguments of pragmas: a word, or a static number (ISO/IEC 8652:2012, 2.8).
+ghost use Rattle.std.specs.Prelude.{◌≡◌, None, Some, cond, neg_ℤ, option_copied, option_map, pos, IfOk};
+ghost use Rattle.std.specs.List.{list_any};
+ghost use Rattle.std.specs.Str.{bytes_eq};
+ghost use Rattle.ada_lex.specs.Meaning.{decimals_of, whole_of};
+ghost use Rattle.ada_regions.specs.Words.{nothing_there};
+ghost use Rattle.ada_tree.specs.declared.expressions.Expression.TheViews.{out-Expression};
+ghost use Rattle.ada_tree.specs.declared.expressions.ExpressionForm.TheVariants as form;
+ghost use Rattle.legality_pragmas.specs.Arguments.{signed_number};
+ghost use Rattle.ada_legality.specs.Pragmas.{end_of_range, integer_behind, integer_named, integer_names, lone_word, number_in, number_of_form, plain_word, whole_literal, word_in};
+
+use crate::ranges::ends_of;
+use ada_lex::{decimals, whole_value};
+use ada_predefined::item_in;
+use ada_regions::{PredefinedUnit, Subtype};
+use ada_subtypes::subtype_of_item;
+use ada_tree::{
+    Argument, Attribute, AttributeDesignator, Expression, ExpressionForm, Identifier, Name, Sign,
+};
+use ann_base::NoMemory;
+use profile_machine::Constraint;
+
+/// The word that a name without a point is.
+fn lone_word(name: &Name) -> Option<&[u8]>
+    ensures { option_copied result ≡ lone_word name.now }
+{
+    match name.parts.others.as_slice() {
+        [] => Some(name.parts.first.text.as_slice()),
+        _ => None,
+    }
+}
+
+/// The word that a name is, where neither an attribute nor arguments stand behind it.
+#[tactic(auto, unfolding(ada_legality::specs::Pragmas::plain_word))]
+fn plain_name<'t>(
+    name: &'t Name,
+    attribute: &Option<AttributeDesignator>,
+    arguments: &[Argument<Expression>],
+) -> Option<&'t [u8]>
+    ensures { option_copied result ≡ plain_word (form.Named name.now attribute.now arguments.now) }
+{
+    match attribute {
+        None => match arguments {
+            [] => lone_word(name),
+            _ => None,
+        },
+        Some(_) => None,
+    }
+}
+
+/// The word that a form alone is.
+#[tactic(auto, unfolding(ada_legality::specs::Pragmas::plain_word))]
+fn plain_word(form: &ExpressionForm<Expression>) -> Option<&[u8]>
+    ensures { option_copied result ≡ plain_word form.now }
+{
+    match form {
+        ExpressionForm::Logical { .. } => None,
+        ExpressionForm::Relational { .. } => None,
+        ExpressionForm::Adding { .. } => None,
+        ExpressionForm::Signed { .. } => None,
+        ExpressionForm::Multiplying { .. } => None,
+        ExpressionForm::Highest { .. } => None,
+        ExpressionForm::Number { .. } => None,
+        ExpressionForm::Text { .. } => None,
+        ExpressionForm::Null { .. } => None,
+        ExpressionForm::Bracketed { .. } => None,
+        ExpressionForm::Named {
+            name,
+            attribute,
+            arguments,
+        } => plain_name(name, attribute, arguments.as_slice()),
+    }
+}
+
+/// The word that an argument without a formal's name is.
+#[tactic(auto, unfolding(ada_legality::specs::Pragmas::word_in))]
+pub(crate) fn word_in(argument: &Argument<Expression>) -> Option<&[u8]>
+    ensures { option_copied result ≡ word_in argument.now }
+{
+    match &argument.formal {
+        Some(_) => None,
+        None => plain_word(argument.value.form.get()),
+    }
+}
+
+/// The number that a literal without a point is.
+fn whole_number(literal: &[u8]) -> Result<Option<i128>, NoMemory>
+    ensures { IfOk result (λ n. n ≡ cond (nothing_there (decimals_of literal.now)) (Some (pos (whole_of literal.now))) None) }
+{
+    if decimals(literal).is_empty() {
+        match whole_value(literal) {
+            Some(number) if number <= i128::MAX as u128 => Ok(Some(number as i128)),
+            _ => Err(NoMemory),
+        }
+    } else {
+        Ok(None)
+    }
+}
+
+/// The number of a form that is a literal without a point.
+#[tactic(auto, unfolding(ada_legality::specs::Pragmas::whole_literal))]
+fn whole_literal(form: &ExpressionForm<Expression>) -> Result<Option<i128>, NoMemory>
+    ensures { IfOk result (λ n. n ≡ whole_literal form.now) }
+{
+    match form {
+        ExpressionForm::Logical { .. } => Ok(None),
+        ExpressionForm::Relational { .. } => Ok(None),
+        ExpressionForm::Adding { .. } => Ok(None),
+        ExpressionForm::Signed { .. } => Ok(None),
+        ExpressionForm::Multiplying { .. } => Ok(None),
+        ExpressionForm::Highest { .. } => Ok(None),
+        ExpressionForm::Number { literal, .. } => whole_number(literal.as_slice()),
+        ExpressionForm::Text { .. } => Ok(None),
+        ExpressionForm::Null { .. } => Ok(None),
+        ExpressionForm::Bracketed { .. } => Ok(None),
+        ExpressionForm::Named { .. } => Ok(None),
+    }
+}
+
+/// Whether it is the name of a subtype of Integer that package Standard declares (A.1).
+fn is_integer_name(word: &[u8]) -> bool
+    ensures { result ≡ list_any (bytes_eq word.now) integer_names }
+{
+    word == b"integer".as_slice()
+        || (word == b"natural".as_slice() || word == b"positive".as_slice())
+}
+
+/// Integer, Natural or Positive.
+#[tactic(auto, unfolding(ada_legality::specs::Pragmas::integer_named))]
+fn integer_named(word: &[u8]) -> Option<Subtype>
+    ensures { result ≡ integer_named word.now }
+{
+    if is_integer_name(word) {
+        match item_in(30, PredefinedUnit::Standard, word) {
+            None => None,
+            Some(item) => subtype_of_item(item),
+        }
+    } else {
+        None
+    }
+}
+
+/// The same, perhaps behind Standard.
+fn integer_behind(first: &Identifier, others: &[Identifier]) -> Option<Subtype>
+    ensures { result ≡ integer_behind first.now others.now }
+{
+    match others {
+        [] => integer_named(first.text.as_slice()),
+        [second] => {
+            if first.text.as_slice() == b"standard".as_slice() {
+                integer_named(second.text.as_slice())
+            } else {
+                None
+            }
+        }
+        _ => None,
+    }
+}
+
+/// The end of a range that the attribute asks for.
+#[tactic(auto, unfolding(ada_legality::specs::Pragmas::end_of_range))]
+fn end_of_range(attribute: Attribute, range: Constraint) -> Option<i128>
+    ensures { result ≡ end_of_range attribute range }
+{
+    match attribute {
+        Attribute::First => match ends_of(range) {
+            None => None,
+            Some(ends) => Some(ends.low),
+        },
+        Attribute::Last => match ends_of(range) {
+            None => None,
+            Some(ends) => Some(ends.high),
+        },
+        Attribute::Image => None,
+        Attribute::Count => None,
+        Attribute::Identity => None,
+        Attribute::Access => None,
+    }
+}
+
+/// The number of minus a literal.
+fn negative_number(operand: &Expression) -> Result<Option<i128>, NoMemory>
+    ensures { IfOk result (λ n. n ≡ option_map neg_ℤ (whole_literal (out-Expression operand.now).form)) }
+{
+    match whole_literal(operand.form.get())? {
+        None => Ok(None),
+        Some(number) => match number.checked_neg() {
+            None => Err(NoMemory),
+            Some(number) => Ok(Some(number)),
+        },
+    }
+}
+
+/// First or Last of Integer, Natural or Positive.
+#[tactic(auto, unfolding(ada_legality::specs::Pragmas::number_of_form))]
+fn number_of_name(
+    name: &Name,
+    attribute: &Option<AttributeDesignator>,
+    arguments: &[Argument<Expression>],
+) -> Option<i128>
+    ensures { result ≡ number_of_form (form.Named name.now attribute.now arguments.now) }
+{
+    match attribute {
+        None => None,
+        Some(designator) => match arguments {
+            [] => match integer_behind(&name.parts.first, name.parts.others.as_slice()) {
+                None => None,
+                Some(subtype) => end_of_range(designator.attribute, subtype.range),
+            },
+            _ => None,
+        },
+    }
+}
+
+/// The number of a literal behind a sign: that of minus a literal alone is known.
+fn signed_number(sign: Sign, operand: &Expression) -> Result<Option<i128>, NoMemory>
+    ensures { IfOk result (λ n. n ≡ signed_number sign operand.now) }
+{
+    match sign {
+        Sign::Plus => Ok(None),
+        Sign::Minus => negative_number(operand),
+    }
+}
+
+/// The number of a literal, of minus a literal, or of First or Last.
+#[tactic(auto, unfolding(ada_legality::specs::Pragmas::number_of_form, ada_legality::specs::Pragmas::whole_literal))]
+fn number_of_form(form: &ExpressionForm<Expression>) -> Result<Option<i128>, NoMemory>
+    ensures { IfOk result (λ n. n ≡ number_of_form form.now) }
+{
+    match form {
+        ExpressionForm::Logical { .. } => Ok(None),
+        ExpressionForm::Relational { .. } => Ok(None),
+        ExpressionForm::Adding { .. } => Ok(None),
+        ExpressionForm::Signed { sign, operand, .. } => signed_number(*sign, operand),
+        ExpressionForm::Multiplying { .. } => Ok(None),
+        ExpressionForm::Highest { .. } => Ok(None),
+        ExpressionForm::Number { literal, .. } => whole_number(literal.as_slice()),
+        ExpressionForm::Text { .. } => Ok(None),
+        ExpressionForm::Null { .. } => Ok(None),
+        ExpressionForm::Bracketed { .. } => Ok(None),
+        ExpressionForm::Named {
+            name,
+            attribute,
+            arguments,
+        } => Ok(number_of_name(name, attribute, arguments.as_slice())),
+    }
+}
+
+/// The number of an argument.
+pub(crate) fn number_in(argument: &Argument<Expression>) -> Result<Option<i128>, NoMemory>
+    ensures { IfOk result (λ n. n ≡ number_in argument.now) }
+{
+    number_of_form(argument.value.form.get())
+}

@@ -1,0 +1,18 @@
+//! Configuration pragmas (ISO/IEC 8652:2012, 2.8, 13.12, D.2.2, D.2.6, D.3, D.4, D.7): which break a rule, what they forbid or
+//! limit, and which priorities they have dispatched by deadlines. Each function has the name of the definition of
+//! `ada_legality` of which it is the counterpart. A number that its type cannot hold is answered as want of memory.
+#![tactic(auto)]
+
+mod arguments;
+mod clashes;
+mod deadlines;
+mod in_force;
+mod policies;
+mod profile;
+mod ranges;
+mod restrictions;
+
+pub use clashes::pragmas_judged;
+pub use deadlines::deadline_ranges_of;
+pub use in_force::in_force_by;
+pub use ranges::{ends_of, meet, span};

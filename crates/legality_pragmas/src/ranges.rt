@@ -1,0 +1,56 @@
+//! The values from one to another, as numbers (ISO/IEC 8652:2012, 3.5).
+ghost use Rattle.std.specs.Prelude.{◌≡◌};
+ghost use Rattle.ada_legality.specs.Choices.{ends_of, meet, meet_in, span};
+ghost use Rattle.ada_legality.specs.Words.{truth_number};
+
+use ada_legality::Span;
+use profile_machine::Constraint;
+
+/// Whether two ranges have a value in common.
+fn meet_in(a: Span, b: Span) -> bool
+    ensures { result ≡ meet_in a b }
+{
+    (a.low <= a.high && b.low <= b.high) && (a.low <= b.high && b.low <= a.high)
+}
+
+/// Whether two ranges that are known have a value in common.
+#[tactic(auto, unfolding(ada_legality::specs::Choices::meet))]
+pub fn meet(a: Option<Span>, b: Option<Span>) -> bool
+    ensures { result ≡ meet a b }
+{
+    match a {
+        None => false,
+        Some(a) => match b {
+            None => false,
+            Some(b) => meet_in(a, b),
+        },
+    }
+}
+
+/// The values from one to another.
+pub fn span(low: i128, high: i128) -> Span
+    ensures { result ≡ span low high }
+{
+    Span { low, high }
+}
+
+/// The place of a truth in the order of Boolean.
+fn truth_number(truth: bool) -> i128
+    ensures { result ≡ truth_number truth }
+{
+    if truth { 1 } else { 0 }
+}
+
+/// The ends of a range, as numbers.
+#[tactic(auto, unfolding(ada_legality::specs::Choices::ends_of))]
+pub fn ends_of(range: Constraint) -> Option<Span>
+    ensures { result ≡ ends_of range }
+{
+    match range {
+        Constraint::Free => None,
+        Constraint::Whole { low, high } => Some(span(i128::from(low), i128::from(high))),
+        Constraint::Truth { low, high } => Some(span(truth_number(low), truth_number(high))),
+        Constraint::Literal { low, high } => Some(span(i128::from(low), i128::from(high))),
+        Constraint::Ticks { low, high } => Some(span(i128::from(low), i128::from(high))),
+    }
+}

@@ -1,0 +1,126 @@
+//! Units that may be used (ISO/IEC 8652:2012, 10.1.2, 10.1.6): under a with clause for them, or for one that stands in them.
+ghost use Rattle.std.specs.Prelude.{◌≡◌};
+ghost use Rattle.std.specs.List.{list_any};
+ghost use Rattle.ada_regions.specs.declared.entities.Denoted.TheVariants as denotes;
+ghost use Rattle.ada_regions.specs.PredefinedUnits.{parent_unit};
+ghost use Rattle.ada_regions.specs.SelectedNames.{frame_owned_by};
+ghost use Rattle.ada_regions.specs.Visibility.{is_unit_or_parent, is_withed_by, same_denoted, stands_under};
+ghost use Rattle.ada_regions.specs.Words.{and_then};
+ghost use Rattle.ada_legality.specs.UnitsUsed.{is_usable_unit};
+
+use ada_predefined::{parent_unit, same_unit};
+use ada_regions::{Denoted, Frame, Names, PredefinedUnit};
+use world_tables::List;
+
+fn is_unit_or_parent(unit: PredefinedUnit, other: Option<PredefinedUnit>) -> bool
+    ensures { result ≡ is_unit_or_parent unit other }
+{
+    match other {
+        None => false,
+        Some(other) => same_unit(unit, other),
+    }
+}
+
+/// The unit in which the unit stands in which this one stands.
+fn grandparent(unit: PredefinedUnit) -> Option<PredefinedUnit>
+    ensures { result ≡ and_then (parent_unit unit) parent_unit }
+{
+    match parent_unit(unit) {
+        None => None,
+        Some(parent) => parent_unit(parent),
+    }
+}
+
+/// Whether a unit is another one, or one in which that stands.
+#[tactic(auto, unfolding(ada_regions::specs::Visibility::stands_under))]
+fn stands_under(unit: PredefinedUnit, other: PredefinedUnit) -> bool
+    ensures { result ≡ stands_under unit other }
+{
+    same_unit(unit, other)
+        || (is_unit_or_parent(unit, parent_unit(other))
+            || is_unit_or_parent(unit, grandparent(other)))
+}
+
+fn is_withed_by(unit: PredefinedUnit, clause: Denoted) -> bool
+    ensures { result ≡ is_withed_by unit clause }
+{
+    match clause {
+        Denoted::Entity(_) => false,
+        Denoted::Unit(other) => stands_under(unit, other),
+        Denoted::Item { .. } => false,
+    }
+}
+
+/// Whether a predefined unit is under one of these with clauses.
+fn is_withed(withs: &List<Denoted>, unit: PredefinedUnit) -> bool
+    ensures { result ≡ list_any (is_withed_by unit) withs.now }
+{
+    for clause in withs.iter() {
+        if is_withed_by(unit, *clause) {
+            return true;
+        }
+    }
+    false
+}
+
+/// Whether a with clause names the entity.
+#[tactic(auto, unfolding(ada_regions::specs::Visibility::same_denoted))]
+fn is_entity_of(entity: u32, clause: Denoted) -> bool
+    ensures { result ≡ same_denoted (denotes.Entity entity) clause }
+{
+    match clause {
+        Denoted::Entity(other) => entity == other,
+        Denoted::Unit(_) => false,
+        Denoted::Item { .. } => false,
+    }
+}
+
+/// Whether a package is under one of these with clauses.
+fn is_entity_withed(withs: &List<Denoted>, entity: u32) -> bool
+    ensures { result ≡ list_any (same_denoted (denotes.Entity entity)) withs.now }
+{
+    for clause in withs.iter() {
+        if is_entity_of(entity, *clause) {
+            return true;
+        }
+    }
+    false
+}
+
+/// Whether a region is that of the entity.
+fn frame_owned_by(entity: u32, frame: &Frame) -> bool
+    ensures { result ≡ frame_owned_by entity frame.now }
+{
+    match frame.owner {
+        None => false,
+        Some(owner) => owner == entity,
+    }
+}
+
+/// Whether the region of a package is open.
+fn is_open(frames: &List<Frame>, entity: u32) -> bool
+    ensures { result ≡ list_any (frame_owned_by entity) frames.now }
+{
+    for frame in frames.iter() {
+        if frame_owned_by(entity, frame) {
+            return true;
+        }
+    }
+    false
+}
+
+/// A unit may be used where these with clauses hold: a package in itself, and Standard, always.
+#[tactic(auto, unfolding(ada_legality::specs::UnitsUsed::is_usable_unit))]
+pub(crate) fn is_usable_unit(names: &Names<'_>, denoted: Denoted) -> bool
+    ensures { result ≡ is_usable_unit names.now denoted }
+{
+    match denoted {
+        Denoted::Unit(unit) => {
+            same_unit(unit, PredefinedUnit::Standard) || is_withed(&names.withs, unit)
+        }
+        Denoted::Entity(entity) => {
+            is_entity_withed(&names.withs, entity) || is_open(&names.frames, entity)
+        }
+        Denoted::Item { .. } => true,
+    }
+}

@@ -3,7 +3,7 @@ use Rattle.std.proofs.Common.{◌≡◌, ◌<◌, ◌∙◌, ℕ, List, Err, len
 use Rattle.std.proofs.lemmas.Bool.{lt-ltb}
 use Rattle.ada_lex.specs.declared.lexing.TheConstants.{MAX_SOURCE}
 use Rattle.ada_lex.specs.Reading.{tokens_of}
-use Rattle.ada_names.specs.declared.image.Image.{Image}
+use Rattle.profile_machine.specs.declared.image.Image.{Image}
 use Rattle.ada_front.specs.declared.refusing.Code.TheVariants as code
 use Rattle.ada_front.specs.Refusals.{refused_at, first_place}
 use Rattle.ada_front.specs.Accepted.{Accepted, judged, LongSourcesAreRefused}

@@ -7,8 +7,10 @@ use Rattle.ada_lex.specs.declared.tokens.LexFault.{LexFault}
 use Rattle.ada_lex.specs.declared.tokens.LexFault.TheVariants as lexical
 use Rattle.ada_grammar.specs.declared.faults.ParseFault.{ParseFault}
 use Rattle.ada_grammar.specs.declared.faults.ParseFault.TheVariants as grammatical
-use Rattle.ada_names.specs.declared.faults.NameFault.{NameFault}
-use Rattle.ada_names.specs.declared.faults.NameFault.TheVariants as named
+use Rattle.ada_regions.specs.declared.faults.NameFault.{NameFault}
+use Rattle.ada_regions.specs.declared.faults.NameFault.TheVariants as named
+use Rattle.ada_legality.specs.declared.faults.Fault.{Fault}
+use Rattle.ada_legality.specs.Faults.{number_of_rule}
 use Rattle.ada_front.specs.declared.refusing.Code.{Code}
 use Rattle.ada_front.specs.declared.refusing.Code.TheVariants as code
 use Rattle.ada_front.specs.declared.refusing.Refusal.{Refusal}
@@ -25,7 +27,6 @@ letter_of code.TooDeep = 70
 letter_of code.Unknown = 70
 letter_of code.Twice = 70
 letter_of code.Ambiguous = 70
-letter_of code.NotBuilt = 76
 letter_of (code.Rule number) = 76
 
 abbrev pub number_of : Code → ℕ
@@ -38,7 +39,6 @@ number_of code.TooDeep = 6
 number_of code.Unknown = 7
 number_of code.Twice = 8
 number_of code.Ambiguous = 9
-number_of code.NotBuilt = 40
 number_of (code.Rule number) = number
 
 abbrev pub code_text : Code → List ℕ
@@ -86,5 +86,6 @@ abbrev pub of_names : NameFault → Refusal
 of_names (named.Unknown place) = refused_at place code.Unknown
 of_names (named.Twice place) = refused_at place code.Twice
 of_names (named.Ambiguous place) = refused_at place code.Ambiguous
--- no source has this fault; it stands here since the type has it
-of_names named.Memory = refused_at first_place code.Unknown
+
+abbrev pub of_rules : Fault → Refusal
+of_rules fault = refused_at fault.place (code.Rule (number_of_rule fault.rule))

@@ -4,30 +4,32 @@ ghost use Rattle.ann_base.specs.Answers.{Answers};
 ghost use Rattle.ada_lex.specs.Lexed.{AreTokensOf};
 ghost use Rattle.ada_tree.specs.Written.{lexemes_of};
 ghost use Rattle.ada_grammar.specs.ReadingUnits.{unit_of};
-ghost use Rattle.ada_built.specs.Built.{built_of};
-ghost use Rattle.ada_built.specs.Readable.{IsReadable};
-ghost use Rattle.ada_names.specs.declared.image.Image.{Image};
-ghost use Rattle.ada_names.specs.NameFaults.{name_fault_of};
-ghost use Rattle.ada_static.specs.Faults.{IsNumbered, rule_fault_of};
-ghost use Rattle.ada_front.specs.Accepted.{Accepted, AcceptedProgram, AcceptedTokens, AcceptedTree, IsReadableOnceBuilt, judged, by_forms, by_grammar, by_names, by_rules};
+ghost use Rattle.ada_regions.specs.Numbered.{names_of, name_fault_of};
+ghost use Rattle.ada_legality.specs.Faults.{first_fault_of};
+ghost use Rattle.ada_image.specs.ImageOfUnits.{program_of};
+ghost use Rattle.profile_machine.specs.declared.image.Image.{Image};
+ghost use Rattle.ada_front.specs.Accepted.{Accepted, AcceptedTokens, AcceptedTree, judged, by_grammar, by_names, by_rules};
 
-use crate::refusing::{Code, Refusal, of_grammar, of_tokens, refused_at};
-use ada_built::{NotBuilt, Unit as Program, built, built_is_readable};
+use crate::refusing::{Refusal, of_grammar, of_names, of_rules, of_tokens};
+use ada_legality::Fault;
 use ada_lex::{MAX_SOURCE, Token, lex};
-use ada_names::{Image, NameFault, number};
+use ada_naming::names_of;
 use ada_parse::parse;
-use ada_static::{Checked, Refusal as Illegal, check};
+use ada_regions::{NameFault, Names};
 use ada_tree::Unit;
-use ann_base::OrMemory;
+use ann_base::{NoMemory, OrMemory};
+use image_programs::program_from;
+use legality::first_fault;
+use profile_machine::Image;
 use std::alloc::Global;
 
-/// The checked image of a source, or why it is refused.
+/// The image of a source, or why it is refused.
 #[tactic(auto, unfolding(crate::specs::Accepted::judged))]
-pub fn accept(alloc: Global, source: &[u8]) -> Result<Checked, OrMemory<Refusal>>
+pub fn accept(alloc: Global, source: &[u8]) -> Result<Image, OrMemory<Refusal>>
     // The answer is the stated one, unless memory ran out.
     ensures exact { Answers result (judged source.now) }
     // What it answers is accepted, and what is accepted it answers.
-    ensures accepted { IfOk result (λ checked. Accepted source.now checked) }
+    ensures accepted { IfOk result (λ image. Accepted source.now image) }
     ensures only { (image : Image) → Accepted source.now image → Answers result (Ok image) }
 {
     match lex(alloc, source) {
@@ -38,20 +40,14 @@ pub fn accept(alloc: Global, source: &[u8]) -> Result<Checked, OrMemory<Refusal>
 }
 
 /// From tokens on.
-fn accept_tokens(
-    alloc: Global,
-    source: &[u8],
-    tokens: &[Token],
-) -> Result<Checked, OrMemory<Refusal>>
+fn accept_tokens(alloc: Global, source: &[u8], tokens: &[Token]) -> Result<Image, OrMemory<Refusal>>
     requires inside { AreTokensOf source.now tokens.now }
     requires count { length tokens.now ≤ length source.now }
     requires short { length source.now ≤ MAX_SOURCE }
     ensures exact { Answers result (by_grammar source.now tokens.now (unit_of (lexemes_of source.now tokens.now))) }
-    ensures accepted { IfOk result (λ checked. AcceptedTokens source.now tokens.now checked) }
+    ensures accepted { IfOk result (λ image. AcceptedTokens source.now tokens.now image) }
     ensures only { (image : Image) → AcceptedTokens source.now tokens.now image → Answers result (Ok image) }
 {
-    // What the law of built programs says of the tree that is found.
-    built_is_readable();
     match parse(alloc, source, tokens) {
         Ok(tree) => accept_tree(alloc, &tree),
         Err(OrMemory::Fault(fault)) => Err(OrMemory::Fault(of_grammar(source, tokens, fault))),
@@ -60,46 +56,96 @@ fn accept_tokens(
 }
 
 /// From the tree on.
-fn accept_tree(alloc: Global, tree: &Unit) -> Result<Checked, OrMemory<Refusal>>
-    requires { IsReadableOnceBuilt tree.now }
-    ensures exact { Answers result (by_forms (built_of tree.now)) }
-    ensures accepted { IfOk result (λ checked. AcceptedTree tree.now checked) }
+fn accept_tree(alloc: Global, tree: &Unit) -> Result<Image, OrMemory<Refusal>>
+    ensures exact { Answers result (by_names tree.now (name_fault_of tree.now)) }
+    ensures accepted { IfOk result (λ image. AcceptedTree tree.now image) }
 {
-    match built(alloc, tree) {
-        Ok(program) => accept_program(alloc, &program),
-        Err(NotBuilt::Form(place)) => Err(OrMemory::Fault(refused_at(place, Code::NotBuilt))),
-        Err(NotBuilt::Memory) => Err(OrMemory::Memory),
+    match names_of(alloc, tree) {
+        Ok(names) => accept_names(alloc, tree, &names, names.fault),
+        Err(_) => Err(OrMemory::Memory),
     }
 }
 
-/// From the program on.
-fn accept_program(alloc: Global, program: &Program) -> Result<Checked, OrMemory<Refusal>>
-    requires { IsReadable program.now }
-    ensures exact { Answers result (by_names program.now (name_fault_of program.now)) }
-    ensures accepted { IfOk result (λ checked. AcceptedProgram program.now checked) }
+/// From the table of its names on, and the first fault of these, where there is one.
+fn accept_names<'t>(
+    alloc: Global,
+    tree: &'t Unit,
+    names: &Names<'t>,
+    fault: Option<NameFault>,
+) -> Result<Image, OrMemory<Refusal>>
+    requires { names.now ≡ names_of tree.now }
+    ensures exact { Answers result (by_names tree.now fault) }
+    ensures accepted { IfOk result (λ image. (image ≡ program_of tree.now) × (first_fault_of tree.now ≡ None) × (fault ≡ None)) }
 {
-    match number(alloc, program) {
-        Ok(image) => accept_image(alloc, image),
-        Err(NameFault::Unknown(place)) => Err(OrMemory::Fault(refused_at(place, Code::Unknown))),
-        Err(NameFault::Twice(place)) => Err(OrMemory::Fault(refused_at(place, Code::Twice))),
-        Err(NameFault::Ambiguous(place)) => {
-            Err(OrMemory::Fault(refused_at(place, Code::Ambiguous)))
-        }
-        Err(NameFault::Memory) => Err(OrMemory::Memory),
+    match fault {
+        None => accept_named(alloc, tree, names),
+        Some(fault) => Err(OrMemory::Fault(of_names(fault))),
     }
 }
 
-/// From the image on.
-fn accept_image(alloc: Global, image: Image) -> Result<Checked, OrMemory<Refusal>>
-    requires { IsNumbered image }
-    ensures exact { Answers result (by_rules image (rule_fault_of image)) }
-    ensures accepted { IfOk result (λ checked. (checked ≡ image) × (rule_fault_of checked ≡ None)) }
+/// From names without a fault on.
+fn accept_named<'t>(
+    alloc: Global,
+    tree: &'t Unit,
+    names: &Names<'t>,
+) -> Result<Image, OrMemory<Refusal>>
+    requires { names.now ≡ names_of tree.now }
+    ensures exact { Answers result (by_rules tree.now (first_fault_of tree.now)) }
+    ensures accepted { IfOk result (λ image. (image ≡ program_of tree.now) × (first_fault_of tree.now ≡ None)) }
 {
-    match check(alloc, image) {
-        Ok(checked) => Ok(checked),
-        Err(Illegal::Rule { place, rule }) => {
-            Err(OrMemory::Fault(refused_at(place, Code::Rule(rule))))
-        }
-        Err(Illegal::Memory) => Err(OrMemory::Memory),
+    match first_fault_of(alloc, tree, names) {
+        Ok(fault) => accept_judged(alloc, tree, names, fault),
+        Err(_) => Err(OrMemory::Memory),
     }
+}
+
+/// The first rule that a source breaks.
+#[tactic(auto, unfolding(ada_legality::specs::Faults::faults_of))]
+fn first_fault_of<'t>(
+    alloc: Global,
+    tree: &'t Unit,
+    names: &Names<'t>,
+) -> Result<Option<Fault>, NoMemory>
+    requires { names.now ≡ names_of tree.now }
+    ensures { IfOk result (λ fault. fault ≡ first_fault_of tree.now) }
+{
+    first_fault(alloc, tree, names)
+}
+
+/// From the first rule that is broken on, where there is one.
+fn accept_judged(
+    alloc: Global,
+    tree: &Unit,
+    names: &Names<'_>,
+    fault: Option<Fault>,
+) -> Result<Image, OrMemory<Refusal>>
+    requires { names.now ≡ names_of tree.now }
+    ensures exact { Answers result (by_rules tree.now fault) }
+    ensures accepted { IfOk result (λ image. (image ≡ program_of tree.now) × (fault ≡ None)) }
+{
+    match fault {
+        None => accept_legal(alloc, tree, names),
+        Some(fault) => Err(OrMemory::Fault(of_rules(fault))),
+    }
+}
+
+/// The image of a source that no stage refuses.
+fn accept_legal(alloc: Global, tree: &Unit, names: &Names<'_>) -> Result<Image, OrMemory<Refusal>>
+    requires { names.now ≡ names_of tree.now }
+    ensures exact { Answers result (by_rules tree.now None) }
+    ensures accepted { IfOk result (λ image. image ≡ program_of tree.now) }
+{
+    match program_of(alloc, tree, names) {
+        Ok(image) => Ok(image),
+        Err(_) => Err(OrMemory::Memory),
+    }
+}
+
+/// The image of a source.
+#[tactic(auto, unfolding(ada_image::specs::ImageOfUnits::program_of))]
+fn program_of(alloc: Global, tree: &Unit, names: &Names<'_>) -> Result<Image, NoMemory>
+    requires { names.now ≡ names_of tree.now }
+    ensures { IfOk result (λ image. image ≡ program_of tree.now) }
+{
+    program_from(alloc, names, tree)
 }

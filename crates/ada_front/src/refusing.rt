@@ -1,10 +1,13 @@
 //! Why a source is refused, and where.
 ghost use Rattle.std.specs.Prelude.{◌≡◌, ◌≤◌, length};
-ghost use Rattle.ada_front.specs.Refusals.{letter_of, number_of, of_tokens, of_grammar, place_of, end_of, place_after};
+ghost use Rattle.ada_front.specs.Refusals.{letter_of, number_of, of_tokens, of_grammar, of_names, of_rules, place_of, end_of, place_after};
 
 use ada_grammar::ParseFault;
+use ada_legality::Fault;
 use ada_lex::{LexFault, MAX_SOURCE, Token};
+use ada_regions::NameFault;
 use ann_base::Place;
+use legality_beside::number_of_rule;
 
 /// Why a source is refused. Each has a letter and a number, which are printed: F for the form of a source, L for its
 /// legality.
@@ -28,10 +31,8 @@ pub enum Code {
     Twice,
     /// F9: two use clauses make different declarations of a name visible (8.4).
     Ambiguous,
-    /// L40: a form that is not built.
-    NotBuilt,
-    /// L1 to L40: the rule of legality with this number is broken.
-    Rule(u16),
+    /// L1 to L39: the rule of legality with this number is broken.
+    Rule(u32),
 }
 
 impl Code {
@@ -49,13 +50,12 @@ impl Code {
             Code::Unknown => b'F',
             Code::Twice => b'F',
             Code::Ambiguous => b'F',
-            Code::NotBuilt => b'L',
             Code::Rule(_) => b'L',
         }
     }
 
     /// The number after the letter.
-    pub fn number(self) -> u16
+    pub fn number(self) -> u32
         ensures { result ≡ number_of self }
     {
         match self {
@@ -68,7 +68,6 @@ impl Code {
             Code::Unknown => 7,
             Code::Twice => 8,
             Code::Ambiguous => 9,
-            Code::NotBuilt => 40,
             Code::Rule(number) => number,
         }
     }
@@ -112,8 +111,26 @@ pub fn of_grammar(source: &[u8], tokens: &[Token], fault: ParseFault) -> Refusal
     }
 }
 
+/// The refusal of a name that has no declaration, two, or an unclear one.
+pub fn of_names(fault: NameFault) -> Refusal
+    ensures { result ≡ of_names fault }
+{
+    match fault {
+        NameFault::Unknown(place) => refused_at(place, Code::Unknown),
+        NameFault::Twice(place) => refused_at(place, Code::Twice),
+        NameFault::Ambiguous(place) => refused_at(place, Code::Ambiguous),
+    }
+}
+
+/// The refusal of what breaks a rule, at its first token.
+pub fn of_rules(fault: Fault) -> Refusal
+    ensures { result ≡ of_rules fault }
+{
+    refused_at(fault.place, Code::Rule(number_of_rule(fault.rule)))
+}
+
 /// A refusal for this reason at this place.
-pub fn refused_at(place: Place, code: Code) -> Refusal
+fn refused_at(place: Place, code: Code) -> Refusal
     ensures { result ≡ record { place = place; code = code } }
 {
     Refusal { place, code }

@@ -1,3 +1,4 @@
+pub mod LaterFaults
 pub mod NoteTexts
 pub mod ResponseLines
 pub mod WordTexts

@@ -11,10 +11,10 @@ use crate::testing::serve_table;
 use crate::tracing::serve_trace;
 use ada_front::{Refusal, accept, long_sources_are_refused};
 use ada_lex::MAX_SOURCE;
-use ada_static::Checked;
 use ann_base::{OrMemory, Shelf, Sink};
 use commands::{Outcome, Request, Work, asked};
 use outside_bytes::read_file;
+use profile_machine::Image;
 use std::alloc::Global;
 
 /// How many bytes of a source are read: one more than it may have, so that one that is too long is seen to be.
@@ -92,7 +92,7 @@ fn serve_bytes<K: Sink>(alloc: Global, work: Work, bytes: &[u8], out: &mut K) ->
     ensures monotone_out { K.faults out.old ≤ K.faults out.new }
 {
     match accept(alloc, bytes) {
-        Ok(checked) => serve_image(alloc, work, checked, out),
+        Ok(image) => serve_image(alloc, work, image, out),
         Err(refused) => without_image(refused),
     }
 }
@@ -108,14 +108,14 @@ pub fn without_image(refused: OrMemory<Refusal>) -> Outcome
 }
 
 /// Does what is asked with the image of a source.
-fn serve_image<K: Sink>(alloc: Global, work: Work, checked: Checked, out: &mut K) -> Outcome
+fn serve_image<K: Sink>(alloc: Global, work: Work, image: Image, out: &mut K) -> Outcome
     requires { IsWork work }
-    ensures served { ServesImage [] work checked
+    ensures served { ServesImage [] work image
         (sink_of K.held K.faults out.old out.new) result }
     ensures monotone_out { K.faults out.old ≤ K.faults out.new }
 {
     match work {
-        Work::Run { ticks } => match run(alloc, checked, ticks, out) {
+        Work::Run { ticks } => match run(alloc, image, ticks, out) {
             Ok(stop) => Outcome::Ended(stop),
             Err(OrMemory::Fault(_)) => Outcome::WriteFault,
             Err(OrMemory::Memory) => Outcome::NoMemory,

@@ -1,56 +1,55 @@
-//! Running a checked program and writing its trace.
+//! Running an image and writing its trace.
 ghost use Rattle.std.specs.Prelude.{◌≡◌, ◌≤◌, ◌<◌, codes, IfOk, IfErr, OnOk, OnErr};
 ghost use Rattle.ann_base.specs.Answers.{OfFault};
 ghost use Rattle.ann_base.specs.Outside.{Rose, extended};
 ghost use Rattle.outside_bytes.specs.Pieces.{HoldsPrefix};
 ghost use Rattle.commands.specs.Runs.{text_of_run, stop_of, text_under, stop_under};
 
-use ada_static::Checked;
 use ann_base::{Failed, Moment, OrMemory, Sink};
 use commands::MOST_TICKS;
 use machine_kernel::{Next, Stop, boot};
 use outside_bytes::write_all;
-use profile_machine::Item;
+use profile_machine::{Image, Item};
 use std::alloc::Global;
 use trace_text::LineBuffer;
 use world_tables::List;
 
-/// Writes the run of a checked program without a script up to so many ticks.
+/// Writes the run of an image without a script up to so many ticks.
 pub fn run<K: Sink>(
     alloc: Global,
-    checked: Checked,
+    image: Image,
     ticks: u64,
     out: &mut K,
 ) -> Result<Stop, OrMemory<Failed>>
     requires positive { 0 < ticks }
     requires bounded { ticks ≤ MOST_TICKS }
-    ensures written { OnOk result (K.held out.new ≡ extended (K.held out.old) (text_of_run checked ticks)) }
-    ensures stop { IfOk result (λ stop. stop ≡ stop_of checked ticks) }
-    ensures prefix { OnErr result (HoldsPrefix (K.held out.old) (K.held out.new) (text_of_run checked ticks)) }
+    ensures written { OnOk result (K.held out.new ≡ extended (K.held out.old) (text_of_run image ticks)) }
+    ensures stop { IfOk result (λ stop. stop ≡ stop_of image ticks) }
+    ensures prefix { OnErr result (HoldsPrefix (K.held out.old) (K.held out.new) (text_of_run image ticks)) }
     ensures monotone { K.faults out.old ≤ K.faults out.new }
     ensures cause { IfErr result (OfFault (λ _. Rose (K.faults out.old) (K.faults out.new))) }
 {
-    run_under(alloc, checked, List::new(alloc), ticks, out)
+    run_under(alloc, image, List::new(alloc), ticks, out)
 }
 
-/// Writes the run of a checked program under the items of a script up to so many ticks, line by line: all of its text
-/// where it ends, and a prefix of it otherwise.
+/// Writes the run of an image under the items of a script up to so many ticks, line by line: all of its text where it
+/// ends, and a prefix of it otherwise.
 pub fn run_under<K: Sink>(
     alloc: Global,
-    checked: Checked,
+    image: Image,
     items: List<(Moment, Item)>,
     ticks: u64,
     out: &mut K,
 ) -> Result<Stop, OrMemory<Failed>>
     requires positive { 0 < ticks }
     requires bounded { ticks ≤ MOST_TICKS }
-    ensures written { OnOk result (K.held out.new ≡ extended (K.held out.old) (text_under items checked ticks)) }
-    ensures stop { IfOk result (λ stop. stop ≡ stop_under items checked ticks) }
-    ensures prefix { OnErr result (HoldsPrefix (K.held out.old) (K.held out.new) (text_under items checked ticks)) }
+    ensures written { OnOk result (K.held out.new ≡ extended (K.held out.old) (text_under items image ticks)) }
+    ensures stop { IfOk result (λ stop. stop ≡ stop_under items image ticks) }
+    ensures prefix { OnErr result (HoldsPrefix (K.held out.old) (K.held out.new) (text_under items image ticks)) }
     ensures monotone { K.faults out.old ≤ K.faults out.new }
     ensures cause { IfErr result (OfFault (λ _. Rose (K.faults out.old) (K.faults out.new))) }
 {
-    let mut kernel = boot(alloc, checked.into_program(), items, ticks)?;
+    let mut kernel = boot(alloc, image, items, ticks)?;
     let mut buffer = LineBuffer::new(alloc)?;
     loop {
         buffer.clear();

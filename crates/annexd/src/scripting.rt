@@ -8,12 +8,11 @@ ghost use Rattle.commands.specs.Performed.{Performs, ReadsFile, ReadsScript, Ser
 use crate::performing::{SOURCE_READ, without_image};
 use crate::running::run_under;
 use ada_front::{accept, long_sources_are_refused};
-use ada_static::Checked;
 use ann_base::{Moment, OrMemory, Shelf, Sink};
 use commands::{NoItems, Outcome};
 use event_script::{SCRIPT_BYTES, cut_scripts_are_read_alike, read_script};
 use outside_bytes::read_file;
-use profile_machine::Item;
+use profile_machine::{Image, Item};
 use std::alloc::Global;
 use world_tables::List;
 
@@ -62,29 +61,29 @@ fn serve_under<S: Shelf, K: Sink>(
     ensures monotone_out { K.faults out.old ≤ K.faults out.new }
 {
     match accept(alloc, bytes) {
-        Ok(checked) => serve_checked(alloc, checked, script, ticks, shelf, out),
+        Ok(image) => serve_image_under(alloc, image, script, ticks, shelf, out),
         Err(refused) => without_image(refused),
     }
 }
 
-/// Runs a checked program under the named script.
-fn serve_checked<S: Shelf, K: Sink>(
+/// Runs an image under the named script.
+fn serve_image_under<S: Shelf, K: Sink>(
     alloc: Global,
-    checked: Checked,
+    image: Image,
     script: &[u8],
     ticks: u64,
     shelf: &mut S,
     out: &mut K,
 ) -> Outcome
     requires { IsTicks ticks }
-    ensures served { ServesScript script.now ticks checked
+    ensures served { ServesScript script.now ticks image
         (shelf_of S.files S.faults shelf.old shelf.new)
         (sink_of K.held K.faults out.old out.new) result }
     ensures monotone_shelf { S.faults shelf.old ≤ S.faults shelf.new }
     ensures monotone_out { K.faults out.old ≤ K.faults out.new }
 {
     match read_items(alloc, script, shelf) {
-        Ok(items) => serve_items(alloc, checked, items, ticks, out),
+        Ok(items) => serve_items(alloc, image, items, ticks, out),
         Err(missing) => missing.outcome(),
     }
 }
@@ -118,20 +117,20 @@ fn items_in(alloc: Global, text: &[u8]) -> Result<List<(Moment, Item)>, NoItems>
     }
 }
 
-/// Runs a checked program under the items of a script.
+/// Runs an image under the items of a script.
 fn serve_items<K: Sink>(
     alloc: Global,
-    checked: Checked,
+    image: Image,
     items: List<(Moment, Item)>,
     ticks: u64,
     out: &mut K,
 ) -> Outcome
     requires { IsTicks ticks }
-    ensures served { ServesImage items (work.Run ticks) checked
+    ensures served { ServesImage items (work.Run ticks) image
         (sink_of K.held K.faults out.old out.new) result }
     ensures monotone_out { K.faults out.old ≤ K.faults out.new }
 {
-    match run_under(alloc, checked, items, ticks, out) {
+    match run_under(alloc, image, items, ticks, out) {
         Ok(stop) => Outcome::Ended(stop),
         Err(OrMemory::Fault(_)) => Outcome::WriteFault,
         Err(OrMemory::Memory) => Outcome::NoMemory,

@@ -12,7 +12,7 @@ const TRACE: &[u8] =
     b"0 t0 new main 15\n0 t0 ready 15 tail\n0 t0 run\n7 t0 put hi\n9 t0 done\n9 end completed\n";
 
 /// Sources with the trace of their run.
-const RUNS: [(&[u8], &[u8]); 6] = [
+const RUNS: [(&[u8], &[u8]); 9] = [
     (
         b"procedure Main is X : Integer := 5; begin X := 7; end Main;",
         b"0 t0 new main 15\n0 t0 ready 15 tail\n0 t0 run\n6 t0 done\n6 end completed\n",
@@ -36,6 +36,32 @@ const RUNS: [(&[u8], &[u8]); 6] = [
     (
         b"procedure Main is Put_Line : Integer := 1; begin Put_Line := 2; end;",
         b"0 t0 new main 15\n0 t0 ready 15 tail\n0 t0 run\n6 t0 done\n6 end completed\n",
+    ),
+    (
+        b"procedure Main is X : Integer; begin if X = 1 then null; end if; end Main;",
+        b"0 t0 new main 15\n0 t0 ready 15 tail\n0 t0 run\n7 t0 done\n7 end completed\n",
+    ),
+    (
+        b"pragma Queuing_Policy (FIFO_Queuing); procedure Main is begin null; end Main;",
+        b"0 t0 new main 15\n0 t0 ready 15 tail\n0 t0 run\n5 t0 done\n5 end completed\n",
+    ),
+    (
+        b"with Ada.Text_IO; use Ada.Text_IO; procedure Main is task T; task body T is begin Put_Line (\"t\"); end T; begin null; end Main;",
+        b"0 t0 new main 15\n0 t0 ready 15 tail\n0 t0 run\n4 t1 new main.t 15\n6 t1 ready 15 tail\n6 t0 block activation\n6 t1 run\n7 t0 ready 15 tail\n11 t1 put t\n12 t1 done\n12 t0 run\n14 t0 leave 1 end\n15 t0 left 1\n16 t0 done\n16 end completed\n",
+    ),
+];
+
+/// Sources whose run ends with an exception, or because nobody can go on, with their trace and the status.
+const ENDINGS: [(&[u8], &[u8], u8); 2] = [
+    (
+        b"procedure Main is X : Integer; begin X := 1 / (X - X); end Main;",
+        b"0 t0 new main 15\n0 t0 ready 15 tail\n0 t0 run\n6 t0 raise constraint_error\n8 t0 done\n8 end exception constraint_error\n",
+        1,
+    ),
+    (
+        b"procedure Main is protected P is entry E; end P; protected body P is entry E when False is begin null; end E; end P; begin P.E; end Main;",
+        b"0 t0 new main 15\n0 t0 ready 15 tail\n0 t0 run\n3 p1 new main.p 30\n5 t0 call 1 p1.e 15\n5 t0 enter p1 write\n5 t0 exit p1\n5 t0 block entry\n5 end stuck\n",
+        2,
     ),
 ];
 
@@ -141,15 +167,15 @@ const REFUSALS: [(&[u8], &[u8]); 29] = [
     ),
     (
         b"procedure Main is begin raise; end Main;",
-        b"source refused 1:25 L40\n",
+        b"source refused 1:25 L18\n",
     ),
     (
-        b"procedure Main is X : Integer; begin if X = 1 then null; end if; end Main;",
-        b"source refused 1:38 L40\n",
+        b"procedure Main is X : Integer; begin X := 1 and X; end Main;",
+        b"source refused 1:45 L10\n",
     ),
     (
-        b"pragma Queuing_Policy (FIFO_Queuing); procedure Main is begin null; end Main;",
-        b"source refused 1:1 L40\n",
+        b"package P is A : Integer; end P; package Q is A : Integer; end Q; with P; use P; with Q; use Q; procedure Main is begin A := 1; end Main;",
+        b"source refused 1:121 F9\n",
     ),
 ];
 
@@ -368,10 +394,21 @@ fn a_source_is_accepted_or_not(rt: HostRuntime) -> Result<(), Fail> {
 }
 
 #[test]
-fn programs_with_variables_run(rt: HostRuntime) -> Result<(), Fail> {
+fn programs_run(rt: HostRuntime) -> Result<(), Fail> {
     for (source, trace) in RUNS {
         let got = answer(rt.alloc(), &[b"run", b"source"], source, 100, &[], &[])?;
         assert_eq!(rt; got.status, 0);
+        assert_eq!(rt; got.out.held(), trace);
+        assert_eq!(rt; got.notes.held(), b"".as_slice());
+    }
+    Ok(())
+}
+
+#[test]
+fn a_run_tells_how_it_ends(rt: HostRuntime) -> Result<(), Fail> {
+    for (source, trace, status) in ENDINGS {
+        let got = answer(rt.alloc(), &[b"run", b"source"], source, 100, &[], &[])?;
+        assert_eq!(rt; got.status, status);
         assert_eq!(rt; got.out.held(), trace);
         assert_eq!(rt; got.notes.held(), b"".as_slice());
     }

@@ -8,7 +8,7 @@ use Rattle.ann_base.specs.Outside.{Rose, Lacks, LacksIn}
 use Rattle.outside_bytes.specs.Files.{told, WhereTold}
 use Rattle.ada_lex.specs.declared.lexing.TheConstants.{MAX_SOURCE}
 use Rattle.profile_machine.specs.declared.run_data.Item.{Item}
-use Rattle.ada_names.specs.declared.image.Image.{Image}
+use Rattle.profile_machine.specs.declared.image.Image.{Image}
 use Rattle.ada_front.specs.declared.refusing.Refusal.{Refusal}
 use Rattle.ada_front.specs.Accepted.{Accepted as IsAccepted, judged, LongSourcesAreRefused}
 use Rattle.event_script.specs.declared.faults.TheConstants.{SCRIPT_BYTES}

@@ -4,7 +4,7 @@ use Rattle.outside_bytes.specs.Files.{Untold, Holds, file_in, told, WhereTold}
 use Rattle.trace_text.specs.declared.events.Ended.{Ended as Stop}
 use Rattle.trace_text.specs.declared.events.Ended.TheVariants as why
 use Rattle.profile_machine.specs.declared.run_data.Item.{Item}
-use Rattle.ada_names.specs.declared.image.Image.{Image}
+use Rattle.profile_machine.specs.declared.image.Image.{Image}
 use Rattle.ada_front.specs.declared.refusing.Refusal.{Refusal}
 use Rattle.ada_front.specs.Accepted.{Accepted as IsAccepted}
 use Rattle.event_script.specs.declared.faults.ScriptFault.{ScriptFault}

@@ -5,7 +5,7 @@ use Rattle.ann_base.specs.declared.faults.OrMemory.TheVariants as answer
 use Rattle.ann_base.specs.Outside.{Lacks}
 use Rattle.outside_bytes.specs.Files.{told, WhereTold}
 use Rattle.profile_machine.specs.declared.run_data.Item.{Item}
-use Rattle.ada_names.specs.declared.image.Image.{Image}
+use Rattle.profile_machine.specs.declared.image.Image.{Image}
 use Rattle.ada_front.specs.declared.refusing.Refusal.{Refusal}
 use Rattle.ada_front.specs.Accepted.{Accepted as IsAccepted, judged}
 use Rattle.event_script.specs.declared.faults.ScriptFault.{ScriptFault}

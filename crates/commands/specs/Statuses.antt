@@ -2,7 +2,7 @@
 use Rattle.std.specs.Prelude.{◌≡◌, ◌≢◌, ◌≤◌, ◌⊎◌, ℕ, ℤ, Bool, false, true, List, [], Option, Some, None, Result, Ok, Err, codes}
 use Rattle.outside_bytes.specs.Files.{told, Holds, WhereTold}
 use Rattle.profile_machine.specs.declared.run_data.Item.{Item}
-use Rattle.ada_names.specs.declared.image.Image.{Image}
+use Rattle.profile_machine.specs.declared.image.Image.{Image}
 use Rattle.ada_front.specs.declared.refusing.Refusal.{Refusal}
 use Rattle.ada_front.specs.Accepted.{Accepted as IsAccepted}
 use Rattle.event_script.specs.declared.faults.ScriptFault.{ScriptFault}

@@ -6,7 +6,7 @@ use Rattle.annexd.proofs.performing.serve_bytes.Goals as goal
 
 pub returns-in-Ok-clause-served : goal.returns-in-Ok-clause-served
 returns-in-Ok-clause-served g c =
-    accepted_served c.args.work c.args.bytes.now c.in-Ok.checked (sink_of g.K.Sink.held g.K.Sink.faults c.args.out.now c.serve_image.new.out) c.serve_image.result
+    accepted_served c.args.work c.args.bytes.now c.in-Ok.image (sink_of g.K.Sink.held g.K.Sink.faults c.args.out.now c.serve_image.new.out) c.serve_image.result
     c.in-Ok.ensures.accepted c.in-Ok.ensures.only c.serve_image.ensures.served
 
 pub returns-in-Err-clause-served : goal.returns-in-Err-clause-served

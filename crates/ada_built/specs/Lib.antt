@@ -1,4 +1,0 @@
-pub mod Readable
-pub mod Openings
-pub mod Built
-pub mod Laws

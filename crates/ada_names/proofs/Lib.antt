@@ -1,4 +1,0 @@
-pub mod TableLemmas
-pub mod Prefixes
-pub mod FaultSteps
-pub mod ImageSteps

@@ -1,5 +1,5 @@
 //! Bodies in regions of their own.
-ghost use Rattle.std.specs.Prelude.{◌≡◌, ◌++◌, IfOk, OnOk};
+ghost use Rattle.std.specs.Prelude.{◌≡◌, IfOk, OnOk};
 ghost use Rattle.ada_regions.specs.Completions.{body_frame, body_apart};
 
 use ada_entities::{copy, opened};
@@ -32,19 +32,6 @@ pub(crate) fn body_frame(
     })
 }
 
-/// Puts the bindings behind others.
-#[tactic(auto, using(crate::proofs::Moved::one_moved, crate::proofs::Moved::all_moved))]
-fn put_behind(bindings: &mut List<Binding>, others: List<Binding>) -> Result<(), NoMemory>
-    ensures { OnOk result (bindings.new ≡ others ++ bindings.old) }
-{
-    let mut all = others;
-    while let Some(binding) = bindings.pop_front() {
-        all.push_back(binding)?;
-    }
-    *bindings = all;
-    Ok(())
-}
-
 /// A body with a region of its own, in which these names are bound.
 #[tactic(auto, unfolding(ada_regions::specs::Completions::body_apart))]
 pub fn body_apart(
@@ -61,6 +48,6 @@ pub fn body_apart(
     let next = region.checked_add(1).ok_or(NoMemory)?;
     let frame = body_frame(alloc, region, owner, identifier, scope)?;
     names.regions = next;
-    put_behind(&mut names.bindings, seen)?;
+    names.bindings.put(region, seen)?;
     opened(names, frame)
 }

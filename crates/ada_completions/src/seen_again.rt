@@ -1,8 +1,8 @@
 //! A body that completes nothing sees what the unit declares, in a region of its own.
-ghost use Rattle.std.specs.Prelude.{◌≡◌, IfOk};
+ghost use Rattle.std.specs.Prelude.{◌≡◌, Some, IfOk};
 ghost use Rattle.ada_regions.specs.Words.{and_then};
 ghost use Rattle.ada_regions.specs.Names.{kind_at};
-ghost use Rattle.ada_regions.specs.Completions.{is_component, holds_of, is_declared_in_unit, bound_again, seen_again};
+ghost use Rattle.ada_regions.specs.Completions.{is_component, holds_of, is_declared_in_unit, bound_again, seen_among, seen_again};
 
 use ada_entities::{copy, kind_at};
 use ada_regions::{Binding, EntityKind, Names};
@@ -29,29 +29,43 @@ fn is_component_at(names: &Names<'_>, entity: Option<u32>) -> bool
     }
 }
 
-/// Whether a binding is one that the unit of this region declares, as its body sees it.
-fn is_declared_in_unit(names: &Names<'_>, region: u32, binding: &Binding) -> bool
-    ensures { result ≡ is_declared_in_unit names.now region binding.now }
+/// Whether a binding is one that the unit declares, as its body sees it.
+fn is_declared_in_unit(names: &Names<'_>, binding: &Binding) -> bool
+    ensures { result ≡ is_declared_in_unit names.now binding.now }
 {
-    binding.region == region
-        && binding.entity.is_some()
-        && (binding.exported || is_component_at(names, binding.entity))
+    binding.entity.is_some() && (binding.exported || is_component_at(names, binding.entity))
 }
 
-/// A binding again, in another region.
-fn bound_again(alloc: Global, region: u32, binding: &Binding) -> Result<Binding, NoMemory>
-    ensures { IfOk result (λ again. again ≡ bound_again region binding.now) }
+/// A binding again, for another region.
+fn bound_again(alloc: Global, binding: &Binding) -> Result<Binding, NoMemory>
+    ensures { IfOk result (λ again. again ≡ bound_again binding.now) }
 {
     let name = copy(alloc, binding.name.as_slice())?;
     Ok(Binding {
-        region,
         name,
         entity: binding.entity,
         exported: false,
     })
 }
 
-/// What the unit of this region declares, bound again in the region that is to be opened.
+/// What a unit declares of the names that its region binds, to be bound again.
+fn seen_among(
+    alloc: Global,
+    names: &Names<'_>,
+    bound: &List<Binding>,
+) -> Result<List<Binding>, NoMemory>
+    ensures { IfOk result (λ seen. seen ≡ seen_among names.now (Some bound.now)) }
+{
+    let mut seen = List::new(alloc);
+    for binding in bound.iter() {
+        if is_declared_in_unit(names, binding) {
+            seen.push_back(bound_again(alloc, binding)?)?;
+        }
+    }
+    Ok(seen)
+}
+
+/// What the unit of this region declares, to be bound again in the region that is to be opened.
 #[tactic(auto, unfolding(ada_regions::specs::Completions::seen_again))]
 pub(crate) fn seen_again(
     alloc: Global,
@@ -60,11 +74,8 @@ pub(crate) fn seen_again(
 ) -> Result<List<Binding>, NoMemory>
     ensures { IfOk result (λ seen. seen ≡ seen_again names.now region) }
 {
-    let mut seen = List::new(alloc);
-    for binding in names.bindings.iter() {
-        if is_declared_in_unit(names, region, binding) {
-            seen.push_back(bound_again(alloc, names.regions, binding)?)?;
-        }
+    match names.bindings.get(region) {
+        None => Ok(List::new(alloc)),
+        Some(bound) => seen_among(alloc, names, bound),
     }
-    Ok(seen)
 }

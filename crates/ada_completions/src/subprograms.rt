@@ -155,7 +155,7 @@ fn body_of_declared(
     let number = number_specified(names, entity);
     numbered_if(alloc, names, specification, number)?;
     with_body(names, entity)?;
-    noted(names, identifier.place, Denoted::Entity(entity))
+    noted(alloc, names, identifier.place, Denoted::Entity(entity))
 }
 
 #[tactic(auto, unfolding(ada_regions::specs::Completions::completed_or_declared))]

@@ -212,7 +212,7 @@ fn body_here(
     ensures { OnOk result (names.new ≡ body_here kind entity identifier.now scope names.old) }
 {
     if is_unit(names, kind, entity) {
-        noted(names, identifier.place, Denoted::Entity(entity))?;
+        noted(alloc, names, identifier.place, Denoted::Entity(entity))?;
         first_body(alloc, names, entity, identifier, scope)
     } else {
         body_alone(alloc, names, identifier, scope)
@@ -257,7 +257,7 @@ pub fn body_begun(
     match entity_bound(names, region_here(names), identifier.text.as_slice()) {
         Some(entity) => body_here(alloc, names, kind, entity, identifier, scope),
         None => {
-            resolved(names, identifier)?;
+            resolved(alloc, names, identifier)?;
             let entity = entity_denoted(names, identifier.place);
             body_elsewhere(alloc, names, kind, entity, identifier, scope)
         }
@@ -266,11 +266,15 @@ pub fn body_begun(
 
 /// The name of an entry's body: an entry of the unit, else whatever the name denotes.
 #[tactic(auto, unfolding(ada_regions::specs::Completions::entry_mentioned))]
-pub fn entry_mentioned(names: &mut Names<'_>, identifier: &Identifier) -> Result<(), NoMemory>
+pub fn entry_mentioned(
+    alloc: Global,
+    names: &mut Names<'_>,
+    identifier: &Identifier,
+) -> Result<(), NoMemory>
     ensures { OnOk result (names.new ≡ entry_mentioned identifier.now names.old) }
 {
     match entity_bound(names, region_here(names), identifier.text.as_slice()) {
-        Some(entity) => noted(names, identifier.place, Denoted::Entity(entity)),
-        None => resolved(names, identifier),
+        Some(entity) => noted(alloc, names, identifier.place, Denoted::Entity(entity)),
+        None => resolved(alloc, names, identifier),
     }
 }

@@ -3,7 +3,7 @@ ghost use Rattle.std.specs.Prelude.{◌≡◌, IfOk, OnOk, is_some};
 ghost use Rattle.ada_regions.specs.Names.{binding_in, enclosure_of};
 ghost use Rattle.ada_regions.specs.Declaring.{with_binding, hidden, is_taken, told_if_taken, with_entity, entered, entered_here, library_frame, unit_is_taken, entered_as_unit};
 
-use ada_entities::{binding_in, copy, enclosure_here, noted, region_here, told};
+use ada_entities::{binding_in, bound_in, copy, enclosure_here, noted, region_here, told};
 use ada_regions::{Binding, Denoted, Enclosure, Entity, EntityKind, NameFault, Names};
 use ada_tree::Identifier;
 use ada_visibility::{bound, in_standard};
@@ -32,13 +32,12 @@ fn with_binding(
     ensures { OnOk result (names.new ≡ with_binding enclosure name.now entity names.old) }
 {
     let name = copy(alloc, name)?;
-    names.bindings.push_front(Binding {
-        region: enclosure.region,
+    let binding = Binding {
         name,
         entity,
         exported: enclosure.exports,
-    })?;
-    Ok(())
+    };
+    bound_in(alloc, &mut names.bindings, enclosure.region, binding)
 }
 
 /// Whether a region binds a name, be it hidden or not.
@@ -122,7 +121,7 @@ pub fn entered(
         identifier.text.as_slice(),
         Some(entity),
     )?;
-    noted(names, identifier.place, Denoted::Entity(entity))
+    noted(alloc, names, identifier.place, Denoted::Entity(entity))
 }
 
 /// A name is declared in the region in which it stands.

@@ -1,11 +1,14 @@
 //! What names denote, the entities of a text, and the earliest fault of its names (ISO/IEC 8652:2012, 3.1, 8.6).
-ghost use Rattle.std.specs.Prelude.{◌≡◌, OnOk, option_copied};
-ghost use Rattle.ada_regions.specs.Names.{place_of_fault, earlier, told, noted, denoted_at, last_part, denoted_by, entity_at, kind_at, region_of_entity, entity_of, entity_denoted};
+ghost use Rattle.std.specs.Prelude.{◌≡◌, None, OnOk, option_copied};
+ghost use Rattle.world_tables.specs.Tables.{item_at};
+ghost use Rattle.ada_regions.specs.Names.{place_of_fault, earlier, told, noted_among, noted_in, noted, denoted_at, last_part, denoted_by, entity_at, kind_at, region_of_entity, entity_of, entity_denoted};
 
-use crate::places::{same_place, stands_before};
-use ada_regions::{Denotation, Denoted, Entity, EntityKind, NameFault, Names};
+use crate::places::stands_before;
+use ada_regions::{Denoted, Entity, EntityKind, NameFault, Names};
 use ada_tree::{Identifier, Name};
 use ann_base::{NoMemory, Place};
+use std::alloc::Global;
+use world_tables::Table;
 
 fn place_of_fault(fault: NameFault) -> Place
     ensures { result ≡ place_of_fault fault }
@@ -40,24 +43,66 @@ pub fn told(names: &mut Names<'_>, fault: NameFault)
     names.fault = Some(earlier(names.fault, fault));
 }
 
+/// The first name of a line denotes this.
+fn noted_first(
+    alloc: Global,
+    lines: &mut Table<Table<Denoted>>,
+    place: Place,
+    denoted: Denoted,
+) -> Result<(), NoMemory>
+    ensures { OnOk result (lines.new ≡ noted_among None place denoted lines.old) }
+{
+    let mut columns = Table::new(alloc);
+    columns.put(place.column, denoted)?;
+    lines.put(place.line, columns)?;
+    Ok(())
+}
+
+fn noted_in(
+    alloc: Global,
+    lines: &mut Table<Table<Denoted>>,
+    place: Place,
+    denoted: Denoted,
+) -> Result<(), NoMemory>
+    ensures { OnOk result (lines.new ≡ noted_in place denoted lines.old) }
+{
+    match lines.get_mut(place.line) {
+        Some(columns) => {
+            columns.put(place.column, denoted)?;
+            Ok(())
+        }
+        None => noted_first(alloc, lines, place, denoted),
+    }
+}
+
 /// The name at a place denotes this.
-pub fn noted(names: &mut Names<'_>, place: Place, denoted: Denoted) -> Result<(), NoMemory>
+pub fn noted(
+    alloc: Global,
+    names: &mut Names<'_>,
+    place: Place,
+    denoted: Denoted,
+) -> Result<(), NoMemory>
     ensures { OnOk result (names.new ≡ noted place denoted names.old) }
 {
-    names.denotations.push_front(Denotation { place, denoted })?;
-    Ok(())
+    noted_in(alloc, &mut names.denotations, place, denoted)
+}
+
+/// What the name at this column denotes, where its line has some.
+fn denoted_among(columns: &Table<Denoted>, column: u32) -> Option<Denoted>
+    ensures { result ≡ item_at column columns.now }
+{
+    match columns.get(column) {
+        Some(denoted) => Some(*denoted),
+        None => None,
+    }
 }
 
 /// What the name at this place denotes.
 pub fn denoted_at(names: &Names<'_>, place: Place) -> Option<Denoted>
     ensures { result ≡ denoted_at names.now place }
 {
-    match names
-        .denotations
-        .iter()
-        .find(|denotation| same_place(denotation.place, place))
-    {
-        Some(denotation) => Some(denotation.denoted),
+    match names.denotations.get(place.line) {
+        Some(columns) => denoted_among(columns, place.column),
         None => None,
     }
 }

@@ -8,7 +8,7 @@ mod frames;
 mod places;
 mod texts;
 
-pub use bindings::{binding_in, binds};
+pub use bindings::{binding_in, binds, bound_in};
 pub use denotations::{
     denoted_at, denoted_by, earlier, entity_at, entity_denoted, entity_of, kind_at, last_part,
     noted, region_of_entity, told,

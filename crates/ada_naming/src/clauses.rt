@@ -11,6 +11,7 @@ use ada_regions::{Denoted, Names, PredefinedUnit, UseClause};
 use ada_tree::{Identifier, Name};
 use ada_visibility::name_resolved;
 use ann_base::NoMemory;
+use std::alloc::Global;
 
 /// The child of a unit, if there is one.
 fn child_of(unit: Option<PredefinedUnit>, name: &Identifier) -> Option<PredefinedUnit>
@@ -95,6 +96,7 @@ pub(crate) fn library_unit(names: &Names<'_>, name: &Name) -> Option<Denoted>
 /// A with clause names a unit.
 #[tactic(auto, unfolding(ada_regions::specs::Regions::withed))]
 pub(crate) fn withed(
+    alloc: Global,
     names: &mut Names<'_>,
     name: &Name,
     unit: Option<Denoted>,
@@ -105,7 +107,7 @@ pub(crate) fn withed(
         None => Ok(()),
         Some(unit) => {
             names.withs.push_front(unit)?;
-            noted(names, last_part(name).place, unit)
+            noted(alloc, names, last_part(name).place, unit)
         }
     }
 }
@@ -149,10 +151,10 @@ fn used_if(names: &mut Names<'_>, denoted: Option<Denoted>) -> Result<(), NoMemo
 
 /// A use clause names a package.
 #[tactic(auto, unfolding(ada_regions::specs::Regions::used))]
-pub(crate) fn used(names: &mut Names<'_>, name: &Name) -> Result<(), NoMemory>
+pub(crate) fn used(alloc: Global, names: &mut Names<'_>, name: &Name) -> Result<(), NoMemory>
     ensures { OnOk result (names.new ≡ used name.now names.old) }
 {
-    name_resolved(names, name)?;
+    name_resolved(alloc, names, name)?;
     let denoted = denoted_by(names, name);
     used_if(names, denoted)
 }

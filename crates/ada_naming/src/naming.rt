@@ -29,7 +29,7 @@ use ada_tree::{Identifier, Name, Pragma, SubprogramSpecification, Unit};
 use ada_visibility::{name_resolved, resolved};
 use ann_base::{NoMemory, Place};
 use std::alloc::Global;
-use world_tables::List;
+use world_tables::{List, Table};
 
 /// The innermost region ends.
 fn end(names: &mut Names<'_>) -> Result<(), NoMemory>
@@ -40,11 +40,11 @@ fn end(names: &mut Names<'_>) -> Result<(), NoMemory>
 }
 
 /// A with clause names a unit.
-fn with_unit(names: &mut Names<'_>, name: &Name) -> Result<(), NoMemory>
+fn with_unit(alloc: Global, names: &mut Names<'_>, name: &Name) -> Result<(), NoMemory>
     ensures { OnOk result (names.new ≡ withed name.now (library_unit names.old name.now) names.old) }
 {
     let unit = library_unit(names, name);
-    withed(names, name, unit)
+    withed(alloc, names, name, unit)
 }
 
 /// A subprogram's declaration is declared.
@@ -106,11 +106,11 @@ pub fn behind<'t>(
             specification,
         } => completed(alloc, names, name, specification),
         Occurrence::CallRegion { name } => named_as(alloc, names, name),
-        Occurrence::Mention { name } => name_resolved(names, name),
-        Occurrence::MentionSimply { name } => resolved(names, name),
-        Occurrence::MentionEntry { name } => entry_mentioned(names, name),
-        Occurrence::WithUnit { name } => with_unit(names, name),
-        Occurrence::UsePackage { name } => used(names, name),
+        Occurrence::Mention { name } => name_resolved(alloc, names, name),
+        Occurrence::MentionSimply { name } => resolved(alloc, names, name),
+        Occurrence::MentionEntry { name } => entry_mentioned(alloc, names, name),
+        Occurrence::WithUnit { name } => with_unit(alloc, names, name),
+        Occurrence::UsePackage { name } => used(alloc, names, name),
         Occurrence::DeclareObject { name, object } => object_declared(alloc, names, name, object),
         Occurrence::DeclareComponent { name, component } => component_declared(
             alloc, names, name, component,
@@ -233,13 +233,13 @@ pub fn nothing_known<'t>(alloc: Global, last: u8) -> Result<Names<'t>, NoMemory>
         regions: 1,
         frames,
         parts: 1,
-        bindings: List::new(alloc),
+        bindings: Table::new(alloc),
         uses: List::new(alloc),
         withs: List::new(alloc),
         contexts: List::new(alloc),
         entities: List::new(alloc),
         bodies: List::new(alloc),
-        denotations: List::new(alloc),
+        denotations: Table::new(alloc),
         declarations: List::new(alloc),
         scopes,
         subprograms: List::new(alloc),

@@ -224,7 +224,7 @@ pub(crate) fn package_body_begun(
         None => package_apart(alloc, names, identifier),
         Some(entity) => {
             let region = region_of_entity(names, entity);
-            noted(names, identifier.place, Denoted::Entity(entity))?;
+            noted(alloc, names, identifier.place, Denoted::Entity(entity))?;
             package_opened(alloc, names, entity, identifier, false, region)
         }
     }

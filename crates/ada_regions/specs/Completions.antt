@@ -1,6 +1,6 @@
 -- Completions (3.11.1): the body of a declared subprogram, and those of task and protected units. A body that completes
 -- nothing is a declaration itself (6.3), or stands alone, which is a matter of legality.
-use Rattle.std.specs.Prelude.{ℕ, Bool, true, false, cond, ◌&&◌, ◌||◌, List, [], ◌∷◌, ◌++◌, Option, Some, None, is_some, map, eqb, suc}
+use Rattle.std.specs.Prelude.{ℕ, Bool, true, false, cond, ◌&&◌, ◌||◌, List, [], ◌∷◌, Option, Some, None, is_some, map, eqb, suc}
 use Rattle.std.specs.List.{list_any, filter}
 use Rattle.ada_tree.specs.declared.names.Identifier.{Identifier}
 use Rattle.ada_tree.specs.declared.declarations.SubprogramSpecification.{SubprogramSpecification}
@@ -19,6 +19,7 @@ use Rattle.ada_regions.specs.declared.entities.UnitKind.TheVariants as unit
 use Rattle.ada_regions.specs.declared.types.Formal.{Formal}
 use Rattle.ada_regions.specs.declared.table.NumberedSubprogram.{NumberedSubprogram}
 use Rattle.ada_regions.specs.declared.table.NumberedTask.{NumberedTask}
+use Rattle.world_tables.specs.Tables.{item_at, put}
 use Rattle.ada_regions.specs.declared.table.Names.{Names}
 use Rattle.ada_regions.specs.declared.table.Binding.{Binding}
 use Rattle.ada_regions.specs.declared.table.Frame.{Frame}
@@ -121,16 +122,20 @@ abbrev pub holds_of : (EntityKind → Bool) → Option EntityKind → Bool
 holds_of test None = false
 holds_of test (Some kind) = test kind
 
-abbrev pub is_declared_in_unit : Names → ℕ → Binding → Bool
-is_declared_in_unit n region b =
-    eqb b.region region && (is_some b.entity && (b.exported || holds_of is_component (and_then b.entity (kind_at n))))
+-- what a unit declares, as its body sees it
+abbrev pub is_declared_in_unit : Names → Binding → Bool
+is_declared_in_unit n b = is_some b.entity && (b.exported || holds_of is_component (and_then b.entity (kind_at n)))
 
 -- a body that completes nothing sees what the unit declares, in a region of its own
-abbrev pub bound_again : ℕ → Binding → Binding
-bound_again region b = record b { region = region; exported = false }
+abbrev pub bound_again : Binding → Binding
+bound_again b = record b { exported = false }
+
+abbrev pub seen_among : Names → Option (List Binding) → List Binding
+seen_among n None = []
+seen_among n (Some bound) = map bound_again (filter (is_declared_in_unit n) bound)
 
 unfoldable pub seen_again : Names → ℕ → List Binding
-seen_again n region = map (bound_again n.regions) (filter (is_declared_in_unit n region) n.bindings)
+seen_again n region = seen_among n (item_at region n.bindings)
 
 abbrev pub body_frame : ℕ → Option ℕ → Identifier → Option ℕ → Frame
 body_frame region e i scope =
@@ -138,7 +143,7 @@ body_frame region e i scope =
 
 unfoldable pub body_apart : Option ℕ → Identifier → Option ℕ → List Binding → Names → Names
 body_apart e i scope seen n =
-    opened (body_frame n.regions e i scope) (record n { regions = suc n.regions; bindings = seen ++ n.bindings })
+    opened (body_frame n.regions e i scope) (record n { regions = suc n.regions; bindings = put n.regions seen n.bindings })
 
 abbrev pub components_in : AdaType → Option ComponentOwner
 components_in (types.Protected u) = Some (owner.Protected u)

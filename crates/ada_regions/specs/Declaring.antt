@@ -45,7 +45,7 @@ use Rattle.ada_regions.specs.declared.table.NumberedProtected.{NumberedProtected
 use Rattle.ada_regions.specs.declared.table.NumberedControlled.{NumberedControlled}
 use Rattle.ada_regions.specs.declared.table.NumberedEntry.{NumberedEntry}
 use Rattle.ada_regions.specs.declared.table.Sort.TheVariants as sort
-use Rattle.ada_regions.specs.Names.{denoted_by, entity_of, binding_in, innermost_frame, enclosure_of, enclosure_here, region_here, scope_in, scope_of_loops, expanded, kind_at, noted, told}
+use Rattle.ada_regions.specs.Names.{denoted_by, entity_of, binding_in, bound_in, innermost_frame, enclosure_of, enclosure_here, region_here, scope_in, scope_of_loops, expanded, kind_at, noted, told}
 use Rattle.ada_regions.specs.Statics.{static_value, subtype_of_kind}
 use Rattle.ada_regions.specs.Subtypes.{indicated_subtype, mark_denoted, array_type, formals_of, mode_of}
 use Rattle.ada_regions.specs.Visibility.{in_standard, bound}
@@ -53,7 +53,7 @@ use Rattle.ada_regions.specs.Visibility.{in_standard, bound}
 -- ---- bindings
 
 abbrev pub with_binding : Enclosure → List ℕ → Option ℕ → Names → Names
-with_binding f name e n = record n { bindings = record { region = f.region; name = name; entity = e; exported = f.exports } ∷ n.bindings }
+with_binding f name e n = record n { bindings = bound_in f.region (record { name = name; entity = e; exported = f.exports }) n.bindings }
 
 -- a name is hidden where its region has none of it (8.3)
 unfoldable pub hidden : Identifier → Names → Names

@@ -1,5 +1,5 @@
 -- The table of a text: its regions (8.1), the bindings of names in them, and the entities that it declares.
-use Rattle.std.specs.Prelude.{ℕ, suc, Bool, false, cond, ◌&&◌, List, [], ◌∷◌, ◌++◌, Option, Some, None, eqb, slice_get, option_map}
+use Rattle.std.specs.Prelude.{ℕ, suc, Bool, false, cond, List, [], ◌∷◌, ◌++◌, Option, Some, None, slice_get, option_map}
 use Rattle.std.specs.List.{find}
 use Rattle.std.specs.Str.{bytes_eq}
 use Rattle.ann_base.specs.declared.places.Place.{Place}
@@ -15,7 +15,8 @@ use Rattle.ada_regions.specs.declared.table.Enclosure.{Enclosure}
 use Rattle.ada_regions.specs.declared.table.Names.{Names}
 use Rattle.ada_regions.specs.declared.faults.NameFault.{NameFault}
 use Rattle.ada_regions.specs.declared.faults.NameFault.TheVariants as fault
-use Rattle.ada_regions.specs.Words.{same_place, stands_before, and_then, last_from}
+use Rattle.world_tables.specs.Tables.{item_at, with_item, put}
+use Rattle.ada_regions.specs.Words.{stands_before, and_then, last_from}
 
 -- ---- faults: the earliest in the order of the text
 
@@ -33,12 +34,26 @@ told f n = record n { fault = Some (earlier n.fault f) }
 
 -- ---- denotations
 
+-- by the line of a name, and there by its column
+abbrev pub Denotations : Type 0
+Denotations = List (ℕ × List (ℕ × Denoted))
+
+abbrev pub noted_among : Option (List (ℕ × Denoted)) → Place → Denoted → Denotations → Denotations
+noted_among None place d lines = put place.line (put place.column d []) lines
+noted_among (Some columns) place d lines = with_item place.line (put place.column d columns) lines
+
+abbrev pub noted_in : Place → Denoted → Denotations → Denotations
+noted_in place d lines = noted_among (item_at place.line lines) place d lines
+
 abbrev pub noted : Place → Denoted → Names → Names
-noted place d n = record n { denotations = record { place = place; denoted = d } ∷ n.denotations }
+noted place d n = record n { denotations = noted_in place d n.denotations }
 
 -- what the name at this place denotes
+abbrev pub denoted_in : Denotations → Place → Option Denoted
+denoted_in lines place = and_then (item_at place.line lines) (item_at place.column)
+
 abbrev pub denoted_at : Names → Place → Option Denoted
-denoted_at n place = option_map (λ d. d.denoted) (find (λ d. same_place d.place place) n.denotations)
+denoted_at n place = denoted_in n.denotations place
 
 abbrev pub last_part : Name → Identifier
 last_part name = last_from name.parts.first name.parts.others
@@ -66,11 +81,23 @@ entity_denoted n place = and_then (denoted_at n place) entity_of
 
 -- ---- bindings
 
-abbrev pub binds : ℕ → List ℕ → Binding → Bool
-binds region name b = eqb b.region region && bytes_eq b.name name
+-- by the number of a region the names that it binds, the newest first
+abbrev pub Bindings : Type 0
+Bindings = List (ℕ × List Binding)
 
-abbrev pub binding_in : List Binding → ℕ → List ℕ → Option Binding
-binding_in bindings region name = find (binds region name) bindings
+abbrev pub binds : List ℕ → Binding → Bool
+binds name b = bytes_eq b.name name
+
+abbrev pub binding_in : Bindings → ℕ → List ℕ → Option Binding
+binding_in bindings region name = and_then (item_at region bindings) (find (binds name))
+
+-- a region binds one more name
+abbrev pub bound_among : Option (List Binding) → ℕ → Binding → Bindings → Bindings
+bound_among None region b bindings = put region (b ∷ []) bindings
+bound_among (Some others) region b bindings = with_item region (b ∷ others) bindings
+
+abbrev pub bound_in : ℕ → Binding → Bindings → Bindings
+bound_in region b bindings = bound_among (item_at region bindings) region b bindings
 
 -- ---- frames
 

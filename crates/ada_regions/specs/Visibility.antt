@@ -16,12 +16,13 @@ use Rattle.ada_regions.specs.declared.table.Names.{Names}
 use Rattle.ada_regions.specs.declared.table.Binding.{Binding}
 use Rattle.ada_regions.specs.declared.table.Frame.{Frame}
 use Rattle.ada_regions.specs.declared.table.UseClause.{UseClause}
-use Rattle.ada_regions.specs.Names.{binding_in, binds, region_of_entity, noted, told}
+use Rattle.world_tables.specs.Tables.{item_at}
+use Rattle.ada_regions.specs.Names.{Bindings, binding_in, binds, region_of_entity, noted, told}
 
 -- ---- direct visibility (8.3)
 
 -- the binding of a name in the innermost region that has one
-abbrev pub innermost_binding : List Binding → List ℕ → List Frame → Option Binding
+abbrev pub innermost_binding : Bindings → List ℕ → List Frame → Option Binding
 innermost_binding bindings name [] = None
 innermost_binding bindings name (f ∷ fs) = or_else (binding_in bindings f.region name) (innermost_binding bindings name fs)
 
@@ -60,11 +61,11 @@ abbrev pub some_if_withed : List Denoted → PredefinedUnit → Option Denoted
 some_if_withed withs unit = cond (list_any (is_withed_by unit) withs) (Some (denotes.Unit unit)) None
 
 -- a name that is visible from outside the region
-abbrev pub exports_name : ℕ → List ℕ → Binding → Bool
-exports_name region name b = b.exported && binds region name b
+abbrev pub exports_name : List ℕ → Binding → Bool
+exports_name name b = b.exported && binds name b
 
 unfoldable pub exported_from : Names → List ℕ → ℕ → Option Denoted
-exported_from n name region = and_then (find (exports_name region name) n.bindings) bound
+exported_from n name region = and_then (and_then (item_at region n.bindings) (find (exports_name name))) bound
 
 -- what a use clause for a package makes visible
 unfoldable pub visible_in : Names → List ℕ → Denoted → Option Denoted

@@ -14,8 +14,8 @@ pub use faults::NameFault;
 pub use parts::{AspectsOf, ExpressionOf};
 pub use predefined::{Operation, Predefined, PredefinedUnit};
 pub use table::{
-    Binding, Denotation, Enclosure, Frame, Names, NumberedControlled, NumberedDeclaration,
-    NumberedEntry, NumberedEntryBody, NumberedProtected, NumberedScope, NumberedSubprogram,
-    NumberedTask, PackageContext, Sort, UseClause,
+    Binding, Enclosure, Frame, Names, NumberedControlled, NumberedDeclaration, NumberedEntry,
+    NumberedEntryBody, NumberedProtected, NumberedScope, NumberedSubprogram, NumberedTask,
+    PackageContext, Sort, UseClause,
 };
 pub use types::{AdaType, ArrayType, Formal, Mode, Subtype};

@@ -6,13 +6,11 @@ use crate::parts::{AspectsOf, ExpressionOf};
 use crate::types::{ArrayType, Formal, Subtype};
 use ann_base::Place;
 use profile_machine::{EntryUnit, Sequence, Text};
-use world_tables::List;
+use world_tables::{List, Table};
 
-/// A name in a region. It stands for an entity, or is hidden while its declaration goes on (8.3).
+/// A name that a region binds. It stands for an entity, or is hidden while its declaration goes on (8.3).
 #[derive(Drop)]
 pub struct Binding {
-    /// The region.
-    pub region: u32,
     /// The name in lower case.
     pub name: Text,
     /// The number of the entity; none while the name is hidden.
@@ -195,15 +193,6 @@ pub struct NumberedEntry<'t> {
     pub body: Option<NumberedEntryBody<'t>>,
 }
 
-/// The name at a place denotes something.
-#[derive(Clone, Copy)]
-pub struct Denotation {
-    /// The place.
-    pub place: Place,
-    /// What it denotes.
-    pub denoted: Denoted,
-}
-
 /// The table of the names of a text.
 #[derive(Drop)]
 pub struct Names<'t> {
@@ -215,8 +204,8 @@ pub struct Names<'t> {
     pub frames: List<Frame>,
     /// How many parts there are.
     pub parts: u32,
-    /// The names in regions, the newest first.
-    pub bindings: List<Binding>,
+    /// By the number of a region the names that it binds, the newest first.
+    pub bindings: Table<List<Binding>>,
     /// The use clauses.
     pub uses: List<UseClause>,
     /// The library units under a with clause here.
@@ -227,8 +216,8 @@ pub struct Names<'t> {
     pub entities: List<Entity>,
     /// Which of them have a body.
     pub bodies: List<u32>,
-    /// What names denote, the newest first.
-    pub denotations: List<Denotation>,
+    /// What the names of the text denote: by the line of a name, and there by its column.
+    pub denotations: Table<Table<Denoted>>,
     /// The declarations of the image, by number.
     pub declarations: List<NumberedDeclaration<'t>>,
     /// Its scopes.

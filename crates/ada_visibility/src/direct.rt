@@ -5,11 +5,11 @@ ghost use Rattle.ada_regions.specs.Visibility.{innermost_binding, item_of, in_st
 use ada_entities::binding_in;
 use ada_predefined::{item_in, root_unit};
 use ada_regions::{Binding, Denoted, Frame, Names, PredefinedUnit};
-use world_tables::List;
+use world_tables::{List, Table};
 
 /// The binding of a name in the innermost of these frames that has one.
 fn innermost_binding<'n>(
-    bindings: &'n List<Binding>,
+    bindings: &'n Table<List<Binding>>,
     name: &[u8],
     frames: &List<Frame>,
 ) -> Option<&'n Binding>

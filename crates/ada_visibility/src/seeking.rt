@@ -8,6 +8,7 @@ use ada_entities::{noted, told};
 use ada_regions::{Denoted, NameFault, Names, Sought};
 use ada_tree::Identifier;
 use ann_base::NoMemory;
+use std::alloc::Global;
 
 fn found_if(denoted: Option<Denoted>) -> Sought
     ensures { result ≡ found_if denoted }
@@ -29,11 +30,16 @@ pub fn sought(names: &Names<'_>, name: &[u8]) -> Sought
     }
 }
 
-fn answered(names: &mut Names<'_>, identifier: &Identifier, answer: Sought) -> Result<(), NoMemory>
+fn answered(
+    alloc: Global,
+    names: &mut Names<'_>,
+    identifier: &Identifier,
+    answer: Sought,
+) -> Result<(), NoMemory>
     ensures { OnOk result (names.new ≡ answered identifier.now answer names.old) }
 {
     match answer {
-        Sought::Found(denoted) => noted(names, identifier.place, denoted),
+        Sought::Found(denoted) => noted(alloc, names, identifier.place, denoted),
         Sought::Unknown => {
             told(names, NameFault::Unknown(identifier.place));
             Ok(())
@@ -47,9 +53,13 @@ fn answered(names: &mut Names<'_>, identifier: &Identifier, answer: Sought) -> R
 
 /// A direct name is used.
 #[tactic(auto, unfolding(ada_regions::specs::Visibility::resolved))]
-pub fn resolved(names: &mut Names<'_>, identifier: &Identifier) -> Result<(), NoMemory>
+pub fn resolved(
+    alloc: Global,
+    names: &mut Names<'_>,
+    identifier: &Identifier,
+) -> Result<(), NoMemory>
     ensures { OnOk result (names.new ≡ resolved identifier.now names.old) }
 {
     let answer = sought(names, identifier.text.as_slice());
-    answered(names, identifier, answer)
+    answered(alloc, names, identifier, answer)
 }

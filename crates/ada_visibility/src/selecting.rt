@@ -15,6 +15,7 @@ use ada_regions::{
 };
 use ada_tree::{Identifier, Name};
 use ann_base::NoMemory;
+use std::alloc::Global;
 
 /// The region of a type's declaration.
 #[tactic(auto, unfolding(ada_regions::specs::SelectedNames::region_of_type))]
@@ -159,6 +160,7 @@ pub fn selected(names: &Names<'_>, name: &[u8], prefix: Denoted) -> Option<Denot
 }
 
 fn selection_answered(
+    alloc: Global,
     names: &mut Names<'_>,
     identifier: &Identifier,
     selection: Option<Denoted>,
@@ -166,7 +168,7 @@ fn selection_answered(
     ensures { OnOk result (names.new ≡ selection_answered identifier.now selection names.old) }
 {
     match selection {
-        Some(denoted) => noted(names, identifier.place, denoted),
+        Some(denoted) => noted(alloc, names, identifier.place, denoted),
         None => {
             told(names, NameFault::Unknown(identifier.place));
             Ok(())
@@ -177,6 +179,7 @@ fn selection_answered(
 /// The further parts of a name, behind what those before them denote; nothing is asked of parts behind an unknown one.
 #[tactic(auto, using(crate::proofs::Parts::none_resolved))]
 fn parts_resolved(
+    alloc: Global,
     names: &mut Names<'_>,
     prefix: Option<Denoted>,
     parts: &[Identifier],
@@ -190,7 +193,7 @@ fn parts_resolved(
             None => return Ok(()),
         };
         let selection = selected(names, part.text.as_slice(), denoted);
-        selection_answered(names, part, selection)?;
+        selection_answered(alloc, names, part, selection)?;
         before = selection;
     }
     Ok(())
@@ -198,10 +201,10 @@ fn parts_resolved(
 
 /// A name is used.
 #[tactic(auto, unfolding(ada_regions::specs::SelectedNames::name_resolved))]
-pub fn name_resolved(names: &mut Names<'_>, name: &Name) -> Result<(), NoMemory>
+pub fn name_resolved(alloc: Global, names: &mut Names<'_>, name: &Name) -> Result<(), NoMemory>
     ensures { OnOk result (names.new ≡ name_resolved name.now names.old) }
 {
-    resolved(names, &name.parts.first)?;
+    resolved(alloc, names, &name.parts.first)?;
     let prefix = denoted_at(names, name.parts.first.place);
-    parts_resolved(names, prefix, name.parts.others.as_slice())
+    parts_resolved(alloc, names, prefix, name.parts.others.as_slice())
 }

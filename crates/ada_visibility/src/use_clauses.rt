@@ -1,6 +1,7 @@
 //! What use clauses make visible (ISO/IEC 8652:2012, 8.4).
 ghost use Rattle.std.specs.Prelude.{◌≡◌, ◌<◌, ◌≤◌, ◌-◌, cond, drop, eqb, length, find, option_copied};
 ghost use Rattle.std.specs.List.{list_any};
+ghost use Rattle.world_tables.specs.Tables.{item_at};
 ghost use Rattle.ada_regions.specs.declared.entities.Sought.{Sought};
 ghost use Rattle.ada_regions.specs.Words.{or_else, and_then};
 ghost use Rattle.ada_regions.specs.PredefinedUnits.{parent_unit, child_unit};
@@ -74,20 +75,27 @@ fn some_if_withed(withs: &List<Denoted>, unit: PredefinedUnit) -> Option<Denoted
     }
 }
 
-fn exports_name(region: u32, name: &[u8], binding: &Binding) -> bool
-    ensures { result ≡ exports_name region name.now binding.now }
+fn exports_name(name: &[u8], binding: &Binding) -> bool
+    ensures { result ≡ exports_name name.now binding.now }
 {
-    binding.exported && binds(region, name, binding)
+    binding.exported && binds(name, binding)
+}
+
+/// The binding of a name among those of a region that is visible from outside it.
+fn exported_among<'n>(bound: &'n List<Binding>, name: &[u8]) -> Option<&'n Binding>
+    ensures { option_copied result ≡ find (exports_name name.now) bound.now }
+{
+    bound.iter().find(|binding| exports_name(name, binding))
 }
 
 /// The binding of a name in a region that is visible from outside it.
 fn exported_binding<'n>(names: &'n Names<'_>, name: &[u8], region: u32) -> Option<&'n Binding>
-    ensures { option_copied result ≡ find (exports_name region name.now) names.now.bindings }
+    ensures { option_copied result ≡ and_then (item_at region names.now.bindings) (find (exports_name name.now)) }
 {
-    names
-        .bindings
-        .iter()
-        .find(|binding| exports_name(region, name, binding))
+    match names.bindings.get(region) {
+        Some(bound) => exported_among(bound, name),
+        None => None,
+    }
 }
 
 /// What a region has under a name that is visible from outside it.

@@ -1,5 +1,5 @@
 -- What is still to come stays the same when a kernel goes on, but for the line that is told.
-use Rattle.std.proofs.Common.{◌≡◌, ◌*◌, ◌-◌, ◌<◌, ◌≤◌, ℕ, suc, ℤ, Bool, true, false, List, [], ◌∷◌, ◌++◌, Option, Some, None, length, arith, refl, sym, ap, ◌∙◌, append_assoc, append-nil}
+use Rattle.std.proofs.Common.{◌≡◌, ◌+◌, ◌*◌, ◌-◌, ◌<◌, ◌≤◌, ℕ, suc, ℤ, Bool, true, false, List, [], ◌∷◌, ◌++◌, Option, Some, None, length, arith, refl, sym, ap, ◌∙◌, append_assoc, append-nil}
 use Rattle.trace_text.specs.declared.events.Event.{Event}
 use Rattle.trace_text.specs.declared.events.Event.TheVariants as line
 use Rattle.trace_text.specs.declared.events.Ended.{Ended}
@@ -8,7 +8,10 @@ use Rattle.profile_machine.specs.declared.run_data.Item.{Item}
 use Rattle.profile_machine.specs.declared.world.World.{World}
 use Rattle.profile_machine.specs.Instant.{instant}
 use Rattle.profile_machine.specs.Run.{tock, stop, opening, run_from, at_tick}
+use Rattle.machine_laws.specs.IdleLaws.{IdleStretches}
+use Rattle.machine_kernel.specs.Jump.{jumped}
 use Rattle.machine_kernel.specs.Future.{Shown, advanced, advanced_by, future_of, first_line, lines_from, lines_unless, after_instant, goes_by, unless_stopped, end_lines, stop_of, stop_from, stop_unless, opened, lines_of_run, stop_of_run, left_of, flag}
+use Rattle.machine_kernel.proofs.JumpLemmas.{jumped-run, jumped-later}
 
 at_tick-append : (now : ℕ) (xs ys : List Event) → at_tick now (xs ++ ys) ≡ at_tick now xs ++ at_tick now ys
 at_tick-append now [] ys = refl
@@ -30,11 +33,13 @@ unfolding lines_by
 from-instant fuel p bound w None e = rw (e, run_from) refl
 from-instant fuel p bound w (Some reason) e = rw (e, run_from) refl
 
--- what a kernel shows goes on in time: an instant stands, and a tock passes one tick below the bound
+-- what a kernel shows goes on in time: an instant stands, a tock passes one tick below the bound, and idle stretches say
+-- nothing
 pub record Moves (s : Shown) : Type 0 where
   pub stands : (instant s.program s.world).0.time ≡ s.world.time
   pub passes : (tock s.program s.world).0.time ≡ suc s.world.time
   pub before : s.at_instant ≡ false → s.stop ≡ None → s.world.time < s.bound
+  pub idles : IdleStretches
 
 -- behind an instant
 instant-future : (s : Shown) (found : Option Ended) → stop s.program s.bound (instant s.program s.world).0 ≡ found → (instant s.program s.world).0.time ≡ s.world.time →
@@ -54,14 +59,26 @@ instant-future s None e stands =
     ∙ ap (λ xs. xs ++ rest) (sym (at_tick-append now i.1 t.1))
     ∙ sym (from-instant (s.bound - now) p s.bound s.world None e)
 
-tock-future : (s : Shown) → (tock s.program s.world).0.time ≡ suc s.world.time → s.world.time < s.bound →
-    at_tick s.world.time (tock s.program s.world).1 ++ (run_from (suc (s.bound - (tock s.program s.world).0.time)) s.program s.bound (tock s.program s.world).0).lines
+-- the ticks up to the bound, behind one tick
+ticks-left : (bound now next : ℕ) → next ≡ suc now → now < bound → suc (bound - next) ≡ bound - now
+ticks-left bound now next e a = omega arith
+
+-- behind a tock and a jump
+tock-run : (s : Shown) → IdleStretches → (tock s.program s.world).0.time ≡ suc s.world.time → s.world.time < s.bound →
+    run_from (suc (s.bound - (jumped s.bound (tock s.program s.world).0).time)) s.program s.bound (jumped s.bound (tock s.program s.world).0)
+    ≡ run_from (s.bound - s.world.time) s.program s.bound (tock s.program s.world).0
+tock-run s idles passes before =
+    jumped-run idles s.program s.bound (tock s.program s.world).0
+    ∙ ap (λ n. run_from n s.program s.bound (tock s.program s.world).0) (ticks-left s.bound s.world.time (tock s.program s.world).0.time passes before)
+
+tock-future : (s : Shown) → IdleStretches → (tock s.program s.world).0.time ≡ suc s.world.time → s.world.time < s.bound →
+    at_tick s.world.time (tock s.program s.world).1 ++ (run_from (suc (s.bound - (jumped s.bound (tock s.program s.world).0).time)) s.program s.bound (jumped s.bound (tock s.program s.world).0)).lines
     ≡ lines_from false s.program s.bound s.world
-tock-future s passes before = ap (λ n. at_tick s.world.time (tock s.program s.world).1 ++ (run_from n s.program s.bound (tock s.program s.world).0).lines) (let e : suc (s.bound - (tock s.program s.world).0.time) ≡ s.bound - s.world.time = omega arith in e)
+tock-future s idles passes before = ap (λ r. at_tick s.world.time (tock s.program s.world).1 ++ r.lines) (tock-run s idles passes before)
 
 goes-future : (at_instant : Bool) (s : Shown) → s.at_instant ≡ at_instant → s.stop ≡ None → Moves s → future_of (goes_by at_instant s) ≡ lines_from at_instant s.program s.bound s.world
 goes-future true s at e m = instant-future s (stop s.program s.bound (instant s.program s.world).0) refl m.stands
-goes-future false s at e m = rw e (tock-future s m.passes (m.before at e))
+goes-future false s at e m = rw e (tock-future s m.idles m.passes (m.before at e))
 
 unstopped-future : (found : Option Ended) (s : Shown) → s.stop ≡ found → s.owed ≡ [] → Moves s → future_of (unless_stopped found s) ≡ lines_unless found s
 unstopped-future None s e owed m = goes-future s.at_instant s refl e m
@@ -97,10 +114,7 @@ instant-stop s None e stands =
 goes-stop : (at_instant : Bool) (s : Shown) → s.at_instant ≡ at_instant → s.stop ≡ None → Moves s → stop_of (goes_by at_instant s) ≡ stop_from at_instant s.program s.bound s.world
 goes-stop true s at e m = instant-stop s (stop s.program s.bound (instant s.program s.world).0) refl m.stands
 goes-stop false s at e m =
-    rw e (let before : s.world.time < s.bound = m.before at e in
-    let passes = m.passes in
-    let count : suc (s.bound - (tock s.program s.world).0.time) ≡ s.bound - s.world.time = omega (arith, m.passes) in
-    ap (λ n. (run_from n s.program s.bound (tock s.program s.world).0).stop) count)
+    rw e (ap (λ r. r.stop) (tock-run s m.idles m.passes (m.before at e)))
 
 unstopped-stop : (found : Option Ended) (s : Shown) → s.stop ≡ found → Moves s → stop_of (unless_stopped found s) ≡ stop_unless found s
 unstopped-stop None s e m = goes-stop s.at_instant s refl e m
@@ -130,6 +144,11 @@ opened-stop p script bound e = ap (λ n. (run_from (suc (bound - n)) p bound (op
 
 -- ---- how far the end is
 
+-- with as many lines to come, a later tick is nearer to the bound
+tick-nearer : (after before bound now next there here : ℕ) → after ≡ before → next ≡ suc now → now < bound → next ≤ there → here ≡ 0 →
+    after + (2 * (bound - there) + 1) < before + (2 * (bound - now) + here)
+tick-nearer after before bound now next there here same e a later none = omega arith
+
 goes-left : (at_instant : Bool) (s : Shown) → s.at_instant ≡ at_instant → s.stop ≡ None → Moves s → length (future_of (goes_by at_instant s)) ≡ length (future_of s) → left_of (goes_by at_instant s) < left_of s
 goes-left true s at e m same =
     let stands : (instant s.program s.world).0.time ≡ s.world.time = m.stands in
@@ -137,10 +156,9 @@ goes-left true s at e m same =
     let f : 2 * (s.bound - (instant s.program s.world).0.time) ≡ 2 * (s.bound - s.world.time) = ap (λ n. 2 * (s.bound - n)) stands in
     omega arith
 goes-left false s at e m same =
-    let passes : (tock s.program s.world).0.time ≡ suc s.world.time = m.passes in
-    let before : s.world.time < s.bound = m.before at e in
-    let here : flag s.at_instant ≡ 0 = ap flag at in
-    omega arith
+    tick-nearer (length (future_of (goes_by false s))) (length (future_of s)) s.bound s.world.time (tock s.program s.world).0.time
+    (jumped s.bound (tock s.program s.world).0).time (flag s.at_instant)
+    same m.passes (m.before at e) (jumped-later s.bound (tock s.program s.world).0) (ap flag at)
 
 unstopped-left : (found : Option Ended) (s : Shown) → s.stop ≡ found → found ≡ None → Moves s → length (future_of (unless_stopped found s)) ≡ length (future_of s) → left_of (unless_stopped found s) < left_of s
 unstopped-left None s e n m same = goes-left s.at_instant s refl e m same

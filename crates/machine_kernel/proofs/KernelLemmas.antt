@@ -9,6 +9,7 @@ use Rattle.trace_text.specs.Text.{text_of}
 use Rattle.ann_base.specs.declared.faults.NoMemory.{NoMemory}
 use Rattle.machine_run.specs.declared.stops.Stopped.{Stopped}
 use Rattle.machine_run.specs.Stops.{why_ended}
+use Rattle.machine_laws.specs.IdleLaws.{IdleStretches}
 use Rattle.machine_laws.specs.TimeLaws.{RunsBeginAtZero, InstantsTakeNoTime, TocksTakeOneTick}
 use Rattle.machine_kernel.specs.declared.kernel.Kernel.{Kernel}
 use Rattle.machine_kernel.specs.declared.kernel.Next.{Next}
@@ -47,30 +48,31 @@ in-time p true stop now bound h at e = cc
 in-time p false None now bound h at e = ltb-true now bound (is-true (nat_lt now bound) h)
 in-time p false (Some reached) now bound h at e = cc
 
-pub kernel-moves : (k : Kernel) → InstantsTakeNoTime → TocksTakeOneTick → Moves (shown k)
-kernel-moves k stands passes = record {
+pub kernel-moves : (k : Kernel) → InstantsTakeNoTime → TocksTakeOneTick → IdleStretches → Moves (shown k)
+kernel-moves k stands passes idles = record {
   stands = stands k.program k.effect.world;
   passes = passes k.program k.effect.world;
   before = in-time k.program k.at_instant k.stop k.effect.world.time k.bound k.in_time;
+  idles = idles;
 }
 
 -- ---- the clauses of a step
 
-pub next-future : (old now : List ℕ) (j k : Kernel) → InstantsTakeNoTime → TocksTakeOneTick → (r : Result Next NoMemory) → OnOk r (shown k ≡ advanced (shown j)) → OnOk r (now ≡ old ++ written_of (shown j).owed) → OnOk r (now ++ text_of (future k) ≡ old ++ text_of (future j))
+pub next-future : (old now : List ℕ) (j k : Kernel) → InstantsTakeNoTime → TocksTakeOneTick → IdleStretches → (r : Result Next NoMemory) → OnOk r (shown k ≡ advanced (shown j)) → OnOk r (now ≡ old ++ written_of (shown j).owed) → OnOk r (now ++ text_of (future k) ≡ old ++ text_of (future j))
 unfolding future
-next-future old now j k stands passes (Ok x) step told = told-future old now (shown j) (shown k) (kernel-moves j stands passes) step told
-next-future old now j k stands passes (Err e) step told = tt
+next-future old now j k stands passes idles (Ok x) step told = told-future old now (shown j) (shown k) (kernel-moves j stands passes idles) step told
+next-future old now j k stands passes idles (Err e) step told = tt
 
-pub next-stop : (j k : Kernel) → InstantsTakeNoTime → TocksTakeOneTick → (r : Result Next NoMemory) → OnOk r (shown k ≡ advanced (shown j)) → OnOk r (stop_to_come k ≡ stop_to_come j)
+pub next-stop : (j k : Kernel) → InstantsTakeNoTime → TocksTakeOneTick → IdleStretches → (r : Result Next NoMemory) → OnOk r (shown k ≡ advanced (shown j)) → OnOk r (stop_to_come k ≡ stop_to_come j)
 unfolding stop_to_come
-next-stop j k stands passes (Ok x) step = told-stop (shown j) (shown k) (kernel-moves j stands passes) step
-next-stop j k stands passes (Err e) step = tt
+next-stop j k stands passes idles (Ok x) step = told-stop (shown j) (shown k) (kernel-moves j stands passes idles) step
+next-stop j k stands passes idles (Err e) step = tt
 
-pub next-going : (j k : Kernel) → InstantsTakeNoTime → TocksTakeOneTick → (r : Result Next NoMemory) → OnOk r (shown k ≡ advanced (shown j)) → IfOk r (IfGoing ((shown j).owed ≡ [] → (shown j).stop ≡ None)) → IfOk r (IfGoing (left_to_do k < left_to_do j))
+pub next-going : (j k : Kernel) → InstantsTakeNoTime → TocksTakeOneTick → IdleStretches → (r : Result Next NoMemory) → OnOk r (shown k ≡ advanced (shown j)) → IfOk r (IfGoing ((shown j).owed ≡ [] → (shown j).stop ≡ None)) → IfOk r (IfGoing (left_to_do k < left_to_do j))
 unfolding left_to_do
-next-going j k stands passes (Ok did.Going) step none = told-left (shown j) (shown k) (kernel-moves j stands passes) step none
-next-going j k stands passes (Ok (did.Ended why)) step none = tt
-next-going j k stands passes (Err e) step none = tt
+next-going j k stands passes idles (Ok did.Going) step none = told-left (shown j) (shown k) (kernel-moves j stands passes idles) step none
+next-going j k stands passes idles (Ok (did.Ended why)) step none = tt
+next-going j k stands passes idles (Err e) step none = tt
 
 pub next-ended : (j : Kernel) (r : Result Next NoMemory) → IfOk r (IfEnded (λ why. ((shown j).owed ≡ []) × ((shown j).stop ≡ Some why))) → IfOk r (IfEnded (λ why. (future j ≡ []) × (why ≡ stop_to_come j)))
 unfolding future stop_to_come

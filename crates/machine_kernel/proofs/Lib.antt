@@ -1,2 +1,3 @@
+mod JumpLemmas
 mod FutureLemmas
 mod KernelLemmas

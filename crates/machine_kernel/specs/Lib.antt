@@ -1,4 +1,5 @@
 pub mod Reached
+pub mod Jump
 pub mod Future
 pub mod Kernel
 pub mod Next

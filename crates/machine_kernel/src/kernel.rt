@@ -4,8 +4,10 @@ ghost use Rattle.machine_kernel.specs.Reached.{is_in_time};
 ghost use Rattle.machine_run.specs.declared.stops.Stopped.TheVariants as stopped;
 
 use crate::events::{ended_by, event_of, tick_event};
+use crate::idle::skip_idle_ticks;
 use ann_base::{Moment, NoMemory};
 use machine_frames::Effect;
+use machine_laws::runs::idle_stretches_say_nothing;
 use machine_laws::time::{instants_take_no_time, runs_begin_at_0, tocks_take_one_tick};
 use machine_operators::Program;
 use machine_run::{Stopped, TickLine, instant, opening, stop, tock};
@@ -116,6 +118,7 @@ impl Kernel {
     {
         instants_take_no_time();
         tocks_take_one_tick();
+        idle_stretches_say_nothing();
         self.step(out)
     }
 
@@ -242,7 +245,7 @@ impl Kernel {
         }
     }
 
-    /// A tock: one tick passes.
+    /// A tock: one tick passes, and with it the idle ticks behind it, which say nothing.
     fn tock(&mut self) -> Result<(), NoMemory>
         requires said { self.old.said ≡ [] }
         requires ticks { self.old.ticks ≡ [] }
@@ -255,6 +258,7 @@ impl Kernel {
         let now = self.effect.world.time;
         match tock(&self.program, &mut self.effect.world, &mut self.ticks) {
             Ok(()) => {
+                skip_idle_ticks(self.bound, &mut self.effect.world);
                 self.told_at = now;
                 self.at_instant = true;
                 Ok(())

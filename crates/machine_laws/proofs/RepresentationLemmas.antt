@@ -51,7 +51,7 @@ all-lines fuel k left e f =
     ap (λ n. (run_from n program 1000000000 first).lines) f
     ∙ front-lines (k + suc (suc (suc left)))
     ∙ ap (λ xs. (0, line.Run (t 0)) ∷ (4, line.Block (t 0) waits.Delay) ∷ (4, line.Idle) ∷ xs) (
-    ap (λ r. r.lines) (idle_stretches program 1000000000 idle 5 k (suc (suc (suc left))) (omega arith) refl (subst (λ n. pos n ≤ℤ pos 900000004) (sym there) (≤ℤ_refl (pos 900000004)), tt))
+    ap (λ r. r.lines) (idle_stretches program 1000000000 idle 5 k (suc (suc (suc left))) (omega arith) refl (subst (λ n. pos n ≤ℤ pos 900000004) (sym there) (≤ℤ_refl (pos 900000004)), tt) tt)
     ∙ ap (λ n. (run_from (suc (suc (suc left))) program 1000000000 (idle_at idle n)).lines) there
     ∙ back-lines left))
 

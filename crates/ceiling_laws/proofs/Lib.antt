@@ -1,0 +1,5 @@
+mod LevelLemmas
+mod FollowLemmas
+mod ObjectLemmas
+mod CeilingLemmas
+mod ExampleLemmas

@@ -1,0 +1,3 @@
+pub mod CeilingLaws
+pub mod FollowLaws
+pub mod Examples

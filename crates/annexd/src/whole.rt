@@ -1,15 +1,23 @@
 //! All that the program does.
-ghost use Rattle.std.specs.Prelude.{◌≡◌, ◌≢◌, ◌≤◌, ◌⊎◌, None, codes};
+ghost use Rattle.std.specs.Prelude.{◌≡◌, ◌≢◌, ◌≤◌, ◌⊎◌, IsTrue, None, codes};
 ghost use Rattle.ann_base.specs.Outside.{Rose, extended};
+ghost use Rattle.trace_text.specs.Laws.{DispatchOk};
+ghost use Rattle.tick_lines.specs.TickLaws.{SwitchesOk, ReleasesOk, StuckOk, follows_tick_order};
+ghost use Rattle.exclusion_laws.specs.ExclusionLaws.{EntersOk};
 ghost use Rattle.commands.specs.Asked.{asked_of};
 ghost use Rattle.commands.specs.Outside.{shelf_of, sink_of};
 ghost use Rattle.commands.specs.Performed.{IsUnread};
-ghost use Rattle.commands.specs.Statuses.{Headline, HeadlineUnder, AcceptanceTold, TableTold, BeyondTold, TraceTold, LawsTold, ReportTold, DoneTold, NotAccepted, NotAcceptedUnder, NoScript, ScriptRefusalTold, RefusalTold, BreachTold, TraceRefusalTold, FailureTold, TableRefusalTold, PrefixTold, NoteTried, IsStatus};
+ghost use Rattle.commands.specs.Statuses.{Headline, HeadlineUnder, AcceptanceTold, TableTold, BeyondTold, TraceTold, LawsTold, ReportTold, DoneTold, LawTold, NotAccepted, NotAcceptedUnder, NoScript, ScriptRefusalTold, RefusalTold, BreachTold, TraceRefusalTold, FailureTold, TableRefusalTold, PrefixTold, NoteTried, IsStatus};
 
 use crate::noting::conclude;
 use crate::performing::perform;
 use ann_base::{Shelf, Sink};
+use exclusion_laws::runs_exclude;
+use machine_laws::dispatching::runs_dispatch;
 use std::alloc::Global;
+use tick_lines::{
+    runs_are_in_tick_order, runs_are_rightly_stuck, runs_release_in_order, runs_switch,
+};
 use trace_files::lines_tell;
 use trace_laws::verdicts_tell;
 
@@ -68,6 +76,27 @@ pub fn top<S: Shelf, K: Sink>(
     ensures run { result ≤ 3 → DoneTold (asked_of words.now)
         (shelf_of S.files S.faults shelf.old shelf.new)
         (sink_of K.held K.faults out.old out.new) result }
+    // The lines of a run that is asked for keep these laws: who runs is the first of the ready queues; a protected
+    // action begins only beside those that it may be open with; effects of a tick come first, then who runs, then who is
+    // served; a `run` line is a switch; releases are taken up in their order; a run is stuck only where nobody is ready.
+    ensures dispatch { result ≤ 3 → LawTold DispatchOk (asked_of words.now)
+        (shelf_of S.files S.faults shelf.old shelf.new)
+        (sink_of K.held K.faults out.old out.new) }
+    ensures exclusion { result ≤ 3 → LawTold EntersOk (asked_of words.now)
+        (shelf_of S.files S.faults shelf.old shelf.new)
+        (sink_of K.held K.faults out.old out.new) }
+    ensures in_tick_order { result ≤ 3 → LawTold (λ lines. IsTrue (follows_tick_order lines)) (asked_of words.now)
+        (shelf_of S.files S.faults shelf.old shelf.new)
+        (sink_of K.held K.faults out.old out.new) }
+    ensures switches { result ≤ 3 → LawTold SwitchesOk (asked_of words.now)
+        (shelf_of S.files S.faults shelf.old shelf.new)
+        (sink_of K.held K.faults out.old out.new) }
+    ensures releases { result ≤ 3 → LawTold ReleasesOk (asked_of words.now)
+        (shelf_of S.files S.faults shelf.old shelf.new)
+        (sink_of K.held K.faults out.old out.new) }
+    ensures stuck { result ≤ 3 → LawTold StuckOk (asked_of words.now)
+        (shelf_of S.files S.faults shelf.old shelf.new)
+        (sink_of K.held K.faults out.old out.new) }
     ensures quiet { result ≤ 3 → K.held notes.new ≡ K.held notes.old }
     // 4: the source is refused, exactly where it is not accepted.
     ensures refused_source { result ≡ 4 → RefusalTold (asked_of words.now)
@@ -140,6 +169,12 @@ pub fn top<S: Shelf, K: Sink>(
 {
     verdicts_tell();
     lines_tell();
+    runs_dispatch();
+    runs_exclude();
+    runs_are_in_tick_order();
+    runs_switch();
+    runs_release_in_order();
+    runs_are_rightly_stuck();
     let outcome = perform(alloc, words, shelf, out);
     conclude(notes, outcome)
 }

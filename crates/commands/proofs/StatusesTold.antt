@@ -26,13 +26,15 @@ use Rattle.commands.specs.declared.requests.TraceWork.{TraceWork}
 use Rattle.commands.specs.declared.requests.TraceWork.TheVariants as question
 use Rattle.trace_text.specs.Queue.{Line}
 use Rattle.trace_files.specs.Reported.{formed_lines, IsFormedTrace}
+use Rattle.machine_kernel.specs.Future.{lines_of_run}
+use Rattle.profile_machine.specs.Run.{run_of}
 use Rattle.commands.specs.Traces.{trace_answer, report_answer, trace_note}
 use Rattle.commands.specs.Requests.{Asked, SourceAsked, ScriptAsked, TableAsked, TraceAsked}
 use Rattle.commands.specs.Tests.{test_status, is_failed, NeverOver}
 use Rattle.commands.specs.Outside.{ShelfChange, SinkChange, SinkFailed, IsKept, Gained, GainedPrefix}
 use Rattle.commands.specs.Outcomes.{stop_status, status_of, note_of, refusal_text, script_note, IsNoted, Concludes}
 use Rattle.commands.specs.Performed.{text_for, outcome_for, OfAsked, OfSource, OfRun, OfNoScript, OfItems, IsAcceptable, OfTable, OfTrace, IsDone, IsRefused, IsTested, IsNoTable, IsTraced, IsNoTrace, IsFileCutShort, IsUnread, Performs}
-use Rattle.commands.specs.Statuses.{IsUndisturbed, Headline, HeadlineUnder, AcceptanceTold, IsAnswer, TableTold, IsTraceAnswer, TraceTold, LawsTold, ReportTold, BeyondTold, IsPrinted, DoneTold, IsStatus, NotAccepted, NotAcceptedUnder, NoScript, ScriptRefusalTold, RefusalTold, FailureTold, TableRefusalTold, BreachTold, TraceRefusalTold, IsCause, NoteTried, PrefixTold}
+use Rattle.commands.specs.Statuses.{IsUndisturbed, Headline, HeadlineUnder, AcceptanceTold, IsAnswer, TableTold, IsTraceAnswer, TraceTold, LawsTold, ReportTold, BeyondTold, IsPrinted, DoneTold, WrittenKeeps, LawTold, IsStatus, NotAccepted, NotAcceptedUnder, NoScript, ScriptRefusalTold, RefusalTold, FailureTold, TableRefusalTold, BreachTold, TraceRefusalTold, IsCause, NoteTried, PrefixTold}
 use Rattle.commands.proofs.Told.{told_map, ItemsWith, items_map}
 use Rattle.commands.proofs.Conclusions.{stop_status-small, is_refused, is_refused_script, is_failed_test, is_refused_table, is_breach, is_refused_trace, is_words, is_read_fault, is_write_fault, is_memory, concluded, known, FailedNote, failed, low}
 
@@ -389,6 +391,40 @@ done_by asked shelf out NoMemory status p is small = absurd (omega (arith, is, s
 
 pub done_told : (asked : Option Asked) (shelf : ShelfChange) (out notes : SinkChange) (o : Outcome) (status : ℕ) → Performs asked shelf out o → Concludes o notes status → status ≤ 3 → DoneTold asked shelf out status
 done_told asked shelf out notes o status p c small = done_by asked shelf out o status p (concluded o notes status c (low status (omega (arith, small)))).0 small
+
+-- ---- the laws of runs
+
+-- a law of every run, as one of the lines that a run is said to have
+abbrev pub OfRuns : (List Line → Type 0) → Type 0
+OfRuns law = (p : Image) (script : List (ℤ × Item)) (bound : ℕ) → law (run_of p script bound)
+
+law_of_lines : (law : List Line → Type 0) → OfRuns law → (p : Image) (script : List (ℤ × Item)) (bound : ℕ) → law (lines_of_run p script bound)
+unfolding lines_of_run
+law_of_lines law holds p script bound = holds p script bound
+
+law_done : (law : List Line → Type 0) → OfRuns law → (items : List (ℤ × Item)) (ticks : ℕ) (bytes : List ℕ) (out : SinkChange) (o : Outcome) → IsDone items (work.Run ticks) bytes out o → WrittenKeeps law items ticks bytes out
+law_done law holds items ticks bytes out o done = record {
+  image = done.image;
+  lines = lines_of_run done.image items ticks;
+  accepted = done.accepted;
+  are_of_run = refl;
+  text = done.text;
+  keeps = law_of_lines law holds done.image items ticks;
+}
+
+law_by : (law : List Line → Type 0) → OfRuns law → (asked : Option Asked) (shelf : ShelfChange) (out : SinkChange) (status : ℕ) → DoneTold asked shelf out status → LawTold law asked shelf out
+law_by law holds None shelf out status h = tt
+law_by law holds (Some (SourceAsked source (work.Run ticks))) shelf out status h =
+    told_map (told shelf.files source) (λ bytes. EndedWith [] (work.Run ticks) bytes out status) (λ bytes. WrittenKeeps law [] ticks bytes out) (λ bytes ended. law_done law holds [] ticks bytes out ended.0 ended.1) h
+law_by law holds (Some (SourceAsked source work.Accept)) shelf out status h = tt
+law_by law holds (Some (ScriptAsked source script ticks)) shelf out status h =
+    told_map (told shelf.files source) (λ bytes. OfItems shelf script (λ items. EndedWith items (work.Run ticks) bytes out status)) (λ bytes. OfItems shelf script (λ items. WrittenKeeps law items ticks bytes out))
+    (λ bytes known. items_map shelf script (λ items. EndedWith items (work.Run ticks) bytes out status) (λ items. WrittenKeeps law items ticks bytes out) (λ items ended. law_done law holds items ticks bytes out ended.0 ended.1) known) h
+law_by law holds (Some (TableAsked table t)) shelf out status h = tt
+law_by law holds (Some (TraceAsked trace w)) shelf out status h = tt
+
+pub law_told : (law : List Line → Type 0) → OfRuns law → (asked : Option Asked) (shelf : ShelfChange) (out notes : SinkChange) (o : Outcome) (status : ℕ) → Performs asked shelf out o → Concludes o notes status → status ≤ 3 → LawTold law asked shelf out
+law_told law holds asked shelf out notes o status p c small = law_by law holds asked shelf out status (done_told asked shelf out notes o status p c small)
 
 quiet_by : (o : Outcome) (notes : SinkChange) (status : ℕ) → (status ≡ status_of o) × IsNoted (note_of o) notes → status ≤ 3 → IsKept notes
 quiet_by (Ended stop) notes status c small = c.1

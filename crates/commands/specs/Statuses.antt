@@ -13,6 +13,8 @@ use Rattle.sched_tests.specs.Demand.{busy_of}
 use Rattle.sched_tests.specs.Reading.{table_of}
 use Rattle.sched_tests.specs.Reports.{table_note}
 use Rattle.trace_text.specs.Queue.{Line}
+use Rattle.trace_text.specs.Text.{text_of}
+use Rattle.machine_kernel.specs.Future.{lines_of_run}
 use Rattle.run_report.specs.Texts.{report_text}
 use Rattle.trace_files.specs.Reported.{IsFormedTrace}
 use Rattle.trace_laws.specs.declared.verdicts.Verdict.{Verdict}
@@ -142,6 +144,27 @@ DoneTold (Some (TableAsked table test)) shelf out status =
     (status ≡ 0) × WhereTold (told shelf.files table) (λ bytes. IsPrinted test bytes out status)
 DoneTold (Some (TraceAsked trace work)) shelf out status =
     (status ≡ 0) × WhereTold (told shelf.files trace) (λ bytes. IsTraced work bytes out false)
+
+-- Lines were written that keep a law, and they are those of the run of the accepted bytes. Different lists of printable
+-- lines have different texts, so where they are printable the text says which lines they are.
+pub record WrittenKeeps (law : List Line → Type 0) (items : List (ℤ × Item)) (ticks : ℕ) (bytes : List ℕ) (out : SinkChange) : Type 0 where
+  pub image : Image
+  pub lines : List Line
+  pub accepted : IsAccepted bytes image
+  pub are_of_run : lines ≡ lines_of_run image items ticks
+  pub text : Gained out (text_of lines)
+  pub keeps : law lines
+
+-- Where a run is asked for of a source that is there, without a script or under one that is there, the lines that were
+-- written keep a law.
+abbrev pub LawTold : (List Line → Type 0) → Option Asked → ShelfChange → SinkChange → Type 0
+LawTold law None shelf out = Unit {0}
+LawTold law (Some (SourceAsked source (work.Run ticks))) shelf out = WhereTold (told shelf.files source) (λ bytes. WrittenKeeps law [] ticks bytes out)
+LawTold law (Some (SourceAsked source work.Accept)) shelf out = Unit {0}
+LawTold law (Some (ScriptAsked source script ticks)) shelf out =
+    WhereTold (told shelf.files source) (λ bytes. OfItems shelf script (λ items. WrittenKeeps law items ticks bytes out))
+LawTold law (Some (TableAsked table test)) shelf out = Unit {0}
+LawTold law (Some (TraceAsked trace work)) shelf out = Unit {0}
 
 -- 0 to 3 for a run, 4 to 9, 11 and 13 where a command was not done, 10 where a law is
 -- broken, 12 where a test fails

@@ -1,7 +1,10 @@
-use Rattle.std.proofs.Common.{inl, inr, arith}
+use Rattle.std.proofs.Common.{inl, inr, IsTrue, arith}
+use Rattle.trace_text.specs.Laws.{DispatchOk}
+use Rattle.tick_lines.specs.TickLaws.{SwitchesOk, ReleasesOk, StuckOk, follows_tick_order}
+use Rattle.exclusion_laws.specs.ExclusionLaws.{EntersOk}
 use Rattle.commands.specs.Asked.{asked_of}
 use Rattle.commands.specs.Outside.{shelf_of, sink_of}
-use Rattle.commands.proofs.StatusesTold.{headline, headline_under, acceptance, table_told, beyond, trace_told, laws_told, report_told, known_status, done_told, quiet, refused_source, not_accepted, not_accepted_under, refused_script, no_script, kept, words, refused_words, note_words, read_fault, note_read, write_fault, prefix_told, note_tried, note_memory, breach, quiet_breach, refused_trace, kept_refused_trace, failure, quiet_failure, refused_table, kept_refused_table}
+use Rattle.commands.proofs.StatusesTold.{headline, headline_under, acceptance, table_told, beyond, trace_told, laws_told, report_told, known_status, done_told, law_told, quiet, refused_source, not_accepted, not_accepted_under, refused_script, no_script, kept, words, refused_words, note_words, read_fault, note_read, write_fault, prefix_told, note_tried, note_memory, breach, quiet_breach, refused_trace, kept_refused_trace, failure, quiet_failure, refused_table, kept_refused_table}
 use Rattle.annexd.proofs.whole.top.Goals as goal
 
 pub returns : goal.returns
@@ -25,6 +28,12 @@ returns g c =
       reported = report_told c.lines_tell.ensures.formed c.lines_tell.ensures.only asked shelf out notes o status p n;
       statuses = known_status asked shelf out notes o status p n;
       run = done_told asked shelf out notes o status p n;
+      dispatch = law_told DispatchOk c.runs_dispatch.ensures asked shelf out notes o status p n;
+      exclusion = law_told EntersOk c.runs_exclude.ensures asked shelf out notes o status p n;
+      in_tick_order = law_told (λ lines. IsTrue (follows_tick_order lines)) c.runs_are_in_tick_order.ensures asked shelf out notes o status p n;
+      switches = law_told SwitchesOk c.runs_switch.ensures asked shelf out notes o status p n;
+      releases = law_told ReleasesOk c.runs_release_in_order.ensures asked shelf out notes o status p n;
+      stuck = law_told StuckOk c.runs_are_rightly_stuck.ensures asked shelf out notes o status p n;
       quiet = quiet o notes status n;
       refused_source = refused_source asked shelf out notes o status p n;
       not_accepted = not_accepted asked shelf out notes o status p n;

@@ -4,7 +4,7 @@
     tools/compare_runs.py --front-end FOLDER --work FOLDER [--size N] [--built K] [--most TICKS] SEED..
     tools/compare_runs.py --front-end FOLDER --work FOLDER --rows FOLDER NAME..
 
-FOLDER of --front-end holds, beside the modules that tools/program_data.py needs, `annexd` (run) and `gen` (programs
+FOLDER of --front-end holds, beside the modules that tools/image_by_front_end.py needs, `annexd` (run) and `gen` (programs
 by seed). The work folder becomes a throw-away repository with a copy of the crates and one more crate, in which each
 program is one module with a law of its own, so that one that fails hides no other. The machine decides by `rt check`.
 Programs whose trace goes on past the bound `most` are compared up to it.
@@ -19,6 +19,7 @@ import sys
 import threading
 
 sys.path.insert(0, os.path.dirname(os.path.abspath(__file__)))
+import image_by_front_end
 import program_data
 
 ROOT = os.path.dirname(os.path.dirname(os.path.abspath(__file__)))
@@ -33,10 +34,10 @@ def run_of(modules, program, script, bound):
 
 
 def case(modules, source, script_text, bound):
-    program = program_data.Program(modules, source)
+    program = image_by_front_end.Program(modules, source)
     script = modules["script"].script_of(script_text) if script_text else []
-    fresh = program_data.Program(modules, source)
-    return program, script, run_of(modules, fresh, script, bound)
+    fresh = image_by_front_end.Program(modules, source)
+    return program, program_data.script_of(script_text), run_of(modules, fresh, script, bound)
 
 
 def last_tick(trace):
@@ -102,7 +103,7 @@ def main():
     words.add_argument("--rows")
     words.add_argument("names", nargs="+")
     a = words.parse_args()
-    modules = program_data.modules_of(a.front_end)
+    modules = image_by_front_end.modules_of(a.front_end)
     if not a.rows:
         import gen
         modules["gen"] = gen

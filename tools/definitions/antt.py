@@ -1,102 +1,33 @@
-"""Evaluates the definitions of the crates, as they stand in their .antt files.
+"""Evaluates definitions of the crates as they stand in their .antt files.
 
-It reads the part of antt in which they are written: clauses, records, let, lambda, sections with parameters, and the folds
-of the tree. Every name of a definition is one of the whole project's. It proves nothing.
+A definition becomes a Python function when it is first called; `antt_library` says what values are. A name is what the `use`
+lines of its file say; a constant of the code is read from the crate's source. Types are looked at only for how many arguments a
+definition takes. A form or a name that is not known is an error that names it. Nothing is proved here.
 """
-import re, sys, os
-sys.setrecursionlimit(1000000)
-PROJECT = os.path.abspath(os.environ.get("PROJECT", "."))
+import functools
+import os
+import re
+import sys
 
-class Con:
-    __slots__ = ("n", "a")
-    def __init__(self, n, a=()): self.n = n; self.a = a
-    def __repr__(self): return self.n if not self.a else "(" + self.n + " " + " ".join(map(repr, self.a)) + ")"
-class Rec:
-    __slots__ = ("d",)
-    def __init__(self, d): self.d = d
-    def up(self, d):
-        x = dict(self.d); x.update(d); return Rec(x)
-    def __repr__(self): return "{" + "; ".join(f"{k}={v!r}" for k, v in self.d.items()) + "}"
-class Fn:
-    __slots__ = ("k", "f", "a")
-    def __init__(self, k, f, a=()): self.k = k; self.f = f; self.a = a
+sys.path.insert(0, os.path.dirname(os.path.abspath(__file__)))
+from antt_library import B, NONE, TREES, Con, ExpressionNode, Fn, Rec, SequenceNode, ap, sub, tail    # noqa: E402, F401
 
-def ap(f, *xs):
-    while xs:
-        if f.__class__ is Fn:
-            args = f.a + xs
-            if len(args) < f.k: return Fn(f.k, f.f, args)
-            xs = args[f.k:]
-            f = f.f(*args[:f.k])
-        elif f.__class__ is Con:
-            return Con(f.n, f.a + xs)
-        else:
-            raise TypeError(f"applied {f!r} to {xs!r}")
-    return f
+sys.setrecursionlimit(10**9)
 
-SOME = lambda x: Con("Some", (x,))
-NONE = Con("None")
-def _find(t, l):
-    for x in l:
-        if ap(t, x): return SOME(x)
-    return NONE
-def _div(a, b):
-    if b == 0: return 0
-    q = abs(a) // abs(b)
-    return q if (a < 0) == (b < 0) else -q
-def _flat(f, l):
-    out = ()
-    for x in l: out += ap(f, x)
-    return out
-def _position(f, l):
-    for i, x in enumerate(l):
-        if ap(f, x): return SOME(i)
-    return NONE
-B = {
- "pos": (1, lambda n: n), "negsuc": (1, lambda n: -n-1), "suc": (1, lambda n: n+1), "zero": 0,
- "true": True, "false": False, "not": (1, lambda b: not b), "length": (1, len),
- "eqb": (2, lambda a, b: a == b), "ltb": (2, lambda a, b: a < b), "leb": (2, lambda a, b: a <= b),
- "int_lt": (2, lambda a, b: a < b), "int_le": (2, lambda a, b: a <= b),
- "int_div": (2, _div), "int_rem": (2, lambda a, b: a - b*_div(a, b)),
- "neg_ℤ": (1, lambda a: -a), "nat_abs": (1, abs), "max": (2, max),
- "take": (2, lambda n, l: l[:n]), "drop": (2, lambda n, l: l[n:]),
- "replicate": (2, lambda n, x: (x,)*n), "map": (2, lambda f, l: tuple(ap(f, x) for x in l)),
- "filter": (2, lambda f, l: tuple(x for x in l if ap(f, x))),
- "find": (2, _find), "slice_index_or": (3, lambda l, n, d: l[n] if n < len(l) else d),
- "slice_set": (3, lambda l, n, v: l[:n] + (v,) + l[n+1:] if n < len(l) else l),
- "decimal": (1, lambda n: tuple(str(n).encode())), "sum_by": (2, lambda f, l: sum(ap(f, x) for x in l)),
- "is_some": (1, lambda o: o.n == "Some"), "is_none": (1, lambda o: o.n == "None"),
- "option_map": (2, lambda f, o: o if o.n == "None" else SOME(ap(f, o.a[0]))),
- "option_and_then": (2, lambda f, o: o if o.n == "None" else ap(f, o.a[0])),
- "list_any": (2, lambda f, l: any(ap(f, x) for x in l)), "list_all": (2, lambda f, l: all(ap(f, x) for x in l)),
- "flat_map": (2, _flat), "cond": (3, lambda c, a, b: a if c else b),
- "position": (2, _position), "slice_get": (2, lambda l, n: SOME(l[n]) if n < len(l) else NONE),
- "bytes_eq": (2, lambda a, b: a == b), "unwrap_or": (2, lambda o, d: o.a[0] if o.n == "Some" else d),
- "whole_of": (1, lambda t: _digits(bytes(t).partition(b".")[0])), "decimals_of": (1, lambda t: tuple(bytes(t).partition(b".")[2])),
- "value_of": (1, lambda t: _digits(bytes(t))),
- "fold_Expression": (3, lambda t, f, e: _fold(ExpressionNode, f, e)), "fold_Sequence": (3, lambda t, f, e: _fold(SequenceNode, f, e)),
- "out_Expression": (1, lambda e: e), "out_Sequence": (1, lambda e: e),
- "tt": 0, "bound_to": (3, lambda m, f, w: _bound(m, f, w)), "fst": (1, lambda p: p.d["0"]), "snd": (1, lambda p: p.d["1"]),
- "filter_map": (2, lambda f, l: tuple(y.a[0] for y in (ap(f, x) for x in l) if y.n == "Some")),
- "to_ascii_uppercase": (1, lambda b: b - 32 if 97 <= b <= 122 else b),
-}
-def _bound(m, f, w):
-    a = ap(m, w)
-    return ap(f, a.d["1"], a.d["0"])
-def _digits(t): return int(t.replace(b"_", b"") or b"0")
-class ExpressionNode(Rec): pass
-class SequenceNode(Rec): pass
-def _inside(kind, f, x):
-    """The parts of kind in x, folded."""
-    if x.__class__ is kind: return _fold(kind, f, x)
-    if x.__class__ is tuple: return tuple(_inside(kind, f, y) for y in x)
-    if x.__class__ is Con: return Con(x.n, tuple(_inside(kind, f, y) for y in x.a))
-    if x.__class__ is Rec: return Rec({k: _inside(kind, f, v) for k, v in x.d.items()})
-    return x
-def _fold(kind, f, x): return ap(f, Rec({k: _inside(kind, f, v) for k, v in x.d.items()}))
+# the project whose crates are read
+ROOT = os.path.dirname(os.path.dirname(os.path.dirname(os.path.abspath(__file__))))
+
+
 BCONS = {"Some", "None", "Ok", "Err"}
-TOK = re.compile(r'''\s+|--[^\n]*|(?P<str>"(?:\\.|[^"\\])*")|(?P<num>\d+)|(?P<op>\+ℤ|-ℤ|\*ℤ|>>=|>>|\+\+|&&|\|\||▷|▶|∷|↦|≡|→|×|\+|-|\*|=|;|:|,|\(|\)|\[|\]|\{|\}|\||λ|\.)|(?P<id>[^\W\d][\w'ℕℤ₀-₉]*(?:\.[\w'₀-₉]+)*)|(?P<mix>◌\S+◌)''')
+LIBRARY = {"std", "core"}
+
+
+# ---------------------------------------------------------------- texts
+
+TOK = re.compile(r'''\s+|--[^\n]*|(?P<str>"(?:\\.|[^"\\])*")|(?P<num>\d+)|(?P<op>\+ℤ|-ℤ|\*ℤ|>>=|>>|\+\+|&&|\|\||▷|▶|∷|↦|≡|→|←|×|==|[<≤≢⊎↔^/]|\+|-|\*|=|;|:|,|\(|\)|\[|\]|\{|\}|\||λ|\.)|(?P<quoted>«[^»]*»)|(?P<id>[^\W\d][\w'ℕℤ₀-₉]*(?:\.[\w'₀-₉]+)*)|(?P<mix>◌\S+◌)|(?P<sign>⊥|⊤)''')
 FIELD = re.compile(r"\.[\w']+")
+
+
 def tokens(s):
     out = []; i = 0
     while i < len(s):
@@ -108,24 +39,23 @@ def tokens(s):
             if k == "op" and t == "." and i > 0 and out and not s[i-1].isspace() and i+1 < len(s) and s[i+1].isalnum():
                 m2 = FIELD.match(s, i)
                 out.append(("field", m2.group()[1:])); i = m2.end(); continue
-            out.append((k, t))
+            out.append(("id", t[1:-1]) if k == "quoted" else (k, t))
         i = m.end()
     return out
 
-class Module:
-    def __init__(self, name): self.name = name; self.names = {}; self.alias = {}; self.defs = {}; self.sections = {}; self.py = re.sub(r"\W", "_", name)
-ALL = {}                           # every definition and constructor of what has been loaded, by name
 
-MODULES = {}
-GLOBALS = {"Con": Con, "Rec": Rec, "Fn": Fn, "ap": ap, "NONE": NONE}
+def chunks_of(text):
+    """The clauses and other items of a text, each with the lines that go on with it."""
+    chunks = []
+    for ln in text.split("\n"):
+        if not ln.strip() or ln.lstrip().startswith("--"): continue
+        if (ln[0].isspace() or ln[0] in ")]}") and chunks: chunks[-1] += "\n" + ln
+        else: chunks.append(ln)
+    return chunks
 
 
-def path_of(name):
-    crate, _, rest = name.partition(".specs.")
-    return os.path.join(PROJECT, "crates", crate, "specs", rest.replace(".", "/") + ".antt")
-
-def without_do(chunk):
-    """A clause whose right side is a `do` block, written with `bound_to`."""
+def in_one_line(chunk):
+    """A clause whose right side is a `do` block, with semicolons between its lines."""
     head, mark, body = chunk.partition("= do\n")
     if not mark: return chunk
     lines, least = [], None
@@ -134,122 +64,307 @@ def without_do(chunk):
         if least is None: least = depth
         if depth == least: lines.append(ln.strip())
         else: lines[-1] += " " + ln.strip()
-    out = lines[-1]
-    for ln in reversed(lines[:-1]):
-        name, arrow, e = ln.partition(" ← ")
-        out = f"bound_to ({e}) (λ {name}. {out})" if arrow else f"bound_to ({ln}) (λ _. {out})"
-    return head + "= " + out
+    return head + "= do " + " ; ".join(lines)
 
-def chunks_of(text):
-    chunks = []
-    for ln in text.split("\n"):
-        if not ln.strip() or ln.lstrip().startswith("--"): continue
-        if (ln[0].isspace() or ln[0] in ")]}") and chunks: chunks[-1] += "\n" + ln
-        else: chunks.append(ln)
-    return chunks
+
+def outer(toks):
+    """The tokens that stand in no brackets, each with its place."""
+    depth = 0
+    for i, t in enumerate(toks):
+        if t[0] == "op" and t[1] in "([{": depth += 1
+        elif t[0] == "op" and t[1] in ")]}": depth -= 1
+        elif depth == 0: yield i, t
+
+
+# ---------------------------------------------------------------- modules
+
+class Module:
+    """The names of a file of definitions: what each means there, and the definitions that it has."""
+    def __init__(self, name):
+        self.name = name
+        self.py = re.sub(r"\W", "_", name)
+        self.clear()
+    def clear(self): self.names, self.alias, self.defs, self.types, self.signatures = {}, {}, {}, {}, {}
+    def meaning(self, n):
+        """What a name means: a definition, a constructor, a constant, or a name of the library."""
+        r = self.names.get(n) or ALWAYS.get(n)
+        if r is not None and r[0] == "use":
+            r = load(r[1]).meaning(r[2])
+            self.names[n] = r
+        return r
+
+
+# what is known without a `use`
+ALWAYS = {"tt": ("builtin", "tt")}
+MODULES = {}
+GLOBALS = {"Con": Con, "Rec": Rec, "Fn": Fn, "ap": ap, "sub": sub, "tail": tail, "NONE": NONE}
+
+
+def path_of(name):
+    """The file of a module, which is named as CRATE.specs.NAME."""
+    crate, rest = name.split(".specs.", 1)
+    return os.path.join(ROOT, "crates", crate, "specs", *rest.split(".")) + ".antt"
+
 
 def load(name, text=None):
+    """The module of this name; its text is that of its file where none is given."""
     if name in MODULES: return MODULES[name]
-    m = MODULES[name] = Module(name)
     if text is None:
-        text = open(path_of(name), encoding="utf-8").read()
-    text = re.sub(r"\b(fold|out)-(\w+)", r"\1_\2", text)
-    clauses = []
-    read_chunks(m, chunks_of(text), (), clauses)
-    groups = {}
-    for c, params in clauses:
-        toks = tokens(without_do(c))
-        depth = 0; eq = None
-        for i, t in enumerate(toks):
-            if t[0] == "op" and t[1] in ("(", "[", "{"): depth += 1
-            elif t[0] == "op" and t[1] in (")", "]", "}"): depth -= 1
-            elif t == ("op", "=") and depth == 0: eq = i; break
-        if eq is None: print("no = in", m.name, c[:200]); continue
-        lhs, rhs = toks[:eq], toks[eq+1:]
-        if any(t[0] == "op" and t[1] in ("▷", "▶", ">>=", ">>") for t in lhs): continue
-        if lhs[0][1][0].isupper(): continue
-        if params: m.sections[lhs[0][1]] = params
-        groups.setdefault(lhs[0][1], []).append(([("id", p) for p in params] + lhs[1:], rhs))
-    for fname in groups:
-        m.names[fname] = ("def", m, fname)
-        if fname in ALL and ALL[fname][1:] != (m, fname) and "Rows" not in m.name and "nowhere" not in m.name: print("defined twice:", fname, "in", m.name, "and", ALL[fname][1].name if ALL[fname][0] == "def" else "data")
-        ALL[fname] = ("def", m, fname)
-    for fname, cl in groups.items(): m.defs[fname] = Def(m, fname, cl)
+        with open(path_of(name), encoding="utf-8") as f: text = f.read()
+    m = MODULES[name] = Module(name)
+    read(m, text)
     return m
 
-def read_chunks(m, chunks, params, clauses):
+
+def forget(name):
+    """Drops a module whose definitions nothing calls any more."""
+    for d in MODULES.pop(name).defs.values(): GLOBALS.pop(d.py, None)
+
+
+def reload(name, text):
+    """Gives a loaded module another text. What others compiled calls its functions by their names, so that it sees the
+    new ones; only what was computed once is forgotten."""
+    m = load(name)
+    arities = {n: d.k for n, d in m.defs.items()}
+    m.clear()
+    read(m, text)
+    if {n: d.k for n, d in m.defs.items()} != arities: raise SyntaxError(f"other names in {name}")
+    for other in MODULES.values():
+        for d in other.defs.values():
+            if d.k == 0: d.anew()
+
+
+def definition(module, name):
+    """A definition, as a function of all its arguments at once, or its value where it has none."""
+    d = load(module).defs[name]
+    if d.k == 0: return GLOBALS[d.py]()
+    return lambda *arguments: ap(Fn(d.k, GLOBALS[d.py]), *arguments)
+
+
+# the operators that crates define
+OWN = {"▷", "▶", ">>=", ">>"}
+
+
+def read(m, text):
+    """Reads the text of a module: its uses, its constructors, and its definitions by their clauses."""
+    text = re.sub(r"\b(fold|out|roll)-(\w+)", r"\1_\2", text)
+    groups = {}
+    read_chunks(m, chunks_of(text), (), groups)
+    for name, (section, clauses) in groups.items():
+        d = Def(m, name, section, clauses)
+        if name[0].isupper(): m.types[name] = d
+        else: m.defs[name] = d
+        m.names[name] = ("type" if name[0].isupper() else "def", m, name)
+
+
+HEAD = re.compile(r"(?:abbrev|unfoldable|pub|\s)*\s*(\S+) :\s(.*)", re.S)
+
+
+def read_chunks(m, chunks, section, groups):
+    """A section is the numbers and the parameters of the modules without a name around a chunk."""
     for c in chunks:
-        w = c.split()
+        w = c.split(None, 3)
         if w[0] == "use": do_use(m, c)
         elif w[0] in ("infixl", "infixr", "infix", "unfolding"): pass
         elif w[0] == "module":
             head, _, body = c.partition("\n")
             names = tuple(n for g in re.findall(r"\(([^:()]*):", head) for n in g.split())
             inner = "\n".join(ln[2:] for ln in body.split("\n"))
-            read_chunks(m, chunks_of(inner), params + names, clauses)
-        elif w[0] == "pub" and w[1] == "data":
+            read_chunks(m, chunks_of(inner), section + ((id(c), len(groups), names),), groups)
+        elif w[:2] == ["pub", "data"] or w[0] == "data":
             for ln in c.split("\n")[1:]:
                 ln = ln.split("--")[0].strip()
-                if ln:
-                    n = ln.split(":")[0].strip()
-                    m.names[n] = ALL[n] = ("con", n)
-        elif w[0] in ("abbrev", "unfoldable", "pub"): pass
-        else: clauses.append((c, params))
+                if ln: m.names[ln.split(":")[0].strip()] = ("con", ln.split(":")[0].strip())
+        elif w[:2] in (["pub", "record"], ["pub", "mod"]) or w[0] in ("record", "mod"):
+            if w[1] == "record": m.names.setdefault(w[2], ("type", m, w[2]))
+        elif w[0] in ("abbrev", "unfoldable", "pub"):
+            g = HEAD.match(c)
+            if g: m.signatures[g[1]] = g[2]
+        else:
+            name = w[0]
+            if name.startswith("(") or len(w) > 1 and w[1] in OWN: name = f"◌{operator_of(tokens(c))}◌"
+            groups.setdefault(name, (section, []))[1].append(c)
+
+
+def operator_of(toks):
+    """The operator that a clause defines: as `x ▷ y = ..` or `(x ▷ y) z = ..`."""
+    eq = next(i for i, t in outer(toks) if t == ("op", "="))
+    found = [t[1] for _, t in outer(toks[:eq]) if t[0] == "op" and t[1] in OWN] or [t[1] for t in toks[:eq] if t[0] == "op" and t[1] in OWN]
+    return found[0]
+
 
 def do_use(m, c):
+    """A line `use PATH.{NAME, NAME as OTHER}` or `use PATH as OTHER`: of a file of definitions, of the variants of a type,
+    of constants, of declared types, or of the standard library."""
     c = " ".join(c.split())[4:]
-    mm = re.match(r"^([\w.]+?)(?:\.\{(.*)\})?(?: as ([\w']+))?$", c)
-    path, names, alias = mm.groups()
-    path = path.replace("Rattle.", "")
-    isvar = path.endswith("TheVariants")
-    if isvar:
+    path, names, alias = re.match(r"^([\w.'-]+?)(?:\.\{(.*)\})?(?: as ([\w']+))?$", c).groups()
+    path = path.replace("Rattle.", "", 1)
+    crate = path.split(".specs.", 1)[0]
+    names = [(x.split(" as ")[0].strip(), x.split(" as ")[-1].strip()) for x in (names or "").split(",") if x.strip()]
+    names = [(n.strip("«»"), o.strip("«»")) for n, o in names]
+    if path.endswith(".TheVariants"):
         if alias: m.alias[alias] = ("variants",)
-        else:
-            for n in [x.strip() for x in names.split(",")]: m.names[n] = ("con", n)
-        return
-    if ".declared." in path: return
-    if "std.specs" not in path and ".specs." in path and os.path.exists(path_of(path)):
-        if names and set(x.strip() for x in names.split(",")) <= set(B): pass
-        else:
-            src = load(path)
-            if names:
-                for n in [x.strip() for x in names.split(",")]:
-                    if n in src.names and n not in m.names: m.names[n] = src.names[n]
-    if names:
-        for n in [x.strip() for x in names.split(",")]:
-            if n in BCONS: m.names[n] = ("con", n)
-            elif n in B and n not in m.names: m.names[n] = ("builtin", n)
-    return
+        for n, other in names: m.names[other] = ("con", n)
+    elif path.endswith(".TheConstants"):
+        for n, other in names: m.names[other] = ("const", path, n)
+    elif crate in LIBRARY:
+        for n, other in names:
+            if n in BCONS: m.names[other] = ("con", n)
+            elif n in B: m.names[other] = ("builtin", n)
+            elif n[0].isupper(): m.names[other] = ("type", None, n)
+    elif ".specs." not in path or ".specs.declared." in path or ".specs.contracts." in path:
+        for n, other in names:
+            if n in TREES: m.names[other] = ("builtin", n)
+            else: m.names[other] = ("type", None, n)
+    else:
+        if alias: m.alias[alias] = ("module", path)
+        for n, other in names: m.names[other] = ("use", path, n)
 
-PREC = {"▷": (20, "r"), "▶": (20, "r"), ">>=": (15, "l"), "||": (30, "r"), "&&": (36, "r"), "∷": (67, "r"), "++": (65, "r"), "+": (70, "l"), "-": (70, "l"), "*": (80, "l"), "+ℤ": (70, "l"), "-ℤ": (70, "l"), "*ℤ": (80, "l")}
-def mang(n): return "v_" + n.replace("'", "_q")
+
+@functools.lru_cache(None)
+def constant(root, path, name):
+    """A constant of the code: of the source of its crate."""
+    crate, rest = path.split(".specs.declared.")
+    parts = rest.split(".")[:-1]
+    file = os.path.join(root, "crates", crate, "src", *parts) + ".rt"
+    if not os.path.exists(file): file = os.path.join(root, "crates", crate, "src", *parts, "mod.rt")
+    with open(file, encoding="utf-8") as f: text = f.read()
+    found = re.search(rf"\bconst {name}\s*:\s*((?:[^;=\[]|\[[^\]]*\])*)=\s*(.*?);\n", text, re.S)
+    if not found: raise NameError(f"{name} in {file}")
+    return constant_value(" ".join(found[2].split()))
+
+
+def constant_value(e):
+    if e.startswith("&"): e = e[1:].strip()
+    if e.startswith("["): return tuple(constant_value(x.strip()) for x in e[1:-1].split(",") if x.strip())
+    if re.fullmatch(r"[\d_]+(?:[ui](?:8|16|32|64|128|size))?", e): return int(re.match(r"[\d_]+", e)[0])
+    if re.fullmatch(r"\w+::\w+", e): return Con(e.split("::")[1])
+    raise SyntaxError(f"constant {e[:80]}")
+
+
+# ---------------------------------------------------------------- arities
+
+def arrows(m, toks):
+    """How many arguments a type takes, behind those that are found by themselves."""
+    parts, depth = [[]], 0
+    for t in toks:
+        if t[0] == "op" and t[1] in "([{": depth += 1
+        elif t[0] == "op" and t[1] in ")]}": depth -= 1
+        if depth == 0 and t == ("op", "→"): parts.append([])
+        else: parts[-1].append(t)
+    return sum(map(binders, parts[:-1])) + named_arrows(m, parts[-1])
+
+
+def binders(part):
+    """How many arguments stand before an arrow: `A`, `(x y : A)`, or `{X : A}`, which counts nothing."""
+    groups, depth, start = [], 0, 0
+    for i, t in enumerate(part):
+        if t[0] == "op" and t[1] in "([{":
+            if depth == 0: start = i
+            depth += 1
+        elif t[0] == "op" and t[1] in ")]}":
+            depth -= 1
+            if depth == 0: groups.append(part[start:i+1])
+    if sum(map(len, groups)) != len(part) or not groups: return 1
+    count = 0
+    for g in groups:
+        colons = [i for i, t in outer(g[1:-1]) if t == ("op", ":")]
+        if g[0][1] == "{": continue
+        if not colons: return 1
+        count += colons[0]
+    return count
+
+
+def named_arrows(m, toks):
+    """The arguments that the name of a type stands for."""
+    if not toks or toks[0][0] != "id" or any(t[0] == "op" for _, t in outer(toks)): return 0
+    r = m.meaning(toks[0][1])
+    if r is None or r[0] != "type" or r[1] is None: return 0
+    d = r[1].types.get(r[2])
+    return 0 if d is None or len(d.chunks) != 1 else arrows(d.m, d.clauses[0][1])
+
+
+# ---------------------------------------------------------------- definitions
+
+PREC = {">>=": (10, "l"), ">>": (10, "l"), "▷": (20, "r"), "▶": (20, "r"), "||": (30, "r"), "&&": (36, "r"), "==": (40, "l"), "∷": (67, "r"), "++": (65, "r"), "+": (70, "l"), "-": (70, "l"), "+ℤ": (70, "l"), "-ℤ": (70, "l"), "*": (80, "l"), "*ℤ": (80, "l"), "^": (90, "r")}
 class MatchError(Exception): pass
 GLOBALS["MatchError"] = MatchError
 
+
+class Code(str):
+    """A piece of Python; `partial` has the function, its number of arguments and those that are there, where some lack."""
+    partial = None
+
+
+def partial(py, k, args):
+    c = Code(f"Fn({k}, {py}, ({''.join(a + ', ' for a in args)}))")
+    c.partial = py, k, args
+    return c
+
+
 class Def:
-    def __init__(self, m, name, clauses):
-        self.m, self.name = m, name
-        self.pats = [Parser(m, l).patterns() for l, _ in clauses]
-        self.rhs = [r for _, r in clauses]
-        self.k = len(self.pats[0])
-        self.py = "G_" + m.py + "_" + name.replace("'", "_q")
+    """A definition by its clauses. It is compiled when it is first called, and one without arguments is computed once."""
+    def __init__(self, m, name, section, chunks):
+        self.m, self.name, self.section, self.chunks = m, name, section, chunks
+        plain = {"◌▷◌": "then_step", "◌▶◌": "then_move", "◌>>=◌": "bind", "◌>>◌": "then"}.get(name, name)
+        self.py = "G_" + m.py + "_" + re.sub(r"\W", lambda x: f"_q{ord(x[0]):x}", plain)
+        self.parameters = tuple(n for s in section for n in s[2])
+        self.anew()
+    @functools.cached_property
+    def clauses(self):
+        """Of each clause the tokens of its patterns, one list or two around an operator, and those of its right side."""
+        out = []
+        for c in self.chunks:
+            toks = tokens(in_one_line(c))
+            eq = next((i for i, t in outer(toks) if t == ("op", "=")), None)
+            if eq is None: raise SyntaxError(f"no = in {self.m.name}: {c[:200]}")
+            out.append((toks[:eq], toks[eq+1:]))
+        return out
+    @functools.cached_property
+    def pats(self): return [self.patterns_of(l) for l, _ in self.clauses]
+    def patterns_of(self, toks):
+        p = [("var", n) for n in self.parameters]
+        if not self.name.startswith("◌"): return p + Parser(self, toks[1:]).patterns()
+        behind = []
+        if not any(t == ("op", self.name[1:-1]) for _, t in outer(toks)):
+            # (f ▷ g) w said
+            end = next(i for i, t in enumerate(toks) if t == ("op", ")"))
+            toks, behind = toks[1:end], toks[end+1:]
+        at = next(i for i, t in outer(toks) if t == ("op", self.name[1:-1]))
+        return p + [Parser(self, toks[:at]).pattern_alone(), Parser(self, toks[at+1:]).pattern_alone()] + Parser(self, behind).patterns()
+    @functools.cached_property
+    def k(self):
+        """The arguments of the clauses, and those that the type tells beyond them."""
+        least = len(self.pats[0])
+        signature = self.m.signatures.get(self.name)
+        if signature is None: return least
+        return max(least, len(self.parameters) + arrows(self.m, tokens(signature)))
+    def anew(self):
+        self.compiled = False
         GLOBALS[self.py] = self.stub
     def stub(self, *args):
-        self.compile()
+        if not self.compiled: self.compile()
         return GLOBALS[self.py](*args)
     def compile(self):
+        self.compiled = True
         params = [f"a{i}" for i in range(self.k)]
         lines = [f"def {self.py}({', '.join(params)}):"]
-        for pats, rhs in zip(self.pats, self.rhs):
+        for pats, (_, rhs) in zip(self.pats, self.clauses):
+            p = Parser(self, rhs)
             conds, binds = [], []
-            for p, a in zip(pats, params): match(p, a, conds, binds)
-            e = Parser(self.m, rhs, self.m.sections.get(self.name, ())).whole({n for n, _ in binds})
-            ind = "    "
+            for q, a in zip(pats, params): match(q, a, conds, binds)
+            env, ind = {}, "    "
             if conds:
                 lines.append(f"    if {' and '.join(conds)}:"); ind = "        "
-            for n, x in binds: lines.append(f"{ind}{mang(n)} = {x}")
-            lines.append(f"{ind}return {e}")
+            used = {t[1].split(".")[0] for t in rhs if t[0] == "id"}
+            for n, x in binds:
+                if n not in used and n not in self.parameters: continue
+                env[n] = x if x.isidentifier() else p.fresh(n)
+                if env[n] != x: lines.append(f"{ind}{env[n]} = {x}")
+            p.body(env, params[len(pats):], lines, ind)
+            if p.i != len(rhs): raise SyntaxError(f"rest {rhs[p.i:p.i+8]} of {self.name} in {self.m.name}")
         lines.append(f"    raise MatchError({self.py!r}, {', '.join(params)})")
+        lines = in_turns(self.py, params, lines)
         exec(compile("\n".join(lines), self.py, "exec"), GLOBALS)
         if self.k == 0:
             f = GLOBALS[self.py]; cell = []
@@ -258,25 +373,77 @@ class Def:
                 return cell[0]
             GLOBALS[self.py] = once
 
+
+def in_turns(py, params, lines):
+    """A function whose last step is to call itself goes round instead, unless a function inside it has its names."""
+    again = f"return {py}("
+    if any("lambda " in ln for ln in lines) or not any(ln.lstrip().startswith(again) and ends_there(ln.lstrip()[len(again)-1:]) for ln in lines):
+        return lines
+    out = [lines[0], "    while True:"]
+    for ln in lines[1:]:
+        body = ln.lstrip()
+        ind = "    " + ln[:len(ln) - len(body)]
+        if body.startswith(again) and ends_there(body[len(again)-1:]):
+            out += [f"{ind}{', '.join(params)} = {body[len('return ' + py):]}", f"{ind}continue"]
+        else: out.append(ind + body)
+    return out
+
+
+def ends_there(text):
+    """Whether the bracket that opens a text closes at its end."""
+    text = re.sub(r"'(?:[^'\\]|\\.)*'", "", text)
+    depth = 0
+    for i, c in enumerate(text):
+        depth += (c in "([{") - (c in ")]}")
+        if depth == 0: return i == len(text) - 1
+    return False
+
+
 def match(p, x, conds, binds):
+    """The conditions under which x has the form of a pattern, and what its names then are."""
     k = p[0]
     if k == "var": binds.append((p[1], x))
     elif k == "any": pass
     elif k == "lit": conds.append(f"{x} == {p[1]}")
-    elif k == "bool": conds.append(f"{x} is {p[1]}")
+    elif k == "bool": conds.append(x if p[1] else f"not {x}")
     elif k == "nil": conds.append(f"not {x}")
     elif k == "cons":
-        conds.append(f"{x}")
-        match(p[1], f"{x}[0]", conds, binds); match(p[2], f"{x}[1:]", conds, binds)
-    elif k == "suc": conds.append(f"{x} > 0"); match(p[1], f"({x}-1)", conds, binds)
+        n, items = 0, []
+        while p[0] == "cons":
+            items.append(p[1]); p = p[2]; n += 1
+        if p[0] == "nil": conds.append(f"len({x}) == {n}")
+        else: conds.append(x if n == 1 else f"len({x}) >= {n}")
+        for i, q in enumerate(items): match(q, f"{x}[{i}]", conds, binds)
+        if p[0] == "var": binds.append((p[1], f"tail({x}, {n})"))
+        elif p[0] not in ("nil", "any"): raise SyntaxError(f"pattern {p}")
+    elif k == "suc":
+        n = 0
+        while p[0] == "suc": p = p[1]; n += 1
+        if p[0] == "lit": conds.append(f"{x} == {p[1] + n}")
+        else:
+            conds.append(f"{x} >= {n}")
+            if p[0] == "var": binds.append((p[1], f"({x} - {n})"))
+            elif p[0] != "any": raise SyntaxError(f"pattern {p}")
+    elif k == "pair":
+        match(p[1], f"{x}.d['0']", conds, binds); match(p[2], f"{x}.d['1']", conds, binds)
     elif k == "pos": conds.append(f"{x} >= 0"); match(p[1], x, conds, binds)
     elif k == "negsuc": conds.append(f"{x} < 0"); match(p[1], f"(-{x}-1)", conds, binds)
     elif k == "con":
         conds.append(f"{x}.n == {p[1]!r}")
         for i, q in enumerate(p[2]): match(q, f"{x}.a[{i}]", conds, binds)
 
+
+LOCAL = re.compile(r"\bv_\w+")
+KEYWORDS = ("in", "let", "elim", "if", "then", "else", "do")
+
+
 class Parser:
-    def __init__(self, m, toks, inside=()): self.m, self.t, self.i, self.inside = m, toks, 0, inside
+    """Reads the tokens of a pattern or of an expression of a definition, and writes the expression in Python."""
+    def __init__(self, d, toks): self.d, self.m, self.t, self.i, self.shares = d, d.m, toks, 0, []
+    count = 0
+    def fresh(self, n):
+        Parser.count += 1
+        return "v_" + re.sub(r"\W|[^\x00-\x7f]", "_q", n) + f"_{Parser.count}"
     def peek(self): return self.t[self.i] if self.i < len(self.t) else ("end", "")
     def next(self): x = self.peek(); self.i += 1; return x
     def expect(self, v):
@@ -285,10 +452,17 @@ class Parser:
     def con_of(self, n):
         parts = n.split(".")
         if len(parts) == 1:
-            r = self.m.names.get(n)
+            r = self.m.meaning(n)
             return r[1] if r and r[0] == "con" else None
-        if parts[0] in self.m.alias and self.m.alias[parts[0]][0] == "variants" and len(parts) == 2: return parts[1]
+        if self.m.alias.get(parts[0]) == ("variants",) and len(parts) == 2: return parts[1]
         return None
+
+    # ---- patterns
+
+    def pattern_alone(self):
+        p = self.pat()
+        if self.i != len(self.t): raise SyntaxError(f"pattern {self.t} in {self.m.name}")
+        return p
     def patterns(self):
         out = []
         while self.i < len(self.t): out.append(self.patom())
@@ -297,11 +471,19 @@ class Parser:
         k, v = self.next()
         if k == "num": return ("lit", int(v))
         if k == "op" and v == "(":
-            p = self.pat(); self.expect(")"); return p
+            p = self.pat()
+            if self.peek() == ("op", ","):
+                self.next()
+                return ("pair", p, self.rest_of_pair())
+            self.expect(")"); return p
         if k == "op" and v == "[":
             self.expect("]"); return ("nil",)
         if k == "id": return self.pname(v, [])
         raise SyntaxError(f"pattern {k} {v} in {self.m.name}")
+    def rest_of_pair(self):
+        p = self.pat()
+        if self.next() == ("op", ","): return ("pair", p, self.rest_of_pair())
+        return p
     def pname(self, v, args):
         if v == "_": return ("any",)
         if v in ("true", "false"): return ("bool", v == "true")
@@ -309,7 +491,7 @@ class Parser:
         if v in ("suc", "pos", "negsuc") and args: return (v, args[0])
         c = self.con_of(v)
         if c is not None: return ("con", c, args)
-        if args: raise SyntaxError(f"pattern {v} {args} in {self.m.name}")
+        if args or "." in v: raise SyntaxError(f"pattern {v} {args} in {self.m.name}")
         return ("var", v)
     def pat(self):
         if self.peek()[0] == "id" and (self.con_of(self.peek()[1]) or self.peek()[1] in ("suc", "pos", "negsuc")):
@@ -320,10 +502,90 @@ class Parser:
         if self.peek() == ("op", "∷"):
             self.next(); return ("cons", p, self.pat())
         return p
-    def whole(self, env):
+
+    # ---- the right side of a clause, as statements
+
+    def ends(self, i):
+        """Whether an expression ends here."""
+        return i >= len(self.t) or self.t[i] in (("op", "|"), ("op", "]"), ("op", ")"), ("id", "then"), ("id", "else"))
+    def closing(self, i):
+        """The place behind the bracket that closes the one at i."""
+        depth = 0
+        while True:
+            if self.t[i][0] == "op":
+                if self.t[i][1] in "([{": depth += 1
+                elif self.t[i][1] in ")]}": depth -= 1
+            i += 1
+            if depth == 0: return i
+    def body(self, env, extra, lines, ind):
+        k, v = self.peek()
+        if (k, v) == ("op", "λ") and extra:
+            self.next()
+            env, extra = dict(env), list(extra)
+            while self.peek() != ("op", ".") and extra:
+                n = self.next()[1]
+                if n != "_": env[n] = extra[0]
+                extra.pop(0)
+            if self.peek() == ("op", "."):
+                self.next()
+                return self.body(env, extra, lines, ind)
+            self.i -= 1
+            self.t = self.t[:self.i] + [("op", "λ")] + self.t[self.i+1:]
+            raise SyntaxError(f"λ of {self.d.name} in {self.m.name}")
+        if (k, v) == ("id", "let"):
+            n, e = self.let(env)
+            env = dict(env)
+            env[n] = self.fresh(n)
+            lines.append(f"{ind}{env[n]} = {e}")
+            return self.body(env, extra, lines, ind)
+        if (k, v) == ("id", "if"):
+            self.next(); c = self.expr(env); self.expect("then")
+            lines.append(f"{ind}if {c}:")
+            self.body(env, extra, lines, ind + "    "); self.expect("else")
+            return self.body(env, extra, lines, ind)
+        if (k, v) == ("id", "elim") and self.elim_is_all():
+            self.next()
+            x = self.fresh("elim")
+            lines.append(f"{ind}{x} = {self.atom(env)}"); self.expect("[")
+            if self.peek()[1] == "|": self.next()
+            while True:
+                conds, inner = self.arm(env, x)
+                lines.append(f"{ind}if {conds}:")
+                for n, e in inner[1]: lines.append(f"{ind}    {n} = {e}")
+                self.body(inner[0], extra, lines, ind + "    ")
+                if self.peek()[1] == "|": self.next(); continue
+                self.expect("]"); break
+            lines.append(f"{ind}raise MatchError({self.d.py!r}, {x})")
+            return
         e = self.expr(env)
-        if self.i != len(self.t): raise SyntaxError(f"rest {self.t[self.i:self.i+8]} in {self.m.name}")
-        return e
+        lines.append(f"{ind}return {self.apply(e, extra)}")
+    def elim_is_all(self):
+        i = self.i + 1
+        if self.t[i] == ("op", "("):
+            i = self.closing(i)
+            while i < len(self.t) and self.t[i][0] == "field": i += 1
+        else: i += 1
+        return i < len(self.t) and self.t[i] == ("op", "[") and self.ends(self.closing(i))
+    def arm(self, env, x):
+        """A pattern and its arrow: the conditions, and the names behind it with what they are."""
+        p = self.pat(); self.expect("↦")
+        conds, binds = [], []
+        match(p, x, conds, binds)
+        env, named = dict(env), []
+        for n, e in binds:
+            env[n] = self.fresh(n)
+            named.append((env[n], e))
+        return " and ".join(conds) or "True", (env, named)
+    def let(self, env):
+        self.next(); n = self.next()[1]
+        if self.peek()[1] == ":":
+            while self.peek()[1] != "=": self.next()
+        self.expect("=")
+        e = self.expr(env); self.expect("in")
+        return n, e
+
+    # ---- expressions
+
     def expr(self, env): return self.ops(env, 0)
     def ops(self, env, least):
         left = self.app(env)
@@ -338,105 +600,170 @@ class Parser:
                 while self.peek() == ("op", "∷"):
                     self.next(); items.append(self.ops(env, p + 1))
                 last = items.pop()
-                left = f"(({''.join(x + ', ' for x in items)}) + {last})"
+                left = Code(f"({''.join(x + ', ' for x in items)})" if last == "()" else f"({', '.join(items)}, *{last})")
                 continue
             right = self.ops(env, p + 1 if a == "l" else p)
             left = self.binop(v, left, right)
     def binop(self, v, l, r):
-        if v == "▷": return f"SEQ({l}, {r})"
-        if v == ">>=": return f"BIND({l}, {r})"
-        if v == "||": return f"({l} or {r})"
-        if v == "&&": return f"({l} and {r})"
-        if v == "++": return f"({l} + {r})"
-        if v == "+": return f"({l} + {r})"
-        if v == "-": return f"max(0, {l} - {r})"
-        return f"({l} {v[0]} {r})"
+        if v in OWN: return self.call_of(self.meaning(f"◌{v}◌"), [l, r])
+        if v == "||": return Code(f"({l} or {r})")
+        if v == "&&": return Code(f"({l} and {r})")
+        if v == "-": return self.shared(Code(f"sub({l}, {r})"))
+        sign = {"++": "+", "^": "**", "==": "=="}.get(v, v[0])
+        return self.shared(Code(f"({l} {sign} {r})"))
+    def lambda_of(self, names, body):
+        """A function; what its body still wants is its arguments too."""
+        if body.partial:
+            py, k, args = body.partial
+            more = [f"e{i}_{self.fresh('')}" for i in range(k - len(args))]
+            return Code(f"Fn({len(names) + len(more)}, lambda {', '.join(names + more)}: {py}({', '.join(args + more)}))")
+        return Code(f"Fn({len(names)}, lambda {', '.join(names)}: {body})")
     def app(self, env):
         k, v = self.peek()
         if k == "op" and v == "λ":
             self.next(); names = []
+            inner = dict(env)
             while self.peek() != ("op", "."):
                 x = self.next()
                 if x[0] != "id": raise SyntaxError(f"binder {x} in {self.m.name}")
-                names.append(x[1])
+                names.append(self.fresh(x[1]))
+                if x[1] != "_": inner[x[1]] = names[-1]
             self.next()
-            body = self.expr(env | set(names))
-            ps = ", ".join(mang(n) if n != "_" else f"_u{i}" for i, n in enumerate(names))
-            return f"Fn({len(names)}, lambda {ps}: {body})"
+            return self.lambda_of(names, self.expr(inner))
         if k == "id" and v == "let":
-            self.next(); n = self.next()[1]
-            if self.peek()[1] == ":":
-                while self.peek()[1] != "=": self.next()
-            self.expect("=")
-            e = self.expr(env); self.expect("in")
-            body = self.expr(env | {n})
-            return f"(lambda {mang(n)}: {body})({e})"
+            n, e = self.let(env)
+            inner = dict(env); inner[n] = self.fresh(n)
+            return Code(f"(lambda {inner[n]}: {self.expr(inner)})({e})")
+        if k == "id" and v == "do":
+            self.next()
+            return self.do(env)
+        if k == "id" and v == "if":
+            self.next()
+            c = self.expr(env); self.expect("then")
+            a = self.expr(env); self.expect("else")
+            return Code(f"({a} if {c} else {self.expr(env)})")
         if k == "id" and v == "elim":
             self.next()
+            x = self.fresh("elim")
             s = self.atom(env); self.expect("[")
             out = []
             if self.peek()[1] == "|": self.next()
             while True:
-                p = self.pat(); self.expect("↦")
-                conds, binds = [], []
-                match(p, "s_", conds, binds)
-                e = self.expr(env | {n for n, _ in binds})
-                for n, x in reversed(binds): e = f"(lambda {mang(n)}: {e})({x})"
-                out.append((" and ".join(conds) or "True", e))
+                conds, (inner, named) = self.arm(env, x)
+                e = self.expr(inner)
+                if named: e = f"(lambda {', '.join(n for n, _ in named)}: {e})({', '.join(y for _, y in named)})"
+                out.append((conds, e))
                 if self.peek()[1] == "|": self.next(); continue
                 self.expect("]"); break
-            chain = "FAIL(s_)"
+            chain = f"FAIL({x})"
             for c, e in reversed(out): chain = f"({e} if {c} else {chain})"
-            return self.apply(f"(lambda s_: {chain})({s})", self.args(env))
+            return self.apply(Code(f"(lambda {x}: {chain})({s})"), self.args(env))
         if k == "id" and v == "record": return self.record(env)
-        if k == "id" and v == "if":
-            self.next(); c = self.expr(env); self.expect("then"); a = self.expr(env); self.expect("else"); b = self.expr(env)
-            return f"({a} if {c} else {b})"
         if k == "id": return self.named(self.next()[1], env)
         head = self.atom(env)
         return self.apply(head, self.args(env))
+    def do(self, env):
+        """Steps with semicolons between them, each with or without the name of what it gives."""
+        if self.peek()[0] == "id" and self.t[self.i+1] == ("op", "←"):
+            n = self.next()[1]; self.next()
+            e = self.expr(env); self.expect(";")
+            inner = dict(env); inner[n] = self.fresh(n)
+            return self.binop(">>=", e, self.lambda_of([inner[n]], self.do(inner)))
+        e = self.expr(env)
+        if self.peek() == ("op", ";"):
+            self.next()
+            return self.binop(">>", e, self.do(env))
+        return e
     def args(self, env):
         out = []
         while True:
             k, v = self.peek()
-            if k == "id" and v not in ("in", "let", "record", "elim", "then", "else") or k in ("num", "str") or (k == "op" and v == "("): out.append(self.atom(env))
+            if k == "id" and v not in KEYWORDS and v != "record" or k in ("num", "str", "mix") or (k == "op" and v == "("): out.append(self.atom(env))
             elif k == "op" and v == "[" and self.t[self.i+1] == ("op", "]"): out.append(self.atom(env))
-            elif k == "id" and v == "record" and self.t[self.i+1] == ("op", "{"): out.append(self.record(env))
+            elif k == "op" and v == "{": self.i = self.closing(self.i)
+            elif k == "id" and v == "record": out.append(self.record(env))
             else: return out
-    def apply(self, h, args): return h if not args else f"ap({h}, {', '.join(args)})"
+    def apply(self, h, args):
+        args = list(args)
+        if not args: return h
+        if getattr(h, "partial", None):
+            py, k, before = h.partial
+            return self.call(py, k, before + args)
+        return self.shared(Code(f"ap({h}, {', '.join(args)})"))
+    def call(self, py, k, args):
+        if len(args) < k: return partial(py, k, args)
+        return self.apply(self.shared(Code(f"{py}({', '.join(args[:k])})")), args[k:])
+    def shared(self, code):
+        """What has the same two parts taken out of it twice is computed once."""
+        for h in self.shares:
+            if code.count(f"({h})") > 1 and not any(re.search(rf"lambda [^:]*\b{v}\b", code) for v in set(LOCAL.findall(h))):
+                x = self.fresh("both")
+                code = Code(f"(lambda {x}: {code.replace(f'({h})', f'({x})')})({h})")
+        return code
+    def meaning(self, n):
+        r = self.m.meaning(n)
+        if r is None: raise NameError(f"{n} in {self.m.name}")
+        return r
+    def call_of(self, r, args):
+        """A name of a definition or of the library, with arguments."""
+        if r[0] == "builtin":
+            b = B[r[1]]
+            if not isinstance(b, tuple): return Code(repr(b))
+            if r[1] == "cond" and len(args) >= 3: return self.apply(Code(f"({args[1]} if {args[0]} else {args[2]})"), args[3:])
+            if r[1] == "not" and len(args) == 1: return Code(f"(not {args[0]})")
+            if r[1] == "length" and len(args) == 1: return Code(f"len({args[0]})")
+            if r[1] == "suc" and len(args) == 1: return Code(f"({args[0]} + 1)")
+            if r[1] == "pos" and len(args) == 1: return args[0]
+            if r[1] in ("eqb", "ltb", "leb", "nat_eq", "nat_lt", "nat_le", "int_lt", "int_le", "bytes_eq") and len(args) == 2:
+                sign = {"eq": "==", "lt": "<", "le": "<=", "by": "=="}[r[1].split("_")[-1][:2] if r[1] != "bytes_eq" else "by"]
+                return Code(f"({args[0]} {sign} {args[1]})")
+            return self.call(f"B_{bname(r[1])}", b[0], args)
+        if r[0] == "const":
+            return self.apply(Code(f"CONSTANT({r[1]!r}, {r[2]!r})"), args)
+        if r[0] == "type": return Code("None")
+        d = r[1].defs[r[2]]
+        if r[1] is self.m and d.section and d.section == self.d.section[:len(d.section)]:
+            args = [self.inside[n] for n in d.parameters] + args
+        if d.k == 0: return self.apply(Code(f"{d.py}()"), args)
+        return self.call(d.py, d.k, args)
     def named(self, name, env, args=None):
         parts = name.split(".")
-        if args is None: args = self.args(env)
-        if parts[0] not in env:
-            c = self.con_of(name)
-            if c is not None: return f"Con({c!r}, ({''.join(a + ', ' for a in args)}))"
-            r = self.m.names.get(parts[0]) or (("builtin", parts[0]) if parts[0] in B else ALL.get(parts[0]))
-            if r is None and parts[0][0].isupper(): return self.apply("None", args)
+        self.inside = env
+        if parts[0] in env:
+            h = Code(env[parts[0]] + "".join(f".d[{f!r}]" for f in parts[1:]))
+            return self.apply(h, self.args(env) if args is None else args)
+        c = self.con_of(name)
+        if c is not None:
+            if args is None: args = self.args(env)
+            return Code(f"Con({c!r}, ({''.join(a + ', ' for a in args)}))")
+        a = self.m.alias.get(parts[0])
+        if a is not None and a[0] == "module":
+            r, parts = load(a[1]).meaning(parts[1]), parts[1:]
             if r is None: raise NameError(f"{name} in {self.m.name}")
-            if r[0] == "def" and r[1] is self.m and parts[0] in self.m.sections and self.inside[:len(self.m.sections[parts[0]])] == self.m.sections[parts[0]]:
-                args = [mang(q) for q in self.m.sections[parts[0]]] + args
-            if len(parts) == 1 and r[0] == "builtin":
-                b = B[r[1]]
-                if not isinstance(b, tuple): return repr(b)
-                if r[1] == "cond" and len(args) >= 3:
-                    return self.apply(f"({args[1]} if {args[0]} else {args[2]})", args[3:])
-                if len(args) >= b[0]:
-                    return self.apply(f"B_{bname(r[1])}({', '.join(args[:b[0]])})", args[b[0]:])
-                return f"Fn({b[0]}, B_{bname(r[1])}, ({''.join(a + ', ' for a in args)}))"
-            if r[0] == "def" and len(parts) == 1:
-                d = r[1].defs[r[2]]
-                if d.k == 0: return self.apply(f"{d.py}()", args)
-                if len(args) >= d.k: return self.apply(f"{d.py}({', '.join(args[:d.k])})", args[d.k:])
-                return f"Fn({d.k}, lambda *z: {d.py}(*z), ({''.join(a + ', ' for a in args)}))"
-        h = mang(parts[0]) if parts[0] in env else self.named(parts[0], env, [])
-        for f in parts[1:]: h = f"{h}.d[{f!r}]"
+        else: r = self.meaning(parts[0])
+        if r[0] == "builtin" and r[1].startswith("fold_") and args is None:
+            # the type that is folded into
+            self.i = self.closing(self.i)
+        if args is None: args = self.args(env)
+        if r[0] == "builtin" and r[1] == "codes":
+            if len(args) != 1: raise SyntaxError(f"codes in {self.m.name}")
+            return args[0]
+        self.inside = env
+        if len(parts) == 1: return self.call_of(r, args)
+        h = self.call_of(r, [])
+        for f in parts[1:]: h = Code(f"{h}.d[{f!r}]")
         return self.apply(h, args)
     def atom(self, env):
         k, v = self.next()
-        if k == "num": return v
-        if k == "str": return repr(v)
+        if k == "num": return Code(v)
+        if k == "str": return Code(repr(tuple(eval('"' + v[1:-1] + '"').encode("latin-1"))))
+        if k == "mix":
+            o = v.strip("◌")
+            if o in OWN: return self.call_of(self.meaning(v), [])
+            if o in PREC and o != "∷": return Code(f"Fn(2, lambda x, y: {self.binop(o, 'x', 'y')})")
+            if o == "∷": return Code("Fn(2, lambda x, y: (x, *y))")
         if k == "op" and v == "[":
-            self.expect("]"); return "()"
+            self.expect("]"); return Code("()")
         if k == "op" and v == "(":
             items = [self.expr(env)]
             while self.peek() == ("op", ","):
@@ -444,8 +771,9 @@ class Parser:
                 if self.peek() != ("op", ")"): items.append(self.expr(env))
             self.expect(")")
             h = items[-1]
-            for x in reversed(items[:-1]): h = f"Rec({{'0': {x}, '1': {h}}})"
-            while self.peek()[0] == "field": h = f"({h}).d[{self.next()[1]!r}]"
+            for x in reversed(items[:-1]): h = self.shared(Code(f"Rec({{'0': {x}, '1': {h}}})"))
+            if self.peek()[0] == "field" and "(" in h and h not in self.shares: self.shares.append(str(h))
+            while self.peek()[0] == "field": h = Code(f"({h}).d[{self.next()[1]!r}]")
             return h
         if k == "id" and v == "record":
             self.i -= 1; return self.record(env)
@@ -457,26 +785,30 @@ class Parser:
         if self.peek() != ("op", "{"): base = self.atom(env)
         self.expect("{")
         fs = []
-        while True:
+        while self.peek() != ("op", "}"):
             f = self.next()[1]; self.expect("=")
             fs.append((f, self.expr(env)))
-            if self.peek()[1] == ";":
-                self.next()
-                if self.peek()[1] == "}": self.next(); break
-                continue
-            self.expect("}"); break
+            if self.peek() != ("op", "}"): self.expect(";")
+        self.expect("}")
         d = "{" + ", ".join(f"{f!r}: {e}" for f, e in fs) + "}"
-        return f"Rec({d})" if base is None else f"({base}).up({d})"
+        return self.shared(Code(f"Rec({d})" if base is None else f"({base}).up({d})"))
+
 
 def bname(n): return n.replace("ℤ", "Z")
-B["codes"] = (1, lambda s: tuple(eval('"' + s[1:-1] + '"').encode("latin-1")))
 for n, b in B.items():
     if isinstance(b, tuple): GLOBALS["B_" + bname(n)] = b[1]
 def FAIL(s): raise MatchError(s)
-def SEQ(f, g):
-    def run(w):
-        a = ap(f, w); b = ap(g, a.d['0'])
-        return Rec({'0': b.d['0'], '1': a.d['1'] + b.d['1']})
-    return Fn(1, run)
-def BIND(x, f): return ap(f, x.a[0]) if x.n == "Ok" else x
-GLOBALS.update(FAIL=FAIL, SEQ=SEQ, BIND=BIND)
+def CONSTANT(path, name): return constant(ROOT, path, name)
+GLOBALS.update(FAIL=FAIL, CONSTANT=CONSTANT)
+
+
+def in_large_stack(f):
+    """Runs f in a thread with a stack for deep recursion, and gives its answer, or 70 where it fails."""
+    import threading
+    answer = [70]
+    def run(): answer[0] = f()
+    threading.stack_size(1 << 29)
+    t = threading.Thread(target=run)
+    t.start()
+    t.join()
+    return answer[0]

@@ -6,10 +6,9 @@
     tools/definitions/compare_faults.py --front-end FOLDER --table FILE      a table of sources against its own answers
     tools/definitions/compare_faults.py --front-end FOLDER --tell FILE       such a table against the front end's answers
     .. --all               all faults of each source, and not the first alone (not of a table)
-    .. --plain             every look-up by its definition, which is slower
     .. --changed N SEED    of each source, N changed ones too: a name, a number, an operator or any token is another one
 
-Run at the root of the repository. FOLDER is that of ../program_data.py, which also has a generator. A table has for each source a
+FOLDER is that of ../image_by_front_end.py, which also has a generator. A table has for each source a
 line `## none TITLE` or `## L6 LINE:COLUMN TITLE`, and the source behind it; `@N TEXT@` in a source stands for TEXT N times, in
 which `#` is the number of the turn. Sources that are no trees, or whose names have a fault, are counted and left.
 """
@@ -21,55 +20,10 @@ import sys
 import threading
 
 sys.path.insert(0, os.path.dirname(os.path.abspath(__file__)))
-from antt import GLOBALS, load
+from antt import definition
 from tree_value import Converter
 
 ALL_FORMS = 17    # the front end in Python has forms that it does not run yet, by this number; here all are asked
-
-
-def definition(module, name):
-    return GLOBALS[load(module).defs[name].py]
-
-
-def quicken():
-    """Look-ups by place and by name without the evaluator, which answer what `denoted_at` and `binding_in` do."""
-    import antt
-    known = {}
-
-    def found(n):
-        ds = n.d["denotations"]
-        if known.get("list") is not ds:
-            known["times"] = known["times"] + 1 if known.get("seen") is ds else 0
-            known["seen"] = ds
-            if known["times"] < 5:
-                return None
-            known["list"], known["table"] = ds, {}
-            for d in reversed(ds):
-                known["table"][d.d["place"].d["line"], d.d["place"].d["column"]] = antt.SOME(d.d["denoted"])
-        return known["table"]
-
-    def denoted_at(n, place):
-        at = place.d["line"], place.d["column"]
-        table = found(n)
-        if table is not None:
-            return table.get(at, antt.NONE)
-        for d in n.d["denotations"]:
-            if (d.d["place"].d["line"], d.d["place"].d["column"]) == at:
-                return antt.SOME(d.d["denoted"])
-        return antt.NONE
-
-    def binding_in(bindings, region, name):
-        for b in bindings:
-            if b.d["region"] == region and b.d["name"] == name:
-                return antt.SOME(b)
-        return antt.NONE
-
-    module = load("ada_regions.specs.Names")
-    for f in (denoted_at, binding_in):
-        d = module.defs[f.__name__]
-        d.stub = f
-        d.compile = lambda: None
-        GLOBALS[d.py] = f
 
 
 def words(fault):
@@ -123,7 +77,6 @@ def main():
     parser.add_argument("--seeds", nargs=2, type=int)
     parser.add_argument("--size", type=int, default=3)
     parser.add_argument("--changed", nargs=2, type=int, default=[0, 1])
-    parser.add_argument("--plain", action="store_true")
     parser.add_argument("--all", action="store_true")
     parser.add_argument("sources", nargs="*")
     a = parser.parse_args()
@@ -134,8 +87,6 @@ def main():
     faults_where = definition("ada_legality.specs.Faults", "faults_where")
     number_of_rule = definition("ada_legality.specs.Faults", "number_of_rule")
     same, other, skipped, told = 0, 0, 0, {}
-    if not a.plain:
-        quicken()
 
     def given():
         if a.table or a.tell:

@@ -1,10 +1,10 @@
 #!/usr/bin/env python3
-"""Compares the image of a source by the definitions of `ada_image` with the data that ../program_data.py makes of it.
+"""Compares the image of a source by the definitions of `ada_image` with that of ../image_by_front_end.py.
 
     tools/definitions/compare_images.py --front-end FOLDER SOURCE..
     tools/definitions/compare_images.py --front-end FOLDER --seeds FIRST LAST --size N --built K
 
-Run at the root of the repository. FOLDER is that of ../program_data.py.
+FOLDER is that of ../image_by_front_end.py.
 """
 import argparse
 import os
@@ -13,26 +13,25 @@ import threading
 
 HERE = os.path.dirname(os.path.abspath(__file__))
 sys.path[:0] = [HERE, os.path.dirname(HERE)]
+import image_by_front_end
 import program_data
-from antt import GLOBALS, Con, Rec, load
+from antt import Con, Rec, definition, forget, load
 from tree_value import Converter
-
-
-def definition(module, name):
-    return GLOBALS[load(module).defs[name].py]
 
 
 COUNT = [0]
 
 
 def image_of_data(modules, source):
-    """The image as ../program_data.py writes it."""
-    program = program_data.Program(modules, source)
+    """The image as ../image_by_front_end.py has it."""
+    program = image_by_front_end.Program(modules, source)
     text = program_data.HEAD + "\n" + program_data.law("run", program, [], 1, [], None)
     text = text[:text.index("-- the lines of its run")]
     COUNT[0] += 1
     m = load(f"nowhere.specs.Data{COUNT[0]}", text)
-    return GLOBALS[m.defs["run_program"].py]()
+    image = definition(m.name, "run_program")
+    forget(m.name)
+    return image
 
 
 def difference(a, b, path="image"):
@@ -70,7 +69,7 @@ def main():
     parser.add_argument("--built", type=int, default=3)
     parser.add_argument("sources", nargs="*")
     a = parser.parse_args()
-    modules = program_data.modules_of(a.front_end)
+    modules = image_by_front_end.modules_of(a.front_end)
     import lex, parse, tree
     convert = Converter(tree)
     program_of = definition("ada_image.specs.ImageOfUnits", "program_of")

@@ -5,7 +5,7 @@
     tools/definitions/compare_names.py --front-end FOLDER --seeds FIRST LAST --size N --built K    the same of generated sources
     tools/definitions/compare_names.py --front-end FOLDER --table FILE    the faults of a table of sources against its own answers
 
-Run at the root of the repository. FOLDER is that of ../program_data.py, which also has a generator. A table has for each source a
+FOLDER is that of ../image_by_front_end.py, which also has a generator. A table has for each source a
 line `## none TITLE` or `## F7 LINE:COLUMN TITLE`, and the source behind it.
 """
 import argparse
@@ -14,14 +14,10 @@ import sys
 import threading
 
 sys.path.insert(0, os.path.dirname(os.path.abspath(__file__)))
-from antt import GLOBALS, load
+from antt import definition
 from tree_value import Converter
 
 CODES = {"Unknown": 7, "Twice": 8, "Ambiguous": 9}
-
-
-def definition(module, name):
-    return GLOBALS[load(module).defs[name].py]
 
 
 def at(place):
@@ -42,14 +38,12 @@ def words(fault):
 
 def table_of_names(names):
     """What the name at each place denotes: the place of its declaration, or what is predefined."""
-    first, out = {}, {}
-    for d in reversed(names.d["denotations"]):
-        x = d.d["denoted"]
-        if x.n == "Entity":
-            first.setdefault(x.a[0], at(d.d["place"]))
-            out[at(d.d["place"])] = first[x.a[0]]
-        else:
-            out[at(d.d["place"])] = "predefined"
+    out = {}
+    for line in names.d["denotations"]:
+        for column in line.d["1"]:
+            x = column.d["1"]
+            place = line.d["0"], column.d["0"]
+            out[place] = at(names.d["entities"][x.a[0]].d["place"]) if x.n == "Entity" else "predefined"
     return out
 
 

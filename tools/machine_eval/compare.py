@@ -1,9 +1,9 @@
 #!/usr/bin/env python3
 """Compares runs of the machine's definitions with traces.
 
-    compare.py --front-end FOLDER rows [--check] [NAME..]
+    compare.py rows [--check] [NAME..]
         the rows of tools/rows, or some of them, with their traces
-    compare.py --front-end FOLDER laws [NAME..]
+    compare.py laws [NAME..]
         the laws of specs/Rows as they stand: the lines, the worlds and the releases of each row
     compare.py --front-end FOLDER seeds FIRST LAST [--size N] [--ticks N] [--check]
         generated programs with the interpreter's, LAST excluded
@@ -11,15 +11,16 @@
         sources with the interpreter's; of NAME.adb, NAME.script is the script if it is there
 
 With --check each world that a run reaches is asked whether it is well formed. The last line counts; the status is 1
-where a run differs. FOLDER is that of program_data.py, for seeds with the module `gen` (programs by seed) as well.
+where a run differs. Images are those of the definitions. FOLDER is that of ../image_by_front_end.py, which has the
+interpreter, and for seeds with the module `gen` (programs by seed) as well.
 """
 import argparse
 import os
 import sys
 import time
 
+import mach    # which finds the other folders of tools
 import antt
-import mach
 import program_data
 
 
@@ -58,7 +59,7 @@ def law_fails(row):
     name = program_data.name_of(row)
 
     def value(part):
-        return antt.GLOBALS[m.defs[f"{name}_{part}"].py]()
+        return antt.definition(m.name, f"{name}_{part}")
 
     found = [] if repr(value("lines")) == repr(value("trace")) else ["runs"]
     return found + [law for law, part in (("keeps", "worlds"), ("releases", "handlers"))
@@ -110,21 +111,20 @@ def each(cases, check):
 
 def main():
     words = argparse.ArgumentParser(description=__doc__, formatter_class=argparse.RawDescriptionHelpFormatter)
-    words.add_argument("--front-end", required=True)
+    words.add_argument("--front-end")
     words.add_argument("kind", choices=("rows", "laws", "seeds", "files"))
     words.add_argument("--size", type=int, default=3)
     words.add_argument("--ticks", type=int, default=300)
     words.add_argument("--check", action="store_true")
     words.add_argument("names", nargs="*")
     a = words.parse_intermixed_args()
+    if a.front_end is None and a.kind in ("seeds", "files"):
+        words.error("the interpreter is in the folder of --front-end")
     mach.start(a.front_end)
     if a.kind == "laws":
-        status.append(1 if laws(a.names) else 0)
-        return
-    status.append(1 if each({"rows": rows, "seeds": seeds, "files": files}[a.kind](a), a.check) else 0)
+        return int(laws(a.names))
+    return int(each({"rows": rows, "seeds": seeds, "files": files}[a.kind](a), a.check) > 0)
 
 
 if __name__ == "__main__":
-    status = []
-    mach.in_large_stack(main)
-    sys.exit(status[0] if status else 70)
+    sys.exit(mach.in_large_stack(main))

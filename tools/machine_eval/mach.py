@@ -2,44 +2,41 @@
 import itertools
 import os
 import sys
-import threading
 
 sys.dont_write_bytecode = True
 HERE = os.path.dirname(os.path.abspath(__file__))
-sys.path[:0] = [HERE, os.path.dirname(HERE)]
+sys.path[:0] = [HERE, os.path.dirname(HERE), os.path.join(os.path.dirname(HERE), "definitions")]
 import antt
-import program_data
-from antt import GLOBALS, Con, Fn, ap, load
+import image_by_front_end
+import interpreter
+from antt import Con, definition, in_large_stack, load    # noqa: F401
 
-# the modules of the front end and the interpreter
+# the modules of the front end and the interpreter, where they are given
 MODULES = {}
 
 
-def start(front_end, root=None):
-    """Takes the front end from its folder and reads the definitions, of another project than this one if it is given."""
-    if root is not None:
-        antt.ROOT = os.path.abspath(root)
-    MODULES.update(program_data.modules_of(front_end))
+def start(front_end=None):
+    """Reads the definitions, and takes the front end from its folder if it is given."""
+    if front_end is not None:
+        MODULES.update(image_by_front_end.modules_of(front_end))
     for name in ("Run", "WellFormed", "Releases"):
         load(f"profile_machine.specs.{name}")
 
 
 def word(module, name):
     """A definition of the machine, as a function."""
-    d = load(f"profile_machine.specs.{module}").defs[name]
-    return lambda *arguments: ap(Fn(d.k, GLOBALS[d.py]), *arguments)
+    return definition(f"profile_machine.specs.{module}", name)
 
 
 def image_of(source, script):
-    """The image of a program and its script, as values of the definitions."""
-    program = program_data.Program(MODULES, source)
-    items = MODULES["script"].script_of(script) if script else []
-    text = program_data.HEAD + "\n" + program_data.law("run", program, items, 1, [], None)
-    text = text[:text.index("-- the lines of its run")]
-    m = load("data.specs.Program", text)
-    image = GLOBALS[m.defs["run_program"].py](), GLOBALS[m.defs["run_script"].py]()
-    antt.forget(m.name)
-    return image
+    """The image of a program and the items of its script, by the definitions."""
+    image, refusal = interpreter.judged(source)
+    if refusal is not None:
+        raise ValueError(interpreter.refusal_text(refusal).decode().strip())
+    items, fault = interpreter.items_of(script)
+    if fault is not None:
+        raise ValueError(interpreter.script_note(fault).decode().strip())
+    return image, items
 
 
 # ---------------------------------------------------------------- lines
@@ -164,11 +161,3 @@ def difference(wanted, lines):
                    f"\n  machine: {'/'.join(found)}"
         done += 1
     return None if done == len(wanted) else f"the machine ends before {wanted[done]}"
-
-
-def in_large_stack(f):
-    """Runs f in a thread with a stack for deep recursion."""
-    threading.stack_size(512 * 1024 * 1024)
-    t = threading.Thread(target=f)
-    t.start()
-    t.join()

@@ -1,7 +1,7 @@
 #!/usr/bin/env python3
 """Changes of one line of the machine's definitions: which of them does a worked row tell?
 
-    mutants.py --front-end FOLDER COUNT SEED [--most TICKS]
+    mutants.py COUNT SEED [--most TICKS]
 
 Each change is made by itself, in memory. A row tells it if its run is no longer its trace, if the changed definition
 cannot be read, or if the run does not end in two minutes. Rows with a greater bound than TICKS (400) are run up to
@@ -14,9 +14,9 @@ import re
 import signal
 import sys
 
+import mach    # which finds the other folders of tools
 import antt
 import compare
-import mach
 
 FILES = ("Act CallEnds Calls Controlled Cost Declarations Dispatching EntryCalls Frames Handlers Inheritance Instant Masters "
          "Operators Priorities Protected Rendezvous Run Scopes Sending Serving Statements Steps Subprograms Tasking Tasks "
@@ -75,17 +75,16 @@ def case_of(row, most):
     program, items = mach.image_of(row.source, row.script)
     if row.bound <= most:
         return program, items, row.bound, row.trace
-    return program, items, most, mach.interpreted(row.source, row.script, most)
+    return program, items, most, list(mach.run(program, items, most))
 
 
 def main():
     words = argparse.ArgumentParser(description=__doc__, formatter_class=argparse.RawDescriptionHelpFormatter)
-    words.add_argument("--front-end", required=True)
     words.add_argument("--most", type=int, default=400)
     words.add_argument("count", type=int)
     words.add_argument("seed")
     a = words.parse_args()
-    mach.start(a.front_end)
+    mach.start()
     cases = [case_of(compare.Row(name), a.most) for name in compare.row_names()]
     cases.sort(key=lambda case: len(case[3]))
     assert all(mach.difference(wanted, mach.run(*case)) is None for *case, wanted in cases), "a row is not its trace"
@@ -99,7 +98,8 @@ def main():
         else:
             print(f"let through: {name}:{n + 1} {before.strip()!r} -> {after!r} in: {line.strip()}", flush=True)
     print(f"{told} of {a.count} told", flush=True)
+    return 0
 
 
 if __name__ == "__main__":
-    mach.in_large_stack(main)
+    sys.exit(mach.in_large_stack(main))

@@ -1,0 +1,123 @@
+"""The interpreter by the definitions of its crates: from the bytes of a source to its image, and on to the text of its run.
+
+Each name here is a definition that a contract of the program names; this file only calls them, one behind the other.
+"""
+import os
+import sys
+
+sys.dont_write_bytecode = True
+sys.path.insert(0, os.path.dirname(os.path.abspath(__file__)))
+from antt import ROOT, Con, Rec, constant, definition, in_large_stack    # noqa: E402, F401
+
+
+def content(path, missing=None):
+    if not os.path.exists(path):
+        return missing
+    with open(path, "rb") as f:
+        return f.read()
+
+
+def default_ticks():
+    """The bound of a run for which none is asked."""
+    return constant(ROOT, "commands.specs.declared.requests.TheConstants", "DEFAULT_TICKS")
+
+
+def asked_of(words):
+    """What words ask for, or None."""
+    option = definition("commands.specs.Asked", "asked_of")(tuple(Rec({"items": tuple(os.fsencode(w))}) for w in words))
+    return option.a[0] if option.n == "Some" else None
+
+
+def judged(source):
+    """The image of a source, or its refusal: (image, None) or (None, refusal)."""
+    r = definition("ada_front.specs.Accepted", "judged")(tuple(source))
+    return (r.a[0], None) if r.n == "Ok" else (None, r.a[0])
+
+
+def items_of(script):
+    """The items of a script, or its fault: (items, None) or (None, fault)."""
+    r = definition("event_script.specs.Script", "script_of")(tuple(script))
+    return (r.a[0], None) if r.n == "Ok" else (None, r.a[0])
+
+
+def refusal_text(refusal):
+    return bytes(definition("commands.specs.Outcomes", "refusal_text")(refusal))
+
+
+def script_note(fault):
+    return bytes(definition("commands.specs.Outcomes", "script_note")(fault))
+
+
+def text_of_run(image, items, ticks):
+    """The text of a run, as the contract of the program says it."""
+    return bytes(definition("commands.specs.Runs", "text_under")(items, image, ticks))
+
+
+def texts_of_run(image, items, ticks):
+    """The same line by line, by what a kernel shows: for runs of many ticks, since nothing here is as deep as they are many."""
+    opened, advanced, written_of = (definition("machine_kernel.specs.Future", n) for n in ("opened", "advanced", "written_of"))
+    shown = opened(image, items, ticks)
+    while shown.d["stop"].n == "None" or shown.d["owed"]:
+        yield bytes(written_of(shown.d["owed"]))
+        shown = advanced(shown)
+
+
+def status_of(outcome):
+    return definition("commands.specs.Outcomes", "status_of")(outcome)
+
+
+def note_of(outcome):
+    note = definition("commands.specs.Outcomes", "note_of")(outcome)
+    return bytes(note.a[0]) if note.n == "Some" else b""
+
+
+def stop_of(text):
+    """The stop of a run, by the last line of its text."""
+    words = text.split(b"\n")[-2].split(b" ")[2:]
+    return Con(words[0].decode().capitalize(), tuple(tuple(w) for w in words[1:]))
+
+
+def performed(words, files, by_steps=False):
+    """What is written to standard output and standard error for words, and the status; `files` gives a file's bytes by its
+    name, or None. A source is judged before its script is read."""
+    asked = asked_of(words)
+    if asked is None:
+        return refused(Con("WordsRefused"))
+    source = files(bytes(asked.a[0]).decode("latin-1"))
+    if source is None:
+        return refused(Con("ReadFault"))
+    if asked.n == "TraceAsked":
+        return traced(asked.a[1], tuple(source))
+    if asked.n == "TableAsked":
+        raise NotImplementedError("tests of tables are not computed here: their definitions count time unit by unit")
+    image, refusal = judged(source)
+    if refusal is not None:
+        return refused(Con("SourceRefused", (refusal,)))
+    items = ()
+    if asked.n == "ScriptAsked":
+        script = files(bytes(asked.a[1]).decode("latin-1"))
+        if script is None:
+            return refused(Con("ReadFault"))
+        items, fault = items_of(script)
+        if fault is not None:
+            return refused(Con("ScriptRefused", (fault,)))
+        ticks = asked.a[2]
+    elif asked.a[1].n == "Accept":
+        return b"accepted\n", b"", status_of(Con("Accepted"))
+    else:
+        ticks = asked.a[1].a[0]
+    text = b"".join(texts_of_run(image, items, ticks)) if by_steps else text_of_run(image, items, ticks)
+    return text, b"", status_of(Con("Ended", (stop_of(text),)))
+
+
+def traced(work, trace):
+    """The laws or the report of a trace."""
+    r = definition("commands.specs.Traces", "trace_answer")(work, trace)
+    if r.n == "Err":
+        return refused(Con("TraceRefused", r.a))
+    text, broken = r.a[0].d["0"], r.a[0].d["1"]
+    return bytes(text), b"", status_of(Con("Traced", (broken,)))
+
+
+def refused(outcome):
+    return b"", note_of(outcome), status_of(outcome)

@@ -10,5 +10,5 @@ mod units;
 
 pub use bodies::body_apart;
 pub use frames::{owned, take_innermost};
-pub use subprograms::{completed, entity_bound, headed};
-pub use units::{body_begun, components_of, entry_mentioned, type_of_entity};
+pub use subprograms::{completed, entity_bound, headed, is_specified};
+pub use units::{body_begun, components_of, entry_mentioned, has_body, is_unit, type_of_entity};

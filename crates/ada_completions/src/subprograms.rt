@@ -62,7 +62,8 @@ fn number_specified(names: &Names<'_>, entity: u32) -> Option<SubprogramNo>
     }
 }
 
-fn is_specified(names: &Names<'_>, entity: u32) -> bool
+/// Whether a subprogram declaration declares an entity.
+pub fn is_specified(names: &Names<'_>, entity: u32) -> bool
     ensures { result ≡ is_specified names.now entity }
 {
     number_specified(names, entity).is_some()

@@ -48,7 +48,7 @@ pub fn type_of_entity(names: &Names<'_>, entity: u32) -> Option<AdaType>
 
 /// Whether an entity is a unit of this kind, and no other object of its type.
 #[tactic(auto, unfolding(ada_regions::specs::Completions::is_unit))]
-fn is_unit(names: &Names<'_>, kind: UnitKind, entity: u32) -> bool
+pub fn is_unit(names: &Names<'_>, kind: UnitKind, entity: u32) -> bool
     ensures { result ≡ is_unit kind names.now entity }
 {
     region_of_entity(names, entity).is_some() && type_is(kind, type_of_entity(names, entity))
@@ -123,7 +123,8 @@ fn body_of_unit(
     with_body(names, entity)
 }
 
-fn has_body(names: &Names<'_>, entity: u32) -> bool
+/// Whether the table knows the body of an entity.
+pub fn has_body(names: &Names<'_>, entity: u32) -> bool
     ensures { result ≡ has_body names.now entity }
 {
     for body in names.bodies.iter() {

@@ -3,27 +3,17 @@ ghost use Rattle.std.specs.Prelude.{◌≡◌, OnOk};
 ghost use Rattle.ada_regions.specs.Words.{and_then};
 ghost use Rattle.ada_regions.specs.Names.{denoted_by};
 ghost use Rattle.ada_regions.specs.Subtypes.{mark_denoted};
-ghost use Rattle.ada_regions.specs.Declaring.{free_subtype, is_limited_root, is_limited_parent, numbered_controlled, array_declared, derived_declared, subtype_declared};
+ghost use Rattle.ada_regions.specs.Declaring.{is_limited_root, is_limited_parent, numbered_controlled, array_declared, derived_declared, subtype_declared};
 
 use crate::entering::{entered_here, number};
 use crate::numbering::with_region;
 use ada_entities::{denoted_by, enclosure_here};
 use ada_regions::{AdaType, EntityKind, Names, NumberedControlled, Subtype};
-use ada_subtypes::{array_type, indicated_subtype, mark_denoted};
+use ada_subtypes::{array_type, free_subtype, indicated_subtype, mark_denoted};
 use ada_tree::{Expression, Identifier, Name, SubtypeIndication};
 use ann_base::NoMemory;
-use profile_machine::{Constraint, ControlledNo};
+use profile_machine::ControlledNo;
 use std::alloc::Global;
-
-/// A type without a range.
-pub(crate) fn free_subtype(of_type: AdaType) -> Subtype
-    ensures { result ≡ free_subtype of_type }
-{
-    Subtype {
-        of_type,
-        range: Constraint::Free,
-    }
-}
 
 /// An array type is declared.
 #[tactic(auto, unfolding(ada_regions::specs::Declaring::array_declared))]

@@ -6,11 +6,11 @@ ghost use Rattle.ada_regions.specs.Declaring.{unit_entered, task_declared, prote
 
 use crate::entering::{entered_as_unit, entered_here, number};
 use crate::numbering::{next_declaration, numbered, with_region};
-use crate::types::free_subtype;
 use ada_entities::scope_in;
 use ada_regions::{
     AdaType, AspectsOf, EntityKind, Names, NumberedProtected, NumberedTask, Sort, Subtype,
 };
+use ada_subtypes::free_subtype;
 use ada_tree::{Aspect, Identifier};
 use ann_base::NoMemory;
 use profile_machine::{ProtectedUnitNo, TaskUnitNo};

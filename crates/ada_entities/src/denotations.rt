@@ -1,6 +1,8 @@
 //! What names denote, the entities of a text, and the earliest fault of its names (ISO/IEC 8652:2012, 3.1, 8.6).
 ghost use Rattle.std.specs.Prelude.{◌≡◌, None, OnOk, option_copied};
 ghost use Rattle.world_tables.specs.Tables.{item_at};
+ghost use Rattle.ada_regions.specs.Completions.{holds_of};
+ghost use Rattle.ada_regions.specs.Regions.{is_package};
 ghost use Rattle.ada_regions.specs.Names.{place_of_fault, earlier, told, noted_among, noted_in, noted, denoted_at, last_part, denoted_by, entity_at, kind_at, region_of_entity, entity_of, entity_denoted};
 
 use crate::places::stands_before;
@@ -139,6 +141,16 @@ pub fn kind_at<'n>(names: &'n Names<'_>, entity: u32) -> Option<&'n EntityKind>
     match entity_at(names, entity) {
         Some(entity) => Some(&entity.kind),
         None => None,
+    }
+}
+
+/// Whether an entity is a package (7.1).
+pub fn is_package_at(names: &Names<'_>, entity: u32) -> bool
+    ensures { result ≡ holds_of is_package (kind_at names.now entity) }
+{
+    match kind_at(names, entity) {
+        None => false,
+        Some(kind) => matches!(kind, EntityKind::Package),
     }
 }
 

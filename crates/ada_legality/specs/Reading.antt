@@ -1,5 +1,6 @@
 -- What is asked of an expression that is read, in its place (clause 4), and Image, barriers, signs and chains of operators.
 use Rattle.ada_image.specs.ImageOfExpressions.{highest_operator, logical_operator, multiplying_operator, relational_operator}
+use Rattle.ada_image.specs.UnitsOfImage.{is_in_out}
 use Rattle.ada_legality.specs.Attributes.{innermost_unit}
 use Rattle.ada_legality.specs.Calls.{actual_from, is_formal_named, wrong_actuals}
 use Rattle.ada_legality.specs.Findings.{Found, broken, broken_if, broken_unless}
@@ -252,12 +253,6 @@ is_handler_or_null typing.WithoutType = true
 is_handler_or_null typing.OfNull = true
 is_handler_or_null (typing.OfHandler e) = true
 is_handler_or_null t = false
-
--- `in out`
-abbrev pub is_in_out : Mode → Bool
-is_in_out mode.InOut = true
-is_in_out mode.In = false
-is_in_out mode.Out = false
 
 -- a handler for objects of this type has one formal of it, `in out` (D.14.1, D.14.2, D.15)
 unfoldable pub wanted_of_handler : AdaType → List Formal → Bool

@@ -1,4 +1,5 @@
 -- What is found in statements without others in them, and in the heads of those with others (clauses 5, 6.5, 9, 11).
+use Rattle.ada_image.specs.ReadExpressions.{same_truth}
 use Rattle.ada_legality.specs.Attributes.{ends_of_object, innermost_unit, is_task_object, is_type_in, is_variable, kind_of_identifier, object_prefix, unit_type_of_entry}
 use Rattle.ada_legality.specs.CallStatements.{beyond, call_found, condition_found, found_if, value_alone_found, value_found}
 use Rattle.ada_legality.specs.Findings.{Found, broken_if, broken_unless}
@@ -201,11 +202,6 @@ is_package_around a = false
 unfoldable pub stands_in_package : Known → Bool
 stands_in_package k =
     unwrap_or (option_map is_package_around (sequence_around k.around)) false
-
--- both hold, or neither does
-abbrev pub same_truth : Bool → Bool → Bool
-same_truth true b = b
-same_truth false b = not b
 
 -- a return counts for its function
 abbrev pub returned : Option SubprogramAround → Found

@@ -4,8 +4,8 @@ ghost use Rattle.ada_regions.specs.Words.{and_then};
 ghost use Rattle.ada_regions.specs.Names.{region_here};
 ghost use Rattle.ada_regions.specs.Regions.{package_named, unit_behind, unit_named, unit_to_with, package_to_with, library_unit, withed, is_used_package, used_if, used};
 
-use crate::packages::{is_package_at, package_named};
-use ada_entities::{denoted_by, last_part, noted, region_here};
+use crate::packages::package_named;
+use ada_entities::{denoted_by, is_package_at, last_part, noted, region_here};
 use ada_predefined::{child_unit, root_unit, same_unit};
 use ada_regions::{Denoted, Names, PredefinedUnit, UseClause};
 use ada_tree::{Identifier, Name};

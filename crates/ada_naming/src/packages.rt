@@ -1,34 +1,17 @@
 //! Library packages: a package's body has the region and the context of its declaration (ISO/IEC 8652:2012, 7.1, 7.2, 10.1).
 ghost use Rattle.std.specs.Prelude.{◌≡◌, [], None, IfOk, OnOk, eqb, find, option_copied};
 ghost use Rattle.ada_regions.specs.Words.{and_then};
-ghost use Rattle.ada_regions.specs.Names.{kind_at};
-ghost use Rattle.ada_regions.specs.Completions.{body_apart, holds_of};
-ghost use Rattle.ada_regions.specs.Regions.{is_package, package_if, package_named, context_of_package, context_again, frame_of_package, with_context, package_opened, package_begun, package_body_begun};
+ghost use Rattle.ada_regions.specs.Completions.{body_apart};
+ghost use Rattle.ada_regions.specs.Regions.{package_if, package_named, context_of_package, context_again, frame_of_package, with_context, package_opened, package_begun, package_body_begun};
 
 use crate::frames::opened_new;
 use ada_completions::{body_apart, entity_bound};
-use ada_entities::{copy, kind_at, no_frame, noted, opened, region_here, region_of_entity};
-use ada_regions::{Denoted, EntityKind, Frame, Names, PackageContext};
+use ada_entities::{copy, is_package_at, no_frame, noted, opened, region_here, region_of_entity};
+use ada_regions::{Denoted, Frame, Names, PackageContext};
 use ada_tree::Identifier;
 use ann_base::NoMemory;
 use std::alloc::Global;
 use world_tables::List;
-
-fn is_package(kind: &EntityKind) -> bool
-    ensures { result ≡ is_package kind.now }
-{
-    matches!(kind, EntityKind::Package)
-}
-
-/// Whether an entity is a package.
-pub(crate) fn is_package_at(names: &Names<'_>, entity: u32) -> bool
-    ensures { result ≡ holds_of is_package (kind_at names.now entity) }
-{
-    match kind_at(names, entity) {
-        None => false,
-        Some(kind) => is_package(kind),
-    }
-}
 
 fn package_if(names: &Names<'_>, entity: u32) -> Option<u32>
     ensures { result ≡ package_if names.now entity }

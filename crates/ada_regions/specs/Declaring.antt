@@ -188,13 +188,14 @@ position_of_literal n name = unwrap_or (position (bytes_eq name) (newest_literal
 unfoldable pub literal_declared : Identifier → Names → Names
 literal_declared i n = entered_here i (entity.Literal (newest_enumeration n) (position_of_literal n i.text)) None n
 
-unfoldable pub array_declared : Identifier → Expression → Expression → SubtypeIndication → Names → Names
-array_declared i low high component n =
-    entered_here i (entity.Mark (Some (record { of_type = types.Array (length n.arrays); range = constraint.Free }))) None
-    (record n { arrays = n.arrays ++ array_type n low high component ∷ [] })
-
+-- a type without a range
 abbrev pub free_subtype : AdaType → Subtype
 free_subtype t = record { of_type = t; range = constraint.Free }
+
+unfoldable pub array_declared : Identifier → Expression → Expression → SubtypeIndication → Names → Names
+array_declared i low high component n =
+    entered_here i (entity.Mark (Some (free_subtype (types.Array (length n.arrays))))) None
+    (record n { arrays = n.arrays ++ array_type n low high component ∷ [] })
 
 abbrev pub is_limited_root : AdaType → Bool
 is_limited_root types.LimitedControlled = true

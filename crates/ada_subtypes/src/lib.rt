@@ -9,10 +9,10 @@ mod statics;
 mod subtypes;
 
 pub use formals::{formals_of, mode_of};
-pub use literals::{static_literal, static_negative};
+pub use literals::{micros_of, static_literal, static_negative};
 pub use ranges::{high_of, low_of, range_between, range_named};
 pub use statics::{
-    attribute_value, static_value, subtype_denoted, subtype_of_item, subtype_of_kind,
+    attribute_value, literal_of, static_value, subtype_denoted, subtype_of_item, subtype_of_kind,
     subtype_of_name, value_denoted,
 };
-pub use subtypes::{array_type, indicated_subtype, mark_denoted};
+pub use subtypes::{array_type, free_subtype, indicated_subtype, mark_denoted};

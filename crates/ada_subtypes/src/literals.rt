@@ -47,9 +47,9 @@ fn ticks(seconds: u128, decimals: u64) -> Option<u128>
     }
 }
 
-/// A literal in ticks of a microsecond.
+/// A literal in ticks of a microsecond, where 128 bits hold it.
 #[tactic(auto, unfolding(ada_regions::specs::Statics::micros_of))]
-fn micros_of(literal: &[u8]) -> Option<u128>
+pub fn micros_of(literal: &[u8]) -> Option<u128>
     ensures { SomeIff result (micros_of literal.now < 2 ^ 128) (micros_of literal.now) }
 {
     match whole_value(literal) {

@@ -167,7 +167,7 @@ fn static_name(
 }
 
 /// The literal of an expression that is one.
-fn literal_of(expression: &Expression) -> Option<&[u8]>
+pub fn literal_of(expression: &Expression) -> Option<&[u8]>
     ensures { option_copied result ≡ literal_of (out-Expression expression.now).form }
 {
     match expression.form.get() {

@@ -10,3 +10,4 @@ mod use_clauses;
 pub use direct::{bound, in_standard, item_of};
 pub use seeking::{resolved, sought};
 pub use selecting::{name_resolved, selected};
+pub use use_clauses::is_withed;

@@ -53,7 +53,7 @@ fn is_withed_by(unit: PredefinedUnit, clause: Denoted) -> bool
 }
 
 /// Whether a unit is under one of these with clauses.
-fn is_withed(withs: &List<Denoted>, unit: PredefinedUnit) -> bool
+pub fn is_withed(withs: &List<Denoted>, unit: PredefinedUnit) -> bool
     ensures { result ≡ list_any (is_withed_by unit) withs.now }
 {
     for clause in withs.iter() {

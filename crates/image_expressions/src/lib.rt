@@ -23,5 +23,8 @@ pub use names::{
     declared_as, kind_named, named_before, no_declaration_no, object_before, object_named,
     object_number, prefix_part, thing_in, thing_named,
 };
+pub use operators::{
+    highest_operator, logical_operator, multiplying_operator, relational_operator,
+};
 pub use values::{known, no_value};
 pub use variables::variable_made;

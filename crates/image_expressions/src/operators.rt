@@ -8,7 +8,7 @@ use ada_tree::{
 use profile_machine::{BinaryOperator, UnaryOperator};
 
 /// A logical operator or a short-circuit form (4.5.1).
-pub(crate) fn logical_operator(operator: LogicalOperator) -> BinaryOperator
+pub fn logical_operator(operator: LogicalOperator) -> BinaryOperator
     ensures { result ≡ logical_operator operator }
 {
     match operator {
@@ -21,7 +21,7 @@ pub(crate) fn logical_operator(operator: LogicalOperator) -> BinaryOperator
 }
 
 /// A relational operator (4.5.2).
-pub(crate) fn relational_operator(operator: RelationalOperator) -> BinaryOperator
+pub fn relational_operator(operator: RelationalOperator) -> BinaryOperator
     ensures { result ≡ relational_operator operator }
 {
     match operator {
@@ -46,7 +46,7 @@ pub(crate) fn adding_operator(operator: AddingOperator) -> BinaryOperator
 }
 
 /// A multiplying operator (4.5.5).
-pub(crate) fn multiplying_operator(operator: MultiplyingOperator) -> BinaryOperator
+pub fn multiplying_operator(operator: MultiplyingOperator) -> BinaryOperator
     ensures { result ≡ multiplying_operator operator }
 {
     match operator {
@@ -58,7 +58,7 @@ pub(crate) fn multiplying_operator(operator: MultiplyingOperator) -> BinaryOpera
 }
 
 /// A highest precedence operator of one operand (4.5.6).
-pub(crate) fn highest_operator(operator: HighestOperator) -> UnaryOperator
+pub fn highest_operator(operator: HighestOperator) -> UnaryOperator
     ensures { result ≡ highest_operator operator }
 {
     match operator {

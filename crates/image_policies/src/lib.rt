@@ -10,3 +10,4 @@ mod queuing;
 
 pub use levels::{level, level_of};
 pub use policies::policies_of;
+pub use queuing::is_longest;

@@ -54,7 +54,7 @@ fn least_of(a: Option<u32>, b: Option<u32>) -> Option<u32>
 }
 
 /// Whether an argument is that of Max_Entry_Queue_Length (D.7).
-fn is_longest(formal: &Option<Identifier>) -> bool
+pub fn is_longest(formal: &Option<Identifier>) -> bool
     ensures { result ≡ is_longest formal.now }
 {
     match formal {

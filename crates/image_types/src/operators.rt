@@ -7,7 +7,7 @@ use ada_regions::{AdaType, Operation, Predefined};
 use ada_tree::{AddingOperator, Attribute, HighestOperator};
 
 /// The type of a predefined function's result; a procedure has none.
-fn type_of_operation(operation: Operation) -> Option<AdaType>
+pub fn type_of_operation(operation: Operation) -> Option<AdaType>
     ensures { result ≡ type_of_operation operation }
 {
     match operation {

@@ -2,61 +2,12 @@
 //! the type (ISO/IEC 8652:2012, 7.6).
 ghost use Rattle.std.specs.Prelude.{◌≡◌, cond, Some, None, IfOk};
 ghost use Rattle.ada_regions.specs.Words.{or_else};
-ghost use Rattle.ada_image.specs.Layout.{subtype_is};
-ghost use Rattle.ada_image.specs.UnitsOfImage.{subprogram_no, is_derived, is_in_out, is_of_type, has_one_of_type, overrides, overriding_from, overriding, unless_limited};
+ghost use Rattle.ada_image.specs.UnitsOfImage.{subprogram_no, has_one_of_type, overrides, overriding_from, overriding, unless_limited};
 
-use ada_regions::{AdaType, Formal, Mode, Names, NumberedControlled, NumberedSubprogram, Subtype};
+use ada_regions::{Names, NumberedControlled, NumberedSubprogram};
 use ann_base::NoMemory;
-use image_layout::added;
+use image_layout::{added, has_one_of_type};
 use profile_machine::SubprogramNo;
-
-fn is_derived(number: u32, of_type: AdaType) -> bool
-    ensures { result ≡ is_derived number of_type }
-{
-    match of_type {
-        AdaType::Derived(other) => other.0 == number,
-        _ => false,
-    }
-}
-
-fn subtype_is_derived(number: u32, subtype: Option<Subtype>) -> bool
-    ensures { result ≡ subtype_is (is_derived number) subtype }
-{
-    match subtype {
-        None => false,
-        Some(subtype) => is_derived(number, subtype.of_type),
-    }
-}
-
-fn is_in_out(mode: Mode) -> bool
-    ensures { result ≡ is_in_out mode }
-{
-    match mode {
-        Mode::In => false,
-        Mode::Out => false,
-        Mode::InOut => true,
-    }
-}
-
-/// Whether it is an `in out` parameter of a controlled type.
-#[tactic(auto, unfolding(ada_image::specs::UnitsOfImage::is_of_type))]
-fn is_of_type(number: u32, formal: &Formal) -> bool
-    ensures { result ≡ is_of_type number formal.now }
-{
-    is_in_out(formal.mode) && subtype_is_derived(number, formal.subtype)
-}
-
-/// Whether there is such a parameter and no other.
-#[tactic(auto, unfolding(ada_image::specs::UnitsOfImage::has_one_of_type))]
-fn has_one_of_type(number: u32, formals: &[Formal]) -> bool
-    ensures { result ≡ has_one_of_type number formals.now }
-{
-    match formals {
-        [] => false,
-        [formal] => is_of_type(number, formal),
-        [_, _, ..] => false,
-    }
-}
 
 /// Whether a subprogram overrides the operation of a controlled type that has this name.
 #[tactic(auto, unfolding(ada_image::specs::UnitsOfImage::overrides))]

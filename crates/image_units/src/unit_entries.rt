@@ -1,24 +1,12 @@
 //! The entries of a unit, in the order of the text (ISO/IEC 8652:2012, 9.5.2).
 ghost use Rattle.std.specs.Prelude.{◌≡◌, take, IfOk};
-ghost use Rattle.ada_image.specs.UnitsOfImage.{same_entry_unit, entries_from, entries_of, place_among};
+ghost use Rattle.ada_image.specs.UnitsOfImage.{entries_from, entries_of, place_among};
 
 use ada_regions::Names;
 use ann_base::NoMemory;
-use image_layout::added;
+use image_layout::{added, same_entry_unit};
 use profile_machine::{EntryNo, EntryUnit, Sequence};
 use std::alloc::Global;
-
-#[tactic(auto, unfolding(ada_image::specs::UnitsOfImage::same_entry_unit))]
-fn same_entry_unit(unit: EntryUnit, other: EntryUnit) -> bool
-    ensures { result ≡ same_entry_unit unit other }
-{
-    match (unit, other) {
-        (EntryUnit::Task(a), EntryUnit::Task(b)) => a.0 == b.0,
-        (EntryUnit::Task(_), EntryUnit::Protected(_)) => false,
-        (EntryUnit::Protected(_), EntryUnit::Task(_)) => false,
-        (EntryUnit::Protected(a), EntryUnit::Protected(b)) => a.0 == b.0,
-    }
-}
 
 /// The numbers of the entries of a unit.
 #[tactic(auto, unfolding(ada_image::specs::UnitsOfImage::entries_of, ada_image::specs::UnitsOfImage::entries_from))]

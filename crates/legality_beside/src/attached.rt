@@ -1,13 +1,13 @@
 //! Attached handlers and their interrupts (C.3.1, D.3).
 ghost use Rattle.std.specs.Prelude.{◌≡◌, ◌++◌, ◌≤◌, length, take, OnOk};
 ghost use Rattle.std.specs.List.{flat_map, list_any};
-ghost use Rattle.ada_legality.specs.Words.{same_number};
 ghost use Rattle.ada_legality.specs.WholeSource.{is_attached_in, has_attached, same_numbers, clashes_with, clashes, place_for, handler_of_object, handlers_of_object, is_attached_number, takes_number, taken_number, numbers_of_object};
 
 use crate::findings::before_place;
 use ada_entities::same_place;
 use ada_legality::{Attached, Finding, ProtectedObject, Rule};
 use ann_base::{NoMemory, Place};
+use legality_numbers::same_number;
 use legality_types::broken_if;
 use world_tables::List;
 
@@ -26,13 +26,6 @@ pub(crate) fn has_attached(found: &[Finding], unit: u32) -> bool
     ensures { result ≡ has_attached found.now unit }
 {
     found.iter().any(|finding| is_attached_in(unit, finding))
-}
-
-/// Whether whole numbers are equal.
-pub(crate) fn same_number(a: i128, b: i128) -> bool
-    ensures { result ≡ same_number a b }
-{
-    a <= b && b <= a
 }
 
 fn same_numbers(a: Option<i128>, b: Option<i128>) -> bool

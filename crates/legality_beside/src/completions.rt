@@ -1,9 +1,9 @@
 //! Completions (3.11.1): one body, in the declaration's own part; returns (6.3); the tasks of timers (D.14.1).
 ghost use Rattle.std.specs.Prelude.{◌≡◌};
 ghost use Rattle.std.specs.List.{list_any};
-ghost use Rattle.ada_regions.specs.Completions.{has_body};
 ghost use Rattle.ada_legality.specs.WholeSource.{same_kind, is_body_of, bodies_of, is_other_profile_of, has_known_body, is_uncompleted, is_return_of, is_task_constant, names_task};
 
+use ada_completions::has_body;
 use ada_entities::same_place;
 use ada_legality::{BodyKind, Finding};
 use ada_regions::Names;
@@ -55,12 +55,6 @@ fn is_other_profile_of(kind: BodyKind, entity: u32, finding: &Finding) -> bool
         } => same_kind(kind, *of_kind) && entity == *other,
         _ => false,
     }
-}
-
-fn has_body(names: &Names<'_>, entity: u32) -> bool
-    ensures { result ≡ has_body names.now entity }
-{
-    names.bodies.iter().any(|body| entity == *body)
 }
 
 /// Whether the table knows the body of an entity, unless it is an entry's.

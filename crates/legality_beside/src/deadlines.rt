@@ -3,9 +3,10 @@ ghost use Rattle.std.specs.Prelude.{◌≡◌, ◌++◌, OnOk};
 ghost use Rattle.std.specs.List.{flat_map};
 ghost use Rattle.ada_legality.specs.WholeSource.{lies_in_range, is_lowest, has_attached_if, ceiling_of, in_deadline_range, range_judged};
 
-use crate::attached::{has_attached, same_number};
+use crate::attached::has_attached;
 use ada_legality::{Ceiling, DeadlineRange, Finding, Rule};
 use ann_base::NoMemory;
+use legality_numbers::same_number;
 use legality_types::{broken_if, broken_unless};
 use world_tables::List;
 

@@ -1,32 +1,22 @@
 //! Packages (7.2, 10.1.4): a body follows its declaration, and only one does; a declaration that needs a body has one.
 ghost use Rattle.std.specs.Prelude.{◌≡◌, ◌++◌, IfOk, OnOk, map};
 ghost use Rattle.std.specs.List.{flat_map, list_any};
-ghost use Rattle.ada_regions.specs.Completions.{holds_of};
-ghost use Rattle.ada_regions.specs.Names.{entity_denoted, kind_at};
-ghost use Rattle.ada_regions.specs.Regions.{is_package};
+ghost use Rattle.ada_regions.specs.Names.{entity_denoted};
 ghost use Rattle.ada_legality.specs.Values.{is_entity};
 ghost use Rattle.ada_legality.specs.Packages.{denote_entity, body_named_in, bodies_of_packages, is_first_of, completes_package, body_judged, body_named, needs_body, private_part, bodies_in_package, package_needs_body, has_package_body, declaration_judged, package_judged, packages_judged};
 ghost use Rattle.legality_beside.specs.Bodies.{denoted_in, has_entity, has_body_among, lacks_body, package_lacks, body_of, completes_some, first_among};
 
-use ada_entities::{entity_denoted, kind_at, same_place};
+use ada_entities::{entity_denoted, is_package_at, same_place};
 use ada_legality::{Finding, Rule};
-use ada_regions::{EntityKind, Names};
+use ada_regions::Names;
 use ada_tree::{
     Declaration, Identifier, LibraryPackage, Package, PackageBody, PackageDeclaration, Sequence,
 };
 use ann_base::{NoMemory, Place};
+use legality_names::is_entity;
 use legality_types::{broken_if, broken_unless};
 use std::alloc::Global;
 use world_tables::List;
-
-fn is_entity(entity: u32, denoted: Option<u32>) -> bool
-    ensures { result ≡ is_entity entity denoted }
-{
-    match denoted {
-        None => false,
-        Some(other) => entity == other,
-    }
-}
 
 fn denoted_in(names: &Names<'_>, name: &Identifier) -> Option<u32>
     ensures { result ≡ denoted_in names.now name.now }
@@ -246,15 +236,6 @@ fn is_first_of(names: &Names<'_>, entity: u32, place: Place, packages: &[Library
     first_among(names, entity, place, packages)
 }
 
-fn is_package(names: &Names<'_>, entity: u32) -> bool
-    ensures { result ≡ holds_of is_package (kind_at names.now entity) }
-{
-    match kind_at(names, entity) {
-        None => false,
-        Some(kind) => matches!(kind, EntityKind::Package),
-    }
-}
-
 /// Whether a body is the first of its package.
 #[tactic(auto, unfolding(ada_legality::specs::Packages::completes_package))]
 fn completes_package(
@@ -265,7 +246,7 @@ fn completes_package(
 ) -> bool
     ensures { result ≡ completes_package names.now (bodies_of_packages packages.now) name.now entity }
 {
-    is_package(names, entity) && is_first_of(names, entity, name.place, packages)
+    is_package_at(names, entity) && is_first_of(names, entity, name.place, packages)
 }
 
 fn completes_some(names: &Names<'_>, packages: &[LibraryPackage], name: &Identifier) -> bool

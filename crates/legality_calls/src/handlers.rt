@@ -1,13 +1,14 @@
 //! Actuals for handlers, and actuals that are assigned (ISO/IEC 8652:2012, 6.4.1, 9.5.1, C.3.1, D.14.1, D.14.2, D.15).
 ghost use Rattle.std.specs.Prelude.{◌≡◌, ◌++◌, ◌∷◌, [], None, OnOk, false, option_map, unwrap_or};
 ghost use Rattle.ada_legality.specs.Types.{same_type};
-ghost use Rattle.ada_legality.specs.Reading.{function_in_unit, functions_of_unit, component_assigned, shape_is_variable, component_in_shape, assigning_actual, assigned_if, is_handler_or_null, is_in_out, wanted_of_handler, handles_objects_of, is_wanted_handler, handler_actual};
+ghost use Rattle.ada_legality.specs.Reading.{function_in_unit, functions_of_unit, component_assigned, shape_is_variable, component_in_shape, assigning_actual, assigned_if, is_handler_or_null, wanted_of_handler, handles_objects_of, is_wanted_handler, handler_actual};
 ghost use Rattle.legality_calls.specs.Beside.{function_beside, functions_along};
 
 use ada_entities::kind_at;
 use ada_legality::{Around, Finding, Known, Read, Rule, Shape, Typed};
 use ada_regions::{AdaType, Formal, Mode};
 use ann_base::NoMemory;
+use image_layout::is_in_out;
 use legality_names::{formals_of_subprogram, is_type};
 use legality_types::{broken_if, broken_unless, has_type, same_type};
 use world_tables::List;
@@ -149,16 +150,6 @@ fn is_handler_or_null(typed: Typed) -> bool
         Typed::OfNull => true,
         Typed::OfHandler(_) => true,
         _ => false,
-    }
-}
-
-fn is_in_out(mode: Mode) -> bool
-    ensures { result ≡ is_in_out mode }
-{
-    match mode {
-        Mode::InOut => true,
-        Mode::In => false,
-        Mode::Out => false,
     }
 }
 

@@ -1,31 +1,14 @@
 //! Components (ISO/IEC 8652:2012, 3.8, 9.4).
 ghost use Rattle.std.specs.Prelude.{◌≡◌, ◌++◌, OnOk};
-ghost use Rattle.ada_legality.specs.CallStatements.{all_found, found_if, value_found};
+ghost use Rattle.ada_legality.specs.CallStatements.{all_found};
 ghost use Rattle.ada_legality.specs.Declarations.{component_found, components_found, protected_component_found, record_component_found};
 
 use ada_legality::{Finding, IndicationUse, Known};
-use ada_regions::AdaType;
-use ada_tree::{Component, Expression, OneOrMore};
+use ada_tree::{Component, OneOrMore};
 use ann_base::NoMemory;
-use legality_parts::{indication_found, type_of_mark, value_found};
+use legality_parts::{indication_found, type_of_mark, value_found_if};
 use std::alloc::Global;
 use world_tables::List;
-
-/// The initial value of a component.
-fn initial_found(
-    alloc: Global,
-    found: &mut List<Finding>,
-    known: &Known<'_, '_>,
-    t: Option<AdaType>,
-    initial: &Option<Expression>,
-) -> Result<(), NoMemory>
-    ensures { OnOk result (found.new ≡ found.old ++ found_if (value_found t) initial.now known.now) }
-{
-    match initial {
-        None => Ok(()),
-        Some(value) => value_found(alloc, found, known, t, value),
-    }
-}
 
 /// A component.
 #[tactic(auto, unfolding(ada_legality::specs::Declarations::component_found))]
@@ -40,7 +23,7 @@ fn component_found(
 {
     indication_found(alloc, found, known, purpose, &component.subtype)?;
     let t = type_of_mark(known, &component.subtype);
-    initial_found(alloc, found, known, t, &component.initial)
+    value_found_if(alloc, found, known, t, &component.initial)
 }
 
 /// A component of a controlled type.

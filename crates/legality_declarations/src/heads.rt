@@ -1,15 +1,14 @@
 //! The heads of units' and entries' bodies, and use clauses (ISO/IEC 8652:2012, 8.4, 9.1, 9.4, 9.5.2, D.7).
 ghost use Rattle.std.specs.Prelude.{◌≡◌, ◌++◌, OnOk};
-ghost use Rattle.ada_regions.specs.Completions.{is_of_kind, is_unit, type_is};
 ghost use Rattle.ada_legality.specs.UnitsUsed.{is_unit_name};
 ghost use Rattle.ada_legality.specs.Values.{is_denoted};
 ghost use Rattle.ada_legality.specs.Declarations.{barrier_found, barrier_judged, entry_body_judged, entry_profile_if, is_simple_barrier, is_unit_of, unit_body_judged, unit_here, use_found};
 
 use crate::tasks::type_of_identifier;
-use ada_completions::type_of_entity;
-use ada_entities::{denoted_by, entity_denoted, region_of_entity};
+use ada_completions::is_unit;
+use ada_entities::{denoted_by, entity_denoted};
 use ada_legality::{Asked, BodyKind, Finding, Known, Read, Rule, Shape, UnitAround};
-use ada_regions::{AdaType, Names, UnitKind};
+use ada_regions::{AdaType, UnitKind};
 use ada_tree::{EntryHead, Expression, Identifier, Name, Parameter};
 use ann_base::NoMemory;
 use legality_expressions::{Readable, place_of};
@@ -29,32 +28,6 @@ pub fn unit_here(known: &Known<'_, '_>, name: &Identifier) -> UnitAround
         entity: entity_denoted(known.names.get(), name.place),
         of_type: type_of_identifier(known, name),
     }
-}
-
-fn is_of_kind(kind: UnitKind, of_type: AdaType) -> bool
-    ensures { result ≡ is_of_kind kind of_type }
-{
-    match kind {
-        UnitKind::Task => matches!(of_type, AdaType::Task(_)),
-        UnitKind::Protected => matches!(of_type, AdaType::Protected(_)),
-    }
-}
-
-fn type_is(kind: UnitKind, of_type: Option<AdaType>) -> bool
-    ensures { result ≡ type_is kind of_type }
-{
-    match of_type {
-        None => false,
-        Some(of_type) => is_of_kind(kind, of_type),
-    }
-}
-
-/// Whether an entity is a unit of this kind, and no other object of its type.
-#[tactic(auto, unfolding(ada_regions::specs::Completions::is_unit))]
-fn is_unit(names: &Names<'_>, kind: UnitKind, entity: u32) -> bool
-    ensures { result ≡ is_unit kind names.now entity }
-{
-    region_of_entity(names, entity).is_some() && type_is(kind, type_of_entity(names, entity))
 }
 
 /// A body's name is that of a unit of its kind.

@@ -2,17 +2,16 @@
 ghost use Rattle.std.specs.Prelude.{◌≡◌, ◌++◌, ◌∷◌, [], OnOk, option_map, unwrap_or};
 ghost use Rattle.std.specs.List.{flat_map};
 ghost use Rattle.ada_regions.specs.Words.{all_of};
-ghost use Rattle.ada_legality.specs.CallStatements.{found_if, value_alone_found};
 ghost use Rattle.ada_legality.specs.Declarations.{constant_noted, is_aliased_constant, library_entity, object_found, object_judged, protected_noted, protected_number, protected_unit_of_name, task_named, timer_noted, typed_object_if, typed_object_judged};
 
 use crate::tasks::{is_library_name, task_judged, type_of_identifier};
 use ada_entities::entity_denoted;
 use ada_legality::{Finding, IndicationUse, Known, ProtectedObject, Rule};
 use ada_regions::AdaType;
-use ada_tree::{Constraint as Indicated, Expression, Identifier, ObjectDeclaration, OneOrMore};
+use ada_tree::{Constraint as Indicated, Identifier, ObjectDeclaration, OneOrMore};
 use ann_base::{NoMemory, Place};
 use legality_names::{entity_of_name, is_library_entity};
-use legality_parts::{indication_found, type_of_mark, value_alone_found};
+use legality_parts::{indication_found, type_of_mark, value_alone_found_if};
 use legality_statements::cells_noted;
 use legality_types::{
     broken_if, has_no_values, is_event_timer_or_budget, is_task_id, is_timer, note,
@@ -214,22 +213,6 @@ fn objects_judged(
     Ok(())
 }
 
-/// The initial value of an object.
-fn initial_found(
-    alloc: Global,
-    found: &mut List<Finding>,
-    known: &Known<'_, '_>,
-    t: Option<AdaType>,
-    initial: &Option<Expression>,
-) -> Result<(), NoMemory>
-    ensures { OnOk result (found.new ≡ found.old ++ found_if (value_alone_found t) initial.now known.now) }
-{
-    match initial {
-        None => Ok(()),
-        Some(value) => value_alone_found(alloc, found, known, t, value),
-    }
-}
-
 /// An object declaration.
 #[tactic(auto, unfolding(ada_legality::specs::Declarations::object_found))]
 pub fn object_found(
@@ -249,5 +232,5 @@ pub fn object_found(
         IndicationUse::ForObject,
         &object.subtype,
     )?;
-    initial_found(alloc, found, known, t, &object.initial)
+    value_alone_found_if(alloc, found, known, t, &object.initial)
 }

@@ -8,6 +8,7 @@ use ada_legality::{Finding, Known, Rule};
 use ada_regions::{AdaType, Names, NumberedEntry};
 use ada_tree::Identifier;
 use ann_base::{NoMemory, Place};
+use image_layout::same_entry_unit;
 use legality_names::{is_library_object, kind_of_identifier, type_of_unit_kind};
 use legality_types::{broken_if, is_task_unit};
 use profile_machine::EntryUnit;
@@ -49,18 +50,6 @@ fn is_task_outside_library(known: &Known<'_, '_>, name: &Identifier) -> bool
     match type_of_identifier(known, name) {
         None => false,
         Some(t) => is_task_outside(known, name, t),
-    }
-}
-
-#[tactic(auto, unfolding(ada_image::specs::UnitsOfImage::same_entry_unit))]
-fn same_entry_unit(unit: EntryUnit, other: EntryUnit) -> bool
-    ensures { result ≡ same_entry_unit unit other }
-{
-    match (unit, other) {
-        (EntryUnit::Task(a), EntryUnit::Task(b)) => a.0 == b.0,
-        (EntryUnit::Task(_), EntryUnit::Protected(_)) => false,
-        (EntryUnit::Protected(_), EntryUnit::Task(_)) => false,
-        (EntryUnit::Protected(a), EntryUnit::Protected(b)) => a.0 == b.0,
     }
 }
 

@@ -1,7 +1,6 @@
 //! Attributes of names (ISO/IEC 8652:2012, 3.5, 3.10.2, 9.9, C.7.1).
 ghost use Rattle.std.specs.Prelude.{◌≡◌, ◌++◌, OnOk};
 ghost use Rattle.ada_regions.specs.Completions.{holds_of};
-ghost use Rattle.ada_legality.specs.Attributes.{has_count};
 ghost use Rattle.ada_legality.specs.Values.{denoted_kind, is_denoted};
 ghost use Rattle.ada_legality.specs.ReadExpressions.{attribute_read, is_unclear_mark, denotes_subprogram, is_unclear, may_have_attribute, no_handler_access, attribute_alone, image_judged, other_attribute, attribute_judged};
 
@@ -13,7 +12,7 @@ use ada_tree::{Attribute, Name};
 use ann_base::NoMemory;
 use legality_calls::{actuals_numbered, without_name};
 use legality_names::{
-    denoted_kind, has_count, has_images, is_function_kind, is_library_handler, is_procedure_kind,
+    counts, denoted_kind, has_images, is_function_kind, is_library_handler, is_procedure_kind,
     is_task_object, takes_arguments, type_of_ends, typed_attribute_of,
 };
 use legality_reads::{image_length, plain_read, type_of_prefix};
@@ -77,16 +76,6 @@ fn is_unclear(known: &Known<'_, '_>, denoted: Denoted) -> bool
     ensures { result ≡ is_unclear known.now denoted }
 {
     is_unclear_object(known, denoted) || denotes_unclear_mark(known, denoted)
-}
-
-/// Count may be asked of what is denoted.
-fn counts(known: &Known<'_, '_>, denoted: Denoted) -> bool
-    ensures { result ≡ holds_of (has_count known.now) (denoted_kind known.now.names denoted) }
-{
-    match denoted_kind(known.names.get(), denoted) {
-        None => false,
-        Some(kind) => has_count(known, kind),
-    }
 }
 
 /// What an attribute may be asked of.

@@ -7,10 +7,10 @@ use crate::readable::{Readable, operand_read};
 use ada_legality::{Finding, Known, Read};
 use ada_tree::{Addend, LogicalOperator, Multiplied, OneOrMore, Operand, RelationalOperator};
 use ann_base::{NoMemory, Place};
+use image_expressions::{logical_operator, multiplying_operator, relational_operator};
 use legality_reads::{
-    compared_read, first_relation, first_term, logical_operator, multiplying_operator,
-    operation_judged, plain_read, relational_operator, sum_judged, with_factor, with_relation,
-    with_term,
+    compared_read, first_relation, first_term, operation_judged, plain_read, sum_judged,
+    with_factor, with_relation, with_term,
 };
 use std::alloc::Global;
 use world_tables::List;

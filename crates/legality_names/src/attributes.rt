@@ -87,7 +87,7 @@ pub fn has_images(known: &Known<'_, '_>, denoted: Denoted) -> bool
 
 /// An entry whose Count may be asked here (9.9).
 #[tactic(auto, unfolding(ada_legality::specs::Attributes::has_count))]
-pub fn has_count(known: &Known<'_, '_>, kind: &EntityKind) -> bool
+fn has_count(known: &Known<'_, '_>, kind: &EntityKind) -> bool
     ensures { result ≡ has_count known.now kind.now }
 {
     match kind {
@@ -111,7 +111,7 @@ pub fn is_task_object(known: &Known<'_, '_>, denoted: Denoted) -> bool
 }
 
 /// Count of what is denoted may be asked here.
-fn counts(known: &Known<'_, '_>, denoted: Denoted) -> bool
+pub fn counts(known: &Known<'_, '_>, denoted: Denoted) -> bool
     ensures { result ≡ holds_of (has_count known.now) (denoted_kind known.now.names denoted) }
 {
     match denoted_kind(known.names.get(), denoted) {

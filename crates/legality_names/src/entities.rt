@@ -6,9 +6,9 @@ ghost use Rattle.ada_legality.specs.Attributes.{kind_of_identifier};
 use ada_entities::{denoted_by, entity_denoted, entity_of, kind_at};
 use ada_legality::{Known, LoopParameter};
 use ada_regions::{AdaType, Denoted, EntityKind, Names, Subtype};
-use ada_subtypes::subtype_of_kind;
+use ada_subtypes::{free_subtype, subtype_of_kind};
 use ada_tree::{Identifier, Name};
-use profile_machine::{Constraint, DeclNo};
+use profile_machine::DeclNo;
 use world_tables::List;
 
 fn parameter_found(loops: &List<LoopParameter>, entity: u32) -> Option<&LoopParameter>
@@ -37,10 +37,9 @@ fn subtype_of_object(known: &Known<'_, '_>, entity: u32, kind: &EntityKind) -> O
         EntityKind::Parameter { subtype, .. } => *subtype,
         EntityKind::Component { subtype, .. } => *subtype,
         EntityKind::LoopParameter(_) => subtype_of_loop(&known.loops, entity),
-        EntityKind::Literal { enumeration, .. } => Some(Subtype {
-            of_type: AdaType::Enumeration(*enumeration),
-            range: Constraint::Free,
-        }),
+        EntityKind::Literal { enumeration, .. } => {
+            Some(free_subtype(AdaType::Enumeration(*enumeration)))
+        }
         _ => None,
     }
 }

@@ -19,7 +19,7 @@ pub use around::{
     sequence_around, single_object, stands_in_type, stands_in_unit, type_around, unit_around,
 };
 pub use attributes::{
-    ends_of_mark, ends_of_object, has_count, has_images, is_task_object, takes_arguments,
+    counts, ends_of_mark, ends_of_object, has_images, is_task_object, takes_arguments,
     type_of_ends, typed_attribute, typed_attribute_of,
 };
 pub use entities::{
@@ -30,7 +30,7 @@ pub use kinds::{
     formals_of_subprogram, is_entry_kind, is_function_kind, is_literal_kind, is_object_kind,
     is_procedure_kind, is_variable_kind, unit_type_of_entry,
 };
-pub use predefined::{operation_denoted, operation_of, type_of_operation};
+pub use predefined::{operation_denoted, operation_of};
 pub use prefixes::{
     handler_object, is_library_entity, is_library_handler, object_prefix, typed_access,
 };

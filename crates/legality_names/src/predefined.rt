@@ -1,48 +1,9 @@
 //! Predefined names (ISO/IEC 8652:2012, annexes A, C, D).
 ghost use Rattle.std.specs.Prelude.{◌≡◌};
-ghost use Rattle.ada_image.specs.TypesOfExpressions.{type_of_operation};
 ghost use Rattle.ada_legality.specs.Values.{is_function_operation, type_of_constant, operation_of, operation_denoted, constant_type, is_predefined_constant};
 
 use ada_regions::{AdaType, Denoted, Operation, Predefined};
-
-/// The type of the result of a predefined function; a procedure has none.
-pub fn type_of_operation(operation: Operation) -> Option<AdaType>
-    ensures { result ≡ type_of_operation operation }
-{
-    match operation {
-        Operation::PutLine => None,
-        Operation::Clock => Some(AdaType::Time),
-        Operation::Microseconds => Some(AdaType::TimeSpan),
-        Operation::Milliseconds => Some(AdaType::TimeSpan),
-        Operation::Seconds => Some(AdaType::TimeSpan),
-        Operation::Minutes => Some(AdaType::TimeSpan),
-        Operation::ToDuration => Some(AdaType::Duration),
-        Operation::ToTimeSpan => Some(AdaType::TimeSpan),
-        Operation::SetEvent => None,
-        Operation::CancelEvent => None,
-        Operation::TimeOfEvent => Some(AdaType::Time),
-        Operation::ExecutionClock => Some(AdaType::CpuTime),
-        Operation::SetTimer => None,
-        Operation::CancelTimer => None,
-        Operation::TimeRemaining => Some(AdaType::TimeSpan),
-        Operation::AddTask => None,
-        Operation::RemoveTask => None,
-        Operation::Replenish => None,
-        Operation::Add => None,
-        Operation::BudgetHasExpired => Some(AdaType::Boolean),
-        Operation::BudgetRemaining => Some(AdaType::TimeSpan),
-        Operation::SetBudget => None,
-        Operation::CancelBudget => None,
-        Operation::SetPriority => None,
-        Operation::GetPriority => Some(AdaType::Integer),
-        Operation::CurrentTask => Some(AdaType::TaskId),
-        Operation::SetQuantum => None,
-        Operation::SetDeadline => None,
-        Operation::GetDeadline => Some(AdaType::Time),
-        Operation::DelayUntilAndSetDeadline => None,
-        Operation::PortValue => Some(AdaType::Integer),
-    }
-}
+use image_types::type_of_operation;
 
 /// A predefined function.
 pub(crate) fn is_function_operation(operation: Operation) -> bool

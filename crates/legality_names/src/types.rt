@@ -12,13 +12,14 @@ use crate::kinds::{
 };
 use crate::predefined::{
     constant_type, is_function_operation, is_predefined_constant, operation_denoted, operation_of,
-    type_of_constant, type_of_operation,
+    type_of_constant,
 };
 use ada_entities::denoted_by;
 use ada_legality::{Known, Typed};
 use ada_regions::{AdaType, Denoted, EntityKind, Names, Operation, PredefinedUnit, Subtype};
 use ada_tree::Name;
 use image_layout::array_of;
+use image_types::type_of_operation;
 use legality_types::{typed_as, typed_by, typed_if};
 use profile_machine::Constraint;
 

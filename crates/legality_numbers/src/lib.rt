@@ -6,6 +6,6 @@ mod literals;
 mod numbers;
 mod statics;
 
-pub use literals::{micros_of, number_of_literal};
+pub use literals::number_of_literal;
 pub use numbers::{lies_between, number_of_value, same_number, truth_number};
 pub use statics::{number_of_expression, static_number};

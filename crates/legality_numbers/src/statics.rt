@@ -1,5 +1,5 @@
 //! Static expressions as numbers (ISO/IEC 8652:2012, 4.9).
-ghost use Rattle.std.specs.Prelude.{◌≡◌, neg_ℤ, option_copied, option_map, IfOk};
+ghost use Rattle.std.specs.Prelude.{◌≡◌, neg_ℤ, option_map, IfOk};
 ghost use Rattle.ada_regions.specs.Words.{and_then};
 ghost use Rattle.ada_tree.specs.declared.expressions.Expression.TheViews.{out-Expression};
 ghost use Rattle.ada_regions.specs.Statics.{literal_of};
@@ -9,30 +9,11 @@ use crate::literals::number_of_literal;
 use crate::numbers::number_of_value;
 use ada_legality::{Known, Typed};
 use ada_regions::AdaType;
-use ada_subtypes::static_value;
+use ada_subtypes::{literal_of, static_value};
 use ada_tree::{Expression, ExpressionForm, Sign};
 use ann_base::NoMemory;
 use legality_types::{fits, has_type};
 use profile_machine::Value;
-
-/// The literal of an expression that is one.
-fn literal_of(expression: &Expression) -> Option<&[u8]>
-    ensures { option_copied result ≡ literal_of (out-Expression expression.now).form }
-{
-    match expression.form.get() {
-        ExpressionForm::Logical { .. } => None,
-        ExpressionForm::Relational { .. } => None,
-        ExpressionForm::Adding { .. } => None,
-        ExpressionForm::Signed { .. } => None,
-        ExpressionForm::Multiplying { .. } => None,
-        ExpressionForm::Highest { .. } => None,
-        ExpressionForm::Number { literal, .. } => Some(literal.as_slice()),
-        ExpressionForm::Text { .. } => None,
-        ExpressionForm::Null { .. } => None,
-        ExpressionForm::Bracketed { .. } => None,
-        ExpressionForm::Named { .. } => None,
-    }
-}
 
 /// The number of minus a literal.
 fn negative_literal(operand: &Expression) -> Result<Option<i128>, NoMemory>

@@ -16,5 +16,6 @@ pub use choices::{ChoiceOf, add_choices, case_judged, choices_read, type_of_sele
 pub use marks::{indication_found, type_of_mark};
 pub use parameters::parameters_found;
 pub use values::{
-    bounds_if, bounds_judged, condition_found, not_static, value_alone_found, value_found,
+    bounds_if, bounds_judged, condition_found, not_static, value_alone_found, value_alone_found_if,
+    value_found, value_found_if,
 };

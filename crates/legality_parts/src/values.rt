@@ -1,7 +1,7 @@
 //! Expressions in statements, and bounds (ISO/IEC 8652:2012, 3.5, 5.3, 8.6).
 ghost use Rattle.std.specs.Prelude.{◌≡◌, ◌++◌, [], OnOk, cond};
 ghost use Rattle.ada_legality.specs.Types.{has_ranges};
-ghost use Rattle.ada_legality.specs.CallStatements.{value_found, value_alone_found, condition_found, not_static, is_above, pair_judged, bounds_judged, bounds_found, bounds_if};
+ghost use Rattle.ada_legality.specs.CallStatements.{found_if, value_found, value_alone_found, condition_found, not_static, is_above, pair_judged, bounds_judged, bounds_found, bounds_if};
 
 use ada_legality::{Asked, Finding, Known, Read, Rule};
 use ada_regions::AdaType;
@@ -29,6 +29,22 @@ pub fn value_found(
     expected(found, Asked::ForValue, t, &read)
 }
 
+/// A value, where one is given.
+pub fn value_found_if(
+    alloc: Global,
+    found: &mut List<Finding>,
+    known: &Known<'_, '_>,
+    t: Option<AdaType>,
+    expression: &Option<Expression>,
+) -> Result<(), NoMemory>
+    ensures { OnOk result (found.new ≡ found.old ++ found_if (value_found t) expression.now known.now) }
+{
+    match expression {
+        None => Ok(()),
+        Some(expression) => value_found(alloc, found, known, t, expression),
+    }
+}
+
 /// A value that may be a function's call.
 #[tactic(auto, unfolding(ada_legality::specs::CallStatements::value_alone_found))]
 pub fn value_alone_found(
@@ -42,6 +58,22 @@ pub fn value_alone_found(
 {
     let read = expression.read(alloc, found, known)?;
     fitted(found, Asked::ForValue, t, &read)
+}
+
+/// A value that may be a function's call, where one is given.
+pub fn value_alone_found_if(
+    alloc: Global,
+    found: &mut List<Finding>,
+    known: &Known<'_, '_>,
+    t: Option<AdaType>,
+    expression: &Option<Expression>,
+) -> Result<(), NoMemory>
+    ensures { OnOk result (found.new ≡ found.old ++ found_if (value_alone_found t) expression.now known.now) }
+{
+    match expression {
+        None => Ok(()),
+        Some(expression) => value_alone_found(alloc, found, known, t, expression),
+    }
 }
 
 /// A condition: Boolean.

@@ -3,7 +3,6 @@
 ghost use Rattle.std.specs.Prelude.{◌≡◌, ◌++◌, ◌≤◌, [], ◌∷◌, codes, length, take, IfOk, OnOk};
 ghost use Rattle.std.specs.List.{list_any};
 ghost use Rattle.std.specs.Str.{bytes_eq};
-ghost use Rattle.ada_regions.specs.Numbered.{is_wide, last_priority_of};
 ghost use Rattle.ada_legality.specs.Pragmas.{given_once, is_given_again, is_pragma_named, is_wrong_pragma, overlaps_before, pair_of, pragmas_judged, range_of_pragma, specific_numbers, stands_beside_specific, wrong_pragmas};
 ghost use Rattle.ada_legality.specs.Choices.{meet};
 ghost use Rattle.legality_pragmas.specs.Judging.{judged_along, pragma_judged};
@@ -12,30 +11,11 @@ use crate::arguments::number_in;
 use crate::profile::is_pragma_of_profile;
 use crate::ranges::{meet, span};
 use ada_legality::{Finding, Rule, Span};
+use ada_naming::last_priority_of;
 use ada_tree::Pragma;
 use ann_base::NoMemory;
 use legality_types::broken_if;
 use world_tables::List;
-
-/// Whether a pragma makes the range of priorities wide (this profile's own; D.1).
-fn is_wide(pragma: &Pragma) -> bool
-    ensures { result ≡ is_wide pragma.now }
-{
-    pragma.name.text.as_slice() == b"priority_range".as_slice()
-}
-
-fn any_is_wide(pragmas: &[Pragma]) -> bool
-    ensures { result ≡ list_any is_wide pragmas.now }
-{
-    pragmas.iter().any(|pragma| is_wide(pragma))
-}
-
-/// The last value of System.Priority under these pragmas.
-pub(crate) fn last_priority_of(pragmas: &[Pragma]) -> u8
-    ensures { result ≡ last_priority_of pragmas.now }
-{
-    if any_is_wide(pragmas) { 97 } else { 30 }
-}
 
 /// Whether a pragma has this name.
 fn is_pragma_named(name: &[u8], pragma: &Pragma) -> bool

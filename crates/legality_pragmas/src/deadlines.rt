@@ -5,9 +5,9 @@ ghost use Rattle.ada_image.specs.PoliciesOfImage.{ranges_of_pragma};
 ghost use Rattle.ada_legality.specs.InForce.{deadline_ranges_of, is_by_deadline};
 ghost use Rattle.legality_pragmas.specs.Deadlines.{deadlines_of, told};
 
-use crate::clashes::last_priority_of;
 use crate::profile::is_pragma_of_profile;
 use ada_legality::DeadlineRange;
+use ada_naming::last_priority_of;
 use ada_tree::Pragma;
 use ann_base::{NoMemory, Place};
 use image_policies::policies_of;

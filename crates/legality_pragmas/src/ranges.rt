@@ -1,9 +1,9 @@
 //! The values from one to another, as numbers (ISO/IEC 8652:2012, 3.5).
 ghost use Rattle.std.specs.Prelude.{◌≡◌};
 ghost use Rattle.ada_legality.specs.Choices.{ends_of, meet, meet_in, span};
-ghost use Rattle.ada_legality.specs.Words.{truth_number};
 
 use ada_legality::Span;
+use legality_numbers::truth_number;
 use profile_machine::Constraint;
 
 /// Whether two ranges have a value in common.
@@ -32,13 +32,6 @@ pub fn span(low: i128, high: i128) -> Span
     ensures { result ≡ span low high }
 {
     Span { low, high }
-}
-
-/// The place of a truth in the order of Boolean.
-fn truth_number(truth: bool) -> i128
-    ensures { result ≡ truth_number truth }
-{
-    if truth { 1 } else { 0 }
 }
 
 /// The ends of a range, as numbers.

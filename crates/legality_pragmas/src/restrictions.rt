@@ -8,8 +8,9 @@ ghost use Rattle.ada_legality.specs.InForce.{gives_restriction, is_given, is_nam
 ghost use Rattle.legality_pragmas.specs.Restrictions.{gives, gives_longest, least_before, least_with};
 
 use crate::arguments::{number_in, word_in};
-use ada_tree::{Argument, Expression, Identifier, OneOrMore, Pragma};
+use ada_tree::{Argument, Expression, OneOrMore, Pragma};
 use ann_base::NoMemory;
+use image_policies::is_longest;
 
 /// Whether it is a pragma Restrictions.
 fn is_restrictions(pragma: &Pragma) -> bool
@@ -151,16 +152,6 @@ pub(crate) fn least_limit_in(pragmas: &[Pragma], name: &[u8]) -> Result<Option<i
         least = least_before(name, &pragmas[place], least)?;
     }
     Ok(least)
-}
-
-/// Whether an argument is that of Max_Entry_Queue_Length (D.7).
-fn is_longest(formal: &Option<Identifier>) -> bool
-    ensures { result ≡ is_longest formal.now }
-{
-    match formal {
-        None => false,
-        Some(formal) => formal.text.as_slice() == b"max_entry_queue_length".as_slice(),
-    }
 }
 
 fn any_other_longest(others: &[Argument<Expression>]) -> bool

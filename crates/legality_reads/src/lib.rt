@@ -19,7 +19,6 @@ pub use operations::{
     concatenation_judged, operation_judged, operation_of_one_judged, signed_judged, sum_judged,
 };
 pub use reads::{
-    bracketed_read, compared_read, first_relation, first_term, highest_operator, highest_read,
-    logical_operator, multiplying_operator, number_read, plain_read, relational_operator,
-    signed_read, text_read, with_factor, with_relation, with_term,
+    bracketed_read, compared_read, first_relation, first_term, highest_read, number_read,
+    plain_read, signed_read, text_read, with_factor, with_relation, with_term,
 };

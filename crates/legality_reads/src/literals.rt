@@ -5,8 +5,8 @@ ghost use Rattle.ada_legality.specs.Reading.{nowhere, no_literal, literal_in, li
 
 use ada_legality::{Finding, Literal, Read, Rule};
 use ada_lex::{decimals, whole_value};
+use ada_subtypes::micros_of;
 use ann_base::{NoMemory, Place};
-use legality_numbers::micros_of;
 use legality_types::{broken_if, broken_unless};
 use world_tables::List;
 

@@ -4,7 +4,6 @@ ghost use Rattle.ada_lex.specs.Meaning.{decimals_of};
 ghost use Rattle.ada_regions.specs.Words.{nothing_there};
 ghost use Rattle.ada_legality.specs.declared.reading.Typed.TheVariants as typing;
 ghost use Rattle.ada_legality.specs.Types.{operation_type_of_one, typed_if};
-ghost use Rattle.ada_image.specs.ImageOfExpressions.{logical_operator, relational_operator, multiplying_operator, highest_operator};
 ghost use Rattle.ada_legality.specs.Reading.{with_minus, plain_read, is_number, number_read, text_read, bracketed_read, signed_read, is_barrier_operator, is_not, typed_operation, typed_join, typed_sum, first_relation, with_relation, compared_read, first_term, with_term, with_factor, highest_read};
 
 use crate::lengths::{both_lengths, length_if_joined, short_length};
@@ -15,57 +14,11 @@ use ada_tree::{
     AddingOperator, HighestOperator, LogicalOperator, MultiplyingOperator, RelationalOperator, Sign,
 };
 use ann_base::Place;
+use image_expressions::{
+    highest_operator, logical_operator, multiplying_operator, relational_operator,
+};
 use legality_types::{operation_type, operation_type_of_one, typed_if};
 use profile_machine::{BinaryOperator, UnaryOperator};
-
-/// A logical operator or a short-circuit form (4.5.1).
-pub fn logical_operator(operator: LogicalOperator) -> BinaryOperator
-    ensures { result ≡ logical_operator operator }
-{
-    match operator {
-        LogicalOperator::And => BinaryOperator::And,
-        LogicalOperator::Or => BinaryOperator::Or,
-        LogicalOperator::Xor => BinaryOperator::Xor,
-        LogicalOperator::AndThen => BinaryOperator::AndThen,
-        LogicalOperator::OrElse => BinaryOperator::OrElse,
-    }
-}
-
-/// A relational operator (4.5.2).
-pub fn relational_operator(operator: RelationalOperator) -> BinaryOperator
-    ensures { result ≡ relational_operator operator }
-{
-    match operator {
-        RelationalOperator::Equal => BinaryOperator::Equal,
-        RelationalOperator::NotEqual => BinaryOperator::NotEqual,
-        RelationalOperator::Less => BinaryOperator::Less,
-        RelationalOperator::LessOrEqual => BinaryOperator::LessOrEqual,
-        RelationalOperator::Greater => BinaryOperator::Greater,
-        RelationalOperator::GreaterOrEqual => BinaryOperator::GreaterOrEqual,
-    }
-}
-
-/// A multiplying operator (4.5.5).
-pub fn multiplying_operator(operator: MultiplyingOperator) -> BinaryOperator
-    ensures { result ≡ multiplying_operator operator }
-{
-    match operator {
-        MultiplyingOperator::Times => BinaryOperator::Times,
-        MultiplyingOperator::Divide => BinaryOperator::Divide,
-        MultiplyingOperator::Modulus => BinaryOperator::Mod,
-        MultiplyingOperator::Remainder => BinaryOperator::Rem,
-    }
-}
-
-/// `abs` or `not` (4.5.6).
-pub fn highest_operator(operator: HighestOperator) -> UnaryOperator
-    ensures { result ≡ highest_operator operator }
-{
-    match operator {
-        HighestOperator::Absolute => UnaryOperator::Abs,
-        HighestOperator::Not => UnaryOperator::Not,
-    }
-}
 
 /// An expression of this type, and nothing more.
 pub fn plain_read(place: Place, typed: Typed) -> Read

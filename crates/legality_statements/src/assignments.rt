@@ -2,18 +2,17 @@
 ghost use Rattle.std.specs.Prelude.{◌≡◌, ◌++◌, OnOk};
 ghost use Rattle.ada_legality.specs.Types.{is_copied_controlled, is_limited, typed_is};
 ghost use Rattle.ada_legality.specs.Values.{denotes_object, is_denoted};
-ghost use Rattle.ada_legality.specs.CallStatements.{found_if, value_found};
 ghost use Rattle.ada_legality.specs.SimpleStatements.{may_be_target, typed_target, type_of_index_of, names_declared_object, same_types, copies_a_parameter, is_wrong_target, assignment_judged, target_judged, assignment_found, delay_type, delay_found};
 
 use ada_entities::denoted_by;
 use ada_legality::{Asked, Finding, Known, Read, Rule, Shape, Typed};
 use ada_regions::{AdaType, Denoted, Names};
-use ada_tree::{Assignment, Delay, Expression, Name};
+use ada_tree::{Assignment, Delay, Name};
 use ann_base::NoMemory;
 use legality_calls::component_assigned;
 use legality_expressions::{Readable, index_fits, names_object, owner_of_name, place_of};
 use legality_names::{denotes_object, ends_of_object, is_variable, typed_name};
-use legality_parts::value_found;
+use legality_parts::{value_found, value_found_if};
 use legality_reads::fitted;
 use legality_types::{
     broken_if, broken_unless, fits, has_type, is_copied_controlled, is_limited, operand_type,
@@ -168,22 +167,6 @@ fn target_judged(
     component_assigned(found, known, owner_of_name(known, name))
 }
 
-/// The index of what is assigned.
-fn index_found(
-    alloc: Global,
-    found: &mut List<Finding>,
-    known: &Known<'_, '_>,
-    t: Option<AdaType>,
-    index: &Option<Expression>,
-) -> Result<(), NoMemory>
-    ensures { OnOk result (found.new ≡ found.old ++ found_if (value_found t) index.now known.now) }
-{
-    match index {
-        None => Ok(()),
-        Some(index) => value_found(alloc, found, known, t, index),
-    }
-}
-
 /// An assignment.
 #[tactic(auto, unfolding(ada_legality::specs::SimpleStatements::assignment_found))]
 pub fn assignment_found(
@@ -198,7 +181,7 @@ pub fn assignment_found(
     let has_index = assignment.index.is_some();
     target_judged(found, known, name, has_index)?;
     let t = type_of_index_of(known, name);
-    index_found(alloc, found, known, t, &assignment.index)?;
+    value_found_if(alloc, found, known, t, &assignment.index)?;
     let read = assignment.value.read(alloc, found, known)?;
     let target = typed_target(known, name, has_index);
     assignment_judged(found, known, name, target, &read)

@@ -4,8 +4,9 @@ ghost use Rattle.ada_legality.specs.Values.{is_denoted};
 ghost use Rattle.ada_legality.specs.Attributes.{kind_of_identifier};
 ghost use Rattle.ada_regions.specs.Completions.{holds_of};
 ghost use Rattle.ada_legality.specs.Words.{any_in_body, any_in_sequence};
-ghost use Rattle.ada_legality.specs.CallStatements.{condition_found, found_if, value_alone_found};
-ghost use Rattle.ada_legality.specs.SimpleStatements.{is_loop, same_entities, is_loop_named, is_label_kind, exit_judged, exit_found, function_of, function_around, is_package_around, stands_in_package, same_truth, returned, return_judged, result_expected, return_found, is_handler, is_exception_kind, is_exception_item, denotes_exception, raise_found};
+ghost use Rattle.ada_legality.specs.CallStatements.{condition_found, found_if};
+ghost use Rattle.ada_image.specs.ReadExpressions.{same_truth};
+ghost use Rattle.ada_legality.specs.SimpleStatements.{is_loop, same_entities, is_loop_named, is_label_kind, exit_judged, exit_found, function_of, function_around, is_package_around, stands_in_package, returned, return_judged, result_expected, return_found, is_handler, is_exception_kind, is_exception_item, denotes_exception, raise_found};
 
 use ada_entities::{denoted_by, entity_denoted};
 use ada_legality::{Around, Finding, Known, Rule, SubprogramAround};
@@ -14,7 +15,7 @@ use ada_tree::{Exit, Expression, Identifier, Name};
 use ann_base::{NoMemory, Place};
 use legality_expressions::place_of;
 use legality_names::{denoted_kind, is_accept, is_body, kind_of_identifier, sequence_around};
-use legality_parts::{condition_found, value_alone_found};
+use legality_parts::{condition_found, value_alone_found_if};
 use legality_types::{broken_unless, note};
 use std::alloc::Global;
 use world_tables::List;
@@ -255,22 +256,6 @@ fn result_expected(function: Option<SubprogramAround>) -> Option<AdaType>
     }
 }
 
-/// The value of a return.
-fn result_found(
-    alloc: Global,
-    found: &mut List<Finding>,
-    known: &Known<'_, '_>,
-    t: Option<AdaType>,
-    value: &Option<Expression>,
-) -> Result<(), NoMemory>
-    ensures { OnOk result (found.new ≡ found.old ++ found_if (value_alone_found t) value.now known.now) }
-{
-    match value {
-        None => Ok(()),
-        Some(value) => value_alone_found(alloc, found, known, t, value),
-    }
-}
-
 /// A return.
 #[tactic(auto, unfolding(ada_legality::specs::SimpleStatements::return_found))]
 pub fn return_found(
@@ -284,7 +269,7 @@ pub fn return_found(
 {
     let function = function_around(known);
     return_judged(found, known, place, value.is_some(), function)?;
-    result_found(alloc, found, known, result_expected(function), value)
+    value_alone_found_if(alloc, found, known, result_expected(function), value)
 }
 
 fn is_handler(around: Around) -> bool

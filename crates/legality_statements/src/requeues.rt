@@ -13,7 +13,7 @@ ghost use Rattle.legality_statements.specs.Formals.{same_along, same_beside};
 
 use ada_entities::{denoted_by, kind_at};
 use ada_legality::{Around, Finding, Known, Rule};
-use ada_regions::{AdaType, Denoted, EntityKind, Formal, Mode};
+use ada_regions::{AdaType, Denoted, EntityKind, Formal};
 use ada_tree::{Name, OneOrMore};
 use ann_base::{NoMemory, Place};
 use legality_expressions::{is_unclear_object, place_of};
@@ -21,6 +21,7 @@ use legality_names::{
     denotes_value, innermost_unit, is_accept, is_body, is_entry_kind, is_task_object, is_type_in,
     kind_of_name, object_prefix, sequence_around, stands_in_unit, unit_type_of_entry,
 };
+use legality_profiles::same_mode;
 use legality_types::{broken_if, broken_unless, same_type_if};
 use profile_machine::EntryUnit;
 use world_tables::List;
@@ -221,17 +222,6 @@ fn type_of_formal(formal: &Formal) -> Option<AdaType>
     match formal.subtype {
         None => None,
         Some(subtype) => Some(subtype.of_type),
-    }
-}
-
-fn same_mode(a: Mode, b: Mode) -> bool
-    ensures { result ≡ same_mode a b }
-{
-    match (a, b) {
-        (Mode::In, Mode::In) => true,
-        (Mode::Out, Mode::Out) => true,
-        (Mode::InOut, Mode::InOut) => true,
-        _ => false,
     }
 }
 

@@ -2,25 +2,20 @@
 ghost use Rattle.std.specs.Prelude.{◌≡◌, ◌++◌, IfOk, OnOk, option_copied, option_map, unwrap_or, false};
 ghost use Rattle.std.specs.List.{list_any};
 ghost use Rattle.std.specs.Str.{bytes_eq};
-ghost use Rattle.ada_regions.specs.Words.{and_then, same_place};
-ghost use Rattle.ada_regions.specs.Names.{entity_at, kind_at};
-ghost use Rattle.ada_regions.specs.Completions.{is_specified, specified_number};
-ghost use Rattle.ada_image.specs.Layout.{subtype_is};
-ghost use Rattle.ada_image.specs.UnitsOfImage.{has_one_of_type, is_derived, is_in_out, is_of_type};
+ghost use Rattle.ada_regions.specs.Words.{same_place};
+ghost use Rattle.ada_regions.specs.Names.{entity_at};
 ghost use Rattle.ada_legality.specs.Declarations.{completes_declaration, controlled_names, declares_here, is_operation_name, is_overriding, is_specified_name, looks_overriding, numbered_of, of_controlled_type, overrides_any, overrides_some, overrides_type, overrides_wrongly, overriding_judged};
 
-use ada_entities::{entity_at, entity_denoted, kind_at, same_place};
+use ada_completions::is_specified;
+use ada_entities::{entity_at, entity_denoted, same_place};
 use ada_legality::{Finding, Known, Rule};
-use ada_regions::{
-    AdaType, EntityKind, Formal, Mode, Names, NumberedControlled, NumberedSubprogram, Subtype,
-};
+use ada_regions::{EntityKind, Formal, Names, NumberedControlled, NumberedSubprogram};
 use ada_tree::{Identifier, Parameter, SubprogramSpecification};
 use ann_base::{NoMemory, Place};
-use image_layout::added;
+use image_layout::{added, has_one_of_type};
 use legality_names::{formals_of_subprogram, kind_of_identifier};
 use legality_parts::type_of_mark;
 use legality_types::{broken_if, is_controlled_type};
-use profile_machine::SubprogramNo;
 use world_tables::List;
 
 /// A subprogram begins with `overriding`, where it has the word.
@@ -42,54 +37,6 @@ fn is_controlled_name(name: &[u8], is_limited: bool) -> bool
     } else {
         name == b"initialize".as_slice()
             || (name == b"finalize".as_slice() || name == b"adjust".as_slice())
-    }
-}
-
-fn is_derived(number: u32, of_type: AdaType) -> bool
-    ensures { result ≡ is_derived number of_type }
-{
-    match of_type {
-        AdaType::Derived(other) => other.0 == number,
-        _ => false,
-    }
-}
-
-fn subtype_is_derived(number: u32, subtype: Option<Subtype>) -> bool
-    ensures { result ≡ subtype_is (is_derived number) subtype }
-{
-    match subtype {
-        None => false,
-        Some(subtype) => is_derived(number, subtype.of_type),
-    }
-}
-
-fn is_in_out(mode: Mode) -> bool
-    ensures { result ≡ is_in_out mode }
-{
-    match mode {
-        Mode::In => false,
-        Mode::Out => false,
-        Mode::InOut => true,
-    }
-}
-
-/// Whether it is an `in out` parameter of a controlled type.
-#[tactic(auto, unfolding(ada_image::specs::UnitsOfImage::is_of_type))]
-fn is_of_type(number: u32, formal: &Formal) -> bool
-    ensures { result ≡ is_of_type number formal.now }
-{
-    is_in_out(formal.mode) && subtype_is_derived(number, formal.subtype)
-}
-
-/// Whether there is such a parameter and no other.
-#[tactic(auto, unfolding(ada_image::specs::UnitsOfImage::has_one_of_type))]
-fn has_one_of_type(number: u32, formals: &[Formal]) -> bool
-    ensures { result ≡ has_one_of_type number formals.now }
-{
-    match formals {
-        [] => false,
-        [formal] => is_of_type(number, formal),
-        [_, _, ..] => false,
     }
 }
 
@@ -165,45 +112,6 @@ pub(crate) fn is_overriding(known: &Known<'_, '_>, name: &Identifier) -> Result<
         None => Ok(false),
         Some(kind) => overrides_any(known.names.get(), kind),
     }
-}
-
-fn specified_number(kind: &EntityKind) -> Option<SubprogramNo>
-    ensures { result ≡ specified_number kind.now }
-{
-    match kind {
-        EntityKind::Package => None,
-        EntityKind::Main => None,
-        EntityKind::Mark(_) => None,
-        EntityKind::Literal { .. } => None,
-        EntityKind::Object { .. } => None,
-        EntityKind::Parameter { .. } => None,
-        EntityKind::LoopParameter(_) => None,
-        EntityKind::Component { .. } => None,
-        EntityKind::Exception(_) => None,
-        EntityKind::Subprogram {
-            number,
-            specified,
-            ..
-        } => { if *specified { Some(*number) } else { None } }
-        EntityKind::Entry { .. } => None,
-        EntityKind::Label => None,
-    }
-}
-
-/// The number of an entity that a subprogram declaration declares.
-fn number_specified(names: &Names<'_>, entity: u32) -> Option<SubprogramNo>
-    ensures { result ≡ and_then (kind_at names.now entity) specified_number }
-{
-    match kind_at(names, entity) {
-        None => None,
-        Some(kind) => specified_number(kind),
-    }
-}
-
-fn is_specified(names: &Names<'_>, entity: u32) -> bool
-    ensures { result ≡ is_specified names.now entity }
-{
-    number_specified(names, entity).is_some()
 }
 
 /// The name of a declared procedure.

@@ -6,16 +6,14 @@ use crate::kinds::{is_discrete, is_duration, is_integer, same_type};
 use crate::operators::{result_of, result_of_one};
 use ada_legality::Typed;
 use ada_regions::{AdaType, Subtype};
-use profile_machine::{BinaryOperator, Constraint, UnaryOperator};
+use ada_subtypes::free_subtype;
+use profile_machine::{BinaryOperator, UnaryOperator};
 
 /// An expression of this type.
 pub fn typed_as(t: AdaType) -> Typed
     ensures { result ≡ typed_as t }
 {
-    Typed::OfSubtype(Subtype {
-        of_type: t,
-        range: Constraint::Free,
-    })
+    Typed::OfSubtype(free_subtype(t))
 }
 
 /// An expression of this type, or of none.

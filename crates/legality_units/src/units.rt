@@ -2,66 +2,14 @@
 ghost use Rattle.std.specs.Prelude.{◌≡◌};
 ghost use Rattle.std.specs.List.{list_any};
 ghost use Rattle.ada_regions.specs.declared.entities.Denoted.TheVariants as denotes;
-ghost use Rattle.ada_regions.specs.PredefinedUnits.{parent_unit};
 ghost use Rattle.ada_regions.specs.SelectedNames.{frame_owned_by};
-ghost use Rattle.ada_regions.specs.Visibility.{is_unit_or_parent, is_withed_by, same_denoted, stands_under};
-ghost use Rattle.ada_regions.specs.Words.{and_then};
+ghost use Rattle.ada_regions.specs.Visibility.{same_denoted};
 ghost use Rattle.ada_legality.specs.UnitsUsed.{is_usable_unit};
 
-use ada_predefined::{parent_unit, same_unit};
+use ada_predefined::same_unit;
 use ada_regions::{Denoted, Frame, Names, PredefinedUnit};
+use ada_visibility::is_withed;
 use world_tables::List;
-
-fn is_unit_or_parent(unit: PredefinedUnit, other: Option<PredefinedUnit>) -> bool
-    ensures { result ≡ is_unit_or_parent unit other }
-{
-    match other {
-        None => false,
-        Some(other) => same_unit(unit, other),
-    }
-}
-
-/// The unit in which the unit stands in which this one stands.
-fn grandparent(unit: PredefinedUnit) -> Option<PredefinedUnit>
-    ensures { result ≡ and_then (parent_unit unit) parent_unit }
-{
-    match parent_unit(unit) {
-        None => None,
-        Some(parent) => parent_unit(parent),
-    }
-}
-
-/// Whether a unit is another one, or one in which that stands.
-#[tactic(auto, unfolding(ada_regions::specs::Visibility::stands_under))]
-fn stands_under(unit: PredefinedUnit, other: PredefinedUnit) -> bool
-    ensures { result ≡ stands_under unit other }
-{
-    same_unit(unit, other)
-        || (is_unit_or_parent(unit, parent_unit(other))
-            || is_unit_or_parent(unit, grandparent(other)))
-}
-
-fn is_withed_by(unit: PredefinedUnit, clause: Denoted) -> bool
-    ensures { result ≡ is_withed_by unit clause }
-{
-    match clause {
-        Denoted::Entity(_) => false,
-        Denoted::Unit(other) => stands_under(unit, other),
-        Denoted::Item { .. } => false,
-    }
-}
-
-/// Whether a predefined unit is under one of these with clauses.
-fn is_withed(withs: &List<Denoted>, unit: PredefinedUnit) -> bool
-    ensures { result ≡ list_any (is_withed_by unit) withs.now }
-{
-    for clause in withs.iter() {
-        if is_withed_by(unit, *clause) {
-            return true;
-        }
-    }
-    false
-}
 
 /// Whether a with clause names the entity.
 #[tactic(auto, unfolding(ada_regions::specs::Visibility::same_denoted))]

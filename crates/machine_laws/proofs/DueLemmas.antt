@@ -160,7 +160,7 @@ module _ (events : Bool) where
     edits_budget = λ b f w. still w;
     sets_budget_due = λ budget w. still w;
     releases = λ h argument w. still w;
-    has_served = λ w. still w;
+    has_served = λ r w is. still w;
     sets_port = λ n value w. still w;
     masks = λ n flag w. still w;
     keeps_interrupt = λ n flag w. still w;

@@ -72,6 +72,7 @@ lines_of p said = map (λ x. event_of p x.line) (in_order said)
 abbrev pub is_told_apart : Line → Bool
 is_told_apart (said.Put name text) = true
 is_told_apart (said.Release release handler) = true
+is_told_apart (said.Served release) = true
 is_told_apart (said.Enter name object mode) = true
 is_told_apart (said.Exit name object) = true
 is_told_apart (said.Held name object mode) = true
@@ -147,7 +148,7 @@ pub record Moves (R : StepRelation) (Q : MoveRelation) : Type 0 where
   pub edits_budget : (b : ℕ) (f : Budget → Budget) (w : World) → R w [] (edit_budget b f w)
   pub sets_budget_due : (budget : Option ℕ) (w : World) → R w [] (record w { budget_due = budget })
   pub releases : (h : HandlerOf) (argument : Option ℕ) (w : World) → R w (record { part = Own; line = said.Release (suc w.drawn.releases) h } ∷ []) (add_release h argument w)
-  pub has_served : (w : World) → R w [] (serves_nothing w)
+  pub has_served : (r : Release) (w : World) → w.serving ≡ Some r → R w (own (said.Served r.number) ∷ []) (serves_nothing w)
   -- the outside: of the script only the first item that is ahead is taken, when its moment has come
   pub sets_port : (n : ℕ) (value : ℤ) (w : World) → R w [] (with_port n value w)
   pub masks : (n : ℕ) (flag : Bool) (w : World) → R w [] (with_masked n flag w)

@@ -126,7 +126,7 @@ stays_numbered = record {
   edits_budget = λ b f w h. h;
   sets_budget_due = λ budget w h. h;
   releases = λ h argument w g. (g.0, g.1, g.2, g.3, g.4, (g.5.0, Follows-behind release_number g.5.0 w.drawn.releases w.releases (record { number = suc w.drawn.releases; handler = h; argument = argument }) refl g.5.1), g.6);
-  has_served = λ w h. h;
+  has_served = λ r w is h. h;
   sets_port = λ n value w h. h;
   masks = λ n flag w h. h;
   keeps_interrupt = λ n flag w h. h;

@@ -2,7 +2,7 @@
 ghost use Rattle.std.specs.Prelude.{◌≡◌, OnOk};
 ghost use Rattle.profile_machine.specs.Frames.{frames_of};
 ghost use Rattle.profile_machine.specs.Protected.{is_action_of};
-ghost use Rattle.profile_machine.specs.Serving.{serves_nothing, end_release, close_action, may_open_abortable, wait_or_unwind, wait_for_own, resume_own, behind_action, release_object};
+ghost use Rattle.profile_machine.specs.Serving.{serves_nothing, is_served_now, serve_ends, end_release, close_action, may_open_abortable, wait_or_unwind, wait_for_own, resume_own, behind_action, release_object};
 ghost use Rattle.profile_machine.specs.Unwinding.{may_unwind};
 ghost use Rattle.profile_machine.specs.Words.{without};
 ghost use Rattle.machine_frames.specs.Did.{Did};
@@ -19,7 +19,7 @@ use machine_masters::set_deferred;
 use machine_operators::Program;
 use profile_machine::Leaving;
 use profile_machine::world::{
-    Action, Call, Cause, Line, Outcome, Part, ProtectedMark, Waiting, World,
+    Action, Call, Cause, Line, Outcome, Part, ProtectedMark, Release, Waiting, World,
 };
 use trace_text::Who;
 use world_tables::List;
@@ -30,15 +30,36 @@ fn serves_nothing(world: &mut World)
     world.serving = None;
 }
 
-/// The agent has served a release: `served`; where nothing is pending it blocks.
-#[tactic(auto, unfolding(profile_machine::specs::Serving::end_release))]
-pub fn end_release(effect: &mut Effect, n: u32) -> Result<(), NoMemory>
-    ensures { OnOk result (Did (end_release n) effect.old effect.new) }
+fn is_served_now(n: u32, serving: Option<Release>) -> bool
+    ensures { result ≡ is_served_now n serving }
+{
+    match serving {
+        None => false,
+        Some(release) => n == release.number,
+    }
+}
+
+/// `served`; where nothing is pending the agent blocks.
+#[tactic(auto, unfolding(profile_machine::specs::Serving::serve_ends))]
+fn serve_ends(effect: &mut Effect, n: u32) -> Result<(), NoMemory>
+    ensures { OnOk result (Did (serve_ends n) effect.old effect.new) }
 {
     says(effect, Part::Own, Line::Served { release: n })?;
     serves_nothing(&mut effect.world);
     if effect.world.releases.is_empty() {
         block(effect, Part::TheBlock, Who::Agent, Waiting::Release)
+    } else {
+        Ok(())
+    }
+}
+
+/// The agent has served a release: `served`. Of one that it does not serve nothing ends.
+#[tactic(auto, unfolding(profile_machine::specs::Serving::end_release))]
+pub fn end_release(effect: &mut Effect, n: u32) -> Result<(), NoMemory>
+    ensures { OnOk result (Did (end_release n) effect.old effect.new) }
+{
+    if is_served_now(n, effect.world.serving) {
+        serve_ends(effect, n)
     } else {
         Ok(())
     }

@@ -26,7 +26,7 @@ use Rattle.profile_machine.specs.Program.{next_of, declaration_of, task_unit_of}
 use Rattle.profile_machine.specs.Scopes.{home, open_scope, plainly, end_scope, cells_of, scope_in_use}
 use Rattle.profile_machine.specs.Steps.{Done, done, goes_on_with, says, changes, looks, for_each, ◌▷◌}
 use Rattle.profile_machine.specs.Tasks.{task_of, edit_task}
-use Rattle.profile_machine.specs.Tasking.{unit_of_declaration, optional_span, created_task, add_task, says_created, create_task, create, is_to_activate, top_region_of_scope, no_failure, activate_one, await_group, activate, unit_of_task, activated_task, begin_task, left_by, says_left, behind_scope, end_of_scope}
+use Rattle.profile_machine.specs.Tasking.{unit_of_declaration, optional_span, created_task, add_task, says_created, create_task, create, is_to_activate, top_region_of_scope, no_failure, activate_one, await_group, activate_group, unit_of_task, activated_task, begin_task, left_by, says_left, behind_scope, end_of_scope}
 use Rattle.profile_machine.specs.Masters.{has_activating}
 use Rattle.profile_machine.specs.Operators.{Valued}
 use Rattle.profile_machine.specs.Values.{Seen, seen_by}
@@ -94,8 +94,8 @@ module _ (p : Image) (w : World) (said : List Said) where
       ∙ ap (λ x. behind_scope p name m.purpose cells x told lines) (sym l)))
 
   -- the tasks of a declarative part are activated
-  pub group_activated : (name : Who) (s : StatementNo) (part : ℕ) (region : RegionNo) (level : ℕ) (kept : List Kept) (busy failed : Bool) (gone unfailed activated : World) (told lines : List Said) → region ≡ top_region_of_scope w name → level ≡ active_of p w name → kept ≡ map kept_of (filter (is_to_activate region part) w.tasks) → goes name (next_of p s) w said ≡ done gone told → unfailed ≡ edit_task name no_failure gone → for_each (tasks_kept kept) (activate_one p name level) unfailed told ≡ done activated lines → busy ≡ has_activating activated name → failed ≡ (task_of activated name).group_failed → activate p name s part w said ≡ await_group name busy failed activated lines
-  unfolding activate
+  pub group_activated : (name : Who) (s : StatementNo) (part : ℕ) (region : RegionNo) (level : ℕ) (kept : List Kept) (busy failed : Bool) (gone unfailed activated : World) (told lines : List Said) → region ≡ top_region_of_scope w name → level ≡ active_of p w name → kept ≡ map kept_of (filter (is_to_activate region part) w.tasks) → goes name (next_of p s) w said ≡ done gone told → unfailed ≡ edit_task name no_failure gone → for_each (tasks_kept kept) (activate_one p name level) unfailed told ≡ done activated lines → busy ≡ has_activating activated name → failed ≡ (task_of activated name).group_failed → activate_group p name s part w said ≡ await_group name busy failed activated lines
+  unfolding activate_group
   group_activated name s part region level kept busy failed gone unfailed activated told lines r l k g u a b f =
       let awaited = λ (x : Done). goes_on_with (looks (λ w'. await_group name (has_activating w' name) (task_of w' name).group_failed)) x in
       let each = λ (ts : List Task) (n : ℕ) (x : World). for_each ts (activate_one p name n) x told in

@@ -2,10 +2,11 @@
 ghost use Rattle.std.specs.Prelude.{◌≡◌, OnOk};
 ghost use Rattle.profile_machine.specs.Frames.{frames_of};
 ghost use Rattle.profile_machine.specs.Tasks.{edit_task};
-ghost use Rattle.profile_machine.specs.Tasking.{region_of_frames, top_region_of_scope, await_group, no_failure, activate, end_own_activation};
+ghost use Rattle.profile_machine.specs.Tasking.{region_of_frames, top_region_of_scope, await_group, no_failure, activate_group, activate, end_own_activation};
 ghost use Rattle.machine_frames.specs.Did.{Did};
 
 use crate::beginning::{activate_all, all_to_activate};
+use crate::creation::bars_tasks;
 use crate::falling::fall_from;
 use ann_base::{NoMemory, Raised, RegionNo};
 use machine_controlled::region_or_none;
@@ -69,9 +70,9 @@ fn await_group(
     }
 }
 
-/// The tasks that a declarative part made are activated: they become ready, in order of number, and
-/// the activator waits for the end of their activations (9.2).
-pub fn activate(
+// The tasks that a declarative part made become ready, in order of number, and the activator waits for
+// the end of their activations.
+fn activate_group(
     alloc: Global,
     p: &Program,
     effect: &mut Effect,
@@ -79,7 +80,7 @@ pub fn activate(
     s: StatementNo,
     declarative_part: u32,
 ) -> Result<(), NoMemory>
-    ensures { OnOk result (Did (activate p.now name s declarative_part) effect.old effect.new) }
+    ensures { OnOk result (Did (activate_group p.now name s declarative_part) effect.old effect.new) }
 {
     let region = top_region_of_scope(&effect.world, name);
     let level = active_of(p, &effect.world, name);
@@ -90,6 +91,25 @@ pub fn activate(
     let activating = has_activating(&effect.world, name);
     let failed = has_group_failed(&effect.world, name);
     await_group(effect, name, activating, failed)
+}
+
+/// The tasks that a declarative part made are activated (9.2). Program_Error is raised where no task
+/// may be created either: inside a protected action, and wherever abort is deferred.
+#[tactic(auto, unfolding(profile_machine::specs::Tasking::activate))]
+pub fn activate(
+    alloc: Global,
+    p: &Program,
+    effect: &mut Effect,
+    name: Who,
+    s: StatementNo,
+    declarative_part: u32,
+) -> Result<(), NoMemory>
+    ensures { OnOk result (Did (activate p.now name s declarative_part) effect.old effect.new) }
+{
+    if bars_tasks(&effect.world, name) {
+        return raises(effect, Part::Own, name, Raised::Program);
+    }
+    activate_group(alloc, p, effect, name, s, declarative_part)
 }
 
 /// The end of a task's own activation: it goes to the head where its active priority falls.

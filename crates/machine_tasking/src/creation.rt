@@ -201,8 +201,8 @@ fn asks_span(
     }
 }
 
-// Inside a protected action, and wherever abort is deferred.
-fn may_not_create(world: &World, name: Who) -> bool
+// No task is created or activated inside a protected action, and wherever abort is deferred.
+pub fn bars_tasks(world: &World, name: Who) -> bool
     ensures { result ≡ (in_protected world.now name || is_deferred world.now name) }
 {
     in_protected(world, name) || is_deferred(world, name)
@@ -228,7 +228,7 @@ pub fn create(
 ) -> Result<(), NoMemory>
     ensures { OnOk result (Did (create p.now name s d declarative_part) effect.old effect.new) }
 {
-    if may_not_create(&effect.world, name) {
+    if bars_tasks(&effect.world, name) {
         return raises(effect, Part::Own, name, Raised::Program);
     }
     if is_full(&effect.world) {

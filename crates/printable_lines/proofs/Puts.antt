@@ -107,7 +107,7 @@ module _ (P : List ℕ → Type 0) where
     edits_budget = λ b f w. tt;
     sets_budget_due = λ budget w. tt;
     releases = λ h argument w. (tt, tt);
-    has_served = λ w. tt;
+    has_served = λ r w is. (tt, tt);
     sets_port = λ n value w. tt;
     masks = λ n flag w. tt;
     keeps_interrupt = λ n flag w. tt;

@@ -1,5 +1,5 @@
 -- A protected action goes on: calls that are queued are served, and then the object is released (9.5.1, 9.5.3, 9.5.4).
-use Rattle.std.specs.Prelude.{ℕ, zero, suc, Bool, true, false, not, ◌&&◌, List, ◌++◌, Option, Some, None, length, take, drop}
+use Rattle.std.specs.Prelude.{ℕ, zero, suc, Bool, true, false, eqb, not, ◌&&◌, List, ◌++◌, Option, Some, None, length, take, drop}
 use Rattle.ann_base.specs.declared.identities.CallNo.{CallNo}
 use Rattle.ann_base.specs.declared.identities.ObjectNo.{ObjectNo}
 use Rattle.ann_base.specs.declared.exceptions.Raised.{Raised}
@@ -15,6 +15,7 @@ use Rattle.profile_machine.specs.declared.run_data.Leaving.{Leaving}
 use Rattle.profile_machine.specs.declared.run_data.Leaving.TheVariants as how
 use Rattle.profile_machine.specs.declared.values.Value.{Value}
 use Rattle.profile_machine.specs.declared.world.World.{World}
+use Rattle.profile_machine.specs.declared.world.appointments.Release.{Release}
 use Rattle.profile_machine.specs.declared.world.marks.Frame.{Frame}
 use Rattle.profile_machine.specs.declared.world.marks.ProtectedMark.{ProtectedMark}
 use Rattle.profile_machine.specs.declared.world.calls.Call.{Call}
@@ -44,11 +45,19 @@ use Rattle.profile_machine.specs.Subprograms.{without_sending}
 abbrev pub serves_nothing : World → World
 serves_nothing w = record w { serving = None }
 
+abbrev pub is_served_now : ℕ → Option Release → Bool
+is_served_now n None = false
+is_served_now n (Some r) = eqb n r.number
+
 -- `served`; where nothing is pending the agent blocks
-unfoldable pub end_release : ℕ → Step
-end_release n =
+unfoldable pub serve_ends : ℕ → Step
+serve_ends n =
     says Own (line.Served n) ▷ changes serves_nothing
     ▷ looks (λ w. when (is_empty w.releases) (block TheBlock who.Agent waits_for.Release))
+
+-- of a release that the agent does not serve nothing ends
+unfoldable pub end_release : ℕ → Step
+end_release n = looks (λ w. when (is_served_now n w.serving) (serve_ends n))
 
 -- ---- the release of an object
 

@@ -162,11 +162,16 @@ await_group name false false = nothing
 abbrev pub no_failure : world.Task → world.Task
 no_failure t = record t { group_failed = false }
 
-unfoldable pub activate : Image → Who → StatementNo → ℕ → Step
-activate p name s declarative_part =
+unfoldable pub activate_group : Image → Who → StatementNo → ℕ → Step
+activate_group p name s declarative_part =
     looks (λ w. goes name (next_of p s) ▷ changes (edit_task name no_failure)
     ▷ for_each (filter (is_to_activate (top_region_of_scope w name) declarative_part) w.tasks) (activate_one p name (active_of p w name)))
     ▷ looks (λ w. await_group name (has_activating w name) (task_of w name).group_failed)
+
+-- Program_Error where no task may be created either (own)
+unfoldable pub activate : Image → Who → StatementNo → ℕ → Step
+activate p name s declarative_part =
+    looks (λ w. raise_if name (in_protected w name || is_deferred w name) exception.Program (activate_group p name s declarative_part))
 
 -- the end of a task's own activation: it goes to the head where its active priority falls
 unfoldable pub end_own_activation : Image → Who → StatementNo → Step

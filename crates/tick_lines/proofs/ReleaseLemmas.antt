@@ -37,15 +37,15 @@ use Rattle.tick_lines.proofs.LineByLine.{both, seen_behind, seen_behind-append, 
 -- ---- the releases that are pending
 
 -- the first behind this number, and each behind the one before, up to the last that was drawn
-abbrev Pending : ℕ → ℕ → List Release → Type 0
+abbrev pub Pending : ℕ → ℕ → List Release → Type 0
 Pending begun last [] = begun ≡ last
 Pending begun last (r ∷ rest) = (r.number ≡ suc begun) × Pending (suc begun) last rest
 
-Pending-behind : (begun last : ℕ) (releases : List Release) (r : Release) → r.number ≡ suc last → Pending begun last releases → Pending begun (suc last) (releases ++ r ∷ [])
+pub Pending-behind : (begun last : ℕ) (releases : List Release) (r : Release) → r.number ≡ suc last → Pending begun last releases → Pending begun (suc last) (releases ++ r ∷ [])
 Pending-behind begun last [] r e h = (e ∙ ap (λ n. suc n) (sym h), ap (λ n. suc n) h)
 Pending-behind begun last (x ∷ xs) r e h = (h.0, Pending-behind (suc begun) last xs r e h.1)
 
-Pending-within : (begun last : ℕ) (releases : List Release) → Pending begun last releases → begun ≤ last
+pub Pending-within : (begun last : ℕ) (releases : List Release) → Pending begun last releases → begun ≤ last
 Pending-within begun last [] h = omega (arith, h)
 Pending-within begun last (x ∷ xs) h = let rest : suc begun ≤ last = Pending-within (suc begun) last xs h.1 in omega arith
 
@@ -214,7 +214,7 @@ tells_releases = record {
   edits_budget = λ b f w. unmoved w;
   sets_budget_due = λ budget w. unmoved w;
   releases = λ handler argument w. ((refl, refl, refl), λ n h. Pending-behind n w.drawn.releases w.releases (record { number = suc w.drawn.releases; handler = handler; argument = argument }) refl h);
-  has_served = λ w. unmoved w;
+  has_served = λ r w is. unmoved w;
   sets_port = λ n value w. unmoved w;
   masks = λ n flag w. unmoved w;
   keeps_interrupt = λ n flag w. unmoved w;

@@ -1,5 +1,6 @@
 -- Queued calls that are served, and objects that are released: each step keeps a relation that its parts keep.
-use Rattle.std.specs.Prelude.{ℕ, zero, suc, Bool, true, false, List, [], ◌∷◌, Option, Some, None}
+use Rattle.std.specs.Prelude.{ℕ, zero, suc, Bool, true, false, List, [], ◌∷◌, ◌++◌, Option, Some, None}
+use Rattle.std.proofs.lemmas.Bool.{eqb-true}
 use Rattle.ann_base.specs.declared.identities.CallNo.{CallNo}
 use Rattle.ann_base.specs.declared.identities.ObjectNo.{ObjectNo}
 use Rattle.ann_base.specs.declared.exceptions.Raised.{Raised}
@@ -10,23 +11,29 @@ use Rattle.profile_machine.specs.declared.image.Image.{Image}
 use Rattle.profile_machine.specs.declared.run_data.Leaving.{Leaving}
 use Rattle.profile_machine.specs.declared.run_data.Leaving.TheVariants as how
 use Rattle.profile_machine.specs.declared.values.Value.{Value}
+use Rattle.profile_machine.specs.declared.world.World.{World}
+use Rattle.profile_machine.specs.declared.world.appointments.Release.{Release}
 use Rattle.profile_machine.specs.declared.world.marks.ProtectedMark.{ProtectedMark}
 use Rattle.profile_machine.specs.declared.world.calls.Call.{Call}
 use Rattle.profile_machine.specs.declared.world.calls.Outcome.{Outcome}
 use Rattle.profile_machine.specs.declared.world.calls.Sending.{Sending}
 use Rattle.profile_machine.specs.declared.world.lines.Line.TheVariants as line
-use Rattle.profile_machine.specs.declared.world.lines.Part.TheVariants.{Own}
+use Rattle.profile_machine.specs.declared.world.lines.Part.TheVariants.{Own, TheBlock}
 use Rattle.profile_machine.specs.declared.world.tasks.Cause.TheVariants as inherited_by
 use Rattle.profile_machine.specs.Frames.{pop}
 use Rattle.profile_machine.specs.Inheritance.{lose_running}
 use Rattle.profile_machine.specs.Priorities.{set_deferred}
-use Rattle.profile_machine.specs.Steps.{Step, says, changes, ◌▷◌}
+use Rattle.profile_machine.specs.declared.world.tasks.Waiting.TheVariants as waits_for
+use Rattle.trace_text.specs.declared.events.Who.TheVariants as who
+use Rattle.profile_machine.specs.Words.{is_empty}
+use Rattle.profile_machine.specs.Dispatching.{block}
+use Rattle.profile_machine.specs.Steps.{Step, says, changes, looks, when, nothing, ◌▷◌}
 use Rattle.profile_machine.specs.Protected.{served_next}
 use Rattle.profile_machine.specs.Values.{object_of}
-use Rattle.profile_machine.specs.Serving.{serves_nothing, end_release, close_action, wait_or_unwind, wait_for_own, resume_own, behind_action, release_object, settle_sent, begins_part, chosen_is_sent, serve_chosen, serve_next, serve_calls, go_on_by_mode, end_operation, finish_raised, finish_well, finish_call, end_entry_body, end_in_protected_by, end_in_protected, keep_values, keeps_sending, end_body_of_entry}
-use Rattle.std.proofs.Common.{◌≡◌, refl}
+use Rattle.profile_machine.specs.Serving.{serves_nothing, is_served_now, serve_ends, end_release, close_action, wait_or_unwind, wait_for_own, resume_own, behind_action, release_object, settle_sent, begins_part, chosen_is_sent, serve_chosen, serve_next, serve_calls, go_on_by_mode, end_operation, finish_raised, finish_well, finish_call, end_entry_body, end_in_protected_by, end_in_protected, keep_values, keeps_sending, end_body_of_entry}
+use Rattle.std.proofs.Common.{◌≡◌, refl, sym, subst}
 use Rattle.machine_laws.proofs.Moves.{StepRelation, MoveRelation, Moves, own}
-use Rattle.machine_laws.proofs.Kept.Combinators.{Keeps, Kept, Alters, changes-keeps, looks-keeps, nothing-keeps, says-keeps, then-keeps, when-keeps}
+use Rattle.machine_laws.proofs.Kept.Combinators.{Keeps, Kept, From, Alters, changes-keeps, keeps-from, looks-from, looks-keeps, then-from, nothing-keeps, says-keeps, then-keeps, when-keeps}
 use Rattle.machine_laws.proofs.Kept.Dispatching.{block-keeps}
 use Rattle.machine_laws.proofs.Kept.Frames.{edit_top-alters, pop-alters, leaves-keeps, pass_on-keeps}
 use Rattle.machine_laws.proofs.Kept.Inheritance.{lose_running-keeps}
@@ -37,13 +44,26 @@ use Rattle.machine_laws.proofs.Kept.Priorities.{set_deferred-keeps}
 use Rattle.machine_laws.proofs.Kept.Sending.{open_abortable-alters, wait_for_call-keeps, send_on-keeps, begin_abortable-keeps, sent_not_begun-keeps}
 
 module _ {R : StepRelation} {Q : MoveRelation} (moves : Moves R Q) where
-  serves_nothing-alters : Alters R serves_nothing
-  unfolding Alters
-  serves_nothing-alters w = moves.has_served w
+  -- the release that the agent serves ends, and is told
+  told_served-from : (r : Release) (n : ℕ) (w : World) → w.serving ≡ Some r → n ≡ r.number → From R w (says Own (line.Served n) ▷ changes serves_nothing)
+  unfolding From Kept
+  told_served-from r n w is e said =
+      (own (line.Served n) ∷ [], refl, subst (λ m. R w (own (line.Served m) ∷ []) (serves_nothing w)) (sym e) (moves.has_served r w is))
+
+  serve_ends-from : (r : Release) (n : ℕ) (w : World) → w.serving ≡ Some r → n ≡ r.number → From R w (serve_ends n)
+  unfolding serve_ends
+  serve_ends-from r n w is e =
+      then-from moves (says Own (line.Served n) ▷ changes serves_nothing) (looks (λ v. when (is_empty v.releases) (block TheBlock who.Agent waits_for.Release))) w
+      (told_served-from r n w is e) (search (looks-keeps, when-keeps, block-keeps))
+
+  end_served-from : (n : ℕ) (w : World) (serving : Option Release) (test : Bool) → w.serving ≡ serving → is_served_now n serving ≡ test → From R w (when test (serve_ends n))
+  end_served-from n w None true is e = cc
+  end_served-from n w (Some r) true is e = serve_ends-from r n w is (eqb-true n r.number e)
+  end_served-from n w serving false is e = keeps-from moves nothing w (nothing-keeps moves)
 
   pub end_release-keeps : (n : ℕ) → Keeps R (end_release n)
   unfolding end_release
-  end_release-keeps n = search (says-keeps, then-keeps, changes-keeps, serves_nothing-alters, looks-keeps, when-keeps, block-keeps) depth 8
+  end_release-keeps n = looks-from moves _ (λ w. end_served-from n w w.serving (is_served_now n w.serving) refl refl)
 
   told_exit-keeps : (name : Who) (o : ObjectNo) → Keeps R (says Own (line.Exit name o) ▷ changes (pop name) ▷ changes (close_action name o))
   unfolding Keeps Kept Alters

@@ -27,7 +27,7 @@ use Rattle.profile_machine.specs.Frames.{has_room, pass_on, in_protected, is_def
 use Rattle.profile_machine.specs.Scopes.{home}
 use Rattle.profile_machine.specs.Controlled.{next_to_finalize, finalize}
 use Rattle.profile_machine.specs.Declarations.{set_thing}
-use Rattle.profile_machine.specs.Tasking.{unit_of_declaration, optional_span, created_task, add_task, says_created, create_task, create, fall_from, unit_of_task, begin_task, says_done, fail_to_begin, activate_one, await_group, activate, end_own_activation, end_made, complete_if_task, wait_for_dependents, leave_region, end_environment, end_task, is_normal, end_body, behind_scope, says_left, end_of_scope, go_on_leaving, end_scope_mark_of, end_scope_mark, says_abort, abort_one, unwind_one, abort_all, abort_statement, block_at_terminate, take_terminates, unwind_all}
+use Rattle.profile_machine.specs.Tasking.{unit_of_declaration, optional_span, created_task, add_task, says_created, create_task, create, fall_from, unit_of_task, begin_task, says_done, fail_to_begin, activate_one, await_group, activate_group, activate, end_own_activation, end_made, complete_if_task, wait_for_dependents, leave_region, end_environment, end_task, is_normal, end_body, behind_scope, says_left, end_of_scope, go_on_leaving, end_scope_mark_of, end_scope_mark, says_abort, abort_one, unwind_one, abort_all, abort_statement, block_at_terminate, take_terminates, unwind_all}
 use Rattle.std.proofs.Common.{◌≡◌, refl, sym, ap, ◌∙◌}
 use Rattle.profile_machine.specs.Values.{seen_by}
 use Rattle.machine_laws.proofs.Moves.{StepRelation, MoveRelation, Moves}
@@ -101,9 +101,13 @@ module _ {R : StepRelation} {Q : MoveRelation} (moves : Moves R Q) where
   await_group-keeps name false true = search (raises-keeps)
   await_group-keeps name false false = search (nothing-keeps)
 
+  activate_group-keeps : (p : Image) (name : Who) (s : StatementNo) (part : ℕ) → Keeps R (activate_group p name s part)
+  unfolding activate_group
+  activate_group-keeps p name s part = search (looks-keeps, goes-keeps, then-keeps, changes-keeps, edit_task-alters, for_each-keeps, activate_one-keeps, await_group-keeps) depth 9
+
   pub activate-keeps : (p : Image) (name : Who) (s : StatementNo) (part : ℕ) → Keeps R (activate p name s part)
   unfolding activate
-  activate-keeps p name s part = search (looks-keeps, goes-keeps, then-keeps, changes-keeps, edit_task-alters, for_each-keeps, activate_one-keeps, await_group-keeps) depth 9
+  activate-keeps p name s part = search (looks-keeps, raise_if-keeps, activate_group-keeps)
 
   pub end_own_activation-keeps : (p : Image) (name : Who) (s : StatementNo) → Keeps R (end_own_activation p name s)
   unfolding end_own_activation

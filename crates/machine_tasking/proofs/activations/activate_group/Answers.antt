@@ -1,7 +1,7 @@
 use Rattle.std.proofs.Common.{sym, ap, ◌∙◌}
 use Rattle.profile_machine.specs.Frames.{goes}
 use Rattle.machine_tasking.proofs.StepLemmas.{group_activated}
-use Rattle.machine_tasking.proofs.activations.activate.Goals as goal
+use Rattle.machine_tasking.proofs.activations.activate_group.Goals as goal
 
 pub returns : goal.returns
 returns c =

@@ -1,0 +1,15 @@
+-- Handlers: what the law of traces says of the lines of releases, one by one.
+use Rattle.std.specs.Prelude.{ℕ, ℤ, IsTrue, List}
+use Rattle.trace_text.specs.Queue.{Line, AtEachLine}
+use Rattle.trace_text.specs.Laws.{no_releases, see_releases, is_in_order}
+use Rattle.profile_machine.specs.declared.image.Image.{Image}
+use Rattle.profile_machine.specs.declared.run_data.Item.{Item}
+use Rattle.profile_machine.specs.Run.{run_of}
+
+-- `release`, `serve` and `served` lines each bear the numbers 1, 2, 3 and so on. No release is served before it was released
+-- or while another is served.
+abbrev pub ServedInTurn : List Line → Type 0
+ServedInTurn = AtEachLine see_releases no_releases (λ state event. IsTrue (is_in_order state event))
+
+abbrev pub RunsServeInTurn : Type 0
+RunsServeInTurn = (p : Image) (script : List (ℤ × Item)) (bound : ℕ) → ServedInTurn (run_of p script bound)

@@ -1,18 +1,11 @@
 -- What failed in a later part of a call failed in the call.
-use Rattle.std.proofs.Common.{◌≤◌, ℕ, inl, inr, Result, Ok, Err, IfErr, arith}
-use Rattle.std.proofs.lemmas.Bool.{cases_lt}
+use Rattle.std.proofs.Common.{◌≤◌, ℕ, Result, Ok, Err, IfErr}
 use Rattle.ann_base.specs.declared.faults.Failed.{Failed}
 use Rattle.ann_base.specs.declared.faults.OrMemory.{OrMemory}
 use Rattle.ann_base.specs.declared.faults.OrMemory.TheVariants as answer
 use Rattle.ann_base.specs.Answers.{OfFault}
 use Rattle.ann_base.specs.Outside.{Rose}
-
-rose_later : (before middle after : ℕ) → before ≤ middle → middle ≤ after → Rose middle after → Rose before after
-rose_later before middle after low high (inl rose) = inl (omega (arith, low, rose))
-rose_later before middle after low high (inr full) = elim (cases_lt before after) [
-  | inl less ↦ inl less
-  | inr most ↦ inr (omega (arith, low, high, most, full))
-]
+use Rattle.commands.proofs.ServingScripts.{rose_later}
 
 -- the faults have risen since the call began, where they rose in its part
 pub fault_later : {X : Type 0} (r : Result X (OrMemory Failed)) (before middle after : ℕ) → before ≤ middle → middle ≤ after → Rose middle after → IfErr r (OfFault (λ _. Rose before after))

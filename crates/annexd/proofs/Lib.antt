@@ -1,4 +1,5 @@
 pub mod LaterFaults
 pub mod NoteTexts
 pub mod ResponseLines
+pub mod TalliedLines
 pub mod WordTexts

@@ -6,6 +6,7 @@ mod performing;
 mod reporting;
 mod running;
 mod scripting;
+mod summing;
 mod testing;
 #[cfg(test)]
 mod tests;

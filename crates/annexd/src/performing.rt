@@ -1,18 +1,23 @@
 //! What is done for the words.
 ghost use Rattle.std.specs.Prelude.{◌≡◌, ◌≤◌, [], Some};
-ghost use Rattle.commands.specs.Requests.{SourceAsked, seen, HasTicks, IsWork};
+ghost use Rattle.load_runs.specs.Source.{load_text};
+ghost use Rattle.commands.specs.declared.requests.TheConstants.{DEFAULT_TICKS};
+ghost use Rattle.commands.specs.declared.requests.Work.TheVariants as work;
+ghost use Rattle.commands.specs.Requests.{SourceAsked, LoadAsked, seen, HasTicks, IsWork, IsLoad};
 ghost use Rattle.commands.specs.Asked.{asked_of};
-ghost use Rattle.commands.specs.Outside.{shelf_of, sink_of};
+ghost use Rattle.commands.specs.Outside.{ShelfChange, shelf_of, sink_of};
 ghost use Rattle.commands.specs.Performed.{Performs, ServesBytes, ServesImage, without_image};
 
 use crate::running::{accepted, run};
 use crate::scripting::serve_script;
+use crate::summing::summarize;
 use crate::testing::serve_table;
 use crate::tracing::serve_trace;
 use ada_front::{Refusal, accept, long_sources_are_refused};
 use ada_lex::MAX_SOURCE;
 use ann_base::{OrMemory, Shelf, Sink};
-use commands::{Outcome, Request, Work, asked};
+use commands::{DEFAULT_TICKS, Outcome, Request, Work, asked};
+use load_runs::load_source;
 use outside_bytes::read_file;
 use profile_machine::Image;
 use std::alloc::Global;
@@ -55,8 +60,27 @@ fn serve<S: Shelf, K: Sink>(alloc: Global, request: Request, shelf: &mut S, out:
             script,
             ticks,
         } => serve_script(alloc, source, script, ticks, shelf, out),
+        Request::Load { tasks } => serve_load(alloc, tasks, out),
         Request::Table { table, test } => serve_table(alloc, table, test, shelf, out),
         Request::Trace { trace, work } => serve_trace(alloc, trace, work, shelf, out),
+    }
+}
+
+/// Makes the source of a load, and tells the summary of its run. No shelf is asked.
+fn serve_load<K: Sink>(alloc: Global, tasks: u32, out: &mut K) -> Outcome
+    requires { IsLoad tasks }
+    ensures performed { (shelf : ShelfChange) → Performs (Some (LoadAsked tasks)) shelf
+        (sink_of K.held K.faults out.old out.new) result }
+    ensures monotone_out { K.faults out.old ≤ K.faults out.new }
+{
+    match load_source(alloc, tasks) {
+        Ok(text) => {
+            let work = Work::Summary {
+                ticks: DEFAULT_TICKS,
+            };
+            serve_bytes(alloc, work, &text, out)
+        }
+        Err(_) => Outcome::NoMemory,
     }
 }
 
@@ -116,6 +140,11 @@ fn serve_image<K: Sink>(alloc: Global, work: Work, image: Image, out: &mut K) ->
 {
     match work {
         Work::Run { ticks } => match run(alloc, image, ticks, out) {
+            Ok(stop) => Outcome::Ended(stop),
+            Err(OrMemory::Fault(_)) => Outcome::WriteFault,
+            Err(OrMemory::Memory) => Outcome::NoMemory,
+        },
+        Work::Summary { ticks } => match summarize(alloc, image, ticks, out) {
             Ok(stop) => Outcome::Ended(stop),
             Err(OrMemory::Fault(_)) => Outcome::WriteFault,
             Err(OrMemory::Memory) => Outcome::NoMemory,

@@ -62,8 +62,8 @@ pub fn run_under<K: Sink>(
     }
 }
 
-/// Writes a line. After a failure a prefix of it was written.
-fn write_line<K: Sink>(out: &mut K, line: &[u8]) -> Result<(), OrMemory<Failed>>
+/// Writes a line, or several. After a failure a prefix of them was written.
+pub fn write_line<K: Sink>(out: &mut K, line: &[u8]) -> Result<(), OrMemory<Failed>>
     ensures written { OnOk result (K.held out.new ≡ extended (K.held out.old) line.now) }
     ensures prefix { OnErr result (HoldsPrefix (K.held out.old) (K.held out.new) line.now) }
     ensures monotone { K.faults out.old ≤ K.faults out.new }

@@ -301,7 +301,7 @@ fn each_write_fails_in_turn(rt: HostRuntime) -> Result<(), Fail> {
 }
 
 /// Words that are not asked for; the shelf has a file `source`.
-const REFUSED_WORDS: [&[&[u8]]; 28] = [
+const REFUSED_WORDS: [&[&[u8]]; 31] = [
     &[],
     &[b"run"],
     &[b"accept"],
@@ -324,6 +324,9 @@ const REFUSED_WORDS: [&[&[u8]]; 28] = [
     &[b"run", b"source", b"script", b"--bound", b"5"],
     &[b"run", b"source", b"script", b"--ticks", b"5", b"6"],
     &[b"accept", b"source", b"script"],
+    &[b"load"],
+    &[b"load", b"201"],
+    &[b"load", b"1", b"1"],
     &[b"rta"],
     &[b"rta", b"-source"],
     &[b"demand", b""],
@@ -372,6 +375,23 @@ fn a_run_ends_at_the_asked_tick(rt: HostRuntime) -> Result<(), Fail> {
         assert_eq!(rt; got.status, status);
         assert_eq!(rt; got.out.held(), trace);
     }
+    Ok(())
+}
+
+#[test]
+fn a_load_is_summed(rt: HostRuntime) -> Result<(), Fail> {
+    let words: [&[u8]; 2] = [b"load", b"1"];
+    let got = answer(rt.alloc(), &words, b"", 100, &[], &[])?;
+    assert_eq!(rt; got.status, 0);
+    assert_eq!(rt;
+        got.out.held(),
+        b"new 2\nready 15\nblock 12\nrun 15\nidle 10\ndone 2\nleave 1\nleft 1\nend 1\n10112 end completed\n".as_slice()
+    );
+    assert_eq!(rt; got.notes.held(), b"".as_slice());
+    let got = answer(rt.alloc(), &words, b"", 10, &[], &[2])?;
+    assert_eq!(rt; got.status, 8);
+    assert_eq!(rt; got.out.held(), b"new 2\nread".as_slice());
+    assert_eq!(rt; got.notes.held(), b"write fault\n".as_slice());
     Ok(())
 }
 

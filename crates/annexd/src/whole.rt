@@ -4,15 +4,17 @@ ghost use Rattle.ann_base.specs.Outside.{Rose, extended};
 ghost use Rattle.trace_text.specs.Laws.{DispatchOk};
 ghost use Rattle.tick_lines.specs.TickLaws.{SwitchesOk, ReleasesOk, StuckOk, follows_tick_order};
 ghost use Rattle.exclusion_laws.specs.ExclusionLaws.{EntersOk};
+ghost use Rattle.handler_laws.specs.HandlerLaws.{ServedInTurn};
 ghost use Rattle.commands.specs.Asked.{asked_of};
 ghost use Rattle.commands.specs.Outside.{shelf_of, sink_of};
 ghost use Rattle.commands.specs.Performed.{IsUnread};
-ghost use Rattle.commands.specs.Statuses.{Headline, HeadlineUnder, AcceptanceTold, TableTold, BeyondTold, TraceTold, LawsTold, ReportTold, DoneTold, LawTold, NotAccepted, NotAcceptedUnder, NoScript, ScriptRefusalTold, RefusalTold, BreachTold, TraceRefusalTold, FailureTold, TableRefusalTold, PrefixTold, NoteTried, IsStatus};
+ghost use Rattle.commands.specs.Statuses.{Headline, HeadlineUnder, LoadTold, AcceptanceTold, TableTold, BeyondTold, TraceTold, LawsTold, ReportTold, DoneTold, LawTold, NotAccepted, NotAcceptedUnder, LoadNotAccepted, NoScript, ScriptRefusalTold, RefusalTold, BreachTold, TraceRefusalTold, FailureTold, TableRefusalTold, PrefixTold, NoteTried, IsStatus};
 
 use crate::noting::conclude;
 use crate::performing::perform;
 use ann_base::{Shelf, Sink};
 use exclusion_laws::runs_exclude;
+use handler_laws::runs_serve_in_turn;
 use machine_laws::dispatching::runs_dispatch;
 use std::alloc::Global;
 use tick_lines::{
@@ -41,6 +43,10 @@ pub fn top<S: Shelf, K: Sink>(
     // The same under the items of a script that is asked for.
     ensures headline_under { HeadlineUnder (asked_of words.now)
         (shelf_of S.files S.faults shelf.old shelf.new)
+        (sink_of K.held K.faults out.old out.new)
+        (sink_of K.held K.faults notes.old notes.new) result }
+    // The same of a load: the summary of its run is written.
+    ensures loaded { LoadTold (asked_of words.now)
         (sink_of K.held K.faults out.old out.new)
         (sink_of K.held K.faults notes.old notes.new) result }
     // It is told to be accepted where that was asked for.
@@ -78,7 +84,8 @@ pub fn top<S: Shelf, K: Sink>(
         (sink_of K.held K.faults out.old out.new) result }
     // The lines of a run that is asked for keep these laws: who runs is the first of the ready queues; a protected
     // action begins only beside those that it may be open with; effects of a tick come first, then who runs, then who is
-    // served; a `run` line is a switch; releases are taken up in their order; a run is stuck only where nobody is ready.
+    // served; a `run` line is a switch; releases are taken up in their order, and one is served before the next is; a run
+    // is stuck only where nobody is ready.
     ensures dispatch { result ≤ 3 → LawTold DispatchOk (asked_of words.now)
         (shelf_of S.files S.faults shelf.old shelf.new)
         (sink_of K.held K.faults out.old out.new) }
@@ -94,6 +101,9 @@ pub fn top<S: Shelf, K: Sink>(
     ensures releases { result ≤ 3 → LawTold ReleasesOk (asked_of words.now)
         (shelf_of S.files S.faults shelf.old shelf.new)
         (sink_of K.held K.faults out.old out.new) }
+    ensures in_turn { result ≤ 3 → LawTold ServedInTurn (asked_of words.now)
+        (shelf_of S.files S.faults shelf.old shelf.new)
+        (sink_of K.held K.faults out.old out.new) }
     ensures stuck { result ≤ 3 → LawTold StuckOk (asked_of words.now)
         (shelf_of S.files S.faults shelf.old shelf.new)
         (sink_of K.held K.faults out.old out.new) }
@@ -106,6 +116,7 @@ pub fn top<S: Shelf, K: Sink>(
         (shelf_of S.files S.faults shelf.old shelf.new) result }
     ensures not_accepted_under { NotAcceptedUnder (asked_of words.now)
         (shelf_of S.files S.faults shelf.old shelf.new) result }
+    ensures load_not_accepted { LoadNotAccepted (asked_of words.now) result }
     ensures kept_4 { result ≡ 4 → K.held out.new ≡ K.held out.old }
     // 5: the script is refused, exactly where the source is accepted and it is none.
     ensures refused_script { result ≡ 5 → ScriptRefusalTold (asked_of words.now)
@@ -174,6 +185,7 @@ pub fn top<S: Shelf, K: Sink>(
     runs_are_in_tick_order();
     runs_switch();
     runs_release_in_order();
+    runs_serve_in_turn();
     runs_are_rightly_stuck();
     let outcome = perform(alloc, words, shelf, out);
     conclude(notes, outcome)

@@ -31,7 +31,10 @@ use Rattle.commands.specs.declared.outcomes.Outcome.TheVariants.{Ended, Accepted
 use Rattle.commands.specs.declared.requests.Work.{Work}
 use Rattle.commands.specs.declared.requests.TableTest.{TableTest}
 use Rattle.commands.specs.declared.requests.TraceWork.{TraceWork}
-use Rattle.commands.specs.Requests.{SourceAsked, TableAsked, TraceAsked}
+use Rattle.load_runs.specs.Source.{load_text}
+use Rattle.commands.specs.declared.requests.TheConstants.{DEFAULT_TICKS}
+use Rattle.commands.specs.declared.requests.Work.TheVariants as work
+use Rattle.commands.specs.Requests.{SourceAsked, LoadAsked, TableAsked, TraceAsked}
 use Rattle.commands.specs.Outside.{ShelfChange, SinkChange, IsKept, Gained, GainedPrefix}
 use Rattle.commands.specs.Traces.{trace_answer, verdict_answer, report_answer, file_answer}
 use Rattle.commands.specs.Performed.{text_for, outcome_for, without_image, ServesImage, ServesBytes, TestsDuties, TestsBytes, TellsTrace, Performs, IsDone, IsRefused, IsCutShort, IsTested, IsNoTable, IsTestCutShort}
@@ -135,6 +138,21 @@ bytes_served source asked shelf out bytes WriteFault law read h =
 bytes_served source asked shelf out bytes NoMemory law read (inl kept) = inl kept
 bytes_served source asked shelf out bytes NoMemory law read (inr cut) =
     inr (where_told (told shelf.files source) bytes (λ file. IsCutShort [] asked file out) read (λ file same. cut_file [] asked bytes file out law same cut))
+
+-- what is done with the source of a load is done for the words
+pub load_served : (tasks : ℕ) (shelf : ShelfChange) (out : SinkChange) (o : Outcome) → ServesBytes (work.Summary DEFAULT_TICKS) (load_text tasks) out o → Performs (Some (LoadAsked tasks)) shelf out o
+load_served tasks shelf out (Ended stop) h = h
+load_served tasks shelf out Accepted h = h
+load_served tasks shelf out (Tested failed) h = absurd h
+load_served tasks shelf out (Traced broken) h = absurd h
+load_served tasks shelf out WordsRefused h = absurd h
+load_served tasks shelf out (SourceRefused refusal) h = h
+load_served tasks shelf out (ScriptRefused fault) h = absurd h
+load_served tasks shelf out (TableRefused fault) h = absurd h
+load_served tasks shelf out (TraceRefused line) h = absurd h
+load_served tasks shelf out ReadFault h = absurd h
+load_served tasks shelf out WriteFault h = h
+load_served tasks shelf out NoMemory h = h
 
 -- ---- tables
 

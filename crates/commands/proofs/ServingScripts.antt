@@ -100,7 +100,7 @@ acceptable_file bytes file law (inl same) fits = subst IsAcceptable same fits
 acceptable_file bytes file law (inr long) fits = absurd ((law bytes long.0).1 fits.0 fits.1)
 
 -- what rose in the second part of a call rose in the call
-rose_later : (before middle after : ℕ) → before ≤ middle → middle ≤ after → Rose middle after → Rose before after
+pub rose_later : (before middle after : ℕ) → before ≤ middle → middle ≤ after → Rose middle after → Rose before after
 rose_later before middle after low high (inl rose) = inl (omega (arith, low, rose))
 rose_later before middle after low high (inr full) = elim (cases_lt before after) [
   | inl less ↦ inl less

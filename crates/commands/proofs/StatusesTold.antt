@@ -29,12 +29,14 @@ use Rattle.trace_files.specs.Reported.{formed_lines, IsFormedTrace}
 use Rattle.machine_kernel.specs.Future.{lines_of_run}
 use Rattle.profile_machine.specs.Run.{run_of}
 use Rattle.commands.specs.Traces.{trace_answer, report_answer, trace_note}
-use Rattle.commands.specs.Requests.{Asked, SourceAsked, ScriptAsked, TableAsked, TraceAsked}
+use Rattle.load_runs.specs.Source.{load_text}
+use Rattle.commands.specs.declared.requests.TheConstants.{DEFAULT_TICKS}
+use Rattle.commands.specs.Requests.{Asked, SourceAsked, ScriptAsked, LoadAsked, TableAsked, TraceAsked}
 use Rattle.commands.specs.Tests.{test_status, is_failed, NeverOver}
 use Rattle.commands.specs.Outside.{ShelfChange, SinkChange, SinkFailed, IsKept, Gained, GainedPrefix}
 use Rattle.commands.specs.Outcomes.{stop_status, status_of, note_of, refusal_text, script_note, IsNoted, Concludes}
 use Rattle.commands.specs.Performed.{text_for, outcome_for, OfAsked, OfSource, OfRun, OfNoScript, OfItems, IsAcceptable, OfTable, OfTrace, IsDone, IsRefused, IsTested, IsNoTable, IsTraced, IsNoTrace, IsFileCutShort, IsUnread, Performs}
-use Rattle.commands.specs.Statuses.{IsUndisturbed, Headline, HeadlineUnder, AcceptanceTold, IsAnswer, TableTold, IsTraceAnswer, TraceTold, LawsTold, ReportTold, BeyondTold, IsPrinted, DoneTold, WrittenKeeps, LawTold, IsStatus, NotAccepted, NotAcceptedUnder, NoScript, ScriptRefusalTold, RefusalTold, FailureTold, TableRefusalTold, BreachTold, TraceRefusalTold, IsCause, NoteTried, PrefixTold}
+use Rattle.commands.specs.Statuses.{IsUndisturbed, Headline, HeadlineUnder, LoadTold, AcceptanceTold, IsAnswer, TableTold, IsTraceAnswer, TraceTold, LawsTold, ReportTold, BeyondTold, IsPrinted, DoneTold, WrittenKeeps, LawTold, IsStatus, NotAccepted, NotAcceptedUnder, LoadNotAccepted, NoScript, ScriptRefusalTold, RefusalTold, FailureTold, TableRefusalTold, BreachTold, TraceRefusalTold, IsCause, NoteTried, PrefixTold}
 use Rattle.commands.proofs.Told.{told_map, ItemsWith, items_map}
 use Rattle.commands.proofs.Conclusions.{stop_status-small, is_refused, is_refused_script, is_failed_test, is_refused_table, is_breach, is_refused_trace, is_words, is_read_fault, is_write_fault, is_memory, concluded, known, FailedNote, failed, low}
 
@@ -109,10 +111,27 @@ trace_no_script asked shelf trace w fault is h = subst (λ x. OfNoScript x shelf
 trace_no_table : (asked : Option Asked) (shelf : ShelfChange) (trace : List ℕ) (w : TraceWork) (F : TableTest → List ℕ → Type 0) → asked ≡ Some (TraceAsked trace w) → OfTable asked shelf F → ⊥
 trace_no_table asked shelf trace w F is h = subst (λ x. OfTable x shelf F) is h
 
+-- the source of a load, and its run
+at_load : (asked : Option Asked) (shelf : ShelfChange) (tasks : ℕ) (F : Work → List ℕ → Type 0) → asked ≡ Some (LoadAsked tasks) → OfSource asked shelf F → F (work.Summary DEFAULT_TICKS) (load_text tasks)
+at_load asked shelf tasks F is h = subst (λ x. OfSource x shelf F) is h
+
+at_load_run : (asked : Option Asked) (shelf : ShelfChange) (tasks : ℕ) (F : List (ℤ × Item) → Work → List ℕ → Type 0) → asked ≡ Some (LoadAsked tasks) → OfRun asked shelf F → F [] (work.Summary DEFAULT_TICKS) (load_text tasks)
+at_load_run asked shelf tasks F is h = subst (λ x. OfRun x shelf F) is h
+
+load_no_script : (asked : Option Asked) (shelf : ShelfChange) (tasks : ℕ) (fault : ScriptFault) → asked ≡ Some (LoadAsked tasks) → OfNoScript asked shelf fault → ⊥
+load_no_script asked shelf tasks fault is h = subst (λ x. OfNoScript x shelf fault) is h
+
+load_no_table : (asked : Option Asked) (shelf : ShelfChange) (tasks : ℕ) (F : TableTest → List ℕ → Type 0) → asked ≡ Some (LoadAsked tasks) → OfTable asked shelf F → ⊥
+load_no_table asked shelf tasks F is h = subst (λ x. OfTable x shelf F) is h
+
+load_no_trace : (asked : Option Asked) (shelf : ShelfChange) (tasks : ℕ) (F : TraceWork → List ℕ → Type 0) → asked ≡ Some (LoadAsked tasks) → OfTrace asked shelf F → ⊥
+load_no_trace asked shelf tasks F is h = subst (λ x. OfTrace x shelf F) is h
+
 source_map : (asked : Option Asked) (shelf : ShelfChange) (F G : Work → List ℕ → Type 0) → ((a : Work) (bytes : List ℕ) → F a bytes → G a bytes) → OfSource asked shelf F → OfSource asked shelf G
 source_map None shelf F G f h = h
 source_map (Some (SourceAsked source a)) shelf F G f h = told_map (told shelf.files source) (F a) (G a) (f a) h
 source_map (Some (ScriptAsked source script ticks)) shelf F G f h = told_map (told shelf.files source) (F (work.Run ticks)) (G (work.Run ticks)) (f (work.Run ticks)) h
+source_map (Some (LoadAsked tasks)) shelf F G f h = f (work.Summary DEFAULT_TICKS) (load_text tasks) h
 source_map (Some (TableAsked table t)) shelf F G f h = h
 source_map (Some (TraceAsked trace w)) shelf F G f h = h
 
@@ -120,6 +139,7 @@ table_map : (asked : Option Asked) (shelf : ShelfChange) (F G : TableTest → Li
 table_map None shelf F G f h = h
 table_map (Some (SourceAsked source a)) shelf F G f h = h
 table_map (Some (ScriptAsked source script ticks)) shelf F G f h = h
+table_map (Some (LoadAsked tasks)) shelf F G f h = h
 table_map (Some (TableAsked table t)) shelf F G f h = told_map (told shelf.files table) (F t) (G t) (f t) h
 table_map (Some (TraceAsked trace w)) shelf F G f h = h
 
@@ -127,6 +147,7 @@ trace_map : (asked : Option Asked) (shelf : ShelfChange) (F G : TraceWork → Li
 trace_map None shelf F G f h = h
 trace_map (Some (SourceAsked source a)) shelf F G f h = h
 trace_map (Some (ScriptAsked source script ticks)) shelf F G f h = h
+trace_map (Some (LoadAsked tasks)) shelf F G f h = h
 trace_map (Some (TableAsked table t)) shelf F G f h = h
 trace_map (Some (TraceAsked trace w)) shelf F G f h = told_map (told shelf.files trace) (F w) (G w) (f w) h
 
@@ -210,6 +231,29 @@ undisturbed_under asked shelf out notes (TraceRefused line) status p c source sc
 undisturbed_under asked shelf out notes ReadFault status p c source script ticks bytes text image items is there beside fits read u = absurd (disturbed ReadFault notes status 7 c refl u.0 u.1)
 undisturbed_under asked shelf out notes WriteFault status p c source script ticks bytes text image items is there beside fits read u = absurd (disturbed WriteFault notes status 8 c refl u.1 u.1)
 undisturbed_under asked shelf out notes NoMemory status p c source script ticks bytes text image items is there beside fits read u = absurd (disturbed NoMemory notes status 9 c refl u.2 u.1)
+
+-- the same of a load
+undisturbed_load : (asked : Option Asked) (shelf : ShelfChange) (out notes : SinkChange) (o : Outcome) (status : ℕ) → Performs asked shelf out o → Concludes o notes status → (tasks : ℕ) (image : Image) → asked ≡ Some (LoadAsked tasks) → IsAccepted (load_text tasks) image → IsUndisturbed status →
+    Gained out (text_for [] (work.Summary DEFAULT_TICKS) image) × (status ≡ status_of (outcome_for [] (work.Summary DEFAULT_TICKS) image)) × IsKept notes
+undisturbed_load asked shelf out notes (Ended stop) status p c tasks image is fits u =
+    let told = concluded (Ended stop) notes status c u.1 in
+    served [] (work.Summary DEFAULT_TICKS) (load_text tasks) image out notes (Ended stop) status (at_load_run asked shelf tasks (λ xs x b. IsDone xs x b out (Ended stop)) is p) fits told.0 told.1
+undisturbed_load asked shelf out notes Accepted status p c tasks image is fits u =
+    let told = concluded Accepted notes status c u.1 in
+    served [] (work.Summary DEFAULT_TICKS) (load_text tasks) image out notes Accepted status (at_load_run asked shelf tasks (λ xs x b. IsDone xs x b out Accepted) is p) fits told.0 told.1
+undisturbed_load asked shelf out notes (Tested failed) status p c tasks image is fits u = absurd (load_no_table asked shelf tasks (λ t b. IsTested t b out failed) is p)
+undisturbed_load asked shelf out notes (Traced broken) status p c tasks image is fits u = absurd (load_no_trace asked shelf tasks (λ x b. IsTraced x b out broken) is p)
+undisturbed_load asked shelf out notes WordsRefused status p c tasks image is fits u = absurd (no_request asked (LoadAsked tasks) p.0 is)
+undisturbed_load asked shelf out notes (SourceRefused refusal) status p c tasks image is fits u = absurd ((at_load asked shelf tasks (λ x b. IsRefused b refusal) is p.0).never image fits)
+undisturbed_load asked shelf out notes (ScriptRefused fault) status p c tasks image is fits u = absurd (load_no_script asked shelf tasks fault is p.0)
+undisturbed_load asked shelf out notes (TableRefused fault) status p c tasks image is fits u = absurd (load_no_table asked shelf tasks (λ t b. IsNoTable fault b) is p.0)
+undisturbed_load asked shelf out notes (TraceRefused line) status p c tasks image is fits u = absurd (load_no_trace asked shelf tasks (λ x b. IsNoTrace line x b) is p.0)
+undisturbed_load asked shelf out notes ReadFault status p c tasks image is fits u = absurd (disturbed ReadFault notes status 7 c refl u.0 u.1)
+undisturbed_load asked shelf out notes WriteFault status p c tasks image is fits u = absurd (disturbed WriteFault notes status 8 c refl u.1 u.1)
+undisturbed_load asked shelf out notes NoMemory status p c tasks image is fits u = absurd (disturbed NoMemory notes status 9 c refl u.2 u.1)
+
+pub load_told : (asked : Option Asked) (shelf : ShelfChange) (out notes : SinkChange) (o : Outcome) (status : ℕ) → Performs asked shelf out o → Concludes o notes status → LoadTold asked out notes status
+load_told asked shelf out notes o status p c tasks image is fits u = undisturbed_load asked shelf out notes o status p c tasks image is fits u
 
 pub headline : (asked : Option Asked) (shelf : ShelfChange) (out notes : SinkChange) (o : Outcome) (status : ℕ) → Performs asked shelf out o → Concludes o notes status → Headline asked shelf out notes status
 headline asked shelf out notes o status p c source bytes ticks image is there fits u = undisturbed asked shelf out notes o status p c source (work.Run ticks) bytes image is there fits u
@@ -352,6 +396,7 @@ done_run (Some (SourceAsked source a)) shelf out o status h is =
 done_run (Some (ScriptAsked source script ticks)) shelf out o status h is =
     told_map (told shelf.files source) (λ bytes. OfItems shelf script (λ items. IsDone items (work.Run ticks) bytes out o)) (λ bytes. OfItems shelf script (λ items. EndedWith items (work.Run ticks) bytes out status))
     (λ bytes known. items_map shelf script (λ items. IsDone items (work.Run ticks) bytes out o) (λ items. EndedWith items (work.Run ticks) bytes out status) (λ items done. (o, done, is)) known) h
+done_run (Some (LoadAsked tasks)) shelf out o status h is = (o, h, is)
 done_run (Some (TableAsked table t)) shelf out o status h is = absurd h
 done_run (Some (TraceAsked trace w)) shelf out o status h is = absurd h
 
@@ -362,6 +407,7 @@ done_table : (asked : Option Asked) (shelf : ShelfChange) (out : SinkChange) (fa
 done_table None shelf out failed status h is zero_is = h
 done_table (Some (SourceAsked source a)) shelf out failed status h is zero_is = absurd h
 done_table (Some (ScriptAsked source script ticks)) shelf out failed status h is zero_is = absurd h
+done_table (Some (LoadAsked tasks)) shelf out failed status h is zero_is = absurd h
 done_table (Some (TableAsked table t)) shelf out failed status h is zero_is =
     (zero_is, told_map (told shelf.files table) (λ bytes. IsTested t bytes out failed) (λ bytes. IsPrinted t bytes out status) (λ bytes h. printed t bytes out failed status is h) h)
 done_table (Some (TraceAsked trace w)) shelf out failed status h is zero_is = absurd h
@@ -370,6 +416,7 @@ done_trace : (asked : Option Asked) (shelf : ShelfChange) (out : SinkChange) (st
 done_trace None shelf out status h is = h
 done_trace (Some (SourceAsked source a)) shelf out status h is = absurd h
 done_trace (Some (ScriptAsked source script ticks)) shelf out status h is = absurd h
+done_trace (Some (LoadAsked tasks)) shelf out status h is = absurd h
 done_trace (Some (TableAsked table t)) shelf out status h is = absurd h
 done_trace (Some (TraceAsked trace w)) shelf out status h is = (is, h)
 
@@ -416,10 +463,12 @@ law_by : (law : List Line → Type 0) → OfRuns law → (asked : Option Asked) 
 law_by law holds None shelf out status h = tt
 law_by law holds (Some (SourceAsked source (work.Run ticks))) shelf out status h =
     told_map (told shelf.files source) (λ bytes. EndedWith [] (work.Run ticks) bytes out status) (λ bytes. WrittenKeeps law [] ticks bytes out) (λ bytes ended. law_done law holds [] ticks bytes out ended.0 ended.1) h
+law_by law holds (Some (SourceAsked source (work.Summary ticks))) shelf out status h = tt
 law_by law holds (Some (SourceAsked source work.Accept)) shelf out status h = tt
 law_by law holds (Some (ScriptAsked source script ticks)) shelf out status h =
     told_map (told shelf.files source) (λ bytes. OfItems shelf script (λ items. EndedWith items (work.Run ticks) bytes out status)) (λ bytes. OfItems shelf script (λ items. WrittenKeeps law items ticks bytes out))
     (λ bytes known. items_map shelf script (λ items. EndedWith items (work.Run ticks) bytes out status) (λ items. WrittenKeeps law items ticks bytes out) (λ items ended. law_done law holds items ticks bytes out ended.0 ended.1) known) h
+law_by law holds (Some (LoadAsked tasks)) shelf out status h = tt
 law_by law holds (Some (TableAsked table t)) shelf out status h = tt
 law_by law holds (Some (TraceAsked trace w)) shelf out status h = tt
 
@@ -502,6 +551,22 @@ not_accepted asked shelf out notes (TraceRefused line) status p c source bytes a
 not_accepted asked shelf out notes ReadFault status p c source bytes a is there none u = absurd (disturbed ReadFault notes status 7 c refl u.0 u.1)
 not_accepted asked shelf out notes WriteFault status p c source bytes a is there none u = absurd (disturbed WriteFault notes status 8 c refl u.1 u.1)
 not_accepted asked shelf out notes NoMemory status p c source bytes a is there none u = absurd (disturbed NoMemory notes status 9 c refl u.2 u.1)
+
+pub load_not_accepted : (asked : Option Asked) (shelf : ShelfChange) (out notes : SinkChange) (o : Outcome) (status : ℕ) → Performs asked shelf out o → Concludes o notes status → LoadNotAccepted asked status
+load_not_accepted asked shelf out notes (Ended stop) status p c tasks is none u =
+    let done = at_load_run asked shelf tasks (λ xs x b. IsDone xs x b out (Ended stop)) is p in absurd (none done.image done.accepted)
+load_not_accepted asked shelf out notes Accepted status p c tasks is none u =
+    let done = at_load_run asked shelf tasks (λ xs x b. IsDone xs x b out Accepted) is p in absurd (none done.image done.accepted)
+load_not_accepted asked shelf out notes (Tested failed) status p c tasks is none u = absurd (load_no_table asked shelf tasks (λ t b. IsTested t b out failed) is p)
+load_not_accepted asked shelf out notes (Traced broken) status p c tasks is none u = absurd (load_no_trace asked shelf tasks (λ x b. IsTraced x b out broken) is p)
+load_not_accepted asked shelf out notes WordsRefused status p c tasks is none u = absurd (no_request asked (LoadAsked tasks) p.0 is)
+load_not_accepted asked shelf out notes (SourceRefused refusal) status p c tasks is none u = (concluded (SourceRefused refusal) notes status c u.1).0
+load_not_accepted asked shelf out notes (ScriptRefused fault) status p c tasks is none u = absurd (load_no_script asked shelf tasks fault is p.0)
+load_not_accepted asked shelf out notes (TableRefused fault) status p c tasks is none u = absurd (load_no_table asked shelf tasks (λ t b. IsNoTable fault b) is p.0)
+load_not_accepted asked shelf out notes (TraceRefused line) status p c tasks is none u = absurd (load_no_trace asked shelf tasks (λ x b. IsNoTrace line x b) is p.0)
+load_not_accepted asked shelf out notes ReadFault status p c tasks is none u = absurd (disturbed ReadFault notes status 7 c refl u.0 u.1)
+load_not_accepted asked shelf out notes WriteFault status p c tasks is none u = absurd (disturbed WriteFault notes status 8 c refl u.1 u.1)
+load_not_accepted asked shelf out notes NoMemory status p c tasks is none u = absurd (disturbed NoMemory notes status 9 c refl u.2 u.1)
 
 -- where a file is told another one is, or is missing
 file_there : (file : Option (List ℕ)) (F : List ℕ → Type 0) → WhereTold (file_in file) F → (text : List ℕ) × F text

@@ -1,17 +1,18 @@
--- What words ask for: `run SOURCE` and `run SOURCE SCRIPT`, each also with `--ticks N` at the end, `accept SOURCE`,
--- `rta TABLE`, `demand TABLE`, `laws TRACE` and `report TRACE`. A name is not empty and does not begin with a hyphen. N is from 1 to 1,000,000,000, in plain decimal
--- without leading zeros.
+-- What words ask for: `run SOURCE` and `run SOURCE SCRIPT`, each also with `--ticks N` at the end, `accept SOURCE`, `load N`,
+-- `rta TABLE`, `demand TABLE`, `laws TRACE` and `report TRACE`. A name is not empty and does not begin with a hyphen. N is from 1 to 1,000,000,000, of a
+-- load from 1 to 200, in plain decimal without leading zeros.
 use Rattle.std.specs.Prelude.{ℕ, ◌+◌, ◌-◌, ◌*◌, ◌==◌, nat_le, Bool, ◌&&◌, if◌then◌else◌, List, [], ◌∷◌, Option, Some, None, codes}
 use Rattle.std.specs.Option.{option_map}
 use Rattle.std.specs.Str.{bytes_eq}
 use Rattle.std.specs.Global.{Vec}
+use Rattle.load_runs.specs.declared.source.TheConstants.{MOST_TASKS}
 use Rattle.commands.specs.declared.requests.TheConstants.{DEFAULT_TICKS, MOST_TICKS}
 use Rattle.commands.specs.declared.requests.Work.TheVariants as work
 use Rattle.commands.specs.declared.requests.TableTest.{TableTest}
 use Rattle.commands.specs.declared.requests.TableTest.TheVariants as test
 use Rattle.commands.specs.declared.requests.TraceWork.{TraceWork}
 use Rattle.commands.specs.declared.requests.TraceWork.TheVariants as question
-use Rattle.commands.specs.Requests.{Asked, SourceAsked, ScriptAsked, TableAsked, TraceAsked}
+use Rattle.commands.specs.Requests.{Asked, SourceAsked, ScriptAsked, LoadAsked, TableAsked, TraceAsked}
 
 abbrev pub name_of : List ℕ → Option (List ℕ)
 name_of [] = None
@@ -59,6 +60,16 @@ accept_of [] = None
 accept_of (source ∷ []) = option_map (λ name. SourceAsked name work.Accept) (name_of source.items)
 accept_of (source ∷ more ∷ rest) = None
 
+-- a load of so many tasks, where there is such a number
+abbrev pub load_up_to : Option ℕ → Option Asked
+load_up_to None = None
+load_up_to (Some tasks) = if nat_le tasks MOST_TASKS then Some (LoadAsked tasks) else None
+
+abbrev pub load_of : List (Vec ℕ) → Option Asked
+load_of [] = None
+load_of (tasks ∷ []) = load_up_to (ticks_of tasks.items)
+load_of (tasks ∷ more ∷ rest) = None
+
 abbrev pub test_of : TableTest → List (Vec ℕ) → Option Asked
 test_of wanted [] = None
 test_of wanted (table ∷ []) = option_map (λ name. TableAsked name wanted) (name_of table.items)
@@ -74,7 +85,8 @@ asked_of [] = None
 asked_of (command ∷ rest) =
     if bytes_eq command.items (codes "run") then run_of rest
     else (if bytes_eq command.items (codes "accept") then accept_of rest
+    else (if bytes_eq command.items (codes "load") then load_of rest
     else (if bytes_eq command.items (codes "rta") then test_of test.ResponseTimes rest
     else (if bytes_eq command.items (codes "demand") then test_of test.Demand rest
     else (if bytes_eq command.items (codes "laws") then trace_of question.Laws rest
-    else (if bytes_eq command.items (codes "report") then trace_of question.Report rest else None)))))
+    else (if bytes_eq command.items (codes "report") then trace_of question.Report rest else None))))))

@@ -21,9 +21,11 @@ use Rattle.commands.specs.declared.outcomes.NoItems.{NoItems}
 use Rattle.commands.specs.declared.outcomes.NoItems.TheVariants as missing
 use Rattle.commands.specs.declared.outcomes.Outcome.{Outcome}
 use Rattle.commands.specs.declared.outcomes.Outcome.TheVariants.{Ended, Accepted, Tested, Traced, WordsRefused, SourceRefused, ScriptRefused, TableRefused, TraceRefused, ReadFault, WriteFault, NoMemory}
-use Rattle.commands.specs.Requests.{Asked, SourceAsked, ScriptAsked, TableAsked, TraceAsked}
+use Rattle.load_runs.specs.Source.{load_text}
+use Rattle.commands.specs.declared.requests.TheConstants.{DEFAULT_TICKS}
+use Rattle.commands.specs.Requests.{Asked, SourceAsked, ScriptAsked, LoadAsked, TableAsked, TraceAsked}
 use Rattle.commands.specs.Outside.{ShelfChange, SinkChange, ShelfFailed, SinkFailed, IsKept, Gained, GainedPrefix}
-use Rattle.commands.specs.Runs.{text_under, stop_under}
+use Rattle.commands.specs.Runs.{text_under, summary_under, stop_under}
 use Rattle.commands.specs.Tests.{test_text, is_failed, HoldsBeyond}
 use Rattle.commands.specs.Traces.{trace_answer}
 
@@ -31,10 +33,12 @@ use Rattle.commands.specs.Traces.{trace_answer}
 
 abbrev pub text_for : List (ℤ × Item) → Work → Image → List ℕ
 text_for items (work.Run ticks) image = text_under items image ticks
+text_for items (work.Summary ticks) image = summary_under items image ticks
 text_for items work.Accept image = codes "accepted\n"
 
 abbrev pub outcome_for : List (ℤ × Item) → Work → Image → Outcome
 outcome_for items (work.Run ticks) image = Ended (stop_under items image ticks)
+outcome_for items (work.Summary ticks) image = Ended (stop_under items image ticks)
 outcome_for items work.Accept image = Accepted
 
 -- ---- of an image
@@ -242,11 +246,13 @@ abbrev pub OfAsked : Option Asked → (Asked → Type 0) → Type 0
 OfAsked None fact = ⊥
 OfAsked (Some asked) fact = fact asked
 
--- A source is asked for, it is there, and this holds of its bytes; nothing where the shelf does not tell its files.
+-- A source is asked for, it is there, and this holds of its bytes; nothing where the shelf does not tell its files. The
+-- source of a load is made, and lies on no shelf.
 abbrev pub OfSource : Option Asked → ShelfChange → (Work → List ℕ → Type 0) → Type 0
 OfSource None shelf fact = ⊥
 OfSource (Some (SourceAsked source work)) shelf fact = WhereTold (told shelf.files source) (fact work)
 OfSource (Some (ScriptAsked source script ticks)) shelf fact = WhereTold (told shelf.files source) (fact (work.Run ticks))
+OfSource (Some (LoadAsked tasks)) shelf fact = fact (work.Summary DEFAULT_TICKS) (load_text tasks)
 OfSource (Some (TableAsked table test)) shelf fact = ⊥
 OfSource (Some (TraceAsked trace work)) shelf fact = ⊥
 
@@ -257,6 +263,7 @@ OfRun None shelf fact = ⊥
 OfRun (Some (SourceAsked source work)) shelf fact = WhereTold (told shelf.files source) (fact [] work)
 OfRun (Some (ScriptAsked source script ticks)) shelf fact =
     WhereTold (told shelf.files source) (λ bytes. OfItems shelf script (λ items. fact items (work.Run ticks) bytes))
+OfRun (Some (LoadAsked tasks)) shelf fact = fact [] (work.Summary DEFAULT_TICKS) (load_text tasks)
 OfRun (Some (TableAsked table test)) shelf fact = ⊥
 OfRun (Some (TraceAsked trace work)) shelf fact = ⊥
 
@@ -267,6 +274,7 @@ OfNoScript None shelf fault = ⊥
 OfNoScript (Some (SourceAsked source work)) shelf fault = ⊥
 OfNoScript (Some (ScriptAsked source script ticks)) shelf fault =
     WhereTold (told shelf.files source) IsAcceptable × IsNoScript shelf script fault
+OfNoScript (Some (LoadAsked tasks)) shelf fault = ⊥
 OfNoScript (Some (TableAsked table test)) shelf fault = ⊥
 OfNoScript (Some (TraceAsked trace work)) shelf fault = ⊥
 
@@ -275,6 +283,7 @@ abbrev pub OfTable : Option Asked → ShelfChange → (TableTest → List ℕ �
 OfTable None shelf fact = ⊥
 OfTable (Some (SourceAsked source work)) shelf fact = ⊥
 OfTable (Some (ScriptAsked source script ticks)) shelf fact = ⊥
+OfTable (Some (LoadAsked tasks)) shelf fact = ⊥
 OfTable (Some (TableAsked table test)) shelf fact = WhereTold (told shelf.files table) (fact test)
 OfTable (Some (TraceAsked trace work)) shelf fact = ⊥
 
@@ -283,6 +292,7 @@ abbrev pub OfTrace : Option Asked → ShelfChange → (TraceWork → List ℕ �
 OfTrace None shelf fact = ⊥
 OfTrace (Some (SourceAsked source work)) shelf fact = ⊥
 OfTrace (Some (ScriptAsked source script ticks)) shelf fact = ⊥
+OfTrace (Some (LoadAsked tasks)) shelf fact = ⊥
 OfTrace (Some (TableAsked table test)) shelf fact = ⊥
 OfTrace (Some (TraceAsked trace work)) shelf fact = WhereTold (told shelf.files trace) (fact work)
 
@@ -291,6 +301,7 @@ abbrev pub IsFileCutShort : Asked → ShelfChange → SinkChange → Type 0
 IsFileCutShort (SourceAsked source work) shelf out = WhereTold (told shelf.files source) (λ bytes. IsCutShort [] work bytes out)
 IsFileCutShort (ScriptAsked source script ticks) shelf out =
     WhereTold (told shelf.files source) (λ bytes. OfItems shelf script (λ items. IsCutShort items (work.Run ticks) bytes out))
+IsFileCutShort (LoadAsked tasks) shelf out = IsCutShort [] (work.Summary DEFAULT_TICKS) (load_text tasks) out
 IsFileCutShort (TableAsked table test) shelf out = WhereTold (told shelf.files table) (λ bytes. IsTestCutShort test bytes out)
 IsFileCutShort (TraceAsked trace work) shelf out = WhereTold (told shelf.files trace) (λ bytes. IsTraceCutShort work bytes out)
 
@@ -300,6 +311,7 @@ abbrev pub LacksNamed : Asked → ShelfChange → Type 0
 LacksNamed (SourceAsked source work) shelf = LacksFile shelf source
 LacksNamed (ScriptAsked source script ticks) shelf =
     LacksFile shelf source ⊎ (WhereTold (told shelf.files source) IsAcceptable × LacksFile shelf script)
+LacksNamed (LoadAsked tasks) shelf = ⊥
 LacksNamed (TableAsked table test) shelf = LacksFile shelf table
 LacksNamed (TraceAsked trace work) shelf = LacksFile shelf trace
 

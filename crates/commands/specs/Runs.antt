@@ -1,7 +1,8 @@
--- The text of a run and its stop.
+-- The text of a run, its summary and its stop.
 use Rattle.std.specs.Prelude.{ℕ, ℤ, List, []}
 use Rattle.trace_text.specs.declared.events.Ended.{Ended}
 use Rattle.trace_text.specs.Text.{text_of}
+use Rattle.trace_text.specs.Summary.{summary_of}
 use Rattle.profile_machine.specs.declared.run_data.Item.{Item}
 use Rattle.profile_machine.specs.declared.image.Image.{Image}
 use Rattle.machine_kernel.specs.Future.{lines_of_run, stop_of_run}
@@ -19,3 +20,7 @@ text_under items image ticks = text_of (lines_of_run image items ticks)
 
 abbrev pub stop_under : List (ℤ × Item) → Image → ℕ → Ended
 stop_under items image ticks = stop_of_run image items ticks
+
+-- how often each event word occurs in its lines, and its last line
+abbrev pub summary_under : List (ℤ × Item) → Image → ℕ → List ℕ
+summary_under items image ticks = summary_of (lines_of_run image items ticks)

@@ -27,9 +27,11 @@ use Rattle.commands.specs.declared.requests.TraceWork.{TraceWork}
 use Rattle.commands.specs.declared.requests.TraceWork.TheVariants as question
 use Rattle.commands.specs.declared.outcomes.Outcome.{Outcome}
 use Rattle.commands.specs.declared.outcomes.Outcome.TheVariants.{Ended, Accepted, Tested, Traced, WordsRefused, SourceRefused, ScriptRefused, TableRefused, TraceRefused, ReadFault, WriteFault, NoMemory}
-use Rattle.commands.specs.Requests.{Asked, SourceAsked, ScriptAsked, TableAsked, TraceAsked}
+use Rattle.load_runs.specs.Source.{load_text}
+use Rattle.commands.specs.declared.requests.TheConstants.{DEFAULT_TICKS}
+use Rattle.commands.specs.Requests.{Asked, SourceAsked, ScriptAsked, LoadAsked, TableAsked, TraceAsked}
 use Rattle.commands.specs.Outside.{ShelfChange, SinkChange, SinkFailed, IsKept, Gained, GainedPrefix}
-use Rattle.commands.specs.Runs.{text_of_run, stop_of, text_under, stop_under}
+use Rattle.commands.specs.Runs.{text_of_run, stop_of, text_under, summary_under, stop_under}
 use Rattle.commands.specs.Tests.{test_text, test_status, NeverOver}
 use Rattle.commands.specs.Traces.{verdict_answer, trace_answer, traced_status, trace_note}
 use Rattle.commands.specs.Outcomes.{stop_status, status_of, note_of, refusal_text, script_note}
@@ -56,6 +58,13 @@ HeadlineUnder asked shelf out notes status =
     asked ≡ Some (ScriptAsked source script ticks) → told shelf.files source ≡ Holds bytes → told shelf.files script ≡ Holds text →
     IsAccepted bytes image → script_of text ≡ Ok items → IsUndisturbed status →
     Gained out (text_under items image ticks) × (status ≡ stop_status (stop_under items image ticks)) × IsKept notes
+
+-- The same where they ask for a load whose source is accepted: the summary of its run up to tick 1,000,000 is written.
+abbrev pub LoadTold : Option Asked → SinkChange → SinkChange → ℕ → Type 0
+LoadTold asked out notes status =
+    (tasks : ℕ) (image : Image) →
+    asked ≡ Some (LoadAsked tasks) → IsAccepted (load_text tasks) image → IsUndisturbed status →
+    Gained out (summary_under [] image DEFAULT_TICKS) × (status ≡ stop_status (stop_of image DEFAULT_TICKS)) × IsKept notes
 
 -- The same where they ask whether a source is accepted: `accepted` and a line feed are written, and the status is 0.
 abbrev pub AcceptanceTold : Option Asked → ShelfChange → SinkChange → SinkChange → ℕ → Type 0
@@ -140,6 +149,8 @@ DoneTold (Some (SourceAsked source work)) shelf out status =
 DoneTold (Some (ScriptAsked source script ticks)) shelf out status =
     WhereTold (told shelf.files source) (λ bytes. OfItems shelf script (λ items.
     (outcome : Outcome) × IsDone items (work.Run ticks) bytes out outcome × (status ≡ status_of outcome)))
+DoneTold (Some (LoadAsked tasks)) shelf out status =
+    (outcome : Outcome) × IsDone [] (work.Summary DEFAULT_TICKS) (load_text tasks) out outcome × (status ≡ status_of outcome)
 DoneTold (Some (TableAsked table test)) shelf out status =
     (status ≡ 0) × WhereTold (told shelf.files table) (λ bytes. IsPrinted test bytes out status)
 DoneTold (Some (TraceAsked trace work)) shelf out status =
@@ -160,9 +171,11 @@ pub record WrittenKeeps (law : List Line → Type 0) (items : List (ℤ × Item)
 abbrev pub LawTold : (List Line → Type 0) → Option Asked → ShelfChange → SinkChange → Type 0
 LawTold law None shelf out = Unit {0}
 LawTold law (Some (SourceAsked source (work.Run ticks))) shelf out = WhereTold (told shelf.files source) (λ bytes. WrittenKeeps law [] ticks bytes out)
+LawTold law (Some (SourceAsked source (work.Summary ticks))) shelf out = Unit {0}
 LawTold law (Some (SourceAsked source work.Accept)) shelf out = Unit {0}
 LawTold law (Some (ScriptAsked source script ticks)) shelf out =
     WhereTold (told shelf.files source) (λ bytes. OfItems shelf script (λ items. WrittenKeeps law items ticks bytes out))
+LawTold law (Some (LoadAsked tasks)) shelf out = Unit {0}
 LawTold law (Some (TableAsked table test)) shelf out = Unit {0}
 LawTold law (Some (TraceAsked trace work)) shelf out = Unit {0}
 
@@ -182,6 +195,11 @@ abbrev pub NotAcceptedUnder : Option Asked → ShelfChange → ℕ → Type 0
 NotAcceptedUnder asked shelf status =
     (source bytes script : List ℕ) (ticks : ℕ) → asked ≡ Some (ScriptAsked source script ticks) → told shelf.files source ≡ Holds bytes →
     ((image : Image) → IsAccepted bytes image → ⊥) → IsUndisturbed status → status ≡ 4
+
+-- The same of the source of a load.
+abbrev pub LoadNotAccepted : Option Asked → ℕ → Type 0
+LoadNotAccepted asked status =
+    (tasks : ℕ) → asked ≡ Some (LoadAsked tasks) → ((image : Image) → IsAccepted (load_text tasks) image → ⊥) → IsUndisturbed status → status ≡ 4
 
 -- Status 4 comes only where a source is asked for, it is there, and its bytes are not accepted, and the note tells the
 -- first reason.

@@ -2,9 +2,10 @@
 ghost use Rattle.std.specs.Prelude.{◌≡◌, ◌≤◌, ◌<◌, IfSome};
 ghost use Rattle.std.specs.Option.{option_map, option_copied};
 ghost use Rattle.commands.specs.Requests.{seen, HasTicks};
-ghost use Rattle.commands.specs.Asked.{asked_of, run_of, run_up_to, run_under, accept_of, test_of, trace_of, name_of, ticks_of, ticks_from};
+ghost use Rattle.commands.specs.Asked.{asked_of, run_of, run_up_to, run_under, accept_of, load_of, load_up_to, test_of, trace_of, name_of, ticks_of, ticks_from};
 
 use crate::requests::{DEFAULT_TICKS, MOST_TICKS, Request, TableTest, TraceWork, Work};
+use load_runs::MOST_TASKS;
 
 /// What the words behind the program's name ask for; None for words that are refused.
 pub fn asked(words: &[Vec<u8>]) -> Option<Request>
@@ -19,6 +20,8 @@ pub fn asked(words: &[Vec<u8>]) -> Option<Request>
                 run_of(rest)
             } else if command.as_slice() == b"accept".as_slice() {
                 accept_of(rest)
+            } else if command.as_slice() == b"load".as_slice() {
+                load_of(rest)
             } else if command.as_slice() == b"rta".as_slice() {
                 test_of(TableTest::ResponseTimes, rest)
             } else if command.as_slice() == b"demand".as_slice() {
@@ -95,6 +98,33 @@ fn accept_of(words: &[Vec<u8>]) -> Option<Request>
     }
 }
 
+/// `N`.
+fn load_of(words: &[Vec<u8>]) -> Option<Request>
+    ensures asked { option_map seen result ≡ load_of words.now }
+    ensures ticks { IfSome result (λ request. HasTicks (seen request)) }
+{
+    match words {
+        [word] => load_up_to(ticks_of(word)),
+        _ => None,
+    }
+}
+
+/// A load of so many tasks, where there is such a number.
+fn load_up_to(number: Option<u64>) -> Option<Request<'static>>
+    requires { IfSome number (λ n. (0 < n) × (n ≤ MOST_TICKS)) }
+    ensures asked { option_map seen result ≡ load_up_to number }
+    ensures ticks { IfSome result (λ request. HasTicks (seen request)) }
+{
+    let tasks = number?;
+    if tasks <= MOST_TASKS as u64 {
+        Some(Request::Load {
+            tasks: tasks as u32,
+        })
+    } else {
+        None
+    }
+}
+
 /// `TABLE`.
 fn test_of(test: TableTest, words: &[Vec<u8>]) -> Option<Request>
     ensures asked { option_map seen result ≡ test_of test words.now }
@@ -134,7 +164,7 @@ fn file_name(word: &[u8]) -> Option<&[u8]>
     }
 }
 
-/// A number of ticks in plain decimal, from 1 to `MOST_TICKS`, without leading zeros.
+/// A number of ticks or tasks in plain decimal, from 1 to `MOST_TICKS`, without leading zeros.
 fn ticks_of(word: &[u8]) -> Option<u64>
     ensures ticks { result ≡ ticks_of word.now }
     ensures bounds { IfSome result (λ n. (0 < n) × (n ≤ MOST_TICKS)) }

@@ -11,6 +11,8 @@ pub const MOST_TICKS: u64 = 1_000_000_000;
 pub enum Work {
     /// `run`: the trace of its run up to this many ticks, from 1 to `MOST_TICKS`.
     Run { ticks: u64 },
+    /// The summary of its run up to this many ticks, from 1 to `MOST_TICKS`.
+    Summary { ticks: u64 },
     /// `accept`: whether it is accepted.
     Accept,
 }
@@ -47,6 +49,10 @@ pub enum Request<'a> {
         source: &'a [u8],
         script: &'a [u8],
         ticks: u64,
+    },
+    /// `load N`: the summary of the run of a load of so many tasks, from 1 to `MOST_TASKS`, up to `DEFAULT_TICKS` ticks.
+    Load {
+        tasks: u32,
     },
     /// `rta TABLE` and `demand TABLE`.
     Table {

@@ -63,6 +63,11 @@ unfolding future
 next-future old now j k stands passes idles (Ok x) step told = told-future old now (shown j) (shown k) (kernel-moves j stands passes idles) step told
 next-future old now j k stands passes idles (Err e) step told = tt
 
+pub next-lines : (j k : Kernel) → InstantsTakeNoTime → TocksTakeOneTick → IdleStretches → (r : Result Next NoMemory) → OnOk r (shown k ≡ advanced (shown j)) → OnOk r (first_line (shown j).owed ++ future k ≡ future j)
+unfolding future
+next-lines j k stands passes idles (Ok x) step = ap (λ s. first_line (shown j).owed ++ future_of s) step ∙ advanced-future (shown j) (kernel-moves j stands passes idles)
+next-lines j k stands passes idles (Err e) step = tt
+
 pub next-stop : (j k : Kernel) → InstantsTakeNoTime → TocksTakeOneTick → IdleStretches → (r : Result Next NoMemory) → OnOk r (shown k ≡ advanced (shown j)) → OnOk r (stop_to_come k ≡ stop_to_come j)
 unfolding stop_to_come
 next-stop j k stands passes idles (Ok x) step = told-stop (shown j) (shown k) (kernel-moves j stands passes idles) step

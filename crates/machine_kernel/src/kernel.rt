@@ -68,10 +68,10 @@ impl Drop for Kernel {
 
 impl Kernel {
     ghost use Rattle.std.specs.Prelude.{◌++◌, OnOk, IfOk, OnErr};
-    ghost use Rattle.trace_text.specs.Text.{text_of};
+    ghost use Rattle.trace_text.specs.Text.{ArePrintable, text_of};
     ghost use Rattle.machine_kernel.specs.Kernel.{shown, future, stop_to_come, left_to_do};
     ghost use Rattle.machine_kernel.specs.Next.{IfGoing, IfEnded};
-    ghost use Rattle.machine_kernel.specs.Future.{advanced, opened, goes_by, after_instant, after_tock, unless_stopped, written_of};
+    ghost use Rattle.machine_kernel.specs.Future.{advanced, opened, goes_by, after_instant, after_tock, unless_stopped, written_of, first_line};
     ghost use Rattle.profile_machine.specs.Instant.{instant};
     ghost use Rattle.profile_machine.specs.Run.{tock};
 
@@ -110,8 +110,10 @@ impl Kernel {
         requires { length out.old + 1100 ≤ 65536 }
         ensures step { OnOk result (shown self.new ≡ advanced (shown self.old)) }
         ensures told { OnOk result (out.new ≡ out.old ++ written_of (shown self.old).owed) }
+        ensures printable { OnOk result (ArePrintable (first_line (shown self.old).owed)) }
         ensures err { OnErr result (out.new ≡ out.old) }
         ensures future { OnOk result (out.new ++ text_of (future self.new) ≡ out.old ++ text_of (future self.old)) }
+        ensures lines { OnOk result (first_line (shown self.old).owed ++ future self.new ≡ future self.old) }
         ensures stop { OnOk result (stop_to_come self.new ≡ stop_to_come self.old) }
         ensures going { IfOk result (IfGoing (left_to_do self.new < left_to_do self.old)) }
         ensures ended { IfOk result (IfEnded (λ why. (future self.old ≡ []) × (why ≡ stop_to_come self.old))) }
@@ -127,6 +129,7 @@ impl Kernel {
         requires { length out.old + 1100 ≤ 65536 }
         ensures step { OnOk result (shown self.new ≡ advanced (shown self.old)) }
         ensures told { OnOk result (out.new ≡ out.old ++ written_of (shown self.old).owed) }
+        ensures printable { OnOk result (ArePrintable (first_line (shown self.old).owed)) }
         ensures err { OnErr result (out.new ≡ out.old) }
         ensures going { IfOk result (IfGoing ((shown self.old).owed ≡ [] → (shown self.old).stop ≡ None)) }
         ensures ended { IfOk result (IfEnded (λ why. ((shown self.old).owed ≡ []) × ((shown self.old).stop ≡ Some why))) }
@@ -148,6 +151,7 @@ impl Kernel {
         requires said { self.old.said ≡ [] }
         ensures step { OnOk result (shown self.new ≡ advanced (shown self.old)) }
         ensures told { OnOk result (out.new ≡ out.old ++ written_of (shown self.old).owed) }
+        ensures printable { OnOk result (ArePrintable (first_line (shown self.old).owed)) }
         ensures err { OnErr result (out.new ≡ out.old) }
         ensures going { IfOk result (IfGoing ((shown self.old).owed ≡ [] → (shown self.old).stop ≡ None)) }
         ensures ended { IfOk result (IfEnded (λ why. ((shown self.old).owed ≡ []) × ((shown self.old).stop ≡ Some why))) }
@@ -170,6 +174,7 @@ impl Kernel {
         requires ticks { self.old.ticks ≡ [] }
         ensures step { OnOk result (shown self.new ≡ advanced (shown self.old)) }
         ensures told { OnOk result (out.new ≡ out.old ++ written_of (shown self.old).owed) }
+        ensures printable { OnOk result (ArePrintable (first_line (shown self.old).owed)) }
         ensures err { OnErr result (out.new ≡ out.old) }
         ensures going { IfOk result (IfGoing ((shown self.old).owed ≡ [] → (shown self.old).stop ≡ None)) }
         ensures ended { IfOk result (IfEnded (λ why. ((shown self.old).owed ≡ []) × ((shown self.old).stop ≡ Some why))) }

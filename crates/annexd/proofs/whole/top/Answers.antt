@@ -2,9 +2,10 @@ use Rattle.std.proofs.Common.{inl, inr, IsTrue, arith}
 use Rattle.trace_text.specs.Laws.{DispatchOk}
 use Rattle.tick_lines.specs.TickLaws.{SwitchesOk, ReleasesOk, StuckOk, follows_tick_order}
 use Rattle.exclusion_laws.specs.ExclusionLaws.{EntersOk}
+use Rattle.handler_laws.specs.HandlerLaws.{ServedInTurn}
 use Rattle.commands.specs.Asked.{asked_of}
 use Rattle.commands.specs.Outside.{shelf_of, sink_of}
-use Rattle.commands.proofs.StatusesTold.{headline, headline_under, acceptance, table_told, beyond, trace_told, laws_told, report_told, known_status, done_told, law_told, quiet, refused_source, not_accepted, not_accepted_under, refused_script, no_script, kept, words, refused_words, note_words, read_fault, note_read, write_fault, prefix_told, note_tried, note_memory, breach, quiet_breach, refused_trace, kept_refused_trace, failure, quiet_failure, refused_table, kept_refused_table}
+use Rattle.commands.proofs.StatusesTold.{headline, headline_under, load_told, acceptance, table_told, beyond, trace_told, laws_told, report_told, known_status, done_told, law_told, quiet, refused_source, not_accepted, not_accepted_under, load_not_accepted, refused_script, no_script, kept, words, refused_words, note_words, read_fault, note_read, write_fault, prefix_told, note_tried, note_memory, breach, quiet_breach, refused_trace, kept_refused_trace, failure, quiet_failure, refused_table, kept_refused_table}
 use Rattle.annexd.proofs.whole.top.Goals as goal
 
 pub returns : goal.returns
@@ -20,6 +21,7 @@ returns g c =
     record {
       headline = headline asked shelf out notes o status p n;
       headline_under = headline_under asked shelf out notes o status p n;
+      loaded = load_told asked shelf out notes o status p n;
       accepted = acceptance asked shelf out notes o status p n;
       tested = table_told asked shelf out notes o status p n;
       beyond = beyond asked shelf out notes o status p n;
@@ -33,11 +35,13 @@ returns g c =
       in_tick_order = law_told (λ lines. IsTrue (follows_tick_order lines)) c.runs_are_in_tick_order.ensures asked shelf out notes o status p n;
       switches = law_told SwitchesOk c.runs_switch.ensures asked shelf out notes o status p n;
       releases = law_told ReleasesOk c.runs_release_in_order.ensures asked shelf out notes o status p n;
+      in_turn = law_told ServedInTurn c.runs_serve_in_turn.ensures asked shelf out notes o status p n;
       stuck = law_told StuckOk c.runs_are_rightly_stuck.ensures asked shelf out notes o status p n;
       quiet = quiet o notes status n;
       refused_source = refused_source asked shelf out notes o status p n;
       not_accepted = not_accepted asked shelf out notes o status p n;
       not_accepted_under = not_accepted_under asked shelf out notes o status p n;
+      load_not_accepted = load_not_accepted asked shelf out notes o status p n;
       kept_4 = λ e. kept asked shelf out notes o status p n (omega (arith, e)) (omega (arith, e));
       refused_script = refused_script asked shelf out notes o status p n;
       no_script = no_script asked shelf out notes o status p n;

@@ -11,7 +11,7 @@ from antt import ROOT, Con, Rec, constant, definition, in_large_stack    # noqa:
 
 
 def content(path, missing=None):
-    if not os.path.exists(path):
+    if not os.path.isfile(path):
         return missing
     with open(path, "rb") as f:
         return f.read()
@@ -77,23 +77,40 @@ def stop_of(text):
     return Con(words[0].decode().capitalize(), tuple(tuple(w) for w in words[1:]))
 
 
+def load_text(tasks):
+    """The source of a load of so many tasks."""
+    return bytes(definition("load_runs.specs.Source", "load_text")(tasks))
+
+
+def summary_of_run(image, items, ticks):
+    """The summary of a run, as the contract of the program says it."""
+    return bytes(definition("commands.specs.Runs", "summary_under")(items, image, ticks))
+
+
 def performed(words, files, by_steps=False):
     """What is written to standard output and standard error for words, and the status; `files` gives a file's bytes by its
-    name, or None. A source is judged before its script is read."""
+    name, or None."""
+    out = []
+    notes, status = perform(words, files, out.append, by_steps)
+    return b"".join(out), notes, status
+
+
+def perform(words, files, write, by_steps=True):
+    """The same, where what goes to standard output is written piece by piece. A source is judged before its script is read."""
     asked = asked_of(words)
     if asked is None:
         return refused(Con("WordsRefused"))
-    source = files(bytes(asked.a[0]).decode("latin-1"))
+    if asked.n == "TableAsked":
+        raise NotImplementedError("tests of tables are not computed here: their definitions count time unit by unit")
+    source = load_text(asked.a[0]) if asked.n == "LoadAsked" else files(bytes(asked.a[0]).decode("latin-1"))
     if source is None:
         return refused(Con("ReadFault"))
     if asked.n == "TraceAsked":
-        return traced(asked.a[1], tuple(source))
-    if asked.n == "TableAsked":
-        raise NotImplementedError("tests of tables are not computed here: their definitions count time unit by unit")
+        return traced(asked.a[1], tuple(source), write)
     image, refusal = judged(source)
     if refusal is not None:
         return refused(Con("SourceRefused", (refusal,)))
-    items = ()
+    items, ticks = (), None
     if asked.n == "ScriptAsked":
         script = files(bytes(asked.a[1]).decode("latin-1"))
         if script is None:
@@ -102,22 +119,31 @@ def performed(words, files, by_steps=False):
         if fault is not None:
             return refused(Con("ScriptRefused", (fault,)))
         ticks = asked.a[2]
+    elif asked.n == "LoadAsked":
+        text = summary_of_run(image, items, default_ticks())
+        write(text)
+        return b"", status_of(Con("Ended", (stop_of(text),)))
     elif asked.a[1].n == "Accept":
-        return b"accepted\n", b"", status_of(Con("Accepted"))
+        write(b"accepted\n")
+        return b"", status_of(Con("Accepted"))
     else:
         ticks = asked.a[1].a[0]
-    text = b"".join(texts_of_run(image, items, ticks)) if by_steps else text_of_run(image, items, ticks)
-    return text, b"", status_of(Con("Ended", (stop_of(text),)))
+    last = b""
+    for text in texts_of_run(image, items, ticks) if by_steps else (text_of_run(image, items, ticks),):
+        write(text)
+        last = text or last
+    return b"", status_of(Con("Ended", (stop_of(last),)))
 
 
-def traced(work, trace):
+def traced(work, trace, write):
     """The laws or the report of a trace."""
     r = definition("commands.specs.Traces", "trace_answer")(work, trace)
     if r.n == "Err":
         return refused(Con("TraceRefused", r.a))
     text, broken = r.a[0].d["0"], r.a[0].d["1"]
-    return bytes(text), b"", status_of(Con("Traced", (broken,)))
+    write(bytes(text))
+    return b"", status_of(Con("Traced", (broken,)))
 
 
 def refused(outcome):
-    return b"", note_of(outcome), status_of(outcome)
+    return note_of(outcome), status_of(outcome)

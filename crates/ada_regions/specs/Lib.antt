@@ -14,4 +14,3 @@ pub mod Declaring
 pub mod Completions
 pub mod Regions
 pub mod Numbered
-pub mod Denoted

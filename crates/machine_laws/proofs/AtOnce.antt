@@ -7,6 +7,7 @@ use Rattle.profile_machine.specs.declared.world.World.{World}
 use Rattle.profile_machine.specs.declared.world.tasks.Task.{Task}
 use Rattle.profile_machine.specs.Tasks.{task_at, edit_task_found, edit_task}
 use Rattle.machine_laws.proofs.Moves.{Moves}
+use Rattle.machine_laws.proofs.FineMoves.{AnyWorld}
 use Rattle.machine_laws.proofs.Kept.Combinators.{Alters}
 
 -- the time, and who ran the tick before
@@ -73,6 +74,6 @@ at_once = record {
 }
 
 -- so what was later before a change is later behind it
-pub later_behind : (f : World → World) (w : World) (moment : ℤ) → Alters AtOnce f → int_lt (pos w.time) moment ≡ true → int_lt (pos (f w).time) moment ≡ true
+pub later_behind : (f : World → World) (w : World) (moment : ℤ) → Alters AnyWorld AtOnce f → int_lt (pos w.time) moment ≡ true → int_lt (pos (f w).time) moment ≡ true
 unfolding Alters
-later_behind f w moment kept later = subst (λ n. int_lt (pos n) moment ≡ true) (sym (ap (λ x. x.0) (kept w))) later
+later_behind f w moment kept later = subst (λ n. int_lt (pos n) moment ≡ true) (sym (ap (λ x. x.0) (kept w tt))) later

@@ -1,5 +1,6 @@
 pub mod ListLemmas
 pub mod Moves
+pub mod FineMoves
 mod AtOnce
 pub mod Kept
 pub mod TimeLemmas

@@ -157,8 +157,8 @@ pub record Moves (R : StepRelation) (Q : MoveRelation) : Type 0 where
 
 -- The line of a Put_Line, of which a relation may ask that the program has such a statement, and that what it puts is the
 -- text of its pieces as somebody sees them.
-pub record Puts (R : StepRelation) (p : Image) : Type 0 where
-  pub puts : (name : Who) (s : StatementNo) (pieces : List Piece) (text : List ℕ) (v w : World) → form_of p s ≡ form.PutLine pieces → text_of_pieces (seen_by p v name) pieces ≡ Ok text → R w (record { part = Own; line = said.Put name text } ∷ []) w
+pub record Puts (G : World → Type 0) (R : StepRelation) (p : Image) : Type 0 where
+  pub puts : (name : Who) (s : StatementNo) (pieces : List Piece) (text : List ℕ) (v w : World) → G w → form_of p s ≡ form.PutLine pieces → text_of_pieces (seen_by p v name) pieces ≡ Ok text → R w (record { part = Own; line = said.Put name text } ∷ []) w
 
 -- what a tock does besides, up to its tick: it says its lines, and the agent takes up the first release that is pending
 pub record TockMoves (Q : MoveRelation) : Type 0 where

@@ -14,6 +14,7 @@ use Rattle.profile_machine.specs.Steps.{is_part_before, put_in_order, in_order}
 use Rattle.profile_machine.specs.Values.{seen_by}
 use Rattle.profile_machine.specs.Run.{opens, blank_world, tock, stop, run_of}
 use Rattle.machine_laws.specs.LineKinds.{is_of_tock, AllAre}
+use Rattle.machine_laws.proofs.FineMoves.{finely, AnyWorld}
 use Rattle.machine_laws.proofs.Moves.{is_told_apart, AreOthers, own, Moves, Puts}
 use Rattle.machine_laws.proofs.LineLemmas.{tocks_say_ticks}
 use Rattle.machine_laws.proofs.Kept.Combinators.{Leads, settles-leads}
@@ -127,11 +128,11 @@ module _ (P : List ℕ → Type 0) where
   end-put (Some reason) = tt
 
   -- where each Put_Line of the program puts such texts, so does each run
-  parts-put : (p : Image) → Puts (λ before said after. EachSaid said) p → OfParts (OfPut P) p
+  parts-put : (p : Image) → Puts AnyWorld (λ before said after. EachSaid said) p → OfParts (OfPut P) p
   unfolding Leads
   parts-put p puts = record {
-    openings = λ script. settles-leads of_puts p (opens p) (opens-keeps of_puts p) (blank_world p script);
-    instants = λ w. instant-leads of_puts p puts w;
+    openings = λ script. settles-leads (finely of_puts) p (opens p) (opens-keeps of_puts p) (blank_world p script) tt;
+    instants = λ w. instant-leads of_puts p puts w tt;
     tocks = λ w. ticks-put (tock p w).1 (tocks_say_ticks p w);
     stops = λ bound w. end-put (stop p bound w);
     bound = tt;
@@ -139,9 +140,9 @@ module _ (P : List ℕ → Type 0) where
 
 -- ---- the laws
 
-put_of : (p : Image) → Puts (λ before said after. EachSaid (IsPutOf p) said) p
+put_of : (p : Image) → Puts AnyWorld (λ before said after. EachSaid (IsPutOf p) said) p
 put_of p = record {
-  puts = λ name s pieces text v w is e.
+  puts = λ name s pieces text v w good is e.
       let found = put_values (seen_by p v name) pieces text e in
       (record { statement = s; pieces = pieces; values = found.0; is_of = is; text_is = found.1 }, tt);
 }
@@ -149,9 +150,9 @@ put_of p = record {
 pub texts_are_of_puts : (p : Image) (script : List (ℤ × Item)) (bound : ℕ) → EachEvent (OfPut (IsPutOf p)) (run_of p script bound)
 texts_are_of_puts p script bound = run-each (parts-put (IsPutOf p) p (put_of p)) script bound
 
-short_put_of : (p : Image) → PutsAreShort p → Puts (λ before said after. EachSaid (IsShortPutOf p) said) p
+short_put_of : (p : Image) → PutsAreShort p → Puts AnyWorld (λ before said after. EachSaid (IsShortPutOf p) said) p
 short_put_of p shorts = record {
-  puts = λ name s pieces text v w is e.
+  puts = λ name s pieces text v w good is e.
       let found = put_values (seen_by p v name) pieces text e in (
         record {
           put = record { statement = s; pieces = pieces; values = found.0; is_of = is; text_is = found.1 };

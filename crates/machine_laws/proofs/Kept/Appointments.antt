@@ -8,21 +8,22 @@ use Rattle.profile_machine.specs.declared.world.World.{World}
 use Rattle.profile_machine.specs.declared.world.appointments.Due.{Due}
 use Rattle.profile_machine.specs.Steps.{changes}
 use Rattle.profile_machine.specs.Appointments.{appoint, drop_appointment, drop_delay}
-use Rattle.machine_laws.proofs.Moves.{StepRelation, MoveRelation, Moves}
+use Rattle.machine_laws.proofs.Moves.{StepRelation, MoveRelation}
+use Rattle.machine_laws.proofs.FineMoves.{GoodWorld, Naming, FineMoves}
 use Rattle.machine_laws.proofs.Kept.Combinators.{Alters, From, changes-from, unchanged-alters}
 
 -- a moment that is not past is later
 pub is_later : (now : ℕ) (moment : ℤ) → int_le moment (pos now) ≡ false → int_lt (pos now) moment ≡ true
 is_later now moment h = grind (arith, ints)
 
-module _ {R : StepRelation} {Q : MoveRelation} (moves : Moves R Q) where
-  pub appoint-from : (due : Due) (moment : ℤ) (w : World) → int_lt (pos w.time) moment ≡ true → From R w (changes (appoint due moment))
-  appoint-from due moment w later = changes-from moves (appoint due moment) w (moves.appoints due moment w later)
+module _ {G : GoodWorld} {May Other : Naming} {R : StepRelation} {Q : MoveRelation} (moves : FineMoves G May Other R Q) where
+  pub appoint-from : (due : Due) (moment : ℤ) (w : World) → G w → int_lt (pos w.time) moment ≡ true → From R w (changes (appoint due moment))
+  appoint-from due moment w good later = changes-from moves (appoint due moment) w (moves.appoints due moment w good later)
 
-  pub drop_appointment-alters : (test : Due → Bool) → Alters R (drop_appointment test)
+  pub drop_appointment-alters : (test : Due → Bool) → Alters G R (drop_appointment test)
   unfolding Alters
-  drop_appointment-alters test w = moves.drops_appointment test w
+  drop_appointment-alters test w good = moves.drops_appointment test w good
 
-  pub drop_delay-alters : (name : Who) → Alters R (drop_delay name)
+  pub drop_delay-alters : (name : Who) → Alters G R (drop_delay name)
   drop_delay-alters (who.Task t) = search (drop_appointment-alters)
   drop_delay-alters who.Agent = search (unchanged-alters)

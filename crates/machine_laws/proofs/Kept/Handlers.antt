@@ -26,18 +26,19 @@ use Rattle.profile_machine.specs.declared.world.tasks.Task as world
 use Rattle.profile_machine.specs.Program.{is_robin_level, marks_of, subprogram_of}
 use Rattle.profile_machine.specs.declared.world.lines.Part.{Part}
 use Rattle.profile_machine.specs.declared.world.lines.Part.TheVariants.{Own}
-use Rattle.profile_machine.specs.Steps.{Step, changes, looks, ◌▷◌}
-use Rattle.profile_machine.specs.Tasks.{task_of, edit_task}
-use Rattle.profile_machine.specs.Frames.{has_room}
+use Rattle.profile_machine.specs.Steps.{Step, changes, looks, ◌▷◌, says}
+use Rattle.profile_machine.specs.Tasks.{task_of, edit_task, with_frames}
+use Rattle.profile_machine.specs.Frames.{has_room, new_frame}
 use Rattle.profile_machine.specs.Values.{Seen}
 use Rattle.profile_machine.specs.CallEnds.{store}
 use Rattle.trace_text.specs.declared.events.Mode.TheVariants.{Write}
-use Rattle.profile_machine.specs.Protected.{entering, begin_action_on}
+use Rattle.profile_machine.specs.Protected.{entering, begin_action_on, new_protected_mark}
 use Rattle.profile_machine.specs.Serving.{end_release}
-use Rattle.profile_machine.specs.Handlers.{add_release, says_release, wake_agent, release, with_room_for_release, scope_size_of, begin_handler, begin_handler_if_room, enter_handler, call_handler, interrupt, setting_of, answer, cancel_event_setting, appoint_event, event_set_to, set_event, cancel_event, clear_timer, with_timer_set, timer_set_beyond, timer_set_to, set_timer, cancel_timer, edit_budget, change_member, add_member, remove_member, fill_budget, replenish, add_to_budget, set_budget, cancel_budget, clock_risen, due_by_tick, charge_budget, timers_reached, quantum_spent_by, charge_clock, charge_group, charge_task, charge}
+use Rattle.profile_machine.specs.Handlers.{add_release, says_release, wake_agent, release, with_room_for_release, scope_size_of, begin_handler, begin_handler_if_room, enter_handler, call_handler, interrupt, setting_of, answer, cancel_event_setting, appoint_event, event_set_to, set_event, cancel_event, clear_timer, with_timer_set, timer_set_beyond, timer_set_to, set_timer, cancel_timer, edit_budget, change_member, add_member, remove_member, fill_budget, replenish, add_to_budget, set_budget, cancel_budget, clock_risen, due_by_tick, charge_budget, timers_reached, quantum_spent_by, charge_clock, charge_group, charge_task, charge, handler_attached}
 use Rattle.std.proofs.Common.{◌≡◌, refl}
 use Rattle.std.specs.Prelude.{Bool}
-use Rattle.machine_laws.proofs.Moves.{StepRelation, MoveRelation, Moves, LetsIn}
+use Rattle.machine_laws.proofs.Moves.{StepRelation, MoveRelation, LetsIn, Moves}
+use Rattle.machine_laws.proofs.FineMoves.{GoodWorld, Naming, FineMoves, AnyWorld, finely, openings}
 use Rattle.machine_laws.proofs.Kept.Combinators.{Keeps, Kept, From, Alters, either-from, looks_at-from, then-from, changes-keeps, for_some-keeps, keeps-from, looks-from, looks-keeps, nothing-keeps, says-keeps, sees-keeps, then-keeps, unchanged-alters}
 use Rattle.machine_laws.proofs.Kept.Frames.{becomes-from, goes-keeps, given-keeps, raise_if-keeps}
 use Rattle.machine_laws.proofs.Kept.Tasks.{edit_task-alters}
@@ -49,175 +50,211 @@ use Rattle.machine_laws.proofs.Kept.Protected.{find_held-from, begin_action_on-f
 use Rattle.machine_laws.proofs.Kept.Entering.{entering-inside, entering-held}
 use Rattle.machine_laws.proofs.Kept.Serving.{end_release-keeps}
 
+spent-who : (robin : Bool) (t : world.Task) → (cond robin (record t { quantum = t.quantum - 1 }) t).who ≡ t.who
+spent-who true t = refl
+spent-who false t = refl
+
+spent-frames : (robin : Bool) (t : world.Task) → (cond robin (record t { quantum = t.quantum - 1 }) t).frames ≡ t.frames
+spent-frames true t = refl
+spent-frames false t = refl
+
+spent-state : (robin : Bool) (t : world.Task) → (cond robin (record t { quantum = t.quantum - 1 }) t).state ≡ t.state
+spent-state true t = refl
+spent-state false t = refl
+
+spent-master : (robin : Bool) (t : world.Task) → (cond robin (record t { quantum = t.quantum - 1 }) t).master ≡ t.master
+spent-master true t = refl
+spent-master false t = refl
+
+-- a release comes, and the agent becomes ready where it was blocked; the handler of one that is served is called
+pub record Releasing (G : GoodWorld) (R : StepRelation) : Type 0 where
+  pub releases : (p : Image) (h : HandlerOf) (argument : Option ℕ) → Keeps G R (release p Own h argument)
+
+-- ---- where anybody may be changed
+
 module _ {R : StepRelation} {Q : MoveRelation} (moves : Moves R Q) where
   -- a release is drawn, and told
-  told_release-keeps : (h : HandlerOf) (argument : Option ℕ) → Keeps R (changes (add_release h argument) ▷ says_release Own h)
+  told_release-keeps : (h : HandlerOf) (argument : Option ℕ) → Keeps AnyWorld R (changes (add_release h argument) ▷ says_release Own h)
   unfolding Keeps Kept says_release
-  told_release-keeps h argument w said = (record { part = Own; line = line.Release (suc w.drawn.releases) h } ∷ [], refl, moves.releases h argument w)
+  told_release-keeps h argument w good said = (record { part = Own; line = line.Release (suc w.drawn.releases) h } ∷ [], refl, moves.releases h argument w)
 
-  pub wake_agent-keeps : (p : Image) (part : Part) (state : State) → Keeps R (wake_agent p part state)
+  wake_agent-keeps : (p : Image) (part : Part) (state : State) → Keeps AnyWorld R (wake_agent p part state)
   unfolding wake_agent
-  wake_agent-keeps p part (Blocked waiting) = search (ready-keeps)
-  wake_agent-keeps p part Runnable = search (nothing-keeps)
-  wake_agent-keeps p part Made = search (nothing-keeps)
+  wake_agent-keeps p part (Blocked waiting) = ready-keeps (finely moves) p part who.Agent tt
+  wake_agent-keeps p part Runnable = nothing-keeps (finely moves)
+  wake_agent-keeps p part Made = nothing-keeps (finely moves)
 
-  pub release-keeps : (p : Image) (h : HandlerOf) (argument : Option ℕ) → Keeps R (release p Own h argument)
+  release-keeps : (p : Image) (h : HandlerOf) (argument : Option ℕ) → Keeps AnyWorld R (release p Own h argument)
   unfolding release
   release-keeps p h argument =
-      then-keeps moves (changes (add_release h argument) ▷ says_release Own h) (looks (λ w. wake_agent p Own w.agent.state)) (told_release-keeps h argument) (search (looks-keeps, wake_agent-keeps))
+      then-keeps (finely moves) (changes (add_release h argument) ▷ says_release Own h) (looks (λ w. wake_agent p Own w.agent.state)) (told_release-keeps h argument)
+      (looks-keeps (finely moves) _ (λ w. wake_agent-keeps p Own w.agent.state))
 
-  pub with_room_for_release-keeps : (name : Who) (needed : Bool) (step : Step) → Keeps R step → Keeps R (with_room_for_release name needed step)
-  with_room_for_release-keeps name needed step kept = search (looks-keeps, raise_if-keeps)
+  pub releasing : Releasing AnyWorld R
+  releasing = record { releases = release-keeps }
 
   begin_handler-from : (p : Image) (r : Release) (w : World) → LetsIn who.Agent r.handler.object Write w → From R w (begin_handler p r)
-  unfolding begin_handler
+  unfolding begin_handler Alters
   begin_handler-from p r w h =
-      then-from moves (begin_action_on p who.Agent r.handler.object Write None (Some r.number)) _ w (begin_action_on-from moves p who.Agent r.handler.object Write None (Some r.number) w h)
-      (search (looks-keeps, changes-keeps, open_scope-alters))
+      then-from (finely moves) (begin_action_on p who.Agent r.handler.object Write None (Some r.number)) _ w
+      (begin_action_on-from (finely moves) p who.Agent r.handler.object Write None (Some r.number) w tt tt (λ v good. moves.edits_task who.Agent (λ t. with_frames (new_frame (new_protected_mark r.handler.object Write None (Some r.number)) None ∷ t.frames) t) v (λ t. refl)) h)
+      (looks-keeps (finely moves) _ (λ v. changes-keeps (finely moves) _ (open_scope-alters (openings moves) p who.Agent _ _ _ tt)))
 
   begin_handler_if_room-from : (p : Image) (r : Release) (w : World) → LetsIn who.Agent r.handler.object Write w → From R w (begin_handler_if_room p r)
   unfolding begin_handler_if_room
   begin_handler_if_room-from p r w h =
-      looks_at-from moves (λ v. elim (has_room v who.Agent (1 + marks_of p (subprogram_of p r.handler.procedure).scope) (scope_size_of p r.handler.procedure)) as (λ _. Step) [ true ↦ begin_handler p r | false ↦ end_release r.number ]) w (either-from moves (has_room w who.Agent (1 + marks_of p (subprogram_of p r.handler.procedure).scope) (scope_size_of p r.handler.procedure)) (begin_handler p r) (end_release r.number) w
-      (begin_handler-from p r w h) (keeps-from moves (end_release r.number) w (end_release-keeps moves r.number)))
+      looks_at-from (finely moves) (λ v. elim (has_room v who.Agent (1 + marks_of p (subprogram_of p r.handler.procedure).scope) (scope_size_of p r.handler.procedure)) as (λ _. Step) [ true ↦ begin_handler p r | false ↦ end_release r.number ]) w (either-from (finely moves) (has_room w who.Agent (1 + marks_of p (subprogram_of p r.handler.procedure).scope) (scope_size_of p r.handler.procedure)) (begin_handler p r) (end_release r.number) w
+      (begin_handler-from p r w h) (keeps-from (finely moves) (end_release r.number) w tt (end_release-keeps moves r.number)))
 
   enter_handler-from : (p : Image) (r : Release) (w : World) (is : Entering) → entering p w who.Agent r.handler.object Write ≡ is → From R w (enter_handler p r is)
   unfolding enter_handler
-  enter_handler-from p r w entering_is.SameObject e = keeps-from moves (end_release r.number) w (end_release-keeps moves r.number)
-  enter_handler-from p r w entering_is.AboveCeiling e = keeps-from moves (end_release r.number) w (end_release-keeps moves r.number)
-  enter_handler-from p r w entering_is.Held e = find_held-from moves p who.Agent r.handler.object Write w (entering-held p w who.Agent r.handler.object Write e)
+  enter_handler-from p r w entering_is.SameObject e = keeps-from (finely moves) (end_release r.number) w tt (end_release-keeps moves r.number)
+  enter_handler-from p r w entering_is.AboveCeiling e = keeps-from (finely moves) (end_release r.number) w tt (end_release-keeps moves r.number)
+  enter_handler-from p r w entering_is.Held e = find_held-from (finely moves) p who.Agent r.handler.object Write w tt tt (entering-held p w who.Agent r.handler.object Write e)
   enter_handler-from p r w entering_is.Inside e = begin_handler_if_room-from p r w (entering-inside p w who.Agent r.handler.object Write e)
 
-  pub call_handler-keeps : (p : Image) (r : Release) → Keeps R (call_handler p r)
+  pub call_handler-keeps : (p : Image) (r : Release) → Keeps AnyWorld R (call_handler p r)
   unfolding call_handler
-  call_handler-keeps p r = looks-from moves _ (λ w. enter_handler-from p r w (entering p w who.Agent r.handler.object Write) refl)
+  call_handler-keeps p r = looks-from (finely moves) _ (λ w good. enter_handler-from p r w (entering p w who.Agent r.handler.object Write) refl)
 
-  pub interrupt-keeps : (p : Image) (n : ℕ) → Keeps R (interrupt p n)
-  unfolding interrupt
-  interrupt-keeps p n = search (says-keeps, then-keeps, looks-keeps, for_some-keeps, release-keeps) depth 6
+-- ---- settings, and the charge of a tick
 
-  pub setting_of-keeps : (p : Image) (name : Who) (q : Seen) (base : ℤ) (set : Setting) (named : Option HandlerName) (step : Option HandlerOf → ℤ → Step) → ((x : Option HandlerOf) (y : ℤ) → Keeps R (step x y)) → Keeps R (setting_of p name q base set named step)
+module _ {G : GoodWorld} {May Other : Naming} {R : StepRelation} {Q : MoveRelation} (moves : FineMoves G May Other R Q) where
+  pub with_room_for_release-keeps : (name : Who) (needed : Bool) (step : Step) → Keeps G R step → Keeps G R (with_room_for_release name needed step)
+  with_room_for_release-keeps name needed step kept = search (looks-keeps, raise_if-keeps)
+
+  pub setting_of-keeps : (p : Image) (name : Who) (q : Seen) (base : ℤ) (set : Setting) (named : Option HandlerName) (step : Option HandlerOf → ℤ → Step) → ((x : Option HandlerOf) (y : ℤ) → Keeps G R (step x y)) → Keeps G R (setting_of p name q base set named step)
   setting_of-keeps p name q base set named step kept = search (given-keeps, with_room_for_release-keeps, raise_if-keeps)
 
-  pub answer-keeps : (p : Image) (name : Who) (v : Variable) (b : Bool) → Keeps R (answer p name v b)
+  pub answer-keeps : (p : Image) (name : Who) (v : Variable) (b : Bool) → Keeps G R (answer p name v b)
   unfolding answer
-  answer-keeps p name v b = looks-from moves _ (λ w. becomes-from moves Own name (store p v (Truth b) w) w (store-gives moves p v (Truth b) w))
+  answer-keeps p name v b = looks-from moves _ (λ w good. becomes-from moves Own name (store p v (Truth b) w) w good (store-gives moves p v (Truth b) w good))
 
-  pub cancel_event_setting-alters : (e : ℕ) → Alters R (cancel_event_setting e)
+  pub cancel_event_setting-alters : (e : ℕ) → Alters G R (cancel_event_setting e)
   cancel_event_setting-alters e = search (drop_appointment-alters)
 
-  appoint_event-from : (p : Image) (e : ℕ) (h : HandlerOf) (m : ℤ) (test : Bool) (w : World) → int_lt (pos w.time) m ≡ test → From R w (appoint_event p e h m test)
-  unfolding appoint_event
-  appoint_event-from p e h m true w is = appoint-from moves (due_for.Event e h) m w is
-  appoint_event-from p e h m false w is = keeps-from moves (release p Own h (Some e)) w (release-keeps p h (Some e))
-
-  pub event_set_to-keeps : (p : Image) (e : ℕ) (h : Option HandlerOf) (m : ℤ) → Keeps R (event_set_to p e h m)
-  unfolding event_set_to
-  event_set_to-keeps p e None m = search (nothing-keeps)
-  event_set_to-keeps p e (Some h) m = looks-from moves _ (λ w. appoint_event-from p e h m (int_lt (pos w.time) m) w refl)
-
-  pub set_event-keeps : (p : Image) (name : Who) (s : StatementNo) (d : DeclNo) (set : Setting) (named : Option HandlerName) → Keeps R (set_event p name s d set named)
-  unfolding set_event
-  set_event-keeps p name s d set named = search (sees-keeps, given-keeps, setting_of-keeps, goes-keeps, then-keeps, changes-keeps, cancel_event_setting-alters, event_set_to-keeps) depth 9
-
-  pub cancel_event-keeps : (p : Image) (name : Who) (s : StatementNo) (d : DeclNo) (target : VariableName) → Keeps R (cancel_event p name s d target)
+  pub cancel_event-keeps : (p : Image) (name : Who) (s : StatementNo) (d : DeclNo) (target : VariableName) → Keeps G R (cancel_event p name s d target)
   unfolding cancel_event
   cancel_event-keeps p name s d target = search (sees-keeps, given-keeps, goes-keeps, then-keeps, changes-keeps, cancel_event_setting-alters, answer-keeps) depth 9
 
-  pub clear_timer-alters : (k : ℕ) → Alters R (clear_timer k)
+  pub clear_timer-alters : (k : ℕ) → Alters G R (clear_timer k)
   unfolding Alters
-  clear_timer-alters k w = moves.clears_timer k w
+  clear_timer-alters k w good = moves.clears_timer k w good
 
-  with_timer_set-alters : (k : ℕ) (h : HandlerOf) (v : ℤ) → Alters R (with_timer_set k h v)
+  with_timer_set-alters : (k : ℕ) (h : HandlerOf) (v : ℤ) → Alters G R (with_timer_set k h v)
   unfolding Alters
-  with_timer_set-alters k h v w = moves.sets_timer k h v w
+  with_timer_set-alters k h v w good = moves.sets_timer k h v w good
 
-  pub timer_set_beyond-keeps : (p : Image) (k : ℕ) (h : HandlerOf) (v : ℤ) (test : Bool) → Keeps R (timer_set_beyond p k h v test)
-  unfolding timer_set_beyond
-  timer_set_beyond-keeps p k h v true = search (changes-keeps, with_timer_set-alters)
-  timer_set_beyond-keeps p k h v false = search (release-keeps)
-
-  pub timer_set_to-keeps : (p : Image) (k clock : ℕ) (h : Option HandlerOf) (v : ℤ) → Keeps R (timer_set_to p k clock h v)
-  unfolding timer_set_to
-  timer_set_to-keeps p k clock None v = search (nothing-keeps)
-  timer_set_to-keeps p k clock (Some h) v = search (timer_set_beyond-keeps)
-
-  pub set_timer-keeps : (p : Image) (name : Who) (s : StatementNo) (d : DeclNo) (set : Setting) (named : Option HandlerName) → Keeps R (set_timer p name s d set named)
-  unfolding set_timer
-  set_timer-keeps p name s d set named = search (sees-keeps, given-keeps, setting_of-keeps, goes-keeps, then-keeps, changes-keeps, clear_timer-alters, timer_set_to-keeps) depth 9
-
-  pub cancel_timer-keeps : (p : Image) (name : Who) (s : StatementNo) (d : DeclNo) (target : VariableName) → Keeps R (cancel_timer p name s d target)
+  pub cancel_timer-keeps : (p : Image) (name : Who) (s : StatementNo) (d : DeclNo) (target : VariableName) → Keeps G R (cancel_timer p name s d target)
   unfolding cancel_timer
   cancel_timer-keeps p name s d target = search (sees-keeps, given-keeps, goes-keeps, then-keeps, changes-keeps, clear_timer-alters, answer-keeps) depth 9
 
-  edit_budget-alters : (b : ℕ) (f : Budget → Budget) → Alters R (edit_budget b f)
+  edit_budget-alters : (b : ℕ) (f : Budget → Budget) → Alters G R (edit_budget b f)
   unfolding Alters
-  edit_budget-alters b f w = moves.edits_budget b f w
+  edit_budget-alters b f w good = moves.edits_budget b f w good
 
-  pub change_member-keeps : (p : Image) (name : Who) (s : StatementNo) (t : world.Task) (is_right : Bool) (b : Option ℕ) → Keeps R (change_member p name s t is_right b)
+  pub change_member-keeps : (p : Image) (name : Who) (s : StatementNo) (t : world.Task) (is_right : Bool) (b : Option ℕ) → Keeps G R (change_member p name s t is_right b)
   unfolding change_member
   change_member-keeps p name s t is_right b = search (raise_if-keeps, goes-keeps, then-keeps, changes-keeps, edit_task-alters)
 
-  pub add_member-keeps : (p : Image) (name : Who) (s : StatementNo) (d : DeclNo) (e : ExprNo) → Keeps R (add_member p name s d e)
+  pub add_member-keeps : (p : Image) (name : Who) (s : StatementNo) (d : DeclNo) (e : ExprNo) → Keeps G R (add_member p name s d e)
   unfolding add_member
   add_member-keeps p name s d e = search (sees-keeps, given-keeps, change_member-keeps) depth 6
 
-  pub remove_member-keeps : (p : Image) (name : Who) (s : StatementNo) (d : DeclNo) (e : ExprNo) → Keeps R (remove_member p name s d e)
+  pub remove_member-keeps : (p : Image) (name : Who) (s : StatementNo) (d : DeclNo) (e : ExprNo) → Keeps G R (remove_member p name s d e)
   unfolding remove_member
   remove_member-keeps p name s d e = search (sees-keeps, given-keeps, change_member-keeps) depth 6
 
-  pub fill_budget-keeps : (p : Image) (name : Who) (s : StatementNo) (d : DeclNo) (e : ExprNo) (f : ℤ → Budget → Budget) → Keeps R (fill_budget p name s d e f)
+  pub fill_budget-keeps : (p : Image) (name : Who) (s : StatementNo) (d : DeclNo) (e : ExprNo) (f : ℤ → Budget → Budget) → Keeps G R (fill_budget p name s d e f)
   unfolding fill_budget
   fill_budget-keeps p name s d e f = search (sees-keeps, given-keeps, with_room_for_release-keeps, raise_if-keeps, goes-keeps, then-keeps, changes-keeps, edit_budget-alters) depth 8
 
-  pub replenish-keeps : (p : Image) (name : Who) (s : StatementNo) (d : DeclNo) (e : ExprNo) → Keeps R (replenish p name s d e)
+  pub replenish-keeps : (p : Image) (name : Who) (s : StatementNo) (d : DeclNo) (e : ExprNo) → Keeps G R (replenish p name s d e)
   unfolding replenish
   replenish-keeps p name s d e = search (fill_budget-keeps)
 
-  pub add_to_budget-keeps : (p : Image) (name : Who) (s : StatementNo) (d : DeclNo) (e : ExprNo) → Keeps R (add_to_budget p name s d e)
+  pub add_to_budget-keeps : (p : Image) (name : Who) (s : StatementNo) (d : DeclNo) (e : ExprNo) → Keeps G R (add_to_budget p name s d e)
   unfolding add_to_budget
   add_to_budget-keeps p name s d e = search (fill_budget-keeps)
 
-  pub set_budget-keeps : (p : Image) (name : Who) (s : StatementNo) (d : DeclNo) (named : Option HandlerName) → Keeps R (set_budget p name s d named)
+  pub set_budget-keeps : (p : Image) (name : Who) (s : StatementNo) (d : DeclNo) (named : Option HandlerName) → Keeps G R (set_budget p name s d named)
   unfolding set_budget
   set_budget-keeps p name s d named = search (sees-keeps, given-keeps, with_room_for_release-keeps, raise_if-keeps, goes-keeps, then-keeps, changes-keeps, edit_budget-alters) depth 8
 
-  pub cancel_budget-keeps : (p : Image) (name : Who) (s : StatementNo) (d : DeclNo) (target : VariableName) → Keeps R (cancel_budget p name s d target)
+  pub cancel_budget-keeps : (p : Image) (name : Who) (s : StatementNo) (d : DeclNo) (target : VariableName) → Keeps G R (cancel_budget p name s d target)
   unfolding cancel_budget
   cancel_budget-keeps p name s d target = search (sees-keeps, given-keeps, goes-keeps, then-keeps, changes-keeps, edit_budget-alters, answer-keeps) depth 9
 
-  pub charge_budget-alters : (n : Option ℕ) → Alters R (charge_budget n)
+  pub charge_budget-alters : (n : Option ℕ) → Alters G R (charge_budget n)
   charge_budget-alters None = search (unchanged-alters)
   charge_budget-alters (Some b) = search (edit_budget-alters)
 
   -- ---- a tick is charged
 
-  charge_clock-alters : (t : TaskNo) → Alters R (charge_clock t)
+  charge_clock-alters : (t : TaskNo) → Alters G R (charge_clock t)
   unfolding Alters
-  charge_clock-alters t w =
+  charge_clock-alters t w good =
       let next = edit_task (who.Task t) clock_risen w in
-      moves.goes_on w next (charge_clock t w) (moves.edits_task (who.Task t) clock_risen w (λ u. refl)) (moves.sets_timers_due (timers_reached t next) next)
+      let first = moves.edits_task (who.Task t) clock_risen w good (λ u. refl) (λ u. refl) (λ u. refl) (λ u. refl) in
+      moves.goes_on w next (charge_clock t w) first (moves.sets_timers_due (timers_reached t next) next (moves.behind w next first))
 
-  charge_group-alters : (t : TaskNo) → Alters R (charge_group t)
+  charge_group-alters : (t : TaskNo) → Alters G R (charge_group t)
   unfolding Alters
-  charge_group-alters t w =
+  charge_group-alters t w good =
       let b = (task_of w (who.Task t)).budget in
-      moves.goes_on w (charge_budget b w) (charge_group t w) (charge_budget-alters b w) (moves.sets_budget_due (due_by_tick w b) (charge_budget b w))
+      let first = charge_budget-alters b w good in
+      moves.goes_on w (charge_budget b w) (charge_group t w) first (moves.sets_budget_due (due_by_tick w b) (charge_budget b w) (moves.behind w (charge_budget b w) first))
 
-  spent-who : (robin : Bool) (t : world.Task) → (cond robin (record t { quantum = t.quantum - 1 }) t).who ≡ t.who
-  spent-who true t = refl
-  spent-who false t = refl
-
-  charge_task-alters : (p : Image) (t : TaskNo) → Alters R (charge_task p t)
+  charge_task-alters : (p : Image) (t : TaskNo) → Alters G R (charge_task p t)
   unfolding Alters
-  charge_task-alters p t w =
+  charge_task-alters p t w good =
       let risen = charge_clock t w in
       let charged = charge_group t risen in
-      moves.goes_on w risen (charge_task p t w) (charge_clock-alters t w)
-      (moves.goes_on risen charged (charge_task p t w) (charge_group-alters t risen)
-      (moves.edits_task (who.Task t) (quantum_spent_by p) charged (λ u. spent-who (is_robin_level p u.base) u)))
+      let first = charge_clock-alters t w good in
+      let second = charge_group-alters t risen (moves.behind w risen first) in
+      moves.goes_on w risen (charge_task p t w) first
+      (moves.goes_on risen charged (charge_task p t w) second
+      (moves.edits_task (who.Task t) (quantum_spent_by p) charged (moves.behind risen charged second)
+      (λ u. spent-who (is_robin_level p u.base) u) (λ u. spent-frames (is_robin_level p u.base) u) (λ u. spent-state (is_robin_level p u.base) u) (λ u. spent-master (is_robin_level p u.base) u)))
 
-  pub charge-alters : (p : Image) (name : Who) → Alters R (charge p name)
+  pub charge-alters : (p : Image) (name : Who) → Alters G R (charge p name)
   unfolding Alters
-  charge-alters p (who.Task t) w = charge_task-alters p t w
-  charge-alters p who.Agent w = moves.stays w
+  charge-alters p (who.Task t) w good = charge_task-alters p t w good
+  charge-alters p who.Agent w good = moves.stays w good
+
+-- ---- what may release
+
+module _ {G : GoodWorld} {May Other : Naming} {R : StepRelation} {Q : MoveRelation} (moves : FineMoves G May Other R Q) (releasing : Releasing G R) where
+  pub interrupt-keeps : (p : Image) (n : ℕ) → Keeps G R (interrupt p n)
+  unfolding interrupt
+  interrupt-keeps p n =
+      then-keeps moves (says Own (line.Interrupt n)) _ (says-keeps moves Own (line.Interrupt n) refl)
+      (looks-keeps moves _ (λ w. for_some-keeps moves (handler_attached p n w.objects) _ (λ h. releasing.releases p h None)))
+
+  appoint_event-from : (p : Image) (e : ℕ) (h : HandlerOf) (m : ℤ) (test : Bool) (w : World) → G w → int_lt (pos w.time) m ≡ test → From R w (appoint_event p e h m test)
+  unfolding appoint_event
+  appoint_event-from p e h m true w good is = appoint-from moves (due_for.Event e h) m w good is
+  appoint_event-from p e h m false w good is = keeps-from moves (release p Own h (Some e)) w good (releasing.releases p h (Some e))
+
+  pub event_set_to-keeps : (p : Image) (e : ℕ) (h : Option HandlerOf) (m : ℤ) → Keeps G R (event_set_to p e h m)
+  unfolding event_set_to
+  event_set_to-keeps p e None m = search (nothing-keeps)
+  event_set_to-keeps p e (Some h) m = looks-from moves _ (λ w good. appoint_event-from p e h m (int_lt (pos w.time) m) w good refl)
+
+  pub set_event-keeps : (p : Image) (name : Who) (s : StatementNo) (d : DeclNo) (set : Setting) (named : Option HandlerName) → Keeps G R (set_event p name s d set named)
+  unfolding set_event
+  set_event-keeps p name s d set named = search (sees-keeps, given-keeps, setting_of-keeps, goes-keeps, then-keeps, changes-keeps, cancel_event_setting-alters, event_set_to-keeps) depth 9
+
+  pub timer_set_beyond-keeps : (p : Image) (k : ℕ) (h : HandlerOf) (v : ℤ) (test : Bool) → Keeps G R (timer_set_beyond p k h v test)
+  unfolding timer_set_beyond
+  timer_set_beyond-keeps p k h v true = search (changes-keeps, with_timer_set-alters)
+  timer_set_beyond-keeps p k h v false = releasing.releases p h (Some k)
+
+  pub timer_set_to-keeps : (p : Image) (k clock : ℕ) (h : Option HandlerOf) (v : ℤ) → Keeps G R (timer_set_to p k clock h v)
+  unfolding timer_set_to
+  timer_set_to-keeps p k clock None v = search (nothing-keeps)
+  timer_set_to-keeps p k clock (Some h) v = search (timer_set_beyond-keeps)
+
+  pub set_timer-keeps : (p : Image) (name : Who) (s : StatementNo) (d : DeclNo) (set : Setting) (named : Option HandlerName) → Keeps G R (set_timer p name s d set named)
+  unfolding set_timer
+  set_timer-keeps p name s d set named = search (sees-keeps, given-keeps, setting_of-keeps, goes-keeps, then-keeps, changes-keeps, clear_timer-alters, timer_set_to-keeps) depth 9

@@ -3,6 +3,10 @@
 use Rattle.std.proofs.Common.{◌≡◌, Bool, true, false, cond, List, [], ◌∷◌, Option, Some, None, refl}
 use Rattle.trace_text.specs.declared.events.Event.{Event}
 use Rattle.trace_text.specs.declared.events.Event.TheVariants as line
+use Rattle.trace_text.specs.declared.events.Created.TheVariants as created
+use Rattle.profile_machine.specs.declared.world.lines.Line.TheVariants as line_said
+use Rattle.profile_machine.specs.declared.world.lines.Part.TheVariants.{Own}
+use Rattle.profile_machine.specs.declared.world.marks.Purpose.TheVariants as opened_for
 use Rattle.trace_text.specs.declared.events.Who.{Who}
 use Rattle.trace_text.specs.declared.events.Who.TheVariants as who
 use Rattle.profile_machine.specs.declared.image.Image.{Image}
@@ -15,14 +19,16 @@ use Rattle.profile_machine.specs.Dispatching.{choose}
 use Rattle.profile_machine.specs.Tasks.{task_of, with_ticks}
 use Rattle.profile_machine.specs.Cost.{cost}
 use Rattle.profile_machine.specs.Handlers.{charge}
-use Rattle.profile_machine.specs.Run.{opens, say, silently, says_run, with_serving, serve_if_free, serve, ticks_or, begin_action, one_tick_less, spend_tick, next_tick, says_idle, tock_of, tock}
-use Rattle.machine_laws.proofs.Moves.{StepRelation, MoveRelation, Moves, TockMoves}
+use Rattle.profile_machine.specs.Run.{opens, say, silently, says_run, with_serving, serve_if_free, serve, ticks_or, begin_action, one_tick_less, spend_tick, next_tick, says_idle, tock_of, tock, environment}
+use Rattle.machine_laws.proofs.Moves.{StepRelation, MoveRelation, TockMoves, Moves}
 use Rattle.machine_laws.specs.LineKinds.{is_of_tock}
 use Rattle.machine_laws.proofs.Kept.Combinators.{Keeps, Leads, Alters, then-keeps, changes-keeps, says-keeps, then-leads, rests-leads, watches-leads}
 use Rattle.machine_laws.proofs.Kept.Dispatching.{to_tail-keeps}
 use Rattle.machine_laws.proofs.Kept.Frames.{open_sequence-keeps}
 use Rattle.machine_laws.proofs.Kept.Scopes.{open_scope-alters}
 use Rattle.machine_laws.proofs.Kept.Handlers.{charge-alters}
+use Rattle.machine_laws.proofs.FineMoves.{AnyWorld, finely, openings}
+use Rattle.profile_machine.specs.Scopes.{plainly}
 
 -- ---- a tock up to its tick
 
@@ -45,36 +51,39 @@ pub tock-parts : (p : Image) (w : World) → let before = before_tick p (choose 
 tock-parts p w = tock_of-parts p (choose w) w
 
 module _ {R : StepRelation} {Q : MoveRelation} (moves : Moves R Q) where
-  pub opens-keeps : (p : Image) → Keeps R (opens p)
+  pub opens-keeps : (p : Image) → Keeps AnyWorld R (opens p)
   unfolding opens
-  opens-keeps p = search (then-keeps, changes-keeps, open_scope-alters, says-keeps, to_tail-keeps, open_sequence-keeps) depth 7
+  opens-keeps p =
+      then-keeps (finely moves) _ _ (changes-keeps (finely moves) _ (open_scope-alters (openings moves) p environment p.environment (plainly None) opened_for.Task tt))
+      (then-keeps (finely moves) _ _ (says-keeps (finely moves) Own (line_said.New (created.Task (record { 0 = 0 })) None p.main.priority) refl)
+      (then-keeps (finely moves) _ _ (to_tail-keeps (finely moves) p Own environment tt) (open_sequence-keeps (finely moves) p Own environment tt)))
 
-  begin_action-alters : (p : Image) (name : Who) → Alters R (begin_action p name)
+  begin_action-alters : (p : Image) (name : Who) → Alters AnyWorld R (begin_action p name)
   unfolding Alters
-  begin_action-alters p name w = moves.edits_task name (with_ticks (Some (ticks_or (task_of w name).ticks_left (cost p w name)))) w (λ t. refl)
+  begin_action-alters p name w good = moves.edits_task name (with_ticks (Some (ticks_or (task_of w name).ticks_left (cost p w name)))) w (λ t. refl)
 
-  spend_tick-alters : (name : Who) → Alters R (spend_tick name)
+  spend_tick-alters : (name : Who) → Alters AnyWorld R (spend_tick name)
   unfolding Alters
-  spend_tick-alters name w = moves.edits_task name (λ t. with_ticks (one_tick_less t.ticks_left) t) w (λ t. refl)
+  spend_tick-alters name w good = moves.edits_task name (λ t. with_ticks (one_tick_less t.ticks_left) t) w (λ t. refl)
 
-  silently-leads : (f : World → World) → Alters R f → Leads Q (silently f)
+  silently-leads : (f : World → World) → Alters AnyWorld R f → Leads AnyWorld Q (silently f)
   unfolding Leads Alters
-  silently-leads f a w = moves.silently w (f w) (a w)
+  silently-leads f a w good = moves.silently w (f w) (a w tt)
 
   module _ (tocks : TockMoves Q) where
-    say-leads : (event : Event) → is_of_tock event ≡ true → Leads Q (say event)
+    say-leads : (event : Event) → is_of_tock event ≡ true → Leads AnyWorld Q (say event)
     unfolding Leads
-    say-leads event a w = tocks.tells event w a
+    say-leads event a w good = tocks.tells event w a
 
-    says_run-test : (same : Bool) (name : Who) → Leads Q (cond same rests (say (line.Run name)))
-    says_run-test true name = rests-leads moves
+    says_run-test : (same : Bool) (name : Who) → Leads AnyWorld Q (cond same rests (say (line.Run name)))
+    says_run-test true name = rests-leads (finely moves)
     says_run-test false name = say-leads (line.Run name) refl
 
-    says_run-leads : (name : Who) (ran : Option Who) → Leads Q (says_run name ran)
+    says_run-leads : (name : Who) (ran : Option Who) → Leads AnyWorld Q (says_run name ran)
     says_run-leads name ran = says_run-test (same_option same_who ran (Some name)) name
 
-    says_idle-leads : (ran : Option Who) → Leads Q (says_idle ran)
-    says_idle-leads None = rests-leads moves
+    says_idle-leads : (ran : Option Who) → Leads AnyWorld Q (says_idle ran)
+    says_idle-leads None = rests-leads (finely moves)
     says_idle-leads (Some name) = say-leads line.Idle refl
 
     serve_if_free-leads : (serving : Option Release) (frames : List Frame) (releases : List Release) (w : World) → w.releases ≡ releases → let done = serve_if_free serving frames releases w in Q w done.1 done.0
@@ -83,11 +92,15 @@ module _ {R : StepRelation} {Q : MoveRelation} (moves : Moves R Q) where
     serve_if_free-leads None (f ∷ fs) releases w a = moves.rests w
     serve_if_free-leads (Some r) frames releases w a = moves.rests w
 
-    serve-leads : (name : Who) → Leads Q (serve name)
+    serve-leads : (name : Who) → Leads AnyWorld Q (serve name)
     unfolding Leads
-    serve-leads (who.Task t) w = moves.rests w
-    serve-leads who.Agent w = serve_if_free-leads w.serving w.agent.frames w.releases w refl
+    serve-leads (who.Task t) w good = moves.rests w
+    serve-leads who.Agent w good = serve_if_free-leads w.serving w.agent.frames w.releases w refl
 
-    pub before_tick-leads : (p : Image) (chosen : Option Who) → Leads Q (before_tick p chosen)
-    before_tick-leads p None = search (watches-leads, says_idle-leads)
-    before_tick-leads p (Some name) = search (then-leads, watches-leads, says_run-leads, serve-leads, silently-leads, begin_action-alters, charge-alters, spend_tick-alters) depth 9
+    pub before_tick-leads : (p : Image) (chosen : Option Who) → Leads AnyWorld Q (before_tick p chosen)
+    before_tick-leads p None = watches-leads (finely moves) _ (λ w. says_idle-leads w.ran)
+    before_tick-leads p (Some name) =
+        then-leads (finely moves) _ _ (watches-leads (finely moves) _ (λ w. says_run-leads name w.ran))
+        (then-leads (finely moves) _ _ (serve-leads name)
+        (then-leads (finely moves) _ _ (silently-leads (begin_action p name) (begin_action-alters p name))
+        (then-leads (finely moves) _ _ (silently-leads (charge p name) (charge-alters (finely moves) p name)) (silently-leads (spend_tick name) (spend_tick-alters name)))))

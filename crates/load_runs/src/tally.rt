@@ -9,46 +9,7 @@ use ann_base::NoMemory;
 use itoa::Buffer;
 use std::alloc::Global;
 use trace_reading::read_line;
-use trace_text::{Word, event_word, word_bytes};
-
-/// The event words, in the order of a summary.
-const WORDS: [Word; 35] = [
-    Word::New,
-    Word::Ready,
-    Word::Block,
-    Word::Run,
-    Word::Idle,
-    Word::Base,
-    Word::Deadline,
-    Word::Quantum,
-    Word::Done,
-    Word::Raise,
-    Word::Put,
-    Word::Call,
-    Word::Start,
-    Word::Finish,
-    Word::Cancel,
-    Word::Gone,
-    Word::Enter,
-    Word::Exit,
-    Word::Held,
-    Word::Abort,
-    Word::Trigger,
-    Word::Leave,
-    Word::Init,
-    Word::Final,
-    Word::Left,
-    Word::Replace,
-    Word::Release,
-    Word::Serve,
-    Word::Served,
-    Word::Interrupt,
-    Word::Port,
-    Word::Mask,
-    Word::Unmask,
-    Word::Masked,
-    Word::End,
-];
+use trace_text::{EVENT_WORDS, Word, event_word, word_bytes};
 
 /// How often an event word occurred.
 #[derive(Clone, Copy, Debug, PartialEq, Eq)]
@@ -70,7 +31,7 @@ impl Tally {
         ensures { IfOk result (λ tally. Tallies tally []) }
     {
         Ok(Tally {
-            counts: none_counted(alloc, &WORDS)?,
+            counts: none_counted(alloc, &EVENT_WORDS)?,
             last: Vec::new(alloc),
         })
     }

@@ -5,47 +5,9 @@ ghost use Rattle.trace_text.specs.Words.{word_text};
 ghost use Rattle.trace_reading.specs.Spelt.{word_in, waits_in, mode_in, leaves_in, queue_end_in};
 
 use trace_text::{
-    Leaves, Mode, QueueEnd, Waits, Word, leaves_bytes, mode_bytes, queue_end_bytes, waits_bytes,
-    word_bytes,
+    EVENT_WORDS, Leaves, Mode, QueueEnd, Waits, Word, leaves_bytes, mode_bytes, queue_end_bytes,
+    waits_bytes, word_bytes,
 };
-
-const WORDS: [Word; 35] = [
-    Word::New,
-    Word::Ready,
-    Word::Block,
-    Word::Run,
-    Word::Idle,
-    Word::Base,
-    Word::Deadline,
-    Word::Quantum,
-    Word::Done,
-    Word::Raise,
-    Word::Put,
-    Word::Call,
-    Word::Start,
-    Word::Finish,
-    Word::Cancel,
-    Word::Gone,
-    Word::Enter,
-    Word::Exit,
-    Word::Held,
-    Word::Abort,
-    Word::Trigger,
-    Word::Leave,
-    Word::Init,
-    Word::Final,
-    Word::Left,
-    Word::Replace,
-    Word::Release,
-    Word::Serve,
-    Word::Served,
-    Word::Interrupt,
-    Word::Port,
-    Word::Mask,
-    Word::Unmask,
-    Word::Masked,
-    Word::End,
-];
 
 const WAITS: [Waits; 8] = [
     Waits::Activation,
@@ -72,7 +34,7 @@ pub fn word_of(bytes: &[u8]) -> Option<Word>
     ensures read { result ≡ word_in bytes.now }
     ensures spelt { IfSome result (λ word. bytes.now ≡ word_text word) }
 {
-    WORDS
+    EVENT_WORDS
         .iter()
         .copied()
         .find(|word| word_bytes(*word) == bytes)

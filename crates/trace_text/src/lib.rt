@@ -15,6 +15,7 @@ pub use events::{
 };
 pub use laws::tests_tell;
 pub use words::{
-    Word, event_word, leaves_bytes, mode_bytes, queue_end_bytes, waits_bytes, word_bytes,
+    EVENT_WORDS, Word, event_word, leaves_bytes, mode_bytes, queue_end_bytes, waits_bytes,
+    word_bytes,
 };
 pub use write::{LINE_BYTES, write_line};

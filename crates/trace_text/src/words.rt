@@ -81,6 +81,45 @@ pub enum Word {
     End,
 }
 
+/// All event words, in the order of a summary.
+pub const EVENT_WORDS: [Word; 35] = [
+    Word::New,
+    Word::Ready,
+    Word::Block,
+    Word::Run,
+    Word::Idle,
+    Word::Base,
+    Word::Deadline,
+    Word::Quantum,
+    Word::Done,
+    Word::Raise,
+    Word::Put,
+    Word::Call,
+    Word::Start,
+    Word::Finish,
+    Word::Cancel,
+    Word::Gone,
+    Word::Enter,
+    Word::Exit,
+    Word::Held,
+    Word::Abort,
+    Word::Trigger,
+    Word::Leave,
+    Word::Init,
+    Word::Final,
+    Word::Left,
+    Word::Replace,
+    Word::Release,
+    Word::Serve,
+    Word::Served,
+    Word::Interrupt,
+    Word::Port,
+    Word::Mask,
+    Word::Unmask,
+    Word::Masked,
+    Word::End,
+];
+
 /// The spelling of a word.
 pub fn word_bytes(word: Word) -> &'static [u8]
     ensures word { result.now ≡ word_text word }

@@ -1,6 +1,6 @@
 -- Bodies by the entities that their names denote.
-use Rattle.std.proofs.Common.{◌≡◌, ◌++◌, ◌∷◌, ◌∙◌, ◌||◌, [], ℕ, Bool, true, false, not, List, Option, Some, None, ap, cond, map, filter, option_map, refl, sym, unwrap_or}
-use Rattle.std.specs.List.{flat_map, list_any}
+use Rattle.std.proofs.Common.{◌≡◌, ◌++◌, ◌∷◌, ◌∙◌, ◌||◌, [], ℕ, Bool, true, false, not, List, Option, Some, None, ap, cond, map, option_map, refl, unwrap_or}
+use Rattle.std.specs.List.{list_any}
 use Rattle.ada_legality.specs.Packages.{bodies_in_package, bodies_of_packages, body_named_in, denote_entity, is_completed_here, is_first_of, needs_body, package_needs_body, private_part}
 use Rattle.ada_legality.specs.Values.{is_entity}
 use Rattle.ada_regions.specs.Names.{entity_denoted}

@@ -1,5 +1,5 @@
 -- The cells of library packages, one declaration further.
-use Rattle.std.proofs.Common.{◌≡◌, ◌∙◌, ◌++◌, ◌+◌, ◌∷◌, [], ℕ, suc, Bool, true, false, List, ap, arith, cond, refl, sym}
+use Rattle.std.proofs.Common.{◌≡◌, ◌∙◌, ◌++◌, ◌+◌, ◌∷◌, [], ℕ, suc, Bool, true, false, List, ap, arith, cond, refl}
 use Rattle.std.specs.List.{flat_map}
 use Rattle.ada_image.specs.Layout.{cells_of_declaration, is_in_scope}
 use Rattle.ada_legality.specs.Findings.{Found}

@@ -1,7 +1,7 @@
 -- The computed level is the greatest.
-use Rattle.std.proofs.Common.{◌≡◌, ℕ, ℤ, ◌<◌, ◌≤◌, Bool, true, false, cond, eqb, ltb, ◌||◌, ◌&&◌, List, [], ◌∷◌, refl, sym, ap, subst, ◌∙◌, arith, rules, inl, inr}
+use Rattle.std.proofs.Common.{◌≡◌, ℕ, ℤ, ◌<◌, ◌≤◌, Bool, true, false, cond, eqb, ltb, ◌||◌, ◌&&◌, List, [], ◌∷◌, refl, sym, subst, ◌∙◌, arith, inl, inr}
 use Rattle.std.specs.Prelude.{max, ◌⊎◌}
-use Rattle.level_policies.specs.EdfLevels.{Dated, is_entered, is_ahead_inside, is_ahead_ready, MayPreempt, IsEdfLevel, may_preempt, raised_by, edf_level_of}
+use Rattle.level_policies.specs.EdfLevels.{Dated, is_entered, MayPreempt, IsEdfLevel, may_preempt, raised_by, edf_level_of}
 
 -- a fact that holds whichever way a test goes
 by_test : {P : Type 0} (b : Bool) → (b ≡ true → P) → (b ≡ false → P) → P

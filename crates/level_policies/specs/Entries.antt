@@ -1,5 +1,5 @@
 -- A level as a list of entries: who stands there, in order, each with a key. A key has a rank, a whole number.
-use Rattle.std.specs.Prelude.{◌≡◌, ◌<◌, ◌≤ℤ◌, ◌+◌, ℕ, ℤ, Bool, true, false, ◌==◌, ◌||◌, not, if◌then◌else◌, List, [], ◌∷◌, Option, Some, None, int_lt, filter}
+use Rattle.std.specs.Prelude.{◌≡◌, ◌<◌, ◌≤ℤ◌, ◌+◌, ℕ, ℤ, Bool, true, false, ◌==◌, ◌||◌, if◌then◌else◌, List, [], ◌∷◌, Option, Some, None, int_lt}
 use Rattle.ann_base.specs.declared.identities.Slot.{Slot}
 
 abbrev pub Entry : Type 0 → Type 0

@@ -1,5 +1,5 @@
 -- The call that is served next, from the last entry on.
-use Rattle.std.proofs.Common.{◌≡◌, ◌≢◌, ℕ, ◌-◌, ◌<◌, ◌≤◌, zero, suc, Bool, true, false, cond, List, [], ◌∷◌, Option, Some, None, length, drop, get_or, map, filter, refl, ap, ◌∙◌, arith}
+use Rattle.std.proofs.Common.{◌≡◌, ◌≢◌, ℕ, ◌-◌, ◌<◌, ◌≤◌, zero, suc, Bool, true, false, cond, List, [], ◌∷◌, None, length, drop, get_or, map, filter, refl, ap, ◌∙◌, arith}
 use Rattle.std.proofs.Math.Seq.{drop-cons}
 use Rattle.std.proofs.lemmas.List.{drop_all}
 use Rattle.std.specs.List.{slice_get}
@@ -14,7 +14,6 @@ use Rattle.profile_machine.specs.declared.world.World.{World}
 use Rattle.profile_machine.specs.declared.world.objects.Object.{Object}
 use Rattle.profile_machine.specs.Calls.{next_by, next_call}
 use Rattle.profile_machine.specs.Protected.{is_open_entry, open_queues}
-use Rattle.profile_machine.specs.Values.{queue_at}
 use Rattle.profile_machine.specs.Words.{first_of_list}
 use Rattle.machine_protected.specs.Heads.{next_with, next_or}
 

@@ -5,9 +5,9 @@ use Rattle.trace_text.specs.Queue.{Line}
 use Rattle.trace_text.specs.Laws.{Formed, follows_form}
 use Rattle.trace_reading.specs.Lines.{line_in}
 use Rattle.trace_laws.specs.declared.verdicts.TheConstants.{TRACE_BYTES}
-use Rattle.trace_laws.specs.Verdicts.{texts_in, Reads, bytes_in}
+use Rattle.trace_laws.specs.Verdicts.{Reads, bytes_in}
 use Rattle.trace_laws.proofs.VerdictsOnly.{front_formed}
-use Rattle.trace_files.specs.Reported.{lines_with, lines_from, formed_lines, IsFormedTrace}
+use Rattle.trace_files.specs.Reported.{lines_with, lines_from, IsFormedTrace}
 
 -- ---- what is answered is formed
 

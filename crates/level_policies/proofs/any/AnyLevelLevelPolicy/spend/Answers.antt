@@ -1,6 +1,6 @@
 use Rattle.std.proofs.Common.{◌≡◌, sym, ap, ◌∙◌, arith}
 use Rattle.level_policies.specs.Entries.{rekeyed}
-use Rattle.level_policies.specs.Disciplines.{any_discipline, rank_by, rank_by-after_tick, is_spent_at}
+use Rattle.level_policies.specs.Disciplines.{any_discipline, rank_by-after_tick, is_spent_at}
 use Rattle.level_policies.proofs.RankLemmas.{charged-is, is_spent_at-rekeyed, IsRanked-rekeyed}
 use Rattle.level_policies.proofs.any.AnyLevelLevelPolicy.spend.Goals.{then-is_spent, else-is_spent}
 use Rattle.level_policies.proofs.any.AnyLevelLevelPolicy.spend.Goals as goal

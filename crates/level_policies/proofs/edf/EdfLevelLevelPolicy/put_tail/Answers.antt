@@ -1,8 +1,7 @@
-use Rattle.std.proofs.Common.{◌≡◌, sym, ap, ◌∙◌, length, arith, w64}
-use Rattle.std.specs.Prelude.{insert, FitsSigned}
+use Rattle.std.proofs.Common.{◌≡◌, sym, ap, ◌∙◌, arith, w64}
+use Rattle.std.specs.Prelude.{insert}
 use Rattle.std.proofs.lemmas.Int.{to_z-of_z}
 use Rattle.level_policies.specs.Entries.{place_after, placed_tail}
-use Rattle.level_policies.specs.Disciplines.{edf_discipline}
 use Rattle.level_policies.proofs.RankLemmas.{placed_tail-is, place_after-le, IsRanked-placed_tail}
 use Rattle.level_policies.proofs.edf.EdfLevelLevelPolicy.put_tail.Goals as goal
 

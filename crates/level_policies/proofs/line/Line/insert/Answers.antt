@@ -1,5 +1,4 @@
-use Rattle.std.proofs.Common.{◌<◌, ◌≡◌, length, arith, false}
-use Rattle.level_policies.specs.Entries.{holds}
+use Rattle.std.proofs.Common.{◌<◌, ◌≡◌, arith, false}
 use Rattle.level_policies.proofs.EntryLemmas.{length-lt, IsDistinct-insert, AreSlots-insert}
 use Rattle.level_policies.proofs.line.Line.insert.Goals as goal
 

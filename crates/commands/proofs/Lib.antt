@@ -1,5 +1,10 @@
 pub mod Conclusions
 pub mod Serving
 pub mod ServingScripts
-pub mod StatusesTold
+pub mod AskedFiles
+pub mod RunsTold
+pub mod TablesTold
+pub mod TracesTold
+pub mod DoneTold
+pub mod FaultsTold
 pub mod Told

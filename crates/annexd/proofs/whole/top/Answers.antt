@@ -5,7 +5,11 @@ use Rattle.exclusion_laws.specs.ExclusionLaws.{EntersOk}
 use Rattle.handler_laws.specs.HandlerLaws.{ServedInTurn}
 use Rattle.commands.specs.Asked.{asked_of}
 use Rattle.commands.specs.Outside.{shelf_of, sink_of}
-use Rattle.commands.proofs.StatusesTold.{headline, headline_under, load_told, acceptance, table_told, beyond, trace_told, laws_told, report_told, known_status, done_told, law_told, quiet, refused_source, not_accepted, not_accepted_under, load_not_accepted, refused_script, no_script, kept, words, refused_words, note_words, read_fault, note_read, write_fault, prefix_told, note_tried, note_memory, breach, quiet_breach, refused_trace, kept_refused_trace, failure, quiet_failure, refused_table, kept_refused_table}
+use Rattle.commands.proofs.RunsTold.{headline, headline_under, load_told, acceptance}
+use Rattle.commands.proofs.TablesTold.{table_told, beyond}
+use Rattle.commands.proofs.TracesTold.{trace_told, laws_told, report_told}
+use Rattle.commands.proofs.DoneTold.{known_status, done_told, law_told, quiet}
+use Rattle.commands.proofs.FaultsTold.{refused_source, not_accepted, not_accepted_under, load_not_accepted, refused_script, no_script, kept, words, refused_words, note_words, read_fault, note_read, write_fault, prefix_told, note_tried, note_memory, breach, quiet_breach, refused_trace, kept_refused_trace, failure, quiet_failure, refused_table, kept_refused_table}
 use Rattle.annexd.proofs.whole.top.Goals as goal
 
 pub returns : goal.returns

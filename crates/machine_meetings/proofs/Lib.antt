@@ -1,3 +1,1 @@
-pub mod AlternativeLemmas
 pub mod ParameterLemmas
-pub mod QueueLemmas

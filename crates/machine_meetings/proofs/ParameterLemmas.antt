@@ -10,8 +10,8 @@ use Rattle.profile_machine.specs.declared.world.scopes.Variable.{Variable}
 use Rattle.profile_machine.specs.EntryCalls.{entry_parameter, entry_parameters}
 use Rattle.profile_machine.specs.Operators.{Valued, ◌>>=◌}
 use Rattle.profile_machine.specs.Values.{Seen}
-use Rattle.machine_meetings.specs.Parts.{with_before}
-use Rattle.machine_meetings.proofs.AlternativeLemmas.{with_before-all, with_before-none}
+use Rattle.machine_accepts.specs.Parts.{with_before}
+use Rattle.machine_accepts.proofs.AlternativeLemmas.{with_before-all, with_before-none}
 
 abbrev Parameters : Type 0
 Parameters = List (Value × Option Variable)

@@ -3,9 +3,9 @@ ghost use Rattle.std.specs.Prelude.{◌≡◌, OnOk, int_lt, pos};
 ghost use Rattle.profile_machine.specs.EntryCalls.{appoint_trigger, trigger_delay, async_delay, asynchronous_select};
 ghost use Rattle.machine_frames.specs.Did.{Did};
 
-use crate::alternatives::delay_moment;
 use crate::task_calls::{entry_call, is_forbidden};
 use ann_base::{Moment, NoMemory, OrMemory, Raised};
+use machine_accepts::delay_moment;
 use machine_dispatching::appoint;
 use machine_frames::{Effect, frame_count, goes, has_room, raises};
 use machine_operators::{Program, form_of, next_of};

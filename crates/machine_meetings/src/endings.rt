@@ -6,9 +6,9 @@ ghost use Rattle.profile_machine.specs.Scopes.{cells_of, scope_in_use};
 ghost use Rattle.machine_frames.specs.Did.{Did};
 ghost use Rattle.machine_meetings.specs.Meetings.{says_gone, rendezvous_ends};
 
-use crate::accepting::accept_for;
 use crate::meetings::{Arrival, meet};
 use ann_base::{CallNo, NoMemory, Raised, TaskNo};
+use machine_accepts::accept_for;
 use machine_calls::{call_mut, copied_call, deliver, enqueue, formals_count, gone};
 use machine_dispatching::lose_running;
 use machine_frames::{Effect, found_task, pass_on, pop, says};

@@ -4,11 +4,11 @@ ghost use Rattle.profile_machine.specs.Rendezvous.{meet};
 ghost use Rattle.machine_frames.specs.Did.{Did};
 ghost use Rattle.machine_meetings.specs.Meetings.{behind_met, behind_failed};
 
-use crate::accepting::{begin_accept, finish_without_room, has_room_for_accept, open_accept};
-use crate::making::end_at_once;
 use ann_base::{NoMemory, Raised};
+use machine_accepts::{begin_accept, finish_without_room, has_room_for_accept, open_accept};
 use machine_calls::deliver;
 use machine_dispatching::{block, drop_delay, inherit, ready};
+use machine_entry_calls::end_at_once;
 use machine_frames::{Effect, open_sequence, raises};
 use machine_operators::Program;
 use machine_protected::begin_abortable;

@@ -5,17 +5,16 @@ ghost use Rattle.profile_machine.specs.EntryCalls.{make_call, call_gone, call_me
 ghost use Rattle.machine_frames.specs.Did.{Did};
 ghost use Rattle.machine_meetings.specs.Called.{named, new_call_of};
 
-use crate::accepting::accept_for;
-use crate::alternatives::delay_moment;
 use crate::endings::is_callable;
-use crate::making::{end_at_once, has_room_if_queued, make_call};
 use crate::meetings::{Arrival, meet};
-use crate::object_calls::call_object;
-use crate::owners::owner_of_entry;
 use crate::parameters::{entry_parameters, results_in, values_in};
 use ann_base::{CallNo, Level, Moment, NoMemory, OrMemory, Raised, TaskNo};
+use machine_accepts::{accept_for, delay_moment};
 use machine_calls::{call_in, enqueue, gone, is_full};
 use machine_dispatching::active_of;
+use machine_entry_calls::{
+    call_object, end_at_once, has_room_if_queued, make_call, owner_of_entry,
+};
 use machine_frames::{Effect, in_protected, is_deferred, raises};
 use machine_operators::{Program, entry_of, form_of};
 use machine_protected::{is_triggering, not_accepted};

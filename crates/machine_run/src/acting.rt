@@ -7,14 +7,16 @@ ghost use Rattle.machine_frames.specs.Did.{Did};
 use crate::calls::{call, call_main};
 use crate::marks::end_top_mark;
 use ann_base::NoMemory;
+use machine_accepts::{accept, selective_accept};
 use machine_controlled::{assign_controlled, declare, initialize};
+use machine_entry_calls::requeue;
 use machine_frames::{Effect, goes, raises, top_of};
 use machine_handlers::{
     add_member, add_to_budget, call_handler, cancel_budget, cancel_event, cancel_timer,
     remove_member, replenish, set_budget, set_event, set_timer,
 };
 use machine_masters::{delay_and_set_deadline, set_deadline_of, set_priority, set_quantum};
-use machine_meetings::{accept, asynchronous_select, entry_call, requeue, selective_accept};
+use machine_meetings::{asynchronous_select, entry_call};
 use machine_operators::{Program, form_of};
 use machine_statements::{
     assign, assign_array, block_statement, case_statement, delay_statement, delay_until_statement,

@@ -1,6 +1,6 @@
 use Rattle.std.proofs.Common.{◌≡◌, drop}
 use Rattle.profile_machine.specs.EntryCalls.{entry_parameters}
-use Rattle.machine_meetings.specs.Parts.{with_before}
+use Rattle.machine_accepts.specs.Parts.{with_before}
 use Rattle.machine_meetings.proofs.parameters.entry_parameters.Given as goal
 
 -- those so far before those that are left

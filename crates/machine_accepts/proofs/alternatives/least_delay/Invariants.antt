@@ -1,6 +1,6 @@
 use Rattle.std.proofs.Common.{◌≡◌, drop}
 use Rattle.profile_machine.specs.Rendezvous.{least_delay}
-use Rattle.machine_meetings.proofs.alternatives.least_delay.Given as goal
+use Rattle.machine_accepts.proofs.alternatives.least_delay.Given as goal
 
 -- the least of those from this place on
 abbrev pub invariant-loop-place : goal.invariant-loop-place

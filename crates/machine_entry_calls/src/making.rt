@@ -5,7 +5,7 @@ ghost use Rattle.profile_machine.specs.EntryCalls.{make_call, end_at_once, marks
 ghost use Rattle.profile_machine.specs.Frames.{has_room};
 ghost use Rattle.trace_text.specs.declared.events.Who.TheVariants as who;
 ghost use Rattle.machine_frames.specs.Did.{Did};
-ghost use Rattle.machine_meetings.specs.Making.{call_number, add_numbered, LeadsWith};
+ghost use Rattle.machine_entry_calls.specs.Making.{call_number, add_numbered, LeadsWith};
 
 use ann_base::{CallNo, NoMemory, Raised};
 use machine_calls::{call_drawn, copy_of_call, forget_call, says_call};
@@ -33,10 +33,12 @@ fn add_call(world: &mut World, c: Call) -> Result<(), NoMemory>
     call_drawn(&mut world.drawn)
 }
 
-// The call is made, and answered as it is then. The caller goes on behind its statement first, so
-// that where it blocks or has the object open its frame names what it does once the call has ended;
-// the end of the call may say otherwise.
-pub(crate) fn make_call(p: &Program, effect: &mut Effect, c: Call) -> Result<Call, NoMemory>
+/// The call is made, and answered as it is then. The caller goes on behind its statement first, so
+/// that where it blocks or has the object open its frame names what it does once the call has ended;
+/// the end of the call may say otherwise.
+///
+/// Errors: memory ran out, or the numbers of calls are used up.
+pub fn make_call(p: &Program, effect: &mut Effect, c: Call) -> Result<Call, NoMemory>
     ensures { IfOk result (λ made. LeadsWith (make_call p.now c) made effect.old effect.new) }
 {
     goes(effect, Who::Task(c.caller), next_of(p, c.statement));
@@ -47,9 +49,11 @@ pub(crate) fn make_call(p: &Program, effect: &mut Effect, c: Call) -> Result<Cal
     Ok(made)
 }
 
-// A call ends at once with an exception.
+/// A call ends at once with an exception.
+///
+/// Errors: memory ran out.
 #[tactic(auto, unfolding(profile_machine::specs::EntryCalls::end_at_once))]
-pub(crate) fn end_at_once(
+pub fn end_at_once(
     effect: &mut Effect,
     part: Part,
     c: &Call,
@@ -73,8 +77,8 @@ fn marks_if_queued(kind: CallKind) -> u32
     }
 }
 
-// Whether the call has room for the mark that it needs where it is queued.
-pub(crate) fn has_room_if_queued(world: &World, c: &Call) -> bool
+/// Whether the call has room for the mark that it needs where it is queued.
+pub fn has_room_if_queued(world: &World, c: &Call) -> bool
     ensures { result ≡ has_room world.now (who.Task c.now.caller) (marks_if_queued c.now.kind) 0 }
 {
     has_room(world, Who::Task(c.caller), marks_if_queued(c.kind), 0)

@@ -2,7 +2,7 @@
 ghost use Rattle.std.specs.Prelude.{◌≡◌, ◌++◌, IfOk, OnOk};
 ghost use Rattle.ann_base.specs.Answers.{Answers};
 ghost use Rattle.profile_machine.specs.Rendezvous.{is_open, open_alternatives, open_accepts, has_terminate, delay_moment_in, delay_moment, open_delays, earlier, least_delay, is_closed};
-ghost use Rattle.machine_meetings.specs.Parts.{item_in, open_kind, accept_in, delay_in};
+ghost use Rattle.machine_accepts.specs.Parts.{item_in, open_kind, accept_in, delay_in};
 
 use ann_base::{Moment, NoMemory, OrMemory, Raised};
 use machine_operators::form_of;
@@ -115,8 +115,10 @@ fn delay_moment_in(q: &Seen<'_>, form: &StatementForm) -> Result<Moment, OrMemor
     }
 }
 
-// The moment of a delay statement.
-pub(crate) fn delay_moment(q: &Seen<'_>, s: StatementNo) -> Result<Moment, OrMemory<Raised>>
+/// The moment of a delay statement.
+///
+/// Errors: the exception that its evaluation raises; memory ran out.
+pub fn delay_moment(q: &Seen<'_>, s: StatementNo) -> Result<Moment, OrMemory<Raised>>
     ensures { Answers result (delay_moment q.now s) }
 {
     delay_moment_in(q, form_of(q.program, s))

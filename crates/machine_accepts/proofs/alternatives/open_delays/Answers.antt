@@ -1,9 +1,9 @@
 use Rattle.std.proofs.Common.{◌≡◌, Err, sym, ◌∙◌, arith}
 use Rattle.std.proofs.lemmas.Grind.{common_steps}
 use Rattle.std.specs.VecDeque.Iter.{deque_iter_rest}
-use Rattle.machine_meetings.specs.Parts.{delay_in}
-use Rattle.machine_meetings.proofs.AlternativeLemmas.{delays-fail}
-use Rattle.machine_meetings.proofs.alternatives.open_delays.Goals as goal
+use Rattle.machine_accepts.specs.Parts.{delay_in}
+use Rattle.machine_accepts.proofs.AlternativeLemmas.{delays-fail}
+use Rattle.machine_accepts.proofs.alternatives.open_delays.Goals as goal
 
 pub returns-in-Err : goal.returns-in-Err
 returns-in-Err c =

@@ -1,6 +1,6 @@
 use Rattle.std.proofs.Common.{sym, ◌∙◌}
-use Rattle.machine_meetings.proofs.AlternativeLemmas.{alternatives-fail}
-use Rattle.machine_meetings.proofs.alternatives.open_alternatives.Goals as goal
+use Rattle.machine_accepts.proofs.AlternativeLemmas.{alternatives-fail}
+use Rattle.machine_accepts.proofs.alternatives.open_alternatives.Goals as goal
 
 pub returns-in-Err : goal.returns-in-Err
 returns-in-Err c =

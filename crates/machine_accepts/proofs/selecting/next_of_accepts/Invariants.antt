@@ -1,7 +1,7 @@
 use Rattle.std.proofs.Common.{◌≡◌, drop}
 use Rattle.profile_machine.specs.Calls.{next_call}
 use Rattle.profile_machine.specs.Rendezvous.{queues_of_accepts}
-use Rattle.machine_meetings.proofs.selecting.next_of_accepts.Given as goal
+use Rattle.machine_accepts.proofs.selecting.next_of_accepts.Given as goal
 
 -- the call of the accepts from this place on
 abbrev pub invariant-loop-place : goal.invariant-loop-place

@@ -1,7 +1,7 @@
 use Rattle.std.proofs.Common.{◌≡◌, drop}
 use Rattle.profile_machine.specs.Rendezvous.{open_alternatives}
-use Rattle.machine_meetings.specs.Parts.{with_before}
-use Rattle.machine_meetings.proofs.alternatives.open_alternatives.Given as goal
+use Rattle.machine_accepts.specs.Parts.{with_before}
+use Rattle.machine_accepts.proofs.alternatives.open_alternatives.Given as goal
 
 -- those so far before those that are left
 abbrev pub invariant-loop-alternative : goal.invariant-loop-alternative

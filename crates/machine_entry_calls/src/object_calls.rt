@@ -4,7 +4,7 @@ ghost use Rattle.std.specs.Prelude.{◌≡◌, ◌+◌, OnOk};
 ghost use Rattle.profile_machine.specs.EntryCalls.{make_call, call_runs, call_without_room, has_room_for_action, call_runs_if_room, call_passes, call_refused, call_closed, call_by_barrier, call_object};
 ghost use Rattle.profile_machine.specs.Program.{marks_of};
 ghost use Rattle.machine_frames.specs.Did.{Did};
-ghost use Rattle.machine_meetings.specs.Objects.{enters, starts, fails, exits, called_by_barrier};
+ghost use Rattle.machine_entry_calls.specs.Objects.{enters, starts, fails, exits, called_by_barrier};
 
 use crate::making::{end_at_once, has_room_if_queued, make_call};
 use ann_base::{NoMemory, ObjectNo, Raised};
@@ -241,9 +241,11 @@ fn called_by_barrier(
     call_by_barrier(alloc, p, effect, o, c, is_open)
 }
 
-// A call of an entry of this object.
+/// A call of an entry of this object.
+///
+/// Errors: memory ran out, or a number does not fit its type.
 #[tactic(auto, unfolding(profile_machine::specs::EntryCalls::call_object))]
-pub(crate) fn call_object(
+pub fn call_object(
     alloc: Global,
     p: &Program,
     effect: &mut Effect,

@@ -51,8 +51,10 @@ fn own_unit(q: &Seen<'_>, unit: EntryUnit) -> Result<Owner, Raised>
     }
 }
 
-// Whose entry is named.
-pub(crate) fn owner_of_entry(q: &Seen<'_>, e: EntryNo, owner: EntryOwner) -> Result<Owner, Raised>
+/// Whose entry is named.
+///
+/// Errors: the exception that is raised where the name denotes no task or object.
+pub fn owner_of_entry(q: &Seen<'_>, e: EntryNo, owner: EntryOwner) -> Result<Owner, Raised>
     ensures { result ≡ owner_of_entry q.now e owner }
 {
     let unit = entry_of(q.program, e).unit;

@@ -58,8 +58,8 @@ pub fn first_accept(p: &Program, e: EntryNo, accepts: &List<StatementNo>) -> Opt
     Some(*found_accept(p, e, accepts)?)
 }
 
-// The accept with which the one with this name waits for calls of an entry.
-pub(crate) fn accept_for(p: &Program, world: &World, name: Who, e: EntryNo) -> Option<StatementNo>
+/// The accept with which the one with this name waits for calls of an entry.
+pub fn accept_for(p: &Program, world: &World, name: Who, e: EntryNo) -> Option<StatementNo>
     ensures { result ≡ accept_for p.now e (waiting_of world.now name) }
 {
     match waiting_of(world, name) {
@@ -79,8 +79,10 @@ fn accept_alone(p: &Program, e: EntryNo, s: StatementNo) -> Option<StatementNo>
     }
 }
 
-// The mark of an accept is opened, with the parameters of the call in its scope.
-pub(crate) fn open_accept(
+/// The mark of an accept is opened, with the parameters of the call in its scope.
+///
+/// Errors: memory ran out.
+pub fn open_accept(
     alloc: Global,
     p: &Program,
     world: &mut World,
@@ -107,16 +109,19 @@ pub(crate) fn open_accept(
     push(world, name, new_frame(mark, scope_of(p, scope).first))
 }
 
-pub(crate) fn has_room_for_accept(p: &Program, world: &World, name: Who, s: StatementNo) -> bool
+/// Whether there is room for the mark of this accept and for its scope.
+pub fn has_room_for_accept(p: &Program, world: &World, name: Who, s: StatementNo) -> bool
     ensures { result ≡ has_room_for_accept p.now world.now name s }
 {
     let scope = accept_scope(form_of(p, s));
     has_room(world, name, marks_of(p, scope), scope_of(p, scope).size)
 }
 
-// The call begins, and the acceptor will go on behind its accept.
+/// The call begins, and the acceptor will go on behind its accept.
+///
+/// Errors: memory ran out.
 #[tactic(auto, unfolding(profile_machine::specs::Rendezvous::begin_accept))]
-pub(crate) fn begin_accept(
+pub fn begin_accept(
     p: &Program,
     effect: &mut Effect,
     part: Part,
@@ -131,9 +136,11 @@ pub(crate) fn begin_accept(
     Ok(())
 }
 
-// Without room for the accept body the call finishes at once with Storage_Error.
+/// Without room for the accept body the call finishes at once with Storage_Error.
+///
+/// Errors: memory ran out.
 #[tactic(auto, unfolding(profile_machine::specs::Rendezvous::finish_without_room))]
-pub(crate) fn finish_without_room(
+pub fn finish_without_room(
     effect: &mut Effect,
     part: Part,
     name: Who,

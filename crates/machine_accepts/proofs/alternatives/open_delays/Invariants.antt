@@ -1,8 +1,8 @@
 use Rattle.std.proofs.Common.{◌≡◌}
 use Rattle.std.specs.VecDeque.Iter.{deque_iter_rest}
 use Rattle.profile_machine.specs.Rendezvous.{open_delays}
-use Rattle.machine_meetings.specs.Parts.{with_before}
-use Rattle.machine_meetings.proofs.alternatives.open_delays.Given as goal
+use Rattle.machine_accepts.specs.Parts.{with_before}
+use Rattle.machine_accepts.proofs.alternatives.open_delays.Given as goal
 
 -- those so far before those that are to come
 abbrev pub invariant-loop-kind : goal.invariant-loop-kind

@@ -16,8 +16,8 @@ use Rattle.profile_machine.specs.Operators.{Valued, ◌>>=◌}
 use Rattle.profile_machine.specs.Rendezvous.{is_open, with_open, open_alternatives, open_accepts, delay_moment, open_delays, earlier, least_delay}
 use Rattle.profile_machine.specs.Values.{Seen}
 use Rattle.profile_machine.specs.Words.{some_where}
-use Rattle.machine_meetings.specs.Parts.{with_before, item_in, open_kind, accept_in, delay_in}
-use Rattle.machine_meetings.proofs.QueueLemmas.{dropped-before, not-dropped-before}
+use Rattle.machine_accepts.specs.Parts.{with_before, item_in, open_kind, accept_in, delay_in}
+use Rattle.machine_accepts.proofs.QueueLemmas.{dropped-before, not-dropped-before}
 
 joined : {X : Type 0} (xs : List X) (x : X) (ys : List X) → xs ++ (x ∷ ys) ≡ (xs ++ x ∷ []) ++ ys
 joined xs x ys = sym (append_assoc xs (x ∷ []) ys)

@@ -1,0 +1,2 @@
+pub mod AlternativeLemmas
+pub mod QueueLemmas

@@ -1,27 +1,18 @@
 -- One level further in, and two.
-use Rattle.std.proofs.Common.{◌≡◌, ℕ, zero, suc, ◌-◌, ◌<◌, List, length, Result, Err, ap, refl, arith}
-use Rattle.std.specs.declared.alloc.Global.{Global}
-use denote.Ref.{MutBor}
-use Rattle.ada_tree.specs.declared.statements.Sequence.{Sequence}
+use Rattle.std.proofs.Common.{◌≡◌, ℕ, zero, suc, ◌-◌, ◌<◌, List, length, Err, ap, refl, arith}
 use Rattle.ada_tree.specs.declared.statements.SequenceRole.{SequenceRole}
 use Rattle.ada_tree.specs.Written.{Lexeme}
-use Rattle.ann_base.specs.declared.faults.OrMemory.{OrMemory}
-use Rattle.ada_grammar.specs.declared.stuck.Stuck.{Stuck}
 use Rattle.ada_grammar.specs.declared.stuck.Stuck.TheVariants as stuck
 use Rattle.ada_grammar.specs.Reading.{below}
-use Rattle.ada_grammar.specs.ReadingSimple.{call_of, delay_of}
-use Rattle.ada_sequences.specs.Inside.{ReadsInside}
-use Rattle.ada_grammar.specs.ReadingStatements.{accept_of, accept_opened_of, call_opened_of, delay_opened_of, statement_inside_of}
+use Rattle.ada_grammar.specs.ReadingStatements.{statement_inside_of}
 use Rattle.ada_grammar.specs.ReadingSequences.{inside_of, parts_of, sequence_of, statement_of}
+use Rattle.ada_statements.proofs.Levels.{less_one}
 
 pub sequence_is_parts : (left : ℕ) (role : SequenceRole) (ls : List Lexeme) → sequence_of left role ls ≡ parts_of left (inside_of left) (inside_of (below left)) role ls
 unfolding sequence_of inside_of
 sequence_is_parts zero role ls = refl
 sequence_is_parts (suc zero) role ls = refl
 sequence_is_parts (suc (suc left)) role ls = refl
-
-less_one : (left : ℕ) → left ≡ suc left - 1
-less_one left = omega arith
 
 pub none_inside : (left : ℕ) (role : SequenceRole) (ls : List Lexeme) → left ≡ 0 → inside_of left role ls ≡ Err (stuck.At (length ls))
 unfolding inside_of
@@ -33,21 +24,6 @@ unfolding inside_of
 one_inside zero role ls p = absurd (omega arith)
 one_inside (suc left) role ls p = ap (λ m. sequence_of m role ls) (less_one left)
 
-pub call_inside : (left : ℕ) (ls : List Lexeme) → 0 < left → call_opened_of left ls ≡ call_of (left - 1) ls
-unfolding call_opened_of
-call_inside zero ls p = absurd (omega arith)
-call_inside (suc left) ls p = ap (λ m. call_of m ls) (less_one left)
-
-pub delay_inside : (left : ℕ) (ls : List Lexeme) → 0 < left → delay_opened_of left ls ≡ delay_of (left - 1) ls
-unfolding delay_opened_of
-delay_inside zero ls p = absurd (omega arith)
-delay_inside (suc left) ls p = ap (λ m. delay_of m ls) (less_one left)
-
-pub accept_inside : (left : ℕ) (ls : List Lexeme) → 0 < left → accept_opened_of left (inside_of left) ls ≡ accept_of (left - 1) (sequence_of (left - 1)) ls
-unfolding inside_of
-accept_inside zero ls p = absurd (omega arith)
-accept_inside (suc left) ls p = ap (λ m. accept_of m (sequence_of m) ls) (less_one left)
-
 pub statement_inside : (left : ℕ) (ls : List Lexeme) → 0 < left
     → statement_of left (inside_of left) (inside_of (below left)) ls ≡ statement_inside_of (left - 1) (sequence_of (left - 1)) (inside_of (left - 1)) ls
 unfolding statement_of inside_of
@@ -57,12 +33,3 @@ statement_inside (suc left) ls p = ap (λ m. statement_inside_of m (sequence_of 
 pub less_below : (left m : ℕ) → m < below left → m < left
 less_below zero m p = p
 less_below (suc left) m p = omega arith
-
--- what reads inside more levels reads inside fewer
-pub reads_further_in : {pre : Global → MutBor (List Lexeme) → ℕ → SequenceRole → Type 0}
-    {post : Global → MutBor (List Lexeme) → ℕ → SequenceRole → Result Sequence (OrMemory Stuck) → MutBor (List Lexeme) → Type 0}
-    (left fewer : ℕ) → ((m : ℕ) → m < fewer → m < left) → ReadsInside left pre post → ReadsInside fewer pre post
-reads_further_in left fewer less whole = record {
-  callable = λ alloc old m role p. whole.callable alloc old m role (less m p);
-  reads = λ alloc old new m role answer p q. whole.reads alloc old new m role answer (less m p) q;
-}

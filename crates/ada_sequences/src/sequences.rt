@@ -2,15 +2,15 @@
 ghost use Rattle.std.specs.Prelude.{◌≡◌, [], IfOk, codes};
 ghost use Rattle.ada_grammar.specs.Reading.{below, items_of, sees_word};
 ghost use Rattle.ada_grammar.specs.Reads.{Reads};
-ghost use Rattle.ada_sequences.specs.Inside.{ReadsInside};
+ghost use Rattle.ada_statements.specs.Inside.{ReadsInside};
 ghost use Rattle.ada_grammar.specs.ReadingBodies.{begins_declaration};
 ghost use Rattle.ada_grammar.specs.ReadingStatements.{begins_statement};
 ghost use Rattle.ada_grammar.specs.ReadingSequences.{declarations_of, given_handlers_of, handled_behind_of, handler_of, handlers_of, inside_of, made, parts_of, plain_of, statement_of, statements_of, whole_body_of};
 
 use crate::bodies::begins_declaration;
-use crate::statements::{StatementReader, begins_statement};
 use ada_clauses::handled_exceptions;
 use ada_grammar::{Cursor, Stuck};
+use ada_statements::{StatementReader, begins_statement};
 use ada_tree::{Declaration, Handler, OneOrMore, Sequence, SequenceParts, SequenceRole, Statement};
 use ann_base::{NoMemory, OrMemory};
 use sqlite_items::{Boxed, Items};

@@ -1,5 +1,6 @@
 use Rattle.std.proofs.Common.{suc, ◌-◌, arith}
-use Rattle.ada_sequences.proofs.Levels.{reads_further_in, statement_inside}
+use Rattle.ada_statements.proofs.Levels.{reads_further_in}
+use Rattle.ada_sequences.proofs.Levels.{statement_inside}
 use Rattle.ada_sequences.proofs.sequences.SequenceReader.statement.Goals as goal
 
 pub statement-requires : goal.statement-requires

@@ -5,7 +5,7 @@ ghost use Rattle.std.specs.Char.{to_ascii_lowercase};
 ghost use Rattle.ada_grammar.specs.Reading.{behind_delimiter_of, end_name_of, items_of, sees_delimiter, sees_word, separated_of};
 ghost use Rattle.ada_grammar.specs.Reads.{Reads};
 ghost use Rattle.ada_grammar.specs.ReadingSimple.{choice_of};
-ghost use Rattle.ada_sequences.specs.Inside.{ReadsInside};
+ghost use Rattle.ada_statements.specs.Inside.{ReadsInside};
 ghost use Rattle.ada_grammar.specs.ReadingStatements.{accept_body_of, accept_of, begin_of, begins_block, begins_compound, begins_loop, begins_simple, begins_statement, block_end_of, block_of, case_alternative_of, case_alternatives_of, case_of, compound_of, declare_of, else_of, elsif_of, if_of, labelled_of, loop_of, named_statement_of, optional_statements_of, sees_label, simple_statement_of, statement_inside_of};
 ghost use Rattle.ada_grammar.specs.ReadingSequences.{inside_of, sequence_of};
 
@@ -95,7 +95,7 @@ impl<
     F: Fn(Global, &mut Cursor<'_>, usize, SequenceRole) -> Result<Sequence, OrMemory<Stuck>> + Copy,
 > StatementReader<F> {
     /// The sequence inside a statement.
-    pub fn sequence(
+    pub(crate) fn sequence(
         &self,
         cursor: &mut Cursor<'_>,
         role: SequenceRole,
@@ -141,7 +141,10 @@ impl<
 
     /// `[else STATEMENTS]` (5.3, 9.7.1)
     #[tactic(auto, unfolding(ada_grammar::specs::ReadingStatements::else_of))]
-    pub fn otherwise(&self, cursor: &mut Cursor<'_>) -> Result<Option<Sequence>, OrMemory<Stuck>>
+    pub(crate) fn otherwise(
+        &self,
+        cursor: &mut Cursor<'_>,
+    ) -> Result<Option<Sequence>, OrMemory<Stuck>>
         requires reads { ReadsInside (suc self.now.left) (F.pre self.now.read) (F.post self.now.read) }
         ensures { Reads result cursor.new (else_of self.now.left (sequence_of self.now.left) cursor.old) }
     {
@@ -430,7 +433,10 @@ impl<
 
     /// An accept statement (9.5.2).
     #[tactic(auto, unfolding(ada_grammar::specs::ReadingStatements::accept_of))]
-    pub fn accept(&self, cursor: &mut Cursor<'_>) -> Result<Accept<Sequence>, OrMemory<Stuck>>
+    pub(crate) fn accept(
+        &self,
+        cursor: &mut Cursor<'_>,
+    ) -> Result<Accept<Sequence>, OrMemory<Stuck>>
         requires reads { ReadsInside (suc self.now.left) (F.pre self.now.read) (F.post self.now.read) }
         ensures { Reads result cursor.new (accept_of self.now.left (sequence_of self.now.left) cursor.old) }
     {
@@ -449,7 +455,7 @@ impl<
 
     /// Statements, where some stand there.
     #[tactic(auto, unfolding(ada_grammar::specs::ReadingStatements::optional_statements_of))]
-    pub fn optional_statements(
+    pub(crate) fn optional_statements(
         &self,
         cursor: &mut Cursor<'_>,
     ) -> Result<Option<Sequence>, OrMemory<Stuck>>

@@ -2,7 +2,7 @@
 ghost use Rattle.std.specs.Prelude.{◌≡◌, suc, codes};
 ghost use Rattle.ada_grammar.specs.Reading.{items_of, sees_word};
 ghost use Rattle.ada_grammar.specs.Reads.{Reads};
-ghost use Rattle.ada_sequences.specs.Inside.{ReadsInside};
+ghost use Rattle.ada_statements.specs.Inside.{ReadsInside};
 ghost use Rattle.ada_grammar.specs.ReadingStatements.{accept_alternative_of, accept_opened_of, alternative_of, asynchronous_of, behind_call_of, call_opened_of, call_select_of, conditional_of, delay_alternative_of, delay_opened_of, delay_select_of, guard_of, next_alternative_of, select_alternative_of, select_form_of, select_of, selective_of, terminate_of, timed_of};
 ghost use Rattle.ada_grammar.specs.ReadingSequences.{inside_of, sequence_of};
 
@@ -344,7 +344,10 @@ impl<
 
     /// A select statement.
     #[tactic(auto, unfolding(ada_grammar::specs::ReadingStatements::select_of))]
-    pub fn select(&self, cursor: &mut Cursor<'_>) -> Result<Statement<Sequence>, OrMemory<Stuck>>
+    pub(crate) fn select(
+        &self,
+        cursor: &mut Cursor<'_>,
+    ) -> Result<Statement<Sequence>, OrMemory<Stuck>>
         requires reads { ReadsInside (suc self.now.left) (F.pre self.now.read) (F.post self.now.read) }
         ensures { Reads result cursor.new (select_of self.now.left (sequence_of self.now.left) (inside_of self.now.left) cursor.old) }
     {

@@ -3,8 +3,8 @@ ghost use Rattle.std.specs.Prelude.{◌≡◌};
 ghost use Rattle.ada_tree.specs.ShapeExpressions.{optional_fits};
 ghost use Rattle.ada_tree.specs.ShapeStatements.{index_fits, statements_fit, parts_fit};
 
-use crate::shape::{Fit, bracketed_fit, within};
-use crate::shape_expressions::FitExpression;
+use crate::expressions::FitExpression;
+use crate::fitting::{Fit, bracketed_fit, within};
 use ada_tree::{
     Accept, AcceptBody, Alternative, Assignment, Block, Call, Case, CaseAlternative, Choice,
     Constraint, Delay, Elsif, Expression, Guard, Handler, If, Iteration, Loop, Parameter,

@@ -1,6 +1,6 @@
 //! Which declarations are those of the grammar (ISO/IEC 8652:2012, clauses 3, 6, 9, 11, 13).
-use crate::shape::{Fit, bracketed_fit};
-use crate::shape_statements::FitSequence;
+use crate::fitting::{Fit, bracketed_fit};
+use crate::statements::FitSequence;
 use ada_tree::{
     Aspect, Body, Component, Declaration, EntryDeclaration, EntryHead, ObjectDeclaration,
     OperationBody, ProtectedBody, ProtectedDeclaration, ProtectedOperation, SequenceRole,

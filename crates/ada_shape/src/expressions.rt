@@ -2,7 +2,7 @@
 ghost use Rattle.std.specs.Prelude.{◌≡◌};
 ghost use Rattle.ada_tree.specs.ShapeExpressions.{rank, precedence_of, parts_fit};
 
-use crate::shape::{Fit, bracketed_fit};
+use crate::fitting::{Fit, bracketed_fit};
 use ada_tree::{Addend, Argument, Expression, ExpressionForm, Multiplied, Operand, Precedence};
 
 /// What is an expression.

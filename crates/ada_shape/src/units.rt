@@ -3,8 +3,8 @@ ghost use Rattle.std.specs.Prelude.{◌≡◌};
 ghost use Rattle.ada_tree.specs.ShapeExpressions.{optional_fits, within};
 ghost use Rattle.ada_tree.specs.Shape.{is_shaped, is_empty, handled_fits, package_statements_fit, package_parts_fit};
 
-use crate::shape::Fit;
-use crate::shape_statements::FitSequence;
+use crate::fitting::Fit;
+use crate::statements::FitSequence;
 use ada_tree::{
     LibraryPackage, MAX_NESTING, MainProcedure, Package, PackageBody, PackageDeclaration, Pragma,
     Sequence, SequenceParts, SequenceRole, Unit,

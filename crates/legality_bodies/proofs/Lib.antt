@@ -1,4 +1,3 @@
-pub mod Handled
 pub mod Lists
 pub mod StatementFolds
 pub mod SequenceFolds

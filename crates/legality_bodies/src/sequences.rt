@@ -1,9 +1,9 @@
 //! Sequences of statements with their declarations and handlers (ISO/IEC 8652:2012, 3.11, 11.2).
-use crate::handlers::handled_judged;
 use crate::judging::{Judge, judge_all, judge_each};
 use ada_legality::{Finding, Known};
 use ada_tree::{Sequence, SequenceParts};
 use ann_base::NoMemory;
+use legality_handlers::handled_judged;
 use std::alloc::Global;
 use world_tables::List;
 

@@ -1,6 +1,6 @@
 use Rattle.std.proofs.Common.{◌≡◌, ◌++◌, None, drop, map}
-use Rattle.legality_bodies.specs.Handled.{others_behind}
-use Rattle.legality_bodies.proofs.handlers.others_behind.Given as goal
+use Rattle.legality_handlers.specs.Handled.{others_behind}
+use Rattle.legality_handlers.proofs.handlers.others_behind.Given as goal
 
 -- what is found by now, and what the handlers to come give, is all
 abbrev pub invariant-loop-handler : goal.invariant-loop-handler

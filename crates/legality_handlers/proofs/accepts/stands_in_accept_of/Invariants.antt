@@ -2,7 +2,7 @@ use Rattle.std.proofs.Common.{◌≡◌}
 use Rattle.std.specs.VecDeque.Iter.{deque_iter_rest}
 use Rattle.ada_legality.specs.Statements.{accepts_entry}
 use Rattle.ada_legality.specs.Words.{any_in_body}
-use Rattle.legality_bodies.proofs.accepts.stands_in_accept_of.Given as goal
+use Rattle.legality_handlers.proofs.accepts.stands_in_accept_of.Given as goal
 
 -- the constructs further out give what all of them give
 abbrev pub invariant-loop-around : goal.invariant-loop-around

@@ -1,6 +1,6 @@
 use Rattle.std.proofs.Common.{◌≡◌, ◌++◌, drop}
-use Rattle.legality_bodies.specs.Handled.{repeated_along}
-use Rattle.legality_bodies.proofs.handlers.repeated_along.Given as goal
+use Rattle.legality_handlers.specs.Handled.{repeated_along}
+use Rattle.legality_handlers.proofs.handlers.repeated_along.Given as goal
 
 -- what is found by now, and what the names to come give, is all
 abbrev pub invariant-loop-name : goal.invariant-loop-name

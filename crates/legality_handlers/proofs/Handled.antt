@@ -14,7 +14,7 @@ use Rattle.ada_legality.specs.declared.standing.Known.{Known}
 use Rattle.ada_tree.specs.declared.names.Name.{Name}
 use Rattle.ada_tree.specs.declared.statements.HandledExceptions.{HandledExceptions}
 use Rattle.ada_tree.specs.declared.statements.HandledExceptions.TheVariants as exceptions
-use Rattle.legality_bodies.specs.Handled.{others_behind, others_here, others_place, repeated_along}
+use Rattle.legality_handlers.specs.Handled.{others_behind, others_here, others_place, repeated_along}
 
 -- ---- names
 

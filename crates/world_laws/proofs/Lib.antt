@@ -1,2 +1,3 @@
 pub mod KeptFacts
 pub mod MasterTrees
+pub mod ValueCounts

@@ -1,1 +1,2 @@
 pub mod MasterLaws
+pub mod ValueLaws

@@ -1,21 +1,13 @@
 -- Parts of what is made of compound statements.
-use Rattle.std.specs.Prelude.{Bool, Option}
+use Rattle.std.specs.Prelude.{Option}
 use Rattle.ada_tree.specs.declared.statements.CaseAlternative.{CaseAlternative}
 use Rattle.ada_tree.specs.declared.statements.Handler.{Handler}
-use Rattle.profile_machine.specs.declared.numbers.DeclNo.{DeclNo}
 use Rattle.profile_machine.specs.declared.numbers.StatementNo.{StatementNo}
 use Rattle.profile_machine.specs.declared.declarations.Handler.{Handler as ExceptionHandler}
 use Rattle.profile_machine.specs.declared.statements.CaseAlternative.{CaseAlternative as CaseActions}
-use Rattle.profile_machine.specs.declared.statements.StatementForm.TheVariants as action
 use Rattle.ada_image.specs.declared.making.Within.{Within}
-use Rattle.ada_image.specs.Making.{Making, ◌>>=◌, ◌>>◌, pure, put_at, the_action, in_handler}
+use Rattle.ada_image.specs.Making.{Making, ◌>>=◌, pure, the_action, in_handler}
 use Rattle.ada_image.specs.ImageOfStatements.{SequenceMaking, inside, choices_made, handled_made}
-
--- the turns of a for loop
-abbrev pub turns_put : StatementNo → StatementNo → DeclNo → Bool → StatementNo → Option StatementNo → Making (Option StatementNo)
-turns_put first later d reverse body next = do
-  put_at first (action.FirstTurn d reverse body) 0 next
-  put_at later (action.LaterTurn d reverse body) 0 next
 
 module _ {Q : Type 0} (sequence : Q → SequenceMaking) where
   unfoldable pub alternative_made : Within → CaseAlternative Q → Option StatementNo → Making CaseActions

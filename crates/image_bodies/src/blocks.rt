@@ -9,7 +9,8 @@ use crate::making::MakeSequence;
 use ada_image::{Lists, SequencePlace, Within};
 use ada_tree::{Accept, AcceptBody, Block, Handler};
 use ann_base::NoMemory;
-use image_layout::{first_put, in_construct, in_handler, in_scope, put_at, reserved, the_action};
+use image_layout::{in_handler, reserved, the_action};
+use image_parts::{in_statement_scope, scope_action};
 use image_statements::{entry_at, handled_made, scope_at};
 use profile_machine::{Handler as ExceptionHandler, ScopeNo, Sequence, StatementForm, StatementNo};
 use std::alloc::Global;
@@ -27,14 +28,13 @@ pub(crate) fn block_put<Q: MakeSequence>(
 {
     let scope = scope_at(within.names.get(), block.place)?;
     let s = reserved(lists)?;
-    let outer = in_scope(within, scope)?;
-    let inner = in_construct(&outer, s)?;
+    let inner = in_statement_scope(within, scope, s)?;
     let place = SequencePlace::AsBody(false);
     let first = block
         .sequence
         .sequence_put(alloc, lists, place, &inner, None)?;
-    first_put(lists, scope, first)?;
-    put_at(lists, s, StatementForm::Block(ScopeNo(scope)), 0, next)
+    let form = StatementForm::Block(ScopeNo(scope));
+    scope_action(lists, scope, first, s, form, next)
 }
 
 /// An exception handler (11.2).
@@ -91,8 +91,7 @@ fn accept_body_put<Q: MakeSequence>(
     match body {
         None => Ok(None),
         Some(body) => {
-            let outer = in_scope(within, scope)?;
-            let inner = in_construct(&outer, s)?;
+            let inner = in_statement_scope(within, scope, s)?;
             let place = SequencePlace::BehindDeclarations(None);
             body.sequence
                 .sequence_put(alloc, lists, place, &inner, None)
@@ -115,10 +114,9 @@ pub(crate) fn accept_put<Q: MakeSequence>(
     let entry = entry_at(within, accept.entry.place);
     let s = reserved(lists)?;
     let first = accept_body_put(alloc, lists, within, s, scope, &accept.body)?;
-    first_put(lists, scope, first)?;
     let form = StatementForm::Accept {
         entry,
         scope: ScopeNo(scope),
     };
-    put_at(lists, s, form, 0, next)
+    scope_action(lists, scope, first, s, form, next)
 }

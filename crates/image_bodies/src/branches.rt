@@ -8,10 +8,10 @@ use crate::making::MakeSequence;
 use ada_image::{Lists, SequencePlace, Within};
 use ada_tree::{Case, CaseAlternative, Elsif, Expression, If, OneOrMore};
 use ann_base::NoMemory;
-use image_expressions::{expression_made, signs_in};
-use image_layout::{action_put, the_action};
+use image_layout::the_action;
+use image_parts::{case_action, if_action};
 use image_statements::choices_made;
-use profile_machine::{CaseAlternative as CaseActions, Sequence, StatementForm, StatementNo};
+use profile_machine::{CaseAlternative as CaseActions, Sequence, StatementNo};
 use std::alloc::Global;
 
 /// The statements of a compound statement lead to what comes behind it.
@@ -58,15 +58,8 @@ fn branch_put<Q: MakeSequence>(
 ) -> Result<Option<StatementNo>, NoMemory>
     ensures { Made (branch_put Q.making within.now condition.now statements.now otherwise next) lists.old lists.new result }
 {
-    let signs = signs_in(within, condition)?;
     let first = inside(alloc, lists, statements, within, next)?;
-    let condition = expression_made(lists, condition, within)?;
-    let form = StatementForm::If {
-        condition,
-        first: the_action(first),
-        otherwise,
-    };
-    action_put(lists, form, signs, next)
+    if_action(lists, within, condition, first, otherwise, next)
 }
 
 /// The branches behind `elsif`, from the last to the first (5.3).
@@ -175,12 +168,6 @@ pub(crate) fn case_put<Q: MakeSequence>(
 ) -> Result<Option<StatementNo>, NoMemory>
     ensures { Made (case_put Q.making within.now case.now next) lists.old lists.new result }
 {
-    let signs = signs_in(within, &case.selector)?;
     let alternatives = alternatives_put(alloc, lists, within, &case.alternatives, next)?;
-    let selector = expression_made(lists, &case.selector, within)?;
-    let form = StatementForm::Case {
-        selector,
-        alternatives,
-    };
-    action_put(lists, form, signs, next)
+    case_action(lists, within, &case.selector, alternatives, next)
 }

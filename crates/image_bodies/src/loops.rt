@@ -1,18 +1,16 @@
 //! Loops (ISO/IEC 8652:2012, 5.5): the body leads back to the loop's statement.
 ghost use Rattle.std.specs.Prelude.{◌≡◌};
 ghost use Rattle.ada_image.specs.Made.{Made};
-ghost use Rattle.ada_image.specs.ImageOfStatements.{loop_parameter_number, label_of, loop_body, forever_put, while_put, parameter_of, for_put, iteration_put, loop_put};
-ghost use Rattle.image_bodies.specs.Parts.{turns_put};
+ghost use Rattle.ada_image.specs.ImageOfStatements.{label_of, loop_body, forever_put, while_put, parameter_of, for_put, iteration_put, loop_put};
 
 use crate::branches::inside;
 use crate::making::MakeSequence;
 use ada_entities::{entity_denoted, kind_at};
 use ada_image::{Lists, Within};
-use ada_regions::EntityKind;
 use ada_tree::{Expression, Identifier, Iteration, Loop};
 use ann_base::NoMemory;
-use image_expressions::{expression_made, signs_in};
-use image_layout::{action_put, added, in_loop, put_at, reserved, the_action};
+use image_layout::{in_loop, put_at, reserved, the_action};
+use image_parts::{for_action, loop_parameter_number, while_action};
 use profile_machine::{DeclNo, StatementForm, StatementNo};
 use std::alloc::Global;
 
@@ -75,25 +73,9 @@ fn while_put<Q: MakeSequence>(
 ) -> Result<Option<StatementNo>, NoMemory>
     ensures { Made (while_put Q.making within.now statement.now condition.now next) lists.old lists.new result }
 {
-    let signs = signs_in(within, condition)?;
     let s = reserved(lists)?;
     let body = loop_body(alloc, lists, within, statement, s, s)?;
-    let condition = expression_made(lists, condition, within)?;
-    let form = StatementForm::While {
-        condition,
-        body: the_action(body),
-        within: within.construct,
-    };
-    put_at(lists, s, form, signs, next)
-}
-
-fn loop_parameter_number(kind: &EntityKind) -> Option<DeclNo>
-    ensures { result ≡ loop_parameter_number kind.now }
-{
-    match kind {
-        EntityKind::LoopParameter(declaration) => Some(*declaration),
-        _ => None,
-    }
+    while_action(lists, within, s, condition, the_action(body), next)
 }
 
 /// The number of a loop parameter.
@@ -108,32 +90,6 @@ fn parameter_of<Q: MakeSequence>(within: &Within<'_, '_>, identifier: &Identifie
             Some(kind) => loop_parameter_number(kind).unwrap_or(DeclNo(0)),
         },
     }
-}
-
-/// The turns of a for loop, which its statement and its body lead to.
-fn turns_put(
-    lists: &mut Lists,
-    first: StatementNo,
-    later: StatementNo,
-    parameter: DeclNo,
-    reverse: bool,
-    body: StatementNo,
-    next: Option<StatementNo>,
-) -> Result<Option<StatementNo>, NoMemory>
-    ensures { Made (turns_put first later parameter reverse body next) lists.old lists.new result }
-{
-    let first_turn = StatementForm::FirstTurn {
-        parameter,
-        reverse,
-        body,
-    };
-    put_at(lists, first, first_turn, 0, next)?;
-    let later_turn = StatementForm::LaterTurn {
-        parameter,
-        reverse,
-        body,
-    };
-    put_at(lists, later, later_turn, 0, next)
 }
 
 /// A for loop.
@@ -151,31 +107,23 @@ fn for_put<Q: MakeSequence>(
 ) -> Result<Option<StatementNo>, NoMemory>
     ensures { Made (for_put Q.making within.now statement.now parameter reverse low.now high.now next) lists.old lists.new result }
 {
-    let signs = added(signs_in(within, low)?, signs_in(within, high)?)?;
     let s = reserved(lists)?;
     let first = reserved(lists)?;
     let later = reserved(lists)?;
     let body = loop_body(alloc, lists, within, statement, s, later)?;
-    turns_put(
+    for_action(
         lists,
+        within,
+        s,
         first,
         later,
         parameter,
         reverse,
-        the_action(body),
-        next,
-    )?;
-    let low = expression_made(lists, low, within)?;
-    let high = expression_made(lists, high, within)?;
-    let form = StatementForm::For {
-        parameter,
-        reverse,
         low,
         high,
-        turn: first,
-        within: within.construct,
-    };
-    put_at(lists, s, form, signs, next)
+        the_action(body),
+        next,
+    )
 }
 
 /// A loop statement (5.5).

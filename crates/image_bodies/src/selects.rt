@@ -1,22 +1,23 @@
 //! Select statements (ISO/IEC 8652:2012, 9.7): an accept, a delay and a call have statements of their own, which lead to those
 //! behind them.
-ghost use Rattle.std.specs.Prelude.{◌≡◌, ◌∷◌, ◌+◌, option_copied, IfOk};
+ghost use Rattle.std.specs.Prelude.{◌≡◌, ◌∷◌, ◌+◌, IfOk};
 ghost use Rattle.ada_image.specs.Made.{Made};
 ghost use Rattle.ada_image.specs.ImageOfExpressions.{signs_if};
-ghost use Rattle.ada_image.specs.ImageOfStatements.{guard_of, signs_in_trigger, alternative_put, select_alternative_put, select_alternatives_put, signs_in_alternative, signs_in_alternatives, else_put, selective_accept_put, call_before, delay_before, timed_call_put, conditional_call_put, trigger_put, asynchronous_put, select_put};
+ghost use Rattle.ada_image.specs.ImageOfStatements.{guard_of, alternative_put, select_alternative_put, select_alternatives_put, signs_in_alternative, signs_in_alternatives, else_put, selective_accept_put, call_before, delay_before, timed_call_put, conditional_call_put, trigger_put, asynchronous_put, select_put};
 
 use crate::blocks::accept_put;
 use crate::branches::{inside, inside_if};
 use crate::making::MakeSequence;
 use ada_image::{Lists, Within};
 use ada_tree::{
-    Alternative, AsynchronousSelect, Call, ConditionalEntryCall, Delay, Expression, Guard,
-    OneOrMore, SelectAlternative, SelectForm, SelectiveAccept, TimedEntryCall, Trigger,
+    Alternative, AsynchronousSelect, Call, ConditionalEntryCall, Delay, OneOrMore,
+    SelectAlternative, SelectForm, SelectiveAccept, TimedEntryCall, Trigger,
 };
 use ann_base::NoMemory;
 use image_calls::{call_statement_put, signs_in_actuals};
 use image_expressions::signs_in;
 use image_layout::{action_put, added, in_construct, put_at, reserved, the_action};
+use image_parts::{guard_of, signs_in_guard, signs_in_timed_call, signs_in_trigger};
 use image_statements::{condition_made, delay_put};
 use profile_machine::{
     SelectAlternative as GuardedAlternative, SelectAlternatives, SelectKind, StatementForm,
@@ -47,15 +48,6 @@ fn alternative_put<Q: MakeSequence>(
             Ok(SelectKind::Delay(the_action(s)))
         }
         Alternative::Terminate { .. } => Ok(SelectKind::Terminate),
-    }
-}
-
-fn guard_of(guard: &Option<Guard>) -> Option<&Expression>
-    ensures { option_copied result ≡ guard_of guard.now }
-{
-    match guard {
-        None => None,
-        Some(guard) => Some(&guard.condition),
     }
 }
 
@@ -94,16 +86,6 @@ fn select_alternatives_put<Q: MakeSequence>(
         made.push(one)?;
     }
     Ok(made)
-}
-
-#[tactic(auto, unfolding(ada_image::specs::ImageOfExpressions::signs_if))]
-fn signs_in_guard(within: &Within<'_, '_>, guard: &Option<Guard>) -> Result<u32, NoMemory>
-    ensures { IfOk result (λ signs. signs ≡ signs_if within.now (guard_of guard.now)) }
-{
-    match guard {
-        None => Ok(0),
-        Some(guard) => signs_in(within, &guard.condition),
-    }
 }
 
 #[tactic(auto, unfolding(ada_image::specs::ImageOfStatements::signs_in_alternative))]
@@ -234,9 +216,7 @@ fn timed_call_put<Q: MakeSequence>(
 ) -> Result<Option<StatementNo>, NoMemory>
     ensures { Made (timed_call_put Q.making within.now select.now next) lists.old lists.new result }
 {
-    let in_call = signs_in_actuals(within, select.call.arguments.as_slice())?;
-    let in_delay = signs_in(within, &select.delay.value)?;
-    let signs = added(in_call, in_delay)?;
+    let signs = signs_in_timed_call(within, &select.call, &select.delay)?;
     let call = call_before(alloc, lists, within, &select.call, &select.statements, next)?;
     let behind = &select.delay_statements;
     let delay = delay_before(alloc, lists, within, &select.delay, behind, next)?;
@@ -266,16 +246,6 @@ fn conditional_call_put<Q: MakeSequence>(
         otherwise: the_action(otherwise),
     };
     action_put(lists, form, signs, next)
-}
-
-#[tactic(auto, unfolding(ada_image::specs::ImageOfStatements::signs_in_trigger))]
-fn signs_in_trigger(within: &Within<'_, '_>, trigger: &Trigger) -> Result<u32, NoMemory>
-    ensures { IfOk result (λ signs. signs ≡ signs_in_trigger within.now trigger.now) }
-{
-    match trigger {
-        Trigger::Call(call) => signs_in_actuals(within, call.arguments.as_slice()),
-        Trigger::Delay(delay) => signs_in(within, &delay.value),
-    }
 }
 
 #[tactic(auto, unfolding(ada_image::specs::ImageOfStatements::trigger_put))]

@@ -7,8 +7,8 @@ use Rattle.trace_text.specs.declared.events.Event.{Event}
 use Rattle.trace_text.specs.declared.events.Ended.{Ended}
 use Rattle.trace_text.specs.Text.{text_of}
 use Rattle.ann_base.specs.declared.faults.NoMemory.{NoMemory}
-use Rattle.machine_run.specs.declared.stops.Stopped.{Stopped}
-use Rattle.machine_run.specs.Stops.{why_ended}
+use Rattle.machine_ticks.specs.declared.stops.Stopped.{Stopped}
+use Rattle.machine_ticks.specs.Stops.{why_ended}
 use Rattle.machine_laws.specs.IdleLaws.{IdleStretches}
 use Rattle.machine_laws.specs.TimeLaws.{RunsBeginAtZero, InstantsTakeNoTime, TocksTakeOneTick}
 use Rattle.machine_kernel.specs.declared.kernel.Kernel.{Kernel}

@@ -4,8 +4,8 @@ use Rattle.trace_text.specs.declared.events.Event.{Event}
 use Rattle.trace_text.specs.declared.events.Ended.{Ended}
 use Rattle.profile_machine.specs.Run.{at_tick}
 use Rattle.machine_dispatching.specs.Settling.{written}
-use Rattle.machine_run.specs.Stops.{why_ended}
-use Rattle.machine_run.specs.Ticks.{tick_events}
+use Rattle.machine_ticks.specs.Stops.{why_ended}
+use Rattle.machine_ticks.specs.Ticks.{tick_events}
 use Rattle.machine_kernel.specs.Future.{Shown, end_lines, future_of, stop_of, left_of}
 use Rattle.machine_kernel.specs.declared.kernel.Kernel.{Kernel}
 

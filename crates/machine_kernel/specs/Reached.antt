@@ -1,6 +1,6 @@
 -- The time that a kernel is in.
 use Rattle.std.specs.Prelude.{ℕ, Bool, true, false, Option, Some, None, nat_le, nat_lt}
-use Rattle.machine_run.specs.declared.stops.Stopped.{Stopped}
+use Rattle.machine_ticks.specs.declared.stops.Stopped.{Stopped}
 
 -- the present is not beyond the bound, and before a tock it is below it, while the run has not stopped
 abbrev pub is_in_time : Bool → Option Stopped → ℕ → ℕ → Bool

@@ -1,16 +1,17 @@
 //! The kernel: it opens a run, and goes on by at most one line a call.
 ghost use Rattle.std.specs.Prelude.{◌≡◌, ◌≤◌, ◌<◌, ◌+◌, ℕ, [], Some, None, true, false, IsTrue, length};
 ghost use Rattle.machine_kernel.specs.Reached.{is_in_time};
-ghost use Rattle.machine_run.specs.declared.stops.Stopped.TheVariants as stopped;
+ghost use Rattle.machine_ticks.specs.declared.stops.Stopped.TheVariants as stopped;
 
-use crate::events::{ended_by, event_of, tick_event};
 use crate::idle::skip_idle_ticks;
 use ann_base::{Moment, NoMemory};
 use machine_frames::Effect;
 use machine_laws::runs::idle_stretches_say_nothing;
 use machine_laws::time::{instants_take_no_time, runs_begin_at_0, tocks_take_one_tick};
+use machine_lines::{ended_by, event_of, tick_event};
 use machine_operators::Program;
-use machine_run::{Stopped, TickLine, instant, opening, stop, tock};
+use machine_run::instant;
+use machine_ticks::{Stopped, TickLine, opening, stop, tock};
 use profile_machine::world::Line;
 use profile_machine::{Image, Item};
 use std::alloc::Global;

@@ -4,7 +4,6 @@
 //! tock of that world. Idle ticks that say nothing are jumped over.
 #![tactic(auto)]
 
-mod events;
 mod idle;
 mod kernel;
 mod openings;

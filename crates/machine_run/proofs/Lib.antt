@@ -1,3 +1,1 @@
-mod EditLemmas
-mod FuelLemmas
 mod MovedLemmas

@@ -5,7 +5,7 @@ use Rattle.profile_machine.specs.declared.world.lines.Line.{Line}
 use Rattle.profile_machine.specs.Steps.{Move, ◌▶◌}
 use Rattle.machine_frames.specs.declared.effects.Effect.{Effect}
 use Rattle.machine_dispatching.specs.Settling.{written}
-use Rattle.machine_run.specs.Moved.{Moved}
+use Rattle.machine_expiries.specs.Moved.{Moved}
 
 pub one_more : (p : Image) (f g : Move) (a b c : Effect) (la lb lc : List Line) → Moved p f a la b lb → Moved p g b lb c lc → Moved p (f ▶ g) a la c lc
 one_more p f g a b c la lb lc m n = record {

@@ -1,4 +1,1 @@
 pub mod Ends
-pub mod Moved
-pub mod Stops
-pub mod Ticks

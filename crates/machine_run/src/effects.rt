@@ -3,7 +3,7 @@ ghost use Rattle.std.specs.Prelude.{◌≡◌, OnOk, [], None};
 ghost use Rattle.profile_machine.specs.Instant.{effect, is_over, finish_action};
 ghost use Rattle.profile_machine.specs.Tasks.{task_of};
 ghost use Rattle.machine_frames.specs.Did.{Did};
-ghost use Rattle.machine_run.specs.Moved.{Moved};
+ghost use Rattle.machine_expiries.specs.Moved.{Moved};
 
 use crate::acting::act;
 use ann_base::NoMemory;

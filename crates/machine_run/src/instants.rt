@@ -1,13 +1,11 @@
 //! An instant: what the present moment brings about, in seven parts.
 ghost use Rattle.std.specs.Prelude.{◌≡◌, [], OnOk};
 ghost use Rattle.profile_machine.specs.Instant.{instant};
-ghost use Rattle.machine_run.specs.Moved.{Moved};
+ghost use Rattle.machine_expiries.specs.Moved.{Moved};
 
-use crate::appointments::appointments_due;
 use crate::effects::finish_action;
-use crate::expiries::{budgets_due, quantum_spent, timers_due};
-use crate::script::script_items;
 use ann_base::NoMemory;
+use machine_expiries::{appointments_due, budgets_due, quantum_spent, script_items, timers_due};
 use machine_frames::Effect;
 use machine_operators::Program;
 use profile_machine::world::Line;

@@ -1,0 +1,2 @@
+mod EditLemmas
+mod FuelLemmas

@@ -1,4 +1,0 @@
-use Rattle.machine_run.proofs.appointments.+all_due.Given as goal
-
-abbrev pub decreases-all_due : goal.decreases-all_due
-decreases-all_due l = l.fuel

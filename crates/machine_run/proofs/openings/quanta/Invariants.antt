@@ -1,7 +1,0 @@
-use Rattle.std.proofs.Common.{◌≡◌}
-use Rattle.std.specs.Prelude.{replicate}
-use Rattle.machine_run.proofs.openings.quanta.Given as goal
-
--- so many by now
-abbrev pub invariant-loop : goal.invariant-loop
-invariant-loop l = l.quanta ≡ replicate l.counter l.quantum

@@ -1,4 +1,0 @@
-use Rattle.machine_run.proofs.script.+items_due.Given as goal
-
-abbrev pub decreases-items_due : goal.decreases-items_due
-decreases-items_due l = l.fuel

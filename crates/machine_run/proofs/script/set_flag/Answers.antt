@@ -1,5 +1,0 @@
-use Rattle.machine_run.proofs.EditLemmas.{set_edited}
-use Rattle.machine_run.proofs.script.set_flag.Goals as goal
-
-pub returns-in-Some : goal.returns-in-Some
-returns-in-Some c = set_edited c.args.n c.args.flag c.args.flags.now

@@ -1,6 +1,0 @@
-use Rattle.std.proofs.Common.{rules}
-use Rattle.machine_run.proofs.EditLemmas.{set_edited}
-use Rattle.machine_run.proofs.script.set_port.Goals as goal
-
-pub returns-in-Some : goal.returns-in-Some
-returns-in-Some c = let set = set_edited c.args.n c.args.value c.args.ports.now in search rules

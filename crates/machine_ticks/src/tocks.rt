@@ -1,0 +1,163 @@
+//! A tock: the choice of who runs, and one tick (docs/LANGUAGE.md).
+ghost use Rattle.std.specs.Prelude.{◌≡◌, Some, None, OnOk};
+ghost use Rattle.profile_machine.specs.Run.{says_run, begin_release, serve_first, serve_if_free, serve, ticks_or, begin_action, one_tick_less, spend_tick, next_tick, tick_of, says_idle, idle_tick, tock_of, tock};
+ghost use Rattle.profile_machine.specs.Cost.{cost};
+ghost use Rattle.profile_machine.specs.Tasks.{edit_task, task_of, with_ticks};
+ghost use Rattle.profile_machine.specs.Words.{same_option, same_who};
+ghost use Rattle.profile_machine.specs.Steps.{watches};
+ghost use Rattle.machine_ticks.specs.Ticks.{Ticks};
+
+use ann_base::NoMemory;
+use machine_dispatching::choose;
+use machine_frames::{same_who, set_ticks, task_at, task_mut};
+use machine_handlers::charge;
+use machine_operators::Program;
+use machine_statements::cost;
+use profile_machine::world::World;
+use trace_text::Who;
+use world_tables::List;
+
+/// A line of a tock.
+#[derive(Clone, Copy)]
+pub enum TickLine {
+    /// Chosen, and not chosen at the tick before.
+    Run(Who),
+    /// Nobody is chosen, and somebody was at the tick before.
+    Idle,
+    /// The agent begins the release with this number.
+    Serve(u32),
+}
+
+fn ran_before(name: Who, ran: Option<Who>) -> bool
+    ensures { result ≡ same_option same_who ran (Some name) }
+{
+    match ran {
+        Some(other) => same_who(other, name),
+        None => false,
+    }
+}
+
+// `run`, for somebody who did not run the tick before.
+fn says_run(name: Who, world: &mut World, lines: &mut List<TickLine>) -> Result<(), NoMemory>
+    ensures { OnOk result (Ticks (watches (λ w. says_run name w.ran)) world.old lines.old world.new lines.new) }
+{
+    if !ran_before(name, world.ran) {
+        lines.push_back(TickLine::Run(name))?;
+    }
+    Ok(())
+}
+
+// The first release that is pending begins.
+fn serve_first(world: &mut World, lines: &mut List<TickLine>) -> Result<(), NoMemory>
+    ensures { OnOk result (Ticks (watches (λ w. serve_first w.releases)) world.old lines.old world.new lines.new) }
+{
+    if let Some(release) = world.releases.pop_front() {
+        world.serving = Some(release);
+        lines.push_back(TickLine::Serve(release.number))?;
+    }
+    Ok(())
+}
+
+// The agent without a rest begins the first release that is pending.
+fn serve(name: Who, world: &mut World, lines: &mut List<TickLine>) -> Result<(), NoMemory>
+    ensures { OnOk result (Ticks (serve name) world.old lines.old world.new lines.new) }
+{
+    match name {
+        Who::Task(_) => Ok(()),
+        Who::Agent => {
+            if world.serving.is_none() && world.agent.frames.is_empty() {
+                serve_first(world, lines)
+            } else {
+                Ok(())
+            }
+        }
+    }
+}
+
+// The ticks of the action that has begun, or of the one that begins now.
+fn ticks_of_action(p: &Program, name: Who, world: &World) -> u64
+    ensures { result ≡ ticks_or (task_of world.now name).ticks_left (cost p.now world.now name) }
+{
+    match task_at(world, name) {
+        Some(task) => match task.ticks_left {
+            Some(ticks) => ticks,
+            None => cost(p, world, name),
+        },
+        None => cost(p, world, name),
+    }
+}
+
+// An action begins when its task is chosen and has no ticks left.
+fn begin_action(p: &Program, name: Who, world: &mut World)
+    ensures { world.new ≡ begin_action p.now name world.old }
+{
+    let ticks = ticks_of_action(p, name, world);
+    set_ticks(world, name, Some(ticks));
+}
+
+fn one_tick_less(ticks: Option<u64>) -> Option<u64>
+    ensures { result ≡ one_tick_less ticks }
+{
+    Some(ticks?.saturating_sub(1))
+}
+
+fn spend_tick(name: Who, world: &mut World)
+    ensures { world.new ≡ spend_tick name world.old }
+{
+    if let Some(task) = task_mut(world, name) {
+        task.ticks_left = one_tick_less(task.ticks_left);
+    }
+}
+
+// One tick passes. Errors: the numbers of ticks are used up.
+fn next_tick(ran: Option<Who>, world: &mut World) -> Result<(), NoMemory>
+    ensures { OnOk result (world.new ≡ next_tick ran world.old) }
+{
+    match world.time.checked_add(1) {
+        Some(time) => {
+            world.time = time;
+            world.ran = ran;
+            Ok(())
+        }
+        None => Err(NoMemory),
+    }
+}
+
+// One tick of who is chosen.
+fn tick_of(
+    p: &Program,
+    name: Who,
+    world: &mut World,
+    lines: &mut List<TickLine>,
+) -> Result<(), NoMemory>
+    ensures { OnOk result (Ticks (tick_of p.now name) world.old lines.old world.new lines.new) }
+{
+    says_run(name, world, lines)?;
+    serve(name, world, lines)?;
+    begin_action(p, name, world);
+    charge(p, world, name)?;
+    spend_tick(name, world);
+    next_tick(Some(name), world)
+}
+
+// A tick at which nobody runs.
+fn idle_tick(world: &mut World, lines: &mut List<TickLine>) -> Result<(), NoMemory>
+    ensures { OnOk result (Ticks idle_tick world.old lines.old world.new lines.new) }
+{
+    if world.ran.is_some() {
+        lines.push_back(TickLine::Idle)?;
+    }
+    next_tick(None, world)
+}
+
+/// The choice of who runs, and one tick: the lines stand behind those that are there.
+///
+/// Errors: memory ran out, or the numbers of ticks are used up.
+pub fn tock(p: &Program, world: &mut World, lines: &mut List<TickLine>) -> Result<(), NoMemory>
+    ensures { OnOk result (Ticks (tock p.now) world.old lines.old world.new lines.new) }
+{
+    match choose(world) {
+        Some(name) => tick_of(p, name, world, lines),
+        None => idle_tick(world, lines),
+    }
+}

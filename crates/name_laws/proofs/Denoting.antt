@@ -25,14 +25,14 @@ use Rattle.name_laws.proofs.Lawful.{table_at_the_end, kept-in, directly-meant}
 
 -- ---- places that differ
 
-same_place-path : (p q : Place) → same_place p q ≡ true → p ≡ q
+pub same_place-path : (p q : Place) → same_place p q ≡ true → p ≡ q
 same_place-path p q e =
     let both = both-true (eqb p.line q.line) (eqb p.column q.column) e in ap₂ (λ l c. record { line = l; column = c }) (eqb-true p.line q.line both.0) (eqb-true p.column q.column both.1)
 
-same_place-itself : (p : Place) → same_place p p ≡ true
+pub same_place-itself : (p : Place) → same_place p p ≡ true
 same_place-itself p = ap₂ (λ a b. a && b) (eq-eqb p.line p.line refl) (eq-eqb p.column p.column refl)
 
-among-append : (p : Place) (xs ys : List Place) → is_among p (xs ++ ys) ≡ (is_among p xs || is_among p ys)
+pub among-append : (p : Place) (xs ys : List Place) → is_among p (xs ++ ys) ≡ (is_among p xs || is_among p ys)
 among-append p [] ys = refl
 among-append p (x ∷ xs) ys = go (same_place p x) (among-append p xs ys)
   where
@@ -49,7 +49,7 @@ differ-behind [] ys e = e
 differ-behind (x ∷ xs) ys e = differ-behind xs ys (both-true (not (is_among x (xs ++ ys))) (all_differ (xs ++ ys)) e).1
 
 -- what is among the later ones is not among the first
-differ-apart : (p : Place) (xs ys : List Place) → all_differ (xs ++ ys) ≡ true → is_among p ys ≡ true → is_among p xs ≡ false
+pub differ-apart : (p : Place) (xs ys : List Place) → all_differ (xs ++ ys) ≡ true → is_among p ys ≡ true → is_among p xs ≡ false
 differ-apart p [] ys e later = refl
 differ-apart p (x ∷ xs) ys e later = go (same_place p x) refl (differ-apart p xs ys differ.1 later)
   where
@@ -64,20 +64,20 @@ differ-apart p (x ∷ xs) ys e later = go (same_place p x) refl (differ-apart p 
 -- ---- before the name, and behind it
 
 -- of a place that no occurrence before has nothing is kept
-never-noted : (last : ℕ) (p : Place) (before : Before) → is_among p (places_before before) ≡ false → denoted_at (table_at last before) p ≡ None
+pub never-noted : (last : ℕ) (p : Place) (before : Before) → is_among p (places_before before) ≡ false → denoted_at (table_at last before) p ≡ None
 unfolding item_at
 never-noted last p [] none = refl
 never-noted last p (o ∷ before) none =
     let apart = both-false p (is_among p (places_in o)) (is_among p (places_before before)) (sym (among-append p (places_in o) (places_before before)) ∙ none) in
     same-behind p o (table_at last before) apart.0 ∙ never-noted last p before apart.1
 
-place-before : (p : Place) (b before : Before) → Stands b before → is_among p (places_before b) ≡ true → is_among p (places_before before) ≡ true
+pub place-before : (p : Place) (b before : Before) → Stands b before → is_among p (places_before b) ≡ true → is_among p (places_before before) ≡ true
 place-before p b [] s among = ap (λ z. is_among p (places_before z)) (sym s) ∙ among
 place-before p b (o ∷ before) (inl e) among = ap (λ z. is_among p (places_before z)) (sym e) ∙ among
 place-before p b (o ∷ before) (inr s) among = among-append p (places_in o) (places_before before) ∙ or-true (is_among p (places_in o)) (is_among p (places_before before)) (place-before p b before s among)
 
 -- what is kept of a place stays, where no two places are the same
-stays-noted : (last : ℕ) (p : Place) (b before : Before) → Stands b before → all_differ (places_before before) ≡ true → is_among p (places_before b) ≡ true
+pub stays-noted : (last : ℕ) (p : Place) (b before : Before) → Stands b before → all_differ (places_before before) ≡ true → is_among p (places_before b) ≡ true
     → denoted_at (table_at last before) p ≡ denoted_at (table_at last b) p
 stays-noted last p b [] s differ among = ap (λ z. denoted_at (table_at last z) p) (sym s)
 stays-noted last p b (o ∷ before) (inl e) differ among = ap (λ z. denoted_at (table_at last z) p) (sym e)
@@ -97,7 +97,7 @@ directly-noted i n d e none = ap (λ x. denoted_at (answered i (found_or (used_a
     go (Some y) = denoted-noted i.place y n.denotations
 
 -- the occurrence has the place of its direct name first
-first-place : (o : Occurrence) (i : Identifier) → direct_name o ≡ Some i → (rest : List Place) × (places_in o ≡ i.place ∷ rest)
+pub first-place : (o : Occurrence) (i : Identifier) → direct_name o ≡ Some i → (rest : List Place) × (places_in o ≡ i.place ∷ rest)
     × ((n : Names) → is_among i.place rest ≡ false → denoted_at (behind o n) i.place ≡ denoted_at (resolved i n) i.place)
 unfolding behind name_resolved used
 first-place (mentions name) i e =
@@ -118,12 +118,12 @@ first-place (use_package name) i e =
     )
 first-place _ i e = absurd (none-some i e)
 
-differ-at : (b before : Before) → Stands b before → all_differ (places_before before) ≡ true → all_differ (places_before b) ≡ true
+pub differ-at : (b before : Before) → Stands b before → all_differ (places_before before) ≡ true → all_differ (places_before b) ≡ true
 differ-at b [] s e = ap (λ z. all_differ (places_before z)) s ∙ e
 differ-at b (o ∷ before) (inl q) e = ap (λ z. all_differ (places_before z)) q ∙ e
 differ-at b (o ∷ before) (inr s) e = differ-at b before s (differ-behind (places_in o) (places_before before) e)
 
-not-true : (b : Bool) → not b ≡ true → b ≡ false
+pub not-true : (b : Bool) → not b ≡ true → b ≡ false
 not-true true e = absurd (false-true e)
 not-true false e = refl
 

@@ -94,7 +94,7 @@ none-package last name before k e =
     go h = ap (λ d. joined (said_by last d (nearest (hides_name number_of_innermost 0 name) before))) e ∙ hidden-none (nearest (hides_name number_of_innermost 0 name) before)
 
 -- an occurrence that declares a package, and the region that it gives
-package-shape : (P : Occurrence → Type 0) → ((i : Identifier) → P (declares_unit i the_package)) → (o : Occurrence) → is_package o ≡ true → P o
+pub package-shape : (P : Occurrence → Type 0) → ((i : Identifier) → P (declares_unit i the_package)) → (o : Occurrence) → is_package o ≡ true → P o
 package-shape P p (declares_unit i the_package) e = p i
 package-shape P p _ e = cc
 

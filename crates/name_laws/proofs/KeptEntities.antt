@@ -10,6 +10,7 @@ use Rattle.ada_regions.specs.Occurrences.{Occurrence, package_region, task_body,
 use Rattle.name_laws.specs.Positions.{Before, Stands}
 use Rattle.name_laws.specs.Declarations.{declares_name}
 use Rattle.name_laws.specs.Regions.{number_of_innermost}
+use Rattle.name_laws.specs.Tables.{table_at}
 use Rattle.name_laws.proofs.PositionLemmas.{false-true, stands-tail}
 use Rattle.name_laws.proofs.KnownDeclared.{Declares}
 use Rattle.name_laws.proofs.KnownBegun.{slice_get-last}
@@ -140,7 +141,7 @@ context_of contexts e = find (λ c. eqb c.of_package e) contexts
 
 -- where a package's region has begun, its context is known
 abbrev pub ContextThere : ℕ → Before → Before → List PackageContext → Type 0
-ContextThere last d b contexts = (c : PackageContext) × (context_of contexts (length (known_at last b).entities) ≡ Some c) × (c.region ≡ here_at last d)
+ContextThere last d b contexts = (c : PackageContext) × (context_of contexts (length (known_at last b).entities) ≡ Some c) × (c.region ≡ here_at last d) × (c.withs ≡ (table_at last d).withs)
 
 pub record ContextsKept (last : ℕ) (before : Before) : Type 0 where
   pub there : (i : Identifier) (b : Before) → Stands (begins (package_region i) ∷ declares_unit i the_package ∷ b) before → ContextThere last (declares_unit i the_package ∷ b) b (known_at last before).contexts
@@ -164,10 +165,10 @@ contexts-stay last o before k same other = record { there = there }
 -- a package's region begins
 pub contexts-more : (last : ℕ) (i : Identifier) (b : Before) (c : PackageContext) → ContextsKept last (declares_unit i the_package ∷ b) → EntitiesKept last b
     → (known_at last (begins (package_region i) ∷ declares_unit i the_package ∷ b)).contexts ≡ c ∷ (known_at last (declares_unit i the_package ∷ b)).contexts
-    → c.of_package ≡ length (known_at last b).entities → c.region ≡ here_at last (declares_unit i the_package ∷ b)
+    → c.of_package ≡ length (known_at last b).entities → c.region ≡ here_at last (declares_unit i the_package ∷ b) → c.withs ≡ (table_at last (declares_unit i the_package ∷ b)).withs
     → ((j : Identifier) (a : Before) → Stands (declares_unit j the_package ∷ a) b → length (known_at last a).entities < length (known_at last b).entities)
     → ContextsKept last (begins (package_region i) ∷ declares_unit i the_package ∷ b)
-contexts-more last i b c k entities more packaged region older = record { there = there }
+contexts-more last i b c k entities more packaged region withs older = record { there = there }
   where
     there : (j : Identifier) (a : Before) → Stands (begins (package_region j) ∷ declares_unit j the_package ∷ a) (begins (package_region i) ∷ declares_unit i the_package ∷ b)
         → ContextThere last (declares_unit j the_package ∷ a) a (known_at last (begins (package_region i) ∷ declares_unit i the_package ∷ b)).contexts
@@ -179,6 +180,7 @@ contexts-more last i b c k entities more packaged region older = record { there 
               ∙ ap (λ t. cond t (Some c) (context_of (known_at last (declares_unit i the_package ∷ b)).contexts (length (known_at last a).entities)))
               (eq-eqb c.of_package (length (known_at last a).entities) (packaged ∙ ap (λ z. length (known_at last z).entities) (sym same))),
           region ∙ ap (here_at last) (sym rest),
+          withs ∙ ap (λ z. (table_at last z).withs) (sym rest),
         )
     there j a (inr (inl e)) = cc
     there j a (inr (inr s)) =
@@ -189,4 +191,5 @@ contexts-more last i b c k entities more packaged region older = record { there 
               ∙ (ap (λ t. cond t (Some c) (context_of (known_at last (declares_unit i the_package ∷ b)).contexts (length (known_at last a).entities)))
               (ne_eqb c.of_package (length (known_at last a).entities) (λ q. (let p : c.of_package ≡ length (known_at last b).entities = packaged in omega arith))) ∙ old.1),
           old.2,
+          old.3,
         )

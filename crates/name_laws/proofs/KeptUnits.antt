@@ -104,7 +104,7 @@ unit-waits last kind (declares j (a_task is_type aspects)) b e = (j, task-waits 
 unit-waits last kind (declares j (a_protected is_type aspects)) b e = (j, protected-waits last j b is_type aspects)
 unit-waits last kind _ b e = absurd (false-true e)
 
-nearest-some : (f : Occurrence → Before → Bool) (before : Before) (o : Occurrence) (b : Before) → Stands (o ∷ b) before → f o b ≡ true → is_some (nearest f before) ≡ true
+pub nearest-some : (f : Occurrence → Before → Bool) (before : Before) (o : Occurrence) (b : Before) → Stands (o ∷ b) before → f o b ≡ true → is_some (nearest f before) ≡ true
 nearest-some f [] o b s e = cc
 nearest-some f (p ∷ before) o b (inl q) e =
     let h : o ≡ p = cc in
@@ -123,7 +123,7 @@ body-nearest (begins (task_body i place) ∷ c) before region s body e = nearest
 body-nearest (begins (protected_body i) ∷ c) before region s body e = nearest-some (begins_body region) before (begins (protected_body i)) c s (eq-eqb _ _ e)
 body-nearest (_ ∷ c) before region s body e = absurd body
 
-if_so-found : (test : Occurrence → Bool) (x : Option Before) (d : Before) → if_so test x ≡ Some d → (o : Occurrence) × (b : Before) × (x ≡ Some (o ∷ b)) × (test o ≡ true) × (d ≡ o ∷ b)
+pub if_so-found : (test : Occurrence → Bool) (x : Option Before) (d : Before) → if_so test x ≡ Some d → (o : Occurrence) × (b : Before) × (x ≡ Some (o ∷ b)) × (test o ≡ true) × (d ≡ o ∷ b)
 if_so-found test None d e = cc
 if_so-found test (Some []) d e = cc
 if_so-found test (Some (o ∷ b)) d e = go (test o) refl e

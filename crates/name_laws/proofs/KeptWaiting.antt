@@ -178,7 +178,7 @@ pub kept-package : (last : ℕ) (i : Identifier) (b : Before) → Kept last b �
 kept-package last i b older k =
     let e = package-known last i b in
     kept-waiting last (package_region i) (declares_unit i the_package) b (package-waits last i b) k (
-    contexts-more last i b _ k.contexts older.entities (ap (λ x. x.contexts) e) refl (region-here last (declares_unit i the_package ∷ b)) (older-package last b older.entities))
+    contexts-more last i b _ k.contexts older.entities (ap (λ x. x.contexts) e) refl (region-here last (declares_unit i the_package ∷ b)) refl (older-package last b older.entities))
 
 -- the region of a unit, or of a type
 waiting-same : (last : ℕ) (r : Region) (d : Occurrence) (b : Before) → Waits last r d b → Kept last (d ∷ b) → (known_at last (begins r ∷ d ∷ b)).contexts ≡ (known_at last (d ∷ b)).contexts

@@ -122,7 +122,7 @@ declarations_by_position unit complete b c s t name =
 -- ---- by nesting
 
 -- the beginnings around stand before, each with itself the innermost around it
-AllAround : List Before → Before → Type 0
+unfoldable pub AllAround : List Before → Before → Type 0
 AllAround [] before = Unit {0}
 AllAround (b ∷ bs) before = Stands b before × (first_or_none (around b) ≡ b) × AllAround bs before
 
@@ -131,7 +131,7 @@ unfolding AllAround
 all-farther o [] before a = tt
 all-farther o (b ∷ bs) before a = (inr a.0, a.1, all-farther o bs before a.2)
 
-all-around : (passed : ℕ) (before : Before) → AllAround (around_behind passed before) before
+pub all-around : (passed : ℕ) (before : Before) → AllAround (around_behind passed before) before
 unfolding AllAround
 all-around passed [] = tt
 all-around zero (begins r ∷ before) = (inl refl, refl, all-farther (begins r) (around before) before (all-around zero before))
@@ -148,7 +148,7 @@ innermost-first_of : (bindings : Bindings) (name : List ℕ) (fs : List Frame) �
 innermost-first_of bindings name [] = refl
 innermost-first_of bindings name (f ∷ fs) = ap (or_else (binding_in bindings f.region name)) (innermost-first_of bindings name fs)
 
-else-mapped : {X Y : Type 0} (f : X → Y) (a b : Option X) → option_map f (or_else a b) ≡ or_else (option_map f a) (option_map f b)
+pub else-mapped : {X Y : Type 0} (f : X → Y) (a b : Option X) → option_map f (or_else a b) ≡ or_else (option_map f a) (option_map f b)
 else-mapped f None b = refl
 else-mapped f (Some x) b = refl
 

@@ -3,6 +3,7 @@ pub mod NumberLemmas
 pub mod Known
 pub mod KnownDeclared
 pub mod KnownBegun
+pub mod Placing
 pub mod Texts
 pub mod Kept
 pub mod KeptBindings
@@ -26,3 +27,17 @@ pub mod Untouched
 pub mod Exports
 pub mod ExportsAll
 pub mod Showing
+pub mod ClausesKept
+pub mod Founders
+pub mod WithsKept
+pub mod PackagesKept
+pub mod Joined
+pub mod UsesKept
+pub mod Units
+pub mod Selecting
+pub mod ClauseNames
+pub mod Shows
+pub mod Meanings
+pub mod Owners
+pub mod UseNames
+pub mod Naming

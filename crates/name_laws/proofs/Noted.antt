@@ -77,7 +77,7 @@ module _ (p : Place) where
   unfolding resolved
   same-resolved i n other = same-answered i (sought n i.text) n other
 
-  same-selection : (i : Identifier) (d : Option Denoted) (n : Names) → same_place p i.place ≡ false → Same p n (selection_answered i d n)
+  pub same-selection : (i : Identifier) (d : Option Denoted) (n : Names) → same_place p i.place ≡ false → Same p n (selection_answered i d n)
   same-selection i None n other = refl
   same-selection i (Some d) n other = noted-other i.place p d n.denotations other
 

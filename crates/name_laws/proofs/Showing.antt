@@ -7,19 +7,20 @@ use Rattle.ada_regions.specs.declared.entities.Entity.{Entity}
 use Rattle.ada_regions.specs.declared.table.Binding.{Binding}
 use Rattle.ada_regions.specs.declared.table.Names.{Names}
 use Rattle.ada_regions.specs.Words.{and_then}
+use Rattle.ada_regions.specs.Names.{region_of_entity}
 use Rattle.ada_regions.specs.Visibility.{bound, exports_name, exported_from, visible_in}
 use Rattle.ada_regions.specs.Regions.{package_named}
 use Rattle.ada_regions.specs.Occurrences.{Occurrence, the_package, package_region, begins, declares, declares_unit, completes}
 use Rattle.ada_regions.specs.Numbered.{last_priority_of}
 use Rattle.name_laws.specs.Positions.{Before, Stands, around, around_outside, nearest, end_of}
 use Rattle.name_laws.specs.Declarations.{declares_name, body_completes}
-use Rattle.name_laws.specs.Regions.{number_of, number_of_innermost, first_or_none, package_declared}
+use Rattle.name_laws.specs.Regions.{number_of, number_of_innermost, first_or_none, package_declared, bodies_complete_before}
 use Rattle.name_laws.specs.DirectNames.{is_declared, place_declared, meaning_if_seen}
 use Rattle.name_laws.specs.UseClauses.{begun_at, exports_here, exported_by_package}
 use Rattle.name_laws.specs.Tables.{table_at}
 use Rattle.name_laws.specs.Denoted.{told_meaning}
 use Rattle.name_laws.specs.Laws.{ExportsByPosition}
-use Rattle.name_laws.proofs.PositionLemmas.{false-true, stands-tail, stands-trans, first-stands, outside-behind, nearest-stands, nearest-holds}
+use Rattle.name_laws.proofs.PositionLemmas.{false-true, stands-here, stands-tail, stands-trans, first-stands, outside-behind, nearest-stands, nearest-holds}
 use Rattle.name_laws.proofs.Texts.{IsText}
 use Rattle.name_laws.proofs.Kept.{known_at}
 use Rattle.name_laws.proofs.KeptBindings.{entity_number}
@@ -56,37 +57,47 @@ module _ (home : ℕ) (u c : Before) (stands : Stands u c) (long : length u ≡ 
       )
   declared-shown _ b s e = absurd (false-true e)
 
-  shown-meant : (last : ℕ) → Kept last c → (d : Option Before) → nearest (exports_here home name) c ≡ d
-      → option_map (λ x. told_meaning (table_at last c) (Some x)) (option_map denotes.Entity (option_map (entity_number last) d)) ≡ and_then d (λ x. option_map is_declared (place_declared x))
-  shown-meant last k None e = refl
-  shown-meant last k (Some []) e = absurd (nearest-holds (exports_here home name) c [] e)
-  shown-meant last k (Some (o ∷ b)) e =
+  -- told by the table of a later position
+  shown-meant : (last : ℕ) (later : Before) → Stands c later → Kept last later → (d : Option Before) → nearest (exports_here home name) c ≡ d
+      → option_map (λ x. told_meaning (table_at last later) (Some x)) (option_map denotes.Entity (option_map (entity_number last) d)) ≡ and_then d (λ x. option_map is_declared (place_declared x))
+  shown-meant last later up k None e = refl
+  shown-meant last later up k (Some []) e = absurd (nearest-holds (exports_here home name) c [] e)
+  shown-meant last later up k (Some (o ∷ b)) e =
       let s = nearest-stands (exports_here home name) c (o ∷ b) e in
       let declared = declared-shown o b s (nearest-holds (exports_here home name) c (o ∷ b) e) in
-      let x = k.entities.there o b s declared.0 name declared.1 in
+      let x = k.entities.there o b (stands-trans (o ∷ b) c later s up) declared.0 name declared.1 in
       ap (λ y. Some (meaning_if_seen (option_map (λ (z : Entity). z.place) y))) x.1 ∙ ap (option_map is_declared) (sym x.2.place)
 
 bound-entity : (x : Option Binding) → and_then x bound ≡ option_map denotes.Entity (and_then x (λ b. b.entity))
 bound-entity None = refl
 bound-entity (Some b) = refl
 
-package-shows : (last : ℕ) (c : Before) (i : Identifier) (b : Before) (name : List ℕ) → IsText c → Kept last c → Stands (declares_unit i the_package ∷ b) c
-    → option_map (λ x. told_meaning (table_at last c) (Some x)) (option_map denotes.Entity (said_shown last c (suc (length (declares_unit i the_package ∷ b))) name)) ≡ exported_by_package (suc (length (declares_unit i the_package ∷ b))) name c
-package-shows last c i b name t k s = go (next-stands c (declares_unit i the_package) b (package_region i) t s refl)
+package-shows : (last : ℕ) (c later : Before) (i : Identifier) (b : Before) (name : List ℕ) → IsText c → Stands c later → Kept last later → Stands (declares_unit i the_package ∷ b) c
+    → option_map (λ x. told_meaning (table_at last later) (Some x)) (option_map denotes.Entity (said_shown last c (suc (length (declares_unit i the_package ∷ b))) name)) ≡ exported_by_package (suc (length (declares_unit i the_package ∷ b))) name c
+package-shows last c later i b name t up k s = go (next-stands c (declares_unit i the_package) b (package_region i) t s refl)
   where
-    home : ℕ
-    home = suc (length (declares_unit i the_package ∷ b))
-
     go : (declares_unit i the_package ∷ b ≡ c) ⊎ Stands (begins (package_region i) ∷ declares_unit i the_package ∷ b) c
-        → option_map (λ x. told_meaning (table_at last c) (Some x)) (option_map denotes.Entity (said_shown last c (suc (length (declares_unit i the_package ∷ b))) name)) ≡ exported_by_package (suc (length (declares_unit i the_package ∷ b))) name c
+        → option_map (λ x. told_meaning (table_at last later) (Some x)) (option_map denotes.Entity (said_shown last c (suc (length (declares_unit i the_package ∷ b))) name)) ≡ exported_by_package (suc (length (declares_unit i the_package ∷ b))) name c
     go (inl e) =
         let long : length (declares_unit i the_package ∷ b) ≡ length c = ap length e in
         let none : nearest (exports_here (suc (length (declares_unit i the_package ∷ b))) name) c ≡ None = nothing-exported (suc (length (declares_unit i the_package ∷ b))) name c (omega arith) in
-        ap (λ d. option_map (λ x. told_meaning (table_at last c) (Some x)) (option_map denotes.Entity (option_map (entity_number last) d))) none
+        ap (λ d. option_map (λ x. told_meaning (table_at last later) (Some x)) (option_map denotes.Entity (option_map (entity_number last) d))) none
         ∙ ap (λ d. and_then d (λ x. option_map is_declared (place_declared x))) (sym none)
     go (inr u) =
-        shown-meant (suc (length (declares_unit i the_package ∷ b))) (begins (package_region i) ∷ declares_unit i the_package ∷ b) c u refl (package-waits last i b).number name last k
+        shown-meant (suc (length (declares_unit i the_package ∷ b))) (begins (package_region i) ∷ declares_unit i the_package ∷ b) c u refl (package-waits last i b).number name last later up k
         (nearest (exports_here (suc (length (declares_unit i the_package ∷ b))) name) c) refl
+
+-- what a package that stands before shows
+pub package-visible : (last : ℕ) (c later : Before) (i : Identifier) (b : Before) (name : List ℕ) → IsText c → bodies_complete_before c ≡ true → Stands c later → Kept last later → Stands (declares_unit i the_package ∷ b) c
+    → region_of_entity (table_at last c) (length (known_at last b).entities) ≡ Some (known_at last b).regions
+    → option_map (λ d. told_meaning (table_at last later) (Some d)) (visible_in (table_at last c) name (denotes.Entity (length (known_at last b).entities))) ≡ exported_by_package (suc (length (declares_unit i the_package ∷ b))) name c
+unfolding visible_in exported_from
+package-visible last c later i b name t complete up k s region =
+    let n : Names = table_at last c in
+    ap (λ x. option_map (λ d. told_meaning (table_at last later) (Some d)) (and_then x (exported_from n name))) region
+    ∙ (ap (option_map (λ d. told_meaning (table_at last later) (Some d))) (bound-entity (and_then (item_at (known_at last b).regions n.bindings) (find (exports_name name))))
+    ∙ (ap (λ x. option_map (λ d. told_meaning (table_at last later) (Some d)) (option_map denotes.Entity x)) (exports-kept last c t complete i b s name)
+    ∙ package-shows last c later i b name t up k s))
 
 pub exports_by_position : ExportsByPosition
 unfolding visible_in exported_from
@@ -104,12 +115,9 @@ exports_by_position unit complete c s package_name name = go (package-sought las
     go (package_there i b f e) =
         let p = last_priority_of unit.pragmas in
         let n : Names = table_at p c in
-        let text = text-stands c (end_of unit) s (unit-text unit) in
         ap (λ x. option_map (λ d. told_meaning n (Some d)) (and_then x (λ y. visible_in n name (denotes.Entity y)))) f.named
-        ∙ (ap (λ x. option_map (λ d. told_meaning n (Some d)) (and_then x (exported_from n name))) f.region
-        ∙ (ap (option_map (λ d. told_meaning n (Some d))) (bound-entity (and_then (item_at (known_at p b).regions n.bindings) (find (exports_name name))))
-        ∙ (ap (λ x. option_map (λ d. told_meaning n (Some d)) (option_map denotes.Entity x)) (exports-kept p c text (complete-stands c (end_of unit) s complete) i b f.stands name)
-        ∙ (package-shows p c i b name text k f.stands ∙ ap (λ x. and_then x (λ d. exported_by_package (suc (length d)) name c)) (sym e)))))
+        ∙ (package-visible p c c i b name (text-stands c (end_of unit) s (unit-text unit)) (complete-stands c (end_of unit) s complete) (stands-here c) k f.stands f.region
+        ∙ ap (λ x. and_then x (λ d. exported_by_package (suc (length d)) name c)) (sym e))
     go (no_package named e) =
         ap (λ x. option_map (λ d. told_meaning (table_at (last_priority_of unit.pragmas) c) (Some d)) (and_then x (λ y. visible_in (table_at (last_priority_of unit.pragmas) c) name (denotes.Entity y)))) named
         ∙ ap (λ x. and_then x (λ d. exported_by_package (suc (length d)) name c)) (sym e)

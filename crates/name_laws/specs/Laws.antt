@@ -16,9 +16,9 @@ use Rattle.ada_regions.specs.Visibility.{directly, visible_in}
 use Rattle.name_laws.specs.Positions.{Before, Stands, around, end_of}
 use Rattle.name_laws.specs.Regions.{number_of_innermost, package_declared, region_of_position, bodies_complete}
 use Rattle.name_laws.specs.DirectNames.{Meaning, declared_in_region, direct_meaning}
-use Rattle.name_laws.specs.UseClauses.{exported_by_package}
+use Rattle.name_laws.specs.UseClauses.{exported_by_package, direct_name_means}
 use Rattle.name_laws.specs.Tables.{table_at}
-use Rattle.name_laws.specs.Denoted.{told_meaning}
+use Rattle.name_laws.specs.Denoted.{told_meaning, known_meaning, denotes_by_position}
 use Rattle.name_laws.specs.Places.{names_stand_apart, direct_name}
 
 -- what is known at a position of a source
@@ -79,3 +79,17 @@ DirectNamesByPosition =
     → (o : Occurrence) (c : Before) → Stands (o ∷ c) (end_of unit) → (i : Identifier) → direct_name o ≡ Some i
     → (m : Meaning) → direct_meaning (last_priority_of unit.pragmas) i.text c ≡ Some m
     → told_meaning (names_of unit) (denoted_at (names_of unit) i.place) ≡ m
+
+-- ---- all direct names, use clauses included (8.3, 8.4)
+
+-- where no two names stand at one place: each direct name denotes by the table of the source what it means by its position; one
+-- that clauses give several meanings denotes nothing
+abbrev pub MeaningsByPosition : Type 0
+MeaningsByPosition =
+    (unit : Tree) → IsTrue (bodies_complete unit) → IsTrue (names_stand_apart unit)
+    → (o : Occurrence) (c : Before) → Stands (o ∷ c) (end_of unit) → (i : Identifier) → direct_name o ≡ Some i
+    → told_meaning (names_of unit) (denoted_at (names_of unit) i.place) ≡ known_meaning (direct_name_means (last_priority_of unit.pragmas) i.text c)
+
+-- the same, as it computes
+abbrev pub NamesByPosition : Type 0
+NamesByPosition = (unit : Tree) → IsTrue (bodies_complete unit) → IsTrue (names_stand_apart unit) → IsTrue (denotes_by_position unit)

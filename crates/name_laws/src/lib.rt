@@ -6,11 +6,13 @@
 //! `specs/` says what positions say, without a table, and states the laws. A position is what
 //! stands before it. `proofs/Kept*` go through a text occurrence by occurrence, and keep that the
 //! table's regions, bindings and entities are those of the positions; `Flags`, `Untouched` and
-//! `Exports*` do so for what packages export, `Noted` for what is kept of the name at a place.
-//! `Texts`, and what stands on it, says how the occurrences of a tree follow one another.
+//! `Exports*` do so for what packages export, `Noted` for what is kept of the name at a place,
+//! `WithsKept` and `UsesKept` for with and use clauses. `Shows` says what a clause makes visible,
+//! `Joined` what all do, and `UseNames` with it what each name denotes. `Texts`, and what stands on
+//! it, says how the occurrences of a tree follow one another.
 #![tactic(auto)]
 
-ghost use Rattle.name_laws.specs.Laws.{TableAtTheEnd, RegionsByPosition, OpenRegionsByPosition, DeclarationsByPosition, DirectlyByPosition, ExportsByPosition, DirectNamesByPosition};
+ghost use Rattle.name_laws.specs.Laws.{TableAtTheEnd, RegionsByPosition, OpenRegionsByPosition, DeclarationsByPosition, DirectlyByPosition, ExportsByPosition, DirectNamesByPosition, MeaningsByPosition, NamesByPosition};
 
 /// The table at the end of a source is the table of the source.
 #[tactic(auto, using(crate::proofs::Lawful::table_at_the_end))]
@@ -55,4 +57,12 @@ pub fn exports_by_position()
 /// denotes by the table of the source what it means by its position.
 pub fn direct_names_by_position()
     ensures { DirectNamesByPosition }
+{}
+
+/// Where no two names stand at one place, each direct name denotes by the table of the source what
+/// it means by its position, use clauses included; and so the table and the positions agree on all
+/// names of the source, as it is computed.
+pub fn names_by_position()
+    ensures each { MeaningsByPosition }
+    ensures all { NamesByPosition }
 {}

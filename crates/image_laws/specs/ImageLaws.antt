@@ -1,0 +1,10 @@
+-- The law of images.
+use Rattle.std.specs.Prelude.{IsTrue}
+use Rattle.ada_tree.specs.declared.units.Unit.{Unit as Tree}
+use Rattle.ada_image.specs.NothingLost.{nothing_is_lost}
+use Rattle.image_laws.specs.BuiltUnits.{is_built}
+
+-- The image of each source that is built has the declarations and statements of its text, read from its scopes, in order and
+-- each with its parts.
+abbrev pub NothingIsLost : Type 0
+NothingIsLost = (unit : Tree) → IsTrue (is_built unit) → IsTrue (nothing_is_lost unit)

@@ -1,0 +1,6 @@
+pub mod BuiltExpressions
+pub mod BuiltStatements
+pub mod BuiltSequences
+pub mod ScopesOfText
+pub mod BuiltUnits
+pub mod ImageLaws

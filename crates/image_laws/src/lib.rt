@@ -1,0 +1,15 @@
+//! Laws of images: nothing of a source is lost in what is made of it. Each is the contract of a function that does nothing.
+//!
+//! `specs/Built*` say of a text what an image has a form for; what is legal is so. `proofs/Steps` says what a step of making
+//! leaves behind, and the files behind it go through the forms of the text: what is made of each, in whatever lists, is read in
+//! each program that has the lists.
+#![tactic(auto)]
+
+ghost use Rattle.image_laws.specs.ImageLaws.{NothingIsLost};
+
+/// The image of each source that is built has the declarations and statements of its text: read from the scopes, each leads
+/// to the next in the order of the text, is of its kind, and has its parts.
+#[tactic(auto, using(crate::proofs::Whole::nothing_is_lost))]
+pub fn nothing_is_lost()
+    ensures { NothingIsLost }
+{}

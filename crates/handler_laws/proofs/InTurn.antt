@@ -16,7 +16,6 @@ use Rattle.profile_machine.specs.declared.world.appointments.Release.{Release}
 use Rattle.profile_machine.specs.declared.world.lines.Line.{Line}
 use Rattle.profile_machine.specs.declared.world.lines.Line.TheVariants as said
 use Rattle.profile_machine.specs.declared.world.lines.Part.{Part}
-use Rattle.profile_machine.specs.declared.world.lines.Part.TheVariants.{Own}
 use Rattle.profile_machine.specs.declared.world.lines.Said.{Said}
 use Rattle.profile_machine.specs.Words.{same_who, same_option}
 use Rattle.profile_machine.specs.Lines.{event_of}
@@ -27,7 +26,7 @@ use Rattle.profile_machine.specs.Cost.{cost}
 use Rattle.profile_machine.specs.Handlers.{charge}
 use Rattle.profile_machine.specs.Instant.{instant}
 use Rattle.profile_machine.specs.declared.world.appointments.HandlerOf.{HandlerOf}
-use Rattle.profile_machine.specs.Run.{opens, opening, blank_world, with_serving, say, says_run, serve_if_free, serve, says_idle, ticks_or, one_tick_less, begin_action, spend_tick, tock, run_of}
+use Rattle.profile_machine.specs.Run.{opens, opening, blank_world, with_serving, say, serve_if_free, serve, says_idle, ticks_or, one_tick_less, begin_action, spend_tick, tock, run_of}
 use Rattle.machine_laws.proofs.FineMoves.{finely}
 use Rattle.machine_laws.proofs.Moves.{Moves, AreOthers, own, is_told_apart}
 use Rattle.machine_laws.proofs.Kept.Combinators.{Leads, Alters, settles-leads}
@@ -52,13 +51,13 @@ telling_of (said.Served number) = Some (ended number)
 telling_of _ = None
 
 -- how many have come, and which is being served
-abbrev Turn : Type 0
+abbrev pub Turn : Type 0
 Turn = ℕ × Option ℕ
 
-abbrev number_of : Option Release → Option ℕ
+abbrev pub number_of : Option Release → Option ℕ
 number_of = option_map (λ r. r.number)
 
-abbrev turn_of : World → Turn
+abbrev pub turn_of : World → Turn
 turn_of w = (w.drawn.releases, number_of w.serving)
 
 abbrev IsRight : Turn → Telling → Type 0
@@ -78,11 +77,11 @@ tells_turn = told telling_of IsRight turn_after
 -- ---- what lines show of a turn
 
 -- the one that is being served is the last that was taken up, and the one behind the last that was served
-abbrev Serves : Option ℕ → List ℕ → ℕ → ℕ → Type 0
+abbrev pub Serves : Option ℕ → List ℕ → ℕ → ℕ → Type 0
 Serves None serving begun served = (serving ≡ []) × (begun ≡ served)
 Serves (Some number) serving begun served = (serving ≡ number ∷ []) × (number ≡ begun) × (begun ≡ suc served)
 
-record Fits (turn : Turn) (s : Releases) : Type 0 where
+pub record Fits (turn : Turn) (s : Releases) : Type 0 where
   pub all_came : turn.0 ≡ s.released
   pub within : s.begun ≤ s.released
   pub serves : Serves turn.1 s.serving s.begun s.served
@@ -250,7 +249,7 @@ tells_turns = record {
 
 -- ---- what lines and worlds have in common
 
-record ShowsTurn (s : Releases) (w : World) : Type 0 where
+pub record ShowsTurn (s : Releases) (w : World) : Type 0 where
   pub fits_now : Fits (turn_of w) s
   pub pending_now : Pending s.begun w.drawn.releases w.releases
 
@@ -268,7 +267,7 @@ moves-lead_on s before lines after m h =
       shows = record { fits_now = lead.fits_behind; pending_now = subst (λ n. Pending n after.drawn.releases after.releases) (sym lead.begun_behind) (m.1 s.begun h.pending_now) };
     }
 
-nothing_shown : (p : Image) (script : List (ℤ × Item)) → ShowsTurn no_releases (blank_world p script)
+pub nothing_shown : (p : Image) (script : List (ℤ × Item)) → ShowsTurn no_releases (blank_world p script)
 nothing_shown p script = record { fits_now = record { all_came = refl; within = omega arith; serves = (refl, refl) }; pending_now = refl }
 
 openings-lead_on : (p : Image) (script : List (ℤ × Item)) → LeadsOn no_releases (opening p script).1 (opening p script).0
@@ -366,7 +365,7 @@ tocks-lead_on p s w h =
 
 -- ---- every run
 
-served_in_turn : OfRuns see_releases is_in_order ShowsTurn no_releases
+pub served_in_turn : OfRuns see_releases is_in_order ShowsTurn no_releases
 served_in_turn = record {
   openings = openings-lead_on;
   instants = instants-lead_on;

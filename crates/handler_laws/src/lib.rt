@@ -1,12 +1,19 @@
-//! Handlers of interrupts, timers, budgets and timing events: a law of the profile machine's definitions alone, which holds of
-//! every program, script and bound. It is the contract of a function that does nothing.
+//! Handlers of interrupts, timers, budgets and timing events: laws of the profile machine's definitions alone, which hold of
+//! every program, script and bound. Each is the contract of a function that does nothing.
 #![tactic(auto)]
 
-ghost use Rattle.handler_laws.specs.HandlerLaws.{RunsServeInTurn};
+ghost use Rattle.handler_laws.specs.HandlerLaws.{RunsKeepHandlers, RunsServeInTurn};
 
 /// In every run the `release`, `serve` and `served` lines each bear 1, 2, 3 and so on; no release is served before it came,
 /// or while another is served.
 #[tactic(auto, using(crate::proofs::InTurn::runs_serve_in_turn))]
 pub fn runs_serve_in_turn()
     ensures { RunsServeInTurn }
+{}
+
+/// Every run whose actions are those of tasks with marks, and of an agent in no entry call's action, keeps the law of handlers:
+/// at each tick the agent is in the queue exactly where some release is not yet served, and where it runs exactly one is being
+/// served.
+pub fn runs_keep_handlers()
+    ensures { RunsKeepHandlers }
 {}

@@ -42,19 +42,19 @@ use Rattle.ada_image.specs.ImageOfExpressions.{ExpressionImage, logical_operator
 use Rattle.image_laws.proofs.Steps.{Grown, grown-same, grown-then, value-step}
 use Rattle.image_laws.proofs.Expressions.{operand_of, addend_of, multiplied_of, argument_of, mapped_form, actuals-mapped, mapped-twice}
 
--- and the first actions of scopes stay
+-- and the first actions of scopes and the actions stay
 abbrev pub Grows : {X : Type 0} → Making X → Type 0
-Grows m = (l : Lists) → Grown l (m l).0 × ((m l).0.firsts ≡ l.firsts)
+Grows m = (l : Lists) → Grown l (m l).0 × ((m l).0.firsts ≡ l.firsts) × ((m l).0.statements ≡ l.statements)
 
 pub grows-pure : {X : Type 0} (x : X) → Grows (pure x)
-grows-pure x l = (grown-same l, refl)
+grows-pure x l = (grown-same l, refl, refl)
 
 pub grows-then : {X Y : Type 0} (m : Making X) (f : X → Making Y) → Grows m → ((x : X) → Grows (f x)) → Grows (m >>= f)
-grows-then m f g h l = (grown-then l (m l).0 (f (m l).1 (m l).0).0 (g l).0 (h (m l).1 (m l).0).0, (h (m l).1 (m l).0).1 ∙ (g l).1)
+grows-then m f g h l = (grown-then l (m l).0 (f (m l).1 (m l).0).0 (g l).0 (h (m l).1 (m l).0).0, (h (m l).1 (m l).0).1 ∙ (g l).1, (h (m l).1 (m l).0).2 ∙ (g l).2)
 
 value-grows : (v : Valuation) → Grows (value_put v)
 unfolding value_put
-value-grows v l = ((value-step v).grows l, refl)
+value-grows v l = ((value-step v).grows l, refl, refl)
 
 -- ---- parts that hold no expression
 

@@ -22,4 +22,7 @@ pub mod Keeping
 pub mod Opening
 pub mod OpeningBodies
 pub mod OpeningUnits
+pub mod Counting
+pub mod CountingBodies
+pub mod CountingUnits
 pub mod Whole

@@ -1,5 +1,7 @@
 -- What is made of a text begins the scopes of the text.
-use Rattle.std.proofs.Common.{◌≡◌, ℕ, ◌+◌, Bool, false, List, [], ◌∷◌, ◌++◌, map, Option, Some, None, option_map, refl, sym, ap, ◌∙◌, append_assoc}
+use Rattle.std.proofs.Common.{◌≡◌, ℕ, ◌+◌, Bool, false, List, [], ◌∷◌, ◌++◌, map, Option, Some, None, option_map, refl, sym, ap, ◌∙◌, append_assoc, arith}
+use Rattle.std.proofs.lemmas.List.{length-append, length-set}
+use Rattle.profile_machine.specs.Program.{no_statement}
 use Rattle.ann_base.specs.declared.places.Place.{Place}
 use Rattle.ada_tree.specs.declared.expressions.Expression.{Expression}
 use Rattle.ada_tree.specs.declared.statements.Sequence.{Sequence}
@@ -39,14 +41,14 @@ use Rattle.ada_image.specs.declared.making.Lists.{Lists}
 use Rattle.ada_image.specs.declared.making.Within.{Within}
 use Rattle.ada_image.specs.declared.making.SequencePlace.{SequencePlace}
 use Rattle.ada_image.specs.declared.making.SequencePlace.TheVariants as sequence_place
-use Rattle.ada_image.specs.Making.{Making, ◌>>=◌, ◌>>◌, pure, action_put, reserved, put_at, first_put, the_action, in_loop, in_construct, in_scope, in_handler}
+use Rattle.ada_image.specs.Making.{action as action_made, Making, ◌>>=◌, ◌>>◌, pure, action_put, reserved, put_at, first_put, the_action, in_loop, in_construct, in_scope, in_handler}
 use Rattle.ada_image.specs.Layout.{scope_no}
 use Rattle.ada_image.specs.ImageOfExpressions.{expression_made, signs_in}
 use Rattle.ada_image.specs.CallStatements.{call_statement_put}
 use Rattle.ada_image.specs.ImageOfStatements.{SequenceMaking, assignment_put, return_put, raise_put, exit_put, abort_put, requeue_put, scope_at, choices_made, handled_made, entry_at, delay_put, condition_made, guard_of, inside, inside_if, branch_put, elsifs_put, if_put, alternatives_put, case_put, label_of, loop_body, forever_put, while_put, parameter_of, for_put, iteration_put, loop_put, block_put, handlers_put, accept_body_put, accept_put, alternative_put, select_alternative_put, select_alternatives_put, else_put, selective_accept_put, call_before, delay_before, timed_call_put, conditional_call_put, trigger_put, asynchronous_put, select_put, statement_put, statements_put}
 use Rattle.ada_image.specs.ImageOfDeclarations.{same_making, sequence_put}
 use Rattle.image_laws.specs.ScopesOfText.{Scopes, scopes_if, elsif_scopes, case_scopes, handler_scopes, accept_body_scopes, alternative_scopes, alternatives_scopes, statement_scopes, statements_scopes, same_scopes, sequence_scopes}
-use Rattle.image_laws.proofs.Keeping.{Keeps, keeps-then, action-keeps, expression-keeps, condition-keeps, call-statement-keeps, assignment-keeps, delay-keeps, return-keeps, raise-keeps, exit-keeps, abort-keeps, requeue-keeps}
+use Rattle.image_laws.proofs.Keeping.{Adds, Keeps, no-more, keeps-pure, keeps-then, action-keeps, expression-keeps, condition-keeps, call-statement-keeps, assignment-keeps, delay-keeps, return-keeps, raise-keeps, exit-keeps, abort-keeps, requeue-keeps}
 use Rattle.image_laws.proofs.Layers.{elsif_of, case_of, handler_of, mapped_statement, mapped_alternative}
 use Rattle.image_laws.proofs.Constructs.{loop_of, block_of, accept_body_of, accept_with}
 
@@ -57,27 +59,27 @@ scopes_in l = map (λ f. f.scope) l.firsts
 abbrev pub Opens : {X : Type 0} → Making X → List ℕ → Type 0
 Opens m scopes = (l : Lists) → scopes_in (m l).0 ≡ scopes ++ scopes_in l
 
-pub opens-none : {X : Type 0} (m : Making X) → Keeps m → Opens m []
-opens-none m k l = ap (λ fs. map (λ (f : FirstAction). f.scope) fs) (k l)
+pub opens-none : {X : Type 0} {k : ℕ} (m : Making X) → Adds m k → Opens m []
+opens-none m h l = ap (λ fs. map (λ (f : FirstAction). f.scope) fs) (h.firsts l)
 
 pub opens-then : {X Y : Type 0} (m : Making X) (f : X → Making Y) (a b : List ℕ) → Opens m a → ((x : X) → Opens (f x) b) → Opens (m >>= f) (b ++ a)
 opens-then m f a b g h l = h (m l).1 (m l).0 ∙ ap (λ s. b ++ s) (g l) ∙ sym (append_assoc b a (scopes_in l))
 
 -- a step that begins none, and one behind it
-pub opens-behind : {X Y : Type 0} (m : Making X) (f : X → Making Y) (b : List ℕ) → Keeps m → ((x : X) → Opens (f x) b) → Opens (m >>= f) b
+pub opens-behind : {X Y : Type 0} {k : ℕ} (m : Making X) (f : X → Making Y) (b : List ℕ) → Adds m k → ((x : X) → Opens (f x) b) → Opens (m >>= f) b
 opens-behind m f b k h l = h (m l).1 (m l).0 ∙ ap (λ s. b ++ s) (opens-none m k l)
 
 -- a step, and one behind it that begins none
-pub opens-before : {X Y : Type 0} (m : Making X) (f : X → Making Y) (a : List ℕ) → Opens m a → ((x : X) → Keeps (f x)) → Opens (m >>= f) a
+pub opens-before : {X Y : Type 0} {k : ℕ} (m : Making X) (f : X → Making Y) (a : List ℕ) → Opens m a → ((x : X) → Adds (f x) k) → Opens (m >>= f) a
 opens-before m f a g h l = opens-none (f (m l).1) (h (m l).1) (m l).0 ∙ g l
 
-pub reserved-keeps : Keeps reserved
+pub reserved-keeps : Adds reserved 1
 unfolding reserved
-reserved-keeps l = refl
+reserved-keeps = record { firsts = λ l. refl; actions = λ l. let x = length-append l.statements (no_statement ∷ []) in omega arith }
 
 pub put-keeps : (s : StatementNo) (f : StatementForm) (signs : ℕ) (next : Option StatementNo) → Keeps (put_at s f signs next)
 unfolding put_at
-put-keeps s f signs next l = refl
+put-keeps s f signs next = record { firsts = λ l. refl; actions = λ l. length-set l.statements s.0 (action_made f signs next) ∙ no-more l }
 
 pub opens-first : (scope : ℕ) (first : Option StatementNo) → Opens (first_put scope first) (scope ∷ [])
 unfolding first_put
@@ -150,7 +152,7 @@ module _ {E : Type 0} (g : E → Sequence) (law : (e : E) → OpensLaw (sequence
       (λ first. alternatives_put same_making within (map (case_of sequence_put) (map (case_of g) rest)) next >>= (λ others. pure (record { choices = choices_made within a.choices; first = the_action first } ∷ others)))
       (inner a.statements within) (case_scopes same_scopes (map (case_of sequence_scopes) (map (case_of g) rest)) within.names) (inside-opens a.statements within next)
       (λ first. opens-before (alternatives_put same_making within (map (case_of sequence_put) (map (case_of g) rest)) next) (λ others. pure (record { choices = choices_made within a.choices; first = the_action first } ∷ others))
-      (case_scopes same_scopes (map (case_of sequence_scopes) (map (case_of g) rest)) within.names) (cases-open rest next within) (λ others l. refl))
+      (case_scopes same_scopes (map (case_of sequence_scopes) (map (case_of g) rest)) within.names) (cases-open rest next within) (λ others. keeps-pure _))
 
   pub handlers-open : (hs : List (Handler E)) (next : Option StatementNo) (within : Within)
       → Opens (handlers_put same_making within (map (handler_of sequence_put) (map (handler_of g) hs)) next) (handler_scopes same_scopes (map (handler_of sequence_scopes) (map (handler_of g) hs)) within.names)
@@ -161,7 +163,7 @@ module _ {E : Type 0} (g : E → Sequence) (law : (e : E) → OpensLaw (sequence
       (λ first. handlers_put same_making within (map (handler_of sequence_put) (map (handler_of g) hs)) next >>= (λ others. pure (record { choices = handled_made within h.exceptions; first = the_action first } ∷ others)))
       (inner h.statements within) (handler_scopes same_scopes (map (handler_of sequence_scopes) (map (handler_of g) hs)) within.names) (inside-opens h.statements (in_handler within) next)
       (λ first. opens-before (handlers_put same_making within (map (handler_of sequence_put) (map (handler_of g) hs)) next) (λ others. pure (record { choices = handled_made within h.exceptions; first = the_action first } ∷ others))
-      (handler_scopes same_scopes (map (handler_of sequence_scopes) (map (handler_of g) hs)) within.names) (handlers-open hs next within) (λ others l. refl))
+      (handler_scopes same_scopes (map (handler_of sequence_scopes) (map (handler_of g) hs)) within.names) (handlers-open hs next within) (λ others. keeps-pure _))
 
   -- ---- loops
 
@@ -261,7 +263,7 @@ module _ {E : Type 0} (g : E → Sequence) (law : (e : E) → OpensLaw (sequence
   abbrev put_before : (Option StatementNo → Making (Option StatementNo)) → Option E → Within → Option StatementNo → Making (Option StatementNo)
   put_before put x within next = inside_if same_making (option_map m x) within next >>= put
 
-  before-opens : (put : Option StatementNo → Making (Option StatementNo)) (x : Option E) (within : Within) (next : Option StatementNo) → ((to : Option StatementNo) → Keeps (put to)) → Opens (put_before put x within next) (inner_if x within)
+  before-opens : (put : Option StatementNo → Making (Option StatementNo)) (x : Option E) (within : Within) (next : Option StatementNo) → ((to : Option StatementNo) → Adds (put to) 1) → Opens (put_before put x within next) (inner_if x within)
   before-opens put x within next k = opens-before (inside_if same_making (option_map m x) within next) put (inner_if x within) (inside_if-opens x within next) k
 
   call-before-opens : (c : Call) (x : Option E) (next : Option StatementNo) (within : Within) → Opens (call_before same_making within c (option_map m x) next) (inner_if x within)
@@ -291,15 +293,15 @@ module _ {E : Type 0} (g : E → Sequence) (law : (e : E) → OpensLaw (sequence
 
   accept-alternative : (y : SelectAlternative E) (a : Accept E) (body : Option (AcceptBody E)) (x : Option E) → AlternativeOpens (record y { alternative = alternative.Accept (record a { body = body }) x })
   unfolding alternative_put
-  accept-alternative y a None None next within = opens-before (accept_before a None None next within) (λ s. pure (select_kind.Accept (the_action s))) (opened_before a None None within) (accept-before-opens a None None next within) (λ s l. refl)
-  accept-alternative y a None (Some e) next within = opens-before (accept_before a None (Some e) next within) (λ s. pure (select_kind.Accept (the_action s))) (opened_before a None (Some e) within) (accept-before-opens a None (Some e) next within) (λ s l. refl)
-  accept-alternative y a (Some q) None next within = opens-before (accept_before a (Some q) None next within) (λ s. pure (select_kind.Accept (the_action s))) (opened_before a (Some q) None within) (accept-before-opens a (Some q) None next within) (λ s l. refl)
-  accept-alternative y a (Some q) (Some e) next within = opens-before (accept_before a (Some q) (Some e) next within) (λ s. pure (select_kind.Accept (the_action s))) (opened_before a (Some q) (Some e) within) (accept-before-opens a (Some q) (Some e) next within) (λ s l. refl)
+  accept-alternative y a None None next within = opens-before (accept_before a None None next within) (λ s. pure (select_kind.Accept (the_action s))) (opened_before a None None within) (accept-before-opens a None None next within) (λ s. keeps-pure _)
+  accept-alternative y a None (Some e) next within = opens-before (accept_before a None (Some e) next within) (λ s. pure (select_kind.Accept (the_action s))) (opened_before a None (Some e) within) (accept-before-opens a None (Some e) next within) (λ s. keeps-pure _)
+  accept-alternative y a (Some q) None next within = opens-before (accept_before a (Some q) None next within) (λ s. pure (select_kind.Accept (the_action s))) (opened_before a (Some q) None within) (accept-before-opens a (Some q) None next within) (λ s. keeps-pure _)
+  accept-alternative y a (Some q) (Some e) next within = opens-before (accept_before a (Some q) (Some e) next within) (λ s. pure (select_kind.Accept (the_action s))) (opened_before a (Some q) (Some e) within) (accept-before-opens a (Some q) (Some e) next within) (λ s. keeps-pure _)
 
   delay-alternative : (y : SelectAlternative E) (d : Delay) (x : Option E) → AlternativeOpens (record y { alternative = alternative.Delay d x })
   unfolding alternative_put delay_before
-  delay-alternative y d None next within = opens-before (delay_before same_making within d None next) (λ s. pure (select_kind.Delay (the_action s))) (inner_if None within) (delay-before-opens d None next within) (λ s l. refl)
-  delay-alternative y d (Some e) next within = opens-before (delay_before same_making within d (Some (m e)) next) (λ s. pure (select_kind.Delay (the_action s))) (inner_if (Some e) within) (delay-before-opens d (Some e) next within) (λ s l. refl)
+  delay-alternative y d None next within = opens-before (delay_before same_making within d None next) (λ s. pure (select_kind.Delay (the_action s))) (inner_if None within) (delay-before-opens d None next within) (λ s. keeps-pure _)
+  delay-alternative y d (Some e) next within = opens-before (delay_before same_making within d (Some (m e)) next) (λ s. pure (select_kind.Delay (the_action s))) (inner_if (Some e) within) (delay-before-opens d (Some e) next within) (λ s. keeps-pure _)
 
   alternative-opens : (y : SelectAlternative E) (a : Alternative E) → AlternativeOpens (record y { alternative = a })
   unfolding alternative_put
@@ -325,7 +327,7 @@ module _ {E : Type 0} (g : E → Sequence) (law : (e : E) → OpensLaw (sequence
       (alternatives_opened xs within ++ alternative_opened x within) (condition-keeps within (guard_of x.guard))
       (λ guard. opens-then (alternative_put same_making within (mapped_alternative sequence_put (mapped_alternative g x)).alternative next)
       (λ kind. select_alternatives_put same_making within (alternatives_made xs) next >>= (λ others. pure (record { guard = guard; kind = kind } ∷ others))) (alternative_opened x within) (alternatives_opened xs within) (alternative-opens x x.alternative next within)
-      (λ kind. opens-before (select_alternatives_put same_making within (alternatives_made xs) next) (λ others. pure (record { guard = guard; kind = kind } ∷ others)) (alternatives_opened xs within) (alternatives-open xs next within) (λ others l. refl)))
+      (λ kind. opens-before (select_alternatives_put same_making within (alternatives_made xs) next) (λ others. pure (record { guard = guard; kind = kind } ∷ others)) (alternatives_opened xs within) (alternatives-open xs next within) (λ others. keeps-pure _)))
 
   abbrev StatementOpens : Statement E → Type 0
   StatementOpens x = (next : Option StatementNo) (within : Within)

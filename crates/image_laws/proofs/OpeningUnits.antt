@@ -22,7 +22,8 @@ use Rattle.ada_image.specs.ImageOfStatements.{SequenceMaking, statements_put, ha
 use Rattle.ada_image.specs.ImageOfDeclarations.{same_making, sequence_put, making_layer, declarations_put, make_tasks, part_if, activation_put, end_of_activation_put, inner_bodies_put, body_put, unhandled_put, with_handlers_put, handled_put, whole_put, parts_put}
 use Rattle.ada_image.specs.ImageOfUnits.{has_body, part_of, package_part, package_declaration_put, package_statements_put, package_body_put, package_put, packages_put, actions_made}
 use Rattle.image_laws.specs.ScopesOfText.{Scopes, body_scopes, declarations_scopes, handler_scopes, statements_scopes, handled_scopes, parts_scopes, same_scopes, scopes_layer, sequence_scopes, package_statements_scopes, package_scopes, packages_scopes, scopes_begun}
-use Rattle.image_laws.proofs.Keeping.{keeps-then, action-keeps, declarations-keep, activation-keeps, end-keeps}
+use Rattle.image_laws.specs.ActionsOfText.{one_if, declarations_actions, activation_actions}
+use Rattle.image_laws.proofs.Keeping.{adds-then, action-keeps, declarations-keep, activation-keeps, end-keeps}
 use Rattle.image_laws.proofs.Layers.{mapped}
 use Rattle.image_laws.proofs.Opening.{Opens, OpensLaw, opens-none, opens-then, opens-behind, opens-before, opens-first, reserved-keeps, put-keeps, handlers-open, statements-open}
 use Rattle.image_laws.proofs.OpeningBodies.{body-opens, inners-open, layer-inners}
@@ -78,7 +79,7 @@ module _ {E : Type 0} (g : E → Sequence) (law : (e : E) → OpensLaw (sequence
       (declared s within) (handled_scopes same_scopes (opened s) within.names) (layer-inners g law s.declarations within)
       (λ u. opens-before (handled_put same_making within part (made s) (made s).handlers None) (λ first. end_of_activation_put is_task_body first >>= (λ ended. declarations_put within 0 (made s).declarations ended))
       (handled_scopes same_scopes (opened s) within.names) (handled-opens s s.handlers part None within)
-      (λ first. keeps-then (end_of_activation_put is_task_body first) (λ ended. declarations_put within 0 (made s).declarations ended) (end-keeps is_task_body first) (λ ended. declarations-keep within 0 (made s).declarations ended)))
+      (λ first. adds-then (end_of_activation_put is_task_body first) (λ ended. declarations_put within 0 (made s).declarations ended) (one_if is_task_body) (declarations_actions (made s).declarations within.names) (end-keeps is_task_body first) (λ ended. declarations-keep within 0 (made s).declarations ended)))
 
   parts-open : (s : SequenceParts E) (place : SequencePlace) (within : Within) (next : Option StatementNo) → Opens (parts_put same_making (made s) place within next) (parts_scopes same_scopes (opened s) place within.names)
   unfolding parts_put
@@ -130,7 +131,7 @@ package-opens all (packages.Declaration x) next within =
     let part = part_if (not (has_body all x.name.text) && make_tasks within ds) (part_of all x.name.text) in
     opens-before (inner_bodies_put sequence_put within ds) (λ u. activation_put part next >>= (λ first. declarations_put within (part_of all x.name.text) ds first)) (declarations_scopes sequence_scopes ds within.names)
     (inners-open sequence_put sequence_scopes sequence-opens ds within)
-    (λ u. keeps-then (activation_put part next) (λ first. declarations_put within (part_of all x.name.text) ds first) (activation-keeps part next) (λ first. declarations-keep within (part_of all x.name.text) ds first))
+    (λ u. adds-then (activation_put part next) (λ first. declarations_put within (part_of all x.name.text) ds first) (activation_actions part) (declarations_actions ds within.names) (activation-keeps part next) (λ first. declarations-keep within (part_of all x.name.text) ds first))
 package-opens all (packages.Body x) next within =
     let part = package_part all within x in
     opens-then (inner_bodies_put sequence_put within x.declarations) (λ u. package_statements_put within part x.sequence next >>= (λ first. declarations_put within (part_of all x.name.text) x.declarations first))

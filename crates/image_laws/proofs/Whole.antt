@@ -1,5 +1,5 @@
 -- The image of a source that is built reads as its text: what is made behind the actions only adds expressions.
-use Rattle.std.proofs.Common.{◌≡◌, ℕ, suc, Bool, true, false, cond, ◌++◌, List, [], ◌∷◌, Option, Some, None, is_some, map, append-nil, refl, ap, ◌∙◌}
+use Rattle.std.proofs.Common.{◌≡◌, ℕ, ◌+◌, suc, arith, Bool, true, false, cond, ◌++◌, List, [], ◌∷◌, Option, Some, None, is_some, map, length, append-nil, refl, ap, ◌∙◌}
 use Rattle.std.specs.Prelude.{codes}
 use Rattle.std.proofs.lemmas.Bool.{and_from, and_parts}
 use Rattle.ada_tree.specs.declared.expressions.Expression.{Expression}
@@ -29,12 +29,16 @@ use Rattle.ada_image.specs.UnitsOfImage.{aspect_value, deadline_made, task_unit_
 use Rattle.ada_image.specs.ImageOfUnits.{scalar_initial, scalar_or_array, initial_of_call, initial_made, numbered_object, declaration_made, declarations_made, outermost, actions_made, all_made, program_with, program_from, program_of}
 use Rattle.image_laws.specs.BuiltUnits.{unit_built, are_own, is_built_with}
 use Rattle.image_laws.specs.ScopesOfText.{scopes_begun}
-use Rattle.image_laws.specs.ImageLaws.{NothingIsLost}
+use Rattle.image_laws.specs.ActionsOfText.{actions_of}
+use Rattle.image_laws.specs.ImageLaws.{NothingIsLost, NothingIsAdded}
 use Rattle.image_laws.proofs.Steps.{Step, Holds, step-then}
 use Rattle.image_laws.proofs.Growing.{Grows, grows-pure, grows-then, expression-grows}
 use Rattle.image_laws.proofs.Packages.{SourceReads, actions-step}
 use Rattle.image_laws.proofs.Opening.{opens-before}
+use Rattle.image_laws.proofs.Keeping.{Keeps, no-more}
 use Rattle.image_laws.proofs.OpeningUnits.{actions-open}
+use Rattle.image_laws.proofs.Counting.{counts-before}
+use Rattle.image_laws.proofs.CountingUnits.{actions-count}
 use Rattle.image_laws.proofs.Scopes.{own-firsts-stand}
 
 -- ---- deadlines, barriers and initial values
@@ -124,11 +128,14 @@ all-hold n unit made own = record {
   firsts = own-firsts-stand n made.0.firsts (program_with n unit made.0 made.1) refl own;
 }
 
+behind-keeps : (within : Within) → Keeps (behind_actions within)
+behind-keeps within = record { firsts = λ l. (behind-grows within l).1; actions = λ l. ap (λ ss. length ss) (behind-grows within l).2 ∙ no-more l }
+
 -- the scopes that begin are those of the text
 scopes-are-those : (n : Names) (unit : Tree) → map (λ f. f.scope) (all_made unit (outermost n) nothing_made).0.firsts ≡ scopes_begun unit n
 unfolding all_made
 scopes-are-those n unit =
-    opens-before (actions_made unit (outermost n)) (λ u. behind_actions (outermost n)) (scopes_begun unit n) (actions-open unit (outermost n)) (λ u l. (behind-grows (outermost n) l).1) nothing_made
+    opens-before (actions_made unit (outermost n)) (λ u. behind_actions (outermost n)) (scopes_begun unit n) (actions-open unit (outermost n)) (λ u. behind-keeps (outermost n)) nothing_made
     ∙ append-nil (scopes_begun unit n)
 
 source-reads : (n : Names) (unit : Tree) → is_built_with n unit ≡ true → SourceReads unit (outermost n) (program_from n unit)
@@ -141,3 +148,18 @@ source-reads n unit b =
 pub nothing_is_lost : NothingIsLost
 unfolding program_of
 nothing_is_lost unit b = let h = source-reads (names_of unit) unit b in and_from _ _ h.0 h.1
+
+-- ---- as many actions as the text has
+
+nothing-more : (k : ℕ) → k + 0 ≡ k
+nothing-more k = omega arith
+
+actions-of_all : (n : Names) (unit : Tree) → length (program_from n unit).statements ≡ actions_of unit n
+unfolding program_from program_with all_made
+actions-of_all n unit =
+    let counted = (counts-before (actions_made unit (outermost n)) (λ u. behind_actions (outermost n)) (actions_of unit n) (actions-count n unit) (λ u. behind-keeps (outermost n))).actions nothing_made in
+    counted ∙ nothing-more (actions_of unit n)
+
+pub nothing_is_added : NothingIsAdded
+unfolding program_of
+nothing_is_added unit = actions-of_all (names_of unit) unit

@@ -1,5 +1,5 @@
 -- Simple statements that an image has: calls of what can be called with an actual for each formal, and values and variables
--- that are built. What is legal is built.
+-- that are built.
 use Rattle.std.specs.Prelude.{Bool, true, false, cond, ◌&&◌, List, [], ◌∷◌, Option, Some, None, option_map, unwrap_or}
 use Rattle.ada_tree.specs.declared.expressions.Expression.{Expression}
 use Rattle.ada_tree.specs.declared.expressions.Expression.TheViews.{out-Expression}

@@ -1,5 +1,5 @@
 -- Sources that an image has whole: all that is in their packages and their main procedure is built, and each body, block and
--- accept has a scope of its own. What is legal is so.
+-- accept has a scope of its own. So it is in the accepted sources that were computed.
 use Rattle.std.specs.Prelude.{ℕ, Bool, true, not, ◌&&◌, List, [], ◌∷◌, ◌++◌, unwrap_or, eqb, ltb, length}
 use Rattle.std.specs.List.{list_any, list_all}
 use Rattle.ada_tree.specs.declared.units.Unit.{Unit as Tree}

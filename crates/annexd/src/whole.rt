@@ -5,6 +5,7 @@ ghost use Rattle.trace_text.specs.Laws.{DispatchOk};
 ghost use Rattle.tick_lines.specs.TickLaws.{SwitchesOk, ReleasesOk, StuckOk, follows_tick_order};
 ghost use Rattle.exclusion_laws.specs.ExclusionLaws.{EntersOk};
 ghost use Rattle.handler_laws.specs.HandlerLaws.{ServedInTurn};
+ghost use Rattle.leaving_laws.specs.LeavingLaws.{InTurn};
 ghost use Rattle.commands.specs.Asked.{asked_of};
 ghost use Rattle.commands.specs.Outside.{shelf_of, sink_of};
 ghost use Rattle.commands.specs.Performed.{IsUnread};
@@ -15,6 +16,7 @@ use crate::performing::perform;
 use ann_base::{Shelf, Sink};
 use exclusion_laws::runs_exclude;
 use handler_laws::runs_serve_in_turn;
+use leaving_laws::runs_leave_in_turn;
 use machine_laws::dispatching::runs_dispatch;
 use std::alloc::Global;
 use tick_lines::{
@@ -84,8 +86,9 @@ pub fn top<S: Shelf, K: Sink>(
         (sink_of K.held K.faults out.old out.new) result }
     // The lines of a run that is asked for keep these laws: who runs is the first of the ready queues; a protected
     // action begins only beside those that it may be open with; effects of a tick come first, then who runs, then who is
-    // served; a `run` line is a switch; releases are taken up in their order, and one is served before the next is; a run
-    // is stuck only where nobody is ready.
+    // served; a `run` line is a switch; releases are taken up in their order, and one is served before the next is; a
+    // region is left once, and its controlled objects are finalized in the reverse of their order; a run is stuck only where
+    // nobody is ready.
     ensures dispatch { result ≤ 3 → LawTold DispatchOk (asked_of words.now)
         (shelf_of S.files S.faults shelf.old shelf.new)
         (sink_of K.held K.faults out.old out.new) }
@@ -102,6 +105,9 @@ pub fn top<S: Shelf, K: Sink>(
         (shelf_of S.files S.faults shelf.old shelf.new)
         (sink_of K.held K.faults out.old out.new) }
     ensures in_turn { result ≤ 3 → LawTold ServedInTurn (asked_of words.now)
+        (shelf_of S.files S.faults shelf.old shelf.new)
+        (sink_of K.held K.faults out.old out.new) }
+    ensures leaving { result ≤ 3 → LawTold InTurn (asked_of words.now)
         (shelf_of S.files S.faults shelf.old shelf.new)
         (sink_of K.held K.faults out.old out.new) }
     ensures stuck { result ≤ 3 → LawTold StuckOk (asked_of words.now)
@@ -186,6 +192,7 @@ pub fn top<S: Shelf, K: Sink>(
     runs_switch();
     runs_release_in_order();
     runs_serve_in_turn();
+    runs_leave_in_turn();
     runs_are_rightly_stuck();
     let outcome = perform(alloc, words, shelf, out);
     conclude(notes, outcome)

@@ -1,0 +1,10 @@
+pub mod FineMoves
+pub mod Kept
+pub mod RegionLines
+pub mod LeftLines
+pub mod RegionWorlds
+pub mod RegionTies
+pub mod Telling
+pub mod TellingMoves
+pub mod LeavingRuns
+pub mod InTurnLemmas

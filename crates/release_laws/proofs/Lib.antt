@@ -27,3 +27,5 @@ pub mod CauseLemmas
 pub mod MomentLemmas
 pub mod LineReleases
 pub mod ChargeLemmas
+pub mod BudgetMoments
+pub mod InterruptMoments

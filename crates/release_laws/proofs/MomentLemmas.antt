@@ -15,16 +15,16 @@ use Rattle.release_laws.proofs.CauseLemmas.{events-stand, timers-stand}
 
 -- ---- what is among the items of a list
 
-among-front : {X : Type 0} (x : X) (xs ys : List X) → IsAmong x xs → IsAmong x (xs ++ ys)
+pub among-front : {X : Type 0} (x : X) (xs ys : List X) → IsAmong x xs → IsAmong x (xs ++ ys)
 among-front x [] ys h = absurd h
 among-front x (y ∷ zs) ys (inl e) = inl e
 among-front x (y ∷ zs) ys (inr h) = inr (among-front x zs ys h)
 
-among-behind : {X : Type 0} (x : X) (xs ys : List X) → IsAmong x ys → IsAmong x (xs ++ ys)
+pub among-behind : {X : Type 0} (x : X) (xs ys : List X) → IsAmong x ys → IsAmong x (xs ++ ys)
 among-behind x [] ys h = h
 among-behind x (y ∷ zs) ys h = inr (among-behind x zs ys h)
 
-among-map : {X Y : Type 0} (f : X → Y) (x : X) (xs : List X) → IsAmong x xs → IsAmong (f x) (map f xs)
+pub among-map : {X Y : Type 0} (f : X → Y) (x : X) (xs : List X) → IsAmong x xs → IsAmong (f x) (map f xs)
 among-map f x [] h = absurd h
 among-map f x (y ∷ ys) (inl e) = inl (ap f e)
 among-map f x (y ∷ ys) (inr h) = inr (among-map f x ys h)
@@ -34,31 +34,31 @@ kept-where x y ys true f h = h
 kept-where x y ys false f (inl e) = absurd (false≢true (f e))
 kept-where x y ys false f (inr h) = h
 
-among-filter : {X : Type 0} (test : X → Bool) (x : X) (xs : List X) → test x ≡ true → IsAmong x xs → IsAmong x (filter test xs)
+pub among-filter : {X : Type 0} (test : X → Bool) (x : X) (xs : List X) → test x ≡ true → IsAmong x xs → IsAmong x (filter test xs)
 among-filter test x [] e h = absurd h
 among-filter test x (y ∷ ys) e (inl f) = kept-where x y (filter test ys) (test y) (λ g. ap test g ∙ e) (inl f)
 among-filter test x (y ∷ ys) e (inr h) = kept-where x y (filter test ys) (test y) (λ g. ap test g ∙ e) (inr (among-filter test x ys e h))
 
-among-without : {X : Type 0} (test : X → Bool) (x : X) (xs : List X) → test x ≡ false → IsAmong x xs → IsAmong x (without test xs)
+pub among-without : {X : Type 0} (test : X → Bool) (x : X) (xs : List X) → test x ≡ false → IsAmong x xs → IsAmong x (without test xs)
 among-without test x xs e h = among-filter (λ y. not (test y)) x xs (ap not e) h
 
-among-one : (x : NamedHandler) (owed all : List NamedHandler) → StandIn owed all → IsAmong x owed → IsAmong x all
+pub among-one : (x : NamedHandler) (owed all : List NamedHandler) → StandIn owed all → IsAmong x owed → IsAmong x all
 among-one x owed all s h =
     subst (IsAmong x) (sym s.parts) (among-front x (s.front ++ owed) s.back (among-behind x s.front owed h))
 
-either-among : {X : Type 0} (x : X) (b : Bool) (xs ys : List X) → IsAmong x xs → IsAmong x ys → IsAmong x (cond b xs ys)
+pub either-among : {X : Type 0} (x : X) (b : Bool) (xs ys : List X) → IsAmong x xs → IsAmong x ys → IsAmong x (cond b xs ys)
 either-among x true xs ys h k = h
 either-among x false xs ys h k = k
 
 -- the law of what is behind the first instants
-behind-front : (p : Image) (Is : Account → Passage → Type 0) (a : Account) (front rest : List Passage) → AtEachInstant p Is a (front ++ rest) → (b : Account) × AtEachInstant p Is b rest
+pub behind-front : (p : Image) (Is : Account → Passage → Type 0) (a : Account) (front rest : List Passage) → AtEachInstant p Is a (front ++ rest) → (b : Account) × AtEachInstant p Is b rest
 behind-front p Is a [] rest h = (a, h)
 behind-front p Is a (x ∷ xs) rest h = behind-front p Is (account_behind p a x) xs rest h.1
 
-not_yet : (time : ℕ) (moment : ℤ) → int_lt (pos time) moment ≡ true → int_le moment (pos time) ≡ false
+pub not_yet : (time : ℕ) (moment : ℤ) → int_lt (pos time) moment ≡ true → int_le moment (pos time) ≡ false
 not_yet time moment h = grind (arith, ints)
 
-was_false : (b : Bool) → not b ≡ true → b ≡ false
+pub was_false : (b : Bool) → not b ≡ true → b ≡ false
 was_false true h = absurd (false≢true h)
 was_false false h = refl
 
@@ -108,7 +108,7 @@ events_come p script bound front between back x y n h moment e sets =
 
 -- ---- timers
 
-last-itself : {X : Type 0} (x : X) (xs : List X) → IsAmong x (xs ++ x ∷ [])
+pub last-itself : {X : Type 0} (x : X) (xs : List X) → IsAmong x (xs ++ x ∷ [])
 last-itself x xs = among-behind x xs (x ∷ []) (inl refl)
 
 timer-stays : (w : World) (r : Request) (s : TimerSet) (ts : List TimerSet) → leaves_timer s.timer r ≡ true → IsAmong s ts → IsAmong s (timers_asked w r ts)

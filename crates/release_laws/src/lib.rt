@@ -5,7 +5,7 @@
 ghost use Rattle.std.specs.Prelude.{◌≡◌, ◌↔◌, IsTrue, List, false};
 ghost use Rattle.profile_machine.specs.declared.image.Image.{Image};
 ghost use Rattle.release_laws.specs.ReleaseLaws.{Account, Passage, HistoryOk, follows_releases, OfEveryRun, ReleasesAll, ReleasesEvents, ReleasesTimers, ReleasesBudgets, ReleasesInterrupts, RunsFollow, RunsTellReleases};
-ghost use Rattle.release_laws.specs.MomentLaws.{EventsCome, TimersCome};
+ghost use Rattle.release_laws.specs.MomentLaws.{EventsCome, TimersCome, BudgetsCome, InterruptsCome};
 ghost use Rattle.release_laws.specs.ChargeLaws.{TocksCharge};
 ghost use Rattle.release_laws.specs.Examples.{rightly, without_timers, without_budgets, events_at_once, events_late, without_script, forgets_at_ticks, forgets_at_null, another_handler};
 
@@ -29,14 +29,16 @@ pub fn timers_are_released()
 /// (D.14.2).
 #[tactic(auto, using(crate::proofs::CauseLemmas::runs_release_budgets))]
 pub fn budgets_are_released()
-    ensures { OfEveryRun ReleasesBudgets }
+    ensures account { OfEveryRun ReleasesBudgets }
+    ensures come { BudgetsCome }
 {}
 
 /// At each instant of every run the handlers of attached interrupts are released that the script has come to unmasked, and those
 /// that it unmasks when they have come (C.3).
 #[tactic(auto, using(crate::proofs::CauseLemmas::runs_release_interrupts))]
 pub fn interrupts_are_released()
-    ensures { OfEveryRun ReleasesInterrupts }
+    ensures account { OfEveryRun ReleasesInterrupts }
+    ensures come { InterruptsCome }
 {}
 
 /// At each instant of every run just these handlers are released, and before them that of a setting that was due at once: each

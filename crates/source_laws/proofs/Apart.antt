@@ -1,10 +1,9 @@
 -- No two names of a source stand at one place: there are no more of them there than identifiers of its spelling, so no more than
 -- tokens.
-use Rattle.std.proofs.Common.{◌≡◌, ℕ, ◌+◌, ◌≤◌, Bool, true, false, not, ◌&&◌, ◌||◌, List, [], ◌∷◌, ◌++◌, Option, Some, None, Ok, refl, sym, ap, subst, ◌∙◌, arith}
+use Rattle.std.proofs.Common.{◌≡◌, ℕ, ◌+◌, ◌≤◌, Bool, true, false, ◌||◌, List, [], ◌∷◌, ◌++◌, Option, Some, None, refl, ap, arith}
 use Rattle.std.specs.Prelude.{map}
 use Rattle.ann_base.specs.declared.places.Place.{Place}
 use Rattle.ada_lex.specs.declared.tokens.Token.{Token}
-use Rattle.ada_tree.specs.declared.units.Unit.{Unit as Tree}
 use Rattle.ada_tree.specs.Written.{Written, Lexeme, StandsAt, AllSpell, lexemes_of}
 use Rattle.ada_tree.specs.Spelling.{unit_written}
 use Rattle.ada_tree.specs.Shape.{is_shaped}
@@ -16,8 +15,8 @@ use Rattle.name_laws.specs.Positions.{Before, read_on, end_of}
 use Rattle.name_laws.specs.Places.{places_in, places_before, is_among, all_differ}
 use Rattle.name_laws.proofs.Denoting.{same_place-itself}
 use Rattle.name_laws.proofs.Naming.{names_by_position}
-use Rattle.source_laws.specs.Laws.{IsReadFrom, NamesStandApart, ReadNamesByPosition}
-use Rattle.source_laws.proofs.Counting.{Covers, one_if, count, names_at, identifier_at, written_at}
+use Rattle.source_laws.specs.Laws.{NamesStandApart, ReadNamesByPosition}
+use Rattle.source_laws.proofs.Counting.{one_if, count, names_at, identifier_at, written_at}
 use Rattle.source_laws.proofs.Units.{covers-unit}
 use Rattle.source_laws.proofs.Rising.{tokens-rise, rising-apart}
 
@@ -27,9 +26,6 @@ one-spelt : (p : Place) (identifier : Bool) (at : Option Place) (place : Place) 
 one-spelt p false at place stands = omega arith
 one-spelt p true None place stands = omega arith
 one-spelt p true (Some q) place stands = let h : one_if (same_place p q) ≡ one_if (same_place p place) = ap (λ x. one_if (same_place p x)) stands in omega arith
-
-place_of_lexeme : Lexeme → Place
-place_of_lexeme l = l.place
 
 spelt-counted : (p : Place) (ws : List Written) (ls : List Lexeme) → AllSpell ws ls → written_at p ws ≤ count p (map (λ l. l.place) ls)
 spelt-counted p [] [] s = omega arith

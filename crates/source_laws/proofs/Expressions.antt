@@ -1,5 +1,5 @@
 -- At no place stand more names of an expression than identifiers of its spelling.
-use Rattle.std.proofs.Common.{◌≡◌, List, [], ◌∷◌, ◌++◌, map, refl, sym, subst, ◌∙◌}
+use Rattle.std.proofs.Common.{List, [], ◌∷◌, map, refl, sym, subst, ◌∙◌}
 use Rattle.std.specs.List.{flat_map}
 use Rattle.ada_tree.specs.declared.expressions.Expression.{Expression}
 use Rattle.ada_tree.specs.declared.expressions.Expression.TheOpen.{Expression-F}
@@ -7,7 +7,7 @@ use Rattle.ada_tree.specs.declared.expressions.Expression.TheViews.{roll-Express
 use Rattle.ada_tree.specs.declared.expressions.Expression.TheFolds.{ind-Expression, map-Expression}
 use Rattle.ada_tree.specs.declared.expressions.ExpressionForm.{ExpressionForm}
 use Rattle.ada_tree.specs.declared.expressions.ExpressionForm.TheVariants as form
-use Rattle.ada_tree.specs.Written.{Written, delimiter, delimiter_at, each_written, behind, all_written, optional, enclosed}
+use Rattle.ada_tree.specs.Written.{Written, delimiter_at, each_written, behind, optional, enclosed}
 use Rattle.ada_tree.specs.SpellingExpressions.{logical_written, adding_text, multiplying_written, designator_written, formal_written, addend_written, multiplied_written, form_written, expression_written}
 use Rattle.ada_tree.proofs.ExpressionFolds.{expression_is_written}
 use Rattle.ada_regions.specs.Occurrences.{Occurrences, mentions}

@@ -6,3 +6,14 @@ pub mod Sequences
 pub mod Units
 pub mod Rising
 pub mod Apart
+pub mod Changes
+pub mod Traces
+pub mod FirstBodies
+pub mod KnownBodies
+pub mod Quiet
+pub mod Told
+pub mod ToldSequences
+pub mod ToldUnits
+pub mod Founded
+pub mod Faultless
+pub mod Unbroken

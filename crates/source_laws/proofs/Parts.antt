@@ -24,7 +24,7 @@ use Rattle.ada_tree.specs.declared.declarations.TaskDefinition.{TaskDefinition}
 use Rattle.ada_tree.specs.declared.declarations.ProtectedDeclaration.{ProtectedDeclaration}
 use Rattle.ada_tree.specs.declared.declarations.ProtectedOperation.{ProtectedOperation}
 use Rattle.ada_tree.specs.declared.declarations.ProtectedOperation.TheVariants as operation
-use Rattle.ada_tree.specs.Written.{Written, word, word_at, delimiter, identifier_written, optional, flag, end_name_written, name_written}
+use Rattle.ada_tree.specs.Written.{Written, word, delimiter, identifier_written, optional, flag, end_name_written}
 use Rattle.ada_tree.specs.SpellingExpressions.{formal_written, argument_written, arguments_written, expression_written}
 use Rattle.ada_tree.specs.SpellingStatements.{constraint_written, indication_written, parameter_written, parameters_written, semicolon}
 use Rattle.ada_tree.specs.SpellingDeclarations.{becomes_written, object_written, component_written, extension_written, definition_written, subtype_written, aspect_value_written, aspect_written, aspects_written, overriding_written, result_written, specification_written, entry_written, task_definition_written, type_flag, task_written, operation_written, private_written, protected_written}

@@ -1,5 +1,5 @@
 -- At no place stand more names and labels of a sequence, or of a declaration, than identifiers of its spelling.
-use Rattle.std.proofs.Common.{◌≡◌, ℕ, zero, suc, ◌≤◌, Bool, true, false, ◌&&◌, List, [], ◌∷◌, ◌++◌, Option, Some, None, is_some, refl, sym, ap, subst, ◌∙◌, arith}
+use Rattle.std.proofs.Common.{◌≡◌, ℕ, zero, suc, ◌≤◌, true, ◌&&◌, List, [], ◌∷◌, ◌++◌, is_some, refl, sym, subst, ◌∙◌, arith}
 use Rattle.std.specs.Prelude.{codes}
 use Rattle.std.specs.List.{flat_map, list_all}
 use Rattle.ada_tree.specs.declared.names.Identifier.{Identifier}
@@ -17,7 +17,7 @@ use Rattle.ada_tree.specs.declared.declarations.SubprogramSpecification.{Subprog
 use Rattle.ada_tree.specs.declared.declarations.EntryHead.{EntryHead}
 use Rattle.ada_tree.specs.declared.declarations.OperationBody.{OperationBody}
 use Rattle.ada_tree.specs.declared.declarations.OperationBody.TheVariants as body_of
-use Rattle.ada_tree.specs.Written.{Written, word, each_written, all_written, end_name_written}
+use Rattle.ada_tree.specs.Written.{word, all_written, end_name_written}
 use Rattle.ada_tree.specs.SpellingStatements.{semicolon, statement_written, handler_written}
 use Rattle.ada_tree.specs.SpellingDeclarations.{specification_written, body_written, operation_body_written, declaration_written}
 use Rattle.ada_tree.specs.Spelling.{handlers_written, handled_written, parts_written, sequence_written}
@@ -36,7 +36,7 @@ use Rattle.grammar_laws.proofs.Exact.{first_true, second_true}
 use Rattle.source_laws.proofs.Counting.{Covers, covers-none, covers-both, covers-then, covers-skip, covers-front, covers-quiet, covers-name, covers-mention, covers-middle, covers-assoc, covers-labels, covers-parts, covers-region, covers-named_region, covers-each, covers-all, covers-declares, covers-each_plain, covers-nothing}
 use Rattle.source_laws.proofs.Expressions.{covers-expression}
 use Rattle.source_laws.proofs.Parts.{covers-parameters, covers-object, covers-definition, covers-subtype, covers-specified, covers-specification, covers-task, covers-protected}
-use Rattle.source_laws.proofs.Statements.{SequencesCovered, Opened, opened, covers-handler, covers-statement}
+use Rattle.source_laws.proofs.Statements.{SequencesCovered, opened, covers-handler, covers-statement}
 
 module _ (level : ℕ) (all : (m : ℕ) → suc m ≤ level → SequencesCovered m) where
   -- ---- bodies

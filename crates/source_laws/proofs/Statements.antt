@@ -1,8 +1,7 @@
 -- At no place stand more names and labels of a statement than identifiers of its spelling, where that holds of the sequences in it.
-use Rattle.std.proofs.Common.{◌≡◌, ℕ, zero, suc, ◌≤◌, Bool, true, false, ◌&&◌, List, [], ◌∷◌, ◌++◌, Option, Some, None, refl, arith}
+use Rattle.std.proofs.Common.{◌≡◌, ℕ, zero, suc, ◌≤◌, Bool, true, false, [], ◌∷◌, Option, Some, None, refl, arith}
 use Rattle.std.specs.Prelude.{codes}
 use Rattle.ann_base.specs.declared.places.Place.{Place}
-use Rattle.ada_tree.specs.declared.names.Identifier.{Identifier}
 use Rattle.ada_tree.specs.declared.statements.SequenceRole.{SequenceRole}
 use Rattle.ada_tree.specs.declared.statements.SequenceRole.TheVariants as role
 use Rattle.ada_tree.specs.declared.statements.Sequence.{Sequence}
@@ -27,7 +26,6 @@ use Rattle.ada_tree.specs.declared.statements.Handler.{Handler}
 use Rattle.ada_tree.specs.declared.statements.HandledExceptions.{HandledExceptions}
 use Rattle.ada_tree.specs.declared.statements.HandledExceptions.TheVariants as exceptions
 use Rattle.ada_tree.specs.declared.statements.Accept.{Accept}
-use Rattle.ada_tree.specs.declared.statements.AcceptBody.{AcceptBody}
 use Rattle.ada_tree.specs.declared.selects.SelectForm.{SelectForm}
 use Rattle.ada_tree.specs.declared.selects.SelectForm.TheVariants as select
 use Rattle.ada_tree.specs.declared.selects.SelectAlternative.{SelectAlternative}
@@ -36,14 +34,14 @@ use Rattle.ada_tree.specs.declared.selects.Alternative.{Alternative}
 use Rattle.ada_tree.specs.declared.selects.Alternative.TheVariants as alternative
 use Rattle.ada_tree.specs.declared.selects.Trigger.{Trigger}
 use Rattle.ada_tree.specs.declared.selects.Trigger.TheVariants as trigger
-use Rattle.ada_tree.specs.Written.{Written, word, delimiter, flag, optional, name_written, end_name_written}
+use Rattle.ada_tree.specs.Written.{word, delimiter, flag, optional, name_written}
 use Rattle.ada_tree.specs.SpellingExpressions.{expression_written}
 use Rattle.ada_tree.specs.SpellingStatements.{semicolon, index_written, assignment_written, call_written, delay_written, choice_written, label_written, iteration_written, loop_name_written, when_written, exit_written, exceptions_written, guard_written, trigger_written, statements_written, elsif_written, else_written, if_written, case_alternative_written, case_written, loop_written, block_opened, block_written, handler_written, accept_body_written, accept_written, alternative_written, select_alternative_written, select_form_written, statement_written}
 use Rattle.ada_tree.specs.Spelling.{sequence_written}
-use Rattle.ada_tree.specs.ShapeExpressions.{within, all_fit, optional_fits}
-use Rattle.ada_tree.specs.ShapeStatements.{value_fits, choice_fits, statements_fit, elsif_fits, if_fits, case_alternative_fits, case_fits, loop_fits, block_role, block_fits, handler_fits, accept_body_fits, accept_fits, accept_opens, alternative_fits, select_alternative_fits, select_form_fits, parts_fit}
+use Rattle.ada_tree.specs.ShapeExpressions.{within, optional_fits}
+use Rattle.ada_tree.specs.ShapeStatements.{statements_fit, elsif_fits, if_fits, case_alternative_fits, case_fits, loop_fits, block_role, block_fits, accept_body_fits, accept_fits, accept_opens, alternative_fits, select_alternative_fits, select_form_fits, parts_fit}
 use Rattle.ada_tree.specs.Shape.{sequence_fits}
-use Rattle.ada_regions.specs.Occurrences.{Occurrences, an_accept, a_block, a_label, a_loop, a_loop_parameter, hides, declares, mentions, mentions_simply, in_all, if_there, one, in_body}
+use Rattle.ada_regions.specs.Occurrences.{an_accept, a_block, a_label, a_loop, a_loop_parameter, hides, declares, mentions, mentions_simply, in_all, if_there, one, in_body}
 use Rattle.ada_regions.specs.NamesInExpressions.{names_in_expression}
 use Rattle.ada_regions.specs.NamesInStatements.{names_in_assignment, names_in_call, names_in_delay, names_in_choice, names_in_iteration, names_in_exit, names_in_exceptions, names_in_guard, names_in_trigger, label_name, declares_label, names_in_statements, labels_in, names_in_elsif, names_in_if, names_in_case_alternative, names_in_case, names_in_handler, names_in_accept_body, names_in_accept, names_in_alternative, names_in_select_alternative, names_in_select, names_in_statement, labels_in_elsif, labels_in_if, labels_in_case_alternative, labels_in_handler, labels_in_accept_body, labels_in_accept, labels_in_alternative, labels_in_select_alternative, labels_in_select, labels_in_statement}
 use Rattle.ada_regions.specs.NamesInUnits.{names_in_sequence}

@@ -1,7 +1,6 @@
 -- At no place stand more names of a source than identifiers of its spelling.
-use Rattle.std.proofs.Common.{◌≡◌, ℕ, ◌+◌, ◌≤◌, Bool, true, false, ◌&&◌, List, [], ◌∷◌, ◌++◌, Option, Some, None, map, refl, ap, ◌∙◌, arith}
+use Rattle.std.proofs.Common.{◌≡◌, ℕ, ◌+◌, ◌≤◌, Bool, true, false, List, [], ◌∷◌, ◌++◌, map, refl, arith}
 use Rattle.std.specs.Prelude.{codes}
-use Rattle.std.specs.List.{flat_map, list_all}
 use Rattle.ann_base.specs.declared.places.Place.{Place}
 use Rattle.ada_tree.specs.declared.names.Identifier.{Identifier}
 use Rattle.ada_tree.specs.declared.names.Name.{Name}
@@ -16,22 +15,21 @@ use Rattle.ada_tree.specs.declared.units.Package.TheVariants as packages
 use Rattle.ada_tree.specs.declared.units.PackageDeclaration.{PackageDeclaration}
 use Rattle.ada_tree.specs.declared.units.PackageBody.{PackageBody}
 use Rattle.ada_tree.specs.declared.units.MainProcedure.{MainProcedure}
-use Rattle.ada_tree.specs.Written.{Written, word, delimiter, each_written, name_written, end_name_written}
+use Rattle.ada_tree.specs.Written.{word, delimiter, each_written, name_written, end_name_written}
 use Rattle.ada_tree.specs.SpellingStatements.{semicolon}
 use Rattle.ada_tree.specs.SpellingDeclarations.{declaration_written}
 use Rattle.ada_tree.specs.Spelling.{sequence_written, pragma_written, clause_written, declarations_written, private_part_written, package_statements_written, package_written, library_package_written, main_written, unit_written}
 use Rattle.ada_tree.specs.ShapeDeclarations.{declaration_fits}
 use Rattle.ada_tree.specs.Shape.{sequence_fits, declarations_fit, package_declaration_fits, package_statements_fit, package_parts_fit, package_fits, library_package_fits, main_fits, unit_fits}
 use Rattle.ada_regions.specs.Words.{same_place, last_from}
-use Rattle.ada_regions.specs.Names.{last_part}
-use Rattle.ada_regions.specs.Occurrences.{Occurrences, the_package, the_main_procedure, the_context, the_context_of, further_context, package_region, package_body, main_body, private_from_here, declares_unit, with_unit, use_package, one, within_region, in_body}
+use Rattle.ada_regions.specs.Occurrences.{the_package, the_main_procedure, the_context, the_context_of, further_context, package_region, package_body, main_body, private_from_here, declares_unit, with_unit, use_package, one, within_region, in_body}
 use Rattle.ada_regions.specs.NamesInDeclarations.{names_in_declaration, names_in_aspects}
 use Rattle.ada_regions.specs.NamesInUnits.{names_in_sequence, clause_with, names_in_clause, names_in_context, names_in_part, names_in_private_part, names_in_package_declaration, names_in_package_statements, names_in_package_body, names_in_package, names_in_library_package, names_in_main, names_in_unit}
 use Rattle.grammar_laws.proofs.Exact.{first_true, second_true}
 use Rattle.name_laws.specs.Places.{place_of}
-use Rattle.source_laws.proofs.Counting.{Covers, one_if, count, name-counted, covers-none, covers-then, covers-skip, covers-past, covers-front, covers-quiet, covers-name, covers-mention, covers-middle, covers-region, covers-named_region, covers-flat, covers-in_all, covers-each_plain, covers-there_plain}
+use Rattle.source_laws.proofs.Counting.{Covers, one_if, count, name-counted, covers-then, covers-skip, covers-past, covers-front, covers-quiet, covers-name, covers-mention, covers-middle, covers-region, covers-named_region, covers-flat, covers-in_all, covers-each_plain, covers-there_plain}
 use Rattle.source_laws.proofs.Parts.{covers-aspects}
-use Rattle.source_laws.proofs.Statements.{Opened, opened}
+use Rattle.source_laws.proofs.Statements.{opened}
 use Rattle.source_laws.proofs.Sequences.{covers-declaration, covers-whole_body, covers-sequence}
 
 -- ---- context clauses: of a with clause the last part of each name

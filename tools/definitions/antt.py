@@ -704,6 +704,11 @@ class Parser:
         r = self.m.meaning(n)
         if r is None: raise NameError(f"{n} in {self.m.name}")
         return r
+    def stands_inside(self, section):
+        """Whether what is defined in these modules has their parameters here: in them, or where the others have only implicit ones."""
+        shared = 0
+        while shared < min(len(section), len(self.d.section)) and section[shared] == self.d.section[shared]: shared += 1
+        return shared > 0 and all(not s[2] for s in section[shared:])
     def call_of(self, r, args):
         """A name of a definition or of the library, with arguments."""
         if r[0] == "builtin":
@@ -722,7 +727,7 @@ class Parser:
             return self.apply(Code(f"CONSTANT({r[1]!r}, {r[2]!r})"), args)
         if r[0] == "type": return Code("None")
         d = r[1].defs[r[2]]
-        if r[1] is self.m and d.section and d.section == self.d.section[:len(d.section)]:
+        if r[1] is self.m and d.section and self.stands_inside(d.section):
             args = [self.inside[n] for n in d.parameters] + args
         if d.k == 0: return self.apply(Code(f"{d.py}()"), args)
         return self.call(d.py, d.k, args)

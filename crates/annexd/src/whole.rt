@@ -1,11 +1,10 @@
 //! All that the program does.
 ghost use Rattle.std.specs.Prelude.{◌≡◌, ◌≢◌, ◌≤◌, ◌⊎◌, IsTrue, None, codes};
 ghost use Rattle.ann_base.specs.Outside.{Rose, extended};
-ghost use Rattle.trace_text.specs.Laws.{DispatchOk};
+ghost use Rattle.trace_text.specs.Laws.{DispatchOk, LeftOk};
 ghost use Rattle.tick_lines.specs.TickLaws.{SwitchesOk, ReleasesOk, StuckOk, follows_tick_order};
 ghost use Rattle.exclusion_laws.specs.ExclusionLaws.{EntersOk};
 ghost use Rattle.handler_laws.specs.HandlerLaws.{ServedInTurn};
-ghost use Rattle.leaving_laws.specs.LeavingLaws.{InTurn};
 ghost use Rattle.commands.specs.Asked.{asked_of};
 ghost use Rattle.commands.specs.Outside.{shelf_of, sink_of};
 ghost use Rattle.commands.specs.Performed.{IsUnread};
@@ -16,7 +15,7 @@ use crate::performing::perform;
 use ann_base::{Shelf, Sink};
 use exclusion_laws::runs_exclude;
 use handler_laws::runs_serve_in_turn;
-use leaving_laws::runs_leave_in_turn;
+use leaving_laws::runs_leave_rightly;
 use machine_laws::dispatching::runs_dispatch;
 use std::alloc::Global;
 use tick_lines::{
@@ -107,7 +106,7 @@ pub fn top<S: Shelf, K: Sink>(
     ensures in_turn { result ≤ 3 → LawTold ServedInTurn (asked_of words.now)
         (shelf_of S.files S.faults shelf.old shelf.new)
         (sink_of K.held K.faults out.old out.new) }
-    ensures leaving { result ≤ 3 → LawTold InTurn (asked_of words.now)
+    ensures leaving { result ≤ 3 → LawTold LeftOk (asked_of words.now)
         (shelf_of S.files S.faults shelf.old shelf.new)
         (sink_of K.held K.faults out.old out.new) }
     ensures stuck { result ≤ 3 → LawTold StuckOk (asked_of words.now)
@@ -192,7 +191,7 @@ pub fn top<S: Shelf, K: Sink>(
     runs_switch();
     runs_release_in_order();
     runs_serve_in_turn();
-    runs_leave_in_turn();
+    runs_leave_rightly();
     runs_are_rightly_stuck();
     let outcome = perform(alloc, words, shelf, out);
     conclude(notes, outcome)

@@ -1,8 +1,8 @@
 -- The changes that steps are made of, with what the lines of regions and controlled objects tell: each such line comes
--- together with the change of marks, or of the registered objects, that it tells. May is said of who acts, and Other of the
--- others, which are tasks.
-use Rattle.std.proofs.Common.{◌≡◌, ℕ, ℤ, suc, Bool, true, false, ◌||◌, List, [], ◌∷◌, ◌++◌, Option, Some, None, refl, sym, ap, ◌∙◌}
-use Rattle.std.specs.Prelude.{int_lt, int_le, pos}
+-- together with the change of marks, or of the registered objects, that it tells. May is said of who acts and may go on, Acts
+-- of who acts, Pushes of whose marks may become more or fewer, and Stops where somebody may block for others or be gone.
+use Rattle.std.proofs.Common.{◌≡◌, ℕ, ℤ, suc, Bool, true, false, ◌||◌, List, [], ◌∷◌, ◌++◌, Option, Some, None, is_some, refl}
+use Rattle.std.specs.Prelude.{int_le, pos}
 use Rattle.ann_base.specs.declared.identities.CallNo.{CallNo}
 use Rattle.ann_base.specs.declared.identities.ObjectNo.{ObjectNo}
 use Rattle.ann_base.specs.declared.identities.RegionNo.{RegionNo}
@@ -10,6 +10,7 @@ use Rattle.ann_base.specs.declared.identities.TaskNo.{TaskNo}
 use Rattle.trace_text.specs.declared.events.Event.{Event}
 use Rattle.trace_text.specs.declared.events.Mode.{Mode}
 use Rattle.trace_text.specs.declared.events.QueueEnd.{QueueEnd}
+use Rattle.trace_text.specs.declared.events.QueueEnd.TheVariants.{Tail}
 use Rattle.trace_text.specs.declared.events.Who.{Who}
 use Rattle.trace_text.specs.declared.events.Who.TheVariants as who
 use Rattle.profile_machine.specs.declared.image.Image.{Image}
@@ -23,11 +24,12 @@ use Rattle.profile_machine.specs.declared.world.World.{World}
 use Rattle.profile_machine.specs.declared.world.marks.Frame.{Frame}
 use Rattle.profile_machine.specs.declared.world.marks.Mark.{Mark}
 use Rattle.profile_machine.specs.declared.world.marks.Mark.TheVariants.{Scope, Handled, InProtected, InAccept, Abortable, InInitialize, InFinalize, InAssign}
-use Rattle.profile_machine.specs.declared.world.marks.ProtectedMark.{ProtectedMark}
 use Rattle.profile_machine.specs.declared.world.marks.Purpose.{Purpose}
+use Rattle.profile_machine.specs.declared.world.marks.Purpose.TheVariants as opened_for
 use Rattle.profile_machine.specs.declared.world.tasks.Task.{Task}
 use Rattle.profile_machine.specs.declared.world.tasks.Waiting.{Waiting}
-use Rattle.profile_machine.specs.declared.world.tasks.State.TheVariants.{Made, Runnable, Blocked}
+use Rattle.profile_machine.specs.declared.world.tasks.Waiting.TheVariants as waits_for
+use Rattle.profile_machine.specs.declared.world.tasks.State.TheVariants.{Runnable, Blocked}
 use Rattle.profile_machine.specs.declared.world.scopes.Beginning.{Beginning}
 use Rattle.profile_machine.specs.declared.world.scopes.ScopeId.{ScopeId}
 use Rattle.profile_machine.specs.declared.world.scopes.Located.{Located}
@@ -37,31 +39,32 @@ use Rattle.profile_machine.specs.declared.world.appointments.Due.{Due}
 use Rattle.profile_machine.specs.declared.world.appointments.Budget.{Budget}
 use Rattle.profile_machine.specs.declared.world.appointments.HandlerOf.{HandlerOf}
 use Rattle.profile_machine.specs.declared.world.lines.Part.{Part}
+use Rattle.profile_machine.specs.declared.world.lines.Part.TheVariants.{ThePlacing, TheBlock}
 use Rattle.profile_machine.specs.declared.world.lines.Said.{Said}
 use Rattle.profile_machine.specs.declared.world.lines.Line.{Line}
 use Rattle.profile_machine.specs.declared.world.lines.Line.TheVariants as said
 use Rattle.profile_machine.specs.Words.{edit_at}
 use Rattle.profile_machine.specs.Steps.{placed_by}
-use Rattle.profile_machine.specs.Tasks.{task_of, task_at, edit_task_found, edit_task, with_state, with_frames, waiting_of}
-use Rattle.profile_machine.specs.Dispatching.{active, deadline_shown, word_of}
-use Rattle.profile_machine.specs.Program.{scope_of}
-use Rattle.profile_machine.specs.Frames.{top_of, edit_first, edit_top, new_frame, push, pop, without_first, goes_on, is_protected, in_protected}
-use Rattle.profile_machine.specs.Scopes.{edit_cells, begin_scope, draw_region, open_scope, end_scope, next_id, region_of_next, new_scope_mark}
+use Rattle.profile_machine.specs.Tasks.{task_of, edit_task, with_state, with_frames, waiting_in, waiting_of}
+use Rattle.profile_machine.specs.Dispatching.{active, deadline_shown, word_of, keep_level, grant_quantum, without_kept_level}
+use Rattle.profile_machine.specs.Frames.{top_of, edit_top, push, pop, goes_on}
+use Rattle.profile_machine.specs.Scopes.{edit_cells, begin_scope, open_scope, end_scope}
 use Rattle.profile_machine.specs.Appointments.{appoint, drop_appointment}
-use Rattle.profile_machine.specs.Calls.{edit_call, forget_call, edit_object}
-use Rattle.profile_machine.specs.Masters.{region_of_mark, has_dependents, waits_for_activation, forget_task}
+use Rattle.std.proofs.Common.{◌≤◌}
+use Rattle.profile_machine.specs.Calls.{call_of, edit_call, forget_call, edit_object}
+use Rattle.profile_machine.specs.Masters.{region_of_mark, forget_task}
 use Rattle.profile_machine.specs.Protected.{open_action}
 use Rattle.profile_machine.specs.EntryCalls.{add_call}
 use Rattle.profile_machine.specs.declared.world.marks.ScopeMark.{ScopeMark}
 use Rattle.profile_machine.specs.declared.world.appointments.Registered.{Registered}
-use Rattle.profile_machine.specs.Controlled.{top_region, registered_as, no_longer_registered, edit_top_scope, next_to_finalize, registered_at}
+use Rattle.profile_machine.specs.Controlled.{top_region, registered_as, no_longer_registered, next_to_finalize, registered_at}
 use Rattle.profile_machine.specs.Declarations.{new_object, object_drawn, event_drawn, with_budget, with_timer}
-use Rattle.profile_machine.specs.Tasking.{add_task, end_environment, leaves_as, being_left_mark, left_so_frame}
+use Rattle.profile_machine.specs.Tasking.{add_task, end_environment, is_task_scope}
 use Rattle.profile_machine.specs.declared.world.appointments.Release.{Release}
 use Rattle.profile_machine.specs.Serving.{close_action, serves_nothing}
 use Rattle.profile_machine.specs.Handlers.{add_release, clear_timer, with_timer_set, edit_budget}
 use Rattle.profile_machine.specs.Instant.{with_port, with_masked, with_kept_interrupt, with_script}
-use Rattle.machine_laws.proofs.Moves.{StepRelation, MoveRelation, is_told_apart, AreOthers, LetsIn, FindsHeld, own, lines_of}
+use Rattle.machine_laws.proofs.Moves.{StepRelation, MoveRelation, is_told_apart, LetsIn, FindsHeld, own, lines_of}
 
 abbrev pub GoodWorld : Type 1
 GoodWorld = World → Type 0
@@ -69,27 +72,8 @@ GoodWorld = World → Type 0
 abbrev pub Naming : Type 1
 Naming = Who → Type 0
 
--- ---- what a mark is, whatever is edited in it: its region, the release that ends with it, and two of its kinds
-
-abbrev pub release_in : Mark → Option ℕ
-release_in (Scope m) = None
-release_in (Handled s) = None
-release_in (InProtected m) = m.release
-release_in (InAccept m) = None
-release_in (Abortable m) = None
-release_in (InInitialize l) = None
-release_in (InFinalize o) = None
-release_in (InAssign m) = None
-
-abbrev pub is_abortable : Mark → Bool
-is_abortable (Scope m) = false
-is_abortable (Handled s) = false
-is_abortable (InProtected m) = false
-is_abortable (InAccept m) = false
-is_abortable (Abortable m) = true
-is_abortable (InInitialize l) = false
-is_abortable (InFinalize o) = false
-is_abortable (InAssign m) = false
+-- ---- what a mark is, whatever is edited in it: its region, whether it is being left, and whether nothing goes on below it when
+-- it has ended
 
 -- whether its region is being left
 abbrev pub being_left_in : Mark → Bool
@@ -102,19 +86,81 @@ being_left_in (InInitialize l) = false
 being_left_in (InFinalize o) = false
 being_left_in (InAssign m) = false
 
+-- behind a Finalize, the outermost scope of a task and the protected action of a handler nothing below goes on
+abbrev pub is_special : Mark → Bool
+is_special (Scope m) = is_task_scope m.purpose
+is_special (Handled s) = false
+is_special (InProtected m) = is_some m.release
+is_special (InAccept m) = false
+is_special (Abortable m) = false
+is_special (InInitialize l) = false
+is_special (InFinalize o) = true
+is_special (InAssign m) = false
+
+-- the call of its own with which somebody entered
+abbrev pub own_call_of : Mark → Option CallNo
+own_call_of (Scope m) = None
+own_call_of (Handled s) = None
+own_call_of (InProtected m) = m.own_call
+own_call_of (InAccept m) = None
+own_call_of (Abortable m) = None
+own_call_of (InInitialize l) = None
+own_call_of (InFinalize o) = None
+own_call_of (InAssign m) = None
+
 pub record Nature : Type 0 where
   pub region : Option RegionNo
   pub leaving : Bool
-  pub release : Option ℕ
-  pub action : Bool
-  pub abortable : Bool
+  pub special : Bool
+  pub own_call : Option CallNo
 
 abbrev pub nature : Mark → Nature
-nature mark = record { region = region_of_mark mark; leaving = being_left_in mark; release = release_in mark; action = is_protected mark; abortable = is_abortable mark }
+nature mark = record { region = region_of_mark mark; leaving = being_left_in mark; special = is_special mark; own_call = own_call_of mark }
 
 abbrev pub natures : List Frame → List Nature
 natures [] = []
 natures (f ∷ fs) = nature f.mark ∷ natures fs
+
+-- the same marks, of which none goes on that did not
+abbrev pub Alike : List Frame → List Frame → Type 0
+Alike [] [] = Unit {0}
+Alike [] (f ∷ fs) = ⊥
+Alike (g ∷ gs) [] = ⊥
+Alike (g ∷ gs) (f ∷ fs) = (nature g.mark ≡ nature f.mark) × (is_some f.onward ≡ false → is_some g.onward ≡ false) × Alike gs fs
+
+-- ---- who is free to go on, and who does not wait for a meeting
+
+-- the mark on top is not being left
+abbrev pub top_leaving : Option Frame → Bool
+top_leaving None = false
+top_leaving (Some f) = being_left_in f.mark
+
+abbrev pub Free : Who → World → Type 0
+Free name w = top_leaving (top_of w name) ≡ false
+
+-- for a call, a caller, or the end of a call
+abbrev pub waits : Option Waiting → Bool
+waits None = false
+waits (Some waits_for.Activation) = false
+waits (Some waits_for.Moment) = false
+waits (Some (waits_for.Call c)) = true
+waits (Some (waits_for.EndOfCall c)) = true
+waits (Some (waits_for.Accept s)) = true
+waits (Some (waits_for.Select accepts delay terminate)) = true
+waits (Some (waits_for.Dependents r)) = false
+waits (Some waits_for.Release) = false
+
+-- of the agent nothing is asked
+abbrev pub waiting_now : Who → World → Bool
+waiting_now (who.Task t) w = waits (waiting_of w (who.Task t))
+waiting_now who.Agent w = false
+
+abbrev pub Awake : Who → World → Type 0
+Awake name w = waiting_now name w ≡ false
+
+-- somebody made this call, if it is there
+abbrev pub Caller : CallNo → Who → World → Type 0
+Caller c name w = (c.0 ≤ w.drawn.calls) × ((d : Call) → call_of w c ≡ Some d → who.Task d.caller ≡ name)
 
 -- ---- lines that are said only together with what they tell
 
@@ -138,10 +184,6 @@ abbrev pub AreQuiet : List Said → Type 0
 AreQuiet [] = Unit {0}
 AreQuiet (x ∷ xs) = (is_apart x.line ≡ false) × AreQuiet xs
 
-abbrev pub EachIs : Naming → List Task → Type 0
-EachIs Is [] = Unit {0}
-EachIs Is (t ∷ ts) = Is t.who × EachIs Is ts
-
 abbrev pub ready_line : Image → Part → Who → QueueEnd → World → Said
 ready_line p part name end w = record { part = part; line = said.Ready name (active p (task_of w name)) end (deadline_shown p (task_of w name)) }
 
@@ -149,7 +191,17 @@ ready_line p part name end w = record { part = part; line = said.Ready name (act
 abbrev pub gone_on : Who → Option StatementNo → World → World
 gone_on name onward = edit_top name (goes_on onward)
 
-pub record FineMoves (G : GoodWorld) (May Other : Naming) (R : StepRelation) (Q : MoveRelation) : Type 0 where
+-- somebody has become ready, and has blocked
+abbrev pub ready_world : Image → Who → World → World
+ready_world p name w = grant_quantum p name (keep_level p name (edit_task name (with_state Runnable) w))
+
+abbrev pub blocked_world : Who → Waiting → World → World
+blocked_world name waiting w = edit_task name without_kept_level (edit_task name (with_state (Blocked waiting)) w)
+
+abbrev pub block_line : Who → Waiting → Said
+block_line name waiting = record { part = TheBlock; line = said.Block name (word_of waiting) }
+
+pub record FineMoves (G : GoodWorld) (May Acts Pushes : Naming) (Stops : Type 0) (R : StepRelation) (Q : MoveRelation) : Type 0 where
   -- what is done leads from good worlds to good worlds
   pub behind : (a b : World) {xs : List Said} → R a xs b → G b
   pub moved : (a b : World) {xs : List Event} → Q a xs b → G b
@@ -162,31 +214,42 @@ pub record FineMoves (G : GoodWorld) (May Other : Naming) (R : StepRelation) (Q 
   pub leads_on : (a b c : World) {xs ys : List Event} → Q a xs b → Q b ys c → Q a (xs ++ ys) c
   pub settles : (p : Image) (a b : World) (xs : List Said) → R a xs b → Q a (lines_of p xs) (placed_by (lines_of p xs) b)
   pub silently : (a b : World) → R a [] b → Q a [] b
-  -- who is who: each task is another, and so is who waits for an activation
-  pub other_may : (name : Who) → Other name → May name
-  pub task_other : (n : TaskNo) → Other (who.Task n)
-  pub listed : (w : World) → G w → EachIs Other w.tasks
-  pub awaits : (name : Who) (w : World) → G w → waits_for_activation (waiting_of w name) ≡ true → Other name
-  -- tasks: an edit of anybody that leaves alone who it is, its marks, its state and its master; one of marks alone
-  pub edits_task : (name : Who) (f : Task → Task) (w : World) → G w → ((t : Task) → (f t).who ≡ t.who) → ((t : Task) → (f t).frames ≡ t.frames) → ((t : Task) → (f t).state ≡ t.state) → ((t : Task) → (f t).master ≡ t.master) → R w [] (edit_task name f w)
-  pub edits_frames : (name : Who) (f : List Frame → List Frame) (w : World) → G w → ((fs : List Frame) → natures (f fs) ≡ natures fs) → R w [] (edit_task name (λ t. with_frames (f t.frames) t) w)
-  -- a mark is opened by who has one, behind its going on; by a task; and one that is no protected action ends
-  pub pushes_on : (name : Who) (onward : Option StatementNo) (f g : Frame) (w : World) → G w → May name → top_of w name ≡ Some g → (nature f.mark).region ≡ None → (nature f.mark).release ≡ None → (nature f.mark).abortable ≡ false → R w [] (push name f (gone_on name onward w))
-  pub opens_abortable : (name : Who) (f : Frame) (w : World) → G w → Other name → (nature f.mark).region ≡ None → (nature f.mark).release ≡ None → R w [] (push name f w)
-  pub pops : (name : Who) (f : Frame) (w : World) → G w → May name → top_of w name ≡ Some f → is_protected f.mark ≡ false → R w [] (pop name w)
-  -- a region begins to be left, and has been left when none of its objects is registered
-  pub begins_leaving : (name : Who) (f : Frame) (m : ScopeMark) (r : RegionNo) (leaving : Leaving) (w : World) → G w → May name → top_of w name ≡ Some f → f.mark ≡ Scope m → m.region ≡ Some r → m.being_left ≡ false
-      → R w (own (said.Leave name r (leaves_as leaving)) ∷ []) (edit_top name (left_so_frame leaving) (edit_top_scope name being_left_mark w))
-  pub has_left : (name : Who) (f : Frame) (m : ScopeMark) (r : RegionNo) (w : World) → G w → May name → top_of w name ≡ Some f → f.mark ≡ Scope m → m.region ≡ Some r → m.being_left ≡ true → next_to_finalize w r ≡ None
+  -- who acts; and who is free to go on: who waits for a meeting, who has something to go on with, and below a mark that has ended
+  pub may_acts : (name : Who) → May name → Acts name
+  pub may_pushes : (name : Who) → May name → Pushes name
+  pub may_free : (name : Who) (w : World) → G w → May name → Free name w
+  pub agent_acts : Acts who.Agent
+  pub stops_pushes : Stops → (name : Who) → Pushes name
+  pub waiting_free : (name : Who) (w : World) → G w → waiting_now name w ≡ true → Free name w
+  pub waiting_pushes : (name : Who) (w : World) → G w → waiting_now name w ≡ true → Pushes name
+  pub onward_free : (name : Who) (f : Frame) (s : StatementNo) (w : World) → G w → top_of w name ≡ Some f → f.onward ≡ Some s → Free name w
+  pub popped_free : (name : Who) (f : Frame) (w : World) → G w → top_of w name ≡ Some f → is_special f.mark ≡ false → Free name (pop name w)
+  pub still_free : (name : Who) (a b : World) {xs : List Said} → R a xs b → Free name a → Free name b
+  pub still_called : (c : CallNo) (name : Who) (a b : World) {xs : List Said} → R a xs b → Caller c name a → Caller c name b
+  -- tasks: an edit of anybody that leaves alone who it is, its marks and its state; one of marks alone
+  pub edits_task : (name : Who) (f : Task → Task) (w : World) → G w → ((t : Task) → (f t).who ≡ t.who) → ((t : Task) → (f t).frames ≡ t.frames) → ((t : Task) → (f t).state ≡ t.state) → R w [] (edit_task name f w)
+  pub edits_frames : (name : Who) (f : List Frame → List Frame) (w : World) → G w → ((fs : List Frame) → Alike (f fs) fs) → R w [] (edit_task name (λ t. with_frames (f t.frames) t) w)
+  -- who is free goes on, and opens a mark; others are opened above any; and a mark ends
+  pub goes : (name : Who) (onward : Option StatementNo) (w : World) → G w → Free name w → R w [] (gone_on name onward w)
+  pub pushes : (name : Who) (f : Frame) (w : World) → G w → Pushes name → Free name w → region_of_mark f.mark ≡ None → being_left_in f.mark ≡ false → ((c : CallNo) → own_call_of f.mark ≡ Some c → Caller c name w) → R w [] (push name f w)
+  pub pushes_special : (name : Who) (f : Frame) (w : World) → G w → Pushes name → is_special f.mark ≡ true → region_of_mark f.mark ≡ None → being_left_in f.mark ≡ false → own_call_of f.mark ≡ None → R w [] (push name f w)
+  pub opens_scope : (p : Image) (name : Who) (scope : ScopeNo) (b : Beginning) (purpose : Purpose) (w : World) → G w → Pushes name → Free name w → R w [] (open_scope p name scope b purpose w)
+  pub opens_task : (p : Image) (name : Who) (scope : ScopeNo) (b : Beginning) (w : World) → G w → Pushes name → R w [] (open_scope p name scope b opened_for.Task w)
+  pub pops : (name : Who) (f : Frame) (w : World) → G w → Pushes name → Awake name w → top_of w name ≡ Some f → is_special f.mark ≡ false → R w [] (pop name w)
+  -- a region has been left when none of its objects is registered
+  pub has_left : (name : Who) (f : Frame) (m : ScopeMark) (r : RegionNo) (w : World) → G w → Pushes name → Awake name w → top_of w name ≡ Some f → is_special f.mark ≡ false → f.mark ≡ Scope m → m.region ≡ Some r → m.being_left ≡ true → next_to_finalize w r ≡ None
       → R w (own (said.Left name r) ∷ []) (pop name w)
-  -- states, and places
-  pub readies : (name : Who) (w : World) → G w → Other name → R w [] (edit_task name (with_state Runnable) w)
-  pub blocks : (name : Who) (waiting : Waiting) (w : World) → G w → Other name → R w [] (edit_task name (with_state (Blocked waiting)) w)
-  pub places : (p : Image) (part : Part) (name : Who) (end : QueueEnd) (w : World) → G w → May name → R w (ready_line p part name end w ∷ []) w
-  pub says_blocked : (part : Part) (name : Who) (waiting : Waiting) (w : World) → G w → Other name → R w (record { part = part; line = said.Block name (word_of waiting) } ∷ []) w
-  -- a new task has the next number and the region of its creator, which goes on first
-  pub adds_task : (name : Who) (onward : Option StatementNo) (t : Task) (w : World) → G w → Other name → t.who ≡ who.Task (record { 0 = w.drawn.tasks }) → t.frames ≡ [] → t.master ≡ Some (top_region w name) → R w [] (add_task t (gone_on name onward w))
-  pub forgets_task : (name : Who) (w : World) → G w → R w [] (forget_task name w)
+  -- states, and places: who becomes ready is placed, and so is who does not wait, or acts; who blocks for a meeting is free
+  pub becomes_ready : (p : Image) (part : Part) (name : Who) (w : World) → G w → R w (ready_line p part name Tail (ready_world p name w) ∷ []) (ready_world p name w)
+  pub wakes : (name : Who) (w : World) → G w → R w [] (edit_task name (with_state Runnable) w)
+  pub blocks : (name : Who) (waiting : Waiting) (w : World) → G w → May name → R w (block_line name waiting ∷ []) (blocked_world name waiting w)
+  pub blocks_apart : (name : Who) (waiting : Waiting) (w : World) → G w → Stops → waits (Some waiting) ≡ false → R w (block_line name waiting ∷ []) (blocked_world name waiting w)
+  pub waits_silently : (name : Who) (accepts : List StatementNo) (delay : Option StatementNo) (w : World) → G w → May name → R w [] (edit_task name (with_state (Blocked (waits_for.Select accepts delay true))) w)
+  pub places_awake : (p : Image) (part : Part) (name : Who) (end : QueueEnd) (w : World) → G w → Awake name w → R w (ready_line p part name end w ∷ []) w
+  pub places_acting : (p : Image) (name : Who) (end : QueueEnd) (w : World) → G w → Acts name → R w (ready_line p ThePlacing name end w ∷ []) w
+  -- a new task has the next number
+  pub adds_task : (t : Task) (w : World) → G w → t.who ≡ who.Task (record { 0 = w.drawn.tasks }) → t.frames ≡ [] → waiting_in t.state ≡ None → R w [] (add_task t w)
+  pub forgets_task : (name : Who) (w : World) → G w → Stops → R w [] (forget_task name w)
   pub sets_quantum : (level ticks : ℕ) (w : World) → G w → R w [] (record w { quanta = edit_at level (λ _. ticks) w.quanta })
   pub ends_environment : (leaving : Leaving) (w : World) → G w → R w [] (end_environment leaving w)
   -- scopes and their cells
@@ -194,14 +257,15 @@ pub record FineMoves (G : GoodWorld) (May Other : Naming) (R : StepRelation) (Q 
   pub edits_cells : (id : ScopeId) (f : List Value → List Value) (w : World) → G w → R w [] (edit_cells id f w)
   pub ends_scope : (id : ScopeId) (w : World) → G w → R w [] (end_scope id w)
   -- calls: no edit changes the number
-  pub edits_call : (c : CallNo) (f : Call → Call) (w : World) → G w → ((d : Call) → (f d).number ≡ d.number) → R w [] (edit_call c f w)
+  pub edits_call : (c : CallNo) (f : Call → Call) (w : World) → G w → ((d : Call) → (f d).number ≡ d.number) → ((d : Call) → (f d).caller ≡ d.caller) → R w [] (edit_call c f w)
   pub adds_call : (c : Call) (w : World) → G w → R w [] (add_call c w)
   pub forgets_call : (c : CallNo) (w : World) → G w → R w [] (forget_call c w)
   -- protected objects: no other edit changes the actions that are open
   pub edits_object : (o : ObjectNo) (f : Object → Object) (w : World) → G w → ((x : Object) → (f x).number ≡ x.number) → ((x : Object) → (f x).actions ≡ x.actions) → R w [] (edit_object o f w)
   pub adds_object : (p : Image) (l : Located) (u : ProtectedUnitNo) (w : World) → G w → R w [] (record w { objects = new_object p l u (suc w.drawn.objects) ∷ w.objects; drawn = object_drawn w.drawn })
-  -- protected actions: one begins, one begins and ends at once round other lines and a change, and one may not begin
+  -- protected actions: one begins, one ends, one begins and ends at once round other lines and a change, and one may not begin
   pub enters : (name : Who) (o : ObjectNo) (mode : Mode) (w : World) → G w → LetsIn name o mode w → R w (own (said.Enter name o mode) ∷ []) (open_action name o mode w)
+  pub closes : (name : Who) (o : ObjectNo) (w : World) → G w → R w (own (said.Exit name o) ∷ []) (close_action name o w)
   pub visits : (name : Who) (o : ObjectNo) (mode : Mode) (xs : List Said) (w v : World) → G w → LetsIn name o mode w → AreQuiet xs → R w [] v → R w (own (said.Enter name o mode) ∷ xs ++ own (said.Exit name o) ∷ []) v
   pub finds_held : (name : Who) (o : ObjectNo) (mode : Mode) (w : World) → G w → FindsHeld name o mode w → R w (own (said.Held name o mode) ∷ []) w
   -- appointments
@@ -209,11 +273,11 @@ pub record FineMoves (G : GoodWorld) (May Other : Naming) (R : StepRelation) (Q 
   pub drops_appointment : (test : Due → Bool) (w : World) → G w → R w [] (drop_appointment test w)
   -- controlled objects: a new one has the next number; of a region that is being left the newest is finalized; and one that is
   -- registered is assigned to
-  pub registers : (name : Who) (l : Located) (w : World) → G w → R w (own (said.Init name (suc w.drawn.controlled) (top_region w name) l.declared) ∷ []) (registered_as (suc w.drawn.controlled) (top_region w name) l w)
-  pub finalizes : (name : Who) (f : Frame) (m : ScopeMark) (r : RegionNo) (x : Registered) (w : World) → G w → May name → top_of w name ≡ Some f → f.mark ≡ Scope m → m.region ≡ Some r → m.being_left ≡ true → next_to_finalize w r ≡ Some x
+  pub registers : (name : Who) (l : Located) (w : World) → G w → Free name w → R w (own (said.Init name (suc w.drawn.controlled) (top_region w name) l.declared) ∷ []) (registered_as (suc w.drawn.controlled) (top_region w name) l w)
+  pub finalizes : (name : Who) (f : Frame) (m : ScopeMark) (r : RegionNo) (x : Registered) (w : World) → G w → top_of w name ≡ Some f → f.mark ≡ Scope m → m.region ≡ Some r → m.being_left ≡ true → next_to_finalize w r ≡ Some x
       → R w (own (said.Final name x.object) ∷ []) (no_longer_registered x.object w)
   pub replaces : (name : Who) (l : Located) (x : Registered) (w : World) → G w → registered_at w l ≡ Some x → R w (own (said.Replace name x.object) ∷ []) w
-  -- events, timers and budgets
+  -- events, timers and budgets, and releases
   pub draws_event : (w : World) → G w → R w [] (record w { drawn = event_drawn w.drawn })
   pub adds_timer : (t : TaskNo) (w : World) → G w → R w [] (with_timer t w)
   pub clears_timer : (k : ℕ) (w : World) → G w → R w [] (clear_timer k w)
@@ -222,53 +286,14 @@ pub record FineMoves (G : GoodWorld) (May Other : Naming) (R : StepRelation) (Q 
   pub adds_budget : (w : World) → G w → R w [] (with_budget w)
   pub edits_budget : (b : ℕ) (f : Budget → Budget) (w : World) → G w → R w [] (edit_budget b f w)
   pub sets_budget_due : (budget : Option ℕ) (w : World) → G w → R w [] (record w { budget_due = budget })
+  pub releases : (h : HandlerOf) (argument : Option ℕ) (w : World) → G w → R w (own (said.Release (suc w.drawn.releases) h) ∷ []) (add_release h argument w)
+  pub has_served : (r : Release) (w : World) → G w → w.serving ≡ Some r → R w (own (said.Served r.number) ∷ []) (serves_nothing w)
   -- the outside: of the script only the first item that is ahead is taken, when its moment has come
   pub sets_port : (n : ℕ) (value : ℤ) (w : World) → G w → R w [] (with_port n value w)
   pub masks : (n : ℕ) (flag : Bool) (w : World) → G w → R w [] (with_masked n flag w)
   pub keeps_interrupt : (n : ℕ) (flag : Bool) (w : World) → G w → R w [] (with_kept_interrupt n flag w)
   pub cuts_script : (x : ℤ × Item) (rest : List (ℤ × Item)) (w : World) → G w → w.script ≡ x ∷ rest → int_le x.0 (pos w.time) ≡ true → R w [] (with_script rest w)
 
--- Who acts opens marks; of who acts beside a protected action, or in an abortable part, it is known that it is another; and
--- who waits for dependents in a region of its own is another too.
-pub record Openings (G : GoodWorld) (May Other : Naming) (Owns : Who → RegionNo → Type 0) (R : StepRelation) : Type 0 where
-  pub pushes : (name : Who) (f : Frame) (w : World) → G w → May name → (nature f.mark).region ≡ None → (nature f.mark).release ≡ None → (nature f.mark).abortable ≡ false → R w [] (push name f w)
-  pub opens_scope : (p : Image) (name : Who) (scope : ScopeNo) (b : Beginning) (purpose : Purpose) (w : World) → G w → May name → R w [] (open_scope p name scope b purpose w)
-  pub outside : (name : Who) (w : World) → G w → May name → in_protected w name ≡ false → Other name
-  pub within_part : (name : Who) (f : Frame) (w : World) → G w → May name → top_of w name ≡ Some f → is_abortable f.mark ≡ true → Other name
-  pub owned : (name : Who) (f : Frame) (r : RegionNo) (w : World) → G w → May name → top_of w name ≡ Some f → region_of_mark f.mark ≡ Some r → Owns name r
-  pub awaits_dependents : (name : Who) (r : RegionNo) (w : World) → G w → May name → Owns name r → has_dependents w r ≡ true → Other name
-
--- The protected action on top ends, of a release that may end.
-pub record Exits (G : GoodWorld) (May : Naming) (MayEnd : Who → Option ℕ → Type 0) (R : StepRelation) : Type 0 where
-  pub exits : (name : Who) (m : ProtectedMark) (w : World) → G w → May name → MayEnd name m.release → R w (own (said.Exit name m.object) ∷ []) (close_action name m.object (pop name w))
-
--- ---- of anybody, from any world
-
-abbrev pub AnyWorld : GoodWorld
-AnyWorld w = Unit {0}
-
-abbrev pub Anybody : Naming
-Anybody name = Unit {0}
-
-abbrev pub AnyRegion : Who → RegionNo → Type 0
-AnyRegion name r = Unit {0}
-
-abbrev pub AnyRelease : Who → Option ℕ → Type 0
-AnyRelease name n = Unit {0}
-
-pub each-anybody : (ts : List Task) → EachIs Anybody ts
-each-anybody [] = tt
-each-anybody (t ∷ ts) = (tt, each-anybody ts)
-
 pub first_is_false : (a b : Bool) → (a || b) ≡ false → a ≡ false
 first_is_false true b e = e
 first_is_false false b e = refl
-
--- all of them together, with those of releases
-pub record RegionMoves (R : StepRelation) (Q : MoveRelation) : Type 0 where
-  pub fine : FineMoves AnyWorld Anybody Anybody R Q
-  pub openings : Openings AnyWorld Anybody Anybody AnyRegion R
-  pub exits : Exits AnyWorld Anybody AnyRelease R
-  pub pushes : (name : Who) (f : Frame) (w : World) → region_of_mark f.mark ≡ None → R w [] (push name f w)
-  pub releases : (h : HandlerOf) (argument : Option ℕ) (w : World) → R w (own (said.Release (suc w.drawn.releases) h) ∷ []) (add_release h argument w)
-  pub has_served : (r : Release) (w : World) → w.serving ≡ Some r → R w (own (said.Served r.number) ∷ []) (serves_nothing w)

@@ -1,18 +1,13 @@
--- Lines that come rightly are in turn; and they keep the whole law of leaving while no object is initialized in a region that is
--- being left.
-use Rattle.std.proofs.Common.{◌≡◌, ℕ, ℤ, Bool, true, false, cond, not, eqb, ◌&&◌, ◌||◌, List, [], ◌∷◌, ◌++◌, Option, Some, None, length, refl, sym, ap, subst, ◌∙◌, eq-eqb}
-use Rattle.std.specs.Prelude.{IsTrue}
+-- Lines that come rightly are in turn, and keep the law of leaving.
+use Rattle.std.proofs.Common.{◌≡◌, ℕ, Bool, true, false, cond, not, eqb, ◌&&◌, ◌||◌, List, [], ◌∷◌, Option, Some, None, length, refl, sym, ap, ◌∙◌, eq-eqb}
 use Rattle.std.specs.List.{list_all}
 use Rattle.std.proofs.lemmas.Bool.{eqb-true}
 use Rattle.trace_text.specs.declared.events.Event.{Event}
 use Rattle.trace_text.specs.declared.events.Event.TheVariants as line
-use Rattle.trace_text.specs.declared.events.Ended.{Ended}
-use Rattle.trace_text.specs.Laws.{has, is_left_before, is_leaving, inits_of, regions_of, is_final_before, is_rightly_left}
-use Rattle.profile_machine.specs.declared.image.Image.{Image}
-use Rattle.profile_machine.specs.declared.run_data.Item.{Item}
-use Rattle.leaving_laws.specs.LeavingLaws.{is_newest, is_next_in_turn, is_in_turn, is_early, are_early, RunsLeaveInTurn, RunsLeaveRightlyWhileEarly}
-use Rattle.leaving_laws.proofs.RegionLines.{Told, begun, ended, added, finalized, assigned, leaving, left, inits, regions, finals, final, others, live, live_in, is_live, Finalizes, Right, NotLeaving, Well, Known, by_test, or-false, both, not-no, newest-known, newest-live, live-one, known-same, known-added, known-finalized, absent-known, has-inits, well-next, well_first, rightly, comes_rightly, eqb-sym-false}
-use Rattle.leaving_laws.proofs.LeftLines.{told_event, behind, tells, tells-leaving, tells-left, tells-inits, tells-regions, tells-final, all-same, rightly-same, told_rightly}
+use Rattle.trace_text.specs.Laws.{is_left_before, is_leaving, inits_of, regions_of, is_final_before, is_rightly_left}
+use Rattle.leaving_laws.specs.LeavingLaws.{is_newest, is_next_in_turn, is_in_turn, RunsLeaveInTurn, RunsLeaveRightly}
+use Rattle.leaving_laws.proofs.RegionLines.{Told, begun, ended, added, finalized, assigned, leaving, left, inits, regions, final, others, live, live_in, Finalizes, Right, NotLeaving, Well, Known, by_test, both, not-no, newest-known, newest-live, live-one, known-same, known-added, known-finalized, absent-known, well-next, well_first, rightly, eqb-sym-false}
+use Rattle.leaving_laws.proofs.LeftLines.{told_event, tells, tells-leaving, tells-left, tells-inits, tells-regions, tells-final, all-same, rightly-same, told_rightly}
 use Rattle.leaving_laws.proofs.Telling.{RightEvent}
 use Rattle.leaving_laws.proofs.LeavingRuns.{at_each_line}
 
@@ -139,74 +134,28 @@ in_turn past (line.Replace name object) w h =
     both (eqb (length (regions_of object past)) 1) _ (ap (λ rs. eqb (length rs) 1) (tells-regions object past ∙ k.one)) (ap not (tells-final object past) ∙ not-no (final object s) k.not_final)
 in_turn past _ w h = refl
 
+-- objects that are initialized early may be initialized
+weaker : (s : List Told) (e : Told) → Right NotLeaving s e → Right AnyRegion s e
+weaker s (begun r) h = h
+weaker s (ended r) h = h
+weaker s (added o r) h = (h.0, h.1, tt)
+weaker s (finalized o) h = h
+weaker s (assigned o) h = h
+
+weaker-event : (s : List Told) (e : Option Told) → RightEvent NotLeaving s e → RightEvent AnyRegion s e
+weaker-event s None h = tt
+weaker-event s (Some e) h = weaker s e h
+
 pub runs_leave_in_turn : RunsLeaveInTurn
-runs_leave_in_turn p script bound = at_each_line AnyRegion (λ name w s h. tt) InOrder in_order_first in_order-next is_in_turn in_turn (λ past reason. refl) p script bound
+runs_leave_in_turn p script bound =
+    at_each_line InOrder in_order_first (λ s e w h. in_order-next s e w (weaker s e h)) is_in_turn (λ past x w h. in_turn past x w (weaker-event (tells past) (told_event x) h)) (λ past reason. refl) p script bound
 
--- ---- while objects are initialized early
+-- ---- the law of leaving
 
-abbrev early_told : List Told → Bool
-early_told [] = true
-early_told (added o r ∷ s) = not (leaving r s) && early_told s
-early_told (_ ∷ s) = early_told s
+told-rightly : (s : List Told) (e : Option Told) → Well s → RightEvent NotLeaving s e → told_rightly s e ≡ true
+told-rightly s None w h = refl
+told-rightly s (Some e) w h = rightly s e w h
 
-abbrev WellWhileEarly : List Told → Type 0
-WellWhileEarly s = early_told s ≡ true → Well s
-
-not-yes : (b : Bool) → not b ≡ true → b ≡ false
-not-yes true e = absurd cc
-not-yes false e = refl
-
-halves : (a b : Bool) → (a && b) ≡ true → (a ≡ true) × (b ≡ true)
-halves true b e = (refl, e)
-halves false b e = absurd cc
-
-early-right : (s : List Told) (e : Told) → early_told (e ∷ s) ≡ true → Right AnyRegion s e → Right NotLeaving s e
-early-right s (begun r) k h = h
-early-right s (ended r) k h = h
-early-right s (added o r) k h = (h.0, h.1, not-yes (leaving r s) (halves (not (leaving r s)) (early_told s) k).0)
-early-right s (finalized o) k h = h
-early-right s (assigned o) k h = h
-
-early-before : (s : List Told) (e : Told) → early_told (e ∷ s) ≡ true → early_told s ≡ true
-early-before s (begun r) k = k
-early-before s (ended r) k = k
-early-before s (added o r) k = (halves (not (leaving r s)) (early_told s) k).1
-early-before s (finalized o) k = k
-early-before s (assigned o) k = k
-
-well-while_early : (s : List Told) (e : Told) → WellWhileEarly s → Right AnyRegion s e → WellWhileEarly (e ∷ s)
-well-while_early s e w h k = well-next s e (w (early-before s e k)) (early-right s e k h)
-
-early-same : (past : List Event) → are_early past ≡ early_told (tells past)
-early-same [] = refl
-early-same (line.Leave name region how ∷ past) = early-same past
-early-same (line.Left name region ∷ past) = early-same past
-early-same (line.Init name object region declared ∷ past) = ap (λ b. not b && are_early past) (tells-leaving region.0 past) ∙ ap (λ b. not (leaving region.0 (tells past)) && b) (early-same past)
-early-same (line.Final name object ∷ past) = early-same past
-early-same (line.Replace name object ∷ past) = early-same past
-early-same (_ ∷ past) = early-same past
-
-abbrev while_early : List Event → Event → Bool
-while_early past x = not (are_early (x ∷ past)) || is_rightly_left past x
-
-or-right : (a b : Bool) → b ≡ true → (a || b) ≡ true
-or-right true b e = refl
-or-right false b e = e
-
-told-rightly : (s : List Told) (e : Option Told) → early_told (behind e s) ≡ true → WellWhileEarly s → RightEvent AnyRegion s e → told_rightly s e ≡ true
-told-rightly s None k w h = refl
-told-rightly s (Some e) k w h = rightly s e (w (early-before s e k)) (early-right s e k h)
-
-while_early-right : (past : List Event) (x : Event) → WellWhileEarly (tells past) → RightEvent AnyRegion (tells past) (told_event x) → while_early past x ≡ true
-while_early-right past x w h =
-    by_test (are_early (x ∷ past))
-    (λ t. or-right (not (are_early (x ∷ past))) (is_rightly_left past x) (rightly-same past x ∙ told-rightly (tells past) (told_event x) (sym (early-same (x ∷ past)) ∙ t) w h))
-    (λ f. ap (λ b. not b || is_rightly_left past x) f)
-
-or-true : (b : Bool) → (b || true) ≡ true
-or-true true = refl
-or-true false = refl
-
-pub runs_leave_rightly_while_early : RunsLeaveRightlyWhileEarly
-runs_leave_rightly_while_early p script bound =
-    at_each_line AnyRegion (λ name w s h. tt) WellWhileEarly (λ k. well_first) well-while_early while_early while_early-right (λ past reason. or-true (not (are_early past))) p script bound
+pub runs_leave_rightly : RunsLeaveRightly
+runs_leave_rightly p script bound =
+    at_each_line Well well_first well-next is_rightly_left (λ past x w h. rightly-same past x ∙ told-rightly (tells past) (told_event x) w h) (λ past reason. refl) p script bound

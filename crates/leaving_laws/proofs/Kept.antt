@@ -15,10 +15,10 @@ pub mod Protected
 pub mod Priorities
 pub mod Sending
 pub mod Serving
+pub mod Declarations
 pub mod Rendezvous
 pub mod EntryCalls
 pub mod Controlled
-pub mod Declarations
 pub mod Tasking
 pub mod Handlers
 pub mod Act

@@ -1,31 +1,47 @@
--- A law at each line of every run that follows where the lines of regions and controlled objects come rightly.
-use Rattle.std.proofs.Common.{◌≡◌, ℕ, ℤ, Bool, true, false, List, [], ◌∷◌, ◌++◌, Option, Some, None, refl, sym, ap, subst, ◌∙◌}
+-- A law at each line of every run that follows where the lines of regions and controlled objects come rightly. Before an instant
+-- who ran does not wait; behind it nobody waits and is placed, so whom a tock chooses does not wait.
+use Rattle.std.proofs.Common.{◌≡◌, ℕ, ℤ, zero, suc, Bool, true, false, ◌&&◌, ◌||◌, List, [], ◌∷◌, ◌++◌, Option, Some, None, refl, sym, ap, subst, ◌∙◌, eq-eqb}
 use Rattle.std.specs.Prelude.{IsTrue}
+use Rattle.ann_base.specs.declared.identities.TaskNo.{TaskNo}
 use Rattle.trace_text.specs.declared.events.Event.{Event}
 use Rattle.trace_text.specs.declared.events.Event.TheVariants as written
 use Rattle.trace_text.specs.declared.events.Ended.{Ended}
 use Rattle.trace_text.specs.declared.events.Ended.TheVariants as why
 use Rattle.trace_text.specs.declared.events.Who.{Who}
-use Rattle.trace_text.specs.Queue.{AtEachLine}
+use Rattle.trace_text.specs.declared.events.Who.TheVariants as who
+use Rattle.trace_text.specs.Queue.{Line, AtEachLine, follows_lines}
 use Rattle.trace_text.specs.Laws.{remember}
+use Rattle.trace_text.proofs.LawsFollowed.{lines_hold}
 use Rattle.profile_machine.specs.declared.image.Image.{Image}
 use Rattle.profile_machine.specs.declared.run_data.Item.{Item}
 use Rattle.profile_machine.specs.declared.world.World.{World}
-use Rattle.profile_machine.specs.Dispatching.{choose}
-use Rattle.profile_machine.specs.Controlled.{top_region}
+use Rattle.profile_machine.specs.declared.world.tasks.Placed.{Placed}
+use Rattle.profile_machine.specs.Words.{same_who}
+use Rattle.profile_machine.specs.Tasks.{waiting_in}
+use Rattle.profile_machine.specs.Dispatching.{choose, head_of}
 use Rattle.profile_machine.specs.Instant.{instant}
-use Rattle.profile_machine.specs.Run.{opens, opening, blank_world, tock, run_of}
-use Rattle.tick_lines.proofs.LineByLine.{seen_behind, Follow, Leads_on, OfRuns, run-at_each_line}
-use Rattle.leaving_laws.proofs.Kept.Combinators.{Leads, settles-leads}
-use Rattle.leaving_laws.proofs.Kept.Instant.{instant-leads}
-use Rattle.leaving_laws.proofs.Kept.Run.{tock-parts, before_tick, before_tick-leads, opens-keeps}
-use Rattle.leaving_laws.proofs.RegionLines.{Told, Right}
+use Rattle.profile_machine.specs.Run.{Ran, opening, blank_world, tock, stop, at_tick, stopped, then_runs, run_from, run_of}
+use Rattle.machine_laws.proofs.PlaceLemmas.{openings_place_by_lines, instants_place_by_lines, tocks_place_nobody, tock_lines-places}
+use Rattle.machine_laws.proofs.LineLemmas.{tocks_say_ticks}
+use Rattle.machine_laws.proofs.TimeLemmas.{opening-runner}
+use Rattle.tick_lines.proofs.LineByLine.{seen_behind, seen_behind-append, Follow, Follow-append}
+use Rattle.leaving_laws.proofs.FineMoves.{waits}
+use Rattle.leaving_laws.proofs.FreeWorlds.{Inv}
+use Rattle.leaving_laws.proofs.PlacingLines.{is_placed}
+use Rattle.leaving_laws.proofs.RegionLines.{Told, Right, NotLeaving, by_test}
 use Rattle.leaving_laws.proofs.LeftLines.{told_event, behind, tells}
 use Rattle.leaving_laws.proofs.RegionTies.{Tied}
-use Rattle.leaving_laws.proofs.Telling.{Tells, Shown, Follows, RightEvent, behind_all, other-tells}
-use Rattle.leaving_laws.proofs.TellingMoves.{telling, tock_moves}
-use Rattle.profile_machine.specs.declared.world.lines.Line.TheVariants as said
-use Rattle.profile_machine.specs.declared.world.lines.Part.TheVariants.{Own}
+use Rattle.leaving_laws.proofs.Telling.{Follows, RightEvent, behind_all}
+use Rattle.leaving_laws.proofs.CoreMoves.{state_in}
+use Rattle.leaving_laws.proofs.Kept.Combinators.{Leads}
+use Rattle.leaving_laws.proofs.Kept.Run.{tock-parts, before_tick, before_tick-leads}
+use Rattle.leaving_laws.proofs.Following.{Following, RanAwake, resting, tock_moves, instant-following, opening-following}
+
+-- ---- worlds
+
+-- nobody waits for a meeting and is placed
+abbrev NobodyWaits : World → Type 0
+NobodyWaits w = (t : TaskNo) → waits (waiting_in (state_in w t)) ≡ true → is_placed (who.Task t) w.places ≡ false
 
 -- nothing is drawn in the first world
 blank-tied : (p : Image) (script : List (ℤ × Item)) → Tied [] (blank_world p script)
@@ -42,62 +58,138 @@ blank-tied p script = record {
   };
 }
 
+opening-unplaced : (p : Image) (script : List (ℤ × Item)) → NobodyWaits (opening p script).0
+opening-unplaced p script t e =
+    ap (is_placed (who.Task t)) (openings_place_by_lines p script) ∙ (opening-following p script).placed t e [] (λ k. refl)
+
+instant-unplaced : (p : Image) (w : World) → NobodyWaits w → Following w (instant p w).1 (instant p w).0 → NobodyWaits (instant p w).0
+instant-unplaced p w h f t e = ap (is_placed (who.Task t)) (instants_place_by_lines p w) ∙ f.placed t e w.places (h t)
+
+tock-unplaced : (p : Image) (w : World) → NobodyWaits w → Following w (tock p w).1 (tock p w).0 → NobodyWaits (tock p w).0
+tock-unplaced p w h f t e =
+    ap (is_placed (who.Task t)) (tocks_place_nobody p w ∙ sym (tock_lines-places (tock p w).1 w.places (tocks_say_ticks p w))) ∙ f.placed t e w.places (h t)
+
+tock-following : (p : Image) (w : World) → Inv w → Following w (tock p w).1 (tock p w).0
+unfolding Leads
+tock-following p w inv =
+    subst (λ (t : World × List Event). Following w t.1 t.0) (sym (tock-parts p w))
+    (let before = before_tick p (choose w) w in
+    let k : Following w before.1 before.0 = before_tick-leads resting tock_moves p (choose w) w (inv, tt) in
+    record { shown = λ s h. let f = k.shown s h in (f.0, f.1); placed = λ t e places g. k.placed t e places g; inv = k.inv })
+
+-- whom a tock chooses is placed
+same_self : (a : Who) → same_who a a ≡ true
+same_self who.Agent = refl
+same_self (who.Task t) = eq-eqb t.0 t.0 refl
+
+head-placed : (places : List Placed) (name : Who) → head_of places ≡ Some name → is_placed name places ≡ true
+head-placed [] name e = absurd cc
+head-placed (x ∷ xs) name e = let same : x.who ≡ name = cc in subst (λ n. (same_who n x.who || is_placed n xs) ≡ true) same (ap (λ b. b || is_placed x.who xs) (same_self x.who))
+
+chosen-awake : (p : Image) (w : World) → NobodyWaits (tock p w).0 → RanAwake (tock p w).0
+chosen-awake p w h (who.Task t) e =
+    let v = (tock p w).0 in
+    let ran : v.ran ≡ choose w = ap (λ a. a.0.ran) (tock-parts p w) in
+    let first : is_placed (who.Task t) v.places ≡ true = ap (is_placed (who.Task t)) (tocks_place_nobody p w) ∙ head-placed w.places (who.Task t) (sym ran ∙ e) in
+    by_test (waits (waiting_in (state_in v t)))
+    (λ k. absurd (let never : true ≡ false = sym first ∙ h t k in cc))
+    (λ k. k)
+chosen-awake p w h who.Agent e = refl
+
+-- ---- lines
+
 -- W is what lines that came rightly keep, and the law follows from it
-module _ (Early : List Told → ℕ → Type 0) (early : (name : Who) (w : World) (s : List Told) → Tied s w → Early s (top_region w name).0)
-    (W : List Told → Type 0) (first : W []) (next : (s : List Told) (e : Told) → W s → Right Early s e → W (e ∷ s))
-    (law : List Event → Event → Bool) (lawful : (past : List Event) (x : Event) → W (tells past) → RightEvent Early (tells past) (told_event x) → law past x ≡ true) (ending : (past : List Event) (reason : Ended) → law past (written.End reason) ≡ true) where
-  next-event : (s : List Told) (e : Option Told) → W s → RightEvent Early s e → W (behind e s)
+module _ (W : List Told → Type 0) (first : W []) (next : (s : List Told) (e : Told) → W s → Right NotLeaving s e → W (e ∷ s))
+    (law : List Event → Event → Bool) (lawful : (past : List Event) (x : Event) → W (tells past) → RightEvent NotLeaving (tells past) (told_event x) → law past x ≡ true) (ending : (past : List Event) (reason : Ended) → law past (written.End reason) ≡ true) where
+  next-event : (s : List Told) (e : Option Told) → W s → RightEvent NotLeaving s e → W (behind e s)
   next-event s None w h = w
   next-event s (Some e) w h = next s e w h
 
-  follows-law : (past : List Event) (xs : List Event) → W (tells past) → Follows Early (tells past) xs → Follow remember law past xs × W (tells (seen_behind remember law past xs))
+  follows-law : (past : List Event) (xs : List Event) → W (tells past) → Follows NotLeaving (tells past) xs → Follow remember law past xs × W (tells (seen_behind remember law past xs))
   follows-law past [] w h = (tt, w)
   follows-law past (x ∷ xs) w h =
       let rest = follows-law (x ∷ past) xs (next-event (tells past) (told_event x) w h.0) h.1 in
       ((lawful past x w h.0, rest.0), rest.1)
 
-  behind_all-tells : (past : List Event) (xs : List Event) → behind_all Early (tells past) xs ≡ tells (seen_behind remember law past xs)
+  behind_all-tells : (past : List Event) (xs : List Event) → behind_all NotLeaving (tells past) xs ≡ tells (seen_behind remember law past xs)
   behind_all-tells past [] = refl
   behind_all-tells past (x ∷ xs) = behind_all-tells (x ∷ past) xs
 
-  Shows : List Event → World → Type 0
-  Shows past w = Tied (tells past) w × W (tells past)
+  record Shows (past : List Event) (w : World) : Type 0 where
+    tied : Tied (tells past) w
+    well : W (tells past)
+    inv : Inv w
+    unplaced : NobodyWaits w
 
-  shown-leads_on : (past : List Event) (xs : List Event) (w : World) → W (tells past) → Follows Early (tells past) xs × Tied (behind_all Early (tells past) xs) w → Leads_on remember law Shows past xs w
-  unfolding Shows
-  shown-leads_on past xs w k h =
-      let f = follows-law past xs k h.0 in
-      record { follow = f.0; shows = (subst (λ s. Tied s w) (behind_all-tells past xs) h.1, f.1) }
+  record Leads_on (past : List Event) (lines : List Event) (v : World) : Type 0 where
+    follow : Follow remember law past lines
+    shows : Shows (seen_behind remember law past lines) v
 
-  openings-lead_on : (p : Image) (script : List (ℤ × Item)) → Leads_on remember law Shows [] (opening p script).1 (opening p script).0
-  unfolding Leads
-  openings-lead_on p script =
-      shown-leads_on [] (opening p script).1 (opening p script).0 first
-      (settles-leads (telling Early early).fine p (opens p) (opens-keeps (telling Early early) p) (blank_world p script) tt [] (blank-tied p script))
+  shown-leads_on : (past lines : List Event) (w v : World) → Tied (tells past) w → W (tells past) → Following w lines v → NobodyWaits v → Leads_on past lines v
+  shown-leads_on past lines w v tied well f unplaced =
+      let shown = f.shown (tells past) tied in
+      let k = follows-law past lines well shown.0 in
+      record {
+        follow = k.0;
+        shows = record { tied = subst (λ s. Tied s v) (behind_all-tells past lines) shown.1; well = k.1; inv = f.inv; unplaced = unplaced };
+      }
 
-  instants-lead_on : (p : Image) (past : List Event) (w : World) → Shows past w → Leads_on remember law Shows past (instant p w).1 (instant p w).0
-  unfolding Leads Shows
-  instants-lead_on p past w a =
-      shown-leads_on past (instant p w).1 (instant p w).0 a.1
-      (instant-leads (telling Early early) p (record { puts = λ name number pieces text v x good is e. other-tells Early Own (said.Put name text) x refl }) w tt (tells past) a.0)
+  openings-lead_on : (p : Image) (script : List (ℤ × Item)) → Leads_on [] (opening p script).1 (opening p script).0
+  openings-lead_on p script = shown-leads_on [] (opening p script).1 (blank_world p script) (opening p script).0 (blank-tied p script) first (opening-following p script) (opening-unplaced p script)
 
-  tocks-lead_on : (p : Image) (past : List Event) (w : World) → Shows past w → Leads_on remember law Shows past (tock p w).1 (tock p w).0
-  unfolding Leads Shows
-  tocks-lead_on p past w a =
-      subst (λ (t : World × List Event). Leads_on remember law Shows past t.1 t.0) (sym (tock-parts p w))
-      (let before = before_tick p (choose w) w in
-      let k = shown-leads_on past before.1 before.0 a.1 (before_tick-leads (telling Early early) (tock_moves Early early) p (choose w) w tt (tells past) a.0) in
-      record { follow = k.follow; shows = k.shows })
+  instants-lead_on : (p : Image) (past : List Event) (w : World) → Shows past w → RanAwake w → Leads_on past (instant p w).1 (instant p w).0
+  instants-lead_on p past w h awake =
+      let f = instant-following p w h.inv awake in
+      shown-leads_on past (instant p w).1 w (instant p w).0 h.tied h.well f (instant-unplaced p w h.unplaced f)
 
-  laws : OfRuns remember law Shows []
-  unfolding Shows
-  laws = record {
-    openings = openings-lead_on;
-    instants = instants-lead_on;
-    tocks = tocks-lead_on;
-    ends = λ p bound past w reason shown e. ending past reason;
-    bound = λ past. ending past why.Bound;
-  }
+  tocks-lead_on : (p : Image) (past : List Event) (w : World) → Shows past w → Leads_on past (tock p w).1 (tock p w).0
+  tocks-lead_on p past w h =
+      let f = tock-following p w h.inv in
+      shown-leads_on past (tock p w).1 w (tock p w).0 h.tied h.well f (tock-unplaced p w h.unplaced f)
+
+  -- ---- runs
+
+  both : (a b : Bool) → a ≡ true → b ≡ true → (a && b) ≡ true
+  both true b p q = q
+  both false b p q = p
+
+  follows-then : (n : ℕ) (s : List Event) (events : List Event) (rest : List Line) → Follow remember law s events → follows_lines remember law (seen_behind remember law s events) rest ≡ true → follows_lines remember law s (at_tick n events ++ rest) ≡ true
+  follows-then n s [] rest a b = b
+  follows-then n s (x ∷ xs) rest a b = both (law s x) (follows_lines remember law (remember s x) (at_tick n xs ++ rest)) a.0 (follows-then n (remember s x) xs rest a.1 b)
+
+  follows-alone : (n : ℕ) (s : List Event) (events : List Event) → Follow remember law s events → follows_lines remember law s (at_tick n events) ≡ true
+  follows-alone n s [] a = refl
+  follows-alone n s (x ∷ xs) a = both (law s x) (follows_lines remember law (remember s x) (at_tick n xs)) a.0 (follows-alone n (remember s x) xs a.1)
+
+  abbrev turn : ℕ → World × List Event → World × List Event → Ran → Option Ended → Ran
+  turn now i t rest (Some reason) = stopped now i.1 reason
+  turn now i t rest None = then_runs now (i.1 ++ t.1) rest
+
+  turn-follows : (now : ℕ) (s : List Event) (i t : World × List Event) (rest : Ran) (reason : Option Ended) → Follow remember law s i.1 → Follow remember law (seen_behind remember law s i.1) t.1
+      → follows_lines remember law (seen_behind remember law (seen_behind remember law s i.1) t.1) rest.lines ≡ true → follows_lines remember law s (turn now i t rest reason).lines ≡ true
+  turn-follows now s i t rest (Some reason) a b c = follows-alone now s (i.1 ++ written.End reason ∷ []) (Follow-append remember law s i.1 (written.End reason ∷ []) a (ending (seen_behind remember law s i.1) reason, tt))
+  turn-follows now s i t rest None a b c =
+      follows-then now s (i.1 ++ t.1) rest.lines (Follow-append remember law s i.1 t.1 a b)
+      (subst (λ seen. follows_lines remember law seen rest.lines ≡ true) (sym (seen_behind-append remember law s i.1 t.1)) c)
+
+  run_from-follows : (fuel : ℕ) (p : Image) (bound : ℕ) (w : World) (past : List Event) → Shows past w → RanAwake w → follows_lines remember law past (run_from fuel p bound w).lines ≡ true
+  run_from-follows zero p bound w past h awake = follows-alone w.time past (written.End why.Bound ∷ []) (ending past why.Bound, tt)
+  run_from-follows (suc fuel) p bound w past h awake =
+      let i = instant p w in
+      let t = tock p i.0 in
+      let behind_instant = instants-lead_on p past w h awake in
+      let later = tocks-lead_on p (seen_behind remember law past i.1) i.0 behind_instant.shows in
+      turn-follows w.time past i t (run_from fuel p bound t.0) (stop p bound i.0) behind_instant.follow later.follow
+      (run_from-follows fuel p bound t.0 (seen_behind remember law (seen_behind remember law past i.1) t.1) later.shows (chosen-awake p i.0 later.shows.unplaced))
+
+  opening-awake : (p : Image) (script : List (ℤ × Item)) → RanAwake (opening p script).0
+  opening-awake p script name e = absurd (let none : None ≡ Some name = sym (opening-runner p script) ∙ e in cc)
+
+  run-follows : (p : Image) (script : List (ℤ × Item)) (bound : ℕ) → follows_lines remember law [] (run_of p script bound) ≡ true
+  run-follows p script bound =
+      let o = opening p script in
+      let k = openings-lead_on p script in
+      follows-then 0 [] o.1 (run_from (suc bound) p bound o.0).lines k.follow (run_from-follows (suc bound) p bound o.0 (seen_behind remember law [] o.1) k.shows (opening-awake p script))
 
   pub at_each_line : (p : Image) (script : List (ℤ × Item)) (bound : ℕ) → AtEachLine remember [] (λ past x. IsTrue (law past x)) (run_of p script bound)
-  at_each_line p script bound = run-at_each_line remember law laws p script bound
+  at_each_line p script bound = lines_hold remember law [] (run_of p script bound) (run-follows p script bound)

@@ -1,8 +1,8 @@
 -- What ties the lines of regions and controlled objects to a world: of each region the one mark that has it, and the objects that
 -- are registered, in their order.
-use Rattle.std.proofs.Common.{◌≡◌, ℕ, zero, suc, ◌<◌, ◌≤◌, Bool, true, false, cond, not, eqb, ◌||◌, List, [], ◌∷◌, ◌++◌, map, Option, Some, None, refl, sym, ap, subst, ◌∙◌, eq-eqb, arith, append_assoc, append-nil, option_and_then}
+use Rattle.std.proofs.Common.{◌≡◌, ℕ, suc, ◌<◌, ◌≤◌, Bool, true, false, cond, not, eqb, ◌||◌, List, [], ◌∷◌, ◌++◌, map, Option, Some, None, refl, sym, ap, subst, ◌∙◌, eq-eqb, arith}
 use Rattle.std.proofs.lemmas.Bool.{eqb-true}
-use Rattle.std.specs.Prelude.{find, filter}
+use Rattle.std.specs.Prelude.{find}
 use Rattle.ann_base.specs.declared.identities.RegionNo.{RegionNo}
 use Rattle.trace_text.specs.declared.events.Who.{Who}
 use Rattle.trace_text.specs.declared.events.Who.TheVariants as who
@@ -15,22 +15,17 @@ use Rattle.profile_machine.specs.declared.world.marks.Mark.TheVariants.{Scope, H
 use Rattle.profile_machine.specs.declared.world.marks.ScopeMark.{ScopeMark}
 use Rattle.profile_machine.specs.declared.world.scopes.Located.{Located}
 use Rattle.profile_machine.specs.declared.world.appointments.Registered.{Registered}
-use Rattle.profile_machine.specs.declared.world.lines.Line.{Line}
-use Rattle.profile_machine.specs.declared.world.lines.Line.TheVariants as said
-use Rattle.profile_machine.specs.declared.world.lines.Said.{Said}
-use Rattle.profile_machine.specs.Words.{set_where, without, first_of_list, option_or_else, same_region, is_the}
+use Rattle.profile_machine.specs.Words.{without, first_of_list, option_or_else}
 use Rattle.profile_machine.specs.Cost.{of_region}
-use Rattle.profile_machine.specs.Tasks.{task_at, task_of, edit_task_found, edit_task, with_frames, nobody}
-use Rattle.profile_machine.specs.Frames.{frames_of, top_of, edit_first, edit_top, push, pop, without_first, with_mark}
+use Rattle.profile_machine.specs.Tasks.{task_at, edit_task_found, edit_task, with_frames, nobody}
+use Rattle.profile_machine.specs.Frames.{top_of, edit_first, edit_top, push, pop, without_first, with_mark}
 use Rattle.profile_machine.specs.Scopes.{region_drawn}
 use Rattle.profile_machine.specs.Masters.{forget_task}
-use Rattle.profile_machine.specs.Controlled.{registered_as, no_longer_registered, edit_top_scope, edit_scope_mark, next_to_finalize, is_number, registered_at}
+use Rattle.profile_machine.specs.Controlled.{registered_as, no_longer_registered, edit_top_scope, edit_scope_mark, next_to_finalize, is_number}
 use Rattle.profile_machine.specs.Tasking.{add_task, being_left_mark, left_so_frame}
-use Rattle.machine_laws.proofs.Moves.{own}
-use Rattle.exclusion_laws.proofs.OwnLines.{Told as ToldBy}
 use Rattle.leaving_laws.proofs.FineMoves.{Nature, nature, natures}
-use Rattle.leaving_laws.proofs.RegionLines.{Told, begun, ended, added, finalized, assigned, leaving, left, inits, regions, finals, final, others, live, live_in, is_live, Finalizes, Right, by_test, or-false, newest-live, eqb-sym-false, absent-others}
-use Rattle.leaving_laws.proofs.RegionWorlds.{with_flag, flags_in, flags_of, flags, Single, single-on, single-none, single-alone, Alone, Fewer, fewer-same, fewer-by, fewer-natures, fewer-filter, fewer-before, Around, around, edited-fewer}
+use Rattle.leaving_laws.proofs.RegionLines.{Told, begun, ended, added, finalized, assigned, leaving, left, regions, final, others, live, live_in, is_live, Finalizes, by_test, eqb-sym-false, absent-others}
+use Rattle.leaving_laws.proofs.RegionWorlds.{with_flag, flags_in, flags_of, flags, Single, single-on, single-none, single-alone, Alone, Fewer, fewer-same, fewer-by, fewer-natures, fewer-filter, fewer-before, around, edited-fewer}
 
 -- ---- the tie
 

@@ -3,7 +3,6 @@
 use Rattle.std.proofs.Common.{◌≡◌, ℕ, suc, Bool, true, false, ◌||◌, List, [], ◌∷◌, ◌++◌, map, Option, Some, None, refl, sym, ap, subst, ◌∙◌}
 use Rattle.ann_base.specs.declared.identities.RegionNo.{RegionNo}
 use Rattle.trace_text.specs.declared.events.Event.{Event}
-use Rattle.trace_text.specs.declared.events.Event.TheVariants as written
 use Rattle.trace_text.specs.declared.events.Who.{Who}
 use Rattle.profile_machine.specs.declared.image.Image.{Image}
 use Rattle.profile_machine.specs.declared.run_data.Leaving.{Leaving}
@@ -27,13 +26,13 @@ use Rattle.profile_machine.specs.Frames.{top_of, edit_top, push, pop, new_frame}
 use Rattle.profile_machine.specs.Scopes.{begin_scope, draw_region, open_scope, next_id, region_of_next, new_scope_mark}
 use Rattle.profile_machine.specs.Controlled.{top_region, registered_as, no_longer_registered, edit_top_scope, next_to_finalize, registered_at, is_located}
 use Rattle.profile_machine.specs.Tasking.{leaves_as, being_left_mark, left_so_frame}
-use Rattle.machine_laws.proofs.Moves.{own, is_told_apart, AreOthers, lines_of}
+use Rattle.machine_laws.proofs.Moves.{own, is_told_apart, lines_of}
 use Rattle.exclusion_laws.proofs.OwnLines.{told, Told-append, Told-in_order}
 use Rattle.exclusion_laws.proofs.OwnLines.{Told as ToldBy}
-use Rattle.leaving_laws.proofs.FineMoves.{nature, is_placing, is_of_region, is_apart, AreQuiet}
+use Rattle.leaving_laws.proofs.FineMoves.{is_placing, is_of_region, AreQuiet}
 use Rattle.leaving_laws.proofs.RegionLines.{Told, begun, ended, added, finalized, assigned, Right, live, newest-live}
-use Rattle.leaving_laws.proofs.LeftLines.{told_event, behind, tells}
-use Rattle.leaving_laws.proofs.RegionTies.{Tied, RegionOnTop, region_on_top, top-alone, begun-tied, ended-tied, opened-tied, pushed-tied, registered-tied, registered-new, nothing_registered, finalizes-told, finalized-tied, assigned-tied, registered-live}
+use Rattle.leaving_laws.proofs.LeftLines.{told_event, behind}
+use Rattle.leaving_laws.proofs.RegionTies.{Tied, region_on_top, top-alone, begun-tied, ended-tied, opened-tied, pushed-tied, registered-tied, registered-new, nothing_registered, finalizes-told, finalized-tied, assigned-tied, registered-live}
 
 -- what a line of an effect tells
 abbrev pub told_line : Line → Option Told

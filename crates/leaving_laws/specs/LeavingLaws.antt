@@ -1,10 +1,10 @@
 -- Regions that are left, and their controlled objects: what the law of leaving says of the lines of every run.
-use Rattle.std.specs.Prelude.{ℕ, ℤ, Bool, true, false, not, ◌&&◌, ◌||◌, ◌==◌, if◌then◌else◌, IsTrue, List, [], ◌∷◌, length}
+use Rattle.std.specs.Prelude.{ℕ, ℤ, Bool, true, false, not, ◌&&◌, ◌==◌, if◌then◌else◌, IsTrue, List, [], ◌∷◌, length}
 use Rattle.std.specs.List.{list_all}
 use Rattle.trace_text.specs.declared.events.Event.{Event}
 use Rattle.trace_text.specs.declared.events.Event.TheVariants as line
 use Rattle.trace_text.specs.Queue.{Line, AtEachLine}
-use Rattle.trace_text.specs.Laws.{is_left_before, is_leaving, inits_of, regions_of, is_final_before, is_rightly_left, remember}
+use Rattle.trace_text.specs.Laws.{is_left_before, is_leaving, inits_of, regions_of, is_final_before, remember, LeftOk}
 use Rattle.profile_machine.specs.declared.image.Image.{Image}
 use Rattle.profile_machine.specs.declared.run_data.Item.{Item}
 use Rattle.profile_machine.specs.Run.{run_of}
@@ -38,19 +38,7 @@ InTurn = AtEachLine remember [] (λ past event. IsTrue (is_in_turn past event))
 abbrev pub RunsLeaveInTurn : Type 0
 RunsLeaveInTurn = (p : Image) (script : List (ℤ × Item)) (bound : ℕ) → InTurn (run_of p script bound)
 
--- ---- and the whole law, as far as objects are initialized in regions that are not yet being left
+-- ---- and the whole law of leaving
 
-abbrev pub is_early : List Event → Event → Bool
-is_early past (line.Init who object region name) = not (is_leaving region.0 past)
-is_early past _ = true
-
-abbrev pub are_early : List Event → Bool
-are_early [] = true
-are_early (event ∷ past) = is_early past event && are_early past
-
--- each line up to which no object was initialized in a region that was being left keeps the law of leaving
-abbrev pub LeftOkWhileEarly : List Line → Type 0
-LeftOkWhileEarly = AtEachLine remember [] (λ past event. IsTrue (not (are_early (event ∷ past)) || is_rightly_left past event))
-
-abbrev pub RunsLeaveRightlyWhileEarly : Type 0
-RunsLeaveRightlyWhileEarly = (p : Image) (script : List (ℤ × Item)) (bound : ℕ) → LeftOkWhileEarly (run_of p script bound)
+abbrev pub RunsLeaveRightly : Type 0
+RunsLeaveRightly = (p : Image) (script : List (ℤ × Item)) (bound : ℕ) → LeftOk (run_of p script bound)

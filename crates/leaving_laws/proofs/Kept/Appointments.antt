@@ -10,7 +10,7 @@ use Rattle.machine_laws.proofs.Moves.{StepRelation, MoveRelation}
 use Rattle.leaving_laws.proofs.FineMoves.{GoodWorld, Naming, FineMoves}
 use Rattle.leaving_laws.proofs.Kept.Combinators.{Alters, From, changes-from, unchanged-alters}
 
-module _ {G : GoodWorld} {May Other : Naming} {R : StepRelation} {Q : MoveRelation} (moves : FineMoves G May Other R Q) where
+module _ {G : GoodWorld} {May Acts Pushes : Naming} {Stops : Type 0} {R : StepRelation} {Q : MoveRelation} (moves : FineMoves G May Acts Pushes Stops R Q) where
   pub appoint-from : (due : Due) (moment : ℤ) (w : World) → G w → From R w (changes (appoint due moment))
   appoint-from due moment w good = changes-from moves (appoint due moment) w (moves.appoints due moment w good)
 

@@ -18,10 +18,10 @@ use Rattle.leaving_laws.proofs.FineMoves.{GoodWorld, Naming, FineMoves}
 use Rattle.leaving_laws.proofs.Kept.Combinators.{Keeps, Alters, branch-keeps, changes-keeps, for_some-keeps, looks-keeps, says-keeps, then-keeps}
 use Rattle.leaving_laws.proofs.Kept.Tasks.{edit_task-alters}
 
-module _ {G : GoodWorld} {May Other : Naming} {R : StepRelation} {Q : MoveRelation} (moves : FineMoves G May Other R Q) where
-  pub edit_call-alters : (c : CallNo) (f : Call → Call) → ((d : Call) → (f d).number ≡ d.number) → Alters G R (edit_call c f)
+module _ {G : GoodWorld} {May Acts Pushes : Naming} {Stops : Type 0} {R : StepRelation} {Q : MoveRelation} (moves : FineMoves G May Acts Pushes Stops R Q) where
+  pub edit_call-alters : (c : CallNo) (f : Call → Call) → ((d : Call) → (f d).number ≡ d.number) → ((d : Call) → (f d).caller ≡ d.caller) → Alters G R (edit_call c f)
   unfolding Alters
-  edit_call-alters c f a w good = moves.edits_call c f w good a
+  edit_call-alters c f a b w good = moves.edits_call c f w good a b
 
   pub forget_call-alters : (c : CallNo) → Alters G R (forget_call c)
   unfolding Alters
@@ -46,7 +46,7 @@ module _ {G : GoodWorld} {May Other : Naming} {R : StepRelation} {Q : MoveRelati
   unfolding Alters
   enqueued-alters p c w good =
       let unbegun = edit_call c.number (λ d. record d { begun = false }) w in
-      let first = moves.edits_call c.number (λ d. record d { begun = false }) w good (λ d. refl) in
+      let first = moves.edits_call c.number (λ d. record d { begun = false }) w good (λ d. refl) (λ d. refl) in
       moves.goes_on w unbegun (enqueued p c w) first (edit_queue-alters c.owner (place_of_entry p c.entry) (put_call p.policies.queuing w c.number c.priority) unbegun (moves.behind w unbegun first))
 
   pub enqueue-keeps : (p : Image) (c : CallNo) → Keeps G R (enqueue p c)

@@ -13,7 +13,7 @@ use Rattle.profile_machine.specs.Operators.{Valued, ◌>>=◌}
 use Rattle.profile_machine.specs.Values.{Seen, seen_by}
 use Rattle.profile_machine.specs.Statements.{sees}
 use Rattle.machine_laws.proofs.Moves.{StepRelation, MoveRelation, lines_of}
-use Rattle.leaving_laws.proofs.FineMoves.{GoodWorld, Naming, FineMoves, EachIs, is_apart}
+use Rattle.leaving_laws.proofs.FineMoves.{GoodWorld, Naming, FineMoves, is_apart, Free}
 
 -- ---- what it is to keep a relation
 
@@ -51,7 +51,7 @@ pub kept-world : (R : StepRelation) (w : World) (said : List Said) (d : Done) �
 unfolding Kept
 kept-world R w said (done v ys) k = (k.0, k.2)
 
-module _ {G : GoodWorld} {May Other : Naming} {R : StepRelation} {Q : MoveRelation} (moves : FineMoves G May Other R Q) where
+module _ {G : GoodWorld} {May Acts Pushes : Naming} {Stops : Type 0} {R : StepRelation} {Q : MoveRelation} (moves : FineMoves G May Acts Pushes Stops R Q) where
   -- ---- what steps lead to
 
   -- a step that says nothing
@@ -136,11 +136,6 @@ module _ {G : GoodWorld} {May Other : Naming} {R : StepRelation} {Q : MoveRelati
   for_each-keeps [] f a = nothing-keeps
   for_each-keeps (x ∷ xs) f a = then-keeps (f x) (for_each xs f) (a x) (for_each-keeps xs f a)
 
-  -- the same of tasks that have names of others
-  pub for_each_task-keeps : (ts : List Task) (f : Task → Step) → EachIs Other ts → ((t : Task) → Other t.who → Keeps G R (f t)) → Keeps G R (for_each ts f)
-  for_each_task-keeps [] f each a = nothing-keeps
-  for_each_task-keeps (t ∷ ts) f each a = then-keeps (f t) (for_each ts f) (a t each.0) (for_each_task-keeps ts f each.1 a)
-
   -- ---- from one world
 
   pub looks-from : (f : World → Step) → ((w : World) → G w → From R w (f w)) → Keeps G R (looks f)
@@ -191,6 +186,10 @@ module _ {G : GoodWorld} {May Other : Naming} {R : StepRelation} {Q : MoveRelati
   changes_told-from f g part line h w a b said =
       let more = said ++ record { part = part; line = line } ∷ [] in
       then-kept w (g (f w)) said more (h (g (f w)) more) (record { part = part; line = line } ∷ [], refl, a) (b (g (f w)) (moves.behind w (g (f w)) a) more)
+
+  pub when-from : (b : Bool) (f : Step) (w : World) → G w → From R w f → From R w (when b f)
+  when-from true f w good a = a
+  when-from false f w good a = keeps-from nothing w good nothing-keeps
 
   pub either-from : (b : Bool) (f g : Step) (w : World) → From R w f → From R w g → From R w (elim b as (λ _. Step) [ true ↦ f | false ↦ g ])
   either-from true f g w a b = a
@@ -258,14 +257,27 @@ module _ {G : GoodWorld} {May Other : Naming} {R : StepRelation} {Q : MoveRelati
   unfolding Keeps Leads
   settles-leads p step a w good = settled-kept p w (step w []) (a w good [])
 
-  -- whose names are those of others
-  filtered : (test : Bool) (t : Task) (ts : List Task) → Other t.who → EachIs Other ts → EachIs Other (cond test (t ∷ ts) ts)
-  filtered true t ts a each = (a, each)
-  filtered false t ts a each = each
+  -- of the tasks for which a test holds
+  pub listed-keeps : (test : World → Task → Bool) (f : World → Task → Step) → ((w : World) (t : Task) → Keeps G R (f w t)) → Keeps G R (looks (λ w. for_each (filter (test w) w.tasks) (f w)))
+  listed-keeps test f a = looks-keeps _ (λ w. for_each-keeps (filter (test w) w.tasks) (f w) (a w))
 
-  pub some_of-others : (test : Task → Bool) (ts : List Task) → EachIs Other ts → EachIs Other (filter test ts)
-  some_of-others test [] each = tt
-  some_of-others test (t ∷ ts) each = filtered (test t) t (filter test ts) each.0 (some_of-others test ts each.1)
+  -- a step behind a world that is known to stand so to the one before
+  after-kept : (g : Step) (w : World) (said : List Said) (d : Done) → Kept R w said d → ((v : World) (xs : List Said) → R w xs v → From R v g) → Kept R w said (goes_on_with g d)
+  unfolding From Kept
+  after-kept g w said (done v ys) a k = then-kept w v said ys (g v ys) a (k v a.0 a.2 ys)
 
-  pub listed-keeps : (test : World → Task → Bool) (f : World → Task → Step) → ((w : World) (t : Task) → Other t.who → Keeps G R (f w t)) → Keeps G R (looks (λ w. for_each (filter (test w) w.tasks) (f w)))
-  listed-keeps test f a = looks-from _ (λ w good. keeps-from _ w good (for_each_task-keeps (filter (test w) w.tasks) (f w) (some_of-others (test w) w.tasks (moves.listed w good)) (a w)))
+  pub after-from : (f g : Step) (w : World) → From R w f → ((v : World) (xs : List Said) → R w xs v → From R v g) → From R w (f ▷ g)
+  unfolding From
+  after-from f g w a k said = after-kept g w said (f w said) (a said) k
+
+  -- steps in another grouping
+  regrouped-kept : (g h : Step) (w : World) (said : List Said) (d : Done) → Kept R w said (goes_on_with (g ▷ h) d) → Kept R w said (goes_on_with h (goes_on_with g d))
+  regrouped-kept g h w said (done v ys) a = a
+
+  pub regrouped-from : (f g h : Step) (w : World) → From R w (f ▷ (g ▷ h)) → From R w ((f ▷ g) ▷ h)
+  unfolding From
+  regrouped-from f g h w a said = regrouped-kept g h w said (f w said) (a said)
+
+  -- who is free before a step is free behind it
+  pub free_then-from : (name : Who) (f g : Step) (w : World) → Free name w → From R w f → ((v : World) → G v → Free name v → From R v g) → From R w (f ▷ g)
+  free_then-from name f g w free a k = after-from f g w a (λ v xs h. k v (moves.behind w v h) (moves.still_free name w v h free))

@@ -1,5 +1,5 @@
 -- Initialize, Finalize and assignment: each step keeps a relation that its parts keep.
-use Rattle.std.specs.Prelude.{ℕ, suc, Bool, true, false, Option, Some, None, cond}
+use Rattle.std.specs.Prelude.{ℕ, suc, Bool, true, false, Option, Some, None}
 use Rattle.profile_machine.specs.declared.world.lines.Line.TheVariants as line
 use Rattle.ann_base.specs.declared.exceptions.Raised.TheVariants as exception
 use Rattle.trace_text.specs.declared.events.Who.{Who}
@@ -18,27 +18,32 @@ use Rattle.profile_machine.specs.declared.world.marks.AssignMark.{AssignMark}
 use Rattle.profile_machine.specs.declared.world.marks.AssignStep.{AssignStep}
 use Rattle.profile_machine.specs.declared.world.marks.AssignStep.TheVariants as assigning
 use Rattle.profile_machine.specs.declared.world.lines.Part.TheVariants.{Own}
-use Rattle.profile_machine.specs.Steps.{says, changes, ◌▷◌, looks}
+use Rattle.profile_machine.specs.Steps.{says, changes, ◌▷◌}
 use Rattle.profile_machine.specs.Scopes.{write_cell}
 use Rattle.profile_machine.specs.Statements.{cells_from, put_cells}
-use Rattle.profile_machine.specs.Controlled.{first_place, open_operation, top_region, registered_as, register, initialize_by, initialize, end_in_initialize, edit_top_scope, finalize_has_raised, open_finalize, has_room_to_finalize, finalize_by, no_longer_registered, finalize, behind_finalize, end_in_finalize, begin_assignment, assign_registered, assign_located, assign_controlled, edit_top_assign, leave_without_room, finalize_target_by, has_room_to_adjust, adjust_by, copy_components_of, copy_object, do_step, step_with, end_in_assign, edit_scope_mark, edit_assign, registered_object, registers, is_assignment, registered_at, is_located, same_located, new_assign_mark, next_to_finalize, type_of}
+use Rattle.profile_machine.specs.Controlled.{first_place, open_operation, operation_beginning, top_region, registered_as, register, initialize_by, initialize, edit_top_scope, finalize_has_raised, open_finalize, has_room_to_finalize, finalize_by, no_longer_registered, finalize, behind_finalize, begin_assignment, assign_registered, assign_located, assign_controlled, edit_top_assign, leave_without_room, finalize_target_by, has_room_to_adjust, adjust_by, copy_components_of, copy_object, do_step, edit_scope_mark, edit_assign, registered_at, is_located, same_located, new_assign_mark, next_to_finalize, type_of}
 use Rattle.machine_laws.proofs.Moves.{StepRelation, MoveRelation, own}
-use Rattle.leaving_laws.proofs.FineMoves.{GoodWorld, Naming, FineMoves, Openings, nature}
-use Rattle.leaving_laws.proofs.Kept.Combinators.{Keeps, Kept, Alters, told_change-from, said_then-from, branch-keeps, changes-from, changes-keeps, cond-keeps, looks-from, looks-keeps, nothing-keeps, says-keeps, sees-keeps, then-from, then-keeps, From, changes_then-from, keeps-from, looks_at-from}
-use Rattle.leaving_laws.proofs.Kept.Frames.{edit_top-alters, goes-keeps, push-alters, leaves-keeps, raises-keeps, pass_on-keeps, given-keeps, with_room-keeps, with_room-from, goes_then-from, popped}
+use Rattle.leaving_laws.proofs.FineMoves.{GoodWorld, Naming, FineMoves, nature}
+use Rattle.leaving_laws.proofs.Kept.Combinators.{Keeps, Kept, from-keeps, Alters, told_change-from, said_then-from, branch-keeps, changes-from, changes-keeps, cond-keeps, looks-from, looks-keeps, nothing-keeps, sees-keeps, then-keeps, From, changes_then-from, keeps-from, looks_at-from}
+use Rattle.leaving_laws.proofs.Kept.Frames.{edit_top-alters, goes-keeps, push-alters, leaves-keeps, raises-keeps, given-keeps, with_room-keeps, with_room-from, goes_then-from}
 use Rattle.leaving_laws.proofs.Kept.Scopes.{write_cell-alters, open_scope-alters}
 use Rattle.std.proofs.Common.{◌≡◌, refl, ap, ◌∙◌, [], ◌∷◌}
 use Rattle.std.specs.Prelude.{find}
+use Rattle.leaving_laws.proofs.TaskLemmas.{pushed-free}
+use Rattle.profile_machine.specs.declared.world.marks.Purpose.TheVariants as opened_for
+use Rattle.profile_machine.specs.declared.world.marks.ResultTo.TheVariants as bound_for
+use Rattle.profile_machine.specs.Scopes.{open_scope}
+use Rattle.leaving_laws.proofs.FineMoves.{Free}
 use Rattle.profile_machine.specs.declared.world.tasks.Task.{Task}
 use Rattle.trace_text.specs.declared.events.Who.TheVariants as who
-use Rattle.profile_machine.specs.Program.{next_of}
+use Rattle.profile_machine.specs.Program.{next_of, subprogram_of}
 use Rattle.profile_machine.specs.Tasks.{task_at, edit_task_found, edit_task, with_frames}
 use Rattle.ann_base.specs.declared.identities.RegionNo.{RegionNo}
 use Rattle.profile_machine.specs.declared.world.World.{World}
 use Rattle.profile_machine.specs.declared.world.marks.Frame.{Frame}
 use Rattle.profile_machine.specs.declared.world.marks.Mark.{Mark}
 use Rattle.profile_machine.specs.declared.world.marks.Mark.TheVariants.{Scope, Handled, InProtected, InAccept, Abortable, InInitialize, InFinalize, InAssign}
-use Rattle.profile_machine.specs.Frames.{top_of, pop, with_mark, is_protected, pass_on, goes, goes_on, edit_first, edit_top, push, new_frame}
+use Rattle.profile_machine.specs.Frames.{top_of, with_mark, pass_on, goes, goes_on, edit_first, edit_top, push, new_frame}
 
 -- the region of a scope's mark is not edited, nor what another mark is
 scope-nature : (f : ScopeMark → ScopeMark) → ((m : ScopeMark) → nature (Scope (f m)) ≡ nature (Scope m)) → (mark : Mark) → nature (edit_scope_mark f mark) ≡ nature mark
@@ -69,28 +74,28 @@ assign-nature f (InInitialize l) = refl
 assign-nature f (InFinalize o) = refl
 assign-nature f (InAssign m) = refl
 
-module _ {G : GoodWorld} {May Other : Naming} {R : StepRelation} {Q : MoveRelation} (moves : FineMoves G May Other R Q) where
+module _ {G : GoodWorld} {May Acts Pushes : Naming} {Stops : Type 0} {R : StepRelation} {Q : MoveRelation} (moves : FineMoves G May Acts Pushes Stops R Q) where
   -- the object is registered, and told, whose cell then has its number
-  told_register-from : (p : Image) (name : Who) (l : Located) (w : World) → G w
+  told_register-from : (p : Image) (name : Who) (l : Located) (w : World) → G w → Free name w
       → From R w (changes (registered_as (suc w.drawn.controlled) (top_region w name) l) ▷ changes (write_cell l.within (first_place p l) (Thing (suc w.drawn.controlled))) ▷ says Own (line.Init name (suc w.drawn.controlled) (top_region w name) l.declared))
   unfolding From Kept Alters
-  told_register-from p name l w good said =
+  told_register-from p name l w good free said =
       let n = suc w.drawn.controlled in
       let v = registered_as n (top_region w name) l w in
       let told = own (line.Init name n (top_region w name) l.declared) ∷ [] in
-      let first = moves.registers name l w good in
+      let first = moves.registers name l w good free in
       (told, refl, moves.goes_on w v (write_cell l.within (first_place p l) (Thing n) v) {xs = told} {ys = []} first (write_cell-alters moves l.within (first_place p l) (Thing n) v (moves.behind w v first)))
 
-  pub register-keeps : (p : Image) (name : Who) (l : Located) → Keeps G R (register p name l)
+  pub register-keeps : (p : Image) (name : Who) (l : Located) → May name → Keeps G R (register p name l)
   unfolding register
-  register-keeps p name l = looks-from moves _ (λ w good. told_register-from p name l w good)
+  register-keeps p name l may = looks-from moves _ (λ w good. told_register-from p name l w good (moves.may_free name w good may))
 
   pub edit_top_scope-alters : (name : Who) (f : ScopeMark → ScopeMark) → ((m : ScopeMark) → nature (Scope (f m)) ≡ nature (Scope m)) → Alters G R (edit_top_scope name f)
-  edit_top_scope-alters name f same = edit_top-alters moves name (λ x. with_mark (edit_scope_mark f x.mark) x) (λ x. scope-nature f same x.mark)
+  edit_top_scope-alters name f same = edit_top-alters moves name (λ x. with_mark (edit_scope_mark f x.mark) x) (λ x. scope-nature f same x.mark) (λ x. refl)
 
   pub behind_finalize-keeps : (p : Image) (name : Who) (leaving : Leaving) (test : Bool) → Keeps G R (behind_finalize p name leaving test)
-  unfolding behind_finalize
-  behind_finalize-keeps p name (how.Exception e) true = search (pass_on-keeps)
+  unfolding behind_finalize pass_on
+  behind_finalize-keeps p name (how.Exception e) true = search (leaves-keeps)
   behind_finalize-keeps p name (how.Exception e) false = search (changes-keeps, edit_top_scope-alters)
   behind_finalize-keeps p name how.End of_assignment = search (nothing-keeps)
   behind_finalize-keeps p name how.Return of_assignment = search (nothing-keeps)
@@ -98,20 +103,8 @@ module _ {G : GoodWorld} {May Other : Naming} {R : StepRelation} {Q : MoveRelati
   behind_finalize-keeps p name how.Abort of_assignment = search (nothing-keeps)
   behind_finalize-keeps p name how.Terminate of_assignment = search (nothing-keeps)
 
-  pub end_in_initialize-from : (p : Image) (name : Who) (l : Located) (leaving : Leaving) (f : Frame) (w : World) → G w → May name → top_of w name ≡ Some f → is_protected f.mark ≡ false → From R w (end_in_initialize p name l leaving)
-  unfolding end_in_initialize
-  end_in_initialize-from p name l leaving f w good may top free =
-      let out = popped moves name f w good may top free in
-      changes_then-from moves (pop name) _ w out (keeps-from moves (cond (registers leaving) (register p name l) (pass_on p name leaving)) (pop name w) (moves.behind w (pop name w) out) (search (cond-keeps, register-keeps, pass_on-keeps)))
-
-  pub end_in_finalize-from : (p : Image) (name : Who) (leaving : Leaving) (f : Frame) (w : World) → G w → May name → top_of w name ≡ Some f → is_protected f.mark ≡ false → From R w (end_in_finalize p name leaving)
-  unfolding end_in_finalize
-  end_in_finalize-from p name leaving f w good may top free =
-      let out = popped moves name f w good may top free in
-      changes_then-from moves (pop name) _ w out (keeps-from moves (looks (λ v. behind_finalize p name leaving (is_assignment (top_of v name)))) (pop name w) (moves.behind w (pop name w) out) (search (looks-keeps, behind_finalize-keeps)))
-
   pub edit_top_assign-alters : (name : Who) (f : AssignMark → AssignMark) → Alters G R (edit_top_assign name f)
-  edit_top_assign-alters name f = edit_top-alters moves name (λ x. with_mark (edit_assign f x.mark) x) (λ x. assign-nature f x.mark)
+  edit_top_assign-alters name f = edit_top-alters moves name (λ x. with_mark (edit_assign f x.mark) x) (λ x. assign-nature f x.mark) (λ x. refl)
 
   pub leave_without_room-keeps : (name : Who) → Keeps G R (leave_without_room name)
   unfolding leave_without_room
@@ -124,7 +117,7 @@ module _ {G : GoodWorld} {May Other : Naming} {R : StepRelation} {Q : MoveRelati
   pub copy_object-alters : (p : Image) (target source : Located) → Alters G R (copy_object p target source)
   copy_object-alters p target source = search (copy_components_of-alters)
 
-module _ {G : GoodWorld} {May Other : Naming} {Owns : Who → RegionNo → Type 0} {R : StepRelation} {Q : MoveRelation} (moves : FineMoves G May Other R Q) (openings : Openings G May Other Owns R) where
+module _ {G : GoodWorld} {May Acts Pushes : Naming} {Stops : Type 0} {R : StepRelation} {Q : MoveRelation} (moves : FineMoves G May Acts Pushes Stops R Q) where
   pub open_operation-keeps : (p : Image) (name : Who) (f : SubprogramNo) (l : Located) → May name → Keeps G R (open_operation p name f l)
   unfolding open_operation
   open_operation-keeps p name f l may = search (looks-keeps, changes-keeps, open_scope-alters)
@@ -138,29 +131,41 @@ module _ {G : GoodWorld} {May Other : Naming} {Owns : Who → RegionNo → Type 
   unfolding initialize
   initialize-keeps p name s d may = search (sees-keeps, given-keeps, initialize_by-keeps) depth 6
 
-  pub open_finalize-keeps : (p : Image) (name : Who) (n : ℕ) (l : Located) (f : SubprogramNo) → May name → Keeps G R (open_finalize p name n l f)
-  unfolding open_finalize
-  open_finalize-keeps p name n l f may = search (changes-keeps, push-alters, then-keeps, open_operation-keeps)
+  -- above any mark
+  open_operation-from : (p : Image) (name : Who) (f : SubprogramNo) (l : Located) (w : World) → G w → Pushes name → Free name w → From R w (open_operation p name f l)
+  unfolding open_operation
+  open_operation-from p name f l w good pushes free =
+      looks_at-from moves (λ v. changes (open_scope p name (subprogram_of p f).scope (operation_beginning p v name f l) (opened_for.Subprogram [] bound_for.Nowhere))) w
+      (changes-from moves (open_scope p name (subprogram_of p f).scope (operation_beginning p w name f l) (opened_for.Subprogram [] bound_for.Nowhere)) w
+      (moves.opens_scope p name (subprogram_of p f).scope (operation_beginning p w name f l) (opened_for.Subprogram [] bound_for.Nowhere) w good pushes free))
 
-  pub finalize_by-keeps : (p : Image) (name : Who) (r : Registered) (f : Option SubprogramNo) → May name → Keeps G R (finalize_by p name r f)
+  pub open_finalize-keeps : (p : Image) (name : Who) (n : ℕ) (l : Located) (f : SubprogramNo) → Pushes name → Keeps G R (open_finalize p name n l f)
+  unfolding open_finalize
+  open_finalize-keeps p name n l f pushes =
+      from-keeps moves _ (λ w good.
+      let x = new_frame (InFinalize n) None in
+      let opened = moves.pushes_special name x w good pushes refl refl refl refl in
+      changes_then-from moves (push name x) (open_operation p name f l) w opened (open_operation-from p name f l (push name x w) (moves.behind w (push name x w) opened) pushes (pushed-free name x w refl)))
+
+  pub finalize_by-keeps : (p : Image) (name : Who) (r : Registered) (f : Option SubprogramNo) → Pushes name → Keeps G R (finalize_by p name r f)
   unfolding finalize_by
-  finalize_by-keeps p name r None may = search (nothing-keeps)
-  finalize_by-keeps p name r (Some f) may = looks-keeps moves _ (λ w. branch-keeps moves (has_room_to_finalize p w name f) (open_finalize p name r.object r.located f) (changes (edit_top_scope name finalize_has_raised)) (search (open_finalize-keeps)) (search (changes-keeps, edit_top_scope-alters)))
+  finalize_by-keeps p name r None pushes = search (nothing-keeps)
+  finalize_by-keeps p name r (Some f) pushes = looks-keeps moves _ (λ w. branch-keeps moves (has_room_to_finalize p w name f) (open_finalize p name r.object r.located f) (changes (edit_top_scope name finalize_has_raised)) (search (open_finalize-keeps)) (search (changes-keeps, edit_top_scope-alters)))
 
   -- the newest object of a region that is being left
-  pub finalize-from : (p : Image) (name : Who) (f : Frame) (m : ScopeMark) (r : RegionNo) (x : Registered) (w : World) → G w → May name → top_of w name ≡ Some f → f.mark ≡ Scope m → m.region ≡ Some r → m.being_left ≡ true → next_to_finalize w r ≡ Some x
+  pub finalize-from : (p : Image) (name : Who) (f : Frame) (m : ScopeMark) (r : RegionNo) (x : Registered) (w : World) → G w → Pushes name → top_of w name ≡ Some f → f.mark ≡ Scope m → m.region ≡ Some r → m.being_left ≡ true → next_to_finalize w r ≡ Some x
       → From R w (finalize p name x)
   unfolding finalize
-  finalize-from p name f m r x w good may top is region left next =
+  finalize-from p name f m r x w good pushes top is region left next =
       told_change-from moves Own (line.Final name x.object) (no_longer_registered x.object) (finalize_by p name x (type_of p x.located).finalize) w
-      (moves.finalizes name f m r x w good may top is region left next) (finalize_by-keeps p name x (type_of p x.located).finalize may)
+      (moves.finalizes name f m r x w good top is region left next) (finalize_by-keeps p name x (type_of p x.located).finalize pushes)
 
   -- an object that is registered is assigned to
   begin_assignment-from : (p : Image) (name : Who) (s : StatementNo) (l : Located) (x : Registered) (source : ℕ) (w : World) → G w → May name → registered_at w l ≡ Some x → From R w (begin_assignment p name s x.object source)
   unfolding begin_assignment
   begin_assignment-from p name s l x source w good may found =
       with_room-from moves name 1 0 _ w good
-      (goes_then-from moves name (next_of p s) _ w good (λ good_onward.
+      (goes_then-from moves name (next_of p s) _ w good may (λ good_onward.
       let gone = edit_top name (goes_on (next_of p s)) w in
       let still : registered_at gone l ≡ Some x = ap (find (is_located l)) (edit_task-registered name (λ t. with_frames (edit_first (goes_on (next_of p s)) t.frames) t) w) ∙ found in
       said_then-from moves Own (line.Replace name x.object) (changes (push name (new_frame (new_assign_mark x.object source) None))) gone (moves.replaces name l x gone good_onward still)
@@ -175,7 +180,7 @@ module _ {G : GoodWorld} {May Other : Naming} {Owns : Who → RegionNo → Type 
   pub assign_located-keeps : (p : Image) (name : Who) (s : StatementNo) (target source : Located) → May name → Keeps G R (assign_located p name s target source)
   unfolding assign_located
   assign_located-keeps p name s target source may =
-      cond-keeps moves (same_located target source) (goes name (next_of p s)) _ (goes-keeps moves name (next_of p s))
+      cond-keeps moves (same_located target source) (goes name (next_of p s)) _ (goes-keeps moves name (next_of p s) may)
       (looks-from moves _ (λ w good. assign_registered-from p name s target (registered_at w target) (registered_at w source) w good may refl))
 
   pub assign_controlled-keeps : (p : Image) (name : Who) (s : StatementNo) (target source : DeclNo) → May name → Keeps G R (assign_controlled p name s target source)
@@ -185,28 +190,16 @@ module _ {G : GoodWorld} {May Other : Naming} {Owns : Who → RegionNo → Type 
   pub finalize_target_by-keeps : (p : Image) (name : Who) (r : Registered) (f : Option SubprogramNo) → May name → Keeps G R (finalize_target_by p name r f)
   unfolding finalize_target_by
   finalize_target_by-keeps p name r None may = search (nothing-keeps)
-  finalize_target_by-keeps p name r (Some f) may = looks-keeps moves _ (λ w. branch-keeps moves (has_room_to_finalize p w name f) (open_finalize p name r.object r.located f) (leave_without_room name) (search (open_finalize-keeps)) (search (leave_without_room-keeps)))
+  finalize_target_by-keeps p name r (Some f) may = looks-keeps moves _ (λ w. branch-keeps moves (has_room_to_finalize p w name f) (open_finalize p name r.object r.located f) (leave_without_room name) (search (open_finalize-keeps, moves.may_pushes)) (search (leave_without_room-keeps)))
 
   pub adjust_by-keeps : (p : Image) (name : Who) (r : Registered) (f : Option SubprogramNo) → May name → Keeps G R (adjust_by p name r f)
   unfolding adjust_by
   adjust_by-keeps p name r None may = search (nothing-keeps)
   adjust_by-keeps p name r (Some f) may = looks-keeps moves _ (λ w. branch-keeps moves (has_room_to_adjust p w name f) (open_operation p name f r.located) (leave_without_room name) (search (open_operation-keeps)) (search (leave_without_room-keeps)))
 
-  do_step-from : (p : Image) (name : Who) (step : AssignStep) (target source : Registered) (w : World) → G w → May name → R w [] (pop name w) → From R w (do_step p name step target source)
-  do_step-from p name assigning.FinalizeTarget target source w good may out = keeps-from moves _ w good (search (changes-keeps, edit_top_assign-alters, then-keeps, finalize_target_by-keeps))
-  do_step-from p name assigning.CopyComponents target source w good may out = keeps-from moves _ w good (search (changes-keeps, edit_top_assign-alters, then-keeps, copy_object-alters))
-  do_step-from p name assigning.AdjustTarget target source w good may out = keeps-from moves _ w good (search (changes-keeps, edit_top_assign-alters, then-keeps, adjust_by-keeps))
-  do_step-from p name assigning.Assigned target source w good may out = changes-from moves (pop name) w out
-
-  step_with-from : (p : Image) (name : Who) (step : AssignStep) (target source : Option Registered) (w : World) → G w → May name → R w [] (pop name w) → From R w (step_with p name step target source)
-  step_with-from p name step (Some target) (Some source) w good may out = do_step-from p name step target source w good may out
-  step_with-from p name step (Some target) None w good may out = changes-from moves (pop name) w out
-  step_with-from p name step None source w good may out = changes-from moves (pop name) w out
-
-  pub end_in_assign-from : (p : Image) (name : Who) (m : AssignMark) (leaving : Option Leaving) (f : Frame) (w : World) → G w → May name → top_of w name ≡ Some f → is_protected f.mark ≡ false → From R w (end_in_assign p name m leaving)
-  unfolding end_in_assign
-  end_in_assign-from p name m (Some (how.Exception e)) f w good may top free =
-      let out = popped moves name f w good may top free in
-      changes_then-from moves (pop name) _ w out (keeps-from moves _ (pop name w) (moves.behind w (pop name w) out) (raises-keeps moves Own name exception.Program))
-  end_in_assign-from p name m _ f w good may top free =
-      looks_at-from moves (λ v. step_with p name m.step (registered_object v m.target) (registered_object v m.source)) w (step_with-from p name m.step (registered_object w m.target) (registered_object w m.source) w good may (popped moves name f w good may top free))
+  -- every step of an assignment but its end
+  pub do_step-keeps : (p : Image) (name : Who) (step : AssignStep) (target source : Registered) → May name → ((step ≡ assigning.Assigned) → ⊥) → Keeps G R (do_step p name step target source)
+  do_step-keeps p name assigning.FinalizeTarget target source may other = search (changes-keeps, edit_top_assign-alters, then-keeps, finalize_target_by-keeps)
+  do_step-keeps p name assigning.CopyComponents target source may other = search (changes-keeps, edit_top_assign-alters, then-keeps, copy_object-alters)
+  do_step-keeps p name assigning.AdjustTarget target source may other = search (changes-keeps, edit_top_assign-alters, then-keeps, adjust_by-keeps)
+  do_step-keeps p name assigning.Assigned target source may other = absurd (other refl)

@@ -38,7 +38,7 @@ use Rattle.leaving_laws.proofs.Kept.Scopes.{write_cell-alters}
 use Rattle.leaving_laws.proofs.Kept.CallEnds.{store-gives}
 use Rattle.leaving_laws.proofs.Kept.Statements.{copy_cells-alters}
 
-module _ {G : GoodWorld} {May Other : Naming} {R : StepRelation} {Q : MoveRelation} (moves : FineMoves G May Other R Q) where
+module _ {G : GoodWorld} {May Acts Pushes : Naming} {Stops : Type 0} {R : StepRelation} {Q : MoveRelation} (moves : FineMoves G May Acts Pushes Stops R Q) where
   set_defaults-alters : (p : Image) (v : Variable) → Alters G R (set_defaults p v)
   unfolding Alters
   set_defaults-alters p v w good = moves.edits_cells v.within (put_cells v.place (default_cells p w v)) w good
@@ -76,9 +76,9 @@ module _ {G : GoodWorld} {May Other : Naming} {R : StepRelation} {Q : MoveRelati
   unfolding says_object
   says_object-keeps p l u = looks-keeps moves _ (λ w. says-keeps moves Own (line.New (created.Object (record { 0 = w.drawn.objects })) (Some l.declared) (protected_unit_of p u).ceiling) refl)
 
-  pub declare_protected-keeps : (p : Image) (name : Who) (s : StatementNo) (d : DeclNo) (u : ProtectedUnitNo) → Keeps G R (declare_protected p name s d u)
+  pub declare_protected-keeps : (p : Image) (name : Who) (s : StatementNo) (d : DeclNo) (u : ProtectedUnitNo) → May name → Keeps G R (declare_protected p name s d u)
   unfolding declare_protected
-  declare_protected-keeps p name s d u =
+  declare_protected-keeps p name s d u may =
       looks-from moves _ (λ w good. let q = seen_by p w name in
       given-from moves Own name (located_here q d) _ w good (λ l.
       given_world-from moves Own name (components_initialized q protected_cells l (protected_unit_of p u).components w) (λ _. goes name (next_of p s) ▷ changes (with_object p l u) ▷ says_object p l u) w good
@@ -125,25 +125,25 @@ module _ {G : GoodWorld} {May Other : Naming} {R : StepRelation} {Q : MoveRelati
   declared-gives q d kind.Parameter good = ok-gives moves q.world q.world (moves.stays q.world good)
   declared-gives q d kind.Other good = ok-gives moves q.world q.world (moves.stays q.world good)
 
-  pub declare_quietly-keeps : (p : Image) (name : Who) (s : StatementNo) (d : DeclNo) → Keeps G R (declare_quietly p name s d)
+  pub declare_quietly-keeps : (p : Image) (name : Who) (s : StatementNo) (d : DeclNo) → May name → Keeps G R (declare_quietly p name s d)
   unfolding declare_quietly
-  declare_quietly-keeps p name s d =
+  declare_quietly-keeps p name s d may =
       looks-from moves _ (λ w good.
       given_world-from moves Own name (declared (seen_by p w name) d (declaration_of p d).kind) (λ _. goes name (next_of p s)) w good
-      (declared-gives (seen_by p w name) d (declaration_of p d).kind good) (λ _. goes-keeps moves name (next_of p s)))
+      (declared-gives (seen_by p w name) d (declaration_of p d).kind good) (λ _. goes-keeps moves name (next_of p s) may))
 
-  pub declare_by-keeps : (p : Image) (name : Who) (s : StatementNo) (d : DeclNo) (kind : DeclarationKind) → Keeps G R (declare_by p name s d kind)
+  pub declare_by-keeps : (p : Image) (name : Who) (s : StatementNo) (d : DeclNo) (kind : DeclarationKind) → May name → Keeps G R (declare_by p name s d kind)
   unfolding declare_by
-  declare_by-keeps p name s d (kind.Protected u) = search (declare_protected-keeps)
-  declare_by-keeps p name s d (kind.Object i) = search (declare_quietly-keeps)
-  declare_by-keeps p name s d (kind.Task u) = search (declare_quietly-keeps)
-  declare_by-keeps p name s d (kind.Controlled c) = search (declare_quietly-keeps)
-  declare_by-keeps p name s d kind.Event = search (declare_quietly-keeps)
-  declare_by-keeps p name s d (kind.Timer task) = search (declare_quietly-keeps)
-  declare_by-keeps p name s d kind.Budget = search (declare_quietly-keeps)
-  declare_by-keeps p name s d kind.Parameter = search (declare_quietly-keeps)
-  declare_by-keeps p name s d kind.Other = search (declare_quietly-keeps)
+  declare_by-keeps p name s d (kind.Protected u) may = search (declare_protected-keeps)
+  declare_by-keeps p name s d (kind.Object i) may = search (declare_quietly-keeps)
+  declare_by-keeps p name s d (kind.Task u) may = search (declare_quietly-keeps)
+  declare_by-keeps p name s d (kind.Controlled c) may = search (declare_quietly-keeps)
+  declare_by-keeps p name s d kind.Event may = search (declare_quietly-keeps)
+  declare_by-keeps p name s d (kind.Timer task) may = search (declare_quietly-keeps)
+  declare_by-keeps p name s d kind.Budget may = search (declare_quietly-keeps)
+  declare_by-keeps p name s d kind.Parameter may = search (declare_quietly-keeps)
+  declare_by-keeps p name s d kind.Other may = search (declare_quietly-keeps)
 
-  pub declare-keeps : (p : Image) (name : Who) (s : StatementNo) (d : DeclNo) → Keeps G R (declare p name s d)
+  pub declare-keeps : (p : Image) (name : Who) (s : StatementNo) (d : DeclNo) → May name → Keeps G R (declare p name s d)
   unfolding declare
-  declare-keeps p name s d = search (declare_by-keeps)
+  declare-keeps p name s d may = search (declare_by-keeps)

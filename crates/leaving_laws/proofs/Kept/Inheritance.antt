@@ -10,17 +10,17 @@ use Rattle.leaving_laws.proofs.Kept.Combinators.{Keeps, Alters, changes-keeps, l
 use Rattle.leaving_laws.proofs.Kept.Tasks.{edit_task-alters}
 use Rattle.leaving_laws.proofs.Kept.Dispatching.{to_head-keeps}
 
-module _ {G : GoodWorld} {May Other : Naming} {R : StepRelation} {Q : MoveRelation} (moves : FineMoves G May Other R Q) where
+module _ {G : GoodWorld} {May Acts Pushes : Naming} {Stops : Type 0} {R : StepRelation} {Q : MoveRelation} (moves : FineMoves G May Acts Pushes Stops R Q) where
   pub inherit-alters : (name : Who) (cause : Cause) (level : ℕ) → Alters G R (inherit name cause level)
   inherit-alters name cause level = search (edit_task-alters)
 
   pub lose-alters : (name : Who) (cause : Cause) → Alters G R (lose name cause)
   lose-alters name cause = search (edit_task-alters)
 
-  pub inherit_running-keeps : (p : Image) (name : Who) (cause : Cause) (level : ℕ) → May name → Keeps G R (inherit_running p name cause level)
+  pub inherit_running-keeps : (p : Image) (name : Who) (cause : Cause) (level : ℕ) → Acts name → Keeps G R (inherit_running p name cause level)
   unfolding inherit_running
-  inherit_running-keeps p name cause level may = search (looks-keeps, changes-keeps, inherit-alters, then-keeps, when-keeps, to_head-keeps) depth 6
+  inherit_running-keeps p name cause level acts = search (looks-keeps, changes-keeps, inherit-alters, then-keeps, when-keeps, to_head-keeps) depth 6
 
-  pub lose_running-keeps : (p : Image) (name : Who) (cause : Cause) → May name → Keeps G R (lose_running p name cause)
+  pub lose_running-keeps : (p : Image) (name : Who) (cause : Cause) → Acts name → Keeps G R (lose_running p name cause)
   unfolding lose_running
-  lose_running-keeps p name cause may = search (looks-keeps, changes-keeps, lose-alters, then-keeps, when-keeps, to_head-keeps) depth 6
+  lose_running-keeps p name cause acts = search (looks-keeps, changes-keeps, lose-alters, then-keeps, when-keeps, to_head-keeps) depth 6

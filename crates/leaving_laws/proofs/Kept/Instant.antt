@@ -14,27 +14,37 @@ use Rattle.profile_machine.specs.declared.world.appointments.Appointment.{Appoin
 use Rattle.profile_machine.specs.declared.world.appointments.TimerSetting.{TimerSetting}
 use Rattle.profile_machine.specs.declared.world.appointments.Due.TheVariants as due_for
 use Rattle.profile_machine.specs.declared.world.tasks.Waiting.TheVariants as waits_for
-use Rattle.profile_machine.specs.Steps.{Step, changes, nothing, settles, ◌▷◌, rests, ◌▶◌}
-use Rattle.profile_machine.specs.Tasks.{task_of, with_ticks}
+use Rattle.profile_machine.specs.Steps.{Step, changes, nothing, ◌▷◌, ◌▶◌}
+use Rattle.profile_machine.specs.Tasks.{task_of}
 use Rattle.profile_machine.specs.Appointments.{first_due}
-use Rattle.profile_machine.specs.Instant.{effect, is_over, effect_of_runner, finish_action, with_port, with_masked, with_kept_interrupt, interrupt_comes, deliver_kept_interrupt, script_item, with_script, take_item, items_due, script_items, take_delay, end_delay, time_out, come_due, take_due, all_due, appointments_due, events_due, moments_due, expire, expire_timer, no_timers_due, timers_due, run_out, no_budget_due, budgets_due, spend_quantum, quantum_spent, instant}
-use Rattle.machine_laws.proofs.Moves.{StepRelation, MoveRelation, Puts}
-use Rattle.leaving_laws.proofs.FineMoves.{GoodWorld, Naming, FineMoves, AnyWorld, RegionMoves}
-use Rattle.leaving_laws.proofs.Kept.Combinators.{Keeps, From, Leads, Alters, branch-leads, changes-from, changes-keeps, for_each-keeps, for_some-keeps, keeps-from, looks-from, looks-keeps, nothing-keeps, says-keeps, settles-leads, then-from, then-keeps, then-leads, when-keeps, rests-leads, watches-leads}
-use Rattle.leaving_laws.proofs.Kept.Tasks.{edit_task-alters}
-use Rattle.leaving_laws.proofs.Kept.Dispatching.{to_tail-keeps, ready-keeps}
-use Rattle.leaving_laws.proofs.Kept.Frames.{goes-keeps, open_sequence-keeps, open_if_ready-keeps}
+use Rattle.profile_machine.specs.Instant.{with_port, with_masked, with_kept_interrupt, interrupt_comes, deliver_kept_interrupt, script_item, with_script, take_item, items_due, script_items, take_delay, end_delay, time_out, come_due, take_due, all_due, appointments_due, events_due, moments_due, expire, expire_timer, no_timers_due, timers_due, run_out, no_budget_due, budgets_due, spend_quantum, quantum_spent}
+use Rattle.profile_machine.specs.declared.world.tasks.State.{State}
+use Rattle.profile_machine.specs.declared.world.tasks.State.TheVariants.{Made, Runnable, Blocked}
+use Rattle.profile_machine.specs.Tasks.{is_runnable_state, is_runnable, waiting_in, waiting_of, task_of}
+use Rattle.profile_machine.specs.Dispatching.{ready, to_tail, active}
+use Rattle.profile_machine.specs.Instant.{has_spent_quantum}
+use Rattle.profile_machine.specs.Frames.{any_protected}
+use Rattle.profile_machine.specs.Program.{is_robin_level, next_of}
+use Rattle.profile_machine.specs.Words.{is_empty}
+use Rattle.profile_machine.specs.Steps.{says, looks, when, ◌▷◌}
+use Rattle.profile_machine.specs.declared.world.lines.Part.TheVariants.{Own}
+use Rattle.ann_base.specs.declared.identities.TaskNo.{TaskNo}
+use Rattle.std.specs.Prelude.{eqb, not, ◌&&◌}
+use Rattle.profile_machine.specs.declared.world.lines.Line.TheVariants as line
+use Rattle.machine_laws.proofs.Moves.{StepRelation, MoveRelation}
+use Rattle.leaving_laws.proofs.FineMoves.{GoodWorld, Naming, FineMoves, Free, waits}
+use Rattle.leaving_laws.proofs.Kept.Combinators.{said_then-from, Keeps, From, Leads, Alters, changes-from, changes-keeps, for_each-keeps, for_some-keeps, keeps-from, looks-from, looks-keeps, nothing-keeps, says-keeps, settles-leads, then-from, then-keeps, then-leads}
+use Rattle.leaving_laws.proofs.Kept.Dispatching.{to_tail-from, ready-keeps}
+use Rattle.leaving_laws.proofs.Kept.Frames.{goes-from, open_sequence-keeps}
 use Rattle.leaving_laws.proofs.Kept.Appointments.{drop_appointment-alters}
 use Rattle.leaving_laws.proofs.Kept.Calls.{with_call-keeps, unqueued-alters}
 use Rattle.leaving_laws.proofs.Kept.Unwinding.{unwind-keeps}
 use Rattle.leaving_laws.proofs.Kept.CallEnds.{trigger_at-keeps, deliver-keeps}
-use Rattle.leaving_laws.proofs.Kept.Tasking.{take_terminates-keeps, unwind_all-keeps}
-use Rattle.leaving_laws.proofs.Kept.Handlers.{interrupt-keeps, clear_timer-alters, Releasing, releasing}
-use Rattle.leaving_laws.proofs.Kept.Act.{act-keeps}
+use Rattle.leaving_laws.proofs.Kept.Handlers.{interrupt-keeps, clear_timer-alters, release-keeps}
 use Rattle.profile_machine.specs.Values.{budget_of}
 use Rattle.profile_machine.specs.Handlers.{clear_timer}
 
-module _ {G : GoodWorld} {May Other : Naming} {R : StepRelation} {Q : MoveRelation} (moves : FineMoves G May Other R Q) (releasing : Releasing G R) where
+module _ {G : GoodWorld} {May Acts Pushes : Naming} {Stops : Type 0} {R : StepRelation} {Q : MoveRelation} (moves : FineMoves G May Acts Pushes Stops R Q) where
   with_port-alters : (n : ℕ) (value : ℤ) → Alters G R (with_port n value)
   unfolding Alters
   with_port-alters n value w good = moves.sets_port n value w good
@@ -83,49 +93,54 @@ module _ {G : GoodWorld} {May Other : Naming} {R : StepRelation} {Q : MoveRelati
   pub script_items-leads : (p : Image) → Leads G Q (script_items p)
   script_items-leads p = search (settles-leads, looks-keeps, items_due-keeps)
 
-  pub take_delay-keeps : (p : Image) (name : Who) (waiting : Option Waiting) → Keeps G R (take_delay p name waiting)
+  take_delay-from : (p : Image) (name : Who) (waiting : Option Waiting) (w : World) → G w → (waits waiting ≡ true → Free name w) → From R w (take_delay p name waiting)
   unfolding take_delay
-  take_delay-keeps p name (Some (waits_for.Select accepts (Some delay) terminate)) = search (goes-keeps)
-  take_delay-keeps p name _ = search (nothing-keeps)
+  take_delay-from p name (Some (waits_for.Select accepts (Some delay) terminate)) w good k = goes-from moves name (next_of p delay) w good (k refl)
+  take_delay-from p name _ w good k = keeps-from moves nothing w good (nothing-keeps moves)
 
-  pub end_delay-keeps : (p : Image) (name : Who) → Other name → Keeps G R (end_delay p name)
+  delay_taken-keeps : (p : Image) (t : TaskNo) → Keeps G R (looks (λ w. take_delay p (who.Task t) (waiting_of w (who.Task t))))
+  delay_taken-keeps p t = looks-from moves _ (λ w good. take_delay-from p (who.Task t) (waiting_of w (who.Task t)) w good (λ e. moves.waiting_free (who.Task t) w good e))
+
+  pub end_delay-keeps : (p : Image) (t : TaskNo) → Stops → Keeps G R (end_delay p (who.Task t))
   unfolding end_delay
-  end_delay-keeps p name other = search (looks-keeps, take_delay-keeps, then-keeps, ready-keeps, open_sequence-keeps, moves.other_may)
+  end_delay-keeps p t stops =
+      then-keeps moves (looks (λ w. take_delay p (who.Task t) (waiting_of w (who.Task t)))) _ (delay_taken-keeps p t)
+      (then-keeps moves (ready p Own (who.Task t)) _ (ready-keeps moves p Own (who.Task t)) (open_sequence-keeps moves p Own (who.Task t) (moves.stops_pushes stops (who.Task t))))
 
   pub time_out-keeps : (p : Image) (c : CallNo) → Keeps G R (time_out p c)
   unfolding time_out
   time_out-keeps p c = search (with_call-keeps, changes-keeps, unqueued-alters, then-keeps, says-keeps, deliver-keeps) depth 6
 
-  pub come_due-keeps : (p : Image) (due : Due) → Keeps G R (come_due p due)
+  pub come_due-keeps : (p : Image) (due : Due) → Stops → Keeps G R (come_due p due)
   unfolding come_due
-  come_due-keeps p (due_for.Event n h) = releasing.releases p h (Some n)
-  come_due-keeps p (due_for.Delay t) = search (end_delay-keeps, moves.task_other)
-  come_due-keeps p (due_for.Timeout c) = search (time_out-keeps)
-  come_due-keeps p (due_for.Trigger t depth) = search (trigger_at-keeps, then-keeps, unwind-keeps, moves.task_other)
+  come_due-keeps p (due_for.Event n h) stops = release-keeps moves p h (Some n)
+  come_due-keeps p (due_for.Delay t) stops = search (end_delay-keeps)
+  come_due-keeps p (due_for.Timeout c) stops = search (time_out-keeps)
+  come_due-keeps p (due_for.Trigger t depth) stops = search (trigger_at-keeps, then-keeps, unwind-keeps)
 
-  pub take_due-keeps : (p : Image) (again : Step) (a : Option Appointment) → Keeps G R again → Keeps G R (take_due p again a)
-  take_due-keeps p again None kept = search (nothing-keeps)
-  take_due-keeps p again (Some a) kept = search (changes-keeps, drop_appointment-alters, then-keeps, come_due-keeps)
+  pub take_due-keeps : (p : Image) (again : Step) (a : Option Appointment) → Stops → Keeps G R again → Keeps G R (take_due p again a)
+  take_due-keeps p again None stops kept = search (nothing-keeps)
+  take_due-keeps p again (Some a) stops kept = search (changes-keeps, drop_appointment-alters, then-keeps, come_due-keeps)
 
-  all_due-keeps : (fuel : ℕ) (p : Image) (events : Bool) → Keeps G R (all_due fuel p events)
+  all_due-keeps : (fuel : ℕ) (p : Image) (events : Bool) → Stops → Keeps G R (all_due fuel p events)
   unfolding all_due
-  all_due-keeps zero p events = search (nothing-keeps)
-  all_due-keeps (suc fuel) p events =
-      looks-keeps moves _ (λ w. take_due-keeps p (all_due fuel p events) (first_due events w.time w.appointments) (all_due-keeps fuel p events))
+  all_due-keeps zero p events stops = search (nothing-keeps)
+  all_due-keeps (suc fuel) p events stops =
+      looks-keeps moves _ (λ w. take_due-keeps p (all_due fuel p events) (first_due events w.time w.appointments) stops (all_due-keeps fuel p events stops))
 
-  pub appointments_due-leads : (p : Image) (events : Bool) → Leads G Q (appointments_due p events)
-  appointments_due-leads p events = search (settles-leads, looks-keeps, all_due-keeps)
+  pub appointments_due-leads : (p : Image) (events : Bool) → Stops → Leads G Q (appointments_due p events)
+  appointments_due-leads p events stops = search (settles-leads, looks-keeps, all_due-keeps)
 
-  pub events_due-leads : (p : Image) → Leads G Q (events_due p)
-  events_due-leads p = search (appointments_due-leads)
+  pub events_due-leads : (p : Image) → Stops → Leads G Q (events_due p)
+  events_due-leads p stops = search (appointments_due-leads)
 
-  pub moments_due-leads : (p : Image) → Leads G Q (moments_due p)
-  moments_due-leads p = search (appointments_due-leads)
+  pub moments_due-leads : (p : Image) → Stops → Leads G Q (moments_due p)
+  moments_due-leads p stops = search (appointments_due-leads)
 
   pub expire-keeps : (p : Image) (k : ℕ) (setting : Option TimerSetting) → Keeps G R (expire p k setting)
   unfolding expire
   expire-keeps p k None = search (nothing-keeps)
-  expire-keeps p k (Some s) = then-keeps moves (changes (clear_timer k)) _ (search (changes-keeps, clear_timer-alters)) (releasing.releases p s.handler (Some k))
+  expire-keeps p k (Some s) = then-keeps moves (changes (clear_timer k)) _ (search (changes-keeps, clear_timer-alters)) (release-keeps moves p s.handler (Some k))
 
   pub expire_timer-keeps : (p : Image) (k : ℕ) → Keeps G R (expire_timer p k)
   unfolding expire_timer
@@ -140,7 +155,7 @@ module _ {G : GoodWorld} {May Other : Naming} {R : StepRelation} {Q : MoveRelati
 
   pub run_out-keeps : (p : Image) (b : ℕ) → Keeps G R (run_out p b)
   unfolding run_out
-  run_out-keeps p b = looks-keeps moves _ (λ w. for_some-keeps moves (budget_of w b).handler _ (λ h. releasing.releases p h (Some b)))
+  run_out-keeps p b = looks-keeps moves _ (λ w. for_some-keeps moves (budget_of w b).handler _ (λ h. release-keeps moves p h (Some b)))
 
   no_budget_due-alters : Alters G R no_budget_due
   unfolding Alters
@@ -149,37 +164,31 @@ module _ {G : GoodWorld} {May Other : Naming} {R : StepRelation} {Q : MoveRelati
   pub budgets_due-leads : (p : Image) → Leads G Q (budgets_due p)
   budgets_due-leads p = search (settles-leads, looks-keeps, for_some-keeps, run_out-keeps, then-keeps, changes-keeps, no_budget_due-alters) depth 7
 
+  is-runnable : (state : State) → is_runnable_state state ≡ true → waits (waiting_in state) ≡ false
+  is-runnable Runnable e = refl
+  is-runnable Made e = refl
+  is-runnable (Blocked waiting) e = absurd cc
+
+  first-of : (a b c d e f : Bool) → (a && b && c && d && e && f) ≡ true → a ≡ true
+  first-of true b c d e f h = refl
+  first-of false b c d e f h = absurd cc
+
+  spent-from : (p : Image) (t : TaskNo) (w : World) (test : Bool) → G w → has_spent_quantum p (task_of w (who.Task t)) ≡ test → From R w (when test (says Own (line.Quantum t) ▷ to_tail p Own (who.Task t)))
+  spent-from p t w false good is = keeps-from moves nothing w good (nothing-keeps moves)
+  spent-from p t w true good is =
+      let u = task_of w (who.Task t) in
+      said_then-from moves Own (line.Quantum t) (to_tail p Own (who.Task t)) w (moves.says Own (line.Quantum t) w good refl)
+      (to_tail-from moves p Own (who.Task t) w good (is-runnable u.state (first-of (is_runnable u) (eqb u.quantum 0) (is_robin_level p u.base) (eqb (active p u) u.base) (is_empty u.inherited) (not (any_protected u.frames)) is)))
+
   pub spend_quantum-keeps : (p : Image) (by : Option Who) → Keeps G R (spend_quantum p by)
   unfolding spend_quantum
   spend_quantum-keeps p None = search (nothing-keeps)
   spend_quantum-keeps p (Some who.Agent) = search (nothing-keeps)
-  spend_quantum-keeps p (Some (who.Task t)) = search (looks-keeps, when-keeps, says-keeps, then-keeps, to_tail-keeps, moves.other_may, moves.task_other) depth 7
+  spend_quantum-keeps p (Some (who.Task t)) = looks-from moves _ (λ w good. spent-from p t w (has_spent_quantum p (task_of w (who.Task t))) good refl)
 
   pub quantum_spent-leads : (p : Image) → Leads G Q (quantum_spent p)
   quantum_spent-leads p = search (settles-leads, looks-keeps, spend_quantum-keeps)
 
   -- all of an instant but the effect of the action that ended
-  pub behind_action-leads : (p : Image) → Leads G Q (script_items p ▶ events_due p ▶ moments_due p ▶ timers_due p ▶ budgets_due p ▶ quantum_spent p)
-  behind_action-leads p = search (then-leads, script_items-leads, events_due-leads, moments_due-leads, timers_due-leads, budgets_due-leads, quantum_spent-leads) depth 8
-
--- ---- where anybody may be changed
-
-module _ {R : StepRelation} {Q : MoveRelation} (moves : RegionMoves R Q) where
-  pub effect-keeps : (p : Image) → Puts AnyWorld R p → (name : Who) → Keeps AnyWorld R (effect p name)
-  unfolding effect
-  effect-keeps p puts name =
-      then-keeps moves.fine _ _ (changes-keeps moves.fine _ (edit_task-alters moves.fine name (with_ticks None) (λ t. refl) (λ t. refl) (λ t. refl) (λ t. refl)))
-      (then-keeps moves.fine _ _ (act-keeps moves p puts name)
-      (then-keeps moves.fine _ _ (open_if_ready-keeps moves.fine p name tt)
-      (then-keeps moves.fine _ _ (take_terminates-keeps moves.fine p name tt) (unwind_all-keeps moves.fine p name))))
-
-  effect_of_runner-leads : (p : Image) → Puts AnyWorld R p → (by : Option Who) → Leads AnyWorld Q (effect_of_runner p by)
-  effect_of_runner-leads p puts None = rests-leads moves.fine
-  effect_of_runner-leads p puts (Some name) =
-      watches-leads moves.fine _ (λ w. branch-leads moves.fine (is_over (task_of w name).ticks_left) (settles p (effect p name)) rests (settles-leads moves.fine p (effect p name) (effect-keeps p puts name)) (rests-leads moves.fine))
-
-  pub finish_action-leads : (p : Image) → Puts AnyWorld R p → Leads AnyWorld Q (finish_action p)
-  finish_action-leads p puts = watches-leads moves.fine _ (λ w. effect_of_runner-leads p puts w.ran)
-
-  pub instant-leads : (p : Image) → Puts AnyWorld R p → Leads AnyWorld Q (instant p)
-  instant-leads p puts = then-leads moves.fine (finish_action p) _ (finish_action-leads p puts) (behind_action-leads moves.fine (releasing moves) p)
+  pub behind_action-leads : (p : Image) → Stops → Leads G Q (script_items p ▶ events_due p ▶ moments_due p ▶ timers_due p ▶ budgets_due p ▶ quantum_spent p)
+  behind_action-leads p stops = search (then-leads, script_items-leads, events_due-leads, moments_due-leads, timers_due-leads, budgets_due-leads, quantum_spent-leads) depth 8

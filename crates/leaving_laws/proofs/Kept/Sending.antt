@@ -17,11 +17,21 @@ use Rattle.profile_machine.specs.Steps.{changes}
 use Rattle.profile_machine.specs.Sending.{open_abortable, is_not_future, is_conditional, is_to_be_cancelled, cancel_at_once, appoint_timeout, wait_for_call, wait_or_cancel, not_accepted, send_on, cancel_sent, begin_abortable, timeout_again, sent_not_begun_by, sent_not_begun, new_abortable_mark, abortable_in}
 use Rattle.machine_laws.proofs.Moves.{StepRelation, MoveRelation}
 use Rattle.leaving_laws.proofs.FineMoves.{GoodWorld, Naming, FineMoves}
-use Rattle.leaving_laws.proofs.Kept.Combinators.{Keeps, From, Alters, changes-keeps, looks-keeps, looks-from, keeps-from, then-from, nothing-keeps, says-keeps, then-keeps, unchanged-alters, when-keeps}
+use Rattle.leaving_laws.proofs.Kept.Combinators.{Keeps, From, changes-from, Alters, changes-keeps, looks-from, keeps-from, then-from, nothing-keeps, says-keeps, then-keeps, unchanged-alters}
 use Rattle.leaving_laws.proofs.Kept.Dispatching.{ready-keeps, block-keeps}
 use Rattle.leaving_laws.proofs.Kept.Appointments.{appoint-from}
 use Rattle.leaving_laws.proofs.Kept.Calls.{edit_call-alters, with_call-keeps, says_call-keeps, unqueued-alters, attempt_with-keeps}
-use Rattle.leaving_laws.proofs.Kept.CallEnds.{resume-keeps, deliver-keeps}
+use Rattle.leaving_laws.proofs.Kept.CallEnds.{resume-keeps, deliver-keeps, waits-call}
+use Rattle.leaving_laws.proofs.Kept.Frames.{push-alters, no_call}
+use Rattle.trace_text.specs.declared.events.Who.TheVariants as who
+use Rattle.profile_machine.specs.Tasks.{waiting_of}
+use Rattle.profile_machine.specs.CallEnds.{waits_for_call, abortable_depth}
+use Rattle.profile_machine.specs.Sending.{may_begin_abortable, is_triggering}
+use Rattle.profile_machine.specs.Dispatching.{ready}
+use Rattle.profile_machine.specs.Frames.{push, has_room}
+use Rattle.profile_machine.specs.Steps.{when, nothing, ◌▷◌}
+use Rattle.std.specs.Prelude.{is_none}
+use Rattle.profile_machine.specs.declared.world.lines.Part.TheVariants.{TheFinish}
 use Rattle.profile_machine.specs.Program.{form_of}
 use Rattle.profile_machine.specs.Frames.{new_frame}
 
@@ -32,35 +42,38 @@ last_is_false false true c d h k = absurd (false≢true (sym h))
 last_is_false false false true d h k = absurd (false≢true (sym h))
 last_is_false false false false d h k = h
 
-module _ {G : GoodWorld} {May Other : Naming} {R : StepRelation} {Q : MoveRelation} (moves : FineMoves G May Other R Q) where
-  pub open_abortable-alters : (p : Image) (name : Who) (select : StatementNo) (call : Option CallNo) → Other name → Alters G R (open_abortable p name select call)
-  unfolding Alters
-  open_abortable-alters p name select call other w good = moves.opens_abortable name (new_frame (new_abortable_mark select call) (abortable_in (form_of p select))) w good other refl refl
+first-true : (a b : Bool) → (a && b) ≡ true → a ≡ true
+first-true true b e = refl
+first-true false b e = absurd cc
 
-  pub cancel_at_once-keeps : (p : Image) (part : Part) (c : Call) → Keeps G R (cancel_at_once p part c)
+module _ {G : GoodWorld} {May Acts Pushes : Naming} {Stops : Type 0} {R : StepRelation} {Q : MoveRelation} (moves : FineMoves G May Acts Pushes Stops R Q) where
+  pub open_abortable-alters : (p : Image) (name : Who) (select : StatementNo) (call : Option CallNo) → May name → Alters G R (open_abortable p name select call)
+  open_abortable-alters p name select call may = push-alters moves name (new_frame (new_abortable_mark select call) (abortable_in (form_of p select))) may refl refl refl
+
+  pub cancel_at_once-keeps : (p : Image) (part : Part) (c : Call) → May (who.Task c.caller) → Keeps G R (cancel_at_once p part c)
   unfolding cancel_at_once
-  cancel_at_once-keeps p part c = search (attempt_with-keeps, resume-keeps, nothing-keeps)
+  cancel_at_once-keeps p part c may = search (attempt_with-keeps, resume-keeps, nothing-keeps)
 
   appoint_timeout-from : (c : CallNo) (moment : Option ℤ) (w : World) → G w → is_not_future w.time moment ≡ false → From R w (changes (appoint_timeout c moment))
   appoint_timeout-from c None w good later = keeps-from moves (changes (λ v. v)) w good (changes-keeps moves (λ v. v) (unchanged-alters moves))
   appoint_timeout-from c (Some moment) w good later = appoint-from moves (due_for.Timeout c) moment w good
 
-  pub wait_for_call-keeps : (c : Call) → Keeps G R (wait_for_call c)
+  pub wait_for_call-keeps : (c : Call) → May (who.Task c.caller) → Keeps G R (wait_for_call c)
   unfolding wait_for_call
-  wait_for_call-keeps c = search (block-keeps, moves.task_other)
+  wait_for_call-keeps c may = search (block-keeps)
 
-  wait_or_cancel-from : (p : Image) (part : Part) (c : Call) (test : Bool) (w : World) → G w → is_not_future w.time c.moment ≡ test → From R w (wait_or_cancel p part c test)
+  wait_or_cancel-from : (p : Image) (part : Part) (c : Call) (test : Bool) (w : World) → G w → May (who.Task c.caller) → is_not_future w.time c.moment ≡ test → From R w (wait_or_cancel p part c test)
   unfolding wait_or_cancel
-  wait_or_cancel-from p part c true w good is = keeps-from moves (cancel_at_once p part c) w good (cancel_at_once-keeps p part c)
-  wait_or_cancel-from p part c false w good is =
-      then-from moves (changes (appoint_timeout c.number c.moment)) (wait_for_call c) w (appoint_timeout-from c.number c.moment w good is) (wait_for_call-keeps c)
+  wait_or_cancel-from p part c true w good may is = keeps-from moves (cancel_at_once p part c) w good (cancel_at_once-keeps p part c may)
+  wait_or_cancel-from p part c false w good may is =
+      then-from moves (changes (appoint_timeout c.number c.moment)) (wait_for_call c) w (appoint_timeout-from c.number c.moment w good is) (wait_for_call-keeps c may)
 
-  pub not_accepted-keeps : (p : Image) (part : Part) (c : Call) (kind : CallKind) → Keeps G R (not_accepted p part c kind)
+  pub not_accepted-keeps : (p : Image) (part : Part) (c : Call) (kind : CallKind) → May (who.Task c.caller) → Keeps G R (not_accepted p part c kind)
   unfolding not_accepted
-  not_accepted-keeps p part c call_kind.Plain = search (wait_for_call-keeps)
-  not_accepted-keeps p part c call_kind.Conditional = search (cancel_at_once-keeps)
-  not_accepted-keeps p part c call_kind.Timed = looks-from moves _ (λ w good. wait_or_cancel-from p part c (is_not_future w.time c.moment) w good refl)
-  not_accepted-keeps p part c call_kind.Triggering = search (changes-keeps, open_abortable-alters, moves.task_other)
+  not_accepted-keeps p part c call_kind.Plain may = search (wait_for_call-keeps)
+  not_accepted-keeps p part c call_kind.Conditional may = search (cancel_at_once-keeps)
+  not_accepted-keeps p part c call_kind.Timed may = looks-from moves _ (λ w good. wait_or_cancel-from p part c (is_not_future w.time c.moment) w good may refl)
+  not_accepted-keeps p part c call_kind.Triggering may = search (changes-keeps, open_abortable-alters)
 
   pub send_on-keeps : (c : CallNo) (s : Sending) → Keeps G R (send_on c s)
   unfolding send_on
@@ -70,9 +83,32 @@ module _ {G : GoodWorld} {May Other : Naming} {R : StepRelation} {Q : MoveRelati
   unfolding cancel_sent
   cancel_sent-keeps p c = search (changes-keeps, unqueued-alters, then-keeps, says-keeps, deliver-keeps) depth 6
 
+  first-of-all : (a b c d e f g : Bool) → (a && b && c && d && e && f && g) ≡ true → f ≡ true
+  first-of-all true true true true true f g h = first-true f g h
+  first-of-all true true true true false f g h = absurd cc
+  first-of-all true true true false e f g h = absurd cc
+  first-of-all true true false d e f g h = absurd cc
+  first-of-all true false c d e f g h = absurd cc
+  first-of-all false b c d e f g h = absurd cc
+
+  -- who waits for the call opens its abortable part, and becomes ready
+  opens_part-from : (p : Image) (d : Call) (w : World) → G w → waits_for_call d.number (waiting_of w (who.Task d.caller)) ≡ true → From R w (changes (open_abortable p (who.Task d.caller) d.statement (Some d.number)) ▷ ready p TheFinish (who.Task d.caller))
+  opens_part-from p d w good is =
+      let name = who.Task d.caller in
+      let waiting = waits-call moves d.number (waiting_of w name) is in
+      let f = new_frame (new_abortable_mark d.statement (Some d.number)) (abortable_in (form_of p d.statement)) in
+      then-from moves (changes (open_abortable p name d.statement (Some d.number))) (ready p TheFinish name) w
+      (changes-from moves (push name f) w (moves.pushes name f w good (moves.waiting_pushes name w good waiting) (moves.waiting_free name w good waiting) refl refl (λ c e. no_call c None refl e)))
+      (ready-keeps moves p TheFinish name)
+
+  begins-from : (p : Image) (d : Call) (w : World) (test : Bool) → G w → may_begin_abortable w d ≡ test → From R w (when test (changes (open_abortable p (who.Task d.caller) d.statement (Some d.number)) ▷ ready p TheFinish (who.Task d.caller)))
+  begins-from p d w true good is =
+      opens_part-from p d w good (first-of-all (is_triggering d.kind) (is_none (abortable_depth w d)) (not d.firm) (not d.attempted) (is_none d.outcome) (waits_for_call d.number (waiting_of w (who.Task d.caller))) (has_room w (who.Task d.caller) 1 0) is)
+  begins-from p d w false good is = keeps-from moves nothing w good (nothing-keeps moves)
+
   pub begin_abortable-keeps : (p : Image) (c : CallNo) → Keeps G R (begin_abortable p c)
   unfolding begin_abortable
-  begin_abortable-keeps p c = search (with_call-keeps, looks-keeps, when-keeps, changes-keeps, open_abortable-alters, then-keeps, ready-keeps, moves.task_other) depth 8
+  begin_abortable-keeps p c = with_call-keeps moves c _ (λ d. looks-from moves _ (λ w good. begins-from p d w (may_begin_abortable w d) good refl))
 
   unless_firm-from : (firm : Bool) (c : Call) (w : World) → G w → (firm ≡ false → is_not_future w.time c.moment ≡ false) → From R w (changes (cond firm (λ v. v) (appoint_timeout c.number c.moment)))
   unless_firm-from true c w good later = keeps-from moves (changes (λ v. v)) w good (changes-keeps moves (λ v. v) (unchanged-alters moves))

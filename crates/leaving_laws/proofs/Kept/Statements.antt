@@ -1,7 +1,6 @@
 -- Simple and compound statements: each step keeps a relation that its parts keep.
 use Rattle.std.proofs.Common.{◌≡◌, refl}
 use Rattle.std.specs.Prelude.{ℕ, ℤ, pos, int_lt, Bool, true, false, List, Option, Some, None, Ok, Err}
-use Rattle.ann_base.specs.declared.identities.RegionNo.{RegionNo}
 use Rattle.trace_text.specs.declared.events.Who.{Who}
 use Rattle.trace_text.specs.declared.events.Who.TheVariants as who
 use Rattle.profile_machine.specs.declared.image.Image.{Image}
@@ -31,7 +30,7 @@ use Rattle.profile_machine.specs.Values.{Seen, seen_by, value, variable, object_
 use Rattle.profile_machine.specs.CallEnds.{store}
 use Rattle.profile_machine.specs.Statements.{null, assign, cells_from, put_cells, copy_cells, array_copied, assign_array, if_statement, go_to_alternative, case_statement, while_turn, loop_cell, put, first_bound, last_bound, bounds_set, for_bounds, first_turn, advance, later_turn, exit_where, exit_statement, block_statement, raise_again, wait_until, delay_to, delay_until, text_of_pieces, put_line}
 use Rattle.machine_laws.proofs.Moves.{StepRelation, MoveRelation, Puts}
-use Rattle.leaving_laws.proofs.FineMoves.{GoodWorld, Naming, FineMoves, Openings}
+use Rattle.leaving_laws.proofs.FineMoves.{GoodWorld, Naming, FineMoves}
 use Rattle.leaving_laws.proofs.Kept.Combinators.{Keeps, From, Alters, Gives, bind-gives, changes-keeps, keeps-from, looks-from, looks-keeps, nothing-keeps, ok-gives, said-keeps, sees-keeps, then-from, then-keeps}
 use Rattle.leaving_laws.proofs.Kept.Frames.{given_world-from, goes-keeps, raises-keeps, exit_loop-keeps, given-keeps, raise_if-keeps, with_room-keeps}
 use Rattle.leaving_laws.proofs.Kept.Dispatching.{to_tail-keeps, block-keeps}
@@ -39,18 +38,18 @@ use Rattle.leaving_laws.proofs.Kept.Scopes.{write_cell-alters, open_scope-alters
 use Rattle.leaving_laws.proofs.Kept.Appointments.{appoint-from}
 use Rattle.leaving_laws.proofs.Kept.CallEnds.{store-gives}
 
-module _ {G : GoodWorld} {May Other : Naming} {R : StepRelation} {Q : MoveRelation} (moves : FineMoves G May Other R Q) where
-  pub null-keeps : (p : Image) (name : Who) (s : StatementNo) → Keeps G R (null p name s)
+module _ {G : GoodWorld} {May Acts Pushes : Naming} {Stops : Type 0} {R : StepRelation} {Q : MoveRelation} (moves : FineMoves G May Acts Pushes Stops R Q) where
+  pub null-keeps : (p : Image) (name : Who) (s : StatementNo) → May name → Keeps G R (null p name s)
   unfolding null
-  null-keeps p name s = search (goes-keeps)
+  null-keeps p name s may = search (goes-keeps)
 
-  pub assign-keeps : (p : Image) (name : Who) (s : StatementNo) (target : VariableName) (e : ExprNo) → Keeps G R (assign p name s target e)
+  pub assign-keeps : (p : Image) (name : Who) (s : StatementNo) (target : VariableName) (e : ExprNo) → May name → Keeps G R (assign p name s target e)
   unfolding assign
-  assign-keeps p name s target e =
+  assign-keeps p name s target e may =
       looks-from moves _ (λ w good. let q = seen_by p w name in
       given_world-from moves Own name (variable q target >>= λ v. value q e >>= λ x. store p v x w) (λ _. goes name (next_of p s)) w good
       (bind-gives moves (variable q target) (λ v. value q e >>= λ x. store p v x w) w (λ v. bind-gives moves (value q e) (λ x. store p v x w) w (λ x. store-gives moves p v x w good)))
-      (λ _. goes-keeps moves name (next_of p s)))
+      (λ _. goes-keeps moves name (next_of p s) may))
 
   pub copy_cells-alters : (p : Image) (target source : Variable) → Alters G R (copy_cells p target source)
   unfolding Alters
@@ -63,29 +62,29 @@ module _ {G : GoodWorld} {May Other : Naming} {R : StepRelation} {Q : MoveRelati
       bind-gives moves (object_cell q source) (λ f. Ok (copy_cells p t f q.world)) q.world (λ f.
       ok-gives moves q.world (copy_cells p t f q.world) (copy_cells-alters p t f q.world good)))
 
-  pub assign_array-keeps : (p : Image) (name : Who) (s : StatementNo) (target source : ObjectName) → Keeps G R (assign_array p name s target source)
+  pub assign_array-keeps : (p : Image) (name : Who) (s : StatementNo) (target source : ObjectName) → May name → Keeps G R (assign_array p name s target source)
   unfolding assign_array
-  assign_array-keeps p name s target source =
+  assign_array-keeps p name s target source may =
       looks-from moves _ (λ w good.
       given_world-from moves Own name (array_copied p (seen_by p w name) target source) (λ _. goes name (next_of p s)) w good
-      (array_copied-gives p (seen_by p w name) target source good) (λ _. goes-keeps moves name (next_of p s)))
+      (array_copied-gives p (seen_by p w name) target source good) (λ _. goes-keeps moves name (next_of p s) may))
 
-  pub if_statement-keeps : (p : Image) (name : Who) (e : ExprNo) (first : StatementNo) (otherwise : Option StatementNo) → Keeps G R (if_statement p name e first otherwise)
+  pub if_statement-keeps : (p : Image) (name : Who) (e : ExprNo) (first : StatementNo) (otherwise : Option StatementNo) → May name → Keeps G R (if_statement p name e first otherwise)
   unfolding if_statement
-  if_statement-keeps p name e first otherwise = search (sees-keeps, given-keeps, goes-keeps) depth 6
+  if_statement-keeps p name e first otherwise may = search (sees-keeps, given-keeps, goes-keeps) depth 6
 
-  go_to_alternative-keeps : (name : Who) (first : Option StatementNo) → Keeps G R (go_to_alternative name first)
+  go_to_alternative-keeps : (name : Who) (first : Option StatementNo) → May name → Keeps G R (go_to_alternative name first)
   unfolding go_to_alternative
-  go_to_alternative-keeps name None = search (raises-keeps)
-  go_to_alternative-keeps name (Some s) = search (goes-keeps)
+  go_to_alternative-keeps name None may = search (raises-keeps)
+  go_to_alternative-keeps name (Some s) may = search (goes-keeps)
 
-  pub case_statement-keeps : (p : Image) (name : Who) (e : ExprNo) (alternatives : List CaseAlternative) → Keeps G R (case_statement p name e alternatives)
+  pub case_statement-keeps : (p : Image) (name : Who) (e : ExprNo) (alternatives : List CaseAlternative) → May name → Keeps G R (case_statement p name e alternatives)
   unfolding case_statement
-  case_statement-keeps p name e alternatives = search (sees-keeps, given-keeps, go_to_alternative-keeps) depth 6
+  case_statement-keeps p name e alternatives may = search (sees-keeps, given-keeps, go_to_alternative-keeps) depth 6
 
-  pub while_turn-keeps : (p : Image) (name : Who) (s : StatementNo) (e : ExprNo) (body : StatementNo) → Keeps G R (while_turn p name s e body)
+  pub while_turn-keeps : (p : Image) (name : Who) (s : StatementNo) (e : ExprNo) (body : StatementNo) → May name → Keeps G R (while_turn p name s e body)
   unfolding while_turn
-  while_turn-keeps p name s e body = search (sees-keeps, given-keeps, goes-keeps) depth 6
+  while_turn-keeps p name s e body may = search (sees-keeps, given-keeps, goes-keeps) depth 6
 
   pub put-alters : (v : Variable) (x : Value) → Alters G R (put v x)
   put-alters v x = search (write_cell-alters)
@@ -109,67 +108,67 @@ module _ {G : GoodWorld} {May Other : Naming} {R : StepRelation} {Q : MoveRelati
       bind-gives moves (loop_cell q d 0) (λ x. loop_cell q d 1 >>= bounds_put q reverse l h x) q.world (λ x.
       bind-gives moves (loop_cell q d 1) (bounds_put q reverse l h x) q.world (λ y. bounds_put-gives q reverse l h x y good))))
 
-  pub for_bounds-keeps : (p : Image) (name : Who) (d : DeclNo) (reverse : Bool) (low high : ExprNo) (turn : StatementNo) → Keeps G R (for_bounds p name d reverse low high turn)
+  pub for_bounds-keeps : (p : Image) (name : Who) (d : DeclNo) (reverse : Bool) (low high : ExprNo) (turn : StatementNo) → May name → Keeps G R (for_bounds p name d reverse low high turn)
   unfolding for_bounds
-  for_bounds-keeps p name d reverse low high turn =
+  for_bounds-keeps p name d reverse low high turn may =
       looks-from moves _ (λ w good.
       given_world-from moves Own name (bounds_set (seen_by p w name) d reverse low high) (λ _. goes name (Some turn)) w good
-      (bounds_set-gives (seen_by p w name) d reverse low high good) (λ _. goes-keeps moves name (Some turn)))
+      (bounds_set-gives (seen_by p w name) d reverse low high good) (λ _. goes-keeps moves name (Some turn) may))
 
-  pub first_turn-keeps : (p : Image) (name : Who) (s : StatementNo) (d : DeclNo) (reverse : Bool) (body : StatementNo) → Keeps G R (first_turn p name s d reverse body)
+  pub first_turn-keeps : (p : Image) (name : Who) (s : StatementNo) (d : DeclNo) (reverse : Bool) (body : StatementNo) → May name → Keeps G R (first_turn p name s d reverse body)
   unfolding first_turn
-  first_turn-keeps p name s d reverse body = search (sees-keeps, given-keeps, goes-keeps) depth 6
+  first_turn-keeps p name s d reverse body may = search (sees-keeps, given-keeps, goes-keeps) depth 6
 
-  pub advance-keeps : (name : Who) (x : Variable) (reverse : Bool) (v : Value) (body : StatementNo) (past : Option StatementNo) (test : Bool) → Keeps G R (advance name x reverse v body past test)
+  pub advance-keeps : (name : Who) (x : Variable) (reverse : Bool) (v : Value) (body : StatementNo) (past : Option StatementNo) (test : Bool) → May name → Keeps G R (advance name x reverse v body past test)
   unfolding advance
-  advance-keeps name x reverse v body past true = search (goes-keeps)
-  advance-keeps name x reverse v body past false = search (changes-keeps, put-alters, then-keeps, goes-keeps)
+  advance-keeps name x reverse v body past true may = search (goes-keeps)
+  advance-keeps name x reverse v body past false may = search (changes-keeps, put-alters, then-keeps, goes-keeps)
 
-  pub later_turn-keeps : (p : Image) (name : Who) (s : StatementNo) (d : DeclNo) (reverse : Bool) (body : StatementNo) → Keeps G R (later_turn p name s d reverse body)
+  pub later_turn-keeps : (p : Image) (name : Who) (s : StatementNo) (d : DeclNo) (reverse : Bool) (body : StatementNo) → May name → Keeps G R (later_turn p name s d reverse body)
   unfolding later_turn
-  later_turn-keeps p name s d reverse body = search (sees-keeps, given-keeps, advance-keeps) depth 6
+  later_turn-keeps p name s d reverse body may = search (sees-keeps, given-keeps, advance-keeps) depth 6
 
-  pub exit_where-keeps : (p : Image) (name : Who) (s loop : StatementNo) (test : Bool) → Keeps G R (exit_where p name s loop test)
+  pub exit_where-keeps : (p : Image) (name : Who) (s loop : StatementNo) (test : Bool) → May name → Keeps G R (exit_where p name s loop test)
   unfolding exit_where
-  exit_where-keeps p name s loop true = search (exit_loop-keeps)
-  exit_where-keeps p name s loop false = search (goes-keeps)
+  exit_where-keeps p name s loop true may = search (exit_loop-keeps)
+  exit_where-keeps p name s loop false may = search (goes-keeps)
 
-  pub exit_statement-keeps : (p : Image) (name : Who) (s loop : StatementNo) (e : Option ExprNo) → Keeps G R (exit_statement p name s loop e)
+  pub exit_statement-keeps : (p : Image) (name : Who) (s loop : StatementNo) (e : Option ExprNo) → May name → Keeps G R (exit_statement p name s loop e)
   unfolding exit_statement
-  exit_statement-keeps p name s loop None = search (exit_loop-keeps)
-  exit_statement-keeps p name s loop (Some e) = search (sees-keeps, given-keeps, exit_where-keeps) depth 6
+  exit_statement-keeps p name s loop None may = search (exit_loop-keeps)
+  exit_statement-keeps p name s loop (Some e) may = search (sees-keeps, given-keeps, exit_where-keeps) depth 6
 
   pub raise_again-keeps : (p : Image) (name : Who) (scope : ScopeNo) → Keeps G R (raise_again p name scope)
   unfolding raise_again
   raise_again-keeps p name scope = search (sees-keeps, given-keeps, raises-keeps) depth 6
 
-  wait_until-from : (p : Image) (name : Who) (until : ℤ) (test : Bool) (w : World) → G w → int_lt (pos w.time) until ≡ test → From R w (wait_until p name until test)
+  wait_until-from : (p : Image) (name : Who) (until : ℤ) (test : Bool) (w : World) → G w → May name → From R w (wait_until p name until test)
   unfolding wait_until
-  wait_until-from p (who.Task t) until true w good is =
-      then-from moves (changes (appoint (due_for.Delay t) until)) (block TheBlock (who.Task t) waits_for.Moment) w (appoint-from moves (due_for.Delay t) until w good) (search (block-keeps, moves.task_other))
-  wait_until-from p (who.Task t) until false w good is = keeps-from moves _ w good (search (to_tail-keeps, moves.other_may, moves.task_other))
-  wait_until-from p who.Agent until future w good is = keeps-from moves _ w good (search (nothing-keeps))
+  wait_until-from p (who.Task t) until true w good may =
+      then-from moves (changes (appoint (due_for.Delay t) until)) (block TheBlock (who.Task t) waits_for.Moment) w (appoint-from moves (due_for.Delay t) until w good) (search (block-keeps))
+  wait_until-from p (who.Task t) until false w good may = keeps-from moves _ w good (search (to_tail-keeps, moves.may_acts))
+  wait_until-from p who.Agent until future w good may = keeps-from moves _ w good (search (nothing-keeps))
 
-  pub delay_to-keeps : (p : Image) (name : Who) (until : ℤ) → Keeps G R (delay_to p name until)
+  pub delay_to-keeps : (p : Image) (name : Who) (until : ℤ) → May name → Keeps G R (delay_to p name until)
   unfolding delay_to
-  delay_to-keeps p name until = looks-from moves _ (λ w good. wait_until-from p name until (int_lt (pos w.time) until) w good refl)
+  delay_to-keeps p name until may = looks-from moves _ (λ w good. wait_until-from p name until (int_lt (pos w.time) until) w good may)
 
-  pub delay_until-keeps : (p : Image) (name : Who) (s : StatementNo) (until : Valued ℤ) → Keeps G R (delay_until p name s until)
+  pub delay_until-keeps : (p : Image) (name : Who) (s : StatementNo) (until : Valued ℤ) → May name → Keeps G R (delay_until p name s until)
   unfolding delay_until
-  delay_until-keeps p name s until = search (looks-keeps, raise_if-keeps, given-keeps, goes-keeps, then-keeps, delay_to-keeps) depth 7
+  delay_until-keeps p name s until may = search (looks-keeps, raise_if-keeps, given-keeps, goes-keeps, then-keeps, delay_to-keeps) depth 7
 
-  put_text-keeps : (p : Image) → Puts G R p → (name : Who) (s : StatementNo) (pieces : List Piece) (v : World) (text : Valued (List ℕ)) → form_of p s ≡ form.PutLine pieces → text_of_pieces (seen_by p v name) pieces ≡ text → Keeps G R (given Own name text (λ text. goes name (next_of p s) ▷ says Own (line.Put name text)))
-  put_text-keeps p puts name s pieces v (Ok text) is e =
-      then-keeps moves (goes name (next_of p s)) (says Own (line.Put name text)) (goes-keeps moves name (next_of p s))
+  put_text-keeps : (p : Image) → Puts G R p → (name : Who) (s : StatementNo) (pieces : List Piece) (v : World) (text : Valued (List ℕ)) → form_of p s ≡ form.PutLine pieces → text_of_pieces (seen_by p v name) pieces ≡ text → May name → Keeps G R (given Own name text (λ text. goes name (next_of p s) ▷ says Own (line.Put name text)))
+  put_text-keeps p puts name s pieces v (Ok text) is e may =
+      then-keeps moves (goes name (next_of p s)) (says Own (line.Put name text)) (goes-keeps moves name (next_of p s) may)
       (said-keeps moves Own (line.Put name text) (λ w good. puts.puts name s pieces text v w good is e))
-  put_text-keeps p puts name s pieces v (Err raised) is e = raises-keeps moves Own name raised
+  put_text-keeps p puts name s pieces v (Err raised) is e may = raises-keeps moves Own name raised
 
-  pub put_line-keeps : (p : Image) → Puts G R p → (name : Who) (s : StatementNo) (pieces : List Piece) → form_of p s ≡ form.PutLine pieces → Keeps G R (put_line p name s pieces)
+  pub put_line-keeps : (p : Image) → Puts G R p → (name : Who) (s : StatementNo) (pieces : List Piece) → form_of p s ≡ form.PutLine pieces → May name → Keeps G R (put_line p name s pieces)
   unfolding put_line
-  put_line-keeps p puts name s pieces is =
-      looks-keeps moves _ (λ v. put_text-keeps p puts name s pieces v (text_of_pieces (seen_by p v name) pieces) is refl)
+  put_line-keeps p puts name s pieces is may =
+      looks-keeps moves _ (λ v. put_text-keeps p puts name s pieces v (text_of_pieces (seen_by p v name) pieces) is refl may)
 
-module _ {G : GoodWorld} {May Other : Naming} {Owns : Who → RegionNo → Type 0} {R : StepRelation} {Q : MoveRelation} (moves : FineMoves G May Other R Q) (openings : Openings G May Other Owns R) where
+module _ {G : GoodWorld} {May Acts Pushes : Naming} {Stops : Type 0} {R : StepRelation} {Q : MoveRelation} (moves : FineMoves G May Acts Pushes Stops R Q) where
   pub block_statement-keeps : (p : Image) (name : Who) (s : StatementNo) (scope : ScopeNo) → May name → Keeps G R (block_statement p name s scope)
   unfolding block_statement
   block_statement-keeps p name s scope may = search (with_room-keeps, goes-keeps, then-keeps, looks-keeps, changes-keeps, open_scope-alters)

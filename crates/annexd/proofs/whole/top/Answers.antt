@@ -1,9 +1,8 @@
 use Rattle.std.proofs.Common.{inl, inr, IsTrue, arith}
-use Rattle.trace_text.specs.Laws.{DispatchOk}
+use Rattle.trace_text.specs.Laws.{DispatchOk, LeftOk}
 use Rattle.tick_lines.specs.TickLaws.{SwitchesOk, ReleasesOk, StuckOk, follows_tick_order}
 use Rattle.exclusion_laws.specs.ExclusionLaws.{EntersOk}
 use Rattle.handler_laws.specs.HandlerLaws.{ServedInTurn}
-use Rattle.leaving_laws.specs.LeavingLaws.{InTurn}
 use Rattle.commands.specs.Asked.{asked_of}
 use Rattle.commands.specs.Outside.{shelf_of, sink_of}
 use Rattle.commands.proofs.RunsTold.{headline, headline_under, load_told, acceptance}
@@ -41,7 +40,7 @@ returns g c =
       switches = law_told SwitchesOk c.runs_switch.ensures asked shelf out notes o status p n;
       releases = law_told ReleasesOk c.runs_release_in_order.ensures asked shelf out notes o status p n;
       in_turn = law_told ServedInTurn c.runs_serve_in_turn.ensures asked shelf out notes o status p n;
-      leaving = law_told InTurn c.runs_leave_in_turn.ensures asked shelf out notes o status p n;
+      leaving = law_told LeftOk c.runs_leave_rightly.ensures asked shelf out notes o status p n;
       stuck = law_told StuckOk c.runs_are_rightly_stuck.ensures asked shelf out notes o status p n;
       quiet = quiet o notes status n;
       refused_source = refused_source asked shelf out notes o status p n;

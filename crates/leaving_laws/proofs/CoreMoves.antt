@@ -59,17 +59,17 @@ claim-then acts loose t a b c xs ys p q waiting out silent =
     let n = who.Task t in
     let whole : taken_from n (taken n xs) ys ≡ false = sym (taken_from-append n false xs ys) ∙ out in
     let later : taken n ys ≡ false = by_test (taken n ys)
-        (λ e. absurd (let again : taken_from n (taken n xs) ys ≡ true = from_either (taken n xs) e (more-taken n ys e) in let never : true ≡ false = sym again ∙ whole in cc))
-        (λ f. f) in
+    (λ e. absurd (let again : taken_from n (taken n xs) ys ≡ true = from_either (taken n xs) e (more-taken n ys e) in let never : true ≡ false = sym again ∙ whole in cc))
+    (λ f. f) in
     let second = q waiting later silent in
     let before : taken n xs ≡ false = by_test (taken n xs)
-        (λ e. absurd (let again : taken_from n (taken n xs) ys ≡ true = ap (λ k. taken_from n k ys) e ∙ still-taken n ys second.1 in let never : true ≡ false = sym again ∙ whole in cc))
-        (λ f. f) in
+    (λ e. absurd (let again : taken_from n (taken n xs) ys ≡ true = ap (λ k. taken_from n k ys) e ∙ still-taken n ys second.1 in let never : true ≡ false = sym again ∙ whole in cc))
+    (λ f. f) in
     let first = p (ap (λ s. waits (waiting_in s)) (sym second.0) ∙ waiting) before (λ e. ap (λ s. waits_at_terminate (waiting_in s)) (sym second.0) ∙ silent e) in
     (second.0 ∙ first.0, Early-append n xs ys first.1 second.1, λ k. Quiet-append n xs ys (first.2 k) (second.2 k)) where
-  from_either : (k : Bool) → taken_from (who.Task t) false ys ≡ true → taken_from (who.Task t) true ys ≡ true → taken_from (who.Task t) k ys ≡ true
-  from_either true e f = f
-  from_either false e f = e
+      from_either : (k : Bool) → taken_from (who.Task t) false ys ≡ true → taken_from (who.Task t) true ys ≡ true → taken_from (who.Task t) k ys ≡ true
+      from_either true e f = f
+      from_either false e f = e
 
 -- lines that place nobody
 pub apart-readies : (n : Who) (line : Line) → is_apart line ≡ false → readies n line ≡ false
@@ -274,8 +274,8 @@ blocked-claim acts loose name waiting w t =
     let blocked = edit_task name (with_state (Blocked waiting)) w in
     let same = edited-state name without_kept_level blocked t (λ u. refl) (λ u. refl) ∙ other-state name (with_state (Blocked waiting)) w t (λ u. refl) e in
     claim-quiet acts loose t w (block_line name waiting ∷ []) (blocked_world name waiting w) same (refl, tt)) where
-  taken_out : same_who (who.Task t) name ≡ true → Claim acts loose t w (block_line name waiting ∷ []) (blocked_world name waiting w)
-  taken_out e a out c = absurd (let is : taken (who.Task t) (block_line name waiting ∷ []) ≡ true = ap (λ k. cond k true false) e in let never : true ≡ false = sym is ∙ out in cc)
+      taken_out : same_who (who.Task t) name ≡ true → Claim acts loose t w (block_line name waiting ∷ []) (blocked_world name waiting w)
+      taken_out e a out c = absurd (let is : taken (who.Task t) (block_line name waiting ∷ []) ≡ true = ap (λ k. cond k true false) e in let never : true ≡ false = sym is ∙ out in cc)
 
 -- a line that places somebody who does not wait, or acts
 pub placed-claim : (acts : Who → Bool) (loose : Bool) (t : TaskNo) (w : World) (line : Said) (name : Who) → ((n : Who) → readies n line.line ≡ same_who n name) → Awake name w → Claim acts loose t w (line ∷ []) w
@@ -296,14 +296,14 @@ silent-claim acts loose name accepts delay w t may =
     by_test (same_who (who.Task t) name)
     (λ e. silent e)
     (λ e. claim-same acts loose t w v (other-state name f w t (λ u. refl) e)) where
-  silent : same_who (who.Task t) name ≡ true → Claim acts loose t w [] (edit_task name (with_state (Blocked (waits_for.Select accepts delay true))) w)
-  silent e a out c =
-      let n = who.Task t in
-      let is : n ≡ name = who_path n name e in
-      let says : waits (waiting_of (edit_task name (with_state (Blocked (waits_for.Select accepts delay true))) w) n) ≡ true → waits_at_terminate (waiting_of (edit_task name (with_state (Blocked (waits_for.Select accepts delay true))) w) n) ≡ true =
+      silent : same_who (who.Task t) name ≡ true → Claim acts loose t w [] (edit_task name (with_state (Blocked (waits_for.Select accepts delay true))) w)
+      silent e a out c =
+          let n = who.Task t in
+          let is : n ≡ name = who_path n name e in
+          let says : waits (waiting_of (edit_task name (with_state (Blocked (waits_for.Select accepts delay true))) w) n) ≡ true → waits_at_terminate (waiting_of (edit_task name (with_state (Blocked (waits_for.Select accepts delay true))) w) n) ≡ true =
           subst (λ m. waits (waiting_of (edit_task m (with_state (Blocked (waits_for.Select accepts delay true))) w) n) ≡ true → waits_at_terminate (waiting_of (edit_task m (with_state (Blocked (waits_for.Select accepts delay true))) w) n) ≡ true) is
           (of_own (λ u. waits (waiting_in u.state) ≡ true → waits_at_terminate (waiting_in u.state) ≡ true) n (with_state (Blocked (waits_for.Select accepts delay true))) w (λ u. refl) (λ u k. refl) (λ k. absurd cc)) in
-      absurd (let no_silent = c (ap (λ m. loose && acts m) is ∙ may) in let never : true ≡ false = sym (says a) ∙ no_silent in cc)
+          absurd (let no_silent = c (ap (λ m. loose && acts m) is ∙ may) in let never : true ≡ false = sym (says a) ∙ no_silent in cc)
 
 pub silent-core : (acts : Who → Bool) (loose : Bool) (name : Who) (accepts : List StatementNo) (delay : Option StatementNo) (w : World) → Inv w → Free name w → (loose && acts name) ≡ true → let v = edit_task name (with_state (Blocked (waits_for.Select accepts delay true))) w in ((s : List Told) → Tied s w → Tied s v) → Core acts loose w [] v
 silent-core acts loose name accepts delay w inv free may tied = record {

@@ -30,7 +30,6 @@ use Rattle.leaving_laws.proofs.Modes.{acting, acting-self, Known, none, going}
 use Rattle.leaving_laws.proofs.Kept.Combinators.{Kept, Keeps, From, keeps-from, looks-keeps, nothing-keeps}
 use Rattle.leaving_laws.proofs.Kept.Handlers.{call_handler-keeps}
 use Rattle.leaving_laws.proofs.Kept.Act.{act_statement-keeps}
-
 use Rattle.leaving_laws.proofs.ActSteps.{Does, weak, handled-from, initialized-from, finalized-from, assigned-from, end_abortable-from, accepted-from}
 use Rattle.leaving_laws.proofs.ScopeSteps.{end_scope_mark-from}
 use Rattle.leaving_laws.proofs.ProtectedSteps.{end_in_protected-from}
@@ -130,11 +129,11 @@ blocked_claim a waiting t w v xs c =
     by_test (same_who (who.Task t) a)
     (λ e. taken_out e)
     (λ e. claim-then (acting a) false t w v (edit_task a without_kept_level v) xs (block_line a waiting ∷ []) (strict_claim a t w v xs (other_acts a t e) c)
-        (claim-quiet (acting a) false t v (block_line a waiting ∷ []) (edit_task a without_kept_level v) (edited-state a without_kept_level v t (λ u. refl) (λ u. refl)) (refl, tt))) where
-  taken_out : same_who (who.Task t) a ≡ true → Claim (acting a) false t w (xs ++ block_line a waiting ∷ []) (edit_task a without_kept_level v)
-  taken_out e waits_then out silent =
-      let n = who.Task t in
-      absurd (let is : taken n (xs ++ block_line a waiting ∷ []) ≡ true = taken_from-append n false xs (block_line a waiting ∷ []) ∙ ap (λ k. cond k true (taken (who.Task t) xs)) e in let never : true ≡ false = sym is ∙ out in cc)
+    (claim-quiet (acting a) false t v (block_line a waiting ∷ []) (edit_task a without_kept_level v) (edited-state a without_kept_level v t (λ u. refl) (λ u. refl)) (refl, tt))) where
+      taken_out : same_who (who.Task t) a ≡ true → Claim (acting a) false t w (xs ++ block_line a waiting ∷ []) (edit_task a without_kept_level v)
+      taken_out e waits_then out silent =
+          let n = who.Task t in
+          absurd (let is : taken n (xs ++ block_line a waiting ∷ []) ≡ true = taken_from-append n false xs (block_line a waiting ∷ []) ∙ ap (λ k. cond k true (taken (who.Task t) xs)) e in let never : true ≡ false = sym is ∙ out in cc)
 
 blocking-settled : (a : Who) (waiting : Waiting) (w v : World) (xs : List Said) → Does a w xs v → Settled a w (xs ++ block_line a waiting ∷ []) (edit_task a without_kept_level v)
 blocking-settled a waiting w v xs h =

@@ -239,13 +239,13 @@ module _ (acts : Who → Bool) (loose : Bool) {May Pushes : Naming} {Stops : Typ
   added-claim : (t : Task) (w : World) (k : TaskNo) → waiting_in t.state ≡ None → Claim acts loose k w [] (add_task t w)
   added-claim t w k still a b c =
       let kept : waits (waiting_in (state_in (add_task t w) k)) ≡ true → state_in (add_task t w) k ≡ state_in w k =
-          of_added (λ u. waits (waiting_in u.state) ≡ true → u.state ≡ state_in w k) (who.Task k) t w (λ e. absurd (let never : false ≡ true = sym (ap waits still) ∙ e in cc)) (λ e. refl) in
+      of_added (λ u. waits (waiting_in u.state) ≡ true → u.state ≡ state_in w k) (who.Task k) t w (λ e. absurd (let never : false ≡ true = sym (ap waits still) ∙ e in cc)) (λ e. refl) in
       (kept a, tt, λ j. tt)
 
   forgotten-claim : (name : Who) (w : World) (k : TaskNo) → Claim acts loose k w [] (forget_task name w)
   forgotten-claim name w k a b c =
       let kept : waits (waiting_in (state_in (forget_task name w) k)) ≡ true → state_in (forget_task name w) k ≡ state_in w k =
-          of_forgotten (λ u. waits (waiting_in u.state) ≡ true → u.state ≡ state_in w k) (who.Task k) name w (λ e. absurd cc) (λ e. refl) in
+      of_forgotten (λ u. waits (waiting_in u.state) ≡ true → u.state ≡ state_in w k) (who.Task k) name w (λ e. absurd cc) (λ e. refl) in
       (kept a, tt, λ j. tt)
 
   -- lines round a change

@@ -50,7 +50,6 @@ use Rattle.leaving_laws.proofs.Kept.Priorities.{set_deferred-keeps}
 use Rattle.leaving_laws.proofs.Kept.Protected.{edit_top_protected-alters, begin_call-keeps, body_opens-keeps}
 use Rattle.leaving_laws.proofs.Kept.Sending.{send_on-keeps}
 use Rattle.leaving_laws.proofs.Kept.Serving.{end_release-keeps, behind_action-from, settle_sent-keeps, begins_part-keeps}
-
 use Rattle.leaving_laws.proofs.ActSteps.{Does, weak, joined, told-from, silent-from, steady-then, top_steady, steady-free}
 use Rattle.leaving_laws.proofs.FreeWorlds.{OwnCalls, CallerIn}
 

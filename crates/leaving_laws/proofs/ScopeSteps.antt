@@ -41,7 +41,6 @@ use Rattle.leaving_laws.proofs.Kept.Combinators.{Kept, Keeps, From, keeps-from, 
 use Rattle.leaving_laws.proofs.Kept.Scopes.{end_scope-alters}
 use Rattle.leaving_laws.proofs.Kept.Controlled.{finalize-from}
 use Rattle.leaving_laws.proofs.Kept.Tasking.{behind_scope-keeps, behind_task-keeps, raised_behind-keeps, leaves_on-keeps}
-
 use Rattle.leaving_laws.proofs.ActSteps.{Does, weak, told-from, silent-from}
 use Rattle.leaving_laws.proofs.FreeWorlds.{Below, waits_as, alike-good}
 use Rattle.leaving_laws.proofs.CoreMoves.{awake-as}

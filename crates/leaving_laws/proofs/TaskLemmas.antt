@@ -153,9 +153,9 @@ gone-all Pr n m [] same none = none
 gone-all Pr n m (z ∷ zs) same none =
     let is : n ≡ m = same_who-path n m same in
     all-step Pr n m z (without (is_who m) zs) (same_who m z.who) (ap (λ k. same_who k z.who) is) (gone-all Pr n m zs same none) where
-  all-step : (Pr : Task → Type 0) (n m : Who) (z : Task) (left_over : List Task) (b : Bool) → same_who n z.who ≡ b → Of Pr (find (is_who n) left_over) → Of Pr (find (is_who n) (cond (not b) (z ∷ left_over) left_over))
-  all-step Pr n m z left_over true e h = h
-  all-step Pr n m z left_over false e h = subst (λ d. Of Pr (cond d (Some z) (find (is_who n) left_over))) (sym e) h
+      all-step : (Pr : Task → Type 0) (n m : Who) (z : Task) (left_over : List Task) (b : Bool) → same_who n z.who ≡ b → Of Pr (find (is_who n) left_over) → Of Pr (find (is_who n) (cond (not b) (z ∷ left_over) left_over))
+      all-step Pr n m z left_over true e h = h
+      all-step Pr n m z left_over false e h = subst (λ d. Of Pr (cond d (Some z) (find (is_who n) left_over))) (sym e) h
 
 other-gone : (Pr : Task → Type 0) (n m : Who) (xs : List Task) → same_who n m ≡ false → Of Pr (find (is_who n) xs) → Of Pr (find (is_who n) (without (is_who m) xs))
 other-gone Pr n m [] apart h = h

@@ -1,0 +1,177 @@
+-- The parts of an instant beside the effect of the action that ended: each step keeps what its parts keep.
+use Rattle.ann_base.specs.declared.identities.CallNo.{CallNo}
+use Rattle.ann_base.specs.declared.identities.TaskNo.{TaskNo}
+use Rattle.ceiling_runs.proofs.Kept.CallEnds.{deliver-keeps, trigger_at-keeps}
+use Rattle.ceiling_runs.proofs.Kept.Calls.{unqueued-alters, with_call-keeps}
+use Rattle.ceiling_runs.proofs.Kept.Frames.{goes-keeps, open_sequence-keeps}
+use Rattle.ceiling_runs.proofs.Kept.Handlers.{clear_timer-alters, interrupt-keeps, release-keeps}
+use Rattle.ceiling_runs.proofs.Kept.Scopes.{drop_appointment-alters}
+use Rattle.ceiling_runs.proofs.Kept.Tasks.{plain-alters, says-keeps}
+use Rattle.ceiling_runs.proofs.Kept.Unwinding.{unwind-keeps}
+use Rattle.ceiling_runs.proofs.LevelMoves.{BaseMoves, Sleeping}
+use Rattle.ceiling_runs.proofs.Triples.{Alters, At, Ends, Keeps, Leads, State, With, changes-keeps, for_each-keeps, for_some-keeps, looks-keeps, looks-with, nothing-keeps, then-keeps, then-leads, when-leads}
+use Rattle.profile_machine.specs.Appointments.{first_due}
+use Rattle.profile_machine.specs.Dispatching.{active, ready, to_tail}
+use Rattle.profile_machine.specs.Frames.{any_protected}
+use Rattle.profile_machine.specs.Instant.{all_due, come_due, deliver_kept_interrupt, end_delay, expire, expire_timer, has_spent_quantum, interrupt_comes, is_flag, is_the_same_due, items_due, no_budget_due, no_timers_due, run_out, script_item, spend_quantum, take_delay, take_due, take_item, time_out, with_kept_interrupt, with_masked, with_port, with_script}
+use Rattle.profile_machine.specs.Masters.{terminate}
+use Rattle.profile_machine.specs.Program.{is_robin_level, next_of}
+use Rattle.profile_machine.specs.Steps.{Step, changes, for_each, for_some, looks, nothing, says, ◌▷◌}
+use Rattle.profile_machine.specs.Tasks.{is_runnable, task_of, waiting_of}
+use Rattle.profile_machine.specs.Values.{budget_of, timer_of, value}
+use Rattle.profile_machine.specs.Words.{is_empty}
+use Rattle.profile_machine.specs.declared.image.Image.{Image}
+use Rattle.profile_machine.specs.declared.run_data.Item.{Item}
+use Rattle.profile_machine.specs.declared.run_data.Item.TheVariants as item
+use Rattle.profile_machine.specs.declared.world.World.{World}
+use Rattle.profile_machine.specs.declared.world.appointments.Appointment.{Appointment}
+use Rattle.profile_machine.specs.declared.world.appointments.Due.{Due}
+use Rattle.profile_machine.specs.declared.world.appointments.Due.TheVariants as due_for
+use Rattle.profile_machine.specs.declared.world.appointments.TimerSetting.{TimerSetting}
+use Rattle.profile_machine.specs.declared.world.calls.Outcome.TheVariants as call_ended
+use Rattle.profile_machine.specs.declared.world.lines.Line.TheVariants as line
+use Rattle.profile_machine.specs.declared.world.lines.Part.TheVariants.{Own}
+use Rattle.profile_machine.specs.declared.world.tasks.Waiting.{Waiting}
+use Rattle.profile_machine.specs.declared.world.tasks.Waiting.TheVariants as waits_for
+use Rattle.std.proofs.Common.{refl, subst, sym, ◌≡◌}
+use Rattle.std.specs.Prelude.{Bool, List, None, Option, Some, [], eqb, false, int_le, length, not, pos, suc, true, zero, ℕ, ℤ, ◌&&◌, ◌∷◌}
+use Rattle.trace_text.specs.declared.events.Who.{Who}
+use Rattle.trace_text.specs.declared.events.Who.TheVariants as who
+
+-- what all of them keep, in which lines are of one part
+pub record OtherMoves (p : Image) (Sleeps : Sleeping) (N : State) : Type 0 where
+  pub base : BaseMoves p (λ part name. part ≡ Own) Sleeps N
+  pub readies : (name : Who) → Keeps N (ready p Own name)
+  pub tails : (t : TaskNo) → Leads (With N (λ w. is_runnable (task_of w (who.Task t)) ≡ true)) N (to_tail p Own (who.Task t))
+
+first_of_six : (a b c d e f : Bool) → (a && b && c && d && e && f) ≡ true → a ≡ true
+first_of_six true b c d e f h = refl
+first_of_six false b c d e f h = cc
+
+module _ {p : Image} {Sleeps : Sleeping} {N : State} (moves : OtherMoves p Sleeps N) where
+  with_port-alters : (n : ℕ) (value : ℤ) → Alters N (with_port n value)
+  with_port-alters n value = plain-alters moves.base.quiet (with_port n value) (λ w. refl) (λ w. refl) (λ w. refl) (λ w. refl) (λ w. refl)
+
+  with_masked-alters : (n : ℕ) (flag : Bool) → Alters N (with_masked n flag)
+  with_masked-alters n flag = plain-alters moves.base.quiet (with_masked n flag) (λ w. refl) (λ w. refl) (λ w. refl) (λ w. refl) (λ w. refl)
+
+  with_kept_interrupt-alters : (n : ℕ) (flag : Bool) → Alters N (with_kept_interrupt n flag)
+  with_kept_interrupt-alters n flag = plain-alters moves.base.quiet (with_kept_interrupt n flag) (λ w. refl) (λ w. refl) (λ w. refl) (λ w. refl) (λ w. refl)
+
+  with_script-alters : (script : List (ℤ × Item)) → Alters N (with_script script)
+  with_script-alters script = plain-alters moves.base.quiet (with_script script) (λ w. refl) (λ w. refl) (λ w. refl) (λ w. refl) (λ w. refl)
+
+  interrupt_comes-keeps : (n : ℕ) (test : Bool) → Keeps N (interrupt_comes p n test)
+  unfolding interrupt_comes
+  interrupt_comes-keeps n true = then-keeps _ _ (says-keeps moves.base.quiet Own (line.Masked n) refl) (changes-keeps _ (with_kept_interrupt-alters n true))
+  interrupt_comes-keeps n false = interrupt-keeps moves.base refl n
+
+  deliver_kept_interrupt-keeps : (n : ℕ) (test : Bool) → Keeps N (deliver_kept_interrupt p n test)
+  unfolding deliver_kept_interrupt
+  deliver_kept_interrupt-keeps n true = then-keeps _ _ (changes-keeps _ (with_kept_interrupt-alters n false)) (interrupt-keeps moves.base refl n)
+  deliver_kept_interrupt-keeps n false = nothing-keeps
+
+  script_item-keeps : (it : Item) → Keeps N (script_item p it)
+  unfolding script_item
+  script_item-keeps (item.Interrupt n) = looks-keeps _ (λ w. interrupt_comes-keeps n (is_flag w.masked n))
+  script_item-keeps (item.Port n value) = then-keeps _ _ (changes-keeps _ (with_port-alters n value)) (says-keeps moves.base.quiet Own (line.Port n value) refl)
+  script_item-keeps (item.Mask n) = then-keeps _ _ (changes-keeps _ (with_masked-alters n true)) (says-keeps moves.base.quiet Own (line.Mask n) refl)
+  script_item-keeps (item.Unmask n) =
+      then-keeps _ _ (changes-keeps _ (with_masked-alters n false)) (then-keeps _ _ (says-keeps moves.base.quiet Own (line.Unmask n) refl) (looks-keeps _ (λ w. deliver_kept_interrupt-keeps n (is_flag w.kept_interrupts n))))
+
+  take_item_if-keeps : (again : Step) (x : ℤ × Item) (xs : List (ℤ × Item)) (test : Bool) → Keeps N again → Keeps N (elim test as (λ _. Step) [ true ↦ changes (with_script xs) ▷ script_item p x.1 ▷ again | false ↦ nothing ])
+  take_item_if-keeps again x xs true kept = then-keeps _ _ (changes-keeps _ (with_script-alters xs)) (then-keeps _ _ (script_item-keeps x.1) kept)
+  take_item_if-keeps again x xs false kept = nothing-keeps
+
+  take_item-keeps : (now : ℕ) (again : Step) (script : List (ℤ × Item)) → Keeps N again → Keeps N (take_item p now again script)
+  take_item-keeps now again [] kept = nothing-keeps
+  take_item-keeps now again (x ∷ xs) kept = take_item_if-keeps again x xs (int_le x.0 (pos now)) kept
+
+  items_due-keeps : (fuel : ℕ) → Keeps N (items_due fuel p)
+  unfolding items_due
+  items_due-keeps zero = nothing-keeps
+  items_due-keeps (suc fuel) = looks-keeps _ (λ w. take_item-keeps w.time (items_due fuel p) w.script (items_due-keeps fuel))
+
+  pub script_items-keeps : Keeps N (looks (λ w. items_due (length w.script) p))
+  script_items-keeps = looks-keeps _ (λ w. items_due-keeps (length w.script))
+
+  -- ---- appointments
+
+  take_delay-keeps : (name : Who) (waiting : Option Waiting) → Keeps N (take_delay p name waiting)
+  unfolding take_delay
+  take_delay-keeps name (Some (waits_for.Select accepts (Some delay) terminate)) = goes-keeps moves.base.quiet name (next_of p delay)
+  take_delay-keeps name _ = nothing-keeps
+
+  end_delay-keeps : (name : Who) → Keeps N (end_delay p name)
+  unfolding end_delay
+  end_delay-keeps name = then-keeps _ _ (looks-keeps _ (λ w. take_delay-keeps name (waiting_of w name))) (then-keeps _ _ (moves.readies name) (open_sequence-keeps moves.base.quiet p Own name))
+
+  time_out-keeps : (c : CallNo) → Keeps N (time_out p c)
+  unfolding time_out
+  time_out-keeps c =
+      with_call-keeps moves.base.quiet c _ (λ d. then-keeps _ _ (changes-keeps _ (unqueued-alters moves.base.quiet p d))
+      (then-keeps _ _ (says-keeps moves.base.quiet Own (line.Cancel d.caller c) refl) (deliver-keeps moves.base Own c call_ended.Cancelled (λ name. refl))))
+
+  come_due-keeps : (due : Due) → Keeps N (come_due p due)
+  unfolding come_due
+  come_due-keeps (due_for.Event n h) = release-keeps moves.base refl h (Some n)
+  come_due-keeps (due_for.Delay t) = end_delay-keeps (who.Task t)
+  come_due-keeps (due_for.Timeout c) = time_out-keeps c
+  come_due-keeps (due_for.Trigger t depth) = then-keeps _ _ (trigger_at-keeps moves.base.quiet Own t depth) (unwind-keeps moves.base Own (who.Task t) refl)
+
+  take_due-keeps : (again : Step) (a : Option Appointment) → Keeps N again → Keeps N (take_due p again a)
+  take_due-keeps again None kept = nothing-keeps
+  take_due-keeps again (Some a) kept = then-keeps _ _ (changes-keeps _ (drop_appointment-alters moves.base.quiet (is_the_same_due a.due))) (then-keeps _ _ (come_due-keeps a.due) kept)
+
+  all_due-keeps : (fuel : ℕ) (events : Bool) → Keeps N (all_due fuel p events)
+  unfolding all_due
+  all_due-keeps zero events = nothing-keeps
+  all_due-keeps (suc fuel) events = looks-keeps _ (λ w. take_due-keeps (all_due fuel p events) (first_due events w.time w.appointments) (all_due-keeps fuel events))
+
+  pub appointments_due-keeps : (events : Bool) → Keeps N (looks (λ w. all_due (length w.appointments) p events))
+  appointments_due-keeps events = looks-keeps _ (λ w. all_due-keeps (length w.appointments) events)
+
+  -- ---- timers, budgets and quanta
+
+  expire-keeps : (k : ℕ) (setting : Option TimerSetting) → Keeps N (expire p k setting)
+  unfolding expire
+  expire-keeps k None = nothing-keeps
+  expire-keeps k (Some s) = then-keeps _ _ (changes-keeps _ (clear_timer-alters moves.base.quiet k)) (release-keeps moves.base refl s.handler (Some k))
+
+  expire_timer-keeps : (k : ℕ) → Keeps N (expire_timer p k)
+  unfolding expire_timer
+  expire_timer-keeps k = looks-keeps _ (λ w. expire-keeps k (timer_of w k).setting)
+
+  no_timers_due-alters : Alters N no_timers_due
+  no_timers_due-alters = plain-alters moves.base.quiet no_timers_due (λ w. refl) (λ w. refl) (λ w. refl) (λ w. refl) (λ w. refl)
+
+  pub timers_due-keeps : Keeps N (looks (λ w. for_each w.timers_due (expire_timer p)) ▷ changes no_timers_due)
+  timers_due-keeps = then-keeps _ _ (looks-keeps _ (λ w. for_each-keeps w.timers_due (expire_timer p) expire_timer-keeps)) (changes-keeps _ no_timers_due-alters)
+
+  run_out-keeps : (b : ℕ) → Keeps N (run_out p b)
+  unfolding run_out
+  run_out-keeps b = looks-keeps _ (λ w. for_some-keeps (budget_of w b).handler _ (λ h. release-keeps moves.base refl h (Some b)))
+
+  no_budget_due-alters : Alters N no_budget_due
+  no_budget_due-alters = plain-alters moves.base.quiet no_budget_due (λ w. refl) (λ w. refl) (λ w. refl) (λ w. refl) (λ w. refl)
+
+  pub budgets_due-keeps : Keeps N (looks (λ w. for_some w.budget_due (run_out p)) ▷ changes no_budget_due)
+  budgets_due-keeps = then-keeps _ _ (looks-keeps _ (λ w. for_some-keeps w.budget_due (run_out p) run_out-keeps)) (changes-keeps _ no_budget_due-alters)
+
+  spent-at : (v : World) (t : TaskNo) → has_spent_quantum p (task_of v (who.Task t)) ≡ true → Leads (At N v) N (says Own (line.Quantum t) ▷ to_tail p Own (who.Task t))
+  unfolding Ends
+  spent-at v t is =
+      let u = task_of v (who.Task t) in
+      let running : is_runnable u ≡ true = first_of_six (is_runnable u) (eqb u.quantum 0) (is_robin_level p u.base) (eqb (active p u) u.base) (is_empty u.inherited) (not (any_protected u.frames)) is in
+      then-leads (says Own (line.Quantum t)) (to_tail p Own (who.Task t))
+      (record { runs = λ w said h. (moves.base.quiet.says Own (line.Quantum t) w said refl h.0, subst (λ x. is_runnable (task_of x (who.Task t)) ≡ true) (sym h.1) running) })
+      (moves.tails t)
+
+  spend_quantum-keeps : (by : Option Who) → Keeps N (spend_quantum p by)
+  unfolding spend_quantum
+  spend_quantum-keeps None = nothing-keeps
+  spend_quantum-keeps (Some who.Agent) = nothing-keeps
+  spend_quantum-keeps (Some (who.Task t)) = looks-with _ (λ v said h. when-leads (has_spent_quantum p (task_of v (who.Task t))) _ (spent-at v t) (λ w s k. k.0))
+
+  pub quantum_spent-keeps : Keeps N (looks (λ w. spend_quantum p w.ran))
+  quantum_spent-keeps = looks-keeps _ (λ w. spend_quantum-keeps w.ran)

@@ -1,0 +1,72 @@
+-- Scopes that begin and end, their cells, and appointments: each step keeps what its parts keep.
+use Rattle.ceiling_runs.proofs.Kept.Frames.{push-alters}
+use Rattle.ceiling_runs.proofs.Kept.Tasks.{plain-alters}
+use Rattle.ceiling_runs.proofs.LevelMoves.{Silences}
+use Rattle.ceiling_runs.proofs.SameLemmas.{same_self}
+use Rattle.ceiling_runs.proofs.Triples.{Alters, State, unchanged-alters}
+use Rattle.ceiling_runs.specs.Cores.{Same}
+use Rattle.profile_machine.specs.Appointments.{appoint, drop_appointment, drop_delay, is_delay_of}
+use Rattle.profile_machine.specs.Frames.{new_frame}
+use Rattle.profile_machine.specs.Notation.{scope}
+use Rattle.profile_machine.specs.Program.{declaration_of, scope_of}
+use Rattle.profile_machine.specs.Scopes.{begin_scope, draw_region, edit_cells, end_scope, new_scope_mark, next_id, open_scope, region_of_next, write_cell}
+use Rattle.profile_machine.specs.Statements.{cells_from, copy_cells, put, put_cells}
+use Rattle.profile_machine.specs.Values.{moment, value}
+use Rattle.profile_machine.specs.declared.image.Image.{Image}
+use Rattle.profile_machine.specs.declared.numbers.ScopeNo.{ScopeNo}
+use Rattle.profile_machine.specs.declared.values.Value.{Value}
+use Rattle.profile_machine.specs.declared.world.World.{World}
+use Rattle.profile_machine.specs.declared.world.appointments.Due.{Due}
+use Rattle.profile_machine.specs.declared.world.marks.Purpose.{Purpose}
+use Rattle.profile_machine.specs.declared.world.scopes.Beginning.{Beginning}
+use Rattle.profile_machine.specs.declared.world.scopes.ScopeId.{ScopeId}
+use Rattle.profile_machine.specs.declared.world.scopes.Variable.{Variable}
+use Rattle.std.proofs.Common.{refl}
+use Rattle.std.specs.Prelude.{Bool, List, false, slice_set, true, ℕ, ℤ}
+use Rattle.trace_text.specs.declared.events.Who.{Who}
+use Rattle.trace_text.specs.declared.events.Who.TheVariants as who
+
+pub draw_region-same : (kept : Bool) (w : World) → Same w (draw_region kept w)
+draw_region-same true w = record { tasks = refl; agent = refl; objects = refl; drawn_tasks = refl; drawn_objects = refl }
+draw_region-same false w = same_self w
+
+module _ {X : State} (quiet : Silences X) where
+  pub edit_cells-alters : (id : ScopeId) (f : List Value → List Value) → Alters X (edit_cells id f)
+  edit_cells-alters id f = plain-alters quiet (edit_cells id f) (λ w. refl) (λ w. refl) (λ w. refl) (λ w. refl) (λ w. refl)
+
+  pub write_cell-alters : (id : ScopeId) (place : ℕ) (value : Value) → Alters X (write_cell id place value)
+  write_cell-alters id place value = edit_cells-alters id (λ cells. slice_set cells place value)
+
+  pub begin_scope-alters : (p : Image) (name : Who) (scope : ScopeNo) (b : Beginning) → Alters X (begin_scope p name scope b)
+  begin_scope-alters p name scope b = plain-alters quiet (begin_scope p name scope b) (λ w. refl) (λ w. refl) (λ w. refl) (λ w. refl) (λ w. refl)
+
+  pub end_scope-alters : (id : ScopeId) → Alters X (end_scope id)
+  end_scope-alters id = record { turns = λ w said h. quiet.ends_scope id w said h }
+
+  pub open_scope-alters : (p : Image) (name : Who) (scope : ScopeNo) (b : Beginning) (purpose : Purpose) → Alters X (open_scope p name scope b purpose)
+  open_scope-alters p name scope b purpose = record {
+    turns = λ w said h.
+        let begun = begin_scope p name scope b w in
+        let drawn = draw_region (scope_of p scope).kept begun in
+        let f = new_frame (new_scope_mark (next_id w) (region_of_next (scope_of p scope).kept w) purpose) (scope_of p scope).first in
+        (push-alters quiet name f).turns drawn said (quiet.silently begun drawn said (draw_region-same (scope_of p scope).kept begun) ((begin_scope-alters p name scope b).turns w said h));
+  }
+
+  pub appoint-alters : (due : Due) (moment : ℤ) → Alters X (appoint due moment)
+  appoint-alters due moment = plain-alters quiet (appoint due moment) (λ w. refl) (λ w. refl) (λ w. refl) (λ w. refl) (λ w. refl)
+
+  pub drop_appointment-alters : (test : Due → Bool) → Alters X (drop_appointment test)
+  drop_appointment-alters test = plain-alters quiet (drop_appointment test) (λ w. refl) (λ w. refl) (λ w. refl) (λ w. refl) (λ w. refl)
+
+  pub drop_delay-alters : (name : Who) → Alters X (drop_delay name)
+  drop_delay-alters (who.Task t) = drop_appointment-alters (is_delay_of t)
+  drop_delay-alters who.Agent = unchanged-alters
+
+pub cells-same : (id : ScopeId) (f : List Value → List Value) (w : World) → Same w (edit_cells id f w)
+cells-same id f w = record { tasks = refl; agent = refl; objects = refl; drawn_tasks = refl; drawn_objects = refl }
+
+pub put-same : (v : Variable) (x : Value) (w : World) → Same w (put v x w)
+put-same v x w = cells-same v.within (λ cells. slice_set cells v.place x) w
+
+pub copy_cells-same : (p : Image) (target source : Variable) (w : World) → Same w (copy_cells p target source w)
+copy_cells-same p target source w = cells-same target.within (put_cells target.place (cells_from w source (declaration_of p source.declared).cells)) w

@@ -1,2 +1,4 @@
 pub mod MasterLaws
+pub mod ScopeLaws
+pub mod ServeLaws
 pub mod ValueLaws

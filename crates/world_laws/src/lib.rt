@@ -1,11 +1,13 @@
-//! Worlds that runs reach: laws of the profile machine's definitions alone, which hold of every program, script and bound. Each
-//! is the contract of a function that does nothing.
+//! Worlds, above all those that runs reach: laws of the profile machine's definitions alone, which hold of every program, script
+//! and bound. Each is the contract of a function that does nothing.
 //!
 //! `proofs/KeptFacts.antt` has the skeleton: a fact of worlds that the opening has and every change keeps, changes told apart by
 //! whom they touch, holds of every world that a run reaches.
 #![tactic(auto)]
 
 ghost use Rattle.world_laws.specs.MasterLaws.{MastersEnd};
+ghost use Rattle.world_laws.specs.ScopeLaws.{OutwardsEnd};
+ghost use Rattle.world_laws.specs.ServeLaws.{ServesEnd};
 ghost use Rattle.world_laws.specs.ValueLaws.{ValuesEnd};
 
 /// The regions on which a task depends (ISO/IEC 8652:2012, 9.3) come to an end before the machine has counted as many of them as
@@ -20,4 +22,19 @@ pub fn masters_end()
 #[tactic(auto, using(crate::proofs::ValueCounts::values_end))]
 pub fn values_end()
     ensures { ValuesEnd }
+{}
+
+/// Where each call that is queued at a protected object stands in the queue of its own entry, the machine serves the next of them
+/// (ISO/IEC 8652:2012, 9.5.3) before it has counted as many turns as there are calls, until the body of one opens or none is left:
+/// with more to count down the same is done and said.
+#[tactic(auto, using(crate::proofs::ServeCounts::serves_end))]
+pub fn serves_end()
+    ensures { ServesEnd }
+{}
+
+/// Whatever is sought from a scope in use outwards (ISO/IEC 8652:2012, 8.2) is found before the machine has counted as many scopes
+/// as are in use, or it is not found at all: with more to count down the answer is the same.
+#[tactic(auto, using(crate::proofs::ScopeCounts::outwards_end))]
+pub fn outwards_end()
+    ensures { OutwardsEnd }
 {}

@@ -1,0 +1,10 @@
+pub mod Numbering
+pub mod Beginning
+pub mod ScopeFolds
+pub mod Counting
+pub mod Statements
+pub mod Sequences
+pub mod Units
+pub mod Positions
+pub mod Lines
+pub mod Own

@@ -31,10 +31,10 @@ use Rattle.profile_machine.specs.CallEnds.{deliver}
 use Rattle.profile_machine.specs.Protected.{is_open_entry, served_next, begun_call, begin_call, body_opens, has_room_for_body, serve_call}
 use Rattle.profile_machine.specs.Program.{protected_unit_of}
 use Rattle.profile_machine.specs.Serving.{part_of_start, settle_sent, begins_part, chosen_is_sent, serve_chosen, serve_next, serve_calls}
-use Rattle.profile_machine.specs.WellFormed.{same_owner, is_queued_call, queue_is_right, queues_from}
+use Rattle.profile_machine.specs.WellFormed.{same_owner, is_queued_call, queue_is_right, queues_from, task_queues_are_right, all_adjacent}
 use Rattle.profile_machine.specs.Priorities.{is_queued}
 use Rattle.machine_laws.proofs.Kept.Combinators.{world_behind}
-use Rattle.world_laws.specs.ServeLaws.{queues_are_its_own, ServesEnd}
+use Rattle.world_laws.specs.ServeLaws.{queues_are_its_own, ServesEnd, RightQueuesAreOwn}
 use Rattle.world_laws.proofs.NumberedLists.{found-key, edited-same}
 use Rattle.world_laws.proofs.CallLists.{call_number, counted, counted-length, counted-less, same-call, in_queues, AtSome, at-some, some-at, gone-at}
 use Rattle.world_laws.proofs.FewerCalls.{object_key, queue_in, directed, directed_in, Fewer, Lessens, Reduces, fewer-then, edit_call-reduces, unqueued-reduces, nothing-lessens, deliver-lessens, sent_not_begun-lessens}
@@ -265,3 +265,35 @@ unfolding serve_calls
 serves_end p name m w own sent more said =
     let low : measure m.object w ≤ length w.calls = counted-length (in_queues (queues_of (object_of w m.object))) w.calls in
     serves-enough p name m (suc (length w.calls)) (suc (length w.calls) + more) (omega arith) w sent said (are-directed p w m.object own) (omega (arith, low))
+
+-- ---- where all queues are right
+
+module _ (p : Image) (w : World) (o : ObjectNo) where
+  abbrev has_own : Object → Bool
+  has_own x = queues_from p w (owned_by.Object x.number) 0 x.queues
+
+  own-first : (b : Bool) (x y : Object) (xs : List Object) → is_object o x ≡ b → cond b (Some x) (find (is_object o) xs) ≡ Some y → has_own x ≡ true → (find (is_object o) xs ≡ Some y → queues_from p w (owned_by.Object o) 0 y.queues ≡ true)
+      → queues_from p w (owned_by.Object o) 0 y.queues ≡ true
+  own-first true x y xs is e own onward =
+      let one : x ≡ y = cc in
+      let number : x.number ≡ o = ap (λ (n : ℕ). record { 0 = n }) (sym (eqb-true o.0 x.number.0 is)) in
+      subst (λ z. queues_from p w (owned_by.Object o) 0 z.queues ≡ true) one (subst (λ n. queues_from p w (owned_by.Object n) 0 x.queues ≡ true) number own)
+  own-first false x y xs is e own onward = onward e
+
+  own-found : (xs : List Object) (y : Object) → list_all has_own xs ≡ true → find (is_object o) xs ≡ Some y → queues_from p w (owned_by.Object o) 0 y.queues ≡ true
+  own-found [] y all e = absurd cc
+  own-found (x ∷ xs) y all e =
+      let parts = and_parts (has_own x) (list_all has_own xs) all in
+      own-first (is_object o x) x y xs refl e parts.0 (own-found xs y parts.1)
+
+  own-of : (found : Option Object) → object_of w o ≡ found → list_all has_own w.objects ≡ true → queues_from p w (owned_by.Object o) 0 (queues_of found) ≡ true
+  own-of None is all = refl
+  own-of (Some x) is all = own-found w.objects x all is
+
+pub right_queues_are_own : RightQueuesAreOwn
+right_queues_are_own p w o h =
+    let tasks = list_all (λ t. task_queues_are_right p w t.who t.queues) w.tasks in
+    let objects = list_all (has_own p w o) w.objects in
+    let calls = all_adjacent (λ a b. ltb b.number.0 a.number.0) w.calls in
+    let parts = and_parts (tasks && objects) calls h in
+    own-of p w o (object_of w o) refl (and_parts tasks objects parts.0).1

@@ -10,7 +10,7 @@ use Rattle.profile_machine.specs.declared.world.lines.Said.{Said}
 use Rattle.profile_machine.specs.declared.world.marks.ProtectedMark.{ProtectedMark}
 use Rattle.profile_machine.specs.Values.{object_of, queues_of}
 use Rattle.profile_machine.specs.Serving.{serve_next, serve_calls}
-use Rattle.profile_machine.specs.WellFormed.{queues_from}
+use Rattle.profile_machine.specs.WellFormed.{queues_from, queues_are_right}
 
 -- each call that is queued at the object is there, and stands in the queue of the entry to which it is directed
 abbrev pub queues_are_its_own : Image → World → ObjectNo → Bool
@@ -20,3 +20,7 @@ queues_are_its_own p w o = queues_from p w (owned_by.Object o) 0 (queues_of (obj
 abbrev pub ServesEnd : Type 0
 ServesEnd = (p : Image) (name : Who) (m : ProtectedMark) (w : World) → IsTrue (queues_are_its_own p w m.object) → (sent : Option CallNo) (more : ℕ) (said : List Said)
     → serve_next (suc (length w.calls) + more) p name m sent w said ≡ serve_calls p name m sent w said
+
+-- where all queues are right, as they are in a world that is well formed, those of each object are its own
+abbrev pub RightQueuesAreOwn : Type 0
+RightQueuesAreOwn = (p : Image) (w : World) (o : ObjectNo) → IsTrue (queues_are_right p w) → IsTrue (queues_are_its_own p w o)

@@ -7,7 +7,7 @@
 
 ghost use Rattle.world_laws.specs.MasterLaws.{MastersEnd};
 ghost use Rattle.world_laws.specs.ScopeLaws.{OutwardsEnd};
-ghost use Rattle.world_laws.specs.ServeLaws.{ServesEnd};
+ghost use Rattle.world_laws.specs.ServeLaws.{RightQueuesAreOwn, ServesEnd};
 ghost use Rattle.world_laws.specs.ValueLaws.{ValuesEnd};
 
 /// The regions on which a task depends (ISO/IEC 8652:2012, 9.3) come to an end before the machine has counted as many of them as
@@ -30,6 +30,13 @@ pub fn values_end()
 #[tactic(auto, using(crate::proofs::ServeCounts::serves_end))]
 pub fn serves_end()
     ensures { ServesEnd }
+{}
+
+/// Where the queues of a world are right, as they are where it is well formed, each call that is queued at a protected object stands
+/// in the queue of its own entry.
+#[tactic(auto, using(crate::proofs::ServeCounts::right_queues_are_own))]
+pub fn right_queues_are_own()
+    ensures { RightQueuesAreOwn }
 {}
 
 /// Whatever is sought from a scope in use outwards (ISO/IEC 8652:2012, 8.2) is found before the machine has counted as many scopes

@@ -1,47 +1,28 @@
--- A law at each line of every run that follows where the lines of regions and controlled objects come rightly. Before an instant
--- who ran does not wait; behind it nobody waits and is placed, so whom a tock chooses does not wait.
-use Rattle.std.proofs.Common.{◌≡◌, ℕ, ℤ, zero, suc, Bool, true, false, ◌&&◌, ◌||◌, List, [], ◌∷◌, ◌++◌, Option, Some, None, refl, sym, ap, subst, ◌∙◌, eq-eqb}
+-- A law at each line of every run that follows where the lines of regions and controlled objects come rightly.
+use Rattle.std.proofs.Common.{◌≡◌, ℕ, ℤ, zero, suc, Bool, true, false, ◌&&◌, List, [], ◌∷◌, ◌++◌, Option, Some, None, refl, sym, subst}
 use Rattle.std.specs.Prelude.{IsTrue}
-use Rattle.ann_base.specs.declared.identities.TaskNo.{TaskNo}
 use Rattle.trace_text.specs.declared.events.Event.{Event}
 use Rattle.trace_text.specs.declared.events.Event.TheVariants as written
 use Rattle.trace_text.specs.declared.events.Ended.{Ended}
 use Rattle.trace_text.specs.declared.events.Ended.TheVariants as why
-use Rattle.trace_text.specs.declared.events.Who.{Who}
-use Rattle.trace_text.specs.declared.events.Who.TheVariants as who
 use Rattle.trace_text.specs.Queue.{Line, AtEachLine, follows_lines}
 use Rattle.trace_text.specs.Laws.{remember}
 use Rattle.trace_text.proofs.LawsFollowed.{lines_hold}
 use Rattle.profile_machine.specs.declared.image.Image.{Image}
 use Rattle.profile_machine.specs.declared.run_data.Item.{Item}
 use Rattle.profile_machine.specs.declared.world.World.{World}
-use Rattle.profile_machine.specs.declared.world.tasks.Placed.{Placed}
-use Rattle.profile_machine.specs.Words.{same_who}
-use Rattle.profile_machine.specs.Tasks.{waiting_in}
-use Rattle.profile_machine.specs.Dispatching.{choose, head_of}
 use Rattle.profile_machine.specs.Instant.{instant}
 use Rattle.profile_machine.specs.Run.{Ran, opening, blank_world, tock, stop, at_tick, stopped, then_runs, run_from, run_of}
-use Rattle.machine_laws.proofs.PlaceLemmas.{openings_place_by_lines, instants_place_by_lines, tocks_place_nobody, tock_lines-places}
-use Rattle.machine_laws.proofs.LineLemmas.{tocks_say_ticks}
-use Rattle.machine_laws.proofs.TimeLemmas.{opening-runner}
 use Rattle.tick_lines.proofs.LineByLine.{seen_behind, seen_behind-append, Follow, Follow-append}
-use Rattle.leaving_laws.proofs.FineMoves.{waits}
 use Rattle.leaving_laws.proofs.FreeWorlds.{Inv}
-use Rattle.leaving_laws.proofs.PlacingLines.{is_placed}
-use Rattle.leaving_laws.proofs.RegionLines.{Told, Right, NotLeaving, by_test}
+use Rattle.leaving_laws.proofs.RegionLines.{Told, Right, NotLeaving}
 use Rattle.leaving_laws.proofs.LeftLines.{told_event, behind, tells}
 use Rattle.leaving_laws.proofs.RegionTies.{Tied}
 use Rattle.leaving_laws.proofs.Telling.{Follows, RightEvent, behind_all}
-use Rattle.leaving_laws.proofs.CoreMoves.{state_in}
-use Rattle.leaving_laws.proofs.Kept.Combinators.{Leads}
-use Rattle.leaving_laws.proofs.Kept.Run.{tock-parts, before_tick, before_tick-leads}
-use Rattle.leaving_laws.proofs.Following.{Following, RanAwake, resting, tock_moves, instant-following, opening-following}
+use Rattle.leaving_laws.proofs.Following.{Following, RanAwake, instant-following, opening-following}
+use Rattle.leaving_laws.proofs.WakingRuns.{NobodyWaits, opening-unplaced, instant-unplaced, tock-unplaced, tock-following, chosen-awake, opening-awake}
 
 -- ---- worlds
-
--- nobody waits for a meeting and is placed
-abbrev NobodyWaits : World → Type 0
-NobodyWaits w = (t : TaskNo) → waits (waiting_in (state_in w t)) ≡ true → is_placed (who.Task t) w.places ≡ false
 
 -- nothing is drawn in the first world
 blank-tied : (p : Image) (script : List (ℤ × Item)) → Tied [] (blank_world p script)
@@ -57,44 +38,6 @@ blank-tied p script = record {
     final_drawn = λ o high. refl;
   };
 }
-
-opening-unplaced : (p : Image) (script : List (ℤ × Item)) → NobodyWaits (opening p script).0
-opening-unplaced p script t e =
-    ap (is_placed (who.Task t)) (openings_place_by_lines p script) ∙ (opening-following p script).placed t e [] (λ k. refl)
-
-instant-unplaced : (p : Image) (w : World) → NobodyWaits w → Following w (instant p w).1 (instant p w).0 → NobodyWaits (instant p w).0
-instant-unplaced p w h f t e = ap (is_placed (who.Task t)) (instants_place_by_lines p w) ∙ f.placed t e w.places (h t)
-
-tock-unplaced : (p : Image) (w : World) → NobodyWaits w → Following w (tock p w).1 (tock p w).0 → NobodyWaits (tock p w).0
-tock-unplaced p w h f t e =
-    ap (is_placed (who.Task t)) (tocks_place_nobody p w ∙ sym (tock_lines-places (tock p w).1 w.places (tocks_say_ticks p w))) ∙ f.placed t e w.places (h t)
-
-tock-following : (p : Image) (w : World) → Inv w → Following w (tock p w).1 (tock p w).0
-unfolding Leads
-tock-following p w inv =
-    subst (λ (t : World × List Event). Following w t.1 t.0) (sym (tock-parts p w))
-    (let before = before_tick p (choose w) w in
-    let k : Following w before.1 before.0 = before_tick-leads resting tock_moves p (choose w) w (inv, tt) in
-    record { shown = λ s h. let f = k.shown s h in (f.0, f.1); placed = λ t e places g. k.placed t e places g; inv = k.inv })
-
--- whom a tock chooses is placed
-same_self : (a : Who) → same_who a a ≡ true
-same_self who.Agent = refl
-same_self (who.Task t) = eq-eqb t.0 t.0 refl
-
-head-placed : (places : List Placed) (name : Who) → head_of places ≡ Some name → is_placed name places ≡ true
-head-placed [] name e = absurd cc
-head-placed (x ∷ xs) name e = let same : x.who ≡ name = cc in subst (λ n. (same_who n x.who || is_placed n xs) ≡ true) same (ap (λ b. b || is_placed x.who xs) (same_self x.who))
-
-chosen-awake : (p : Image) (w : World) → NobodyWaits (tock p w).0 → RanAwake (tock p w).0
-chosen-awake p w h (who.Task t) e =
-    let v = (tock p w).0 in
-    let ran : v.ran ≡ choose w = ap (λ a. a.0.ran) (tock-parts p w) in
-    let first : is_placed (who.Task t) v.places ≡ true = ap (is_placed (who.Task t)) (tocks_place_nobody p w) ∙ head-placed w.places (who.Task t) (sym ran ∙ e) in
-    by_test (waits (waiting_in (state_in v t)))
-    (λ k. absurd (let never : true ≡ false = sym first ∙ h t k in cc))
-    (λ k. k)
-chosen-awake p w h who.Agent e = refl
 
 -- ---- lines
 
@@ -181,9 +124,6 @@ module _ (W : List Told → Type 0) (first : W []) (next : (s : List Told) (e : 
       let later = tocks-lead_on p (seen_behind remember law past i.1) i.0 behind_instant.shows in
       turn-follows w.time past i t (run_from fuel p bound t.0) (stop p bound i.0) behind_instant.follow later.follow
       (run_from-follows fuel p bound t.0 (seen_behind remember law (seen_behind remember law past i.1) t.1) later.shows (chosen-awake p i.0 later.shows.unplaced))
-
-  opening-awake : (p : Image) (script : List (ℤ × Item)) → RanAwake (opening p script).0
-  opening-awake p script name e = absurd (let none : None ≡ Some name = sym (opening-runner p script) ∙ e in cc)
 
   run-follows : (p : Image) (script : List (ℤ × Item)) (bound : ℕ) → follows_lines remember law [] (run_of p script bound) ≡ true
   run-follows p script bound =

@@ -18,5 +18,6 @@ pub mod ScopeSteps
 pub mod ProtectedSteps
 pub mod EffectSteps
 pub mod Following
+pub mod WakingRuns
 pub mod LeavingRuns
 pub mod InTurnLemmas

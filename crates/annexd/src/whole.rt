@@ -1,9 +1,8 @@
 //! All that the program does.
 ghost use Rattle.std.specs.Prelude.{◌≡◌, ◌≢◌, ◌≤◌, ◌⊎◌, IsTrue, None, codes};
 ghost use Rattle.ann_base.specs.Outside.{Rose, extended};
-ghost use Rattle.trace_text.specs.Laws.{DispatchOk, LeftOk};
+ghost use Rattle.trace_text.specs.Laws.{DispatchOk, ExclusiveOk, LeftOk};
 ghost use Rattle.tick_lines.specs.TickLaws.{SwitchesOk, ReleasesOk, StuckOk, follows_tick_order};
-ghost use Rattle.exclusion_laws.specs.ExclusionLaws.{EntersOk};
 ghost use Rattle.handler_laws.specs.HandlerLaws.{ServedInTurn};
 ghost use Rattle.commands.specs.Asked.{asked_of};
 ghost use Rattle.commands.specs.Outside.{shelf_of, sink_of};
@@ -13,7 +12,7 @@ ghost use Rattle.commands.specs.Statuses.{Headline, HeadlineUnder, LoadTold, Acc
 use crate::noting::conclude;
 use crate::performing::perform;
 use ann_base::{Shelf, Sink};
-use exclusion_laws::runs_exclude;
+use exit_laws::runs_keep_exclusion;
 use handler_laws::runs_serve_in_turn;
 use leaving_laws::runs_leave_rightly;
 use machine_laws::dispatching::runs_dispatch;
@@ -84,14 +83,14 @@ pub fn top<S: Shelf, K: Sink>(
         (shelf_of S.files S.faults shelf.old shelf.new)
         (sink_of K.held K.faults out.old out.new) result }
     // The lines of a run that is asked for keep these laws: who runs is the first of the ready queues; a protected
-    // action begins only beside those that it may be open with; effects of a tick come first, then who runs, then who is
+    // action begins only beside those that it may be open with, and one that ends was open; effects of a tick come first, then who runs, then who is
     // served; a `run` line is a switch; releases are taken up in their order, and one is served before the next is; a
     // region is left once, and its controlled objects are finalized in the reverse of their order; a run is stuck only where
     // nobody is ready.
     ensures dispatch { result ≤ 3 → LawTold DispatchOk (asked_of words.now)
         (shelf_of S.files S.faults shelf.old shelf.new)
         (sink_of K.held K.faults out.old out.new) }
-    ensures exclusion { result ≤ 3 → LawTold EntersOk (asked_of words.now)
+    ensures exclusion { result ≤ 3 → LawTold ExclusiveOk (asked_of words.now)
         (shelf_of S.files S.faults shelf.old shelf.new)
         (sink_of K.held K.faults out.old out.new) }
     ensures in_tick_order { result ≤ 3 → LawTold (λ lines. IsTrue (follows_tick_order lines)) (asked_of words.now)
@@ -186,7 +185,7 @@ pub fn top<S: Shelf, K: Sink>(
     verdicts_tell();
     lines_tell();
     runs_dispatch();
-    runs_exclude();
+    runs_keep_exclusion();
     runs_are_in_tick_order();
     runs_switch();
     runs_release_in_order();

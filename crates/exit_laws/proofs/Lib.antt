@@ -6,3 +6,4 @@ pub mod Kept
 pub mod ExitTies
 pub mod ExitMoves
 pub mod ExitRuns
+pub mod AwakeRuns

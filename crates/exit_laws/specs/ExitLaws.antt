@@ -44,3 +44,7 @@ exits_rightly actions event = true
 -- where nobody acts that waits for an entry call, a run keeps the whole law of exclusion
 abbrev pub FreeRunsKeepExclusion : Type 0
 FreeRunsKeepExclusion = (p : Image) (script : List (ℤ × Item)) (bound : ℕ) → RunnersAreFree p script bound → ExclusiveOk (run_of p script bound)
+
+-- no task acts while it waits for an entry call, so every run keeps it
+abbrev pub RunsKeepExclusion : Type 0
+RunsKeepExclusion = (p : Image) (script : List (ℤ × Item)) (bound : ℕ) → ExclusiveOk (run_of p script bound)

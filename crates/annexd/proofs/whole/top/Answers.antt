@@ -1,7 +1,6 @@
 use Rattle.std.proofs.Common.{inl, inr, IsTrue, arith}
-use Rattle.trace_text.specs.Laws.{DispatchOk, LeftOk}
+use Rattle.trace_text.specs.Laws.{DispatchOk, ExclusiveOk, LeftOk}
 use Rattle.tick_lines.specs.TickLaws.{SwitchesOk, ReleasesOk, StuckOk, follows_tick_order}
-use Rattle.exclusion_laws.specs.ExclusionLaws.{EntersOk}
 use Rattle.handler_laws.specs.HandlerLaws.{ServedInTurn}
 use Rattle.commands.specs.Asked.{asked_of}
 use Rattle.commands.specs.Outside.{shelf_of, sink_of}
@@ -35,7 +34,7 @@ returns g c =
       statuses = known_status asked shelf out notes o status p n;
       run = done_told asked shelf out notes o status p n;
       dispatch = law_told DispatchOk c.runs_dispatch.ensures asked shelf out notes o status p n;
-      exclusion = law_told EntersOk c.runs_exclude.ensures asked shelf out notes o status p n;
+      exclusion = law_told ExclusiveOk c.runs_keep_exclusion.ensures asked shelf out notes o status p n;
       in_tick_order = law_told (λ lines. IsTrue (follows_tick_order lines)) c.runs_are_in_tick_order.ensures asked shelf out notes o status p n;
       switches = law_told SwitchesOk c.runs_switch.ensures asked shelf out notes o status p n;
       releases = law_told ReleasesOk c.runs_release_in_order.ensures asked shelf out notes o status p n;

@@ -1,0 +1,15 @@
+pub mod Nothing
+pub mod Operators
+pub mod Operands
+pub mod Chains
+pub mod Actuals
+pub mod Attributes
+pub mod Entities
+pub mod Denotations
+pub mod Expressions
+pub mod StatementValues
+pub mod FormalNames
+pub mod Variables
+pub mod Calls
+pub mod Sources
+pub mod Assignments

@@ -1,0 +1,9 @@
+pub mod PartOrder
+pub mod QueueLemmas
+pub mod StepLemmas
+pub mod EditLemmas
+pub mod BesideLemmas
+pub mod RunLemmas
+pub mod ActingLemmas
+pub mod WaitLemmas
+pub mod WaitRuns

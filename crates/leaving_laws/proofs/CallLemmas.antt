@@ -54,7 +54,7 @@ edited-before c k f d xs (Some t) is a b e = set-before c k t (f t) d xs is (a t
 
 pub edited-caller : (c : CallNo) (f : Call → Call) (calls : List Call) (drawn : ℕ) → ((x : Call) → (f x).number ≡ x.number) → ((x : Call) → (f x).caller ≡ x.caller) → (name : Who) (k : CallNo) → CallerIn calls drawn k name → CallerIn (edit_where (is_call c) f calls) drawn k name
 edited-caller c f calls drawn a b name k h =
-    (h.0, λ d e. let q = edited-before c k f d calls (find (is_call c) calls) refl a b e in ap (λ t. who.Task t) (sym q.same) ∙ h.1 q.call q.found)
+    (h.0, λ d e. let q = edited-before c k f d calls (find (is_call c) calls) refl a b e in ap (λ t. who.Task t) (sym q.same) ∙ h.1 q.call q.found, h.2)
 
 not_newer : (k n : ℕ) → k ≤ n → eqb k (suc n) ≡ false
 not_newer k n h = by (eqb k (suc n)) refl where
@@ -65,7 +65,7 @@ not_newer k n h = by (eqb k (suc n)) refl where
 pub added-caller : (c : Call) (calls : List Call) (drawn : ℕ) (name : Who) (k : CallNo) → CallerIn calls drawn k name → CallerIn (numbered (suc drawn) c ∷ calls) (suc drawn) k name
 added-caller c calls drawn name k h =
     let low : k.0 ≤ drawn = h.0 in
-    (omega arith, λ d e. h.1 d (sym (ap (λ b. cond b (Some (numbered (suc drawn) c)) (find (is_call k) calls)) (not_newer k.0 drawn low)) ∙ e))
+    (omega arith, λ d e. h.1 d (sym (ap (λ b. cond b (Some (numbered (suc drawn) c)) (find (is_call k) calls)) (not_newer k.0 drawn low)) ∙ e), h.2)
 
 none-left : (c : CallNo) (xs : List Call) → find (is_call c) (without (is_call c) xs) ≡ None
 none-left c [] = refl
@@ -87,4 +87,4 @@ gone-before c k d (z ∷ zs) e = step (is_call c z) (is_call k z) refl refl e (�
   step false false a is e onward = onward (sym (ap (λ b. cond b (Some z) (find (is_call k) (without (is_call c) zs))) is) ∙ e)
 
 pub gone-caller : (c : CallNo) (calls : List Call) (drawn : ℕ) (name : Who) (k : CallNo) → CallerIn calls drawn k name → CallerIn (without (is_call c) calls) drawn k name
-gone-caller c calls drawn name k h = (h.0, λ d e. h.1 d (gone-before c k d calls e))
+gone-caller c calls drawn name k h = (h.0, λ d e. h.1 d (gone-before c k d calls e), h.2)

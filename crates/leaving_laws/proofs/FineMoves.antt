@@ -158,9 +158,14 @@ waiting_now who.Agent w = false
 abbrev pub Awake : Who → World → Type 0
 Awake name w = waiting_now name w ≡ false
 
--- somebody made this call, if it is there
+-- the agent makes no call
+abbrev pub MakesCalls : Who → Type 0
+MakesCalls (who.Task n) = Unit {0}
+MakesCalls who.Agent = ⊥
+
+-- a task made this call, if it is there
 abbrev pub Caller : CallNo → Who → World → Type 0
-Caller c name w = (c.0 ≤ w.drawn.calls) × ((d : Call) → call_of w c ≡ Some d → who.Task d.caller ≡ name)
+Caller c name w = (c.0 ≤ w.drawn.calls) × ((d : Call) → call_of w c ≡ Some d → who.Task d.caller ≡ name) × MakesCalls name
 
 -- ---- lines that are said only together with what they tell
 

@@ -16,7 +16,7 @@ use Rattle.profile_machine.specs.Words.{set_where, first_of_list, option_or_else
 use Rattle.profile_machine.specs.Tasks.{task_at, task_of, edit_task_found, edit_task, is_who, waiting_in, nobody}
 use Rattle.profile_machine.specs.Frames.{without_first, edit_first, goes_on}
 use Rattle.profile_machine.specs.Calls.{is_call}
-use Rattle.leaving_laws.proofs.FineMoves.{Alike, nature, being_left_in, is_special, own_call_of, top_leaving, waits}
+use Rattle.leaving_laws.proofs.FineMoves.{Alike, nature, being_left_in, is_special, own_call_of, top_leaving, waits, MakesCalls}
 use Rattle.leaving_laws.proofs.TaskLemmas.{found-holds, who_path}
 
 -- ---- one task
@@ -30,7 +30,7 @@ Sound [] = Unit {0}
 Sound (f ∷ fs) = (being_left_in f.mark ≡ true → is_some f.onward ≡ false) × Below f.mark fs × Sound fs
 
 abbrev pub CallerIn : List Call → ℕ → CallNo → Who → Type 0
-CallerIn calls drawn c name = (c.0 ≤ drawn) × ((d : Call) → find (is_call c) calls ≡ Some d → who.Task d.caller ≡ name)
+CallerIn calls drawn c name = (c.0 ≤ drawn) × ((d : Call) → find (is_call c) calls ≡ Some d → who.Task d.caller ≡ name) × MakesCalls name
 
 abbrev pub OwnCalls : List Call → ℕ → Who → List Frame → Type 0
 OwnCalls calls drawn name [] = Unit {0}

@@ -25,7 +25,7 @@ use Rattle.leaving_laws.proofs.CoreMoves.{state_in}
 use Rattle.leaving_laws.proofs.Kept.Combinators.{Leads}
 use Rattle.leaving_laws.proofs.Kept.Run.{tock-parts, before_tick, before_tick-leads}
 use Rattle.leaving_laws.proofs.Following.{Following, RanAwake, resting, tock_moves, instant-following, opening-following}
-use Rattle.machine_laws.specs.Reached.{Comes, opened, ticked}
+use Rattle.machine_laws.specs.Reached.{Comes, opened, ticked, Reached, before, behind}
 
 -- nobody waits for a meeting and is placed
 abbrev pub NobodyWaits : World → Type 0
@@ -88,3 +88,8 @@ comes-awake p script bound _ (ticked w c e) =
     let g = tock-following p i f.inv in
     let unplaced = tock-unplaced p i (instant-unplaced p w before.unplaced f) g in
     record { inv = g.inv; unplaced = unplaced; awake = chosen-awake p i unplaced }
+
+-- and behind it
+pub reached-inv : (p : Image) (script : List (ℤ × Item)) (bound : ℕ) (w : World) → Reached p script bound w → Inv w
+reached-inv p script bound _ (before w c) = (comes-awake p script bound w c).inv
+reached-inv p script bound _ (behind w c) = let h = comes-awake p script bound w c in (instant-following p w h.inv h.awake).inv

@@ -69,7 +69,7 @@ newest-found n c calls = ap (λ t. cond t (Some (numbered n c)) (find (is_call (
 
 -- a call that was made just now is there, with its caller
 new-caller : (c : Call) (w : World) → Caller (record { 0 = suc w.drawn.calls }) (who.Task c.caller) (add_call c w)
-new-caller c w = (omega arith, λ d e. let same : numbered (suc w.drawn.calls) c ≡ d = some_call (numbered (suc w.drawn.calls) c) d (sym (newest-found (suc w.drawn.calls) c w.calls) ∙ e) in ap (λ (x : Call). who.Task x.caller) (sym same))
+new-caller c w = (omega arith, λ d e. let same : numbered (suc w.drawn.calls) c ≡ d = some_call (numbered (suc w.drawn.calls) c) d (sym (newest-found (suc w.drawn.calls) c w.calls) ∙ e) in ap (λ (x : Call). who.Task x.caller) (sym same), tt)
 
 own_number : (c n : CallNo) (name : Who) (w : World) → Caller c name w → Some c ≡ Some n → Caller n name w
 own_number c n name w h e = let same : c ≡ n = cc in subst (λ k. Caller k name w) same h

@@ -5,6 +5,7 @@ use Rattle.ada_tree.specs.declared.expressions.Expression.{Expression}
 use Rattle.ada_tree.specs.declared.expressions.Argument.{Argument}
 use Rattle.profile_machine.specs.declared.numbers.StatementNo.{StatementNo}
 use Rattle.profile_machine.specs.declared.statements.Destination.TheVariants as destination
+use Rattle.profile_machine.specs.declared.statements.StatementForm.TheVariants as action
 use Rattle.ada_regions.specs.declared.predefined.Predefined.{Predefined}
 use Rattle.ada_regions.specs.declared.predefined.Predefined.TheVariants as items
 use Rattle.ada_regions.specs.declared.entities.Denoted.{Denoted}
@@ -13,14 +14,14 @@ use Rattle.ada_regions.specs.declared.entities.EntityKind.{EntityKind}
 use Rattle.ada_regions.specs.declared.entities.EntityKind.TheVariants as entity
 use Rattle.ada_regions.specs.Names.{denoted_by, kind_at}
 use Rattle.ada_image.specs.declared.making.Within.{Within}
-use Rattle.ada_image.specs.Making.{Making}
+use Rattle.ada_image.specs.Making.{Making, action_put}
 use Rattle.ada_image.specs.ImageOfExpressions.{signs_in}
 use Rattle.ada_image.specs.ImageOfCalls.{call_put, entry_call_put, not_built}
 use Rattle.ada_image.specs.ImageOfProcedures.{procedure_put}
 
 unfoldable pub entity_call_put : Within → Name → List (Argument Expression) → EntityKind → ℕ → Option StatementNo → Making (Option StatementNo)
 entity_call_put within name arguments entity.Package signs next = not_built next
-entity_call_put within name arguments entity.Main signs next = not_built next
+entity_call_put within name arguments entity.Main signs next = action_put action.CallMain signs next
 entity_call_put within name arguments (entity.Mark s) signs next = not_built next
 entity_call_put within name arguments (entity.Literal enumeration position) signs next = not_built next
 entity_call_put within name arguments (entity.Object s constant value declaration) signs next = not_built next

@@ -41,7 +41,7 @@ use Rattle.ada_image.specs.ImageOfStatements.{scope_at}
 use Rattle.ada_image.specs.ImageOfDeclarations.{is_task, is_controlled, number_declared, subtype_declared_as, subprogram_declared_as, function_call_if, make_tasks, part_if}
 use Rattle.ada_image.specs.ImageOfUnits.{outermost, program_of, has_body, part_of, package_part}
 use Rattle.ada_image.specs.ReadExpressions.{same_decl}
-use Rattle.ada_image.specs.ReadStatements.{Reading, same_next, call_stands, is_declared, first_of_scope, statements_stand, handlers_stand}
+use Rattle.ada_image.specs.ReadStatements.{Reading, same_next, call_stands, is_declared, first_of_scope, is_call_of_main, statements_stand, handlers_stand}
 
 -- what is left behind some actions that stand; nothing where one does not
 abbrev pub Rest : Type 0
@@ -80,10 +80,6 @@ is_activate part _ = false
 abbrev pub is_end_of_activation : StatementForm → Bool
 is_end_of_activation action.EndActivation = true
 is_end_of_activation _ = false
-
-abbrev pub is_call_of_main : StatementForm → Bool
-is_call_of_main action.CallMain = true
-is_call_of_main _ = false
 
 module _ (p : Program) where
   -- the action that stands here passes a test: what comes behind it

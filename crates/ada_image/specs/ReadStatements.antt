@@ -325,10 +325,16 @@ module _ (p : Program) where
       eqb e.0 number.0 && (same_entry_owner o (owner_of_entry within name (unit_of_entry within name)) && arguments_stand within formals arguments actuals)
   entry_call_stands within name arguments number formals _ = false
 
+  -- the main procedure calls itself, or is called in a body inside it
+  abbrev pub is_call_of_main : StatementForm → Bool
+  is_call_of_main action.CallMain = true
+  is_call_of_main _ = false
+
   abbrev pub entity_call_stands : Within → Name → List (Argument Expression) → EntityKind → StatementForm → Bool
   entity_call_stands within name arguments (entity.Subprogram number is_function specified formals unit) f =
       call_stands within (record { name = name; arguments = arguments; number = number; unit = unit; formals = formals }) goes_nowhere f
   entity_call_stands within name arguments (entity.Entry number unit formals) f = entry_call_stands within name arguments number formals f
+  entity_call_stands within name arguments entity.Main f = is_call_of_main f
   entity_call_stands within name arguments _ f = false
 
   abbrev pub item_call_stands : Within → Predefined → List (Argument Expression) → StatementForm → Bool

@@ -11,8 +11,8 @@ use ada_tree::{Argument, Expression, Name};
 use ann_base::NoMemory;
 use image_actuals::{call_put, entry_call_put, not_built};
 use image_expressions::signs_in;
-use image_layout::added;
-use profile_machine::{Destination, StatementNo};
+use image_layout::{action_put, added};
+use profile_machine::{Destination, StatementForm, StatementNo};
 use std::alloc::Global;
 
 /// A call of what an entity is.
@@ -31,7 +31,7 @@ fn entity_call_put(
 {
     match kind {
         EntityKind::Package => not_built(lists, next),
-        EntityKind::Main => not_built(lists, next),
+        EntityKind::Main => action_put(lists, StatementForm::CallMain, signs, next),
         EntityKind::Mark(_) => not_built(lists, next),
         EntityKind::Literal { .. } => not_built(lists, next),
         EntityKind::Object { .. } => not_built(lists, next),

@@ -11,7 +11,6 @@ use Rattle.profile_machine.specs.declared.world.appointments.Release.{Release}
 use Rattle.profile_machine.specs.declared.world.marks.Frame.{Frame}
 use Rattle.profile_machine.specs.declared.world.marks.Mark.{Mark}
 use Rattle.profile_machine.specs.declared.world.marks.Mark.TheVariants.{Scope, Handled, InProtected, InAccept, Abortable, InInitialize, InFinalize, InAssign}
-use Rattle.profile_machine.specs.declared.world.marks.ProtectedMark.{ProtectedMark}
 use Rattle.profile_machine.specs.declared.world.marks.Purpose.TheVariants as opened_for
 use Rattle.profile_machine.specs.declared.world.marks.ResultTo.TheVariants as bound_for
 use Rattle.profile_machine.specs.declared.world.objects.Entering.{Entering}
@@ -130,10 +129,6 @@ call_handler-from p r w good = looks_by Acted (λ v. enter_handler p r (entering
 
 -- ---- the first item of its rest
 
--- none of the agent's marks has a call of its own
-abbrev pub OwnsNoCall : World → Type 0
-OwnsNoCall w = (f : Frame) (m : ProtectedMark) → top_of w who.Agent ≡ Some f → f.mark ≡ InProtected m → m.own_call ≡ None
-
 busy_releasing : Releasing (Busy Rooted None) (BusyStep Rooted None)
 unfolding Keeps From
 busy_releasing = record { releases = λ p h argument w good. from_by (Spared good.colour true) (BusyStep Rooted None) (release p Own h argument) w (λ v xs s. spared rooted None w v good s) (release-from good.colour p h argument w good.apart) }
@@ -151,21 +146,21 @@ statement-from p f s w good =
 unaction-from : (p : Image) (f : Frame) (mark : Mark) (w : World) → Busy Rooted None w → top_of w who.Agent ≡ Some f → f.mark ≡ mark → is_protected mark ≡ false → From Acted w (end_mark p who.Agent f mark)
 unaction-from p f mark w good top is free = from_by (BusyStep Rooted None) Acted (end_mark p who.Agent f mark) w (λ v xs s. busy-acted Rooted stands_rooted None w xs v good.runs s) (own_end-from p f mark w good top is free)
 
-end-from : (p : Image) (f : Frame) (mark : Mark) (w : World) → Busy Rooted None w → top_of w who.Agent ≡ Some f → f.mark ≡ mark → ((m : ProtectedMark) → mark ≡ InProtected m → m.own_call ≡ None) → From Acted w (end_mark p who.Agent f mark)
+end-from : (p : Image) (f : Frame) (mark : Mark) (w : World) → Busy Rooted None w → top_of w who.Agent ≡ Some f → f.mark ≡ mark → From Acted w (end_mark p who.Agent f mark)
 unfolding end_mark
-end-from p f (InProtected m) w good top is owns = action_end-from p m (owns m refl) (leaving_of f) f w good top is
-end-from p f (Scope m) w good top is owns = unaction-from p f (Scope m) w good top is refl
-end-from p f (Handled s) w good top is owns = unaction-from p f (Handled s) w good top is refl
-end-from p f (InAccept m) w good top is owns = unaction-from p f (InAccept m) w good top is refl
-end-from p f (Abortable m) w good top is owns = unaction-from p f (Abortable m) w good top is refl
-end-from p f (InInitialize l) w good top is owns = unaction-from p f (InInitialize l) w good top is refl
-end-from p f (InFinalize o) w good top is owns = unaction-from p f (InFinalize o) w good top is refl
-end-from p f (InAssign m) w good top is owns = unaction-from p f (InAssign m) w good top is refl
+end-from p f (InProtected m) w good top is = action_end-from p m (leaving_of f) f w good top is
+end-from p f (Scope m) w good top is = unaction-from p f (Scope m) w good top is refl
+end-from p f (Handled s) w good top is = unaction-from p f (Handled s) w good top is refl
+end-from p f (InAccept m) w good top is = unaction-from p f (InAccept m) w good top is refl
+end-from p f (Abortable m) w good top is = unaction-from p f (Abortable m) w good top is refl
+end-from p f (InInitialize l) w good top is = unaction-from p f (InInitialize l) w good top is refl
+end-from p f (InFinalize o) w good top is = unaction-from p f (InFinalize o) w good top is refl
+end-from p f (InAssign m) w good top is = unaction-from p f (InAssign m) w good top is refl
 
-act_frame-from : (p : Image) (f : Frame) (next : Option StatementNo) (w : World) → Busy Rooted None w → top_of w who.Agent ≡ Some f → OwnsNoCall w → From Acted w (act_frame p who.Agent f next)
+act_frame-from : (p : Image) (f : Frame) (next : Option StatementNo) (w : World) → Busy Rooted None w → top_of w who.Agent ≡ Some f → From Acted w (act_frame p who.Agent f next)
 unfolding act_frame
-act_frame-from p f (Some s) w good top owns = statement-from p f s w good
-act_frame-from p f None w good top owns = end-from p f f.mark w good top refl (λ m is. owns f m top is)
+act_frame-from p f (Some s) w good top = statement-from p f s w good
+act_frame-from p f None w good top = end-from p f f.mark w good top refl
 
 -- ---- an action of the agent
 
@@ -182,7 +177,7 @@ busy_of Stands w r h e stands = record {
 acts_stay : (w : World) → Attending w → Acted w [] w
 acts_stay w h = record { attending = h; placing = calm_so tt (sym (or_false (agent_runs w))) }
 
-without-from : (p : Image) (serving : Option Release) (w : World) → w.serving ≡ serving → natures w.agent.frames ≡ [] → Attending w → From Acted w (act_without p serving)
+without-from : (p : Image) (serving : Option Release) (w : World) → w.serving ≡ serving → natures w.agent.frames ≡ [] → Attending w → From Acted w (act_without p who.Agent serving)
 unfolding act_without
 without-from p None w e none h = nothing_by Acted w (acts_stay w h)
 without-from p (Some r) w e none h = call_handler-from p r w (busy_of Emptied w r h e none)
@@ -192,17 +187,17 @@ marked-rooted : (serving : Option Release) (n : Nature) (ns : List Nature) → M
 marked-rooted None n ns h = absurd cc
 marked-rooted (Some r) n ns h = (r, refl, h)
 
-top-from : (p : Image) (fs : List Frame) (w : World) → w.agent.frames ≡ fs → Attending w → OwnsNoCall w → From Acted w (act_top p who.Agent (first_of_list fs))
+top-from : (p : Image) (fs : List Frame) (w : World) → w.agent.frames ≡ fs → Attending w → From Acted w (act_top p who.Agent (first_of_list fs))
 unfolding act_top
-top-from p [] w e h owns = looks_by Acted (λ v. act_without p v.serving) w (without-from p w.serving w refl (ap natures e) h)
-top-from p (f ∷ fs) w e h owns =
+top-from p [] w e h = looks_by Acted (λ v. act_without p who.Agent v.serving) w (without-from p w.serving w refl (ap natures e) h)
+top-from p (f ∷ fs) w e h =
     let found = marked-rooted w.serving (nature f.mark) (natures fs) (subst (λ q. Marked w.serving (natures q)) e h.marks) in
     let busy = busy_of Rooted w found.0 h found.1 (subst (λ q. Rooted (natures q)) (sym e) found.2) in
-    act_frame-from p f f.onward w busy (ap first_of_list e) owns
+    act_frame-from p f f.onward w busy (ap first_of_list e)
 
-pub act-from : (p : Image) (w : World) → Attending w → OwnsNoCall w → From Acted w (act p who.Agent)
+pub act-from : (p : Image) (w : World) → Attending w → From Acted w (act p who.Agent)
 unfolding act
-act-from p w h owns = looks_by Acted (λ v. act_top p who.Agent (top_of v who.Agent)) w (top-from p w.agent.frames w refl h owns)
+act-from p w h = looks_by Acted (λ v. act_top p who.Agent (top_of v who.Agent)) w (top-from p w.agent.frames w refl h)
 
 -- ---- what stands behind it in its effect
 
@@ -308,9 +303,9 @@ tail-from p w h =
     from_by (Spared attending.colour false) Quiet (take_terminates p who.Agent ▷ unwind_all p who.Agent) v (λ u zs s. (attending.colour, s))
     (keeps_at (Apart attending.colour) (Spared attending.colour false) (take_terminates p who.Agent ▷ unwind_all p who.Agent) v attending.apart (behind-keeps attending.colour p)))
 
-pub agent_effect-from : (p : Image) (w : World) → Attending w → OwnsNoCall w → From Acted w (effect p who.Agent)
+pub agent_effect-from : (p : Image) (w : World) → Attending w → From Acted w (effect p who.Agent)
 unfolding effect
-agent_effect-from p w h owns =
+agent_effect-from p w h =
     let begun = edit_task who.Agent (with_ticks None) w in
     let first : Spared h.colour true w [] begun = (spares h.colour true).edits_task who.Agent (with_ticks None) w h.apart (λ t. refl) (λ t. refl) (λ t. refl) (λ t. refl) in
     let attending : Attending begun = attending-spared h.colour true w begun h first in
@@ -318,5 +313,5 @@ agent_effect-from p w h owns =
     (λ u zs k. record { attending = k.attending; placing = k.placing })
     (then_by Acted Tail Acted (act p who.Agent) (open_if_ready p who.Agent ▷ take_terminates p who.Agent ▷ unwind_all p who.Agent) begun
     (λ v u xs zs k t. acted_tail begun v u xs zs k t)
-    (act-from p begun attending owns)
+    (act-from p begun attending)
     (λ v xs k. tail-from p v k.attending))

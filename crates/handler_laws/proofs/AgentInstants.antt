@@ -1,7 +1,6 @@
 -- Instants keep the agent ready exactly where it has something to serve, and what their lines make of its place is whether it is
 -- ready behind them.
 use Rattle.std.proofs.Common.{◌≡◌, ℤ, Bool, true, false, List, [], ◌++◌, Option, Some, None, refl, sym, ap, subst, ◌∙◌}
-use Rattle.ann_base.specs.declared.identities.TaskNo.{TaskNo}
 use Rattle.trace_text.specs.declared.events.Created.TheVariants as created
 use Rattle.trace_text.specs.declared.events.Event.{Event}
 use Rattle.trace_text.specs.declared.events.Who.{Who}
@@ -30,8 +29,8 @@ use Rattle.handler_laws.proofs.SparedMoves.{agent_runs, Spared, SparedMove, spar
 use Rattle.handler_laws.proofs.SparedReleases.{spared_releasing}
 use Rattle.handler_laws.proofs.Mixed.{from_by, keeps_at}
 use Rattle.handler_laws.proofs.Attending.{Marked, Attending, Acted, placing-lines, spared-acted}
-use Rattle.handler_laws.proofs.AgentActs.{OwnsNoCall, agent_effect-from}
-use Rattle.handler_laws.proofs.TaskActs.{HasMarks, task_effect-from}
+use Rattle.handler_laws.proofs.AgentActs.{agent_effect-from}
+use Rattle.handler_laws.proofs.TaskActs.{task_effect-from}
 
 -- ---- moves
 
@@ -79,22 +78,17 @@ spared-attended colour a b lines h s = record {
 
 -- ---- the effect of the action that ended
 
--- what is asked of who acts: a task has marks, and the agent's action is no call of its own
-pub record Prepared (w : World) : Type 0 where
-  pub has_marks : (n : TaskNo) → w.ran ≡ Some (who.Task n) → is_over (task_of w (who.Task n)).ticks_left ≡ true → HasMarks (who.Task n) w
-  pub owns_no_call : OwnsNoCall w
+effect-from : (p : Image) (name : Who) (w : World) → Attending w → From Acted w (effect p name)
+effect-from p (who.Task n) w h = from_by (Spared h.colour true) Acted (effect p (who.Task n)) w (λ v xs s. spared-acted h.colour w v xs h s) (task_effect-from h.colour p n w h.apart)
+effect-from p who.Agent w h = agent_effect-from p w h
 
-effect-from : (p : Image) (name : Who) (w : World) → Attending w → Prepared w → w.ran ≡ Some name → is_over (task_of w name).ticks_left ≡ true → From Acted w (effect p name)
-effect-from p (who.Task n) w h ready ran is = from_by (Spared h.colour true) Acted (effect p (who.Task n)) w (λ v xs s. spared-acted h.colour w v xs h s) (task_effect-from h.colour p n w h.apart (ready.has_marks n ran is))
-effect-from p who.Agent w h ready ran is = agent_effect-from p w h ready.owns_no_call
+by_ticks-attended : (p : Image) (name : Who) (test : Bool) (w : World) → Attending w → let m = (elim test as (λ _. Move) [ true ↦ settles p (effect p name) | false ↦ rests ]) w in Attended w m.1 m.0
+by_ticks-attended p name true w h = settles-attended p (effect p name) w (effect-from p name w h)
+by_ticks-attended p name false w h = attended-rests w h
 
-by_ticks-attended : (p : Image) (name : Who) (test : Bool) (w : World) → Attending w → Prepared w → w.ran ≡ Some name → is_over (task_of w name).ticks_left ≡ test → let m = (elim test as (λ _. Move) [ true ↦ settles p (effect p name) | false ↦ rests ]) w in Attended w m.1 m.0
-by_ticks-attended p name true w h ready ran is = settles-attended p (effect p name) w (effect-from p name w h ready ran is)
-by_ticks-attended p name false w h ready ran is = attended-rests w h
-
-by_runner-attended : (p : Image) (ran : Option Who) (w : World) → Attending w → Prepared w → w.ran ≡ ran → Attended w (effect_of_runner p ran w).1 (effect_of_runner p ran w).0
-by_runner-attended p None w h ready ran = attended-rests w h
-by_runner-attended p (Some name) w h ready ran = by_ticks-attended p name (is_over (task_of w name).ticks_left) w h ready ran refl
+by_runner-attended : (p : Image) (ran : Option Who) (w : World) → Attending w → Attended w (effect_of_runner p ran w).1 (effect_of_runner p ran w).0
+by_runner-attended p None w h = attended-rests w h
+by_runner-attended p (Some name) w h = by_ticks-attended p name (is_over (task_of w name).ticks_left) w h
 
 -- ---- instants
 
@@ -104,11 +98,11 @@ behind-attended p w h =
     let m = (script_items p ▶ events_due p ▶ moments_due p ▶ timers_due p ▶ budgets_due p ▶ quantum_spent p) w in
     spared-attended h.colour w m.0 m.1 h (behind_action-leads (spares h.colour true) (spared_releasing h.colour) p w h.apart)
 
-pub instant-attended : (p : Image) (w : World) → Attending w → Prepared w → Attended w (instant p w).1 (instant p w).0
-instant-attended p w h ready =
+pub instant-attended : (p : Image) (w : World) → Attending w → Attended w (instant p w).1 (instant p w).0
+instant-attended p w h =
     let first = finish_action p w in
     let behind = (script_items p ▶ events_due p ▶ moments_due p ▶ timers_due p ▶ budgets_due p ▶ quantum_spent p) first.0 in
-    let a = by_runner-attended p w.ran w h ready refl in
+    let a = by_runner-attended p w.ran w h in
     attended-then w first.0 behind.0 first.1 behind.1 a (behind-attended p first.0 a.attending)
 
 -- ---- the opening

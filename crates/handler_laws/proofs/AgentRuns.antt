@@ -1,9 +1,8 @@
 -- Every run keeps the law of handlers: behind each tock the agent is in the queue exactly where some release is not yet served,
 -- and where it runs one release is being served.
 use Rattle.std.proofs.Common.{◌≡◌, ℕ, ℤ, suc, ◌≤◌, Bool, true, false, not, ◌&&◌, ◌||◌, eqb, List, [], ◌∷◌, length, Option, Some, None, is_some, refl, sym, ap, subst, ◌∙◌, arith}
-use Rattle.std.specs.Prelude.{nat_lt, is_none, IsTrue}
+use Rattle.std.specs.Prelude.{nat_lt, IsTrue}
 use Rattle.std.proofs.lemmas.Bool.{false≢true}
-use Rattle.ann_base.specs.declared.identities.CallNo.{CallNo}
 use Rattle.trace_text.specs.declared.events.Event.{Event}
 use Rattle.trace_text.specs.declared.events.Who.TheVariants as who
 use Rattle.trace_text.specs.Queue.{AtEachTick, entry_of, somebody_eq}
@@ -13,26 +12,20 @@ use Rattle.profile_machine.specs.declared.image.Image.{Image}
 use Rattle.profile_machine.specs.declared.run_data.Item.{Item}
 use Rattle.profile_machine.specs.declared.world.World.{World}
 use Rattle.profile_machine.specs.declared.world.appointments.Release.{Release}
-use Rattle.profile_machine.specs.declared.world.marks.Frame.{Frame}
-use Rattle.profile_machine.specs.declared.world.marks.Mark.TheVariants.{InProtected}
-use Rattle.profile_machine.specs.Words.{is_empty, first_of_list}
-use Rattle.profile_machine.specs.Tasks.{task_of}
-use Rattle.profile_machine.specs.Frames.{frames_of, top_of}
+use Rattle.profile_machine.specs.Words.{is_empty}
 use Rattle.profile_machine.specs.Dispatching.{choose}
-use Rattle.profile_machine.specs.Instant.{is_over, instant}
+use Rattle.profile_machine.specs.Instant.{instant}
 use Rattle.profile_machine.specs.Run.{opening, tock, run_of}
-use Rattle.machine_laws.specs.Reached.{Comes}
 use Rattle.machine_laws.proofs.TimeLemmas.{instants_keep_runner, opening-runner}
 use Rattle.machine_laws.proofs.LineLemmas.{instants_say_effects, openings_say_effects, tocks_say_ticks}
 use Rattle.machine_laws.proofs.PlaceLemmas.{openings_place_by_lines, instants_place_by_lines, tocks_place_nobody}
 use Rattle.tick_lines.proofs.LineByLine.{seen_behind}
 use Rattle.tick_lines.proofs.ReleaseLemmas.{Pending, Pending-within}
-use Rattle.handler_laws.specs.HandlerLaws.{acts_with_marks, is_no_entry_call, tops_no_entry_call, acts_rightly}
 use Rattle.handler_laws.proofs.InTurn.{Serves, ShowsTurn, number_of, served_in_turn, runs_serve_in_turn}
 use Rattle.handler_laws.proofs.AgentLines.{placed_behind}
 use Rattle.handler_laws.proofs.SparedMoves.{agent_runs}
 use Rattle.handler_laws.proofs.Attending.{Attending}
-use Rattle.handler_laws.proofs.AgentInstants.{Prepared, instant-attended, opening-attended}
+use Rattle.handler_laws.proofs.AgentInstants.{instant-attended, opening-attended}
 use Rattle.handler_laws.proofs.AgentPlaces.{placed_in, places-behind, chosen-placed, queue_behind, seen-behind, tock_lines}
 use Rattle.handler_laws.proofs.AgentTocks.{runner_behind, effects-runner, tock-runner, tock-ran, tock-ticked}
 use Rattle.handler_laws.proofs.TickByTick.{TicksOfRuns, run-ticks}
@@ -77,10 +70,10 @@ opening-shows p script =
       runner = behind-runner o.1 no_releases ∙ effects-runner None o.1 (openings_say_effects p script) ∙ sym (opening-runner p script);
     }
 
-instant-shows : (p : Image) (s : Releases) (w : World) → Prepared w → ShowsAgent s w → ShowsAgent (behind s (instant p w).1) (instant p w).0
-instant-shows p s w ready h =
+instant-shows : (p : Image) (s : Releases) (w : World) → ShowsAgent s w → ShowsAgent (behind s (instant p w).1) (instant p w).0
+instant-shows p s w h =
     let i = instant p w in
-    let a = instant-attended p w h.attending ready in
+    let a = instant-attended p w h.attending in
     record {
       turn = (served_in_turn.instants p s w h.turn).shows;
       attending = a.attending;
@@ -172,11 +165,11 @@ tock-right p s w h =
 
 -- ---- runs
 
-module _ (p : Image) (script : List (ℤ × Item)) (bound : ℕ) (prepared : (w : World) → Comes p script bound w → Prepared w) where
+module _ (p : Image) (script : List (ℤ × Item)) (bound : ℕ) where
   agent-ticks : TicksOfRuns see_releases is_in_order is_agent_right p script bound ShowsAgent no_releases
   agent-ticks = record {
     opens = opening-shows p script;
-    instants = λ s w comes h. instant-shows p s w (prepared w comes) h;
+    instants = λ s w comes h. instant-shows p s w h;
     tocks = λ s w h. tock-shows p s w h;
     opens_right = opening-right p script;
     tocks_right = λ s w h. tock-right p s w h;
@@ -189,32 +182,5 @@ module _ (p : Image) (script : List (ℤ × Item)) (bound : ℕ) (prepared : (w 
   pub run_keeps_handlers : HandlersOk (run_of p script bound)
   run_keeps_handlers = record { in_order = runs_serve_in_turn p script bound; agent = agent_is_right }
 
--- ---- where who acts does so rightly
-
-not-over : (over none : Bool) → (not over || not none) ≡ true → over ≡ true → none ≡ false
-not-over true true e is = sym e
-not-over true false e is = refl
-not-over false none e is = absurd (false≢true is)
-
-has-first : (fs : List Frame) → is_empty fs ≡ false → (f : Frame) × (first_of_list fs ≡ Some f)
-has-first [] e = absurd (false≢true (sym e))
-has-first (f ∷ fs) e = (f, refl)
-
-no_call : (own_call : Option CallNo) → is_none own_call ≡ true → own_call ≡ None
-no_call None e = refl
-no_call (Some c) e = absurd (false≢true e)
-
-rightly-prepared : (w : World) → acts_rightly w ≡ true → Prepared w
-rightly-prepared w e =
-    let parts = both_parts (acts_with_marks w w.ran) (tops_no_entry_call (top_of w who.Agent)) e in
-    record {
-      has_marks = λ n ran over.
-          let is : acts_with_marks w (Some (who.Task n)) ≡ true = subst (λ q. acts_with_marks w q ≡ true) ran parts.0 in
-          has-first (frames_of w (who.Task n)) (not-over (is_over (task_of w (who.Task n)).ticks_left) (is_empty (frames_of w (who.Task n))) is over);
-      owns_no_call = λ f m top is.
-          let none : is_no_entry_call (InProtected m) ≡ true = subst (λ q. is_no_entry_call q ≡ true) is (subst (λ q. tops_no_entry_call q ≡ true) top parts.1) in
-          no_call m.own_call none;
-    }
-
-pub runs_keep_handlers : (p : Image) (script : List (ℤ × Item)) (bound : ℕ) → ((w : World) → Comes p script bound w → IsTrue (acts_rightly w)) → HandlersOk (run_of p script bound)
-runs_keep_handlers p script bound rightly = run_keeps_handlers p script bound (λ w comes. rightly-prepared w (rightly w comes))
+pub runs_keep_handlers : (p : Image) (script : List (ℤ × Item)) (bound : ℕ) → HandlersOk (run_of p script bound)
+runs_keep_handlers p script bound = run_keeps_handlers p script bound

@@ -16,6 +16,7 @@ use Rattle.profile_machine.specs.declared.world.marks.Frame.{Frame}
 use Rattle.profile_machine.specs.declared.world.marks.Mark.TheVariants.{InProtected}
 use Rattle.profile_machine.specs.declared.world.marks.ProtectedMark.{ProtectedMark}
 use Rattle.profile_machine.specs.declared.world.calls.Call.{Call}
+use Rattle.profile_machine.specs.declared.world.calls.Outcome.{Outcome}
 use Rattle.profile_machine.specs.declared.world.calls.Outcome.TheVariants as call_ended
 use Rattle.profile_machine.specs.declared.world.calls.Sending.{Sending}
 use Rattle.profile_machine.specs.declared.world.tasks.Cause.TheVariants as inherited_by
@@ -29,7 +30,7 @@ use Rattle.profile_machine.specs.Words.{is_empty}
 use Rattle.profile_machine.specs.Steps.{Step, says, changes, when, nothing, for_some, ◌▷◌}
 use Rattle.profile_machine.specs.Tasks.{edit_task, with_state}
 use Rattle.profile_machine.specs.Dispatching.{block, says_block, without_kept_level, word_of}
-use Rattle.profile_machine.specs.Frames.{top_of, pop, without_first, edit_top}
+use Rattle.profile_machine.specs.Frames.{frames_of, top_of, pop, without_first, edit_top}
 use Rattle.profile_machine.specs.Calls.{with_call, call_of, enqueue}
 use Rattle.profile_machine.specs.CallEnds.{deliver}
 use Rattle.profile_machine.specs.Inheritance.{lose_running}
@@ -37,18 +38,19 @@ use Rattle.profile_machine.specs.Priorities.{set_deferred}
 use Rattle.profile_machine.specs.Values.{object_of}
 use Rattle.profile_machine.specs.Protected.{edit_top_protected, serve_call, begin_call, body_opens, has_room_for_body, served_next}
 use Rattle.profile_machine.specs.Sending.{send_on}
-use Rattle.profile_machine.specs.Serving.{serves_nothing, is_served_now, serve_ends, end_release, close_action, behind_action, release_object, settle_sent, begins_part, chosen_is_sent, part_of_start, serve_chosen, serve_next, serve_calls, go_on_by_mode, with_body_left, not_left, end_operation, is_own_call, outcome_by, finish_raised, finish_well, finish_call, no_longer_serves, end_entry_body, end_in_protected_by, end_in_protected}
+use Rattle.profile_machine.specs.Unwinding.{may_unwind}
+use Rattle.profile_machine.specs.Serving.{wait_for_own, resume_own, may_open_abortable, serves_nothing, is_served_now, serve_ends, end_release, close_action, behind_action, release_object, settle_sent, begins_part, chosen_is_sent, part_of_start, serve_chosen, serve_next, serve_calls, go_on_by_mode, with_body_left, not_left, end_operation, is_own_call, outcome_by, finish_raised, finish_well, finish_call, no_longer_serves, end_entry_body, end_in_protected_by, end_in_protected}
 use Rattle.machine_laws.proofs.Moves.{own}
 use Rattle.machine_laws.proofs.FineMoves.{Nature, nature, natures}
-use Rattle.machine_laws.proofs.Kept.Combinators.{Keeps, Kept, From, changes-keeps, says-keeps, then-keeps, keeps-from, nothing-keeps}
+use Rattle.machine_laws.proofs.Kept.Combinators.{from-keeps, looks-keeps, Keeps, Kept, From, changes-keeps, says-keeps, then-keeps, keeps-from, nothing-keeps}
 use Rattle.machine_laws.proofs.Kept.Frames.{edit_top-alters, pass_on-keeps}
 use Rattle.machine_laws.proofs.Kept.Inheritance.{lose_running-keeps}
 use Rattle.machine_laws.proofs.Kept.Priorities.{set_deferred-keeps}
-use Rattle.machine_laws.proofs.Kept.Calls.{enqueue-keeps}
-use Rattle.machine_laws.proofs.Kept.CallEnds.{deliver-keeps}
+use Rattle.machine_laws.proofs.Kept.Calls.{with_call-keeps, enqueue-keeps}
+use Rattle.machine_laws.proofs.Kept.CallEnds.{resume-keeps, deliver-keeps}
 use Rattle.machine_laws.proofs.Kept.Protected.{edit_top_protected-alters, begin_call-keeps}
-use Rattle.machine_laws.proofs.Kept.Sending.{send_on-keeps, begin_abortable-keeps}
-use Rattle.machine_laws.proofs.Kept.Serving.{Ending, settle_sent-keeps}
+use Rattle.machine_laws.proofs.Kept.Sending.{open_abortable-alters, send_on-keeps, begin_abortable-keeps}
+use Rattle.machine_laws.proofs.Kept.Serving.{wait_or_unwind-keeps, Ending, settle_sent-keeps}
 use Rattle.handler_laws.proofs.AgentLines.{closes, closes_behind}
 use Rattle.handler_laws.proofs.AgentWorlds.{Colour, Apart}
 use Rattle.handler_laws.proofs.AgentMarks.{Rooted, Standing, Emptied, rooted, emptied, stands_rooted, above_lowest, lowest_alone, has_top}
@@ -138,13 +140,39 @@ exit-from : (Stands : List Nature → Type 0) (m : ProtectedMark) (w : World) �
 unfolding From Kept
 exit-from Stands m w h stands before = (own (said.Exit who.Agent m.object) ∷ [], refl, exited Stands m w h stands)
 
+-- the holder's own call, if there is one, is a task's
+module _ (colour : Colour) where
+  ending_none : Ending (Apart colour) NoRelease (Spared colour true)
+  ending_none = record { ends = λ name n may. cc }
+
+  own_waits-keeps : (p : Image) (c : Call) (test : Bool) → Keeps (Apart colour) (Spared colour true) (wait_for_own p who.Agent c test)
+  unfolding wait_for_own
+  own_waits-keeps p c true = changes-keeps (spares colour true) _ (open_abortable-alters (spares colour true) p (who.Task c.caller) c.statement (Some c.number) tt)
+  own_waits-keeps p c false = looks-keeps (spares colour true) _ (λ w. wait_or_unwind-keeps (spares colour true) (spared_openings colour true) (spared_exits colour true) ending_none p who.Agent c (may_unwind (frames_of w who.Agent)))
+
+  own_resumes-keeps : (p : Image) (c : Call) (outcome : Option Outcome) → Keeps (Apart colour) (Spared colour true) (resume_own p who.Agent c outcome)
+  unfolding resume_own
+  own_resumes-keeps p c (Some outcome) = resume-keeps (spares colour true) p TheBlock c outcome
+  own_resumes-keeps p c None = looks-keeps (spares colour true) _ (λ w. own_waits-keeps p c (may_open_abortable w who.Agent c))
+
+  own_call-keeps : (p : Image) (c : CallNo) → Keeps (Apart colour) (Spared colour true) (with_call c (λ d. resume_own p who.Agent d d.outcome))
+  own_call-keeps p c = with_call-keeps (spares colour true) c _ (λ d. own_resumes-keeps p d d.outcome)
+
 -- what stands behind the exit
-behind_inner-from : (p : Image) (m : ProtectedMark) (call : Option CallNo) (w : World) → call ≡ None → Busy Rooted None w → From (BusyStep Rooted None) w (lose_running p who.Agent (inherited_by.Ceiling m.object) ▷ set_deferred p who.Agent ▷ behind_action p who.Agent m None call)
+own_call-from : (p : Image) (c : CallNo) (w : World) → Busy Rooted None w → From (BusyStep Rooted None) w (with_call c (λ d. resume_own p who.Agent d d.outcome))
+own_call-from p c w good =
+    from_by (Spared good.colour true) (BusyStep Rooted None) (with_call c (λ d. resume_own p who.Agent d d.outcome)) w (λ v xs s. spared rooted None w v good s)
+    (keeps_at (Apart good.colour) (Spared good.colour true) (with_call c (λ d. resume_own p who.Agent d d.outcome)) w good.apart (own_call-keeps good.colour p c))
+
+goes_on-keeps : (p : Image) (m : ProtectedMark) (call : Option CallNo) → Keeps (Busy Rooted None) (BusyStep Rooted None) (behind_action p who.Agent m None call)
 unfolding behind_action
-behind_inner-from p m None w e good =
+goes_on-keeps p m None = pass_on-keeps (busies rooted None) p who.Agent m.body_left
+goes_on-keeps p m (Some c) = from-keeps (busies rooted None) _ (λ w good. own_call-from p c w good)
+
+behind_inner-from : (p : Image) (m : ProtectedMark) (call : Option CallNo) (w : World) → Busy Rooted None w → From (BusyStep Rooted None) w (lose_running p who.Agent (inherited_by.Ceiling m.object) ▷ set_deferred p who.Agent ▷ behind_action p who.Agent m None call)
+behind_inner-from p m call w good =
     let moves = busies rooted None in
-    keeps-from moves _ w good (then-keeps moves _ _ (lose_running-keeps moves p who.Agent (inherited_by.Ceiling m.object) tt) (then-keeps moves _ _ (set_deferred-keeps moves p who.Agent tt) (pass_on-keeps moves p who.Agent m.body_left)))
-behind_inner-from p m (Some c) w e good = cc
+    keeps-from moves _ w good (then-keeps moves _ _ (lose_running-keeps moves p who.Agent (inherited_by.Ceiling m.object) tt) (then-keeps moves _ _ (set_deferred-keeps moves p who.Agent tt) (goes_on-keeps p m call)))
 
 behind_lowest-from : (p : Image) (m : ProtectedMark) (n : ℕ) (call : Option CallNo) (w : World) → Busy Emptied None w → From Acted w (lose_running p who.Agent (inherited_by.Ceiling m.object) ▷ set_deferred p who.Agent ▷ behind_action p who.Agent m (Some n) call)
 unfolding behind_action
@@ -157,23 +185,23 @@ behind_lowest-from p m n call w good =
     (λ u ys k. end_release-from n u k.busy))
 
 -- by the release that ends with it
-released-from : (p : Image) (m : ProtectedMark) (release : Option ℕ) (w : World) → m.release ≡ release → m.own_call ≡ None → Heads m.release w → From Acted w (says Own (said.Exit who.Agent m.object) ▷ changes (pop who.Agent) ▷ changes (close_action who.Agent m.object) ▷ lose_running p who.Agent (inherited_by.Ceiling m.object) ▷ set_deferred p who.Agent ▷ behind_action p who.Agent m release m.own_call)
-released-from p m None w e own_call h =
+released-from : (p : Image) (m : ProtectedMark) (release : Option ℕ) (w : World) → m.release ≡ release → Heads m.release w → From Acted w (says Own (said.Exit who.Agent m.object) ▷ changes (pop who.Agent) ▷ changes (close_action who.Agent m.object) ▷ lose_running p who.Agent (inherited_by.Ceiling m.object) ▷ set_deferred p who.Agent ▷ behind_action p who.Agent m release m.own_call)
+released-from p m None w e h =
     let stands : Rooted (action_of m.release ∷ h.rest) = subst Rooted h.heads h.busy.marks in
     then_by (BusyStep Rooted None) Acted Acted (says Own (said.Exit who.Agent m.object) ▷ changes (pop who.Agent) ▷ changes (close_action who.Agent m.object)) (lose_running p who.Agent (inherited_by.Ceiling m.object) ▷ set_deferred p who.Agent ▷ behind_action p who.Agent m None m.own_call) w
     (λ v u xs zs s k. busy_then Rooted stands_rooted None w v u xs zs h.busy.runs s k)
     (exit-from Rooted m w h (above_lowest (action_of m.release) h.rest e stands))
-    (λ v xs s. from_by (BusyStep Rooted None) Acted _ v (λ u zs k. busy-acted Rooted stands_rooted None v zs u s.busy.runs k) (behind_inner-from p m m.own_call v own_call s.busy))
-released-from p m (Some n) w e own_call h =
+    (λ v xs s. from_by (BusyStep Rooted None) Acted _ v (λ u zs k. busy-acted Rooted stands_rooted None v zs u s.busy.runs k) (behind_inner-from p m m.own_call v s.busy))
+released-from p m (Some n) w e h =
     let stands : Rooted (action_of m.release ∷ h.rest) = subst Rooted h.heads h.busy.marks in
     then_by (BusyStep Emptied None) Acted Acted (says Own (said.Exit who.Agent m.object) ▷ changes (pop who.Agent) ▷ changes (close_action who.Agent m.object)) (lose_running p who.Agent (inherited_by.Ceiling m.object) ▷ set_deferred p who.Agent ▷ behind_action p who.Agent m (Some n) m.own_call) w
     (λ v u xs zs s k. busy_then Emptied emptied-stands None w v u xs zs h.busy.runs s k)
     (exit-from Emptied m w h (lowest_alone (action_of m.release) h.rest n e stands))
     (λ v xs s. behind_lowest-from p m n m.own_call v s.busy)
 
-pub release_object-from : (p : Image) (m : ProtectedMark) (w : World) → m.own_call ≡ None → Heads m.release w → From Acted w (release_object p who.Agent m)
+pub release_object-from : (p : Image) (m : ProtectedMark) (w : World) → Heads m.release w → From Acted w (release_object p who.Agent m)
 unfolding release_object
-release_object-from p m w own_call h = released-from p m m.release w refl own_call h
+release_object-from p m w h = released-from p m m.release w refl h
 
 -- ---- steps that spare the agent stand before
 
@@ -213,7 +241,7 @@ opens-from p c o sent number w good =
 
 -- ---- queued calls are served, and then the object is released
 
-module _ (p : Image) (m : ProtectedMark) (own_call : m.own_call ≡ None) where
+module _ (p : Image) (m : ProtectedMark) where
   serve_call-from : (is_sent : Bool) (c : CallNo) (d : Call) (again : Step) (w : World) → ((v : World) → Heads m.release v → From Acted v again) → Heads m.release w
       → From Acted w (serve_call p (part_of_start is_sent) who.Agent m.object d (begins_part p is_sent c) (deliver p (part_of_start is_sent) c (call_ended.ToRaise exception.Storage) ▷ again))
   serve_call-from is_sent c d again w onward h =
@@ -228,12 +256,12 @@ module _ (p : Image) (m : ProtectedMark) (own_call : m.own_call ≡ None) where
       (λ u l. step_then m.release (deliver p part c (call_ended.ToRaise exception.Storage)) again u l (λ colour. deliver-keeps (spares colour true) p part c (call_ended.ToRaise exception.Storage)) onward))))
 
   serve_chosen-from : (is_sent : Bool) (again : Step) (chosen : Option CallNo) (w : World) → ((v : World) → Heads m.release v → From Acted v again) → Heads m.release w → From Acted w (serve_chosen p who.Agent m is_sent again chosen)
-  serve_chosen-from is_sent again None w onward h = release_object-from p m w own_call h
+  serve_chosen-from is_sent again None w onward h = release_object-from p m w h
   serve_chosen-from is_sent again (Some c) w onward h = call_then m.release c _ w h (λ d. serve_call-from is_sent c d again w onward h)
 
   serve_next-from : (fuel : ℕ) (sent : Option CallNo) (w : World) → Heads m.release w → From Acted w (serve_next fuel p who.Agent m sent)
   unfolding serve_next
-  serve_next-from zero sent w h = release_object-from p m w own_call h
+  serve_next-from zero sent w h = release_object-from p m w h
   serve_next-from (suc fuel) sent w h =
       let served = λ (v : World). served_next p v who.Agent (object_of v m.object) in
       looks_by Acted (λ v. settle_sent p sent (chosen_is_sent sent (served v)) ▷ serve_chosen p who.Agent m (chosen_is_sent sent (served v)) (serve_next fuel p who.Agent m None) (served v)) w
@@ -246,7 +274,7 @@ module _ (p : Image) (m : ProtectedMark) (own_call : m.own_call ≡ None) where
 
   by_mode-from : (mode : Mode) (w : World) → Heads m.release w → From Acted w (go_on_by_mode p who.Agent m mode)
   unfolding go_on_by_mode
-  by_mode-from Read w h = release_object-from p m w own_call h
+  by_mode-from Read w h = release_object-from p m w h
   by_mode-from Write w h = serve_calls-from None w h
 
   raised-from : (c : Call) (e : Raised) (w : World) → Heads m.release w → From Acted w (finish_raised p who.Agent m c e)
@@ -279,7 +307,7 @@ module _ (p : Image) (m : ProtectedMark) (own_call : m.own_call ≡ None) where
 
 -- ---- a body in the action has ended
 
-module _ (p : Image) (m : ProtectedMark) (own_call : m.own_call ≡ None) (leaving : Leaving) where
+module _ (p : Image) (m : ProtectedMark) (leaving : Leaving) where
   edits_then : (f : ProtectedMark → ProtectedMark) (g : Step) (w : World) → ((x : ProtectedMark) → (f x).release ≡ x.release) → Heads m.release w → ((v : World) → Heads m.release v → From Acted v g) → From Acted w (changes (edit_top_protected who.Agent f) ▷ changes (edit_top who.Agent not_left) ▷ g)
   edits_then f g w same h onward =
       step_then m.release (changes (edit_top_protected who.Agent f)) _ w h (λ colour. changes-keeps (spares colour true) _ (edit_top_protected-alters (spares colour true) who.Agent f same))
@@ -287,13 +315,13 @@ module _ (p : Image) (m : ProtectedMark) (own_call : m.own_call ≡ None) (leavi
 
   operation-from : (w : World) → Heads m.release w → From Acted w (end_operation p who.Agent m leaving)
   unfolding end_operation
-  operation-from w h = edits_then (with_body_left leaving) (go_on_by_mode p who.Agent (with_body_left leaving m) m.mode) w (λ x. refl) h (λ v k. by_mode-from p (with_body_left leaving m) own_call m.mode v k)
+  operation-from w h = edits_then (with_body_left leaving) (go_on_by_mode p who.Agent (with_body_left leaving m) m.mode) w (λ x. refl) h (λ v k. by_mode-from p (with_body_left leaving m) m.mode v k)
 
   entry_body-from : (c : CallNo) (w : World) → Heads m.release w → From Acted w (end_entry_body p who.Agent m leaving c)
   unfolding end_entry_body
   entry_body-from c w h =
       edits_then no_longer_serves (with_call c (finish_call p who.Agent (no_longer_serves m) leaving)) w (λ x. refl) h
-      (λ v k. call_then m.release c (finish_call p who.Agent (no_longer_serves m) leaving) v k (λ d. finish-from p (no_longer_serves m) own_call leaving d v k))
+      (λ v k. call_then m.release c (finish_call p who.Agent (no_longer_serves m) leaving) v k (λ d. finish-from p (no_longer_serves m) leaving d v k))
 
   by_body-from : (serves : Option CallNo) (w : World) → Heads m.release w → From Acted w (end_in_protected_by p who.Agent m leaving serves)
   unfolding end_in_protected_by

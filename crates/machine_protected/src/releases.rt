@@ -131,7 +131,7 @@ fn wait_for_own(
     ensures { OnOk result (Did (wait_for_own p.now name c.now opens) effect.old effect.new) }
 {
     if opens {
-        open_abortable(p, &mut effect.world, name, c.statement, Some(c.number))
+        open_abortable(p, &mut effect.world, Who::Task(c.caller), c.statement, Some(c.number))
     } else {
         let unwinds = unwinds(&effect.world, name);
         wait_or_unwind(p, effect, name, c, unwinds)

@@ -204,13 +204,16 @@ pub fn act_statement(
     }
 }
 
-// The agent without a rest calls the handler of the release that it serves.
+// The agent without a rest calls the handler of the release that it serves; a task without one does nothing.
 #[tactic(auto, unfolding(profile_machine::specs::Act::act_without))]
-fn act_without(alloc: Global, p: &Program, effect: &mut Effect) -> Result<(), NoMemory>
-    ensures { OnOk result (Did (looks (λ w. act_without p.now w.serving)) effect.old effect.new) }
+fn act_without(alloc: Global, p: &Program, effect: &mut Effect, name: Who) -> Result<(), NoMemory>
+    ensures { OnOk result (Did (looks (λ w. act_without p.now name w.serving)) effect.old effect.new) }
 {
     match effect.world.serving {
-        Some(release) => call_handler(alloc, p, effect, release),
+        Some(release) => match name {
+            Who::Agent => call_handler(alloc, p, effect, release),
+            Who::Task(_) => Ok(()),
+        },
         None => Ok(()),
     }
 }
@@ -223,7 +226,7 @@ pub fn act(alloc: Global, p: &Program, effect: &mut Effect, name: Who) -> Result
     ensures { OnOk result (Did (act p.now name) effect.old effect.new) }
 {
     match top_of(&effect.world, name) {
-        None => act_without(alloc, p, effect),
+        None => act_without(alloc, p, effect, name),
         Some(frame) => match frame.onward {
             Some(s) => act_statement(alloc, p, effect, name, s, form_of(p, s)),
             None => end_top_mark(alloc, p, effect, name),

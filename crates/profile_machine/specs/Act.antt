@@ -212,13 +212,14 @@ unfoldable pub act_frame : Image → Who → Frame → Option StatementNo → St
 act_frame p name f (Some s) = act_statement p name s (form_of p s)
 act_frame p name f None = end_mark p name f f.mark
 
--- the agent without a rest calls the handler of the release that it serves
-unfoldable pub act_without : Image → Option Release → Step
-act_without p None = nothing
-act_without p (Some r) = call_handler p r
+-- the agent without a rest calls the handler of the release that it serves; a task without one does nothing
+unfoldable pub act_without : Image → Who → Option Release → Step
+act_without p name None = nothing
+act_without p who.Agent (Some r) = call_handler p r
+act_without p (who.Task t) (Some r) = nothing
 
 unfoldable pub act_top : Image → Who → Option Frame → Step
-act_top p name None = looks (λ w. act_without p w.serving)
+act_top p name None = looks (λ w. act_without p name w.serving)
 act_top p name (Some f) = act_frame p name f f.onward
 
 unfoldable pub act : Image → Who → Step

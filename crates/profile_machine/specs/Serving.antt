@@ -73,7 +73,7 @@ wait_or_unwind p name c true = attempt_with p Own c (changes (forget_call c.numb
 wait_or_unwind p name c false = wait_for_call c
 
 unfoldable pub wait_for_own : Image → Who → Call → Bool → Step
-wait_for_own p name c true = changes (open_abortable p name c.statement (Some c.number))
+wait_for_own p name c true = changes (open_abortable p (who.Task c.caller) c.statement (Some c.number))
 wait_for_own p name c false = looks (λ w. wait_or_unwind p name c (may_unwind (frames_of w name)))
 
 unfoldable pub resume_own : Image → Who → Call → Option Outcome → Step

@@ -139,10 +139,11 @@ module _ {G : GoodWorld} (fact : KeepsFact G) where
 
   -- ---- effects
 
-  act_without-keeps : (p : Image) (release : Option Release) → Keeps G (Behind G) (act_without p release)
+  act_without-keeps : (p : Image) (name : Who) (release : Option Release) → Keeps G (Behind G) (act_without p name release)
   unfolding act_without
-  act_without-keeps p None = nothing-keeps fact.moves
-  act_without-keeps p (Some r) = call_handler-keeps p r
+  act_without-keeps p name None = nothing-keeps fact.moves
+  act_without-keeps p who.Agent (Some r) = call_handler-keeps p r
+  act_without-keeps p (who.Task t) (Some r) = nothing-keeps fact.moves
 
   puts : (p : Image) → Puts G (Behind G) p
   puts p = record { puts = λ name s pieces text v w good is e. good }
@@ -150,7 +151,7 @@ module _ {G : GoodWorld} (fact : KeepsFact G) where
   act-keeps : (p : Image) (name : Who) → Keeps G (Behind G) (act p name)
   act-keeps p name =
       from-keeps fact.moves (act p name) (λ w good. act-from fact.moves fact.openings releasing p (puts p) name w good tt
-      (keeps-from fact.moves _ w good (act_without-keeps p w.serving))
+      (keeps-from fact.moves _ w good (act_without-keeps p name w.serving))
       (λ f m top is. keeps-from fact.moves _ w good (end_in_protected-keeps fact.moves fact.openings fact.exits ending p name m (leaving_of f) tt tt)))
 
   effect-keeps : (p : Image) (name : Who) → Keeps G (Behind G) (effect p name)

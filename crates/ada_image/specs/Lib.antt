@@ -14,3 +14,7 @@ pub mod ImageOfUnits
 pub mod ReadExpressions
 pub mod ReadStatements
 pub mod NothingLost
+pub mod BuiltExpressions
+pub mod BuiltStatements
+pub mod BuiltSequences
+pub mod BuiltUnits

@@ -17,8 +17,8 @@ use Rattle.ada_legality.specs.Reading.{expected, fitted}
 use Rattle.ada_legality.specs.ReadExpressions.{read_expression}
 use Rattle.ada_legality.specs.CallStatements.{found_if, value_found, value_alone_found}
 use Rattle.ada_legality.specs.SimpleStatements.{assignment_found, assignment_judged, function_around, result_expected, return_found, type_of_index_of, typed_target}
-use Rattle.image_laws.specs.BuiltExpressions.{expression_built}
-use Rattle.image_laws.specs.BuiltStatements.{assigned_built, source_built}
+use Rattle.ada_image.specs.BuiltExpressions.{expression_built}
+use Rattle.ada_image.specs.BuiltStatements.{assigned_built, source_built}
 use Rattle.built_laws.specs.Clear.{expression_clear, has_values}
 use Rattle.built_laws.specs.Laws.{ReadAssignmentsBuilt, ReadReturnsBuilt, has_value_type, source_clear, target_index_clear}
 use Rattle.built_laws.proofs.Nothing.{none-of}

@@ -19,7 +19,7 @@ use Rattle.ada_legality.specs.declared.standing.Known.{Known}
 use Rattle.ada_legality.specs.Types.{typed_as}
 use Rattle.ada_legality.specs.Values.{denoted_kind, entity_of_name}
 use Rattle.ada_legality.specs.Attributes.{has_count, has_images, is_library_handler, typed_access, typed_attribute, typed_attribute_of, takes_arguments}
-use Rattle.image_laws.specs.BuiltExpressions.{attribute_built, is_entry}
+use Rattle.ada_image.specs.BuiltExpressions.{attribute_built, is_entry}
 use Rattle.built_laws.specs.Clear.{has_values, ends_clear}
 
 module _ (k : Known) (name : Name) where

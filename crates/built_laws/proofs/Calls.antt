@@ -32,8 +32,8 @@ use Rattle.ada_legality.specs.Places.{place_of}
 use Rattle.ada_legality.specs.Values.{denoted_kind, denotes_procedure}
 use Rattle.ada_legality.specs.Reading.{actual_if, actual_wanted, actuals_fitted, actuals_judged, actuals_numbered, assigning_actual, shape_is_variable}
 use Rattle.ada_legality.specs.ReadExpressions.{arguments_read, read_expression}
-use Rattle.image_laws.specs.BuiltExpressions.{expression_built}
-use Rattle.image_laws.specs.BuiltStatements.{actual_built, actuals_built, arguments_built, denoted_call_built, entity_call_built, mode_built, variable_built}
+use Rattle.ada_image.specs.BuiltExpressions.{expression_built}
+use Rattle.ada_image.specs.BuiltStatements.{actual_built, actuals_built, arguments_built, denoted_call_built, entity_call_built, mode_built, variable_built}
 use Rattle.built_laws.specs.Clear.{arguments_clear, expression_clear, formals_clear, names_clear, types_clear}
 use Rattle.built_laws.specs.Laws.{ReadActualsBuilt, ReadCallsBuilt, called_clear}
 use Rattle.built_laws.proofs.Nothing.{none-of, if-none, unless-none}

@@ -12,7 +12,7 @@ use Rattle.ada_legality.specs.Faults.{faults_in}
 use Rattle.ada_legality.specs.Types.{has_type}
 use Rattle.ada_legality.specs.Reading.{Reading, with_relation, with_term, with_factor}
 use Rattle.ada_legality.specs.ReadExpressions.{operand_read, operands_read, addends_read, factors_read, same_reading}
-use Rattle.image_laws.specs.BuiltExpressions.{Built, same_built, operands_built, addends_built, factors_built}
+use Rattle.ada_image.specs.BuiltExpressions.{Built, same_built, operands_built, addends_built, factors_built}
 use Rattle.image_laws.proofs.Expressions.{operand_of, addend_of, multiplied_of}
 use Rattle.built_laws.specs.Clear.{Clear, has_values, same_clear, operands_clear, addends_clear, factors_clear}
 use Rattle.built_laws.proofs.Nothing.{none-of}

@@ -31,7 +31,7 @@ use Rattle.ada_legality.specs.Values.{denoted_kind, denotes_function, denotes_va
 use Rattle.ada_legality.specs.Attributes.{ends_of_object}
 use Rattle.ada_legality.specs.Reading.{Reading, actuals_judged}
 use Rattle.ada_legality.specs.ReadExpressions.{arguments_read, denoted_judged, element_judged, index_fits, is_unclear_object, may_be_value, same_reading}
-use Rattle.image_laws.specs.BuiltExpressions.{Built, same_built, denoted_built, entity_built, item_built, operation_built}
+use Rattle.ada_image.specs.BuiltExpressions.{Built, same_built, denoted_built, entity_built, item_built, operation_built}
 use Rattle.image_laws.proofs.Expressions.{argument_of}
 use Rattle.built_laws.specs.Clear.{Clear, has_values, constant_clear, denoted_clear, index_clear, item_clear}
 use Rattle.built_laws.proofs.Nothing.{none-of}

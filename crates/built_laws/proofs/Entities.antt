@@ -14,7 +14,7 @@ use Rattle.ada_image.specs.Layout.{is_thing, subtype_is, array_of}
 use Rattle.ada_legality.specs.declared.standing.Known.{Known}
 use Rattle.ada_legality.specs.Types.{typed_by}
 use Rattle.ada_legality.specs.Values.{subtype_of_object, component_subtype, subtype_with_index}
-use Rattle.image_laws.specs.BuiltExpressions.{entity_built, object_built}
+use Rattle.ada_image.specs.BuiltExpressions.{entity_built, object_built}
 use Rattle.built_laws.specs.Clear.{has_values}
 
 either-there : (b : Bool) → cond b true true ≡ true

@@ -32,7 +32,7 @@ use Rattle.ada_legality.specs.Types.{has_type, typed_if, operation_type_of_one}
 use Rattle.ada_legality.specs.Values.{typed_name}
 use Rattle.ada_legality.specs.Reading.{Reading, as_operand, call_inside, calls_function, expected, is_number, number_read, text_read, bracketed_read, signed_read, signed_judged, first_relation, compared_read, first_term, highest_read, plain_read, with_minus, operation_of_one_judged}
 use Rattle.ada_legality.specs.ReadExpressions.{name_shape, name_read, attribute_read, name_judged, arguments_read, named_expression, operand_read, logical_expression, relational_expression, adding_expression, multiplying_expression, signed_expression, highest_expression, bracketed_expression, form_read, same_reading, read_expression}
-use Rattle.image_laws.specs.BuiltExpressions.{Built, same_built, denoted_built, named_built, form_built, expression_built}
+use Rattle.ada_image.specs.BuiltExpressions.{Built, same_built, denoted_built, named_built, form_built, expression_built}
 use Rattle.image_laws.proofs.Expressions.{argument_of, mapped_form, mapped-twice}
 use Rattle.built_laws.specs.Clear.{Clear, has_values, same_clear, named_clear, arguments_clear, attribute_clear, name_clear, form_clear, expression_clear}
 use Rattle.built_laws.specs.Laws.{ReadExpressionsBuilt, ExpectedExpressionsBuilt}

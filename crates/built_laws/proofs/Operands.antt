@@ -9,7 +9,7 @@ use Rattle.ada_legality.specs.Faults.{faults_in}
 use Rattle.ada_legality.specs.Types.{has_type}
 use Rattle.ada_legality.specs.Reading.{Reading, as_operand, call_inside, calls_function}
 use Rattle.ada_legality.specs.ReadExpressions.{operand_read, arguments_read, same_reading}
-use Rattle.image_laws.specs.BuiltExpressions.{Built}
+use Rattle.ada_image.specs.BuiltExpressions.{Built}
 use Rattle.image_laws.proofs.Expressions.{argument_of}
 use Rattle.built_laws.specs.Clear.{Clear, has_values, same_clear, arguments_clear}
 use Rattle.built_laws.proofs.Nothing.{none-of, if-none}

@@ -36,8 +36,8 @@ use Rattle.ada_legality.specs.Attributes.{ends_of_object}
 use Rattle.ada_legality.specs.Values.{denoted_kind, denotes_function, denotes_value, is_function_kind, is_literal_kind, is_object_kind}
 use Rattle.ada_legality.specs.Reading.{Reading, actuals_judged, calls_function, fitted, first_relation, first_term, compared_read, signed_read, highest_read, bracketed_read, number_read, text_read}
 use Rattle.ada_legality.specs.ReadExpressions.{arguments_read, attribute_read, element_judged, name_judged, name_read, name_shape, named_expression, logical_expression, relational_expression, adding_expression, multiplying_expression, signed_expression, highest_expression, bracketed_expression, denoted_judged, form_read, may_be_value, read_expression, same_reading}
-use Rattle.image_laws.specs.BuiltExpressions.{kind_of}
-use Rattle.image_laws.specs.BuiltStatements.{call_built, call_in, call_of_form, call_or_value_built, source_built}
+use Rattle.ada_image.specs.BuiltExpressions.{kind_of}
+use Rattle.ada_image.specs.BuiltStatements.{call_built, call_in, call_of_form, call_or_value_built, source_built}
 use Rattle.image_laws.proofs.Expressions.{argument_of, mapped_form}
 use Rattle.built_laws.specs.Clear.{arguments_clear, clear_layer, expression_clear, form_clear, formals_clear, same_clear}
 use Rattle.built_laws.specs.Laws.{ReadSourcesBuilt, function_clear}

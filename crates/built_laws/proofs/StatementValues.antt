@@ -21,7 +21,7 @@ use Rattle.ada_legality.specs.ReadExpressions.{read_expression}
 use Rattle.ada_legality.specs.CallStatements.{condition_found, value_found}
 use Rattle.ada_legality.specs.Choices.{case_judged, selector_judged}
 use Rattle.ada_legality.specs.SimpleStatements.{delay_found, delay_type, iteration_found}
-use Rattle.image_laws.specs.BuiltExpressions.{expression_built}
+use Rattle.ada_image.specs.BuiltExpressions.{expression_built}
 use Rattle.built_laws.specs.Clear.{has_values, expression_clear}
 use Rattle.built_laws.specs.Laws.{ReadConditionsBuilt, ReadDelaysBuilt, ReadIterationsBuilt, ReadSelectorsBuilt}
 use Rattle.built_laws.proofs.Nothing.{none-of, unless-none}

@@ -39,8 +39,8 @@ use Rattle.ada_legality.specs.Attributes.{is_variable, is_variable_kind}
 use Rattle.ada_legality.specs.Values.{denoted_kind, denotes_function, is_function_kind, subtype_of_entity, subtype_of_object, subtype_with_index, typed_call, typed_denoted, typed_name, typed_value}
 use Rattle.ada_legality.specs.Reading.{Reading, shape_is_variable, plain_read, with_minus, first_relation, with_relation, first_term, with_term, with_factor, compared_read, signed_read, highest_read, bracketed_read, number_read, text_read}
 use Rattle.ada_legality.specs.ReadExpressions.{arguments_read, addends_read, factors_read, operands_read, attribute_read, name_judged, name_read, name_shape, named_expression, logical_expression, relational_expression, adding_expression, multiplying_expression, signed_expression, highest_expression, bracketed_expression, denoted_judged, form_read, may_be_value, reading_layer, read_expression, same_reading}
-use Rattle.image_laws.specs.BuiltExpressions.{expression_built}
-use Rattle.image_laws.specs.BuiltStatements.{value_if_there, variable_built, variable_form_built}
+use Rattle.ada_image.specs.BuiltExpressions.{expression_built}
+use Rattle.ada_image.specs.BuiltStatements.{value_if_there, variable_built, variable_form_built}
 use Rattle.image_laws.proofs.Expressions.{argument_of, mapped_form}
 use Rattle.built_laws.specs.Clear.{arguments_clear, clear_layer, denoted_clear, expression_clear, form_clear, name_clear, same_clear}
 use Rattle.built_laws.proofs.Nothing.{none-of, unless-none}

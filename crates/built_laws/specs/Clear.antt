@@ -33,7 +33,7 @@ use Rattle.ada_legality.specs.declared.standing.Known.{Known}
 use Rattle.ada_legality.specs.Types.{has_type}
 use Rattle.ada_legality.specs.Values.{typed_name}
 use Rattle.ada_legality.specs.Attributes.{ends_of_object, typed_attribute_of}
-use Rattle.image_laws.specs.BuiltExpressions.{is_given, is_given_if}
+use Rattle.ada_image.specs.BuiltExpressions.{is_given, is_given_if}
 
 -- a type of values: no text, `null`, handler or thing
 abbrev pub has_values : Typed → Bool

@@ -24,8 +24,8 @@ use Rattle.ada_legality.specs.Faults.{faults_in}
 use Rattle.ada_legality.specs.Reading.{actuals_judged, calls_function, expected}
 use Rattle.ada_legality.specs.ReadExpressions.{arguments_read, read_expression}
 use Rattle.ada_legality.specs.SimpleStatements.{assignment_found, delay_found, function_around, iteration_found, result_expected, return_found, type_of_index_of, typed_target}
-use Rattle.image_laws.specs.BuiltExpressions.{expression_built, kind_of}
-use Rattle.image_laws.specs.BuiltStatements.{arguments_built, assignment_built, call_in, call_statement_built, iteration_built, source_built, source_if_there}
+use Rattle.ada_image.specs.BuiltExpressions.{expression_built, kind_of}
+use Rattle.ada_image.specs.BuiltStatements.{arguments_built, assignment_built, call_in, call_statement_built, iteration_built, source_built, source_if_there}
 use Rattle.built_laws.specs.Clear.{Clear, has_values, arguments_clear, expression_clear, formals_clear}
 
 -- An expression of clear names in which no rule is broken, of a type of values, is built, where it does not call a function of the source.

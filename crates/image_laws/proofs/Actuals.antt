@@ -32,7 +32,7 @@ use Rattle.ada_image.specs.ImageOfCalls.{call_of_form as image_call_of_form, Fun
 use Rattle.ada_image.specs.ImageOfStatements.{condition_made}
 use Rattle.ada_image.specs.ImageOfProcedures.{is_in_time, moment_of, setting_with, setting_made, variable_of, optional_value}
 use Rattle.ada_image.specs.ReadStatements.{same_next, same_callee, same_entry_owner, same_handler, value_stands_if, condition_stands, target_stands, variable_stands_in_form, variable_stands, variable_stands_if, mode_stands, thing_stands, actuals_stand, arguments_stand, call_stands, setting_stands}
-use Rattle.image_laws.specs.BuiltStatements.{value_there, value_if_there, variable_form_built, variable_built, variable_there, mode_built, actuals_built, arguments_built, call_of_form, call_in, call_built}
+use Rattle.ada_image.specs.BuiltStatements.{value_there, value_if_there, variable_form_built, variable_built, variable_there, mode_built, actuals_built, arguments_built, call_of_form, call_in, call_built}
 use Rattle.image_laws.proofs.Steps.{Step, step-pure, step-so, step-then, Put, action-step}
 use Rattle.image_laws.proofs.Values.{same-number, same-object}
 use Rattle.image_laws.proofs.Expressions.{expression-step}

@@ -19,7 +19,7 @@ use Rattle.ada_image.specs.ImageOfStatements.{SequenceMaking, alternatives_put, 
 use Rattle.ada_image.specs.ImageOfDeclarations.{same_making, sequence_put}
 use Rattle.ada_image.specs.ReadStatements.{form_stands, statements_stand}
 use Rattle.ada_image.specs.NothingLost.{SequenceReading, same_sequence_reading, sequence_reads}
-use Rattle.image_laws.specs.BuiltSequences.{statement_built, statements_built, same_sequence_built, sequence_built}
+use Rattle.ada_image.specs.BuiltSequences.{statement_built, statements_built, same_sequence_built, sequence_built}
 use Rattle.image_laws.proofs.Steps.{Step, step-pure, step-so, step-then, action-step}
 use Rattle.image_laws.proofs.Expressions.{expression-step}
 use Rattle.image_laws.proofs.Actuals.{same-next, Stood, stood}

@@ -16,8 +16,8 @@ use Rattle.ada_image.specs.Making.{first_put, in_body_of, in_unit}
 use Rattle.ada_image.specs.ImageOfStatements.{SequenceMaking, scope_at}
 use Rattle.ada_image.specs.ImageOfDeclarations.{same_making, sequence_put, subprogram_declared_as, body_put, operation_body_put, operation_bodies_put, inner_body_put, inner_bodies_put}
 use Rattle.ada_image.specs.NothingLost.{SequenceReading, same_sequence_reading, sequence_reads, body_reads, operations_read, inner_body_reads, inner_bodies_read}
-use Rattle.image_laws.specs.BuiltExpressions.{Built}
-use Rattle.image_laws.specs.BuiltSequences.{operations_built, declaration_built, declarations_built, same_sequence_built, sequence_built}
+use Rattle.ada_image.specs.BuiltExpressions.{Built}
+use Rattle.ada_image.specs.BuiltSequences.{operations_built, declaration_built, declarations_built, same_sequence_built, sequence_built}
 use Rattle.image_laws.proofs.Steps.{Step, step-pure, step-so, step-then, first-step}
 use Rattle.image_laws.proofs.Layers.{mapped_operation, mapped_declaration, SequenceLaw}
 

@@ -24,9 +24,9 @@ use Rattle.ada_image.specs.ImageOfStatements.{SequenceMaking, scope_at, entry_at
 use Rattle.ada_image.specs.ImageOfDeclarations.{same_making, sequence_put}
 use Rattle.ada_image.specs.ReadStatements.{same_next, value_stands, first_of_scope, is_turn, is_turn_form, turns_stand, forever_stands, while_stands, for_stands, loop_stands, later_turn, block_stands, accept_body_stands, accept_stands}
 use Rattle.ada_image.specs.NothingLost.{SequenceReading, same_sequence_reading, sequence_reads}
-use Rattle.image_laws.specs.BuiltExpressions.{expression_built}
-use Rattle.image_laws.specs.BuiltStatements.{iteration_built}
-use Rattle.image_laws.specs.BuiltSequences.{accept_body_built, same_sequence_built, sequence_built}
+use Rattle.ada_image.specs.BuiltExpressions.{expression_built}
+use Rattle.ada_image.specs.BuiltStatements.{iteration_built}
+use Rattle.ada_image.specs.BuiltSequences.{accept_body_built, same_sequence_built, sequence_built}
 use Rattle.image_laws.proofs.Steps.{Step, step-pure, step-so, step-then, first-step, filled-step}
 use Rattle.image_laws.proofs.Turns.{Turning, turns-step}
 use Rattle.image_laws.proofs.Values.{same-number}

@@ -23,8 +23,8 @@ use Rattle.ada_image.specs.ImageOfCalls.{FunctionCall}
 use Rattle.ada_image.specs.ImageOfDeclarations.{is_task, is_controlled, number_declared, subtype_declared_as, signs_of_object, initialize_if, function_call_if, object_declaration_put, object_elaborated, object_put, objects_put, single_put, declaration_put, declarations_put, makes_task, make_tasks, activation_put, end_of_activation_put}
 use Rattle.ada_image.specs.ReadStatements.{is_declared}
 use Rattle.ada_image.specs.NothingLost.{and_behind, is_create, is_initialize, is_declare, is_activate, is_end_of_activation, one_action, action_if, declares, object_read, objects_read, single_read, declaration_read, declarations_read, activation_read}
-use Rattle.image_laws.specs.BuiltExpressions.{Built}
-use Rattle.image_laws.specs.BuiltSequences.{call_if_built, initial_built, declaration_built, declarations_built, same_sequence_built}
+use Rattle.ada_image.specs.BuiltExpressions.{Built}
+use Rattle.ada_image.specs.BuiltSequences.{call_if_built, initial_built, declaration_built, declarations_built, same_sequence_built}
 use Rattle.image_laws.proofs.Steps.{Step, step-pure, step-so, step-then, action-step}
 use Rattle.image_laws.proofs.Values.{same-number}
 use Rattle.image_laws.proofs.Actuals.{Stood, stood, call-step, call-same}

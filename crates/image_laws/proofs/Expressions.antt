@@ -43,7 +43,7 @@ use Rattle.ada_image.specs.Making.{value_put}
 use Rattle.ada_image.specs.Layout.{is_thing, subtype_is}
 use Rattle.ada_image.specs.ImageOfExpressions.{expression_image, expression_made, ExpressionImage, logical_operator, relational_operator, adding_operator, multiplying_operator, highest_operator, no_value, no_declaration_no, object_named, thing_in, index_made, variable_made, variable_put, object_made, entity_made, argument_from, arguments_from, actuals_for, first_argument, first_actual, images_for, image_or_none, optional_made, span_made, same_ticks_made, of_task_made, port_made, name_in, of_thing_made, function_made, item_made, index_in, denoted_made, named_made, signed_made, binary_put, operands_made, addends_made, factors_made, logical_made, relational_made, adding_made, multiplying_made, form_image, same_image}
 use Rattle.ada_image.specs.ReadExpressions.{expression_reading, expression_stands, same_decl, same_truth, ExpressionReading, Standing, same_whole, is_value, is_binary, is_variable_at, is_thing_at, entity_stands, actual_stands, optional_stands, actual_thing, function_stands, first_of_actuals, item_stands, index_of, denoted_stands, named_stands, operands_stand, addends_stand, factors_stand, signed_stands, form_reading, same_reading, at_number}
-use Rattle.image_laws.specs.BuiltExpressions.{expression_built, Built, is_there, is_built_if_there, first_in, entity_built, operation_built, item_built, denoted_built, named_built, operands_built, addends_built, factors_built, form_built, same_built}
+use Rattle.ada_image.specs.BuiltExpressions.{expression_built, Built, is_there, is_built_if_there, first_in, entity_built, operation_built, item_built, denoted_built, named_built, operands_built, addends_built, factors_built, form_built, same_built}
 use Rattle.image_laws.proofs.Steps.{Step, step-pure, step-so, step-then, IsAt, value-step}
 use Rattle.image_laws.proofs.Values.{same-number, same-object, known-step, unary-step, binary-step, thing-step, attribute-step}
 

@@ -17,7 +17,7 @@ use Rattle.ada_image.specs.declared.making.SequencePlace.{SequencePlace}
 use Rattle.ada_image.specs.declared.making.SequencePlace.TheVariants as sequence_place
 use Rattle.ada_image.specs.ImageOfStatements.{SequenceMaking}
 use Rattle.ada_image.specs.NothingLost.{SequenceReading}
-use Rattle.image_laws.specs.BuiltExpressions.{Built}
+use Rattle.ada_image.specs.BuiltExpressions.{Built}
 use Rattle.image_laws.proofs.Steps.{Step}
 
 abbrev pub elsif_of : {A B : Type 0} → (A → B) → Elsif A → Elsif B

@@ -24,7 +24,7 @@ use Rattle.ada_image.specs.Making.{◌>>=◌, pure}
 use Rattle.ada_image.specs.ImageOfExpressions.{first_argument}
 use Rattle.ada_image.specs.ImageOfCalls.{value_or_none, piece_of_type, image_piece, image_made, piece_in_form, piece_made, joined_made, all_joined, pieces_in_form, pieces_made}
 use Rattle.ada_image.specs.ReadStatements.{is_whole_piece, is_truth_piece, is_literal_piece, terms_of, joined, value_stands_if, piece_stands_in_form, pieces_stand, text_stands}
-use Rattle.image_laws.specs.BuiltStatements.{value_there, piece_form_built, piece_built, pieces_built, text_form_built, text_built}
+use Rattle.ada_image.specs.BuiltStatements.{value_there, piece_form_built, piece_built, pieces_built, text_form_built, text_built}
 use Rattle.image_laws.proofs.Steps.{Step, step-pure, step-so, step-then}
 use Rattle.image_laws.proofs.Values.{same-number}
 use Rattle.image_laws.proofs.Actuals.{value-step}

@@ -10,7 +10,7 @@ use Rattle.ada_regions.specs.declared.table.Names.{Names}
 use Rattle.ada_regions.specs.declared.table.NumberedScope.{NumberedScope}
 use Rattle.ada_image.specs.declared.making.FirstAction.{FirstAction}
 use Rattle.ada_image.specs.Layout.{first_action, scope_made, scopes_made}
-use Rattle.image_laws.specs.BuiltUnits.{are_apart, are_own}
+use Rattle.image_laws.specs.OwnScopes.{are_apart, are_own}
 use Rattle.image_laws.proofs.Steps.{FirstsStand}
 use Rattle.image_laws.proofs.Values.{same-number}
 

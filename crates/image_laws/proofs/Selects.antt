@@ -34,9 +34,9 @@ use Rattle.ada_image.specs.ImageOfStatements.{SequenceMaking, delay_put, conditi
 use Rattle.ada_image.specs.ImageOfDeclarations.{same_making, sequence_put}
 use Rattle.ada_image.specs.ReadStatements.{delay_stands, call_statement_stands, trigger_stands, inside_stands, inside_stands_if, accept_stands, alternative_stands, select_alternatives_stand, else_stands, call_before_stands, delay_before_stands, form_stands}
 use Rattle.ada_image.specs.NothingLost.{SequenceReading, same_sequence_reading, sequence_reads}
-use Rattle.image_laws.specs.BuiltExpressions.{Built, expression_built}
-use Rattle.image_laws.specs.BuiltStatements.{call_statement_built, trigger_built}
-use Rattle.image_laws.specs.BuiltSequences.{sequence_if_built, accept_body_built, alternative_built, select_alternatives_built, statement_built, same_sequence_built, sequence_built}
+use Rattle.ada_image.specs.BuiltExpressions.{Built, expression_built}
+use Rattle.ada_image.specs.BuiltStatements.{call_statement_built, trigger_built}
+use Rattle.ada_image.specs.BuiltSequences.{sequence_if_built, accept_body_built, alternative_built, select_alternatives_built, statement_built, same_sequence_built, sequence_built}
 use Rattle.image_laws.proofs.Steps.{Step, step-pure, step-so, step-then, Put, action-step, Filled, filled-step}
 use Rattle.image_laws.proofs.Actuals.{Stood, stood, condition-step}
 use Rattle.image_laws.proofs.Calls.{call-statement-step}

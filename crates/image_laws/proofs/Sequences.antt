@@ -19,8 +19,8 @@ use Rattle.ada_image.specs.ImageOfStatements.{SequenceMaking, statements_put, ha
 use Rattle.ada_image.specs.ImageOfDeclarations.{same_making, sequence_put, making_layer, declarations_put, make_tasks, part_if, activation_put, end_of_activation_put, inner_bodies_put, unhandled_put, with_handlers_put, handled_put, whole_put, parts_put}
 use Rattle.ada_image.specs.ReadStatements.{same_next, statements_stand, handlers_stand}
 use Rattle.ada_image.specs.NothingLost.{SequenceReading, same_sequence_reading, sequence_reading_layer, sequence_reads, and_behind, reads_on, is_end_of_activation, action_if, unhandled_reads, handled_form_reads, with_handlers_reads, handled_reads, whole_reads, parts_read}
-use Rattle.image_laws.specs.BuiltExpressions.{Built}
-use Rattle.image_laws.specs.BuiltSequences.{statements_built, handlers_built, parts_built, same_sequence_built, sequence_built_layer, sequence_built}
+use Rattle.ada_image.specs.BuiltExpressions.{Built}
+use Rattle.ada_image.specs.BuiltSequences.{statements_built, handlers_built, parts_built, same_sequence_built, sequence_built_layer, sequence_built}
 use Rattle.image_laws.proofs.Steps.{Step, step-so, step-then, step-pure, Filled, filled-step}
 use Rattle.image_laws.proofs.Actuals.{same-next}
 use Rattle.image_laws.proofs.Layers.{mapped, mapped_declaration, Ends, Begins, SequenceLaw}

@@ -29,8 +29,8 @@ use Rattle.ada_image.specs.ImageOfCalls.{FunctionCall, function_call, function_c
 use Rattle.ada_image.specs.ImageOfStatements.{array_name, array_assigned, controlled_assigned, value_assigned, assigned_whole, assigned, assignment_put, delay_form, delay_put, no_function, value_returned, return_put, exception_named, raise_put, loop_left, loop_statement, condition_made, exit_put, static_or_zero, choice_made, choices_made, handled_made, entry_at, abort_put, unit_of_entry, requeue_put}
 use Rattle.ada_image.specs.ReadExpressions.{same_decl, is_value}
 use Rattle.ada_image.specs.ReadStatements.{same_choice, same_handled, all_same, goes_into, is_returned, assigns_value, assigns_array, assigns_controlled, assignment_stands, delay_stands, returns_value, return_stands, raise_stands, exit_stands, abort_stands, requeue_stands}
-use Rattle.image_laws.specs.BuiltExpressions.{expression_built}
-use Rattle.image_laws.specs.BuiltStatements.{value_if_there, assigned_built, call_or_value_built, source_built, assignment_built, choice_value_built, choice_built, choices_built, source_if_there}
+use Rattle.ada_image.specs.BuiltExpressions.{expression_built}
+use Rattle.ada_image.specs.BuiltStatements.{value_if_there, assigned_built, call_or_value_built, source_built, assignment_built, choice_value_built, choice_built, choices_built, source_if_there}
 use Rattle.image_laws.proofs.Steps.{Step, step-so, step-then, action-step}
 use Rattle.image_laws.proofs.Values.{same-number, same-object}
 use Rattle.image_laws.proofs.Expressions.{same-truth, expression-step}

@@ -19,8 +19,8 @@ use Rattle.ada_image.specs.ImageOfStatements.{SequenceMaking, choices_made, hand
 use Rattle.ada_image.specs.ImageOfDeclarations.{same_making, sequence_put}
 use Rattle.ada_image.specs.ReadStatements.{same_next, inside_stands, inside_stands_if, branch_stands, elsifs_stand, alternatives_stand, handlers_stand}
 use Rattle.ada_image.specs.NothingLost.{SequenceReading, same_sequence_reading, sequence_reads}
-use Rattle.image_laws.specs.BuiltExpressions.{expression_built}
-use Rattle.image_laws.specs.BuiltSequences.{sequence_if_built, elsifs_built, alternatives_built, handlers_built, same_sequence_built, sequence_built}
+use Rattle.ada_image.specs.BuiltExpressions.{expression_built}
+use Rattle.ada_image.specs.BuiltSequences.{sequence_if_built, elsifs_built, alternatives_built, handlers_built, same_sequence_built, sequence_built}
 use Rattle.image_laws.proofs.Steps.{Step, step-pure, step-so, step-then, action-step, Filled}
 use Rattle.image_laws.proofs.Expressions.{expression-step}
 use Rattle.image_laws.proofs.Actuals.{same-next, Stood, stood}

@@ -22,7 +22,7 @@ use Rattle.ada_image.specs.declared.making.Within.{Within}
 use Rattle.ada_image.specs.Making.{Making, value_put}
 use Rattle.ada_image.specs.ImageOfExpressions.{known, unary_made, binary_put, count_of, count_made, attribute_made, thing_named, kind_named}
 use Rattle.ada_image.specs.ReadExpressions.{same_object, is_value, is_known, is_known_if, is_unary, is_binary, is_thing_at, is_count_of, attribute_stands, at_number, unary_number, binary_number}
-use Rattle.image_laws.specs.BuiltExpressions.{is_given_if, is_entry, attribute_built}
+use Rattle.ada_image.specs.BuiltExpressions.{is_given_if, is_entry, attribute_built}
 use Rattle.image_laws.proofs.Steps.{Step, step-so, step-then, value-step}
 
 -- ---- the same thing

@@ -27,7 +27,8 @@ use Rattle.ada_image.specs.ImageOfCalls.{function_call}
 use Rattle.ada_image.specs.ImageOfStatements.{array_name}
 use Rattle.ada_image.specs.UnitsOfImage.{aspect_value, deadline_made, task_unit_with, task_units_made, entry_with, entry_body_made, entries_made}
 use Rattle.ada_image.specs.ImageOfUnits.{scalar_initial, scalar_or_array, initial_of_call, initial_made, numbered_object, declaration_made, declarations_made, outermost, actions_made, all_made, program_with, program_from, program_of}
-use Rattle.image_laws.specs.BuiltUnits.{unit_built, are_own, is_built_with}
+use Rattle.ada_image.specs.BuiltUnits.{unit_built}
+use Rattle.image_laws.specs.OwnScopes.{are_own, is_built_with}
 use Rattle.image_laws.specs.ScopesOfText.{scopes_begun}
 use Rattle.image_laws.specs.ActionsOfText.{actions_of}
 use Rattle.image_laws.specs.ImageLaws.{NothingIsLost, NothingIsAdded}

@@ -5,7 +5,7 @@ use Rattle.ada_regions.specs.Numbered.{names_of}
 use Rattle.ada_image.specs.ImageOfUnits.{program_of}
 use Rattle.ada_image.specs.NothingLost.{nothing_is_lost}
 use Rattle.image_laws.specs.ActionsOfText.{actions_of}
-use Rattle.image_laws.specs.BuiltUnits.{is_built}
+use Rattle.image_laws.specs.OwnScopes.{is_built}
 
 -- The image of each source that is built has the declarations and statements of its text, read from its scopes, in order and
 -- each with its parts.

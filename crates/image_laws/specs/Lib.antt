@@ -1,7 +1,4 @@
-pub mod BuiltExpressions
-pub mod BuiltStatements
-pub mod BuiltSequences
 pub mod ScopesOfText
 pub mod ActionsOfText
-pub mod BuiltUnits
+pub mod OwnScopes
 pub mod ImageLaws

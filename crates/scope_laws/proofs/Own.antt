@@ -13,7 +13,8 @@ use Rattle.ada_regions.specs.Words.{same_place}
 use Rattle.ada_regions.specs.NamesInUnits.{names_in_unit}
 use Rattle.ada_regions.specs.Numbered.{no_place, names_of}
 use Rattle.ada_image.specs.ImageOfStatements.{scope_at}
-use Rattle.image_laws.specs.BuiltUnits.{are_own, unit_built, is_built}
+use Rattle.ada_image.specs.BuiltUnits.{unit_built}
+use Rattle.image_laws.specs.OwnScopes.{are_own, is_built}
 use Rattle.image_laws.specs.ScopesOfText.{scopes_begun}
 use Rattle.image_laws.proofs.Whole.{nothing_is_lost}
 use Rattle.grammar_laws.proofs.Whole.{read_is_spelt}

@@ -9,7 +9,7 @@ use Rattle.ada_regions.specs.declared.table.Names.{Names}
 use Rattle.ada_regions.specs.declared.table.NumberedScope.{NumberedScope}
 use Rattle.ada_regions.specs.Words.{same_place}
 use Rattle.ada_image.specs.ImageOfStatements.{position_of_scope, scope_at}
-use Rattle.image_laws.specs.BuiltUnits.{are_apart, are_own}
+use Rattle.image_laws.specs.OwnScopes.{are_apart, are_own}
 use Rattle.name_laws.proofs.Denoting.{same_place-path, same_place-itself}
 use Rattle.source_laws.proofs.Counting.{one_if, count}
 use Rattle.scope_laws.proofs.Beginning.{place_of_scope, places_of}

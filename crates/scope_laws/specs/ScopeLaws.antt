@@ -4,7 +4,8 @@ use Rattle.ada_tree.specs.declared.units.Unit.{Unit as Tree}
 use Rattle.ada_regions.specs.Numbered.{names_of}
 use Rattle.ada_image.specs.NothingLost.{nothing_is_lost}
 use Rattle.image_laws.specs.ScopesOfText.{scopes_begun}
-use Rattle.image_laws.specs.BuiltUnits.{are_own, unit_built}
+use Rattle.ada_image.specs.BuiltUnits.{unit_built}
+use Rattle.image_laws.specs.OwnScopes.{are_own}
 use Rattle.source_laws.specs.Laws.{IsReadFrom}
 
 -- each body, block and accept of it has a scope of its own in the table of its names, and none has that of the environment

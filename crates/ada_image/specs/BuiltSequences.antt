@@ -22,8 +22,8 @@ use Rattle.ada_tree.specs.declared.declarations.OperationBody.{OperationBody}
 use Rattle.ada_tree.specs.declared.declarations.OperationBody.TheVariants as body_of
 use Rattle.ada_image.specs.ImageOfCalls.{FunctionCall}
 use Rattle.ada_image.specs.ImageOfStatements.{guard_of}
-use Rattle.image_laws.specs.BuiltExpressions.{Built, expression_built}
-use Rattle.image_laws.specs.BuiltStatements.{value_if_there, call_in, call_built, call_statement_built, assignment_built, choices_built, iteration_built, trigger_built, source_if_there}
+use Rattle.ada_image.specs.BuiltExpressions.{Built, expression_built}
+use Rattle.ada_image.specs.BuiltStatements.{value_if_there, call_in, call_built, call_statement_built, assignment_built, choices_built, iteration_built, trigger_built, source_if_there}
 
 -- ---- the initial value of an object, where it is the call of a function
 

@@ -37,7 +37,7 @@ use Rattle.ada_image.specs.Layout.{is_array, is_kept, is_thing, subtype_is}
 use Rattle.ada_image.specs.ImageOfExpressions.{actuals_for, first_argument}
 use Rattle.ada_image.specs.ImageOfCalls.{FunctionCall, call_of_kind, names_of}
 use Rattle.ada_image.specs.ImageOfProcedures.{first_of, second_of, moment_of}
-use Rattle.image_laws.specs.BuiltExpressions.{Built, is_given, kind_of, expression_built}
+use Rattle.ada_image.specs.BuiltExpressions.{Built, is_given, kind_of, expression_built}
 
 -- ---- values and variables
 
@@ -143,6 +143,7 @@ procedure_built _ arguments es n = false
 abbrev pub entity_call_built : List (Argument Expression) → EntityKind → Built
 entity_call_built arguments (entity.Subprogram number is_function specified formals unit) n = arguments_built formals arguments n
 entity_call_built arguments (entity.Entry number unit formals) n = arguments_built formals arguments n
+entity_call_built arguments entity.Main n = true
 entity_call_built arguments _ n = false
 
 abbrev pub item_call_built : Predefined → List (Argument Expression) → Built

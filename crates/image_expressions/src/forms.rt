@@ -8,7 +8,6 @@ use crate::arguments::first_argument;
 use crate::functions::function_made;
 use crate::images::Imaged;
 use crate::literals::literal_value;
-use crate::operators::highest_operator;
 use crate::primaries::{attribute_made, entity_made};
 use crate::sequences::{adding_made, logical_made, multiplying_made, relational_made};
 use crate::sums::{
@@ -21,7 +20,7 @@ use ada_image::{Lists, Within};
 use ada_regions::{Denoted, Names, Predefined};
 use ada_tree::{Argument, AttributeDesignator, Expression, ExpressionForm, Name};
 use ann_base::NoMemory;
-use image_layout::added;
+use image_layout::{added, highest_operator};
 use profile_machine::{ExprNo, Value};
 
 /// What a predefined unit declares, as a value.

@@ -9,7 +9,6 @@ mod functions;
 mod images;
 mod literals;
 mod names;
-mod operators;
 mod primaries;
 mod sequences;
 mod sums;
@@ -21,10 +20,7 @@ pub use forms::{expression_made, named, signs_if, signs_in};
 pub use images::Imaged;
 pub use names::{
     declared_as, kind_named, named_before, no_declaration_no, object_before, object_named,
-    object_number, prefix_part, thing_in, thing_named,
-};
-pub use operators::{
-    highest_operator, logical_operator, multiplying_operator, relational_operator,
+    object_number, thing_in, thing_named,
 };
 pub use values::{known, no_value};
 pub use variables::variable_made;

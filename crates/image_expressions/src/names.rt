@@ -1,26 +1,13 @@
 //! What names of objects denote (ISO/IEC 8652:2012, 4.1, 4.1.3, 8.6).
 ghost use Rattle.std.specs.Prelude.{◌≡◌, option_copied, unwrap_or};
-ghost use Rattle.ada_image.specs.ImageOfExpressions.{prefix_part, object_number, is_around, object_outside, object_before, named_before, no_declaration_no, component_name, object_of_kind, kind_named, object_named, thing_named, thing_in};
+ghost use Rattle.ada_image.specs.ImageOfExpressions.{object_number, is_around, object_outside, object_before, named_before, no_declaration_no, component_name, object_of_kind, kind_named, object_named, thing_named, thing_in};
 
 use ada_entities::{denoted_by, entity_denoted, entity_of, kind_at};
 use ada_image::Within;
 use ada_regions::{ComponentOwner, EntityKind};
-use ada_tree::{Identifier, Name};
+use ada_tree::Name;
+use image_layout::prefix_part;
 use profile_machine::{DeclNo, ObjectName};
-
-/// The part of a name before the last, if it has more than one.
-#[tactic(auto, using(crate::proofs::Parts::before_at), unfolding(ada_image::specs::ImageOfExpressions::prefix_part))]
-pub fn prefix_part(name: &Name) -> Option<&Identifier>
-    ensures { option_copied result ≡ prefix_part name.now }
-{
-    let mut before = None;
-    let mut last = &name.parts.first;
-    for part in name.parts.others.as_slice() {
-        before = Some(last);
-        last = part;
-    }
-    before
-}
 
 /// The number of an object, a parameter or a component.
 pub fn object_number(kind: &EntityKind) -> Option<DeclNo>

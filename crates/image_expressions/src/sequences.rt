@@ -4,13 +4,11 @@ ghost use Rattle.ada_image.specs.Made.{Made};
 ghost use Rattle.ada_image.specs.ImageOfExpressions.{operands_made, addends_made, factors_made, logical_made, relational_made, adding_made, multiplying_made};
 
 use crate::images::Imaged;
-use crate::operators::{
-    adding_operator, logical_operator, multiplying_operator, relational_operator,
-};
 use crate::values::binary_put;
 use ada_image::{Lists, Within};
 use ada_tree::{Addend, LogicalOperator, Multiplied, OneOrMore, Operand, RelationalOperator};
 use ann_base::NoMemory;
+use image_layout::{adding_operator, logical_operator, multiplying_operator, relational_operator};
 use profile_machine::{BinaryOperator, ExprNo};
 
 /// Relations behind the left operand.

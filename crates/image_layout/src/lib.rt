@@ -1,11 +1,13 @@
 //! What the making of an image stands on: its lists, the places of statements, the cells of declarations, and what rules
-//! of legality ask for too, overriding procedures and the units of entries (ISO/IEC 8652:2012, 3.3.1, 3.5, 3.6, 5.1, 7.6,
-//! 9.5.2). Each function has the name of the definition of `ada_image` of which it is the counterpart.
+//! of legality ask for too, overriding procedures, the units of entries, operators and the parts of names (ISO/IEC
+//! 8652:2012, 3.3.1, 3.5, 3.6, 4.1.3, 4.5, 5.1, 7.6, 9.5.2). Each function has the name of the definition of `ada_image` of which it is the counterpart.
 #![tactic(auto)]
 
 mod entries;
 mod first_values;
 mod making;
+mod names;
+mod operators;
 mod overriding;
 mod places;
 mod subprograms;
@@ -16,6 +18,10 @@ mod within;
 pub use entries::same_entry_unit;
 pub use first_values::first_value;
 pub use making::{action_put, counted, first_put, put_at, reserved, the_action, value_put};
+pub use names::prefix_part;
+pub use operators::{
+    adding_operator, highest_operator, logical_operator, multiplying_operator, relational_operator,
+};
 pub use overriding::{has_one_of_type, is_in_out};
 pub use places::{is_component_of, is_in_scope};
 pub use subprograms::{enumerations_made, formal_made, formals_made};

@@ -16,7 +16,7 @@ use ada_tree::{
     Sign,
 };
 use ann_base::{NoMemory, Place};
-use image_expressions::highest_operator;
+use image_layout::highest_operator;
 use legality_reads::{
     bracketed_read, call_inside, highest_read, number_read, operation_of_one_judged, plain_read,
     signed_judged, signed_read, text_read,

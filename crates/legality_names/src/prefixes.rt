@@ -12,7 +12,7 @@ use ada_entities::{entity_denoted, kind_at};
 use ada_legality::{Known, Typed};
 use ada_regions::{AdaType, Names};
 use ada_tree::Name;
-use image_expressions::prefix_part;
+use image_layout::prefix_part;
 use profile_machine::ProtectedUnitNo;
 
 /// An entity that is an object.

@@ -14,9 +14,7 @@ use ada_tree::{
     AddingOperator, HighestOperator, LogicalOperator, MultiplyingOperator, RelationalOperator, Sign,
 };
 use ann_base::Place;
-use image_expressions::{
-    highest_operator, logical_operator, multiplying_operator, relational_operator,
-};
+use image_layout::{highest_operator, logical_operator, multiplying_operator, relational_operator};
 use legality_types::{operation_type, operation_type_of_one, typed_if};
 use profile_machine::{BinaryOperator, UnaryOperator};
 

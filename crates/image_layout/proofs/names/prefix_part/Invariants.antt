@@ -1,7 +1,7 @@
 use Rattle.std.proofs.Common.{◌≡◌, drop, option_copied}
 use Rattle.ada_regions.specs.Words.{or_else}
 use Rattle.ada_image.specs.ImageOfExpressions.{before_last}
-use Rattle.image_expressions.proofs.names.prefix_part.Given as goal
+use Rattle.image_layout.proofs.names.prefix_part.Given as goal
 
 -- what stands before the last of the parts that are to come, and else what stands before the last so far
 abbrev pub invariant-loop-part : goal.invariant-loop-part

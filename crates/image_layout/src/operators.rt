@@ -35,7 +35,7 @@ pub fn relational_operator(operator: RelationalOperator) -> BinaryOperator
 }
 
 /// A binary adding operator (4.5.3). Texts are joined in Put_Line alone, where no operator is left.
-pub(crate) fn adding_operator(operator: AddingOperator) -> BinaryOperator
+pub fn adding_operator(operator: AddingOperator) -> BinaryOperator
     ensures { result ≡ adding_operator operator }
 {
     match operator {

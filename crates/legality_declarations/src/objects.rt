@@ -11,8 +11,7 @@ use ada_regions::AdaType;
 use ada_tree::{Constraint as Indicated, Identifier, ObjectDeclaration, OneOrMore};
 use ann_base::{NoMemory, Place};
 use legality_names::{entity_of_name, is_library_entity};
-use legality_parts::{indication_found, type_of_mark, value_alone_found_if};
-use legality_statements::cells_noted;
+use legality_parts::{cells_noted, indication_found, type_of_mark, value_alone_found_if};
 use legality_types::{
     broken_if, has_no_values, is_event_timer_or_budget, is_task_id, is_timer, note,
 };

@@ -9,7 +9,5 @@ mod requeues;
 
 pub use assignments::{assignment_found, delay_found};
 pub use leaving::{exit_found, names_exception, raise_found, return_found, same_entities};
-pub use loops::{
-    cells_noted, entry_call_found, guard_found, iteration_found, trigger_found, with_iteration,
-};
+pub use loops::{entry_call_found, guard_found, iteration_found, trigger_found, with_iteration};
 pub use requeues::{abort_found, names_entry, requeue_found, task_type_of_entry};

@@ -1,24 +1,22 @@
 //! The heads of loops and selects (ISO/IEC 8652:2012, 5.5, 9.7).
 ghost use Rattle.std.specs.Prelude.{◌≡◌, ◌++◌, OnOk, IfOk, false};
-ghost use Rattle.ada_regions.specs.Words.{and_then};
 ghost use Rattle.ada_tree.specs.declared.statements.Iteration.TheVariants as iteration;
-ghost use Rattle.ada_legality.specs.Attributes.{kind_of_identifier};
-ghost use Rattle.ada_legality.specs.SimpleStatements.{range_if_static, loop_parameter, type_of_loop, with_iteration, number_of_kind, cells_noted, iteration_found, guard_found, trigger_found, entry_call_found};
+ghost use Rattle.ada_legality.specs.SimpleStatements.{range_if_static, loop_parameter, type_of_loop, with_iteration, iteration_found, guard_found, trigger_found, entry_call_found};
 
 use crate::assignments::delay_found;
 use crate::requeues::names_entry;
 use ada_entities::entity_denoted;
 use ada_legality::{Asked, Finding, Known, LoopParameter, Rule};
-use ada_regions::{AdaType, EntityKind, Subtype};
+use ada_regions::{AdaType, Subtype};
 use ada_subtypes::{range_between, static_value};
 use ada_tree::{Call, Expression, Guard, Identifier, Iteration, Trigger};
 use ann_base::{NoMemory, Place};
 use legality_expressions::{Readable, place_of, typed_expression};
-use legality_names::{copy_of, kind_of_identifier, with_loop};
-use legality_parts::{call_found, condition_found};
+use legality_names::{copy_of, with_loop};
+use legality_parts::{call_found, cells_noted, condition_found};
 use legality_reads::expected;
-use legality_types::{broken_unless, note, type_of_bounds};
-use profile_machine::{Constraint, DeclNo};
+use legality_types::{broken_unless, type_of_bounds};
+use profile_machine::Constraint;
 use std::alloc::Global;
 use world_tables::List;
 
@@ -95,58 +93,6 @@ pub fn with_iteration<'n, 't>(
             let t = type_of_loop(alloc, known, low, high)?;
             with_loop(known, loop_parameter(known, parameter, low, high, t))
         }
-    }
-}
-
-/// The number of what has cells.
-fn number_of_kind(kind: &EntityKind) -> Option<DeclNo>
-    ensures { result ≡ number_of_kind kind.now }
-{
-    match kind {
-        EntityKind::Package => None,
-        EntityKind::Main => None,
-        EntityKind::Mark(_) => None,
-        EntityKind::Literal { .. } => None,
-        EntityKind::Object { declaration, .. } => Some(*declaration),
-        EntityKind::Parameter { .. } => None,
-        EntityKind::LoopParameter(declaration) => Some(*declaration),
-        EntityKind::Component { .. } => None,
-        EntityKind::Exception(_) => None,
-        EntityKind::Subprogram { .. } => None,
-        EntityKind::Entry { .. } => None,
-        EntityKind::Label => None,
-    }
-}
-
-/// The number of what an identifier declares.
-fn number_of_identifier(known: &Known<'_, '_>, name: &Identifier) -> Option<DeclNo>
-    ensures { result ≡ and_then (kind_of_identifier known.now name.now) number_of_kind }
-{
-    match kind_of_identifier(known, name) {
-        None => None,
-        Some(kind) => number_of_kind(kind),
-    }
-}
-
-/// The declaration of what has cells.
-#[tactic(auto, unfolding(ada_legality::specs::SimpleStatements::cells_noted))]
-pub fn cells_noted(
-    found: &mut List<Finding>,
-    known: &Known<'_, '_>,
-    name: &Identifier,
-    place: Place,
-) -> Result<(), NoMemory>
-    ensures { OnOk result (found.new ≡ found.old ++ cells_noted known.now name.now place) }
-{
-    match number_of_identifier(known, name) {
-        None => Ok(()),
-        Some(number) => note(
-            found,
-            Finding::Cells {
-                number: number.0,
-                place,
-            },
-        ),
     }
 }
 

@@ -1,9 +1,11 @@
-//! Who runs: active priorities, the ready queues, blocking, inherited priorities and appointments, and what is done
-//! when an effect is over. Each function has the name of the machine's definition of which it is the counterpart.
+//! Who runs: active priorities, the ready queues, blocking, delays, inherited priorities and appointments, and what
+//! is done when an effect is over. Each function has the name of the machine's definition of which it is the
+//! counterpart.
 #![tactic(auto)]
 
 mod appointments;
 mod blocking;
+mod delays;
 mod inheritance;
 mod levels;
 mod order;
@@ -16,6 +18,7 @@ pub use appointments::{
     DueOf, appoint, drop_appointment, drop_delay, first_due, is_an_event, is_appointed, is_due_of,
 };
 pub use blocking::{block, says_block, says_waits, word_of};
+pub use delays::delay_to;
 pub use inheritance::{inherit, inherit_running, lose, lose_running, same_cause};
 pub use levels::{active, active_of, deadline_of, greatest_inherited, own_level};
 pub use order::{in_order, put_in_order};

@@ -19,7 +19,7 @@ pub use assignments::{assign, assign_array, cells_from, checked_for, copy_cells,
 pub use calls::{begin_body, call_subprogram};
 pub use choices::{case_statement, if_statement};
 pub use costs::{cost, has_registered, of_region};
-pub use delays::{delay_statement, delay_to, delay_until_statement, relative_moment};
+pub use delays::{delay_statement, delay_until_statement, relative_moment};
 pub use faults::refused;
 pub use loops::{exit_statement, first_turn, for_bounds, later_turn, while_turn};
 pub use parameters::{handed, result_to};

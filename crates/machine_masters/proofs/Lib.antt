@@ -1,6 +1,5 @@
 mod LastLemmas
 mod MasterLemmas
 mod PlaceLemmas
-mod QuantumLemmas
 mod QueuedLemmas
 mod StepLemmas

@@ -4,9 +4,8 @@ ghost use Rattle.profile_machine.specs.Masters.{has_activating, is_activated_by,
 ghost use Rattle.profile_machine.specs.Tasks.{edit_task, task_of, waiting_of};
 ghost use Rattle.machine_frames.specs.Did.{Did};
 
-use crate::parts::part_of;
 use ann_base::{NoMemory, Raised};
-use machine_dispatching::{lose, ready};
+use machine_dispatching::{lose, part_of, ready};
 use machine_frames::{Effect, open_sequence, raises, same_who, task_at, task_mut, waiting_of};
 use machine_operators::Program;
 use profile_machine::world::{Cause, Part, Task, Waiting, World};

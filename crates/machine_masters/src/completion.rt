@@ -7,10 +7,10 @@ ghost use Rattle.profile_machine.specs.Tasks.{edit_task, task_of};
 ghost use Rattle.machine_frames.specs.Did.{Did};
 
 use crate::activations::end_activation;
-use crate::parts::part_of;
 use crate::queued_calls::queued_calls;
 use ann_base::{CallNo, NoMemory, Raised};
 use machine_calls::{end_call, gone};
+use machine_dispatching::part_of;
 use machine_frames::{Effect, task_at, task_mut};
 use machine_operators::Program;
 use profile_machine::Leaving;

@@ -8,9 +8,8 @@ ghost use Rattle.machine_frames.specs.Did.{Did};
 
 use crate::completion::complete;
 use crate::masters::has_dependents;
-use crate::parts::part_of;
 use ann_base::{NoMemory, RegionNo};
-use machine_dispatching::{drop_delay, ready};
+use machine_dispatching::{drop_delay, part_of, ready};
 use machine_frames::{Effect, same_who, task_at, waiting_in};
 use machine_operators::Program;
 use profile_machine::world::{Task, Waiting, World};

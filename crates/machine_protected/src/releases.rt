@@ -15,8 +15,8 @@ use machine_calls::{
 };
 use machine_dispatching::{block, lose_running};
 use machine_frames::{Effect, has_room, leaves, pass_on, pop, says, task_at};
-use machine_masters::set_deferred;
 use machine_operators::Program;
+use machine_priorities::set_deferred;
 use profile_machine::Leaving;
 use profile_machine::world::{
     Action, Call, Cause, Line, Outcome, Part, ProtectedMark, Release, Waiting, World,
@@ -131,7 +131,13 @@ fn wait_for_own(
     ensures { OnOk result (Did (wait_for_own p.now name c.now opens) effect.old effect.new) }
 {
     if opens {
-        open_abortable(p, &mut effect.world, Who::Task(c.caller), c.statement, Some(c.number))
+        open_abortable(
+            p,
+            &mut effect.world,
+            Who::Task(c.caller),
+            c.statement,
+            Some(c.number),
+        )
     } else {
         let unwinds = unwinds(&effect.world, name);
         wait_or_unwind(p, effect, name, c, unwinds)

@@ -15,9 +15,9 @@ use machine_handlers::{
     add_member, add_to_budget, call_handler, cancel_budget, cancel_event, cancel_timer,
     remove_member, replenish, set_budget, set_event, set_timer,
 };
-use machine_masters::{delay_and_set_deadline, set_deadline_of, set_priority, set_quantum};
 use machine_meetings::{asynchronous_select, entry_call};
 use machine_operators::{Program, form_of};
+use machine_priorities::{delay_and_set_deadline, set_deadline_of, set_priority, set_quantum};
 use machine_statements::{
     assign, assign_array, block_statement, case_statement, delay_statement, delay_until_statement,
     exit_statement, first_turn, for_bounds, if_statement, later_turn, null, put_line, raise_again,

@@ -7,7 +7,7 @@ ghost use Rattle.profile_machine.specs.Priorities.{priority_in_range, quantum_in
 ghost use Rattle.profile_machine.specs.Values.{value, whole_in};
 ghost use Rattle.profile_machine.specs.Words.{edit_at};
 ghost use Rattle.machine_frames.specs.Did.{Did};
-ghost use Rattle.machine_masters.specs.Continued.{quantum_given, ticks_given, quantum_set};
+ghost use Rattle.machine_priorities.specs.Continued.{quantum_given, ticks_given, quantum_set};
 
 use crate::ranges::priority_in_range;
 use ann_base::{Level, Moment, NoMemory, OrMemory, Raised};

@@ -6,14 +6,13 @@ ghost use Rattle.profile_machine.specs.Steps.{looks};
 ghost use Rattle.profile_machine.specs.Tasks.{edit_task, found_task, task_of};
 ghost use Rattle.trace_text.specs.declared.events.Who.TheVariants as who;
 ghost use Rattle.machine_frames.specs.Did.{Did};
-ghost use Rattle.machine_masters.specs.Continued.{task_given, level_in_range, level_given};
+ghost use Rattle.machine_priorities.specs.Continued.{task_given, level_in_range, level_given};
 
 use crate::deadlines::take_deadline;
-use crate::parts::{part_of, placing_of};
 use crate::ranges::priority_in_range;
 use crate::reprioritizing::{call_waited_for, reprioritize_awaited};
 use ann_base::{Level, Moment, NoMemory, OrMemory, Raised, TaskNo};
-use machine_dispatching::to_tail;
+use machine_dispatching::{part_of, placing_of, to_tail};
 use machine_frames::{Effect, found_task, goes, in_protected, raises, says, task_at, task_mut};
 use machine_operators::{Program, edf_low, interrupt_priority, next_of};
 use machine_values::{Seen, optional_task, seen_by, value, whole_in};

@@ -1,7 +1,7 @@
 use Rattle.std.proofs.Common.{sym, ap, ◌∙◌}
 use Rattle.profile_machine.specs.Frames.{goes}
-use Rattle.machine_masters.proofs.StepLemmas.{no_task_is_set, edf_is_barred}
-use Rattle.machine_masters.proofs.priorities.set_base_of.Goals as goal
+use Rattle.machine_priorities.proofs.StepLemmas.{no_task_is_set, edf_is_barred}
+use Rattle.machine_priorities.proofs.priorities.set_base_of.Goals as goal
 
 pub returns-in-None : goal.returns-in-None
 returns-in-None c =

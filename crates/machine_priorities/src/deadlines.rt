@@ -5,11 +5,10 @@ ghost use Rattle.profile_machine.specs.Operators.{held_moment};
 ghost use Rattle.profile_machine.specs.Priorities.{says_deadline, is_runnable_at_edf, set_deadline, take_deadline, defer_deadline, set_or_defer_deadline, set_deadline_of, delay_with_deadline, delay_and_set_deadline};
 ghost use Rattle.profile_machine.specs.Tasks.{edit_task, task_of};
 ghost use Rattle.machine_frames.specs.Did.{Did};
-ghost use Rattle.machine_masters.specs.Continued.{target_given, deadline_given, offset_given};
+ghost use Rattle.machine_priorities.specs.Continued.{target_given, deadline_given, offset_given};
 
-use crate::parts::{part_of, placing_of};
 use ann_base::{Moment, NoMemory, OrMemory, Raised};
-use machine_dispatching::{active_of, delay_to, to_tail};
+use machine_dispatching::{active_of, delay_to, part_of, placing_of, to_tail};
 use machine_frames::{Effect, goes, in_protected, is_runnable, raises, says, task_at, task_mut};
 use machine_operators::{Program, has_edf, held_moment, is_edf_level, next_of};
 use machine_values::{Seen, live_task, moment, optional_task, or_raised, seen_by};

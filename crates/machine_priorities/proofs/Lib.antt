@@ -1,0 +1,2 @@
+mod QuantumLemmas
+mod StepLemmas

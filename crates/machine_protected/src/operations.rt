@@ -14,7 +14,7 @@ use machine_frames::{Effect, goes, has_room, raises};
 use machine_operators::{
     Program, form_of, marks_of, next_of, opens_handled, scope_of, subprogram_of,
 };
-use machine_statements::{begin_body, handed, result_to};
+use machine_parameters::{begin_body, handed, result_to};
 use machine_values::{object_number, object_of, open_scope, own_object, seen_by};
 use profile_machine::world::{Entering, Handed, Part, Purpose, ResultTo, World};
 use profile_machine::{

@@ -1,4 +1,2 @@
 pub mod CellLemmas
-pub mod ListLemmas
-pub mod ParameterLemmas
 pub mod TextLemmas

@@ -1,6 +1,5 @@
 -- Parts of the machine's steps, in its own words.
 use Rattle.std.specs.Prelude.{ℤ, Bool, Option, option_and_then}
-use Rattle.ann_base.specs.declared.identities.ObjectNo.{ObjectNo}
 use Rattle.trace_text.specs.declared.events.Who.{Who}
 use Rattle.profile_machine.specs.declared.image.Image.{Image}
 use Rattle.profile_machine.specs.declared.numbers.DeclNo.{DeclNo}
@@ -8,8 +7,6 @@ use Rattle.profile_machine.specs.declared.numbers.ExprNo.{ExprNo}
 use Rattle.profile_machine.specs.declared.numbers.StatementNo.{StatementNo}
 use Rattle.profile_machine.specs.declared.expressions.VariableName.{VariableName}
 use Rattle.profile_machine.specs.declared.world.World.{World}
-use Rattle.profile_machine.specs.declared.world.scopes.Beginning.{Beginning}
-use Rattle.profile_machine.specs.declared.world.scopes.Handed.{Handed}
 use Rattle.profile_machine.specs.declared.world.scopes.ScopeId.{ScopeId}
 use Rattle.profile_machine.specs.declared.world.scopes.Variable.{Variable}
 use Rattle.profile_machine.specs.declared.numbers.SubprogramNo.{SubprogramNo}
@@ -37,10 +34,6 @@ is_at_last q d x = loop_cell q d 1 >>= λ y. same_value (read q.world x) (read q
 -- what stands behind a delay's evaluation
 abbrev pub delayed : Image → Who → StatementNo → ℤ → Step
 delayed p name s m = goes name (next_of p s) ▷ delay_to p name m
-
--- how a called body begins: round it stands this scope in use, and it works on this object
-abbrev pub body_beginning : Option ScopeId → Option ObjectNo → Handed → Beginning
-body_beginning outer object h = record { outer = outer; object = object; subject = h.subject; values = h.values }
 
 -- the scope in use round a body of the unit, by what the caller sees
 abbrev pub outer_of_body : Seen → SubprogramNo → Option ScopeId

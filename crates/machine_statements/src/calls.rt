@@ -3,54 +3,18 @@ ghost use Rattle.std.specs.Prelude.{◌≡◌, OnOk};
 ghost use Rattle.profile_machine.specs.Statements.{sees};
 ghost use Rattle.profile_machine.specs.Subprograms.{begin_body, beginning_of, call_subprogram};
 ghost use Rattle.machine_frames.specs.Did.{Did};
-ghost use Rattle.machine_statements.specs.Parts.{body_beginning, outer_of_body};
+ghost use Rattle.machine_statements.specs.Parts.{outer_of_body};
 
 use crate::faults::refused;
-use crate::parameters::{handed, result_to};
-use ann_base::{NoMemory, ObjectNo, Raised};
-use machine_frames::{Effect, goes, has_room, raises};
-use machine_operators::{Program, marks_of, next_of, scope_of, subprogram_of};
-use machine_values::{Seen, home, open_scope, seen_by};
-use profile_machine::world::{Beginning, Handed, Part, Purpose, ResultTo, ScopeId};
+use ann_base::{NoMemory, Raised};
+use machine_frames::{Effect, has_room, raises};
+use machine_operators::{Program, marks_of, scope_of, subprogram_of};
+use machine_parameters::{begin_body, handed, result_to};
+use machine_values::{Seen, home, seen_by};
+use profile_machine::world::{Handed, Part, ResultTo, ScopeId};
 use profile_machine::{Actual, Destination, StatementNo, SubprogramNo};
 use std::alloc::Global;
 use trace_text::Who;
-
-/// The body of a called subprogram begins, with what was handed over. Round it stands this scope in
-/// use, and it works on this protected object.
-#[tactic(auto, unfolding(profile_machine::specs::Subprograms::begin_body))]
-pub fn begin_body(
-    alloc: Global,
-    p: &Program,
-    effect: &mut Effect,
-    name: Who,
-    s: StatementNo,
-    f: SubprogramNo,
-    outer: Option<ScopeId>,
-    object: Option<ObjectNo>,
-    h: Handed,
-    to: ResultTo,
-) -> Result<(), NoMemory>
-    ensures { OnOk result (Did (begin_body p.now name s f (body_beginning outer object h) h to) effect.old effect.new) }
-{
-    goes(effect, name, next_of(p, s));
-    let b = Beginning {
-        outer,
-        object,
-        subject: h.subject,
-        values: h.values,
-    };
-    let purpose = Purpose::Subprogram(h.back, to);
-    open_scope(
-        alloc,
-        p,
-        name,
-        subprogram_of(p, f).scope,
-        b,
-        purpose,
-        &mut effect.world,
-    )
-}
 
 // The scope in use that stands round the body of a subprogram that is no protected operation.
 fn outer_of(q: &Seen<'_>, f: SubprogramNo) -> Option<ScopeId>

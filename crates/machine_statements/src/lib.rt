@@ -10,19 +10,17 @@ mod costs;
 mod delays;
 mod faults;
 mod loops;
-mod parameters;
 mod returns;
 mod sequences;
 mod texts;
 
 pub use assignments::{assign, assign_array, cells_from, checked_for, copy_cells, put_cells};
-pub use calls::{begin_body, call_subprogram};
+pub use calls::call_subprogram;
 pub use choices::{case_statement, if_statement};
 pub use costs::{cost, has_registered, of_region};
 pub use delays::{delay_statement, delay_until_statement, relative_moment};
 pub use faults::refused;
 pub use loops::{exit_statement, first_turn, for_bounds, later_turn, while_turn};
-pub use parameters::{handed, result_to};
 pub use returns::{
     call_that_returns, end_subprogram, return_statement, return_value, without_sending,
 };

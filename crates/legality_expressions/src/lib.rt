@@ -3,6 +3,7 @@
 #![tactic(auto)]
 
 mod attributed;
+mod barriers;
 mod chains;
 mod forms;
 mod readable;

@@ -7,6 +7,7 @@ ghost use Rattle.ada_legality.specs.Calls.{formals_denoted};
 ghost use Rattle.ada_legality.specs.Reading.{actuals_judged, denotes_barrier_part};
 ghost use Rattle.ada_legality.specs.ReadExpressions.{is_declared_object, component_owner, name_shape, name_read, index_fitted, element_judged, denoted_judged, is_unclear_object, index_fits, is_value_with, may_be_value, unless_denoted, name_judged};
 
+use crate::barriers::denotes_barrier_part;
 use ada_entities::denoted_by;
 use ada_legality::{ActualPart, Asked, Finding, Known, NameShape, Read, Rule, Shape};
 use ada_regions::{AdaType, ComponentOwner, Denoted, EntityKind};
@@ -17,7 +18,7 @@ use legality_names::{
     denoted_kind, denotes_function, denotes_value, ends_of_object, is_function_kind,
     is_object_kind, is_variable, kind_of_name, subtype_of_entity, typed_name,
 };
-use legality_reads::{denotes_barrier_part, fitted, plain_read};
+use legality_reads::{fitted, plain_read};
 use legality_types::broken_unless;
 use std::alloc::Global;
 use world_tables::List;

@@ -1,9 +1,8 @@
 //! What expressions are read as, and what is asked of one that is read, in its place (ISO/IEC 8652:2012, 2.4, 4.4, 4.5, 8.6,
-//! 9.5.2, A.10.7). Each function has the name of the definition of `ada_legality` of which it is the counterpart.
+//! A.10.7). Each function has the name of the definition of `ada_legality` of which it is the counterpart.
 #![tactic(auto)]
 
 mod asked;
-mod barriers;
 mod lengths;
 mod literals;
 mod operations;
@@ -12,7 +11,6 @@ mod reads;
 pub use asked::{
     as_operand, call_inside, expected, fitted, is_discrete_or_refused, value_judged, without_point,
 };
-pub use barriers::{denotes_barrier_part, is_own_component};
 pub use lengths::{image_length, type_of_prefix};
 pub use literals::{integer_literal, literal_in, other_pointed_literal};
 pub use operations::{

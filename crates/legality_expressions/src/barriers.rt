@@ -8,7 +8,7 @@ use legality_names::{denoted_kind, innermost_unit, is_literal_kind, is_type};
 
 /// A component of the object around.
 #[tactic(auto, unfolding(ada_legality::specs::Reading::is_own_component))]
-pub fn is_own_component(known: &Known<'_, '_>, kind: &EntityKind) -> bool
+fn is_own_component(known: &Known<'_, '_>, kind: &EntityKind) -> bool
     ensures { result ≡ is_own_component known.now kind.now }
 {
     match kind {
@@ -34,7 +34,7 @@ fn is_truth(item: Predefined) -> bool
 
 /// A component of the object, or a literal.
 #[tactic(auto, unfolding(ada_legality::specs::Reading::denotes_barrier_part))]
-pub fn denotes_barrier_part(known: &Known<'_, '_>, denoted: Denoted) -> bool
+pub(crate) fn denotes_barrier_part(known: &Known<'_, '_>, denoted: Denoted) -> bool
     ensures { result ≡ denotes_barrier_part known.now denoted }
 {
     match denoted {

@@ -86,14 +86,15 @@ frame-from p a f (Some s) w inv awake top is =
     weak a (Free a) w _ (keeps-from (going a) _ w (inv, onward-free a f s w inv top is) (act_statement-keeps (going a) p (puts_going p a) a s (form_of p s) refl tt refl))
 frame-from p a f None w inv awake top is = mark-from p a f f.mark w inv awake top is refl
 
-without-keeps : (p : Image) (a : Who) (r : Option Release) → Keeps (GoodAs Known) (Moved (acting a) true Known) (act_without p r)
+without-keeps : (p : Image) (a name : Who) (r : Option Release) → Keeps (GoodAs Known) (Moved (acting a) true Known) (act_without p name r)
 unfolding act_without
-without-keeps p a None = nothing-keeps (none a true)
-without-keeps p a (Some r) = call_handler-keeps (none a true) p r tt
+without-keeps p a name None = nothing-keeps (none a true)
+without-keeps p a who.Agent (Some r) = call_handler-keeps (none a true) p r tt
+without-keeps p a (who.Task t) (Some r) = nothing-keeps (none a true)
 
 top-from : (p : Image) (a : Who) (top : Option Frame) (w : World) → Inv w → Awake a w → top_of w a ≡ top → From (Does a) w (act_top p a top)
 unfolding act_top
-top-from p a None w inv awake is = weak a Known w _ (keeps-from (none a true) _ w (inv, tt) (looks-keeps (none a true) _ (λ v. without-keeps p a v.serving)))
+top-from p a None w inv awake is = weak a Known w _ (keeps-from (none a true) _ w (inv, tt) (looks-keeps (none a true) _ (λ v. without-keeps p a a v.serving)))
 top-from p a (Some f) w inv awake is = frame-from p a f f.onward w inv awake is refl
 
 act-from : (p : Image) (a : Who) (w : World) → Inv w → Awake a w → From (Does a) w (act p a)

@@ -194,14 +194,14 @@ module _ {G : GoodWorld} {May Other : Naming} {Owns : Who → RegionNo → Type 
   act_frame-from p puts name f (Some s) w good may top action = keeps-from moves _ w good (act_statement-keeps p puts name s (form_of p s) may refl)
   act_frame-from p puts name f None w good may top action = end_mark-from p name f f.mark w good may top refl action
 
-  act_top-from : (p : Image) → Puts G R p → (name : Who) (found : Option Frame) (w : World) → G w → May name → top_of w name ≡ found → From R w (act_without p w.serving)
+  act_top-from : (p : Image) → Puts G R p → (name : Who) (found : Option Frame) (w : World) → G w → May name → top_of w name ≡ found → From R w (act_without p name w.serving)
       → ((f : Frame) (m : ProtectedMark) → top_of w name ≡ Some f → f.mark ≡ InProtected m → From R w (end_in_protected p name m (leaving_of f))) → From R w (act_top p name found)
   unfolding act_top
-  act_top-from p puts name None w good may is without action = looks_at-from moves (λ v. act_without p v.serving) w without
+  act_top-from p puts name None w good may is without action = looks_at-from moves (λ v. act_without p name v.serving) w without
   act_top-from p puts name (Some f) w good may is without action = act_frame-from p puts name f f.onward w good may is (λ m k. action f m is k)
 
   -- an action, but for the end of a protected action, and for who has no rest
-  pub act-from : (p : Image) → Puts G R p → (name : Who) (w : World) → G w → May name → From R w (act_without p w.serving)
+  pub act-from : (p : Image) → Puts G R p → (name : Who) (w : World) → G w → May name → From R w (act_without p name w.serving)
       → ((f : Frame) (m : ProtectedMark) → top_of w name ≡ Some f → f.mark ≡ InProtected m → From R w (end_in_protected p name m (leaving_of f))) → From R w (act p name)
   unfolding act
   act-from p puts name w good may without action = looks_at-from moves (λ v. act_top p name (top_of v name)) w (act_top-from p puts name (top_of w name) w good may refl without action)
@@ -209,10 +209,11 @@ module _ {G : GoodWorld} {May Other : Naming} {Owns : Who → RegionNo → Type 
 -- ---- where anybody may be changed
 
 module _ {R : StepRelation} {Q : MoveRelation} (moves : RegionMoves R Q) where
-  act_without-keeps : (p : Image) (release : Option Release) → Keeps AnyWorld R (act_without p release)
+  act_without-keeps : (p : Image) (name : Who) (release : Option Release) → Keeps AnyWorld R (act_without p name release)
   unfolding act_without
-  act_without-keeps p None = nothing-keeps moves.fine
-  act_without-keeps p (Some r) = call_handler-keeps moves p r
+  act_without-keeps p name None = nothing-keeps moves.fine
+  act_without-keeps p who.Agent (Some r) = call_handler-keeps moves p r
+  act_without-keeps p (who.Task t) (Some r) = nothing-keeps moves.fine
 
   on_top : (frames : List Frame) (f : Frame) → first_of_list frames ≡ Some f → action_first (natures frames) ≡ action_in f.mark
   on_top [] f e = absurd cc
@@ -222,6 +223,6 @@ module _ {R : StepRelation} {Q : MoveRelation} (moves : RegionMoves R Q) where
   pub free_act-from : (p : Image) → Puts AnyWorld R p → (name : Who) (w : World) → FreeIn name (task_of w name).state → From R w (act p name)
   free_act-from p puts name w free =
       act-from moves.fine moves.openings (releasing moves) p puts name w tt tt
-      (keeps-from moves.fine _ w tt (act_without-keeps p w.serving))
+      (keeps-from moves.fine _ w tt (act_without-keeps p name w.serving))
       (λ f m top is. end_in_protected-from moves p name m (leaving_of f) w
       (subst (λ t. Holding name m.object t) (sym (one_of-is w name)) (on_top (frames_of w name) f top ∙ ap action_in is, free)))

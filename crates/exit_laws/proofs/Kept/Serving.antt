@@ -112,7 +112,7 @@ module _ {R : StepRelation} {Q : MoveRelation} (moves : RegionMoves R Q) where
 
   wait_for_own-keeps : (p : Image) (name : Who) (c : Call) (test : Bool) → Keeps AnyWorld R (wait_for_own p name c test)
   unfolding wait_for_own
-  wait_for_own-keeps p name c true = changes-keeps moves.fine _ (open_abortable-alters moves.fine p name c.statement (Some c.number) tt)
+  wait_for_own-keeps p name c true = changes-keeps moves.fine _ (open_abortable-alters moves.fine p (who.Task c.caller) c.statement (Some c.number) tt)
   wait_for_own-keeps p name c false = looks-keeps moves.fine _ (λ w. wait_or_unwind-keeps p name c (may_unwind (frames_of w name)))
 
   resume_own-keeps : (p : Image) (name : Who) (c : Call) (outcome : Option Outcome) → Keeps AnyWorld R (resume_own p name c outcome)

@@ -208,14 +208,14 @@ module _ {G : GoodWorld} {May Other : Naming} {Owns : Who → RegionNo → Type 
   act_frame-from p puts name f (Some s) w good may top calm action = keeps-from moves _ w good (act_statement-keeps p puts name s (form_of p s) may refl calm)
   act_frame-from p puts name f None w good may top calm action = end_mark-from p name f f.mark w good may top refl action
 
-  act_top-from : (p : Image) → Puts G R p → (name : Who) (found : Option Frame) (w : World) → G w → May name → top_of w name ≡ found → comes_to_nothing p (option_and_then (λ f. f.onward) found) ≡ true → From R w (act_without p w.serving)
+  act_top-from : (p : Image) → Puts G R p → (name : Who) (found : Option Frame) (w : World) → G w → May name → top_of w name ≡ found → comes_to_nothing p (option_and_then (λ f. f.onward) found) ≡ true → From R w (act_without p name w.serving)
       → ((f : Frame) (m : ProtectedMark) → top_of w name ≡ Some f → f.mark ≡ InProtected m → From R w (end_in_protected p name m (leaving_of f))) → From R w (act_top p name found)
   unfolding act_top
-  act_top-from p puts name None w good may is calm without action = looks_at-from moves (λ v. act_without p v.serving) w without
+  act_top-from p puts name None w good may is calm without action = looks_at-from moves (λ v. act_without p name v.serving) w without
   act_top-from p puts name (Some f) w good may is calm without action = act_frame-from p puts name f f.onward w good may is calm (λ m k. action f m is k)
 
   -- an action, but for the end of a protected action, and for who has no rest
-  pub act-from : (p : Image) → Puts G R p → (name : Who) (w : World) → G w → May name → comes_to_nothing p (onward_of w name) ≡ true → From R w (act_without p w.serving)
+  pub act-from : (p : Image) → Puts G R p → (name : Who) (w : World) → G w → May name → comes_to_nothing p (onward_of w name) ≡ true → From R w (act_without p name w.serving)
       → ((f : Frame) (m : ProtectedMark) → top_of w name ≡ Some f → f.mark ≡ InProtected m → From R w (end_in_protected p name m (leaving_of f))) → From R w (act p name)
   unfolding act
   act-from p puts name w good may calm without action = looks_at-from moves (λ v. act_top p name (top_of v name)) w (act_top-from p puts name (top_of w name) w good may refl calm without action)
@@ -223,13 +223,14 @@ module _ {G : GoodWorld} {May Other : Naming} {Owns : Who → RegionNo → Type 
 -- ---- where anybody may be changed
 
 module _ {R : StepRelation} {Q : MoveRelation} (moves : CalmMoves AnyWorld Anybody Anybody R Q) (openings : Openings AnyWorld Anybody Anybody AnyRegion R) (exits : Exits AnyWorld Anybody AnyRelease R) (freely : Freely R) where
-  act_without-keeps : (p : Image) (release : Option Release) → Keeps AnyWorld R (act_without p release)
+  act_without-keeps : (p : Image) (name : Who) (release : Option Release) → Keeps AnyWorld R (act_without p name release)
   unfolding act_without
-  act_without-keeps p None = nothing-keeps moves
-  act_without-keeps p (Some r) = call_handler-keeps moves openings exits freely p r
+  act_without-keeps p name None = nothing-keeps moves
+  act_without-keeps p who.Agent (Some r) = call_handler-keeps moves openings exits freely p r
+  act_without-keeps p (who.Task t) (Some r) = nothing-keeps moves
 
   pub act-calm : (p : Image) → Puts AnyWorld R p → (name : Who) (w : World) → comes_to_nothing p (onward_of w name) ≡ true → From R w (act p name)
   act-calm p puts name w calm =
       act-from moves openings p puts name w tt tt calm
-      (keeps-from moves _ w tt (act_without-keeps p w.serving))
+      (keeps-from moves _ w tt (act_without-keeps p name w.serving))
       (λ f m top is. keeps-from moves _ w tt (end_in_protected-keeps moves openings exits (ending moves openings exits freely) p name m (leaving_of f) tt tt))

@@ -95,7 +95,7 @@ module _ {G : GoodWorld} {May Other : Naming} {Owns : Who → RegionNo → Type 
 
   pub wait_for_own-keeps : (p : Image) (name : Who) (c : Call) (test : Bool) → Other name → Keeps G R (wait_for_own p name c test)
   unfolding wait_for_own
-  wait_for_own-keeps p name c true other = search (changes-keeps, open_abortable-alters)
+  wait_for_own-keeps p name c true other = search (changes-keeps, open_abortable-alters, moves.task_other)
   wait_for_own-keeps p name c false other = search (looks-keeps, wait_or_unwind-keeps)
 
   pub resume_own-keeps : (p : Image) (name : Who) (c : Call) (outcome : Option Outcome) → Other name → Keeps G R (resume_own p name c outcome)

@@ -1,9 +1,8 @@
 //! All that the program does.
 ghost use Rattle.std.specs.Prelude.{◌≡◌, ◌≢◌, ◌≤◌, ◌⊎◌, IsTrue, None, codes};
 ghost use Rattle.ann_base.specs.Outside.{Rose, extended};
-ghost use Rattle.trace_text.specs.Laws.{DispatchOk, ExclusiveOk, LeftOk};
+ghost use Rattle.trace_text.specs.Laws.{DispatchOk, ExclusiveOk, HandlersOk, LeftOk};
 ghost use Rattle.tick_lines.specs.TickLaws.{SwitchesOk, ReleasesOk, StuckOk, follows_tick_order};
-ghost use Rattle.handler_laws.specs.HandlerLaws.{ServedInTurn};
 ghost use Rattle.commands.specs.Asked.{asked_of};
 ghost use Rattle.commands.specs.Outside.{shelf_of, sink_of};
 ghost use Rattle.commands.specs.Performed.{IsUnread};
@@ -13,7 +12,7 @@ use crate::noting::conclude;
 use crate::performing::perform;
 use ann_base::{Shelf, Sink};
 use exit_laws::runs_keep_exclusion;
-use handler_laws::runs_serve_in_turn;
+use handler_laws::runs_keep_handlers;
 use leaving_laws::runs_leave_rightly;
 use machine_laws::dispatching::runs_dispatch;
 use std::alloc::Global;
@@ -82,11 +81,13 @@ pub fn top<S: Shelf, K: Sink>(
     ensures run { result ≤ 3 → DoneTold (asked_of words.now)
         (shelf_of S.files S.faults shelf.old shelf.new)
         (sink_of K.held K.faults out.old out.new) result }
-    // The lines of a run that is asked for keep these laws: who runs is the first of the ready queues; a protected
-    // action begins only beside those that it may be open with, and one that ends was open; effects of a tick come first, then who runs, then who is
-    // served; a `run` line is a switch; releases are taken up in their order, and one is served before the next is; a
-    // region is left once, and its controlled objects are finalized in the reverse of their order; a run is stuck only where
-    // nobody is ready.
+    // The lines of a run that is asked for keep these laws: who runs is the first of the ready
+    // queues; a protected action begins only beside those that it may be open with, and one that
+    // ends was open; effects of a tick come first, then who runs, then who is served; a `run` line
+    // is a switch; releases are taken up in their order, one is served before the next is, and the
+    // agent is ready just where one is left to serve; a region is left once, and its controlled
+    // objects are finalized in the reverse of their order; a run is stuck only where nobody is
+    // ready.
     ensures dispatch { result ≤ 3 → LawTold DispatchOk (asked_of words.now)
         (shelf_of S.files S.faults shelf.old shelf.new)
         (sink_of K.held K.faults out.old out.new) }
@@ -102,7 +103,7 @@ pub fn top<S: Shelf, K: Sink>(
     ensures releases { result ≤ 3 → LawTold ReleasesOk (asked_of words.now)
         (shelf_of S.files S.faults shelf.old shelf.new)
         (sink_of K.held K.faults out.old out.new) }
-    ensures in_turn { result ≤ 3 → LawTold ServedInTurn (asked_of words.now)
+    ensures handlers { result ≤ 3 → LawTold HandlersOk (asked_of words.now)
         (shelf_of S.files S.faults shelf.old shelf.new)
         (sink_of K.held K.faults out.old out.new) }
     ensures leaving { result ≤ 3 → LawTold LeftOk (asked_of words.now)
@@ -189,7 +190,7 @@ pub fn top<S: Shelf, K: Sink>(
     runs_are_in_tick_order();
     runs_switch();
     runs_release_in_order();
-    runs_serve_in_turn();
+    runs_keep_handlers();
     runs_leave_rightly();
     runs_are_rightly_stuck();
     let outcome = perform(alloc, words, shelf, out);

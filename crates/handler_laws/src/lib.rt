@@ -11,9 +11,8 @@ pub fn runs_serve_in_turn()
     ensures { RunsServeInTurn }
 {}
 
-/// Every run whose actions are those of tasks with marks, and of an agent in no entry call's action, keeps the law of handlers:
-/// at each tick the agent is in the queue exactly where some release is not yet served, and where it runs exactly one is being
-/// served.
+/// Every run keeps the law of handlers: beside this, at each tick the agent is in the queue exactly where some release is
+/// not yet served, and where it runs exactly one is being served.
 pub fn runs_keep_handlers()
     ensures { RunsKeepHandlers }
 {}

@@ -1,7 +1,6 @@
 use Rattle.std.proofs.Common.{inl, inr, IsTrue, arith}
-use Rattle.trace_text.specs.Laws.{DispatchOk, ExclusiveOk, LeftOk}
+use Rattle.trace_text.specs.Laws.{DispatchOk, ExclusiveOk, HandlersOk, LeftOk}
 use Rattle.tick_lines.specs.TickLaws.{SwitchesOk, ReleasesOk, StuckOk, follows_tick_order}
-use Rattle.handler_laws.specs.HandlerLaws.{ServedInTurn}
 use Rattle.commands.specs.Asked.{asked_of}
 use Rattle.commands.specs.Outside.{shelf_of, sink_of}
 use Rattle.commands.proofs.RunsTold.{headline, headline_under, load_told, acceptance}
@@ -38,7 +37,7 @@ returns g c =
       in_tick_order = law_told (λ lines. IsTrue (follows_tick_order lines)) c.runs_are_in_tick_order.ensures asked shelf out notes o status p n;
       switches = law_told SwitchesOk c.runs_switch.ensures asked shelf out notes o status p n;
       releases = law_told ReleasesOk c.runs_release_in_order.ensures asked shelf out notes o status p n;
-      in_turn = law_told ServedInTurn c.runs_serve_in_turn.ensures asked shelf out notes o status p n;
+      handlers = law_told HandlersOk c.runs_keep_handlers.ensures asked shelf out notes o status p n;
       leaving = law_told LeftOk c.runs_leave_rightly.ensures asked shelf out notes o status p n;
       stuck = law_told StuckOk c.runs_are_rightly_stuck.ensures asked shelf out notes o status p n;
       quiet = quiet o notes status n;

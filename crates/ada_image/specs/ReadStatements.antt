@@ -188,6 +188,11 @@ loop_parameter_at within i =
 abbrev pub Reading : Type 0
 Reading = Option StatementNo → Option StatementNo → Bool
 
+-- the main procedure calls itself, or is called in a body inside it
+abbrev pub is_call_of_main : StatementForm → Bool
+is_call_of_main action.CallMain = true
+is_call_of_main _ = false
+
 module _ (p : Program) where
   abbrev pub value_stands : Within → Expression → ExprNo → Bool
   value_stands within e number = expression_stands p within e number
@@ -324,11 +329,6 @@ module _ (p : Program) where
   entry_call_stands within name arguments number formals (action.EntryCall e o actuals) =
       eqb e.0 number.0 && (same_entry_owner o (owner_of_entry within name (unit_of_entry within name)) && arguments_stand within formals arguments actuals)
   entry_call_stands within name arguments number formals _ = false
-
-  -- the main procedure calls itself, or is called in a body inside it
-  abbrev pub is_call_of_main : StatementForm → Bool
-  is_call_of_main action.CallMain = true
-  is_call_of_main _ = false
 
   abbrev pub entity_call_stands : Within → Name → List (Argument Expression) → EntityKind → StatementForm → Bool
   entity_call_stands within name arguments (entity.Subprogram number is_function specified formals unit) f =

@@ -37,7 +37,7 @@ use Rattle.ada_image.specs.ImageOfCalls.{function_call_put, entry_call_put, argu
 use Rattle.ada_image.specs.ImageOfStatements.{unit_of_kind, no_unit, unit_of_entry}
 use Rattle.ada_image.specs.ImageOfProcedures.{first_of, second_of, third_of, thing_of, moment_of, variable_of, optional_value, handler_of, setting_made, set_event_put, set_timer_put, cancel_put, budget_put, task_put, values_put, procedure_with, procedure_put}
 use Rattle.ada_image.specs.CallStatements.{entity_call_put, item_call_put, denoted_call_put, signs_in_actuals, call_statement_put}
-use Rattle.ada_image.specs.ReadStatements.{same_entry_owner, goes_nowhere, value_stands_if, variable_stands_if, condition_stands, setting_stands, thing_is, handler_is, procedure_stands, entry_call_stands, entity_call_stands, item_call_stands, call_of_name_stands, call_statement_stands}
+use Rattle.ada_image.specs.ReadStatements.{same_entry_owner, goes_nowhere, value_stands_if, variable_stands_if, condition_stands, setting_stands, thing_is, handler_is, procedure_stands, entry_call_stands, is_call_of_main, entity_call_stands, item_call_stands, call_of_name_stands, call_statement_stands}
 use Rattle.ada_image.specs.BuiltStatements.{value_there, value_if_there, variable_there, arguments_built, text_built, procedure_built, entity_call_built, item_call_built, denoted_call_built, call_statement_built}
 use Rattle.image_laws.proofs.Steps.{Step, step-so, step-then, action-step}
 use Rattle.image_laws.proofs.Values.{same-number}
@@ -171,7 +171,7 @@ module _ (within : Within) (signs : ℕ) (next : Option StatementNo) where
   unfolding entity_call_put function_call_put
   entity-step name xs None is b = absurd (false≢true b)
   entity-step name xs (Some entity.Package) is b = absurd (false≢true b)
-  entity-step name xs (Some entity.Main) is b = absurd (false≢true b)
+  entity-step name xs (Some entity.Main) is b = step-so (λ p r h. stood is_call_of_main h refl) (action-step action.CallMain signs next)
   entity-step name xs (Some (entity.Mark s)) is b = absurd (false≢true b)
   entity-step name xs (Some (entity.Literal enumeration position)) is b = absurd (false≢true b)
   entity-step name xs (Some (entity.Object s constant x declaration)) is b = absurd (false≢true b)

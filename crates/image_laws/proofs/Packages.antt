@@ -18,8 +18,8 @@ use Rattle.ada_image.specs.declared.making.SequencePlace.TheVariants as sequence
 use Rattle.ada_image.specs.Making.{◌>>=◌, ◌>>◌, action_put, first_put}
 use Rattle.ada_image.specs.ImageOfDeclarations.{sequence_put, inner_bodies_put, declarations_put, make_tasks, part_if, activation_put, body_put}
 use Rattle.ada_image.specs.ImageOfUnits.{has_body, part_of, package_part, package_declaration_put, package_statements_put, package_body_put, package_put, packages_put, actions_made}
-use Rattle.ada_image.specs.ReadStatements.{first_of_scope}
-use Rattle.ada_image.specs.NothingLost.{sequence_reads, and_behind, ends_at, reads_on, is_call_of_main, one_action, activation_read, inner_bodies_read, body_reads, package_statements_read, package_read, bodies_in_package, elaboration_reads}
+use Rattle.ada_image.specs.ReadStatements.{first_of_scope, is_call_of_main}
+use Rattle.ada_image.specs.NothingLost.{sequence_reads, and_behind, ends_at, reads_on, one_action, activation_read, inner_bodies_read, body_reads, package_statements_read, package_read, bodies_in_package, elaboration_reads}
 use Rattle.ada_image.specs.BuiltSequences.{sequence_if_built, declarations_built, sequence_built}
 use Rattle.ada_image.specs.BuiltUnits.{package_built, packages_built, unit_built}
 use Rattle.image_laws.proofs.Steps.{Step, step-pure, step-so, step-then, first-step}

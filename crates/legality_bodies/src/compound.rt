@@ -10,11 +10,10 @@ use ada_entities::entity_denoted;
 use ada_legality::{Around, Finding, Known};
 use ada_tree::{Case, CaseAlternative, Elsif, If, Iteration, Label, Loop};
 use ann_base::{NoMemory, Place};
+use legality_cases::{ChoiceOf, add_choices, case_judged, choices_read, type_of_selector};
 use legality_expressions::Readable;
 use legality_names::with_around;
-use legality_parts::{
-    ChoiceOf, add_choices, case_judged, choices_read, condition_found, type_of_selector,
-};
+use legality_parts::condition_found;
 use legality_statements::{iteration_found, with_iteration};
 use profile_machine::Sequence;
 use std::alloc::Global;

@@ -3,9 +3,8 @@ use crate::judging::Judge;
 use ada_legality::{Finding, Known};
 use ada_tree::Statement;
 use ann_base::NoMemory;
-use legality_parts::call_found;
 use legality_statements::{
-    abort_found, assignment_found, delay_found, exit_found, raise_found, requeue_found,
+    abort_found, assignment_found, call_found, delay_found, exit_found, raise_found, requeue_found,
     return_found,
 };
 use std::alloc::Global;

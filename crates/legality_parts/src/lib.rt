@@ -1,20 +1,16 @@
-//! What is found in parts of statements and declarations: values and conditions, bounds, subtype indications, parameters, calls,
-//! the cells of what is declared, the choices of case statements, and aspects (ISO/IEC 8652:2012, 3.2.2, 3.3.1, 3.5, 5.4,
-//! clause 6, 13.1.1). Each function has the name of the definition of `ada_legality` of which it is the counterpart.
+//! What is found in parts of statements and declarations: values and conditions, bounds, subtype indications, parameters,
+//! the cells of what is declared, and aspects (ISO/IEC 8652:2012, 3.2.2, 3.3.1, 3.5, 6.1, 13.1.1). Each function has the
+//! name of the definition of `ada_legality` of which it is the counterpart.
 #![tactic(auto)]
 
 mod aspects;
-mod calls;
 mod cells;
-mod choices;
 mod marks;
 mod parameters;
 mod values;
 
 pub use aspects::aspects_found;
-pub use calls::call_found;
 pub use cells::cells_noted;
-pub use choices::{ChoiceOf, add_choices, case_judged, choices_read, type_of_selector};
 pub use marks::{indication_found, type_of_mark};
 pub use parameters::parameters_found;
 pub use values::{

@@ -1,13 +1,15 @@
-//! What is found in statements without others in them, and in the heads of those with others (ISO/IEC 8652:2012, clauses 5, 6.5,
-//! 9, 11). Each function has the name of the definition of `ada_legality` of which it is the counterpart.
+//! What is found in statements without others in them, and in the heads of those with others (ISO/IEC 8652:2012, clauses 5, 6.4,
+//! 6.5, 9, 11). Each function has the name of the definition of `ada_legality` of which it is the counterpart.
 #![tactic(auto)]
 
 mod assignments;
+mod calls;
 mod leaving;
 mod loops;
 mod requeues;
 
 pub use assignments::{assignment_found, delay_found};
+pub use calls::call_found;
 pub use leaving::{exit_found, names_exception, raise_found, return_found, same_entities};
 pub use loops::{entry_call_found, guard_found, iteration_found, trigger_found, with_iteration};
 pub use requeues::{abort_found, names_entry, requeue_found, task_type_of_entry};

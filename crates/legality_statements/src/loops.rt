@@ -4,6 +4,7 @@ ghost use Rattle.ada_tree.specs.declared.statements.Iteration.TheVariants as ite
 ghost use Rattle.ada_legality.specs.SimpleStatements.{range_if_static, loop_parameter, type_of_loop, with_iteration, iteration_found, guard_found, trigger_found, entry_call_found};
 
 use crate::assignments::delay_found;
+use crate::calls::call_found;
 use crate::requeues::names_entry;
 use ada_entities::entity_denoted;
 use ada_legality::{Asked, Finding, Known, LoopParameter, Rule};
@@ -13,7 +14,7 @@ use ada_tree::{Call, Expression, Guard, Identifier, Iteration, Trigger};
 use ann_base::{NoMemory, Place};
 use legality_expressions::{Readable, place_of, typed_expression};
 use legality_names::{copy_of, with_loop};
-use legality_parts::{call_found, cells_noted, condition_found};
+use legality_parts::{cells_noted, condition_found};
 use legality_reads::expected;
 use legality_types::{broken_unless, type_of_bounds};
 use profile_machine::Constraint;

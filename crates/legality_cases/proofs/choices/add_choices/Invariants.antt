@@ -1,5 +1,5 @@
 use Rattle.std.proofs.Common.{◌≡◌, ◌++◌, drop}
-use Rattle.legality_parts.proofs.choices.add_choices.Given as goal
+use Rattle.legality_cases.proofs.choices.add_choices.Given as goal
 
 -- the choices so far, and those to come, are all of them
 abbrev pub invariant-loop-choice : goal.invariant-loop-choice

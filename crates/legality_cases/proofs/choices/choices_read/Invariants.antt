@@ -1,6 +1,6 @@
 use Rattle.std.proofs.Common.{◌≡◌, ◌++◌, drop}
 use Rattle.ada_legality.specs.Choices.{choices_read}
-use Rattle.legality_parts.proofs.choices.choices_read.Given as goal
+use Rattle.legality_cases.proofs.choices.choices_read.Given as goal
 
 -- the parts so far and those to come are all, and what was found by now and what is to be found is all
 abbrev pub invariant-loop-choice : goal.invariant-loop-choice

@@ -3,9 +3,8 @@ ghost use Rattle.std.specs.Prelude.{◌≡◌, ◌++◌, IfOk, OnOk, option_map}
 ghost use Rattle.ada_regions.specs.Words.{all_of};
 ghost use Rattle.ada_legality.specs.Findings.{Reads};
 ghost use Rattle.ada_legality.specs.Choices.{both_ends, case_judged, choice_number, choice_read, choices_read, one_value, range_choice, selector_judged, type_of_selector, value_choice};
-ghost use Rattle.legality_parts.specs.Ranges.{range_judged};
+ghost use Rattle.legality_cases.specs.Ranges.{range_judged};
 
-use crate::values::not_static;
 use ada_legality::{Asked, ChoicePart, Finding, Known, Read, Rule, Span, Typed};
 use ada_regions::AdaType;
 use ada_tree::{Choice, Expression, OneOrMore};
@@ -13,6 +12,7 @@ use ann_base::{NoMemory, Place};
 use legality_choices::{others_not_last, wrong_choices};
 use legality_expressions::Readable;
 use legality_numbers::static_number;
+use legality_parts::not_static;
 use legality_reads::{
     call_inside, expected, integer_literal, is_discrete_or_refused, literal_in,
     other_pointed_literal,

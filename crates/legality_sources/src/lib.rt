@@ -1,10 +1,7 @@
-//! What is found in the units of a source: contexts, packages and the main procedure (ISO/IEC 8652:2012, clauses 7, 10). Each
+//! What is found in the units of a source: packages and the main procedure (ISO/IEC 8652:2012, clauses 7, 10). Each
 //! function has the name of the definition of `ada_legality` of which it is the counterpart.
 #![tactic(auto)]
 
-mod contexts;
-mod indexes;
 mod units;
 
-pub use indexes::{indexes_of, known_with};
 pub use units::units_found;

@@ -5,7 +5,6 @@ ghost use Rattle.ada_legality.specs.Aspects.{stated_value};
 ghost use Rattle.ada_legality.specs.CallStatements.{all_found, found_if};
 ghost use Rattle.ada_legality.specs.Units.{library_package_found, main_found, main_priority_noted, package_body_found, package_declaration_found, package_found, part_found, units_found};
 
-use crate::contexts::context_found;
 use ada_legality::{Around, AspectOwner, AspectPart, Finding, Known};
 use ada_tree::{
     Declaration, LibraryPackage, MainProcedure, Package, PackageBody, PackageDeclaration, Sequence,
@@ -14,6 +13,7 @@ use ada_tree::{
 use ann_base::{NoMemory, Place};
 use legality_bodies::{Judge, judge_each, judge_if};
 use legality_choices::{place_of_priority, stated_value};
+use legality_contexts::context_found;
 use legality_names::with_around;
 use legality_parts::aspects_found;
 use legality_types::note;

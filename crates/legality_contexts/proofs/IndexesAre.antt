@@ -6,7 +6,7 @@ use Rattle.ada_legality.specs.declared.standing.InForce.{InForce}
 use Rattle.ada_regions.specs.Occurrences.{Occurrences}
 use Rattle.ada_regions.specs.declared.table.Names.{Names}
 use Rattle.ada_regions.specs.declared.types.AdaType.{AdaType}
-use Rattle.legality_sources.specs.Along.{index_put, indexes_along, indexes_with}
+use Rattle.legality_contexts.specs.Along.{index_put, indexes_along, indexes_with}
 
 module _ (n : Names) (occurrences : Occurrences) (r : InForce) where
   none : (indexes : List AdaType) → indexes_from (known_with n occurrences r indexes) [] ≡ indexes

@@ -1,7 +1,7 @@
 use Rattle.std.proofs.Common.{◌≡◌, ◌++◌, drop}
 use Rattle.ada_legality.specs.CallStatements.{all_found}
 use Rattle.ada_legality.specs.Units.{with_found}
-use Rattle.legality_sources.proofs.contexts.withs_found.Given as goal
+use Rattle.legality_contexts.proofs.contexts.withs_found.Given as goal
 
 -- what is found by now, and what the names to come give, is all
 abbrev pub invariant-loop-name : goal.invariant-loop-name

@@ -97,7 +97,7 @@ fn clause_found(
 }
 
 /// The context of a library unit.
-pub(crate) fn context_found(
+pub fn context_found(
     found: &mut List<Finding>,
     known: &Known<'_, '_>,
     clauses: &[ContextClause],

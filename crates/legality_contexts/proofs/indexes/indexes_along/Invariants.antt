@@ -1,7 +1,7 @@
 use Rattle.std.proofs.Common.{◌≡◌, drop, map}
 use Rattle.ada_occurrences.specs.Shown.{occurrence_shown}
-use Rattle.legality_sources.specs.Along.{indexes_along}
-use Rattle.legality_sources.proofs.indexes.indexes_along.Given as goal
+use Rattle.legality_contexts.specs.Along.{indexes_along}
+use Rattle.legality_contexts.proofs.indexes.indexes_along.Given as goal
 
 -- what those to come put behind what stands there is what all put behind what stood there first
 abbrev pub invariant-loop-occurrence : goal.invariant-loop-occurrence

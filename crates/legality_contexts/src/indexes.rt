@@ -2,7 +2,7 @@
 ghost use Rattle.std.specs.Prelude.{◌≡◌, IfOk, OnOk, map};
 ghost use Rattle.ada_occurrences.specs.Shown.{occurrence_shown};
 ghost use Rattle.ada_legality.specs.Units.{indexes_of, known_with, type_between};
-ghost use Rattle.legality_sources.specs.Along.{index_put, indexes_along};
+ghost use Rattle.legality_contexts.specs.Along.{index_put, indexes_along};
 
 use ada_image::NamesOf;
 use ada_legality::{InForce, IndexesOf, Known, OccurrencesOf};

@@ -27,6 +27,7 @@ pub mod Row20b
 pub mod Row20c
 pub mod Row23
 pub mod Row23_interrupt
+pub mod Row25
 pub mod RowAbort_action
 pub mod RowAbort_blocked
 pub mod RowActivation_failed

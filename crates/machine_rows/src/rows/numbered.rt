@@ -28,6 +28,7 @@ ghost use Rattle.machine_rows.specs.Rows.Row20b.{row_20b_lines, row_20b_trace, r
 ghost use Rattle.machine_rows.specs.Rows.Row20c.{row_20c_lines, row_20c_trace, row_20c_worlds, row_20c_handlers};
 ghost use Rattle.machine_rows.specs.Rows.Row23.{row_23_lines, row_23_trace};
 ghost use Rattle.machine_rows.specs.Rows.Row23_interrupt.{row_23_interrupt_lines, row_23_interrupt_trace};
+ghost use Rattle.machine_rows.specs.Rows.Row25.{row_25_lines, row_25_trace, row_25_worlds, row_25_handlers};
 
 /// Row 01, up to tick 10.
 #[tactic(auto, using(crate::specs::Rows::Row01::row_01_runs, crate::specs::Rows::Row01::row_01_keeps, crate::specs::Rows::Row01::row_01_releases))]
@@ -243,4 +244,12 @@ pub fn row_23()
 #[tactic(auto, using(crate::specs::Rows::Row23_interrupt::row_23_interrupt_runs))]
 pub fn row_23_interrupt()
     ensures { row_23_interrupt_lines ≡ row_23_interrupt_trace }
+{}
+
+/// Row 25, up to tick 106.
+#[tactic(auto, using(crate::specs::Rows::Row25::row_25_runs, crate::specs::Rows::Row25::row_25_keeps, crate::specs::Rows::Row25::row_25_releases))]
+pub fn row_25()
+    ensures runs { row_25_lines ≡ row_25_trace }
+    ensures keeps { IsTrue row_25_worlds }
+    ensures releases { IsTrue row_25_handlers }
 {}

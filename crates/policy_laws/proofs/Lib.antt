@@ -1,0 +1,4 @@
+pub mod Faultless
+pub mod NothingFound
+pub mod Policies
+pub mod Ranges

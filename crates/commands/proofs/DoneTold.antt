@@ -5,6 +5,7 @@ use Rattle.trace_text.specs.declared.events.Ended.{Ended as Stop}
 use Rattle.trace_text.specs.declared.events.Ended.TheVariants as why
 use Rattle.profile_machine.specs.declared.run_data.Item.{Item}
 use Rattle.profile_machine.specs.declared.image.Image.{Image}
+use Rattle.ada_front.specs.Accepted.{Accepted as IsAccepted}
 use Rattle.commands.specs.declared.outcomes.Outcome.{Outcome}
 use Rattle.commands.specs.declared.outcomes.Outcome.TheVariants.{Ended, Accepted, Tested, Traced, WordsRefused, SourceRefused, ScriptRefused, TableRefused, TraceRefused, ReadFault, WriteFault, NoMemory}
 use Rattle.commands.specs.declared.requests.Work.{Work}
@@ -84,21 +85,33 @@ done_told asked shelf out notes o status p c small = done_by asked shelf out o s
 abbrev pub OfRuns : (List Line → Type 0) → Type 0
 OfRuns law = (p : Image) (script : List (ℤ × Item)) (bound : ℕ) → law (run_of p script bound)
 
-law_of_lines : (law : List Line → Type 0) → OfRuns law → (p : Image) (script : List (ℤ × Item)) (bound : ℕ) → law (lines_of_run p script bound)
-unfolding lines_of_run
-law_of_lines law holds p script bound = holds p script bound
+-- the same of the runs of each image that has this
+abbrev pub OfRunsWhere : (Image → Type 0) → (List Line → Type 0) → Type 0
+OfRunsWhere has law = (p : Image) → has p → (script : List (ℤ × Item)) (bound : ℕ) → law (run_of p script bound)
 
-law_done : (law : List Line → Type 0) → OfRuns law → (items : List (ℤ × Item)) (ticks : ℕ) (bytes : List ℕ) (out : SinkChange) (o : Outcome) → IsDone items (work.Run ticks) bytes out o → WrittenKeeps law items ticks bytes out
+-- the image of each source that is accepted has this
+abbrev pub OfAccepted : (Image → Type 0) → Type 0
+OfAccepted has = (bytes : List ℕ) (p : Image) → IsAccepted bytes p → has p
+
+-- a law of the runs of these images
+abbrev OfAcceptedRuns : (List Line → Type 0) → Type 0
+OfAcceptedRuns law = (bytes : List ℕ) (p : Image) → IsAccepted bytes p → (script : List (ℤ × Item)) (bound : ℕ) → law (run_of p script bound)
+
+law_of_lines : (law : List Line → Type 0) → OfAcceptedRuns law → (bytes : List ℕ) (p : Image) → IsAccepted bytes p → (script : List (ℤ × Item)) (bound : ℕ) → law (lines_of_run p script bound)
+unfolding lines_of_run
+law_of_lines law holds bytes p fits script bound = holds bytes p fits script bound
+
+law_done : (law : List Line → Type 0) → OfAcceptedRuns law → (items : List (ℤ × Item)) (ticks : ℕ) (bytes : List ℕ) (out : SinkChange) (o : Outcome) → IsDone items (work.Run ticks) bytes out o → WrittenKeeps law items ticks bytes out
 law_done law holds items ticks bytes out o done = record {
   image = done.image;
   lines = lines_of_run done.image items ticks;
   accepted = done.accepted;
   are_of_run = refl;
   text = done.text;
-  keeps = law_of_lines law holds done.image items ticks;
+  keeps = law_of_lines law holds bytes done.image done.accepted items ticks;
 }
 
-law_by : (law : List Line → Type 0) → OfRuns law → (asked : Option Asked) (shelf : ShelfChange) (out : SinkChange) (status : ℕ) → DoneTold asked shelf out status → LawTold law asked shelf out
+law_by : (law : List Line → Type 0) → OfAcceptedRuns law → (asked : Option Asked) (shelf : ShelfChange) (out : SinkChange) (status : ℕ) → DoneTold asked shelf out status → LawTold law asked shelf out
 law_by law holds None shelf out status h = tt
 law_by law holds (Some (SourceAsked source (work.Run ticks))) shelf out status h =
     told_map (told shelf.files source) (λ bytes. EndedWith [] (work.Run ticks) bytes out status) (λ bytes. WrittenKeeps law [] ticks bytes out) (λ bytes ended. law_done law holds [] ticks bytes out ended.0 ended.1) h
@@ -112,7 +125,13 @@ law_by law holds (Some (TableAsked table t)) shelf out status h = tt
 law_by law holds (Some (TraceAsked trace w)) shelf out status h = tt
 
 pub law_told : (law : List Line → Type 0) → OfRuns law → (asked : Option Asked) (shelf : ShelfChange) (out notes : SinkChange) (o : Outcome) (status : ℕ) → Performs asked shelf out o → Concludes o notes status → status ≤ 3 → LawTold law asked shelf out
-law_told law holds asked shelf out notes o status p c small = law_by law holds asked shelf out status (done_told asked shelf out notes o status p c small)
+law_told law holds asked shelf out notes o status p c small =
+    law_by law (λ bytes image fits script bound. holds image script bound) asked shelf out status (done_told asked shelf out notes o status p c small)
+
+-- a law that needs of an image what each accepted source gives it
+pub law_told_where : (has : Image → Type 0) → OfAccepted has → (law : List Line → Type 0) → OfRunsWhere has law → (asked : Option Asked) (shelf : ShelfChange) (out notes : SinkChange) (o : Outcome) (status : ℕ) → Performs asked shelf out o → Concludes o notes status → status ≤ 3 → LawTold law asked shelf out
+law_told_where has given law holds asked shelf out notes o status p c small =
+    law_by law (λ bytes image fits script bound. holds image (given bytes image fits) script bound) asked shelf out status (done_told asked shelf out notes o status p c small)
 
 quiet_by : (o : Outcome) (notes : SinkChange) (status : ℕ) → (status ≡ status_of o) × IsNoted (note_of o) notes → status ≤ 3 → IsKept notes
 quiet_by (Ended stop) notes status c small = c.1

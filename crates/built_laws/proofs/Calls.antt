@@ -170,6 +170,7 @@ module _ (k : Known) (place : Place) (xs : List (Argument Expression)) (a : argu
   unfolding formals_of_kind
   entity-called (Some (entity.Subprogram number is_function specified formals unit)) c g = actuals-sound k place formals xs c a f g
   entity-called (Some (entity.Entry number unit formals)) c g = actuals-sound k place formals xs c a f g
+  entity-called (Some entity.Main) c g = refl
   entity-called _ c g = absurd (false≢true c)
 
   denoted-called : (d : Option Denoted) → called_clear (and_then d (denoted_kind k.names)) ≡ true → unwrap_or (option_map (denotes_procedure k) d) false ≡ true

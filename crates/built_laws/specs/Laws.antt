@@ -70,10 +70,11 @@ abbrev pub ReadActualsBuilt : Type 0
 ReadActualsBuilt = (k : Known) (place : Place) (formals : List Formal) (arguments : List (Argument Expression)) → IsTrue (formals_clear formals) → IsTrue (arguments_clear expression_clear arguments k)
     → faults_in ((arguments_read read_expression arguments k).1 ++ actuals_judged k place (map formal_part formals) (arguments_read read_expression arguments k).0) ≡ [] → IsTrue (arguments_built formals arguments k.names)
 
--- a subprogram or an entry is called, whose formals are clear; the main procedure is none, since an image has no call of it
+-- a subprogram or an entry is called, whose formals are clear, or the main procedure, which has none
 abbrev pub called_clear : Option EntityKind → Bool
 called_clear (Some (entity.Subprogram number is_function specified formals unit)) = formals_clear formals
 called_clear (Some (entity.Entry number unit formals)) = formals_clear formals
+called_clear (Some entity.Main) = true
 called_clear _ = false
 
 -- call statements of what the source declares

@@ -53,7 +53,8 @@ pub fn read_actuals_built()
     ensures { ReadActualsBuilt }
 {}
 
-/// Each call statement of a subprogram or an entry of the source, of clear names, that breaks no rule is built.
+/// Each call statement of a subprogram, an entry or the main procedure, of clear names, that breaks
+/// no rule is built.
 #[tactic(auto, using(crate::proofs::Calls::read_calls_built))]
 pub fn read_calls_built()
     ensures { ReadCallsBuilt }

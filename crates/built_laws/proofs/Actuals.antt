@@ -79,7 +79,7 @@ or-second true y e h = absurd (false≢true (sym h))
 or-second false y e h = e
 
 -- an actual is given for a formal that may not be omitted
-given-one : (place : Place) (f : FormalPart) (actuals : List ActualPart) → faults_in (wrong_actuals place (f ∷ []) actuals) ≡ [] → f.may_be_omitted ≡ false → given_before (f ∷ []) actuals 0 f.name ≡ true
+pub given-one : (place : Place) (f : FormalPart) (actuals : List ActualPart) → faults_in (wrong_actuals place (f ∷ []) actuals) ≡ [] → f.may_be_omitted ≡ false → given_before (f ∷ []) actuals 0 f.name ≡ true
 unfolding wrong_actuals all_given
 given-one place f actuals e h =
     let p = none-of _ _ e in

@@ -52,15 +52,15 @@ module _ (k : Known) where
   actuals_of xs = (arguments_read read_expression xs k).0
 
   -- an argument: an operand, and as a variable built
-  record Sound (e : Expression) : Type 0 where
+  pub record Sound (e : Expression) : Type 0 where
     pub operand : OperandWell (read_expression e k).0 (expression_built e k.names)
     pub variable : shape_is_variable (read_expression e k).0.shape ≡ true → variable_built e k.names ≡ true
 
-  abbrev Sounds : List (Argument Expression) → Type 0
+  abbrev pub Sounds : List (Argument Expression) → Type 0
   Sounds [] = ⊤
   Sounds (a ∷ rest) = Sound a.value × Sounds rest
 
-  sounds : (xs : List (Argument Expression)) → faults_in (arguments_read read_expression xs k).1 ≡ [] → arguments_clear expression_clear xs k ≡ true → Sounds xs
+  pub sounds : (xs : List (Argument Expression)) → faults_in (arguments_read read_expression xs k).1 ≡ [] → arguments_clear expression_clear xs k ≡ true → Sounds xs
   unfolding arguments_read
   sounds [] f c = tt
   sounds (a ∷ rest) f c =
@@ -75,7 +75,7 @@ module _ (k : Known) where
   chosen true e s = refl
   chosen false e s = refl
 
-  found-from : (number : ℕ) (name : List ℕ) (at : ℕ) (xs : List (Argument Expression)) → actual_from number name at (actuals_of xs) ≡ option_map read_of (argument_from number name at xs)
+  pub found-from : (number : ℕ) (name : List ℕ) (at : ℕ) (xs : List (Argument Expression)) → actual_from number name at (actuals_of xs) ≡ option_map read_of (argument_from number name at xs)
   unfolding actual_from argument_from arguments_read
   found-from number name at [] = refl
   found-from number name at (a ∷ rest) =
@@ -83,7 +83,7 @@ module _ (k : Known) where
       ∙ ap (λ t. cond (is_for_formal number name at a.formal) (Some (read_of a.value)) t) (found-from number name (suc at) rest)
       ∙ chosen (is_for_formal number name at a.formal) a.value (argument_from number name (suc at) rest)
 
-  sound-from : (number : ℕ) (name : List ℕ) (at : ℕ) (xs : List (Argument Expression)) → Sounds xs → (e : Expression) → argument_from number name at xs ≡ Some e → Sound e
+  pub sound-from : (number : ℕ) (name : List ℕ) (at : ℕ) (xs : List (Argument Expression)) → Sounds xs → (e : Expression) → argument_from number name at xs ≡ Some e → Sound e
   unfolding argument_from
   sound-from number name at [] w e q = absurd cc
   sound-from number name at (a ∷ rest) w e q = go (is_for_formal number name at a.formal) (sound-from number name (suc at) rest w.1 e) q
@@ -99,7 +99,7 @@ module _ (k : Known) where
   is-variable true false p q = absurd cc
   is-variable false y p q = absurd (false≢true p)
 
-  assigned-sound : (e : Expression) → Sound e → faults_in (assigning_actual k (read_of e)) ≡ [] → variable_built e k.names ≡ true
+  pub assigned-sound : (e : Expression) → Sound e → faults_in (assigning_actual k (read_of e)) ≡ [] → variable_built e k.names ≡ true
   unfolding assigning_actual
   assigned-sound e w f = w.variable (is-variable (has_type (read_of e).typed) (shape_is_variable (read_of e).shape) w.operand.typed (if-none _ _ (read_of e).place (none-of _ _ f).0))
 
@@ -140,7 +140,7 @@ module _ (k : Known) where
         let p = none-of _ _ n in
         and_from _ _ (one-sound f number (given-found whole number f.name s.0 (actuals_of xs) 0 given.0) typed.0 p.0) (each-sound fs (suc number) s.1 given.1 p.1 typed.1)
 
-all-there : (place : Place) (formals : List FormalPart) (actuals : List ActualPart) → faults_in (wrong_actuals place formals actuals) ≡ [] → list_all (is_given formals actuals) formals ≡ true
+pub all-there : (place : Place) (formals : List FormalPart) (actuals : List ActualPart) → faults_in (wrong_actuals place formals actuals) ≡ [] → list_all (is_given formals actuals) formals ≡ true
 unfolding wrong_actuals all_given
 all-there place formals actuals e =
     let p = none-of _ _ e in

@@ -11,5 +11,9 @@ pub mod StatementValues
 pub mod FormalNames
 pub mod Variables
 pub mod Calls
+pub mod Texts
+pub mod Formals
+pub mod Moments
+pub mod Procedures
 pub mod Sources
 pub mod Assignments

@@ -10,8 +10,11 @@ use Rattle.ada_tree.specs.declared.expressions.Expression.{Expression}
 use Rattle.ada_tree.specs.declared.expressions.Argument.{Argument}
 use Rattle.ada_regions.specs.declared.types.AdaType.{AdaType}
 use Rattle.ada_regions.specs.declared.types.Formal.{Formal}
+use Rattle.ada_regions.specs.declared.entities.Denoted.{Denoted}
+use Rattle.ada_regions.specs.declared.entities.Denoted.TheVariants as denotes
 use Rattle.ada_regions.specs.declared.entities.EntityKind.{EntityKind}
 use Rattle.ada_regions.specs.declared.entities.EntityKind.TheVariants as entity
+use Rattle.ada_regions.specs.Names.{denoted_by}
 use Rattle.ada_image.specs.Layout.{is_thing}
 use Rattle.ada_image.specs.ImageOfCalls.{FunctionCall}
 use Rattle.ada_legality.specs.declared.reading.Asked.{Asked}
@@ -80,6 +83,19 @@ called_clear _ = false
 -- call statements of what the source declares
 abbrev pub ReadCallsBuilt : Type 0
 ReadCallsBuilt = (k : Known) (c : Call) → IsTrue (called_clear (kind_of k.names c.name)) → IsTrue (arguments_clear expression_clear c.arguments k) → faults_in (call_found c k) ≡ [] → IsTrue (call_statement_built c k.names)
+
+-- ---- calls of predefined procedures
+
+-- a predefined name is called
+abbrev pub is_predefined : Option Denoted → Bool
+is_predefined (Some (denotes.Item u item)) = true
+is_predefined _ = false
+
+-- call statements of what is predefined: the pieces of a Put_Line, the moment of a Set_Handler, and what is handed to the others
+abbrev pub ReadProceduresBuilt : Type 0
+ReadProceduresBuilt = (k : Known) (c : Call) → IsTrue (is_predefined (denoted_by k.names c.name)) → IsTrue (arguments_clear expression_clear c.arguments k) → faults_in (call_found c k) ≡ [] → IsTrue (call_statement_built c k.names)
+
+-- ---- values that may be the call of a function
 
 abbrev pub function_clear : Option FunctionCall → Bool
 function_clear None = true

@@ -4,11 +4,12 @@
 //! apart what is found where no rule is broken, `Operators` says of which types the operands of operators are,
 //! `Actuals` that a predefined function has its actuals, and `Denotations` and `Expressions` go through the forms
 //! beside what legality reads in them. `StatementValues` has the places of statements where values stand,
-//! `FormalNames`, `Variables` and `Calls` the actuals of calls, `Sources` the calls of functions, and `Assignments`
-//! assignments and returns.
+//! `FormalNames`, `Variables` and `Calls` the actuals of calls, `Texts`, `Formals`, `Moments` and
+//! `Procedures` the calls of predefined procedures, `Sources` the calls of functions, and
+//! `Assignments` assignments and returns.
 #![tactic(auto)]
 
-ghost use Rattle.built_laws.specs.Laws.{ExpectedExpressionsBuilt, ReadActualsBuilt, ReadAssignmentsBuilt, ReadCallsBuilt, ReadConditionsBuilt, ReadDelaysBuilt, ReadExpressionsBuilt, ReadIterationsBuilt, ReadReturnsBuilt, ReadSelectorsBuilt, ReadSourcesBuilt};
+ghost use Rattle.built_laws.specs.Laws.{ExpectedExpressionsBuilt, ReadActualsBuilt, ReadAssignmentsBuilt, ReadCallsBuilt, ReadConditionsBuilt, ReadDelaysBuilt, ReadExpressionsBuilt, ReadIterationsBuilt, ReadProceduresBuilt, ReadReturnsBuilt, ReadSelectorsBuilt, ReadSourcesBuilt};
 
 /// Each expression of clear names in which no rule is broken, which has a type of values and is not the call of a function of
 /// the source, is built.
@@ -58,6 +59,12 @@ pub fn read_actuals_built()
 #[tactic(auto, using(crate::proofs::Calls::read_calls_built))]
 pub fn read_calls_built()
     ensures { ReadCallsBuilt }
+{}
+
+/// Each call statement of a predefined procedure, of clear names, that breaks no rule is built.
+#[tactic(auto, using(crate::proofs::Procedures::read_procedures_built))]
+pub fn read_procedures_built()
+    ensures { ReadProceduresBuilt }
 {}
 
 /// Each value that stands where a function of the source may be called, of clear names, is built, where it breaks no rule.

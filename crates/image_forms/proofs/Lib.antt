@@ -1,0 +1,5 @@
+pub mod Given
+pub mod ActualLemmas
+pub mod DeclarationLists
+pub mod ExpressionFolds
+pub mod SequenceFolds

@@ -1,0 +1,68 @@
+//! Declarations, and the bodies among them (ISO/IEC 8652:2012, 3.11, 6.3, 9.1, 9.4).
+ghost use Rattle.std.specs.Prelude.{◌≡◌, ◌∷◌, []};
+ghost use Rattle.ada_image.specs.BuiltSequences.{operations_built, declaration_built, declarations_built};
+
+use crate::actuals::initial_built;
+use crate::forms::HasForm;
+use ada_regions::Names;
+use ada_tree::{Declaration, OperationBody};
+
+/// The body of an operation of a protected unit.
+#[tactic(auto, using(crate::proofs::DeclarationLists::alone))]
+fn operation_body_built<Q: HasForm>(operation: &OperationBody<Q>, names: &Names<'_>) -> bool
+    ensures { result ≡ operations_built Q.built (operation.now ∷ []) names.now }
+{
+    match operation {
+        OperationBody::Subprogram { body, .. } => body.sequence.is_built(names),
+        OperationBody::Entry { body, .. } => body.sequence.is_built(names),
+    }
+}
+
+/// The bodies of the operations of a protected unit (9.4).
+#[tactic(auto, using(crate::proofs::DeclarationLists::operations_more))]
+fn operations_built<Q: HasForm>(operations: &[OperationBody<Q>], names: &Names<'_>) -> bool
+    ensures { result ≡ operations_built Q.built operations.now names.now }
+{
+    for operation in operations {
+        if !operation_body_built(operation, names) {
+            return false;
+        }
+    }
+    true
+}
+
+/// A declaration, or the body that it is.
+fn declaration_built<Q: HasForm>(declaration: &Declaration<Q>, names: &Names<'_>) -> bool
+    ensures { result ≡ declaration_built Q.built declaration.now names.now }
+{
+    match declaration {
+        Declaration::Object(object) => initial_built(&object.initial, names),
+        Declaration::Type(_) => true,
+        Declaration::Subtype(_) => true,
+        Declaration::Exception { .. } => true,
+        Declaration::Subprogram(_) => true,
+        Declaration::SubprogramBody { body, .. } => body.sequence.is_built(names),
+        Declaration::Task(_) => true,
+        Declaration::TaskBody { body, .. } => body.sequence.is_built(names),
+        Declaration::Protected(_) => true,
+        Declaration::ProtectedBody(protected) => {
+            operations_built(protected.operations.as_slice(), names)
+        }
+        Declaration::Use { .. } => true,
+    }
+}
+
+/// The declarations of a part (3.11).
+pub(crate) fn declarations_built<Q: HasForm>(
+    declarations: &[Declaration<Q>],
+    names: &Names<'_>,
+) -> bool
+    ensures { result ≡ declarations_built Q.built declarations.now names.now }
+{
+    for declaration in declarations {
+        if !declaration_built(declaration, names) {
+            return false;
+        }
+    }
+    true
+}

@@ -1,0 +1,98 @@
+//! The parts of if and case statements, handlers and accepts (ISO/IEC 8652:2012, 5.3, 5.4, 9.5.2, 11.2).
+ghost use Rattle.std.specs.Prelude.{◌≡◌, ◌∷◌, ◌&&◌};
+ghost use Rattle.ada_image.specs.BuiltExpressions.{expression_built};
+ghost use Rattle.ada_image.specs.BuiltStatements.{choices_built};
+ghost use Rattle.ada_image.specs.BuiltSequences.{sequence_if_built, elsifs_built, alternatives_built, handlers_built, accept_body_built};
+
+use crate::expressions::expression_built;
+use crate::forms::HasForm;
+use crate::simple::choices_built;
+use ada_regions::Names;
+use ada_tree::{AcceptBody, CaseAlternative, Elsif, Handler, OneOrMore};
+
+/// Statements that may be missing.
+pub(crate) fn sequence_if_built<Q: HasForm>(sequence: &Option<Q>, names: &Names<'_>) -> bool
+    ensures { result ≡ sequence_if_built Q.built sequence.now names.now }
+{
+    match sequence {
+        None => true,
+        Some(sequence) => sequence.is_built(names),
+    }
+}
+
+/// A further condition with the statements behind it.
+fn elsif_built<Q: HasForm>(elsif: &Elsif<Q>, names: &Names<'_>) -> bool
+    ensures { result ≡ (expression_built elsif.now.condition names.now && Q.built elsif.now.statements names.now) }
+{
+    expression_built(&elsif.condition, names) && elsif.statements.is_built(names)
+}
+
+/// The branches behind `elsif` (5.3).
+pub(crate) fn elsifs_built<Q: HasForm>(elsifs: &[Elsif<Q>], names: &Names<'_>) -> bool
+    ensures { result ≡ elsifs_built Q.built elsifs.now names.now }
+{
+    for elsif in elsifs {
+        if !elsif_built(elsif, names) {
+            return false;
+        }
+    }
+    true
+}
+
+/// An alternative of a case statement.
+fn alternative_of_case_built<Q: HasForm>(
+    alternative: &CaseAlternative<Q>,
+    names: &Names<'_>,
+) -> bool
+    ensures { result ≡ (choices_built (alternative.now.choices.first ∷ alternative.now.choices.others) names.now && Q.built alternative.now.statements names.now) }
+{
+    choices_built(&alternative.choices, names) && alternative.statements.is_built(names)
+}
+
+/// Alternatives of a case statement.
+fn other_alternatives_built<Q: HasForm>(
+    alternatives: &[CaseAlternative<Q>],
+    names: &Names<'_>,
+) -> bool
+    ensures { result ≡ alternatives_built Q.built alternatives.now names.now }
+{
+    for alternative in alternatives {
+        if !alternative_of_case_built(alternative, names) {
+            return false;
+        }
+    }
+    true
+}
+
+/// All alternatives of a case statement (5.4).
+pub(crate) fn alternatives_built<Q: HasForm>(
+    alternatives: &OneOrMore<CaseAlternative<Q>>,
+    names: &Names<'_>,
+) -> bool
+    ensures { result ≡ alternatives_built Q.built (alternatives.now.first ∷ alternatives.now.others) names.now }
+{
+    alternative_of_case_built(&alternatives.first, names)
+        && other_alternatives_built(alternatives.others.as_slice(), names)
+}
+
+/// Exception handlers (11.2).
+pub(crate) fn handlers_built<Q: HasForm>(handlers: &[Handler<Q>], names: &Names<'_>) -> bool
+    ensures { result ≡ handlers_built Q.built handlers.now names.now }
+{
+    for handler in handlers {
+        if !handler.statements.is_built(names) {
+            return false;
+        }
+    }
+    true
+}
+
+/// What stands behind `do` of an accept (9.5.2).
+pub(crate) fn accept_body_built<Q: HasForm>(body: &Option<AcceptBody<Q>>, names: &Names<'_>) -> bool
+    ensures { result ≡ accept_body_built Q.built body.now names.now }
+{
+    match body {
+        None => true,
+        Some(body) => body.sequence.is_built(names),
+    }
+}

@@ -1,5 +1,5 @@
 -- Which sources are accepted, and why the others are refused.
-use Rattle.std.specs.Prelude.{◌≡◌, ◌<◌, ℕ, true, List, Option, Some, None, Result, Ok, Err, length}
+use Rattle.std.specs.Prelude.{◌≡◌, ◌<◌, ℕ, Bool, true, false, List, Option, Some, None, Result, Ok, Err, length}
 use Rattle.ada_lex.specs.declared.lexing.TheConstants.{MAX_SOURCE}
 use Rattle.ada_lex.specs.declared.tokens.Token.{Token}
 use Rattle.ada_lex.specs.declared.tokens.LexFault.{LexFault}
@@ -12,17 +12,18 @@ use Rattle.ada_tree.specs.Shape.{is_shaped}
 use Rattle.ada_grammar.specs.declared.faults.ParseFault.{ParseFault}
 use Rattle.ada_grammar.specs.ReadingUnits.{unit_of}
 use Rattle.ada_regions.specs.declared.faults.NameFault.{NameFault}
-use Rattle.ada_regions.specs.Numbered.{name_fault_of}
+use Rattle.ada_regions.specs.Numbered.{names_of, name_fault_of}
 use Rattle.ada_legality.specs.declared.faults.Fault.{Fault}
 use Rattle.ada_legality.specs.Faults.{first_fault_of}
+use Rattle.ada_image.specs.BuiltUnits.{unit_built}
 use Rattle.ada_image.specs.ImageOfUnits.{program_of}
 use Rattle.profile_machine.specs.declared.image.Image.{Image}
 use Rattle.ada_front.specs.declared.refusing.Code.TheVariants as code
 use Rattle.ada_front.specs.declared.refusing.Refusal.{Refusal}
-use Rattle.ada_front.specs.Refusals.{refused_at, first_place, of_tokens, of_grammar, of_names, of_rules}
+use Rattle.ada_front.specs.Refusals.{refused_at, first_place, of_tokens, of_grammar, of_names, of_rules, of_forms}
 
 -- The bytes are accepted as an image: their tokens spell a shaped tree, each of its names has one declaration, it breaks
--- no rule, and the image is that of the tree.
+-- no rule, each of its forms is one that an image has, and the image is that of the tree.
 pub record Accepted (source : List ℕ) (image : Image) : Type 0 where
   pub tokens : List Token
   pub lexed : Lexed source tokens
@@ -31,12 +32,17 @@ pub record Accepted (source : List ℕ) (image : Image) : Type 0 where
   pub shaped : is_shaped tree ≡ true
   pub named : name_fault_of tree ≡ None
   pub unbroken : first_fault_of tree ≡ None
+  pub built : unit_built tree (names_of tree) ≡ true
   pub numbered : image ≡ program_of tree
 
 -- ---- the first stage that refuses decides
 
+abbrev pub by_forms : Tree → Bool → Result Image Refusal
+by_forms tree true = Ok (program_of tree)
+by_forms tree false = Err (of_forms tree)
+
 abbrev pub by_rules : Tree → Option Fault → Result Image Refusal
-by_rules tree None = Ok (program_of tree)
+by_rules tree None = by_forms tree (unit_built tree (names_of tree))
 by_rules tree (Some fault) = Err (of_rules fault)
 
 abbrev pub by_names : Tree → Option NameFault → Result Image Refusal
@@ -69,9 +75,11 @@ pub record AcceptedTokens (source : List ℕ) (tokens : List Token) (image : Ima
   pub shaped : is_shaped tree ≡ true
   pub named : name_fault_of tree ≡ None
   pub unbroken : first_fault_of tree ≡ None
+  pub built : unit_built tree (names_of tree) ≡ true
   pub numbered : image ≡ program_of tree
 
 pub record AcceptedTree (tree : Tree) (image : Image) : Type 0 where
   pub named : name_fault_of tree ≡ None
   pub unbroken : first_fault_of tree ≡ None
+  pub built : unit_built tree (names_of tree) ≡ true
   pub numbered : image ≡ program_of tree

@@ -5,6 +5,7 @@ use Rattle.ada_lex.specs.declared.tokens.Kind.TheVariants as kinds
 use Rattle.ada_lex.specs.declared.tokens.Token.{Token}
 use Rattle.ada_lex.specs.declared.tokens.LexFault.{LexFault}
 use Rattle.ada_lex.specs.declared.tokens.LexFault.TheVariants as lexical
+use Rattle.ada_tree.specs.declared.units.Unit.{Unit as Tree}
 use Rattle.ada_grammar.specs.declared.faults.ParseFault.{ParseFault}
 use Rattle.ada_grammar.specs.declared.faults.ParseFault.TheVariants as grammatical
 use Rattle.ada_regions.specs.declared.faults.NameFault.{NameFault}
@@ -89,3 +90,7 @@ of_names (named.Ambiguous place) = refused_at place code.Ambiguous
 
 abbrev pub of_rules : Fault → Refusal
 of_rules fault = refused_at fault.place (code.Rule (number_of_rule fault.rule))
+
+-- a form that no image has is told at the main procedure's name, behind the rules of legality
+abbrev pub of_forms : Tree → Refusal
+of_forms tree = refused_at tree.main.name.place (code.Rule 40)

@@ -1,16 +1,17 @@
 //! The stages of the front end.
-ghost use Rattle.std.specs.Prelude.{◌≡◌, ◌≤◌, length, Ok, None, IfOk};
+ghost use Rattle.std.specs.Prelude.{◌≡◌, ◌≤◌, length, Ok, None, true, IfOk};
 ghost use Rattle.ann_base.specs.Answers.{Answers};
 ghost use Rattle.ada_lex.specs.Lexed.{AreTokensOf};
 ghost use Rattle.ada_tree.specs.Written.{lexemes_of};
 ghost use Rattle.ada_grammar.specs.ReadingUnits.{unit_of};
 ghost use Rattle.ada_regions.specs.Numbered.{names_of, name_fault_of};
 ghost use Rattle.ada_legality.specs.Faults.{first_fault_of};
+ghost use Rattle.ada_image.specs.BuiltUnits.{unit_built};
 ghost use Rattle.ada_image.specs.ImageOfUnits.{program_of};
 ghost use Rattle.profile_machine.specs.declared.image.Image.{Image};
-ghost use Rattle.ada_front.specs.Accepted.{Accepted, AcceptedTokens, AcceptedTree, judged, by_grammar, by_names, by_rules};
+ghost use Rattle.ada_front.specs.Accepted.{Accepted, AcceptedTokens, AcceptedTree, judged, by_grammar, by_names, by_rules, by_forms};
 
-use crate::refusing::{Refusal, of_grammar, of_names, of_rules, of_tokens};
+use crate::refusing::{Refusal, of_forms, of_grammar, of_names, of_rules, of_tokens};
 use ada_legality::Fault;
 use ada_lex::{MAX_SOURCE, Token, lex};
 use ada_naming::names_of;
@@ -18,6 +19,7 @@ use ada_parse::parse;
 use ada_regions::{NameFault, Names};
 use ada_tree::Unit;
 use ann_base::{NoMemory, OrMemory};
+use image_forms::unit_built;
 use image_programs::program_from;
 use legality::first_fault;
 use profile_machine::Image;
@@ -75,7 +77,7 @@ fn accept_names<'t>(
 ) -> Result<Image, OrMemory<Refusal>>
     requires { names.now ≡ names_of tree.now }
     ensures exact { Answers result (by_names tree.now fault) }
-    ensures accepted { IfOk result (λ image. (image ≡ program_of tree.now) × (first_fault_of tree.now ≡ None) × (fault ≡ None)) }
+    ensures accepted { IfOk result (λ image. (image ≡ program_of tree.now) × (first_fault_of tree.now ≡ None) × (unit_built tree.now (names_of tree.now) ≡ true) × (fault ≡ None)) }
 {
     match fault {
         None => accept_named(alloc, tree, names),
@@ -91,7 +93,7 @@ fn accept_named<'t>(
 ) -> Result<Image, OrMemory<Refusal>>
     requires { names.now ≡ names_of tree.now }
     ensures exact { Answers result (by_rules tree.now (first_fault_of tree.now)) }
-    ensures accepted { IfOk result (λ image. (image ≡ program_of tree.now) × (first_fault_of tree.now ≡ None)) }
+    ensures accepted { IfOk result (λ image. (image ≡ program_of tree.now) × (first_fault_of tree.now ≡ None) × (unit_built tree.now (names_of tree.now) ≡ true)) }
 {
     match first_fault_of(alloc, tree, names) {
         Ok(fault) => accept_judged(alloc, tree, names, fault),
@@ -121,7 +123,7 @@ fn accept_judged(
 ) -> Result<Image, OrMemory<Refusal>>
     requires { names.now ≡ names_of tree.now }
     ensures exact { Answers result (by_rules tree.now fault) }
-    ensures accepted { IfOk result (λ image. (image ≡ program_of tree.now) × (fault ≡ None)) }
+    ensures accepted { IfOk result (λ image. (image ≡ program_of tree.now) × (unit_built tree.now (names_of tree.now) ≡ true) × (fault ≡ None)) }
 {
     match fault {
         None => accept_legal(alloc, tree, names),
@@ -129,10 +131,45 @@ fn accept_judged(
     }
 }
 
-/// The image of a source that no stage refuses.
+/// From a source that breaks no rule on.
 fn accept_legal(alloc: Global, tree: &Unit, names: &Names<'_>) -> Result<Image, OrMemory<Refusal>>
     requires { names.now ≡ names_of tree.now }
     ensures exact { Answers result (by_rules tree.now None) }
+    ensures accepted { IfOk result (λ image. (image ≡ program_of tree.now) × (unit_built tree.now (names_of tree.now) ≡ true)) }
+{
+    accept_formed(alloc, tree, names, has_forms(tree, names))
+}
+
+/// Whether each of its forms is one that an image has.
+fn has_forms(tree: &Unit, names: &Names<'_>) -> bool
+    requires { names.now ≡ names_of tree.now }
+    ensures { result ≡ unit_built tree.now (names_of tree.now) }
+{
+    unit_built(tree, names)
+}
+
+/// From whether each of its forms is one that an image has on.
+fn accept_formed(
+    alloc: Global,
+    tree: &Unit,
+    names: &Names<'_>,
+    is_built: bool,
+) -> Result<Image, OrMemory<Refusal>>
+    requires { names.now ≡ names_of tree.now }
+    ensures exact { Answers result (by_forms tree.now is_built) }
+    ensures accepted { IfOk result (λ image. (image ≡ program_of tree.now) × (is_built ≡ true)) }
+{
+    if is_built {
+        accept_built(alloc, tree, names)
+    } else {
+        Err(OrMemory::Fault(of_forms(tree)))
+    }
+}
+
+/// The image of a source that no stage refuses.
+fn accept_built(alloc: Global, tree: &Unit, names: &Names<'_>) -> Result<Image, OrMemory<Refusal>>
+    requires { names.now ≡ names_of tree.now }
+    ensures exact { Answers result (by_forms tree.now true) }
     ensures accepted { IfOk result (λ image. image ≡ program_of tree.now) }
 {
     match program_of(alloc, tree, names) {

@@ -1,11 +1,12 @@
 //! Why a source is refused, and where.
 ghost use Rattle.std.specs.Prelude.{◌≡◌, ◌≤◌, length};
-ghost use Rattle.ada_front.specs.Refusals.{letter_of, number_of, of_tokens, of_grammar, of_names, of_rules, place_of, end_of, place_after};
+ghost use Rattle.ada_front.specs.Refusals.{letter_of, number_of, of_tokens, of_grammar, of_names, of_rules, of_forms, place_of, end_of, place_after};
 
 use ada_grammar::ParseFault;
 use ada_legality::Fault;
 use ada_lex::{LexFault, MAX_SOURCE, Token};
 use ada_regions::NameFault;
+use ada_tree::Unit;
 use ann_base::Place;
 use legality_beside::number_of_rule;
 
@@ -31,7 +32,7 @@ pub enum Code {
     Twice,
     /// F9: two use clauses make different declarations of a name visible (8.4).
     Ambiguous,
-    /// L1 to L39: the rule of legality with this number is broken.
+    /// L1 to L39: the rule of legality with this number is broken. L40: a form that no image has.
     Rule(u32),
 }
 
@@ -127,6 +128,13 @@ pub fn of_rules(fault: Fault) -> Refusal
     ensures { result ≡ of_rules fault }
 {
     refused_at(fault.place, Code::Rule(number_of_rule(fault.rule)))
+}
+
+/// The refusal of a form that no image has, at the main procedure's name.
+pub fn of_forms(tree: &Unit) -> Refusal
+    ensures { result ≡ of_forms tree.now }
+{
+    refused_at(tree.main.name.place, Code::Rule(40))
 }
 
 /// A refusal for this reason at this place.

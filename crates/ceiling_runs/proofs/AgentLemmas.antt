@@ -1,4 +1,6 @@
 -- The agent's base priority is that of interrupts in every world that a run reaches.
+use Rattle.profile_machine.specs.Appointments.{appoint}
+use Rattle.profile_machine.specs.declared.world.appointments.Due.TheVariants as due_for
 use Rattle.ann_base.specs.declared.identities.TaskNo.{TaskNo}
 use Rattle.ceiling_runs.proofs.FreeMoves.{EveryPart, FreeBase, FreeMoves, anywhere, late_base, ready_by_line, to_tail-free}
 use Rattle.ceiling_runs.proofs.Kept.Declarations.{set_thing-same}
@@ -108,12 +110,14 @@ module _ (p : Image) where
     readies = λ part name end fits. ready_by_line p part name end (λ level deadline. any_line part (line.Ready name level end deadline));
     blocks = λ name waits. any_line TheBlock (line.Block name waits);
     ends = λ part t fits. any_line part (line.Done t);
+    appoints = λ t moment. plainly_alters (appoint (due_for.Delay t) moment) (λ w. refl);
     forgets = λ name. plainly_alters (forget_task name) (λ w. refl);
   }
 
   agent_free : (actor : Who) → FreeMoves p actor anywhere (KeepsAgent p) (KeepsAgent p) (KeepsAgent p)
   agent_free actor = record {
     fresh = agent_quiet;
+    appoints_first = λ t moment. plainly_alters (appoint (due_for.Delay t) moment) (λ w. refl);
     later = agent_base;
     entered = late_base agent_base;
     starts = λ w said h. h;

@@ -1,20 +1,21 @@
 -- The lines of a run tell the base priorities of the tasks that are there.
+use Rattle.profile_machine.specs.Appointments.{appoint}
+use Rattle.profile_machine.specs.declared.world.appointments.Due.TheVariants as due_for
 use Rattle.ann_base.specs.declared.identities.TaskNo.{TaskNo}
 use Rattle.ceiling_runs.proofs.ActingMoves.{Either, IsNew}
 use Rattle.ceiling_runs.proofs.CoreLemmas.{found-same, seen-found, seen_in}
 use Rattle.ceiling_runs.proofs.FoldOrder.{Ordered, Sooner, fold, fold-append, fold-in_order, ordered-append, sooner-append}
 use Rattle.ceiling_runs.proofs.FoundLemmas.{EditedFound, added-found, edit-found, forgotten-found}
-use Rattle.ceiling_runs.proofs.FreeMoves.{EveryPart, FreeBase, FreeMoves, any_world, anywhere, free_others, freely, late_base, ready_by_line, replace_in-free, to_tail-free}
-use Rattle.ceiling_runs.proofs.Kept.Act.{effect-at}
+use Rattle.ceiling_runs.proofs.FreeMoves.{any_task, EveryPart, FreeBase, FreeMoves, any_world, anywhere, free_others, freely, late_base, ready_by_line, replace_in-free, to_tail-free}
+use Rattle.ceiling_runs.proofs.Kept.Act.{effect-leads}
 use Rattle.ceiling_runs.proofs.Kept.Declarations.{set_thing-same}
 use Rattle.ceiling_runs.proofs.Kept.Frames.{open_sequence-keeps}
-use Rattle.ceiling_runs.proofs.Kept.Handlers.{call_handler-leads}
 use Rattle.ceiling_runs.proofs.Kept.Scopes.{draw_region-same}
 use Rattle.ceiling_runs.proofs.LevelMoves.{Silences, is_apart, said_so}
 use Rattle.ceiling_runs.proofs.RunLemmas.{Instants, Settles, either_over, instant_onward, settles_onward}
 use Rattle.ceiling_runs.proofs.SameLemmas.{edit_task-same, same_then}
 use Rattle.ceiling_runs.proofs.TockLemmas.{tock-same}
-use Rattle.ceiling_runs.proofs.Triples.{Alters, At, Ends, Keeps, Leads, State, With, changes-keeps, changes-leads, for_some-keeps, from-leads, from_at, looks-keeps, nothing-keeps, then-keeps, then-leads}
+use Rattle.ceiling_runs.proofs.Triples.{Alters, Ends, Keeps, Leads, State, With, changes-keeps, changes-leads, for_some-keeps, from-leads, from_at, looks-keeps, nothing-keeps, then-keeps, then-leads}
 use Rattle.ceiling_runs.specs.Cores.{Core, Same, core}
 use Rattle.ceiling_runs.specs.RunLaws.{AreBasesShown, BasesAreTold, Tells, told_first, told_on, bases_told}
 use Rattle.machine_laws.proofs.LineLemmas.{tocks_say_ticks}
@@ -240,6 +241,10 @@ module _ (p : Image) (shown : List (ℕ × ℕ)) where
     ends_scope = λ id w said h. (h.0, bases-plain shown w (end_scope id w) refl refl h.1);
   }
 
+  first_appoints : (t : TaskNo) (moment : ℤ) → Alters (NoBases shown) (appoint (due_for.Delay t) moment)
+  unfolding NoBases
+  first_appoints t moment = record { turns = λ w said h. (h.0, bases-plain shown w (appoint (due_for.Delay t) moment w) refl refl h.1) }
+
   bases_quiet : Silences (TellsBases shown)
   bases_quiet = record {
     silently = λ a b said same h. tells-world shown a b said (λ s k. bases-same s a b same k) h;
@@ -261,6 +266,7 @@ module _ (p : Image) (shown : List (ℕ × ℕ)) where
     readies = λ part name end fits. ready_by_line p part name end (λ level deadline. bases_says part (line.Ready name level end deadline) refl);
     blocks = λ name waits. bases_says TheBlock (line.Block name waits) refl;
     ends = λ part t fits. bases_says part (line.Done t) refl;
+    appoints = λ t moment. bases_alters (appoint (due_for.Delay t) moment) (λ s w h. bases-plain s w (appoint (due_for.Delay t) moment w) refl refl h);
     forgets = λ name. bases_alters (forget_task name) (λ s w h. forgets-bases s name w h);
   }
 
@@ -363,6 +369,7 @@ module _ (p : Image) (shown : List (ℕ × ℕ)) where
   bases_free : (actor : Who) → FreeMoves p actor anywhere (NoBases shown) (TellsBases shown) (TellsBases shown)
   bases_free actor = record {
     fresh = first_quiet;
+    appoints_first = λ t moment. first_appoints t moment;
     later = bases_base;
     entered = late_base bases_base;
     starts = no_bases-tells shown;
@@ -408,9 +415,9 @@ module _ (p : Image) where
   bases_instants : Instants bases_after any_event ShowsBases p
   bases_instants = record {
     effects = λ s w name ran over h.
-        settles_onward bases_after any_event ShowsBases p s (At (NoBases s) w) (Either (TellsBases s) (TellsBases s)) (effect p name) w (either_over bases_after any_event ShowsBases p (TellsBases s) s (bases_settle s))
-        (effect-at (freely (bases_free p s name)) w (λ r none serves. call_handler-leads (freely (bases_free p s who.Agent)) r refl)) (bases_start s w h, refl);
-    others = λ s. (TellsBases s, any_world, free_others (bases_base p s), (λ w h. no_bases-tells s w [] (bases_start s w h)), bases_settle s);
+        settles_onward bases_after any_event ShowsBases p s (NoBases s) (Either (TellsBases s) (TellsBases s)) (effect p name) w (either_over bases_after any_event ShowsBases p (TellsBases s) s (bases_settle s))
+        (effect-leads (freely (bases_free p s name))) (bases_start s w h);
+    others = λ s. (TellsBases s, any_world, any_task, free_others (bases_base p s), (λ w h. no_bases-tells s w [] (bases_start s w h)), bases_settle s);
   }
 
   instant-bases : (shown : List (ℕ × ℕ)) (w : World) → ShowsBases shown w → ShowsBases (seen_behind bases_after any_event shown (instant p w).1) (instant p w).0
@@ -437,7 +444,7 @@ module _ (p : Image) where
       let begun = begin_scope p environment p.environment (plainly None) w in
       let drawn = draw_region text.kept begun in
       let f = new_frame (new_scope_mark (next_id w) (region_of_next text.kept w) opened_for.Task) text.first in
-      same_then w begun (push environment f drawn) (record { tasks = refl; agent = refl; objects = refl; drawn_tasks = refl; drawn_objects = refl })
+      same_then w begun (push environment f drawn) (record { tasks = refl; agent = refl; objects = refl; drawn_tasks = refl; drawn_objects = refl; delays = λ t e. e })
       (same_then begun drawn (push environment f drawn) (draw_region-same text.kept begun) (edit_task-same environment (λ t. with_frames (f ∷ t.frames) t) drawn (λ t. refl)))
 
   opened-bases : (w : World) → w.drawn.tasks ≡ 1 → map core w.tasks ≡ core (environment_task p) ∷ [] → ShowsBases ((0, p.main.priority) ∷ []) w

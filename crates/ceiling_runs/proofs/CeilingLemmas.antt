@@ -1,4 +1,6 @@
 -- The lines of a run tell the ceilings of the protected objects that are there.
+use Rattle.profile_machine.specs.Appointments.{appoint}
+use Rattle.profile_machine.specs.declared.world.appointments.Due.TheVariants as due_for
 use Rattle.ann_base.specs.declared.identities.ObjectNo.{ObjectNo}
 use Rattle.ann_base.specs.declared.identities.TaskNo.{TaskNo}
 use Rattle.ceiling_runs.proofs.CoreLemmas.{shown-fewer, shown-same}
@@ -185,6 +187,7 @@ module _ (p : Image) (shown : List (ℕ × ℕ)) where
     readies = λ part name end fits. ready_by_line p part name end (λ level deadline. ceilings_says part (line.Ready name level end deadline) refl);
     blocks = λ name waits. ceilings_says TheBlock (line.Block name waits) refl;
     ends = λ part t fits. ceilings_says part (line.Done t) refl;
+    appoints = λ t moment. ceilings_plain (appoint (due_for.Delay t) moment) (λ w. refl) (λ w. refl);
     forgets = λ name. ceilings_plain (forget_task name) (λ w. refl) (λ w. refl);
   }
 
@@ -207,6 +210,7 @@ module _ (p : Image) (shown : List (ℕ × ℕ)) where
   ceilings_free : (actor : Who) → FreeMoves p actor anywhere (TellsCeilings shown) (TellsCeilings shown) (TellsCeilings shown)
   ceilings_free actor = record {
     fresh = ceilings_quiet;
+    appoints_first = λ t moment. ceilings_plain (appoint (due_for.Delay t) moment) (λ w. refl) (λ w. refl);
     later = ceilings_base;
     entered = late_base ceilings_base;
     starts = λ w said h. h;

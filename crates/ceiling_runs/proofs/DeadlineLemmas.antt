@@ -1,4 +1,6 @@
 -- A deadline is told only of tasks, where no level of interrupts is dispatched by deadlines, so the agent has none.
+use Rattle.profile_machine.specs.Appointments.{appoint}
+use Rattle.profile_machine.specs.declared.world.appointments.Due.TheVariants as due_for
 use Rattle.std.specs.List.{list_all}
 use Rattle.ceiling_laws.specs.CeilingLaws.{edf_is_below_interrupts, is_below_interrupts}
 use Rattle.ann_base.specs.declared.identities.TaskNo.{TaskNo}
@@ -208,6 +210,7 @@ module _ (p : Image) (low : edf_is_below_interrupts p ≡ true) where
     readies = λ part name end fits. rightly_ready part name end;
     blocks = λ name waits. rightly_says TheBlock (line.Block name waits) refl;
     ends = λ part t fits. rightly_says part (line.Done t) refl;
+    appoints = λ t moment. rightly_alters (appoint (due_for.Delay t) moment) ((agent_base p).appoints t moment);
     forgets = λ name. rightly_alters (forget_task name) ((agent_base p).forgets name);
   }
 
@@ -234,6 +237,7 @@ module _ (p : Image) (low : edf_is_below_interrupts p ≡ true) where
   unfolding right_event
   rightly_free actor = record {
     fresh = rightly_quiet;
+    appoints_first = λ t moment. rightly_alters (appoint (due_for.Delay t) moment) ((agent_base p).appoints t moment);
     later = rightly_base;
     entered = late_base rightly_base;
     starts = λ w said h. h;

@@ -1,24 +1,23 @@
 -- Of an effect: at first nothing is said of levels; later no action begins, or one has begun rightly.
+use Rattle.profile_machine.specs.Appointments.{appoint}
+use Rattle.profile_machine.specs.declared.world.appointments.Due.TheVariants as due_for
 use Rattle.ann_base.specs.declared.identities.ObjectNo.{ObjectNo}
 use Rattle.ann_base.specs.declared.identities.TaskNo.{TaskNo}
-use Rattle.ceiling_runs.proofs.ActingMoves.{ActingMoves, Admitting, Either}
+use Rattle.ceiling_runs.proofs.ActingMoves.{Admitting, Either}
 use Rattle.ceiling_runs.proofs.CoreLemmas.{ceiling-found, ceiling_at, core-same, shown-at, shown-fewer, shown-same}
 use Rattle.ceiling_runs.proofs.EnterLemmas.{AllQuiet, Entered, IsLate, Lawful, NoEnter, all_quiet-append, all_quiet-no_enter, entered-append, entered-begins, entered-in_order, entered-lawful, is_enter, no_enter-append, no_enter-in_order, no_enters-lawful, quiet-late, quiet-no_enter}
-use Rattle.ceiling_runs.proofs.FreeMoves.{EveryPart, FreeBase, FreeMoves, LatePart, any_world, free_others, freely, ready_by_line, replace_in-free, to_tail-free}
-use Rattle.ceiling_runs.proofs.Kept.Act.{effect-at}
+use Rattle.ceiling_runs.proofs.FreeMoves.{EveryPart, FreeBase, FreeMoves, LatePart, any_task, any_world, free_others, freely, ready_by_line, replace_in-free, to_tail-free}
+use Rattle.ceiling_runs.proofs.Kept.Act.{effect-leads}
 use Rattle.ceiling_runs.proofs.Kept.Frames.{goes-keeps, open_sequence-keeps}
-use Rattle.ceiling_runs.proofs.Kept.Handlers.{call_handler-leads}
-use Rattle.ceiling_runs.proofs.LevelMoves.{Fitting, Naming, Silences, Sleeping, said_so}
+use Rattle.ceiling_runs.proofs.LevelMoves.{Silences, said_so}
 use Rattle.ceiling_runs.proofs.RunLemmas.{Others, behind_onward, settles_onward}
-use Rattle.ceiling_runs.proofs.Triples.{Alters, At, Ends, Keeps, Leads, State, With, changes-keeps, for_some-keeps, from-leads, from_at, looks-keeps, nothing-keeps, then-keeps}
+use Rattle.ceiling_runs.proofs.Triples.{Alters, Ends, Keeps, Leads, State, With, changes-keeps, for_some-keeps, from-leads, from_at, looks-keeps, nothing-keeps, then-keeps}
 use Rattle.ceiling_runs.specs.Cores.{Core, Same, ceiling_in, core}
 use Rattle.ceiling_runs.specs.RunLaws.{AreCeilingsShown, InstantsKeepCeilings, ShowsPlace, ShowsRunner, TocksKeepCeilings, keep_ceilings}
 use Rattle.machine_laws.proofs.LineLemmas.{tocks_say_ticks}
 use Rattle.machine_laws.specs.LineKinds.{is_of_tock}
 use Rattle.profile_machine.specs.Declarations.{says_object, set_thing, with_object}
 use Rattle.profile_machine.specs.Dispatching.{active, active_of, kept_level_or_base}
-use Rattle.profile_machine.specs.Frames.{top_of}
-use Rattle.profile_machine.specs.Handlers.{call_handler}
 use Rattle.profile_machine.specs.Instant.{budgets_due, effect, effect_of_runner, events_due, finish_action, instant, is_over, moments_due, quantum_spent, script_items, timers_due}
 use Rattle.profile_machine.specs.Masters.{forget_task, part_of}
 use Rattle.profile_machine.specs.Priorities.{says_base, set_base}
@@ -28,9 +27,9 @@ use Rattle.profile_machine.specs.Run.{blank_world, environment, opening, opens, 
 use Rattle.profile_machine.specs.Scopes.{goes_with, open_scope, plainly}
 use Rattle.profile_machine.specs.Steps.{Done, Move, changes, done, in_order, rests, says, settled, settles, ◌▶◌, ◌▷◌}
 use Rattle.profile_machine.specs.Tasking.{add_task, create_task, says_created}
-use Rattle.profile_machine.specs.Tasks.{edit_task, task_of}
+use Rattle.profile_machine.specs.Tasks.{edit_task, found_task, nobody, task_of}
 use Rattle.profile_machine.specs.Values.{object_of}
-use Rattle.profile_machine.specs.Words.{greatest_of, without}
+use Rattle.profile_machine.specs.Words.{greatest_of, option_or_else, without}
 use Rattle.profile_machine.specs.declared.image.Image.{Image}
 use Rattle.profile_machine.specs.declared.numbers.DeclNo.{DeclNo}
 use Rattle.profile_machine.specs.declared.numbers.ProtectedUnitNo.{ProtectedUnitNo}
@@ -38,7 +37,6 @@ use Rattle.profile_machine.specs.declared.numbers.StatementNo.{StatementNo}
 use Rattle.profile_machine.specs.declared.run_data.Item.{Item}
 use Rattle.profile_machine.specs.declared.values.Value.TheVariants as value_of
 use Rattle.profile_machine.specs.declared.world.World.{World}
-use Rattle.profile_machine.specs.declared.world.appointments.Release.{Release}
 use Rattle.profile_machine.specs.declared.world.lines.Line.{Line}
 use Rattle.profile_machine.specs.declared.world.lines.Line.TheVariants as line
 use Rattle.profile_machine.specs.declared.world.lines.Part.{Part}
@@ -50,7 +48,7 @@ use Rattle.profile_machine.specs.declared.world.objects.Object.{Object}
 use Rattle.profile_machine.specs.declared.world.scopes.Located.{Located}
 use Rattle.profile_machine.specs.declared.world.scopes.ScopeId.{ScopeId}
 use Rattle.profile_machine.specs.declared.world.tasks.Task.{Task}
-use Rattle.std.proofs.Common.{Bool, List, None, Option, Some, [], ap, arith, cond, false, inl, inr, le_trans, ltb, map, nat_le, refl, subst, sym, true, ◌&&◌, ◌||◌, ◌∙◌, ◌∷◌, ◌≡◌, ◌≤◌, ◌⊎◌}
+use Rattle.std.proofs.Common.{Bool, List, None, Option, Some, [], ap, arith, cond, false, inl, inr, le_trans, ltb, map, nat_le, refl, subst, sym, true, ◌&&◌, ◌||◌, ◌∙◌, ◌∷◌, ◌≡◌, ◌≤◌}
 use Rattle.std.proofs.lemmas.Bool.{le-leb}
 use Rattle.std.specs.Prelude.{not, ℕ, ℤ, ◌-◌}
 use Rattle.tick_lines.proofs.LineByLine.{Follow-all, Follow-append, seen_behind}
@@ -141,6 +139,11 @@ None_enter w said = NoEnter said
 OneEnters : Levels → State
 OneEnters sight w said = Entered sight said
 
+-- a change of neither tasks nor the agent
+seen_plainly : (name : Who) (a b : World) → b.tasks ≡ a.tasks → b.agent ≡ a.agent → core (task_of b name) ≡ core (task_of a name)
+seen_plainly (who.Task t) a b tasks agent = ap (λ ts. core (option_or_else (found_task (who.Task t) ts) nobody)) tasks
+seen_plainly who.Agent a b tasks agent = ap core agent
+
 first_quiet : (v : World) (name : Who) (sight : Levels) → Silences (AtFirst v name sight)
 unfolding AtFirst
 first_quiet v name sight = record {
@@ -148,6 +151,10 @@ first_quiet v name sight = record {
   says = λ part line w said other h. (h.0, all_quiet-append said (said_so part line) h.1 other, h.2);
   ends_scope = λ id w said h. (h.0, h.1, shown-fewer sight.ceilings (λ x. not (goes_with id x)) w.objects h.2);
 }
+
+first_appoints : (v : World) (name : Who) (sight : Levels) (t : TaskNo) (moment : ℤ) → Alters (AtFirst v name sight) (appoint (due_for.Delay t) moment)
+unfolding AtFirst
+first_appoints v name sight t moment = record { turns = λ w said h. (seen_plainly name w (appoint (due_for.Delay t) moment w) refl refl ∙ h.0, h.1, h.2) }
 
 none_quiet : Silences None_enter
 unfolding None_enter
@@ -172,6 +179,7 @@ none_base p = record {
   readies = λ part name end fits. ready_by_line p part name end (λ level deadline. none_says part (line.Ready name level end deadline) refl);
   blocks = λ name waits. none_says TheBlock (line.Block name waits) refl;
   ends = λ part t fits. none_says part (line.Done t) refl;
+  appoints = λ t moment. none_alters (appoint (due_for.Delay t) moment);
   forgets = λ name. none_alters (forget_task name);
 }
 
@@ -195,6 +203,7 @@ one_base p sight = record {
   readies = λ part name end late. ready_by_line p part name end (λ level deadline. one_says sight part (line.Ready name level end deadline) (refl, inr late));
   blocks = λ name waits. one_says sight TheBlock (line.Block name waits) (refl, inr refl);
   ends = λ part t late. one_says sight part (line.Done t) (refl, inr late);
+  appoints = λ t moment. one_alters sight (appoint (due_for.Delay t) moment);
   forgets = λ name. one_alters sight (forget_task name);
 }
 
@@ -241,6 +250,7 @@ none_bases part t level = then-keeps _ _ (changes-keeps _ (none_alters (edit_tas
 enter_free : (p : Image) (v : World) (name : Who) (sight : Levels) → ShowsPlace p v name sight → FreeMoves p name (MayEnter p name) (AtFirst v name sight) None_enter (OneEnters sight)
 enter_free p v name sight place = record {
   fresh = first_quiet v name sight;
+  appoints_first = λ t moment. first_appoints v name sight t moment;
   later = none_base p;
   entered = one_base p sight;
   starts = first_none v name sight;
@@ -262,23 +272,13 @@ unfolding Ends None_enter OneEnters
 either-lawful p sight (done w xs) (inl h) = no_enters-lawful p sight (in_order xs) (no_enter-in_order xs h)
 either-lawful p sight (done w xs) (inr h) = entered-lawful p sight (in_order xs) (entered-in_order sight xs h)
 
-first_holds : (w : World) (name : Who) (sight : Levels) → AreCeilingsShown sight.ceilings w.objects → At (AtFirst w name sight) w w []
+first_holds : (w : World) (name : Who) (sight : Levels) → AreCeilingsShown sight.ceilings w.objects → AtFirst w name sight w []
 unfolding AtFirst
-first_holds w name sight shown = ((refl, tt, shown), refl)
+first_holds w name sight shown = (refl, tt, shown)
 
-serves-nothing : {P : Type 0} (serving : Option Release) (r : Release) → serving ≡ None → serving ≡ Some r → P
-serves-nothing serving r none some = absurd (let never : None ≡ Some r = sym none ∙ some in cc)
-
-handles_by : {p : Image} {actor : Who} {Fits Narrow : Fitting} {Sleeps : Sleeping} {May : Admitting} {Other Unmade : Naming} {F I J : State} {O : World → State} {E : Who → State} (acting : ActingMoves p actor Fits Narrow Sleeps May Other Unmade F I J O E)
-    (r : Release) (w : World) → (w.serving ≡ None) ⊎ (who.Agent ≡ actor) → w.serving ≡ Some r → Leads F (Either I J) (call_handler p r)
-handles_by acting r w (inl none) serves = serves-nothing w.serving r none serves
-handles_by acting r w (inr by) serves = call_handler-leads acting r by
-
-effect-lawful : (p : Image) (w : World) (name : Who) (sight : Levels) → AreCeilingsShown sight.ceilings w.objects → ShowsPlace p w name sight → (top_of w name ≡ None → (w.serving ≡ None) ⊎ (who.Agent ≡ name)) → Lawful sight (settles p (effect p name) w).1
-effect-lawful p w name sight shown place rest =
-    let acting = freely (enter_free p w name sight place) in
-    either-lawful p sight (effect p name w [])
-    ((effect-at acting w (λ r none serves. handles_by acting r w (rest none) serves)).runs w [] (first_holds w name sight shown))
+effect-lawful : (p : Image) (w : World) (name : Who) (sight : Levels) → AreCeilingsShown sight.ceilings w.objects → ShowsPlace p w name sight → Lawful sight (settles p (effect p name) w).1
+effect-lawful p w name sight shown place =
+    either-lawful p sight (effect p name w []) ((effect-leads (freely (enter_free p w name sight place))).runs w [] (first_holds w name sight shown))
 
 effect_if-lawful : (p : Image) (w : World) (name : Who) (sight : Levels) (b : Bool) → (b ≡ true → Lawful sight (settles p (effect p name) w).1) → Lawful sight ((elim b as (λ _. Move) [ true ↦ settles p (effect p name) | false ↦ rests ]) w).1
 effect_if-lawful p w name sight true h = h refl
@@ -287,7 +287,7 @@ effect_if-lawful p w name sight false h = tt
 finish-lawful : (p : Image) (w : World) (sight : Levels) (ran : Option Who) → w.ran ≡ ran → AreCeilingsShown sight.ceilings w.objects → ShowsRunner p w sight → Lawful sight (effect_of_runner p ran w).1
 finish-lawful p w sight None is shown runner = tt
 finish-lawful p w sight (Some name) is shown runner =
-    effect_if-lawful p w name sight (is_over (task_of w name).ticks_left) (λ over. effect-lawful p w name sight shown (runner.place name is over) (runner.rest name is over))
+    effect_if-lawful p w name sight (is_over (task_of w name).ticks_left) (λ over. effect-lawful p w name sight shown (runner name is over))
 
 -- what comes about beside begins no action
 AnySight : Levels → World → Type 0
@@ -295,7 +295,7 @@ AnySight sight w = Unit {0}
 
 beside : (p : Image) → Others see_levels is_below_ceiling AnySight p
 unfolding AnySight None_enter
-beside p sight = (None_enter, any_world, free_others (none_base p), (λ w h. tt), (λ v xs h. record { follow = no_enters-lawful p sight (in_order xs) (no_enter-in_order xs h); shows = tt }))
+beside p sight = (None_enter, any_world, any_task, free_others (none_base p), (λ w h. tt), (λ v xs h. record { follow = no_enters-lawful p sight (in_order xs) (no_enter-in_order xs h); shows = tt }))
 
 follow-test : (sight : Levels) (lines : List Event) → Lawful sight lines → keep_ceilings sight lines ≡ true
 follow-test sight [] h = refl

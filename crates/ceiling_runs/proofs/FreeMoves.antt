@@ -1,16 +1,18 @@
 -- What each change of a level and each line that tells one keeps by itself, whoever acts and in whichever part, all effects keep.
+use Rattle.profile_machine.specs.Appointments.{appoint}
+use Rattle.profile_machine.specs.declared.world.appointments.Due.TheVariants as due_for
 use Rattle.ann_base.specs.declared.exceptions.Raised.TheVariants as exception
 use Rattle.ann_base.specs.declared.identities.ObjectNo.{ObjectNo}
 use Rattle.ann_base.specs.declared.identities.TaskNo.{TaskNo}
-use Rattle.ceiling_runs.proofs.ActingMoves.{ActingMoves, Admitting, IsNew, LaterMoves}
+use Rattle.ceiling_runs.proofs.ActingMoves.{ActingMoves, Admitting, IsNew, LaterMoves, SelectMoves}
 use Rattle.ceiling_runs.proofs.Kept.CallEnds.{deliver-keeps}
 use Rattle.ceiling_runs.proofs.Kept.Calls.{edit_call-alters, edit_queue-alters, with_call-keeps}
 use Rattle.ceiling_runs.proofs.Kept.Frames.{raises-keeps}
-use Rattle.ceiling_runs.proofs.Kept.Instant.{OtherMoves}
+use Rattle.ceiling_runs.proofs.Kept.Instant.{Appointing, OtherMoves}
 use Rattle.ceiling_runs.proofs.Kept.Priorities.{says_deadline-keeps}
 use Rattle.ceiling_runs.proofs.Kept.Rendezvous.{begin_accept-keeps, finish_without_room-keeps}
 use Rattle.ceiling_runs.proofs.Kept.Tasks.{edit_task-alters}
-use Rattle.ceiling_runs.proofs.LevelMoves.{BaseMoves, EachTask, Fitting, Silences, Sleeping}
+use Rattle.ceiling_runs.proofs.LevelMoves.{BaseMoves, EachTask, Fitting, Naming, Silences, Sleeping}
 use Rattle.ceiling_runs.proofs.Triples.{Alters, At, Keeps, Leads, State, With, branch-keeps, branch-leads, changes-keeps, for_some-keeps, from-leads, from_at, looks-keeps, looks-leads, looks-with, nothing-keeps, then-keeps, then-leads, then-together, unchanged-alters, when-keeps, when-leads}
 use Rattle.ceiling_runs.specs.Cores.{Same}
 use Rattle.profile_machine.specs.CallEnds.{deliver}
@@ -68,6 +70,7 @@ pub record FreeBase (p : Image) (Fits : Part → Type 0) (X : State) : Type 0 wh
   pub readies : (part : Part) (name : Who) (end : QueueEnd) → Fits part → Keeps X (says_ready p part name end)
   pub blocks : (name : Who) (waits : Waits) → Keeps X (says TheBlock (line.Block name waits))
   pub ends : (part : Part) (t : TaskNo) → Fits part → Keeps X (says part (line.Done t))
+  pub appoints : (t : TaskNo) (moment : ℤ) → Alters X (appoint (due_for.Delay t) moment)
   pub forgets : (name : Who) → Alters X (forget_task name)
 
 abbrev pub EveryPart : Part → Type 0
@@ -79,6 +82,7 @@ LatePart part = is_part_before part Own ≡ false
 -- the same of an effect: at first, later, and behind the line of an action that begins
 pub record FreeMoves (p : Image) (actor : Who) (May : Admitting) (F I J : State) : Type 0 where
   pub fresh : Silences F
+  pub appoints_first : (t : TaskNo) (moment : ℤ) → Alters F (appoint (due_for.Delay t) moment)
   pub later : FreeBase p EveryPart I
   pub entered : FreeBase p LatePart J
   pub starts : (w : World) (said : List Said) → F w said → I w said
@@ -105,8 +109,12 @@ full_quantum-deferred : (b : Bool) (n : ℕ) (t : Task) → (cond b (record t { 
 full_quantum-deferred true n t = refl
 full_quantum-deferred false n t = refl
 
-abbrev pub anybody : Who → Type 0
-anybody name = Unit {0}
+-- of any name, seen from any world
+abbrev pub anybody : World → Naming
+anybody w name = Unit {0}
+
+abbrev pub any_task : Appointing
+any_task w t = Unit {0}
 
 abbrev pub any_part : Fitting
 any_part part name = Unit {0}
@@ -221,7 +229,7 @@ module _ {p : Image} {Fits : Part → Type 0} {X : State} (free : FreeBase p Fit
   pub base_free : (Parts : Fitting) → ((part : Part) (name : Who) → Parts part name → Fits part) → BaseMoves p Parts any_world X
   base_free Parts fits = record {
     quiet = free.quiet;
-    inherits = λ name cause level w said h. (inherit-free name cause level).turns w said h;
+    inherits = λ name cause level w said other h. (inherit-free name cause level).turns w said h;
     sleeps = λ w name is. tt;
     sleeps_on = λ a b name same s. tt;
     sleeps_behind = λ id w name s. tt;
@@ -229,17 +237,26 @@ module _ {p : Image} {Fits : Part → Type 0} {X : State} (free : FreeBase p Fit
     wakes = λ part name f. from-leads (ready p part name) (λ w said h. h.0) (ready-free part name (fits part name f));
   }
 
-  pub later_free : (actor : Who) (Parts : Fitting) → ((part : Part) (name : Who) → Parts part name → Fits part) → Fits ThePlacing → ((name : Who) → Fits (OfOther name)) → ((name : Who) → Parts Own name) → ((name : Who) → Parts (OfOther name) name) → LaterMoves p actor Parts any_world anybody X
-  later_free actor Parts fits placing other fits_own fits_other = record {
+  pub later_free : (actor : Who) (Parts : Fitting) → ((part : Part) (name : Who) → Parts part name → Fits part) → Fits ThePlacing → ((name : Who) → Parts Own name) → ((name : Who) → Parts (OfOther name) name) → LaterMoves p actor Parts any_world X
+  later_free actor Parts fits placing fits_own fits_other = record {
     base = base_free Parts fits;
     fits_own = fits_own;
     fits_other = fits_other;
     heads = to_head-free ThePlacing actor placing;
     blocks = λ name waiting. block-free name waiting;
+  }
+
+  pub select_free : (actor : Who) → ((name : Who) → Fits (OfOther name)) → SelectMoves p actor anybody X X (λ v. X)
+  select_free actor other = record {
+    quiet = free.quiet;
+    listed = λ v said h. each-of _ (λ t. tt) v.tasks;
+    looks_at = λ v said h. h;
+    looked = λ v w said h. h;
+    looking = λ v. free.quiet;
+    begins = λ v name apart listed. ready-free (OfOther name) name (other name);
+    runs_on = λ v. changes-keeps _ (with_state-alters actor Runnable);
     says_blocked = λ waiting. says_block-free actor waiting;
-    runs_on = changes-keeps _ (with_state-alters actor Runnable);
-    differs = λ name e. tt;
-    begins = λ name o. ready-free (OfOther name) name (other name);
+    settles = λ w said waits h. h;
   }
 
 -- ---- effects
@@ -281,46 +298,65 @@ module _ {p : Image} {actor : Who} {May : Admitting} {F I J : State} (free : Fre
       (then-keeps _ _ (deliver-keeps (base_free free.later any_part (λ part name f. tt)) TheFinish c.number (call_ended.ToRaise exception.Storage) (λ name. tt))
       (then-keeps _ _ (ready-free free.later TheFinish (who.Task t) tt) (raises-keeps free.later.quiet TheFinish (who.Task t) exception.Storage))))
 
-  pub freely : ActingMoves p actor any_part late_part any_world May anybody anybody F I J (λ before. I) (λ name. I)
-  freely = record {
-    fresh = free.fresh;
-    later = later_free free.later actor any_part (λ part name f. tt) tt (λ name. tt) (λ name. tt) (λ name. tt);
-    entered = later_free free.entered actor late_part (λ part name f. f) refl (λ name. refl) (λ name. refl) (λ name. refl);
-    owing = λ before. base_free free.later any_part (λ part name f. tt);
-    ending = λ name. base_free free.later any_part (λ part name f. tt);
-    starts = free.starts;
-    fits_finish = λ name. tt;
-    tails = to_tail-free free.later ThePlacing actor tt;
-    waits_at_select = λ accepts delay. from-leads _ free.starts (changes-keeps _ (with_state-alters free.later actor (Blocked (waits_for.Select accepts delay true))));
-    loses = λ cause. lose_running-free free.later actor cause tt;
-    sets_deferred = sets_deferred-free actor;
-    sets_base = λ t level. sets_base-free t level;
-    sets_deadline = λ name d. from-leads _ free.starts (sets_deadline-free free.later actor name d (λ part. tt));
-    owes = λ w said h. h;
-    loses_owed = λ before w said h. (lose-alters free.later actor inherited_by.Activation).turns w said h;
-    pays = λ before. fall_from-free free.later actor before tt;
-    made_differ = λ w said h. each-of _ (λ t e. tt) w.tasks;
-    unmade_other = λ name u. tt;
-    found_asleep = λ w said h. each-of _ (λ t e. tt) w.tasks;
-    ends = from-leads _ free.starts (says_done-free free.later Own actor tt);
-    ends_other = λ name u. says_done-free free.later (OfOther name) name tt;
-    loses_ended = λ name w said h. (lose-alters free.later name inherited_by.Activation).turns w said h;
-    forgets = λ name. changes-keeps _ (free.later.forgets name);
-    creates = free.creates;
-    meets_late = λ t s c. from-leads _ (λ w said h. h.0) (meets_late-free t s c);
-    makes = free.makes;
-    may = free.may;
-    may_on = free.may_on;
-    enters = free.enters;
-  }
+  pub freely : ActingMoves p actor any_part late_part any_world May anybody anybody F I J I I I (λ v. I) (λ v. I) (λ v. I) (λ v. J) (λ v name. I)
+  freely =
+      let base = base_free free.later any_part (λ part name f. tt) in
+      record {
+        fresh = free.fresh;
+        later = later_free free.later actor any_part (λ part name f. tt) tt (λ name. tt) (λ name. tt);
+        entered = later_free free.entered actor late_part (λ part name f. f) refl (λ name. refl) (λ name. refl);
+        over = base;
+        owing = λ before. base;
+        since = λ v. base;
+        ending = λ v name. base;
+        dying = base;
+        choosing = select_free free.later actor (λ name. tt);
+        inside = select_free free.entered actor (λ name. refl);
+        starts = free.starts;
+        ceases = λ w said h. h;
+        rests = λ w said h. h;
+        fits_finish = λ name. tt;
+        tails = to_tail-free free.later ThePlacing actor tt;
+        waits_at_select = λ accepts delay. from-leads _ free.starts (changes-keeps _ (with_state-alters free.later actor (Blocked (waits_for.Select accepts delay true))));
+        appoints_first = λ t moment is. free.appoints_first t moment;
+        appoints = λ t moment is. free.later.appoints t moment;
+        loses = λ cause. lose_running-free free.later actor cause tt;
+        sets_deferred = sets_deferred-free actor;
+        sets_base = λ t level. sets_base-free t level;
+        sets_deadline = λ name d. from-leads _ free.starts (sets_deadline-free free.later actor name d (λ part. tt));
+        owes = λ w said h. h;
+        loses_owed = λ before w said h. (lose-alters free.later actor inherited_by.Activation).turns w said h;
+        pays = λ before. fall_from-free free.later actor before tt;
+        since_now = λ v said h. h;
+        since_then = λ v w said h. h;
+        made_differ = λ v said h. each-of _ (λ t e. tt) v.tasks;
+        inherits_activation = λ v name level u. inherit-free free.later name inherited_by.Activation level;
+        activates = λ v name u. ready-free free.later (OfOther name) name tt;
+        ends_other = λ v name u. says_done-free free.later (OfOther name) name tt;
+        loses_ended = λ v name w said h. (lose-alters free.later name inherited_by.Activation).turns w said h;
+        forgets = λ v name. changes-keeps _ (free.later.forgets name);
+        found_since = λ v w said h. each-of _ (λ t e. tt) w.tasks;
+        ends = from-leads _ free.starts (says_done-free free.later Own actor tt);
+        loses_last = λ w said h. (lose-alters free.later actor inherited_by.Activation).turns w said h;
+        forgets_actor = changes-keeps _ (free.later.forgets actor);
+        found_asleep = λ w said h. each-of _ (λ t e. tt) w.tasks;
+        creates = free.creates;
+        meets_late = λ t s c. from-leads _ (λ w said h. h.0) (meets_late-free t s c);
+        makes = free.makes;
+        may = free.may;
+        may_on = free.may_on;
+        enters = free.enters;
+      }
 
 -- ---- what comes about beside an effect
 
 module _ {p : Image} {X : State} (free : FreeBase p EveryPart X) where
-  pub free_others : OtherMoves p any_world X
+  pub free_others : OtherMoves p any_world any_task X
   free_others = record {
     base = base_free free (λ part name. part ≡ Own) (λ part name f. tt);
-    readies = λ name. ready-free free Own name tt;
+    drawn = λ v said t h e. tt;
+    drawn_on = λ a b t same k. tt;
+    readies = λ t. from-leads (ready p Own (who.Task t)) (λ w said h. h.0) (ready-free free Own (who.Task t) tt);
     tails = λ t. from-leads (to_tail p Own (who.Task t)) (λ w said h. h.0) (to_tail-free free Own (who.Task t) tt);
   }
 
@@ -332,5 +368,6 @@ module _ {p : Image} {X : State} (free : FreeBase p EveryPart X) where
     readies = λ part name end late. free.readies part name end tt;
     blocks = free.blocks;
     ends = λ part t late. free.ends part t tt;
+    appoints = free.appoints;
     forgets = free.forgets;
   }

@@ -4,7 +4,7 @@ use Rattle.ceiling_runs.proofs.Triples.{Leads, State, With}
 use Rattle.ceiling_runs.specs.Cores.{Same}
 use Rattle.profile_machine.specs.Declarations.{declared}
 use Rattle.profile_machine.specs.Dispatching.{ready}
-use Rattle.profile_machine.specs.Inheritance.{inherit}
+use Rattle.profile_machine.specs.Inheritance.{inherit, same_cause}
 use Rattle.profile_machine.specs.Scopes.{end_scope}
 use Rattle.profile_machine.specs.Tasks.{task_of}
 use Rattle.profile_machine.specs.declared.image.Image.{Image}
@@ -15,6 +15,7 @@ use Rattle.profile_machine.specs.declared.world.lines.Part.{Part}
 use Rattle.profile_machine.specs.declared.world.lines.Said.{Said}
 use Rattle.profile_machine.specs.declared.world.scopes.ScopeId.{ScopeId}
 use Rattle.profile_machine.specs.declared.world.tasks.Cause.{Cause}
+use Rattle.profile_machine.specs.declared.world.tasks.Cause.TheVariants as inherited_by
 use Rattle.profile_machine.specs.declared.world.tasks.State as tasks
 use Rattle.profile_machine.specs.declared.world.tasks.State.TheVariants.{Blocked, Made, Runnable}
 use Rattle.profile_machine.specs.declared.world.tasks.Task.{Task}
@@ -65,10 +66,10 @@ EachTask Is (t ∷ ts) = Is t × EachTask Is ts
 abbrev pub Sleeping : Type 1
 Sleeping = World → Who → Type 0
 
--- the same, and by who becomes ready and waited, or inherits a priority
+-- the same, and by who becomes ready and waited, or inherits a priority, but by its activation
 pub record BaseMoves (p : Image) (Fits : Fitting) (Sleeps : Sleeping) (X : State) : Type 0 where
   pub quiet : Silences X
-  pub inherits : (name : Who) (cause : Cause) (level : ℕ) (w : World) (said : List Said) → X w said → X (inherit name cause level w) said
+  pub inherits : (name : Who) (cause : Cause) (level : ℕ) (w : World) (said : List Said) → same_cause inherited_by.Activation cause ≡ false → X w said → X (inherit name cause level w) said
   pub sleeps : (w : World) (name : Who) → is_blocked (task_of w name).state ≡ true → Sleeps w name
   pub sleeps_on : (a b : World) (name : Who) → Same a b → Sleeps a name → Sleeps b name
   pub sleeps_behind : (id : ScopeId) (w : World) (name : Who) → Sleeps w name → Sleeps (end_scope id w) name

@@ -1,11 +1,10 @@
 -- What each effect keeps of the lines and of what they show, every run keeps: the form of a law on lines.
 use Rattle.ceiling_runs.proofs.ActingMoves.{Either}
-use Rattle.ceiling_runs.proofs.FreeMoves.{FreeMoves, any_world, anywhere, free_others, freely}
-use Rattle.ceiling_runs.proofs.Kept.Act.{effect-at}
-use Rattle.ceiling_runs.proofs.Kept.Handlers.{call_handler-leads}
-use Rattle.ceiling_runs.proofs.Kept.Instant.{OtherMoves, appointments_due-keeps, budgets_due-keeps, quantum_spent-keeps, script_items-keeps, timers_due-keeps}
+use Rattle.ceiling_runs.proofs.FreeMoves.{any_task, FreeMoves, any_world, anywhere, free_others, freely}
+use Rattle.ceiling_runs.proofs.Kept.Act.{effect-leads}
+use Rattle.ceiling_runs.proofs.Kept.Instant.{Appointing, OtherMoves, appointments_due-keeps, budgets_due-keeps, quantum_spent-keeps, script_items-keeps, timers_due-keeps}
 use Rattle.ceiling_runs.proofs.LevelMoves.{Sleeping}
-use Rattle.ceiling_runs.proofs.Triples.{At, Ends, Keeps, Leads, State}
+use Rattle.ceiling_runs.proofs.Triples.{Ends, Keeps, Leads, State}
 use Rattle.machine_laws.proofs.Moves.{lines_of}
 use Rattle.profile_machine.specs.Instant.{budgets_due, effect, effect_of_runner, events_due, finish_action, instant, is_over, moments_due, quantum_spent, script_items, timers_due}
 use Rattle.profile_machine.specs.Steps.{Done, Move, Step, done, placed_by, rests, settled, settles, ◌▶◌}
@@ -50,30 +49,30 @@ module _ {S : Type 0} (see : S → Event → S) (lawful : S → Event → Bool) 
 
   -- of what comes about beside the effect of who acts
   abbrev pub Others : Image → Type 1
-  Others p = (s : S) → (N : State) × (Sleeps : Sleeping) × OtherMoves p Sleeps N × ((w : World) → Shows s w → N w []) × Settles p s N
+  Others p = (s : S) → (N : State) × (Sleeps : Sleeping) × (Drawn : Appointing) × OtherMoves p Sleeps Drawn N × ((w : World) → Shows s w → N w []) × Settles p s N
 
   module _ {p : Image} (others : Others p) where
-    other_onward : (step : Step) → ((N : State) (Sleeps : Sleeping) → OtherMoves p Sleeps N → Keeps N step) → (s : S) (w : World) → Shows s w → Onward s (settles p step w)
+    other_onward : (step : Step) → ((N : State) (Sleeps : Sleeping) (Drawn : Appointing) → OtherMoves p Sleeps Drawn N → Keeps N step) → (s : S) (w : World) → Shows s w → Onward s (settles p step w)
     other_onward step keeps s w h =
         let by = others s in
-        settles_onward p s by.0 by.0 step w by.4 (keeps by.0 by.1 by.2) (by.3 w h)
+        settles_onward p s by.0 by.0 step w by.5 (keeps by.0 by.1 by.2 by.3) (by.4 w h)
 
     pub behind_onward : (s1 : S) (w1 : World) → Shows s1 w1 → Onward s1 ((script_items p ▶ events_due p ▶ moments_due p ▶ timers_due p ▶ budgets_due p ▶ quantum_spent p) w1)
     behind_onward s1 w1 h =
-        then_onward (script_items p) (events_due p ▶ moments_due p ▶ timers_due p ▶ budgets_due p ▶ quantum_spent p) s1 w1 (other_onward _ (λ N Sleeps m. script_items-keeps m) s1 w1 h) (λ h.
+        then_onward (script_items p) (events_due p ▶ moments_due p ▶ timers_due p ▶ budgets_due p ▶ quantum_spent p) s1 w1 (other_onward _ (λ N Sleeps Drawn m. script_items-keeps m) s1 w1 h) (λ h.
         let s2 = seen_behind see lawful s1 (script_items p w1).1 in
         let w2 = (script_items p w1).0 in
-        then_onward (events_due p) (moments_due p ▶ timers_due p ▶ budgets_due p ▶ quantum_spent p) s2 w2 (other_onward _ (λ N Sleeps m. appointments_due-keeps m true) s2 w2 h) (λ h.
+        then_onward (events_due p) (moments_due p ▶ timers_due p ▶ budgets_due p ▶ quantum_spent p) s2 w2 (other_onward _ (λ N Sleeps Drawn m. appointments_due-keeps m true) s2 w2 h) (λ h.
         let s3 = seen_behind see lawful s2 (events_due p w2).1 in
         let w3 = (events_due p w2).0 in
-        then_onward (moments_due p) (timers_due p ▶ budgets_due p ▶ quantum_spent p) s3 w3 (other_onward _ (λ N Sleeps m. appointments_due-keeps m false) s3 w3 h) (λ h.
+        then_onward (moments_due p) (timers_due p ▶ budgets_due p ▶ quantum_spent p) s3 w3 (other_onward _ (λ N Sleeps Drawn m. appointments_due-keeps m false) s3 w3 h) (λ h.
         let s4 = seen_behind see lawful s3 (moments_due p w3).1 in
         let w4 = (moments_due p w3).0 in
-        then_onward (timers_due p) (budgets_due p ▶ quantum_spent p) s4 w4 (other_onward _ (λ N Sleeps m. timers_due-keeps m) s4 w4 h) (λ h.
+        then_onward (timers_due p) (budgets_due p ▶ quantum_spent p) s4 w4 (other_onward _ (λ N Sleeps Drawn m. timers_due-keeps m) s4 w4 h) (λ h.
         let s5 = seen_behind see lawful s4 (timers_due p w4).1 in
         let w5 = (timers_due p w4).0 in
-        then_onward (budgets_due p) (quantum_spent p) s5 w5 (other_onward _ (λ N Sleeps m. budgets_due-keeps m) s5 w5 h) (λ h.
-        other_onward _ (λ N Sleeps m. quantum_spent-keeps m) (seen_behind see lawful s5 (budgets_due p w5).1) (budgets_due p w5).0 h)))))
+        then_onward (budgets_due p) (quantum_spent p) s5 w5 (other_onward _ (λ N Sleeps Drawn m. budgets_due-keeps m) s5 w5 h) (λ h.
+        other_onward _ (λ N Sleeps Drawn m. quantum_spent-keeps m) (seen_behind see lawful s5 (budgets_due p w5).1) (budgets_due p w5).0 h)))))
 
   -- the effect of who acts, and what comes about beside it
   pub record Instants (p : Image) : Type 1 where
@@ -88,13 +87,12 @@ module _ {S : Type 0} (see : S → Event → S) (lawful : S → Event → Bool) 
 
   pub free_effects : {p : Image} {X : State} → ((actor : Who) → FreeMoves p actor anywhere X X X) → (s : S) (w : World) (name : Who) → X w [] → Settles p s X → Onward s (settles p (effect p name) w)
   free_effects {p} {X} free s w name h over =
-      settles_onward p s (At X w) (Either X X) (effect p name) w (either_over p X s over)
-      (effect-at (freely (free name)) w (λ r none serves. call_handler-leads (freely (free who.Agent)) r refl)) (h, refl)
+      settles_onward p s X (Either X X) (effect p name) w (either_over p X s over) (effect-leads (freely (free name))) h
 
   pub free_instants : {p : Image} (X : S → State) → ((s : S) (actor : Who) → FreeMoves p actor anywhere (X s) (X s) (X s)) → ((s : S) (w : World) → Shows s w → X s w []) → ((s : S) → Settles p s (X s)) → Instants p
   free_instants X free start over = record {
     effects = λ s w name ran is h. free_effects (free s) s w name (start s w h) (over s);
-    others = λ s. (X s, any_world, free_others (free s who.Agent).later, start s, over s);
+    others = λ s. (X s, any_world, any_task, free_others (free s who.Agent).later, start s, over s);
   }
 
   module _ {p : Image} (instants : Instants p) where

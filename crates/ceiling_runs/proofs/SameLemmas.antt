@@ -14,7 +14,7 @@ use Rattle.profile_machine.specs.Calls.{edit_object}
 use Rattle.ceiling_runs.specs.Cores.{core, ceiling_in, Same}
 
 pub same_self : (w : World) → Same w w
-same_self w = record { tasks = refl; agent = refl; objects = refl; drawn_tasks = refl; drawn_objects = refl }
+same_self w = record { tasks = refl; agent = refl; objects = refl; drawn_tasks = refl; drawn_objects = refl; delays = λ t e. e }
 
 pub same_then : (a b c : World) → Same a b → Same b c → Same a c
 same_then a b c h k = record {
@@ -23,6 +23,7 @@ same_then a b c h k = record {
   objects = k.objects ∙ h.objects;
   drawn_tasks = k.drawn_tasks ∙ h.drawn_tasks;
   drawn_objects = k.drawn_objects ∙ h.drawn_objects;
+  delays = λ t e. h.delays t (k.delays t e);
 }
 
 -- ---- an item of a list is set to one that is seen as it was
@@ -32,7 +33,7 @@ set-step : {A B : Type 0} (g : A → B) (test : A → Bool) (x y z : A) (zs : Li
 set-step g test x y z zs true found same onward = let is : z ≡ x = cc in ap (λ v. v ∷ map g zs) (same ∙ ap g (sym is))
 set-step g test x y z zs false found same onward = ap (λ vs. g z ∷ vs) (onward found)
 
-set_where-seen : {A B : Type 0} (g : A → B) (test : A → Bool) (x y : A) (xs : List A) → find test xs ≡ Some x → g y ≡ g x → map g (set_where test y xs) ≡ map g xs
+pub set_where-seen : {A B : Type 0} (g : A → B) (test : A → Bool) (x y : A) (xs : List A) → find test xs ≡ Some x → g y ≡ g x → map g (set_where test y xs) ≡ map g xs
 set_where-seen g test x y [] found same = refl
 set_where-seen g test x y (z ∷ zs) found same = set-step g test x y z zs (test z) found same (λ k. set_where-seen g test x y zs k same)
 
@@ -71,10 +72,10 @@ set_where-found n x y (z ∷ zs) e same =
 
 edit_found-same : (name : Who) (f : Task → Task) (w : World) (found : Option Task) → task_at w name ≡ found → ((t : Task) → core (f t) ≡ core t) → Same w (edit_task_found name f w found)
 edit_found-same name f w None is same = same_self w
-edit_found-same (who.Task n) f w (Some t) is same = record { tasks = set_where-seen core (is_who (who.Task n)) t (f t) w.tasks is (same t); agent = refl; objects = refl; drawn_tasks = refl; drawn_objects = refl }
+edit_found-same (who.Task n) f w (Some t) is same = record { tasks = set_where-seen core (is_who (who.Task n)) t (f t) w.tasks is (same t); agent = refl; objects = refl; drawn_tasks = refl; drawn_objects = refl; delays = λ u e. e }
 edit_found-same who.Agent f w (Some t) is same =
     let one : w.agent ≡ t = cc in
-    record { tasks = refl; agent = same t ∙ ap core (sym one); objects = refl; drawn_tasks = refl; drawn_objects = refl }
+    record { tasks = refl; agent = same t ∙ ap core (sym one); objects = refl; drawn_tasks = refl; drawn_objects = refl; delays = λ u e. e }
 
 pub edit_task-same : (name : Who) (f : Task → Task) (w : World) → ((t : Task) → core (f t) ≡ core t) → Same w (edit_task name f w)
 edit_task-same name f w same = edit_found-same name f w (task_at w name) refl same
@@ -86,4 +87,5 @@ edit_object-same o f w same = record {
   objects = edit_found-seen ceiling_in (is_object o) f w.objects (find (is_object o) w.objects) refl same;
   drawn_tasks = refl;
   drawn_objects = refl;
+  delays = λ t e. e;
 }

@@ -3,6 +3,7 @@ use Rattle.ann_base.specs.declared.identities.TaskNo.{TaskNo}
 use Rattle.ceiling_runs.proofs.SameLemmas.{edit_task-same, same_self, same_then}
 use Rattle.ceiling_runs.specs.Cores.{Same, ceiling_in, core}
 use Rattle.machine_laws.proofs.Kept.Run.{before_tick, tock-parts}
+use Rattle.profile_machine.specs.Appointments.{is_delay_of}
 use Rattle.profile_machine.specs.Cost.{cost}
 use Rattle.profile_machine.specs.Dispatching.{choose}
 use Rattle.profile_machine.specs.Handlers.{charge, charge_budget, charge_clock, charge_group, charge_task, clock_risen, quantum_spent_by}
@@ -16,7 +17,8 @@ use Rattle.profile_machine.specs.declared.world.World.{World}
 use Rattle.profile_machine.specs.declared.world.appointments.Release.{Release}
 use Rattle.profile_machine.specs.declared.world.marks.Frame.{Frame}
 use Rattle.profile_machine.specs.declared.world.tasks.Task.{Task}
-use Rattle.std.proofs.Common.{Bool, List, None, Option, Some, [], ap, cond, false, map, refl, subst, sym, true, ◌-◌, ◌∷◌, ◌≡◌}
+use Rattle.std.proofs.Common.{Bool, List, None, Option, Some, [], ap, cond, false, map, refl, subst, sym, true, ◌-◌, ◌∙◌, ◌∷◌, ◌≡◌}
+use Rattle.std.specs.List.{list_any}
 use Rattle.std.specs.Prelude.{ℕ}
 use Rattle.trace_text.specs.declared.events.Event.{Event}
 use Rattle.trace_text.specs.declared.events.Event.TheVariants as line
@@ -27,22 +29,22 @@ spent-core : (b : Bool) (n : ℕ) (t : Task) → core (cond b (record t { quantu
 spent-core true n t = refl
 spent-core false n t = refl
 
-plain_same : (a b : World) → b.tasks ≡ a.tasks → b.agent ≡ a.agent → b.objects ≡ a.objects → b.drawn ≡ a.drawn → Same a b
-plain_same a b tasks agent objects drawn = record { tasks = ap (map core) tasks; agent = ap core agent; objects = ap (map ceiling_in) objects; drawn_tasks = ap (λ d. d.tasks) drawn; drawn_objects = ap (λ d. d.objects) drawn }
+plain_same : (a b : World) → b.tasks ≡ a.tasks → b.agent ≡ a.agent → b.objects ≡ a.objects → b.drawn ≡ a.drawn → b.appointments ≡ a.appointments → Same a b
+plain_same a b tasks agent objects drawn appointments = record { tasks = ap (map core) tasks; agent = ap core agent; objects = ap (map ceiling_in) objects; drawn_tasks = ap (λ d. d.tasks) drawn; drawn_objects = ap (λ d. d.objects) drawn; delays = λ t e. ap (λ xs. list_any (λ a. is_delay_of t a.due) xs) (sym appointments) ∙ e }
 
 clock-same : (t : TaskNo) (w : World) → Same w (charge_clock t w)
 clock-same t w =
     let next = edit_task (who.Task t) clock_risen w in
-    same_then w next (charge_clock t w) (edit_task-same (who.Task t) clock_risen w (λ u. refl)) (plain_same next (charge_clock t w) refl refl refl refl)
+    same_then w next (charge_clock t w) (edit_task-same (who.Task t) clock_risen w (λ u. refl)) (plain_same next (charge_clock t w) refl refl refl refl refl)
 
 budget-same : (b : Option ℕ) (w : World) → Same w (charge_budget b w)
 budget-same None w = same_self w
-budget-same (Some b) w = plain_same w (charge_budget (Some b) w) refl refl refl refl
+budget-same (Some b) w = plain_same w (charge_budget (Some b) w) refl refl refl refl refl
 
 group-same : (t : TaskNo) (w : World) → Same w (charge_group t w)
 group-same t w =
     let b = (task_of w (who.Task t)).budget in
-    same_then w (charge_budget b w) (charge_group t w) (budget-same b w) (plain_same (charge_budget b w) (charge_group t w) refl refl refl refl)
+    same_then w (charge_budget b w) (charge_group t w) (budget-same b w) (plain_same (charge_budget b w) (charge_group t w) refl refl refl refl refl)
 
 charge-same : (p : Image) (name : Who) (w : World) → Same w (charge p name w)
 charge-same p who.Agent w = same_self w
@@ -58,7 +60,7 @@ run-same false name w = same_self w
 
 served-same : (serving : Option Release) (frames : List Frame) (releases : List Release) (w : World) → Same w (serve_if_free serving frames releases w).0
 served-same None [] [] w = same_self w
-served-same None [] (r ∷ rest) w = plain_same w (with_serving r rest w) refl refl refl refl
+served-same None [] (r ∷ rest) w = plain_same w (with_serving r rest w) refl refl refl refl refl
 served-same None (f ∷ fs) releases w = same_self w
 served-same (Some r) frames releases w = same_self w
 
@@ -89,4 +91,4 @@ pub tock-same : (p : Image) (w : World) → Same w (tock p w).0
 tock-same p w =
     let behind = (before_tick p (choose w) w).0 in
     subst (λ (t : World × List Event). Same w t.0) (sym (tock-parts p w))
-    (same_then w behind (next_tick (choose w) behind) (before_tick-same p (choose w) w) (plain_same behind (next_tick (choose w) behind) refl refl refl refl))
+    (same_then w behind (next_tick (choose w) behind) (before_tick-same p (choose w) w) (plain_same behind (next_tick (choose w) behind) refl refl refl refl refl))

@@ -87,10 +87,7 @@ place-shown p script bound lines w low told name ran over placed =
 
 runner-shown : (p : Image) (script : List (ℤ × Item)) (bound : ℕ) (lines : List Event) (w : World) → edf_is_below_interrupts p ≡ true → ArePlaced p script bound → Tells p script bound lines w
     → ShowsRunner p w (levels_told no_levels lines)
-runner-shown p script bound lines w low placed told = record {
-  place = λ name ran over. place-shown p script bound lines w low told name ran over (placed lines w told name ran over).0;
-  rest = λ name ran over. (placed lines w told name ran over).1;
-}
+runner-shown p script bound lines w low placed told = λ name ran over. place-shown p script bound lines w low told name ran over (placed lines w told name ran over)
 
 instant-keeps : (p : Image) (script : List (ℤ × Item)) (bound : ℕ) (lines : List Event) (w : World) → edf_is_below_interrupts p ≡ true → ArePlaced p script bound → Tells p script bound lines w
     → keep_ceilings (levels_told no_levels lines) (instant p w).1 ≡ true

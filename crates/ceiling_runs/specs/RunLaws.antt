@@ -1,5 +1,5 @@
 -- What every world that a run reaches has in common with its lines, as far as ceilings are concerned.
-use Rattle.std.specs.Prelude.{◌≡◌, ◌≤◌, ◌⊎◌, ◌&&◌, ◌++◌, ℕ, ℤ, Bool, true, IsTrue, List, [], ◌∷◌, Some, None}
+use Rattle.std.specs.Prelude.{◌≡◌, ◌≤◌, ◌&&◌, ◌++◌, ℕ, ℤ, Bool, true, IsTrue, List, [], ◌∷◌, Some, None}
 use Rattle.ann_base.specs.declared.identities.TaskNo.{TaskNo}
 use Rattle.trace_text.specs.declared.events.Entry.{Entry}
 use Rattle.trace_text.specs.declared.events.Event.{Event}
@@ -14,7 +14,6 @@ use Rattle.profile_machine.specs.declared.world.objects.Object.{Object}
 use Rattle.profile_machine.specs.declared.world.tasks.Task.{Task}
 use Rattle.profile_machine.specs.Program.{has_edf, interrupt_priority}
 use Rattle.profile_machine.specs.Tasks.{task_at, task_of, found_task}
-use Rattle.profile_machine.specs.Frames.{top_of}
 use Rattle.profile_machine.specs.Dispatching.{active_of}
 use Rattle.profile_machine.specs.Instant.{is_over, instant}
 use Rattle.profile_machine.specs.Run.{opening, tock, stop, run_of}
@@ -40,10 +39,9 @@ pub record ShowsPlace (p : Image) (w : World) (name : Who) (sight : Levels) : Ty
   pub level : entry.level ≤ active_of p w name
   pub base : (deadline : ℤ) → entry.deadline ≡ Some deadline → (has_edf p ≡ true) × (base_of name sight.bases ≡ Some (task_of w name).base)
 
--- whose action has ended is shown so; and who has no rest then is the agent, or no release is served
-pub record ShowsRunner (p : Image) (w : World) (sight : Levels) : Type 0 where
-  pub place : (name : Who) → w.ran ≡ Some name → is_over (task_of w name).ticks_left ≡ true → ShowsPlace p w name sight
-  pub rest : (name : Who) → w.ran ≡ Some name → is_over (task_of w name).ticks_left ≡ true → top_of w name ≡ None → (w.serving ≡ None) ⊎ (who.Agent ≡ name)
+-- whose action has ended is shown so
+abbrev pub ShowsRunner : Image → World → Levels → Type 0
+ShowsRunner p w sight = (name : Who) → w.ran ≡ Some name → is_over (task_of w name).ticks_left ≡ true → ShowsPlace p w name sight
 
 -- these lines keep the law of ceilings, from what was shown before them
 abbrev pub keep_ceilings : Levels → List Event → Bool
@@ -110,12 +108,10 @@ abbrev pub WhoActsIsShown : Type 0
 WhoActsIsShown = (p : Image) (script : List (ℤ × Item)) (bound : ℕ) (lines : List Event) (w : World) → Tells p script bound lines w → (name : Who) → w.ran ≡ Some name
     → (entry : Entry) × (entry_of name (levels_told no_levels lines).entries ≡ Some entry)
 
--- What is not proved of every run: before each instant, whose action has ended stands there at a level that is not above its
--- active priority; and if it has no rest it is the agent, or no release is served.
+-- before each instant, whose action has ended stands there at a level that is not above its active priority
 abbrev pub ArePlaced : Image → List (ℤ × Item) → ℕ → Type 0
 ArePlaced p script bound = (lines : List Event) (w : World) → Tells p script bound lines w → (name : Who) → w.ran ≡ Some name → is_over (task_of w name).ticks_left ≡ true
-    → ((entry : Entry) → entry_of name (levels_told no_levels lines).entries ≡ Some entry → entry.level ≤ active_of p w name)
-    × (top_of w name ≡ None → (w.serving ≡ None) ⊎ (who.Agent ≡ name))
+    → (entry : Entry) → entry_of name (levels_told no_levels lines).entries ≡ Some entry → entry.level ≤ active_of p w name
 
 -- A run whose lines place who acts keeps the law of ceilings, in a source whose interrupts have no deadlines.
 abbrev pub PlacesKeepCeilings : Type 0

@@ -42,8 +42,7 @@ pub fn who_acts_is_shown()
 {}
 
 /// A run of a source whose interrupts have no deadlines keeps the law of ceilings, if before each instant its lines place whose
-/// action has ended at a level that is not above its active priority, and this one has a rest, or is the agent, or no release is
-/// served (D.3).
+/// action has ended at a level that is not above its active priority (D.3).
 #[tactic(auto, using(crate::proofs::WholeRuns::places_keep_ceilings))]
 pub fn places_keep_the_law_of_ceilings()
     ensures { PlacesKeepCeilings }

@@ -1,24 +1,25 @@
--- The effect of an action: it leads from what holds at first to what holds later.
+-- The effect of an action: it leads from what holds at first to what holds behind it.
 use Rattle.ann_base.specs.declared.exceptions.Raised.{Raised}
-use Rattle.ceiling_runs.proofs.ActingMoves.{ActingMoves, Admitting, Either, LaterMoves}
+use Rattle.ceiling_runs.proofs.ActingMoves.{ActingMoves, Admitting, Either}
 use Rattle.ceiling_runs.proofs.Kept.CallEnds.{end_top_abortable-keeps}
 use Rattle.ceiling_runs.proofs.Kept.Calls.{attempt_with-keeps, with_call-keeps}
 use Rattle.ceiling_runs.proofs.Kept.Controlled.{assign_controlled-keeps, end_in_assign-keeps, end_in_finalize-keeps, end_in_initialize-keeps, initialize-keeps}
 use Rattle.ceiling_runs.proofs.Kept.Declarations.{declare-keeps}
 use Rattle.ceiling_runs.proofs.Kept.EntryCalls.{asynchronous_select-leads, entry_call-leads, requeue-keeps}
 use Rattle.ceiling_runs.proofs.Kept.Frames.{edit_top-alters, goes-keeps, open_if_ready-keeps, pass_on-keeps, pop-alters, raises-keeps, weakly, with_room-keeps}
-use Rattle.ceiling_runs.proofs.Kept.Handlers.{add_member-keeps, add_to_budget-keeps, cancel_budget-keeps, cancel_event-keeps, cancel_timer-keeps, remove_member-keeps, replenish-keeps, set_budget-keeps, set_event-keeps, set_timer-keeps}
+use Rattle.ceiling_runs.proofs.Kept.Handlers.{add_member-keeps, add_to_budget-keeps, cancel_budget-keeps, cancel_event-keeps, cancel_timer-keeps, remove_member-keeps, replenish-keeps, set_budget-keeps, set_event-keeps, set_timer-keeps, call_handler-leads}
+use Rattle.ceiling_runs.proofs.Kept.Masters.{fits_part}
 use Rattle.ceiling_runs.proofs.Kept.Priorities.{delay_and_set_deadline-keeps, delay_until-keeps, set_deadline_of-leads, set_priority-leads, set_quantum-keeps}
-use Rattle.ceiling_runs.proofs.Kept.Protected.{call_operation-leads, call_own_operation-keeps, goes_without, not_yet}
-use Rattle.ceiling_runs.proofs.Kept.Rendezvous.{accept-keeps, end_in_accept-keeps, selective_accept-leads}
+use Rattle.ceiling_runs.proofs.Kept.Protected.{call_operation-leads, call_own_operation-keeps}
+use Rattle.ceiling_runs.proofs.Kept.Rendezvous.{accept-keeps, end_in_accept-keeps, goes_later, not_later, selective_accept-leads}
 use Rattle.ceiling_runs.proofs.Kept.Scopes.{drop_appointment-alters, open_scope-alters}
 use Rattle.ceiling_runs.proofs.Kept.Serving.{end_in_protected-keeps}
 use Rattle.ceiling_runs.proofs.Kept.Statements.{assign-keeps, assign_array-keeps, block_statement-keeps, case_statement-keeps, exit_statement-keeps, first_turn-keeps, for_bounds-keeps, if_statement-keeps, later_turn-keeps, null-keeps, put_line-keeps, raise_again-keeps, while_turn-keeps}
+use Rattle.ceiling_runs.proofs.Kept.Tasks.{edit_task-alters}
 use Rattle.ceiling_runs.proofs.Kept.Subprograms.{call_subprogram-keeps, return-keeps, return_value-keeps}
-use Rattle.ceiling_runs.proofs.Kept.Tasking.{abort_statement-keeps, activate-keeps, create-leads, end_own_activation-keeps, end_scope_mark-leads, take_terminates-keeps, unwind_all-keeps}
+use Rattle.ceiling_runs.proofs.Kept.Tasking.{abort_statement-keeps, activate-keeps, create-leads, end_own_activation-keeps, end_scope_mark-leads, take_terminates-leads, unwind_all-keeps}
 use Rattle.ceiling_runs.proofs.LevelMoves.{Fitting, Naming, Silences, Sleeping}
-use Rattle.ceiling_runs.proofs.SameLemmas.{edit_task-same, set_where-found}
-use Rattle.ceiling_runs.proofs.Triples.{Alters, At, Ends, Keeps, Leads, State, changes-keeps, changes-leads, cond-keeps, from-leads, from_at, looks-keeps, nothing-keeps, option-keeps, sees-keeps, then-keeps, then-leads, to-leads, unchanged-alters}
+use Rattle.ceiling_runs.proofs.Triples.{Alters, Ends, Keeps, Leads, State, changes-keeps, cond-keeps, from-leads, looks-keeps, looks-leads, nothing-keeps, option-keeps, sees-keeps, then-keeps, then-leads, to-leads, unchanged-alters}
 use Rattle.profile_machine.specs.Act.{act, act_frame, act_statement, act_top, act_without, behind_handled, below, call, call_main, drop_trigger, end_abortable_by, end_handled, end_in_abortable, end_mark, end_top, handle_or_pass, handler_for, keeping, wait_for_trigger, waiting_mark}
 use Rattle.profile_machine.specs.Appointments.{is_trigger_of}
 use Rattle.profile_machine.specs.CallEnds.{edit_abortable}
@@ -30,9 +31,8 @@ use Rattle.profile_machine.specs.Program.{form_of}
 use Rattle.profile_machine.specs.Statements.{relative_moment}
 use Rattle.profile_machine.specs.Steps.{Step, changes, looks, nothing, ◌▷◌}
 use Rattle.profile_machine.specs.Tasking.{take_terminates, unwind_all}
-use Rattle.profile_machine.specs.Tasks.{edit_task, edit_task_found, nobody, task_at, with_ticks}
+use Rattle.profile_machine.specs.Tasks.{edit_task, with_ticks}
 use Rattle.profile_machine.specs.Values.{condition, moment}
-use Rattle.profile_machine.specs.Words.{first_of_list, option_or_else}
 use Rattle.profile_machine.specs.declared.image.Image.{Image}
 use Rattle.profile_machine.specs.declared.numbers.StatementNo.{StatementNo}
 use Rattle.profile_machine.specs.declared.run_data.Leaving.{Leaving}
@@ -55,24 +55,10 @@ use Rattle.profile_machine.specs.declared.world.marks.Mark.{Mark}
 use Rattle.profile_machine.specs.declared.world.marks.Mark.TheVariants.{Abortable, Handled, InAccept, InAssign, InFinalize, InInitialize, InProtected, Scope}
 use Rattle.profile_machine.specs.declared.world.tasks.Task.{Task}
 use Rattle.profile_machine.specs.declared.world.tasks.Waiting.TheVariants as waits_for
-use Rattle.std.proofs.Common.{ap, inl, inr, refl, subst, sym, ◌∙◌, ◌≡◌}
+use Rattle.std.proofs.Common.{inl, inr, refl, ◌≡◌}
 use Rattle.std.specs.Prelude.{List, None, Option, Some, ℕ}
 use Rattle.trace_text.specs.declared.events.Who.{Who}
 use Rattle.trace_text.specs.declared.events.Who.TheVariants as who
-
--- a task that is left no ticks has its marks, and serves what it served
-ticks-frames : (name : Who) (w : World) (found : Option Task) → task_at w name ≡ found → frames_of (edit_task_found name (with_ticks None) w found) name ≡ frames_of w name
-ticks-frames name w None is = refl
-ticks-frames (who.Task n) w (Some t) is = ap (λ f. (option_or_else f nobody).frames) (set_where-found (who.Task n) t (with_ticks None t) w.tasks is refl) ∙ sym (ap (λ f. (option_or_else f nobody).frames) is)
-ticks-frames who.Agent w (Some t) is = let one : w.agent ≡ t = cc in ap (λ u. u.frames) (sym one)
-
-idle-frames : (name : Who) (w : World) → frames_of (edit_task name (with_ticks None) w) name ≡ frames_of w name
-idle-frames name w = ticks-frames name w (task_at w name) refl
-
-edit_found-serving : (name : Who) (f : Task → Task) (w : World) (found : Option Task) → (edit_task_found name f w found).serving ≡ w.serving
-edit_found-serving name f w None = refl
-edit_found-serving (who.Task n) f w (Some t) = refl
-edit_found-serving who.Agent f w (Some t) = refl
 
 module _ {X : State} (quiet : Silences X) where
   handle_or_pass-keeps : (p : Image) (name : Who) (e : Raised) (next : Option StatementNo) → Keeps X (handle_or_pass p name e next)
@@ -105,24 +91,33 @@ module _ {X : State} (quiet : Silences X) where
   unfolding call_main
   call_main-keeps p name s = search (with_room-keeps, goes-keeps, then-keeps, looks-keeps, changes-keeps, open_scope-alters)
 
-module _ {p : Image} {actor : Who} {Fits : Fitting} {Sleeps : Sleeping} {Other : Naming} {X : State} (later : LaterMoves p actor Fits Sleeps Other X) where
-  -- all of the effect behind the action
-  behind_act-keeps : Keeps X (open_if_ready p actor ▷ take_terminates p actor ▷ unwind_all p actor)
-  behind_act-keeps = then-keeps _ _ (open_if_ready-keeps later.base.quiet p actor) (then-keeps _ _ (take_terminates-keeps later) (unwind_all-keeps later))
+either_ends : {X Y Z : State} (step : Step) (w : World) (said : List Said) → Leads X Z step → Keeps Y step → Either X Y w said → Ends (Either Z Y) (step w said)
+either_ends {X} {Y} {Z} step w said a b (inl h) = (to-leads {X = X} {Y = Z} {Z = Either Z Y} step a (λ v s k. inl k)).runs w said h
+either_ends {X} {Y} {Z} step w said a b (inr h) = (to-leads {X = Y} {Y = Y} {Z = Either Z Y} step b (λ v s k. inr k)).runs w said h
 
-either_ends : {X Y : State} (step : Step) (w : World) (said : List Said) → Keeps X step → Keeps Y step → Either X Y w said → Ends (Either X Y) (step w said)
-either_ends {X} {Y} step w said a b (inl h) = (to-leads {X = X} {Y = X} {Z = Either X Y} step a (λ v s k. inl k)).runs w said h
-either_ends {X} {Y} step w said a b (inr h) = (to-leads {X = Y} {Y = Y} {Z = Either X Y} step b (λ v s k. inr k)).runs w said h
+either-leads : {X Y Z : State} (step : Step) → Leads X Z step → Keeps Y step → Leads (Either X Y) (Either Z Y) step
+either-leads step a b = record { runs = λ w said h. either_ends step w said a b h }
 
-module _ {p : Image} {actor : Who} {Fits Narrow : Fitting} {Sleeps : Sleeping} {May : Admitting} {Other Unmade : Naming} {F I J : State} {O : World → State} {E : Who → State} (acting : ActingMoves p actor Fits Narrow Sleeps May Other Unmade F I J O E) where
-  at_first : (step : Step) → Keeps F step → Leads F (Either I J) step
-  at_first step kept = weakly acting.fresh (not_yet acting) step kept
+module _ {p : Image} {actor : Who} {Fits Narrow : Fitting} {Sleeps : Sleeping} {May : Admitting} {Listed Unmade : World → Naming} {F I J W Y D : State} {O N V U : World → State} {E : World → Who → State} (acting : ActingMoves p actor Fits Narrow Sleeps May Listed Unmade F I J W Y D O N V U E) where
+  -- who acts goes on, comes to its select, or may have entered an object
+  at_first : (step : Step) → Keeps F step → Leads F (Either W J) step
+  at_first step kept = weakly acting.fresh (λ w said h. inl (not_later acting w said h)) step kept
 
-  without : (step : Step) → Leads F I step → Leads F (Either I J) step
-  without step a = goes_without acting step a
+  without : (step : Step) → Leads F I step → Leads F (Either W J) step
+  without step a = to-leads step a (λ w said h. inl (goes_later acting w said h))
 
-  later_on : (step : Step) → Keeps I step → Leads F (Either I J) step
-  later_on step kept = goes_without acting step (from-leads step acting.starts kept)
+  at_select : (step : Step) → Leads F W step → Leads F (Either W J) step
+  at_select step a = to-leads step a (λ w said h. inl h)
+
+  later_on : (step : Step) → Keeps I step → Leads F (Either W J) step
+  later_on step kept = without step (from-leads step acting.starts kept)
+
+  wide : (w : World) (said : List Said) → Either I J w said → Either W J w said
+  wide w said (inl h) = inl (goes_later acting w said h)
+  wide w said (inr h) = inr h
+
+  by_entry : (step : Step) → Leads F (Either I J) step → Leads F (Either W J) step
+  by_entry step a = to-leads step a wide
 
   wait_for_trigger-keeps : (c : Call) (leaving : Leaving) → Keeps I (wait_for_trigger actor c leaving)
   unfolding wait_for_trigger
@@ -139,13 +134,13 @@ module _ {p : Image} {actor : Who} {Fits Narrow : Fitting} {Sleeps : Sleeping} {
   unfolding end_in_abortable
   end_in_abortable-keeps m leaving = cond-keeps m.triggered (end_top p actor) (end_abortable_by p actor m leaving) (end_top-keeps acting.later.base.quiet p actor) (end_abortable_by-keeps m leaving)
 
-  call-leads : (s : StatementNo) (callee : Callee) (actuals : List Actual) (to : Destination) → Leads F (Either I J) (call p actor s callee actuals to)
+  call-leads : (s : StatementNo) (callee : Callee) (actuals : List Actual) (to : Destination) → Leads F (Either W J) (call p actor s callee actuals to)
   unfolding call
   call-leads s (callee.Subprogram f) actuals to = at_first _ (call_subprogram-keeps acting.fresh p actor s f actuals to)
-  call-leads s (callee.Operation d f) actuals to = call_operation-leads acting s d f actuals to
+  call-leads s (callee.Operation d f) actuals to = by_entry _ (call_operation-leads acting s d f actuals to)
   call-leads s (callee.OwnOperation f) actuals to = at_first _ (call_own_operation-keeps acting.fresh p actor s f actuals to)
 
-  act_statement-leads : (s : StatementNo) (form : StatementForm) → Leads F (Either I J) (act_statement p actor s form)
+  act_statement-leads : (s : StatementNo) (form : StatementForm) → Leads F (Either W J) (act_statement p actor s form)
   unfolding act_statement
   act_statement-leads s (form.Declare object) = later_on _ (declare-keeps acting.later.base.quiet p acting.makes actor s object)
   act_statement-leads s (form.Initialize object) = at_first _ (initialize-keeps acting.fresh p actor s object)
@@ -175,12 +170,12 @@ module _ {p : Image} {actor : Who} {Fits Narrow : Fitting} {Sleeps : Sleeping} {
   act_statement-leads s (form.DelayUntil e) = later_on _ (sees-keeps p actor _ (λ q. delay_until-keeps acting s (moment q e)))
   act_statement-leads s (form.Call callee actuals to) = call-leads s callee actuals to
   act_statement-leads s (form.PutLine pieces) = at_first _ (put_line-keeps acting.fresh p actor s pieces)
-  act_statement-leads s (form.EntryCall entry owner actuals) = entry_call-leads acting call_kind.Plain s
-  act_statement-leads s (form.ConditionalCall call otherwise) = entry_call-leads acting call_kind.Conditional s
-  act_statement-leads s (form.TimedCall call delay) = entry_call-leads acting call_kind.Timed s
-  act_statement-leads s (form.AsynchronousSelect trigger abortable) = asynchronous_select-leads acting s trigger
+  act_statement-leads s (form.EntryCall entry owner actuals) = by_entry _ (entry_call-leads acting call_kind.Plain s)
+  act_statement-leads s (form.ConditionalCall call otherwise) = by_entry _ (entry_call-leads acting call_kind.Conditional s)
+  act_statement-leads s (form.TimedCall call delay) = by_entry _ (entry_call-leads acting call_kind.Timed s)
+  act_statement-leads s (form.AsynchronousSelect trigger abortable) = by_entry _ (asynchronous_select-leads acting s trigger)
   act_statement-leads s (form.Accept entry scope) = later_on _ (accept-keeps acting s entry)
-  act_statement-leads s (form.SelectiveAccept alternatives otherwise) = without _ (selective_accept-leads acting s alternatives otherwise)
+  act_statement-leads s (form.SelectiveAccept alternatives otherwise) = at_select _ (selective_accept-leads acting s alternatives otherwise)
   act_statement-leads s (form.Abort tasks) = later_on _ (abort_statement-keeps acting s tasks)
   act_statement-leads s (form.Requeue entry owner with_abort) = at_first _ (requeue-keeps acting.fresh p actor entry owner with_abort)
   act_statement-leads s (form.SetEvent event set handler) = later_on _ (set_event-keeps acting.later.base (acting.later.fits_own who.Agent) actor s event set handler)
@@ -198,9 +193,9 @@ module _ {p : Image} {actor : Who} {Fits Narrow : Fitting} {Sleeps : Sleeping} {
   act_statement-leads s (form.SetDeadline deadline task) = without _ (set_deadline_of-leads acting s deadline task)
   act_statement-leads s (form.DelayUntilAndSetDeadline until offset) = later_on _ (delay_and_set_deadline-keeps acting s until offset)
 
-  end_mark-leads : (f : Frame) (mark : Mark) → Leads F (Either I J) (end_mark p actor f mark)
+  end_mark-leads : (f : Frame) (mark : Mark) → Leads F (Either W J) (end_mark p actor f mark)
   unfolding end_mark
-  end_mark-leads f (Scope m) = without _ (end_scope_mark-leads acting m (leaving_of f))
+  end_mark-leads f (Scope m) = at_select _ (end_scope_mark-leads acting m (leaving_of f))
   end_mark-leads f (Handled s) = at_first _ (end_handled-keeps acting.fresh p actor s (leaving_of f))
   end_mark-leads f (InProtected m) = later_on _ (end_in_protected-keeps acting m (leaving_of f))
   end_mark-leads f (InAccept m) = later_on _ (end_in_accept-keeps acting m (leaving_of f))
@@ -209,38 +204,40 @@ module _ {p : Image} {actor : Who} {Fits Narrow : Fitting} {Sleeps : Sleeping} {
   end_mark-leads f (InFinalize o) = at_first _ (end_in_finalize-keeps acting.fresh p actor (leaving_of f))
   end_mark-leads f (InAssign m) = at_first _ (end_in_assign-keeps acting.fresh p actor m f.left_as)
 
-  act_frame-leads : (f : Frame) (next : Option StatementNo) → Leads F (Either I J) (act_frame p actor f next)
+  act_frame-leads : (f : Frame) (next : Option StatementNo) → Leads F (Either W J) (act_frame p actor f next)
   unfolding act_frame
   act_frame-leads f (Some s) = act_statement-leads s (form_of p s)
   act_frame-leads f None = end_mark-leads f f.mark
 
-  -- who has no rest serves nothing, or calls the handler
-  act_without-leads : (serving : Option Release) → ((r : Release) → serving ≡ Some r → Leads F (Either I J) (call_handler p r)) → Leads F (Either I J) (act_without p serving)
+  -- the agent without a rest calls the handler of what it serves
+  act_without-leads : (name : Who) (serving : Option Release) → name ≡ actor → Leads F (Either W J) (act_without p name serving)
   unfolding act_without
-  act_without-leads None handles = at_first nothing nothing-keeps
-  act_without-leads (Some r) handles = handles r refl
+  act_without-leads name None is = at_first nothing nothing-keeps
+  act_without-leads who.Agent (Some r) is = by_entry (call_handler p r) (call_handler-leads acting r is)
+  act_without-leads (who.Task t) (Some r) is = at_first nothing nothing-keeps
 
-  -- what is known of the handler that who acts without a rest would call
-  abbrev pub Handles : World → Type 0
-  Handles v = (r : Release) → top_of v actor ≡ None → v.serving ≡ Some r → Leads F (Either I J) (call_handler p r)
-
-  act_top-at : (v : World) (found : Option Frame) → top_of v actor ≡ found → Handles v → Leads (At F v) (Either I J) (act_top p actor found)
+  act_top-leads : (found : Option Frame) → Leads F (Either W J) (act_top p actor found)
   unfolding act_top
-  act_top-at v None is handles = record { runs = λ w said h. (act_without-leads w.serving (subst (λ (u : World). (r : Release) → u.serving ≡ Some r → Leads F (Either I J) (call_handler p r)) (sym h.1) (λ r e. handles r is e))).runs w said h.0 }
-  act_top-at v (Some f) is handles = from_at _ (act_frame-leads f f.onward)
+  act_top-leads None = looks-leads _ (λ w. act_without-leads actor w.serving refl)
+  act_top-leads (Some f) = act_frame-leads f f.onward
 
-  act-at : (v : World) → Handles v → Leads (At F v) (Either I J) (act p actor)
+  act-leads : Leads F (Either W J) (act p actor)
   unfolding act
-  act-at v handles = record { runs = λ w said h. (act_top-at w (top_of w actor) refl (subst Handles (sym h.1) handles)).runs w said (h.0, refl) }
+  act-leads = looks-leads _ (λ w. act_top-leads (top_of w actor))
 
-  both_keep : (step : Step) → Keeps I step → Keeps J step → Keeps (Either I J) step
-  both_keep step a b = record { runs = λ w said h. either_ends step w said a b h }
+  -- all of the effect behind the action
+  behind_choice : Leads W Y (open_if_ready p actor ▷ take_terminates p actor ▷ unwind_all p actor)
+  behind_choice =
+      then-leads (open_if_ready p actor) _ (open_if_ready-keeps acting.choosing.quiet p actor)
+      (then-leads (take_terminates p actor) _ (take_terminates-leads acting.choosing) (unwind_all-keeps acting.over actor (fits_part acting.later)))
 
-  pub effect-at : (v : World) → Handles v → Leads (At F v) (Either I J) (effect p actor)
+  behind_entry : Keeps J (open_if_ready p actor ▷ take_terminates p actor ▷ unwind_all p actor)
+  behind_entry =
+      then-leads (open_if_ready p actor) _ (open_if_ready-keeps acting.entered.base.quiet p actor)
+      (then-leads (take_terminates p actor) _ (take_terminates-leads acting.inside) (unwind_all-keeps acting.entered.base actor (fits_part acting.entered)))
+
+  pub effect-leads : Leads F (Either Y J) (effect p actor)
   unfolding effect
-  effect-at v handles =
-      let idle = edit_task actor (with_ticks None) in
-      let same_top : top_of (idle v) actor ≡ top_of v actor = ap first_of_list (idle-frames actor v) in
-      let same_serving : (idle v).serving ≡ v.serving = edit_found-serving actor (with_ticks None) v (task_at v actor) in
-      then-leads (changes idle) _ (changes-leads idle (λ w said h. (acting.fresh.silently w (idle w) said (edit_task-same actor (with_ticks None) w (λ t. refl)) h.0, ap idle h.1)))
-      (then-leads (act p actor) _ (act-at (idle v) (λ r none serves. handles r (sym same_top ∙ none) (sym same_serving ∙ serves))) (both_keep (open_if_ready p actor ▷ take_terminates p actor ▷ unwind_all p actor) (behind_act-keeps acting.later) (behind_act-keeps acting.entered)))
+  effect-leads =
+      then-leads (changes (edit_task actor (with_ticks None))) _ (changes-keeps _ (edit_task-alters acting.fresh actor (with_ticks None) (λ t. refl)))
+      (then-leads (act p actor) _ act-leads (either-leads _ behind_choice behind_entry))

@@ -28,10 +28,10 @@ edit_queue-same (owned_by.Object o) place f w = edit_object-same o (λ u. record
 
 module _ {X : State} (quiet : Silences X) where
   pub edit_call-alters : (c : CallNo) (f : Call → Call) → Alters X (edit_call c f)
-  edit_call-alters c f = plain-alters quiet (edit_call c f) (λ w. refl) (λ w. refl) (λ w. refl) (λ w. refl) (λ w. refl)
+  edit_call-alters c f = plain-alters quiet (edit_call c f) (λ w. refl) (λ w. refl) (λ w. refl) (λ w. refl) (λ w. refl) (λ w t e. e)
 
   pub forget_call-alters : (c : CallNo) → Alters X (forget_call c)
-  forget_call-alters c = plain-alters quiet (forget_call c) (λ w. refl) (λ w. refl) (λ w. refl) (λ w. refl) (λ w. refl)
+  forget_call-alters c = plain-alters quiet (forget_call c) (λ w. refl) (λ w. refl) (λ w. refl) (λ w. refl) (λ w. refl) (λ w t e. e)
 
   pub with_call-keeps : (c : CallNo) (f : Call → Step) → ((x : Call) → Keeps X (f x)) → Keeps X (with_call c f)
   with_call-keeps c f kept = looks-keeps _ (λ w. for_some-keeps (call_of w c) f kept)

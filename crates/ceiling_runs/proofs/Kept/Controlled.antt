@@ -30,7 +30,7 @@ use Rattle.trace_text.specs.declared.events.Who.{Who}
 
 module _ {X : State} (quiet : Silences X) where
   pub registered_as-alters : (n : ℕ) (r : RegionNo) (l : Located) → Alters X (registered_as n r l)
-  registered_as-alters n r l = plain-alters quiet (registered_as n r l) (λ w. refl) (λ w. refl) (λ w. refl) (λ w. refl) (λ w. refl)
+  registered_as-alters n r l = plain-alters quiet (registered_as n r l) (λ w. refl) (λ w. refl) (λ w. refl) (λ w. refl) (λ w. refl) (λ w t e. e)
 
   pub register-keeps : (p : Image) (name : Who) (l : Located) → Keeps X (register p name l)
   unfolding register
@@ -43,7 +43,7 @@ module _ {X : State} (quiet : Silences X) where
   edit_top_scope-alters name f = edit_top-alters quiet name (λ x. with_mark (edit_scope_mark f x.mark) x)
 
   no_longer_registered-alters : (n : ℕ) → Alters X (no_longer_registered n)
-  no_longer_registered-alters n = plain-alters quiet (no_longer_registered n) (λ w. refl) (λ w. refl) (λ w. refl) (λ w. refl) (λ w. refl)
+  no_longer_registered-alters n = plain-alters quiet (no_longer_registered n) (λ w. refl) (λ w. refl) (λ w. refl) (λ w. refl) (λ w. refl) (λ w t e. e)
 
   pub behind_finalize-keeps : (p : Image) (name : Who) (leaving : Leaving) (test : Bool) → Keeps X (behind_finalize p name leaving test)
   unfolding behind_finalize
@@ -71,7 +71,7 @@ module _ {X : State} (quiet : Silences X) where
   leave_without_room-keeps name = leaves-keeps quiet name (how.Exception exception.Storage)
 
   pub copy_object-alters : (p : Image) (target source : Located) → Alters X (copy_object p target source)
-  copy_object-alters p target source = plain-alters quiet (copy_object p target source) (λ w. refl) (λ w. refl) (λ w. refl) (λ w. refl) (λ w. refl)
+  copy_object-alters p target source = plain-alters quiet (copy_object p target source) (λ w. refl) (λ w. refl) (λ w. refl) (λ w. refl) (λ w. refl) (λ w t e. e)
 
   pub open_operation-keeps : (p : Image) (name : Who) (f : SubprogramNo) (l : Located) → Keeps X (open_operation p name f l)
   unfolding open_operation

@@ -55,7 +55,7 @@ use Rattle.trace_text.specs.declared.events.Who.TheVariants as who
 
 module _ {X : State} (quiet : Silences X) where
   pub add_call-alters : (c : Call) → Alters X (add_call c)
-  add_call-alters c = plain-alters quiet (add_call c) (λ w. refl) (λ w. refl) (λ w. refl) (λ w. refl) (λ w. refl)
+  add_call-alters c = plain-alters quiet (add_call c) (λ w. refl) (λ w. refl) (λ w. refl) (λ w. refl) (λ w. refl) (λ w t e. e)
 
   pub end_at_once-keeps : (part : Part) (c : Call) (e : Raised) → Keeps X (end_at_once part c e)
   unfolding end_at_once
@@ -66,7 +66,7 @@ module _ {X : State} (quiet : Silences X) where
   call_gone-keeps p c = then-keeps _ _ (gone-keeps quiet p Own c) (end_at_once-keeps Own c exception.Tasking)
 
   pub appoint_trigger-alters : (name : Who) (depth : ℕ) (m : ℤ) → Alters X (appoint_trigger name depth m)
-  appoint_trigger-alters (who.Task t) depth m = appoint-alters quiet (due_for.Trigger t depth) m
+  appoint_trigger-alters (who.Task t) depth m = appoint-alters quiet (due_for.Trigger t depth) m (λ u. refl)
   appoint_trigger-alters who.Agent depth m = unchanged-alters
 
   trigger_delay-keeps : (p : Image) (name : Who) (s trigger : StatementNo) (m : ℤ) (test : Bool) → Keeps X (trigger_delay p name s trigger m test)
@@ -91,7 +91,7 @@ module _ {X : State} (quiet : Silences X) where
 
 -- ---- by who acts
 
-module _ {p : Image} {actor : Who} {Fits Narrow : Fitting} {Sleeps : Sleeping} {May : Admitting} {Other Unmade : Naming} {F I J : State} {O : World → State} {E : Who → State} (acting : ActingMoves p actor Fits Narrow Sleeps May Other Unmade F I J O E) where
+module _ {p : Image} {actor : Who} {Fits Narrow : Fitting} {Sleeps : Sleeping} {May : Admitting} {Listed Unmade : World → Naming} {F I J W Y D : State} {O N V U : World → State} {E : World → Who → State} (acting : ActingMoves p actor Fits Narrow Sleeps May Listed Unmade F I J W Y D O N V U E) where
   make_call-keeps : (c : Call) (step : Call → Step) → ((x : Call) → Keeps I (step x)) → Keeps I (make_call p c step)
   make_call-keeps c step kept =
       then-keeps _ _ (goes-keeps acting.later.base.quiet (who.Task c.caller) (next_of p c.statement))
@@ -145,7 +145,7 @@ module _ {p : Image} {actor : Who} {Fits Narrow : Fitting} {Sleeps : Sleeping} {
   unfolding goes says_call
   make_entering-leads o c step kept =
       then-leads (changes (edit_top (who.Task c.caller) (goes_on (next_of p c.statement)))) _ (admitted_changes acting o _ (λ w. edit_task-same (who.Task c.caller) (λ t. with_frames (edit_first (goes_on (next_of p c.statement)) t.frames) t) w (λ t. refl)))
-      (looks-leads _ (λ w. then-leads (changes (add_call c)) _ (admitted_changes acting o (add_call c) (λ v. record { tasks = refl; agent = refl; objects = refl; drawn_tasks = refl; drawn_objects = refl }))
+      (looks-leads _ (λ w. then-leads (changes (add_call c)) _ (admitted_changes acting o (add_call c) (λ v. record { tasks = refl; agent = refl; objects = refl; drawn_tasks = refl; drawn_objects = refl; delays = λ t e. e }))
       (let d = numbered (suc w.drawn.calls) c in then-leads (says TheCall (line.Call d.caller d.number d.owner d.entry d.priority)) _ (admitted_says acting o TheCall (line.Call d.caller d.number d.owner d.entry d.priority) refl) (kept (suc w.drawn.calls)))))
 
   call_runs-leads : (o : ObjectNo) (c : Call) → who.Task c.caller ≡ actor → Leads (Admitted acting o) J (call_runs p o c)

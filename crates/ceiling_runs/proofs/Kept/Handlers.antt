@@ -71,17 +71,17 @@ module _ {X : State} (quiet : Silences X) where
   cancel_event-keeps p name s d target = search (sees-keeps, given-keeps, goes-keeps, then-keeps, changes-keeps, cancel_event_setting-alters, answer-keeps) depth 9
 
   pub clear_timer-alters : (k : ℕ) → Alters X (clear_timer k)
-  clear_timer-alters k = plain-alters quiet (clear_timer k) (λ w. refl) (λ w. refl) (λ w. refl) (λ w. refl) (λ w. refl)
+  clear_timer-alters k = plain-alters quiet (clear_timer k) (λ w. refl) (λ w. refl) (λ w. refl) (λ w. refl) (λ w. refl) (λ w t e. e)
 
   with_timer_set-alters : (k : ℕ) (h : HandlerOf) (v : ℤ) → Alters X (with_timer_set k h v)
-  with_timer_set-alters k h v = plain-alters quiet (with_timer_set k h v) (λ w. refl) (λ w. refl) (λ w. refl) (λ w. refl) (λ w. refl)
+  with_timer_set-alters k h v = plain-alters quiet (with_timer_set k h v) (λ w. refl) (λ w. refl) (λ w. refl) (λ w. refl) (λ w. refl) (λ w t e. e)
 
   pub cancel_timer-keeps : (p : Image) (name : Who) (s : StatementNo) (d : DeclNo) (target : VariableName) → Keeps X (cancel_timer p name s d target)
   unfolding cancel_timer
   cancel_timer-keeps p name s d target = search (sees-keeps, given-keeps, goes-keeps, then-keeps, changes-keeps, clear_timer-alters, answer-keeps) depth 9
 
   edit_budget-alters : (b : ℕ) (f : Budget → Budget) → Alters X (edit_budget b f)
-  edit_budget-alters b f = plain-alters quiet (edit_budget b f) (λ w. refl) (λ w. refl) (λ w. refl) (λ w. refl) (λ w. refl)
+  edit_budget-alters b f = plain-alters quiet (edit_budget b f) (λ w. refl) (λ w. refl) (λ w. refl) (λ w. refl) (λ w. refl) (λ w t e. e)
 
   change_member-keeps : (p : Image) (name : Who) (s : StatementNo) (t : world.Task) (is_right : Bool) (b : Option ℕ) → Keeps X (change_member p name s t is_right b)
   unfolding change_member
@@ -126,7 +126,7 @@ module _ {p : Image} {Fits : Fitting} {Sleeps : Sleeping} {X : State} (moves : B
   wake_agent-at v Made is = from_at nothing nothing-keeps
 
   add_release-alters : (h : HandlerOf) (argument : Option ℕ) → Alters X (add_release h argument)
-  add_release-alters h argument = plain-alters moves.quiet (add_release h argument) (λ w. refl) (λ w. refl) (λ w. refl) (λ w. refl) (λ w. refl)
+  add_release-alters h argument = plain-alters moves.quiet (add_release h argument) (λ w. refl) (λ w. refl) (λ w. refl) (λ w. refl) (λ w. refl) (λ w t e. e)
 
   pub release-keeps : (h : HandlerOf) (argument : Option ℕ) → Keeps X (release p Own h argument)
   unfolding release says_release
@@ -140,7 +140,7 @@ module _ {p : Image} {Fits : Fitting} {Sleeps : Sleeping} {X : State} (moves : B
 
   appoint_event-keeps : (e : ℕ) (h : HandlerOf) (m : ℤ) (test : Bool) → Keeps X (appoint_event p e h m test)
   unfolding appoint_event
-  appoint_event-keeps e h m true = changes-keeps _ (appoint-alters moves.quiet (due_for.Event e h) m)
+  appoint_event-keeps e h m true = changes-keeps _ (appoint-alters moves.quiet (due_for.Event e h) m (λ t. refl))
   appoint_event-keeps e h m false = release-keeps h (Some e)
 
   event_set_to-keeps : (e : ℕ) (h : Option HandlerOf) (m : ℤ) → Keeps X (event_set_to p e h m)
@@ -172,7 +172,7 @@ module _ {p : Image} {Fits : Fitting} {Sleeps : Sleeping} {X : State} (moves : B
 
 -- ---- the agent calls the handler of the release that it serves
 
-module _ {p : Image} {actor : Who} {Fits Narrow : Fitting} {Sleeps : Sleeping} {May : Admitting} {Other Unmade : Naming} {F I J : State} {O : World → State} {E : Who → State} (acting : ActingMoves p actor Fits Narrow Sleeps May Other Unmade F I J O E) where
+module _ {p : Image} {actor : Who} {Fits Narrow : Fitting} {Sleeps : Sleeping} {May : Admitting} {Listed Unmade : World → Naming} {F I J W Y D : State} {O N V U : World → State} {E : World → Who → State} (acting : ActingMoves p actor Fits Narrow Sleeps May Listed Unmade F I J W Y D O N V U E) where
   begin_handler-leads : (r : Release) → who.Agent ≡ actor → Leads (Admitted acting r.handler.object) J (begin_handler p r)
   unfolding begin_handler
   begin_handler-leads r is =

@@ -1,13 +1,13 @@
 -- Completion, termination and masters: each step keeps what its parts keep.
 use Rattle.ann_base.specs.declared.exceptions.Raised.TheVariants as exception
 use Rattle.ann_base.specs.declared.identities.RegionNo.{RegionNo}
-use Rattle.ceiling_runs.proofs.ActingMoves.{ActingMoves, Admitting, LaterMoves}
+use Rattle.ceiling_runs.proofs.ActingMoves.{LaterMoves, SelectMoves}
 use Rattle.ceiling_runs.proofs.Kept.CallEnds.{end_call-keeps, gone-keeps}
 use Rattle.ceiling_runs.proofs.Kept.Frames.{leaves-keeps, open_sequence-keeps, raises-keeps}
 use Rattle.ceiling_runs.proofs.Kept.Scopes.{drop_delay-alters}
 use Rattle.ceiling_runs.proofs.Kept.Tasks.{edit_task-alters}
 use Rattle.ceiling_runs.proofs.Kept.Waking.{asleep_at, found-each, ready-at, waiting-blocked, who-is}
-use Rattle.ceiling_runs.proofs.LevelMoves.{BaseMoves, Fitting, Naming, Sleeping, is_blocked}
+use Rattle.ceiling_runs.proofs.LevelMoves.{BaseMoves, EachTask, Fitting, Naming, Sleeping, is_blocked}
 use Rattle.ceiling_runs.proofs.Triples.{At, Keeps, Leads, State, With, changes-keeps, for_each-keeps, for_some-keeps, from_at, looks-keeps, looks-leads, looks-with, nothing-keeps, then-keeps, then-leads, when-keeps, when-leads}
 use Rattle.profile_machine.specs.Appointments.{drop_delay}
 use Rattle.profile_machine.specs.Dispatching.{ready}
@@ -78,7 +78,7 @@ module _ {p : Image} {Fits : Fitting} {Sleeps : Sleeping} {X : State} (moves : B
 
 -- ---- by who acts
 
-module _ {p : Image} {actor : Who} {Fits : Fitting} {Sleeps : Sleeping} {Other : Naming} {X : State} (later : LaterMoves p actor Fits Sleeps Other X) where
+module _ {p : Image} {actor : Who} {Fits : Fitting} {Sleeps : Sleeping} {X : State} (later : LaterMoves p actor Fits Sleeps X) where
   fits_by : (b : Bool) (name : Who) → Fits (cond b Own (OfOther name)) name
   fits_by true name = later.fits_own name
   fits_by false name = later.fits_other name
@@ -86,33 +86,38 @@ module _ {p : Image} {actor : Who} {Fits : Fitting} {Sleeps : Sleeping} {Other :
   pub fits_part : (name : Who) → Fits (part_of actor name) name
   fits_part name = fits_by (same_who actor name) name
 
-  leaves_or_ready : (name : Who) (b : Bool) → same_who actor name ≡ b → Keeps X (cond b (changes (edit_task name (with_state Runnable))) (ready p (OfOther name) name))
-  leaves_or_ready name true is = subst (λ n. Keeps X (changes (edit_task n (with_state Runnable)))) (who-is actor name is) later.runs_on
-  leaves_or_ready name false is = later.begins name (later.differs name is)
+-- who waits at a terminate alternative leaves its select
+module _ {p : Image} {actor : Who} {Listed : World → Naming} {W Y : State} {V : World → State} (choosing : SelectMoves p actor Listed W Y V) where
+  leaves_or_ready : (v : World) (name : Who) (b : Bool) → same_who actor name ≡ b → Listed v name → Keeps (V v) (cond b (changes (edit_task name (with_state Runnable))) (ready p (OfOther name) name))
+  leaves_or_ready v name true is listed = subst (λ n. Keeps (V v) (changes (edit_task n (with_state Runnable)))) (who-is actor name is) (choosing.runs_on v)
+  leaves_or_ready v name false is listed = choosing.begins v name is listed
 
-  pub leave_by_terminate-keeps : (t : Task) → Keeps X (leave_by_terminate p actor t)
+  pub leave_by_terminate-keeps : (v : World) (t : Task) → Listed v t.who → Keeps (V v) (leave_by_terminate p actor t)
   unfolding leave_by_terminate
-  leave_by_terminate-keeps t =
-      then-keeps _ _ (changes-keeps _ (drop_delay-alters later.base.quiet t.who))
-      (then-keeps _ _ (leaves_or_ready t.who (same_who actor t.who) refl) (leaves-keeps later.base.quiet t.who how.Terminate))
+  leave_by_terminate-keeps v t listed =
+      then-keeps _ _ (changes-keeps _ (drop_delay-alters (choosing.looking v) t.who))
+      (then-keeps _ _ (leaves_or_ready v t.who (same_who actor t.who) refl listed) (leaves-keeps (choosing.looking v) t.who how.Terminate))
 
-module _ {p : Image} {actor : Who} {Fits Narrow : Fitting} {Sleeps : Sleeping} {May : Admitting} {Other Unmade : Naming} {F I J : State} {O : World → State} {E : Who → State} (acting : ActingMoves p actor Fits Narrow Sleeps May Other Unmade F I J O E) where
-  ready_master-at : (v : World) (found : Option Task) → ((t : Task) → found ≡ Some t → Sleeps v t.who) → Leads (At I v) I (for_some found (λ t. ready p (part_of actor t.who) t.who))
+-- ---- a task is no longer there
+
+module _ {p : Image} {Fits : Fitting} {Sleeps : Sleeping} {X : State} (moves : BaseMoves p Fits Sleeps X) (actor : Who) (fits : (name : Who) → Fits (part_of actor name) name) (found_asleep : (w : World) (said : List Said) → X w said → EachTask (λ t. is_blocked t.state ≡ true → Sleeps w t.who) w.tasks) where
+  ready_master-at : (v : World) (found : Option Task) → ((t : Task) → found ≡ Some t → Sleeps v t.who) → Leads (At X v) X (for_some found (λ t. ready p (part_of actor t.who) t.who))
   ready_master-at v None sleeps = from_at nothing nothing-keeps
-  ready_master-at v (Some t) sleeps = ready-at acting.later.base (part_of actor t.who) t.who v (fits_part acting.later t.who) (sleeps t refl)
+  ready_master-at v (Some t) sleeps = ready-at moves (part_of actor t.who) t.who v (fits t.who) (sleeps t refl)
 
-  pub wake_master-keeps : (r : RegionNo) → Keeps I (wake_master p actor r)
+  wake_master-keeps : (r : RegionNo) → Keeps X (wake_master p actor r)
   unfolding wake_master
   wake_master-keeps r =
       looks-with _ (λ v said h. when-leads (not (has_dependents v r)) _
       (λ is. ready_master-at v (find (waits_for_dependents r) v.tasks) (λ t e.
-      let found = found-each (λ u. is_blocked u.state ≡ true → Sleeps v u.who) (waits_for_dependents r) v.tasks t (acting.found_asleep v said h) e in
+      let found = found-each (λ u. is_blocked u.state ≡ true → Sleeps v u.who) (waits_for_dependents r) v.tasks t (found_asleep v said h) e in
       found.0 (waiting-blocked (waits_in r) refl t.state found.1)))
       (λ w s k. k.0))
 
-  pub terminate-leads : (name : Who) → Leads (E name) I (terminate p actor name)
+  -- it was completed before, if it was not yet
+  pub terminate-leads : {Z : State} (dying : BaseMoves p Fits Sleeps Z) (name : Who) → ((w : World) (said : List Said) → Z w said → Z (lose name inherited_by.Activation w) said) → Leads Z X (changes (forget_task name)) → Leads Z X (terminate p actor name)
   unfolding terminate
-  terminate-leads name =
-      looks-leads _ (λ v. then-leads (complete p actor name) _ (complete-keeps (acting.ending name) actor (fits_part acting.later) name (acting.loses_ended name))
-      (then-leads (changes (drop_delay name)) _ (changes-keeps _ (drop_delay-alters (acting.ending name).quiet name))
-      (then-leads (changes (forget_task name)) _ (acting.forgets name) (for_some-keeps (task_of v name).master _ wake_master-keeps))))
+  terminate-leads dying name loses forgets =
+      looks-leads _ (λ v. then-leads (complete p actor name) _ (complete-keeps dying actor fits name loses)
+      (then-leads (changes (drop_delay name)) _ (changes-keeps _ (drop_delay-alters dying.quiet name))
+      (then-leads (changes (forget_task name)) _ forgets (for_some-keeps (task_of v name).master _ wake_master-keeps))))

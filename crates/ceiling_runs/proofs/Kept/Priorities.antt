@@ -3,14 +3,13 @@ use Rattle.ann_base.specs.declared.exceptions.Raised.TheVariants as exception
 use Rattle.ann_base.specs.declared.identities.TaskNo.{TaskNo}
 use Rattle.ceiling_runs.proofs.ActingMoves.{ActingMoves, Admitting, LaterMoves}
 use Rattle.ceiling_runs.proofs.Kept.Frames.{given-keeps, given-through, goes-keeps, raise_if-keeps, raise_if-through, weakly}
-use Rattle.ceiling_runs.proofs.Kept.Scopes.{appoint-alters}
 use Rattle.ceiling_runs.proofs.Kept.Tasks.{edit_task-alters, plain-alters, says-keeps}
 use Rattle.ceiling_runs.proofs.Kept.Waking.{each-any, found-each, inherit-alters}
 use Rattle.ceiling_runs.proofs.LevelMoves.{Fitting, Naming, Silences, Sleeping}
 use Rattle.ceiling_runs.proofs.Triples.{Alters, Keeps, Leads, State, changes-keeps, looks-keeps, nothing-keeps, sees-keeps, sees-leads, then-keeps, then-leads, when-keeps}
 use Rattle.profile_machine.specs.Dispatching.{to_tail}
 use Rattle.profile_machine.specs.Frames.{goes, in_protected}
-use Rattle.profile_machine.specs.Inheritance.{inherit, inherit_running, rises}
+use Rattle.profile_machine.specs.Inheritance.{inherit, inherit_running, rises, same_cause}
 use Rattle.profile_machine.specs.Operators.{Valued, held_moment, ticks, ◌>>=◌}
 use Rattle.profile_machine.specs.Priorities.{delay_and_set_deadline, delay_with_deadline, is_edf_base, must_be_task, priority_in_range, quantum_of, says_deadline, set_base_of, set_deadline_of, set_or_defer_base, set_priority, set_quantum}
 use Rattle.profile_machine.specs.Program.{interrupt_priority, next_of}
@@ -22,11 +21,11 @@ use Rattle.profile_machine.specs.declared.image.Image.{Image}
 use Rattle.profile_machine.specs.declared.numbers.ExprNo.{ExprNo}
 use Rattle.profile_machine.specs.declared.numbers.StatementNo.{StatementNo}
 use Rattle.profile_machine.specs.declared.world.World.{World}
-use Rattle.profile_machine.specs.declared.world.appointments.Due.TheVariants as due_for
 use Rattle.profile_machine.specs.declared.world.lines.Line.TheVariants as line
 use Rattle.profile_machine.specs.declared.world.lines.Part.{Part}
 use Rattle.profile_machine.specs.declared.world.lines.Part.TheVariants.{Own, ThePlacing}
 use Rattle.profile_machine.specs.declared.world.tasks.Cause.{Cause}
+use Rattle.profile_machine.specs.declared.world.tasks.Cause.TheVariants as inherited_by
 use Rattle.profile_machine.specs.declared.world.tasks.Task as world
 use Rattle.profile_machine.specs.declared.world.tasks.Waiting.TheVariants as waits_for
 use Rattle.std.proofs.Common.{refl, subst, sym, ◌≡◌}
@@ -36,7 +35,7 @@ use Rattle.trace_text.specs.declared.events.Who.TheVariants as who
 
 module _ {X : State} (quiet : Silences X) where
   set_level-alters : (level ticks : ℕ) → Alters X (λ w. record w { quanta = edit_at level (λ _. ticks) w.quanta })
-  set_level-alters level ticks = plain-alters quiet (λ w. record w { quanta = edit_at level (λ _. ticks) w.quanta }) (λ w. refl) (λ w. refl) (λ w. refl) (λ w. refl) (λ w. refl)
+  set_level-alters level ticks = plain-alters quiet (λ w. record w { quanta = edit_at level (λ _. ticks) w.quanta }) (λ w. refl) (λ w. refl) (λ w. refl) (λ w. refl) (λ w. refl) (λ w t e. e)
 
   pub set_quantum-keeps : (p : Image) (name : Who) (s : StatementNo) (level quantum : ExprNo) → Keeps X (set_quantum p name s level quantum)
   unfolding set_quantum
@@ -50,12 +49,12 @@ module _ {X : State} (quiet : Silences X) where
   says_deadline-keeps part (who.Task t) d = says-keeps quiet part (line.Deadline t d) refl
   says_deadline-keeps part who.Agent d = nothing-keeps
 
-module _ {p : Image} {actor : Who} {Fits : Fitting} {Sleeps : Sleeping} {Other : Naming} {X : State} (later : LaterMoves p actor Fits Sleeps Other X) where
-  pub inherit_running-keeps : (cause : Cause) (level : ℕ) → Keeps X (inherit_running p actor cause level)
+module _ {p : Image} {actor : Who} {Fits : Fitting} {Sleeps : Sleeping} {X : State} (later : LaterMoves p actor Fits Sleeps X) where
+  pub inherit_running-keeps : (cause : Cause) (level : ℕ) → same_cause inherited_by.Activation cause ≡ false → Keeps X (inherit_running p actor cause level)
   unfolding inherit_running
-  inherit_running-keeps cause level = looks-keeps _ (λ w. then-keeps _ _ (changes-keeps _ (inherit-alters later.base actor cause level)) (when-keeps (rises p actor w (inherit actor cause level w)) _ later.heads))
+  inherit_running-keeps cause level other = looks-keeps _ (λ w. then-keeps _ _ (changes-keeps _ (inherit-alters later.base actor cause level other)) (when-keeps (rises p actor w (inherit actor cause level w)) _ later.heads))
 
-module _ {p : Image} {actor : Who} {Fits Narrow : Fitting} {Sleeps : Sleeping} {May : Admitting} {Other Unmade : Naming} {F I J : State} {O : World → State} {E : Who → State} (acting : ActingMoves p actor Fits Narrow Sleeps May Other Unmade F I J O E) where
+module _ {p : Image} {actor : Who} {Fits Narrow : Fitting} {Sleeps : Sleeping} {May : Admitting} {Listed Unmade : World → Naming} {F I J W Y D : State} {O N V U : World → State} {E : World → Who → State} (acting : ActingMoves p actor Fits Narrow Sleeps May Listed Unmade F I J W Y D O N V U E) where
   -- who was found by the name of a task is one
   base_of_named : (t : TaskNo) (name : Who) (level : ℕ) → same_who (who.Task t) name ≡ true → Leads F I (set_or_defer_base p actor name level)
   base_of_named t (who.Task n) level is = acting.sets_base n level
@@ -89,7 +88,7 @@ module _ {p : Image} {actor : Who} {Fits Narrow : Fitting} {Sleeps : Sleeping} {
 
   wait_until-keeps : (name : Who) (until : ℤ) (future : Bool) → name ≡ actor → Keeps I (wait_until p name until future)
   unfolding wait_until
-  wait_until-keeps (who.Task t) until true is = then-keeps _ _ (changes-keeps _ (appoint-alters acting.later.base.quiet (due_for.Delay t) until)) (acting.later.blocks (who.Task t) waits_for.Moment)
+  wait_until-keeps (who.Task t) until true is = then-keeps _ _ (changes-keeps _ (acting.appoints t until is)) (acting.later.blocks (who.Task t) waits_for.Moment)
   wait_until-keeps (who.Task t) until false is = subst (λ n. Keeps I (to_tail p ThePlacing n)) (sym is) acting.tails
   wait_until-keeps who.Agent until future is = nothing-keeps
 

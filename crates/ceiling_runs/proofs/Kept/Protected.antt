@@ -81,7 +81,7 @@ module _ {X : State} (quiet : Silences X) where
 
 -- ---- who is let in
 
-module _ {p : Image} {actor : Who} {Fits Narrow : Fitting} {Sleeps : Sleeping} {May : Admitting} {Other Unmade : Naming} {F I J : State} {O : World → State} {E : Who → State} (acting : ActingMoves p actor Fits Narrow Sleeps May Other Unmade F I J O E) where
+module _ {p : Image} {actor : Who} {Fits Narrow : Fitting} {Sleeps : Sleeping} {May : Admitting} {Listed Unmade : World → Naming} {F I J W Y D : State} {O N V U : World → State} {E : World → Who → State} (acting : ActingMoves p actor Fits Narrow Sleeps May Listed Unmade F I J W Y D O N V U E) where
   -- at first, where who acts may enter an object
   abbrev pub Admitted : ObjectNo → State
   Admitted o = With F (λ w. May w o)
@@ -132,7 +132,7 @@ module _ {p : Image} {actor : Who} {Fits Narrow : Fitting} {Sleeps : Sleeping} {
   begin_action_on-leads o mode call release =
       then-leads (says Own (line.Enter actor o mode)) _ (acting.enters o mode)
       (then-keeps _ _ (changes-keeps _ (open_action-alters acting.entered.base.quiet actor o mode))
-      (then-keeps _ _ (looks-keeps _ (λ w. inherit_running-keeps acting.entered (inherited_by.Ceiling o) (ceiling_of (object_of w o)))) (changes-keeps _ (push-alters acting.entered.base.quiet actor (new_frame (new_protected_mark o mode call release) None)))))
+      (then-keeps _ _ (looks-keeps _ (λ w. inherit_running-keeps acting.entered (inherited_by.Ceiling o) (ceiling_of (object_of w o)) refl)) (changes-keeps _ (push-alters acting.entered.base.quiet actor (new_frame (new_protected_mark o mode call release) None)))))
 
   begin_operation-leads : (s : StatementNo) (f : SubprogramNo) (o : ObjectNo) (h : Handed) (to : ResultTo) → Leads (Admitted o) J (begin_operation p actor s f o h to)
   unfolding begin_operation

@@ -1,4 +1,5 @@
 -- Accepting calls: each step keeps what its parts keep.
+use Rattle.profile_machine.specs.declared.world.lines.Said.{Said}
 use Rattle.ann_base.specs.declared.exceptions.Raised.TheVariants as exception
 use Rattle.ann_base.specs.declared.identities.CallNo.{CallNo}
 use Rattle.ann_base.specs.declared.identities.TaskNo.{TaskNo}
@@ -8,12 +9,12 @@ use Rattle.ceiling_runs.proofs.Kept.Calls.{edit_call-alters, enqueue-keeps, with
 use Rattle.ceiling_runs.proofs.Kept.Frames.{given-through, goes-keeps, open_sequence-keeps, pass_on-keeps, pop-alters, push-alters, raise_if-keeps, raise_if-through, raises-keeps, weakly}
 use Rattle.ceiling_runs.proofs.Kept.Priorities.{inherit_running-keeps}
 use Rattle.ceiling_runs.proofs.Kept.Protected.{begin_call-keeps}
-use Rattle.ceiling_runs.proofs.Kept.Scopes.{appoint-alters, begin_scope-alters, drop_delay-alters, end_scope-alters}
+use Rattle.ceiling_runs.proofs.Kept.Scopes.{begin_scope-alters, drop_delay-alters, end_scope-alters}
 use Rattle.ceiling_runs.proofs.Kept.Sending.{begin_abortable-keeps, send_on-keeps, sent_not_begun-keeps}
 use Rattle.ceiling_runs.proofs.Kept.Tasks.{says-keeps}
 use Rattle.ceiling_runs.proofs.Kept.Waking.{Asleep, asleep_at, asleep_quiet, waiting-blocked}
 use Rattle.ceiling_runs.proofs.LevelMoves.{BaseMoves, Fitting, Naming, Silences, Sleeping}
-use Rattle.ceiling_runs.proofs.Triples.{Alters, At, Keeps, Leads, State, With, branch-leads, changes-keeps, for_some-keeps, from-leads, from_at, looks-keeps, looks-leads, looks-with, nothing-keeps, sees-leads, then-keeps, then-leads, unchanged-alters}
+use Rattle.ceiling_runs.proofs.Triples.{Alters, At, Keeps, Leads, State, With, branch-leads, changes-keeps, for_some-keeps, from-leads, from_at, looks-keeps, looks-leads, looks-with, nothing-keeps, sees-leads, then-keeps, then-leads, unchanged-alters, to-leads}
 use Rattle.profile_machine.specs.Appointments.{drop_delay}
 use Rattle.profile_machine.specs.CallEnds.{deliver}
 use Rattle.profile_machine.specs.Calls.{enqueue, next_call, parameters_of, place_of_entry}
@@ -35,7 +36,6 @@ use Rattle.profile_machine.specs.declared.run_data.Leaving.TheVariants as how
 use Rattle.profile_machine.specs.declared.statements.SelectAlternative.{SelectAlternative}
 use Rattle.profile_machine.specs.declared.statements.SelectKind.{SelectKind}
 use Rattle.profile_machine.specs.declared.world.World.{World}
-use Rattle.profile_machine.specs.declared.world.appointments.Due.TheVariants as due_for
 use Rattle.profile_machine.specs.declared.world.calls.Call.{Call}
 use Rattle.profile_machine.specs.declared.world.calls.DelayMoment.{DelayMoment}
 use Rattle.profile_machine.specs.declared.world.calls.Outcome.TheVariants as call_ended
@@ -49,7 +49,6 @@ use Rattle.profile_machine.specs.declared.world.lines.Part.TheVariants.{Own, The
 use Rattle.profile_machine.specs.declared.world.marks.AcceptMark.{AcceptMark}
 use Rattle.profile_machine.specs.declared.world.marks.Mark.{Mark}
 use Rattle.profile_machine.specs.declared.world.marks.Mark.TheVariants.{InAccept}
-use Rattle.profile_machine.specs.declared.world.tasks.Cause.{Cause}
 use Rattle.profile_machine.specs.declared.world.tasks.Cause.TheVariants as inherited_by
 use Rattle.profile_machine.specs.declared.world.tasks.Waiting.TheVariants as waits_for
 use Rattle.std.proofs.Common.{ap, refl, ◌≡◌}
@@ -88,14 +87,14 @@ module _ {X : State} (quiet : Silences X) where
 -- ---- who waited at an accept becomes ready
 
 module _ {p : Image} {Fits : Fitting} {Sleeps : Sleeping} {X : State} (moves : BaseMoves p Fits Sleeps X) where
-  asleep_heir : (name : Who) (cause : Cause) (level : ℕ) → Alters (Asleep moves name) (inherit name cause level)
-  asleep_heir name cause level = record { turns = λ w said h. (moves.inherits name cause level w said h.0, moves.sleeps_heir name cause level w name h.1) }
+  asleep_heir : (name : Who) (c : CallNo) (level : ℕ) → Alters (Asleep moves name) (inherit name (inherited_by.Rendezvous c) level)
+  asleep_heir name c level = record { turns = λ w said h. (moves.inherits name (inherited_by.Rendezvous c) level w said refl h.0, moves.sleeps_heir name (inherited_by.Rendezvous c) level w name h.1) }
 
   pub meet_with_room-leads : (part : Part) (name : Who) (s : StatementNo) (c : Call) (then_ : Step) → Fits part name → Keeps X then_ → Leads (With X (λ w. Sleeps w name)) X (meet_with_room p part name s c then_)
   meet_with_room-leads part name s c then_ fits kept =
       then-leads (begin_accept p part name s c) _ (begin_accept-keeps (asleep_quiet moves name) p part name s c)
       (then-leads (changes (open_accept p name s c)) _ (changes-keeps _ (open_accept-alters (asleep_quiet moves name) p name s c))
-      (then-leads (changes (inherit name (inherited_by.Rendezvous c.number) c.priority)) _ (changes-keeps _ (asleep_heir name (inherited_by.Rendezvous c.number) c.priority))
+      (then-leads (changes (inherit name (inherited_by.Rendezvous c.number) c.priority)) _ (changes-keeps _ (asleep_heir name c.number c.priority))
       (then-leads (ready p part name) _ (moves.wakes part name fits) (then-keeps (open_sequence p part name) then_ (open_sequence-keeps moves.quiet p part name) kept))))
 
   pub meet_without_room-leads : (part : Part) (name : Who) (s : StatementNo) (c : Call) (otherwise : Step) → Fits part name → Keeps (With X (λ w. Sleeps w name)) otherwise → Leads (With X (λ w. Sleeps w name)) X (meet_without_room p part name s c otherwise)
@@ -115,10 +114,10 @@ module _ {p : Image} {Fits : Fitting} {Sleeps : Sleeping} {X : State} (moves : B
 
 -- ---- by who acts
 
-module _ {p : Image} {actor : Who} {Fits Narrow : Fitting} {Sleeps : Sleeping} {May : Admitting} {Other Unmade : Naming} {F I J : State} {O : World → State} {E : Who → State} (acting : ActingMoves p actor Fits Narrow Sleeps May Other Unmade F I J O E) where
+module _ {p : Image} {actor : Who} {Fits Narrow : Fitting} {Sleeps : Sleeping} {May : Admitting} {Listed Unmade : World → Naming} {F I J W Y D : State} {O N V U : World → State} {E : World → Who → State} (acting : ActingMoves p actor Fits Narrow Sleeps May Listed Unmade F I J W Y D O N V U E) where
   accept_with_room-keeps : (s : StatementNo) (c : Call) (test : Bool) → Keeps I (accept_with_room p actor s c test)
   unfolding accept_with_room
-  accept_with_room-keeps s c true = then-keeps _ _ (changes-keeps _ (open_accept-alters acting.later.base.quiet p actor s c)) (inherit_running-keeps acting.later (inherited_by.Rendezvous c.number) c.priority)
+  accept_with_room-keeps s c true = then-keeps _ _ (changes-keeps _ (open_accept-alters acting.later.base.quiet p actor s c)) (inherit_running-keeps acting.later (inherited_by.Rendezvous c.number) c.priority refl)
   accept_with_room-keeps s c false =
       then-keeps _ _ (finish_without_room-keeps acting.later.base.quiet Own actor c)
       (then-keeps _ _ (deliver-keeps acting.later.base Own c.number (call_ended.ToRaise exception.Storage) acting.later.fits_own) (raises-keeps acting.later.base.quiet Own actor exception.Storage))
@@ -140,52 +139,61 @@ module _ {p : Image} {actor : Who} {Fits Narrow : Fitting} {Sleeps : Sleeping} {
   unfolding accept_chosen
   accept_chosen-keeps accepts c = with_call-keeps acting.later.base.quiet c _ (λ d. for_some-keeps (first_accept p d.entry accepts) _ (λ s. accept_call-keeps s c))
 
-  wait_at_select-leads : (accepts : List StatementNo) (delay : Option StatementNo) (test : Bool) → Leads F I (wait_at_select actor accepts delay test)
+  -- what holds later holds at a select
+  pub goes_later : (w : World) (said : List Said) → I w said → W w said
+  goes_later w said h = acting.rests w said (acting.ceases w said h)
+
+  pub not_later : (w : World) (said : List Said) → F w said → W w said
+  not_later w said h = goes_later w said (acting.starts w said h)
+
+  wait_at_select-leads : (accepts : List StatementNo) (delay : Option StatementNo) (test : Bool) → Leads F W (wait_at_select actor accepts delay test)
   unfolding wait_at_select
   wait_at_select-leads accepts delay true = acting.waits_at_select accepts delay
-  wait_at_select-leads accepts delay false = from-leads (block TheBlock actor (waits_for.Select accepts delay false)) acting.starts (acting.later.blocks actor (waits_for.Select accepts delay false))
+  wait_at_select-leads accepts delay false =
+      to-leads (block TheBlock actor (waits_for.Select accepts delay false)) (from-leads (block TheBlock actor (waits_for.Select accepts delay false)) acting.starts (acting.later.blocks actor (waits_for.Select accepts delay false))) goes_later
 
-  appoint_delay-alters : {X : State} (quiet : Silences X) (name : Who) (m : ℤ) → Alters X (appoint_delay name m)
-  appoint_delay-alters quiet (who.Task t) m = appoint-alters quiet (due_for.Delay t) m
-  appoint_delay-alters quiet who.Agent m = unchanged-alters
+  appoint_delay-alters : (name : Who) (m : ℤ) → name ≡ actor → Alters F (appoint_delay name m)
+  appoint_delay-alters (who.Task t) m is = acting.appoints_first t m is
+  appoint_delay-alters who.Agent m is = unchanged-alters
 
-  at_first : (step : Step) → Keeps F step → Leads F I step
-  at_first step kept = weakly acting.fresh acting.starts step kept
+  at_first : (step : Step) → Keeps F step → Leads F W step
+  at_first step kept = weakly acting.fresh not_later step kept
 
-  select_delay-leads : (s : StatementNo) (accepts : List StatementNo) (m : DelayMoment) (terminate test : Bool) → Leads F I (select_delay p actor s accepts m terminate test)
+  select_delay-leads : (s : StatementNo) (accepts : List StatementNo) (m : DelayMoment) (terminate test : Bool) → Leads F W (select_delay p actor s accepts m terminate test)
   unfolding select_delay
   select_delay-leads s accepts m terminate true = at_first (goes actor (next_of p m.delay)) (goes-keeps acting.fresh actor (next_of p m.delay))
   select_delay-leads s accepts m terminate false =
       then-leads (goes actor (next_of p s)) _ (goes-keeps acting.fresh actor (next_of p s))
-      (then-leads (changes (appoint_delay actor m.at)) _ (changes-keeps _ (appoint_delay-alters acting.fresh actor m.at)) (wait_at_select-leads accepts (Some m.delay) terminate))
+      (then-leads (changes (appoint_delay actor m.at)) _ (changes-keeps _ (appoint_delay-alters actor m.at refl)) (wait_at_select-leads accepts (Some m.delay) terminate))
 
-  select_wait-leads : (s : StatementNo) (accepts : List StatementNo) (terminate : Bool) (moment : Option DelayMoment) → Leads F I (select_wait p actor s accepts terminate moment)
+  select_wait-leads : (s : StatementNo) (accepts : List StatementNo) (terminate : Bool) (moment : Option DelayMoment) → Leads F W (select_wait p actor s accepts terminate moment)
   unfolding select_wait
   select_wait-leads s accepts terminate None = then-leads (goes actor (next_of p s)) _ (goes-keeps acting.fresh actor (next_of p s)) (wait_at_select-leads accepts None terminate)
   select_wait-leads s accepts terminate (Some m) = looks-leads _ (λ w. select_delay-leads s accepts m terminate (int_le m.at (pos w.time)))
 
-  select_otherwise-leads : (s : StatementNo) (kinds : List SelectKind) (m : Option DelayMoment) (next : Option StatementNo) → Leads F I (select_otherwise p actor s kinds m next)
+  select_otherwise-leads : (s : StatementNo) (kinds : List SelectKind) (m : Option DelayMoment) (next : Option StatementNo) → Leads F W (select_otherwise p actor s kinds m next)
   unfolding select_otherwise
   select_otherwise-leads s kinds m (Some otherwise) = at_first (goes actor (Some otherwise)) (goes-keeps acting.fresh actor (Some otherwise))
   select_otherwise-leads s kinds m None = select_wait-leads s (open_accepts kinds) (has_terminate kinds) m
 
-  select_by_call-leads : (s : StatementNo) (kinds : List SelectKind) (m : Option DelayMoment) (otherwise : Option StatementNo) (c : Option CallNo) → Leads F I (select_by_call p actor s kinds m otherwise c)
+  select_by_call-leads : (s : StatementNo) (kinds : List SelectKind) (m : Option DelayMoment) (otherwise : Option StatementNo) (c : Option CallNo) → Leads F W (select_by_call p actor s kinds m otherwise c)
   unfolding select_by_call
-  select_by_call-leads s kinds m otherwise (Some c) = from-leads (accept_chosen p actor (open_accepts kinds) c) acting.starts (accept_chosen-keeps (open_accepts kinds) c)
+  select_by_call-leads s kinds m otherwise (Some c) =
+      to-leads (accept_chosen p actor (open_accepts kinds) c) (from-leads (accept_chosen p actor (open_accepts kinds) c) acting.starts (accept_chosen-keeps (open_accepts kinds) c)) goes_later
   select_by_call-leads s kinds m otherwise None = select_otherwise-leads s kinds m otherwise
 
-  select_open-leads : (s : StatementNo) (otherwise : Option StatementNo) (kinds : List SelectKind) (moments : List DelayMoment) → Leads F I (select_open p actor s otherwise kinds moments)
+  select_open-leads : (s : StatementNo) (otherwise : Option StatementNo) (kinds : List SelectKind) (moments : List DelayMoment) → Leads F W (select_open p actor s otherwise kinds moments)
   unfolding select_open
   select_open-leads s otherwise kinds moments =
-      raise_if-through acting.fresh (λ w k h. h) acting.starts actor (is_closed kinds otherwise) exception.Program _
+      raise_if-through acting.fresh (λ w k h. h) not_later actor (is_closed kinds otherwise) exception.Program _
       (looks-leads _ (λ w. select_by_call-leads s kinds (least_delay moments) otherwise (next_call p w (queues_of_accepts p w actor (open_accepts kinds)))))
 
-  pub selective_accept-leads : (s : StatementNo) (alternatives : List SelectAlternative) (otherwise : Option StatementNo) → Leads F I (selective_accept p actor s alternatives otherwise)
+  pub selective_accept-leads : (s : StatementNo) (alternatives : List SelectAlternative) (otherwise : Option StatementNo) → Leads F W (selective_accept p actor s alternatives otherwise)
   unfolding selective_accept
   selective_accept-leads s alternatives otherwise =
-      sees-leads p actor _ (λ q. raise_if-through acting.fresh (λ w k h. h) acting.starts actor (in_protected q.world actor) exception.Program _
-      (given-through acting.fresh (λ w k h. h) acting.starts Own actor (open_alternatives q alternatives) _ (λ kinds.
-      given-through acting.fresh (λ w k h. h) acting.starts Own actor (open_delays q kinds) _ (λ moments. select_open-leads s otherwise kinds moments))))
+      sees-leads p actor _ (λ q. raise_if-through acting.fresh (λ w k h. h) not_later actor (in_protected q.world actor) exception.Program _
+      (given-through acting.fresh (λ w k h. h) not_later Own actor (open_alternatives q alternatives) _ (λ kinds.
+      given-through acting.fresh (λ w k h. h) not_later Own actor (open_delays q kinds) _ (λ moments. select_open-leads s otherwise kinds moments))))
 
   -- ---- the end of an accept
 

@@ -54,7 +54,7 @@ module _ {X : State} (quiet : Silences X) where
 
   pub appoint_timeout-alters : (c : CallNo) (moment : Option ℤ) → Alters X (appoint_timeout c moment)
   appoint_timeout-alters c None = unchanged-alters
-  appoint_timeout-alters c (Some moment) = appoint-alters quiet (due_for.Timeout c) moment
+  appoint_timeout-alters c (Some moment) = appoint-alters quiet (due_for.Timeout c) moment (λ t. refl)
 
   timeout_if-alters : (firm : Bool) (c : Call) → Alters X (cond firm (λ w. w) (appoint_timeout c.number c.moment))
   timeout_if-alters true c = unchanged-alters
@@ -67,7 +67,7 @@ module _ {X : State} (quiet : Silences X) where
   unfolding send_on
   send_on-keeps c s = then-keeps _ _ (changes-keeps _ (edit_call-alters quiet c (sent_call s))) (with_call-keeps quiet c _ (says_call-keeps quiet TheFinish))
 
-module _ {p : Image} {actor : Who} {Fits : Fitting} {Sleeps : Sleeping} {Other : Naming} {X : State} (later : LaterMoves p actor Fits Sleeps Other X) where
+module _ {p : Image} {actor : Who} {Fits : Fitting} {Sleeps : Sleeping} {X : State} (later : LaterMoves p actor Fits Sleeps X) where
   pub wait_for_call-keeps : (c : Call) → Keeps X (wait_for_call c)
   unfolding wait_for_call
   wait_for_call-keeps c = later.blocks (who.Task c.caller) (waits_for.Call c.number)
@@ -84,7 +84,7 @@ module _ {p : Image} {actor : Who} {Fits : Fitting} {Sleeps : Sleeping} {Other :
   not_accepted-keeps part c call_kind.Timed = looks-keeps _ (λ w. wait_or_cancel-keeps part c (is_not_future w.time c.moment))
   not_accepted-keeps part c call_kind.Triggering = changes-keeps _ (open_abortable-alters later.base.quiet p (who.Task c.caller) c.statement (Some c.number))
 
-module _ {p : Image} {actor : Who} {Fits Narrow : Fitting} {Sleeps : Sleeping} {May : Admitting} {Other Unmade : Naming} {F I J : State} {O : World → State} {E : Who → State} (acting : ActingMoves p actor Fits Narrow Sleeps May Other Unmade F I J O E) where
+module _ {p : Image} {actor : Who} {Fits Narrow : Fitting} {Sleeps : Sleeping} {May : Admitting} {Listed Unmade : World → Naming} {F I J W Y D : State} {O N V U : World → State} {E : World → Who → State} (acting : ActingMoves p actor Fits Narrow Sleeps May Listed Unmade F I J W Y D O N V U E) where
   cancel_sent-keeps : (c : Call) → Keeps I (cancel_sent p c)
   unfolding cancel_sent
   cancel_sent-keeps c =

@@ -59,7 +59,7 @@ module _ {X : State} (quiet : Silences X) where
   close_action-alters name o = edit_object-alters quiet o (λ x. record x { actions = without (is_action_of name) x.actions }) (λ x. refl)
 
   serves_nothing-alters : Alters X serves_nothing
-  serves_nothing-alters = plain-alters quiet serves_nothing (λ w. refl) (λ w. refl) (λ w. refl) (λ w. refl) (λ w. refl)
+  serves_nothing-alters = plain-alters quiet serves_nothing (λ w. refl) (λ w. refl) (λ w. refl) (λ w. refl) (λ w. refl) (λ w t e. e)
 
   module _ (blocks : Keeps X (block TheBlock who.Agent waits_for.Release)) where
     serve_ends-keeps : (n : ℕ) → Keeps X (serve_ends n)
@@ -71,7 +71,7 @@ module _ {X : State} (quiet : Silences X) where
     unfolding end_release
     end_release-keeps n = looks-keeps _ (λ w. when-keeps (is_served_now n w.serving) _ (serve_ends-keeps n))
 
-module _ {p : Image} {actor : Who} {Fits Narrow : Fitting} {Sleeps : Sleeping} {May : Admitting} {Other Unmade : Naming} {F I J : State} {O : World → State} {E : Who → State} (acting : ActingMoves p actor Fits Narrow Sleeps May Other Unmade F I J O E) where
+module _ {p : Image} {actor : Who} {Fits Narrow : Fitting} {Sleeps : Sleeping} {May : Admitting} {Listed Unmade : World → Naming} {F I J W Y D : State} {O N V U : World → State} {E : World → Who → State} (acting : ActingMoves p actor Fits Narrow Sleeps May Listed Unmade F I J W Y D O N V U E) where
   wait_or_unwind-keeps : (c : Call) (test : Bool) → Keeps I (wait_or_unwind p actor c test)
   unfolding wait_or_unwind
   wait_or_unwind-keeps c true =
@@ -81,7 +81,7 @@ module _ {p : Image} {actor : Who} {Fits Narrow : Fitting} {Sleeps : Sleeping} {
 
   wait_for_own-keeps : (c : Call) (test : Bool) → Keeps I (wait_for_own p actor c test)
   unfolding wait_for_own
-  wait_for_own-keeps c true = changes-keeps _ (open_abortable-alters acting.later.base.quiet p actor c.statement (Some c.number))
+  wait_for_own-keeps c true = changes-keeps _ (open_abortable-alters acting.later.base.quiet p (who.Task c.caller) c.statement (Some c.number))
   wait_for_own-keeps c false = looks-keeps _ (λ w. wait_or_unwind-keeps c (may_unwind (frames_of w actor)))
 
   resume_own-keeps : (c : Call) (outcome : Option Outcome) → Keeps I (resume_own p actor c outcome)

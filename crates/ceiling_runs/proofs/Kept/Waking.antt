@@ -2,7 +2,7 @@
 use Rattle.ceiling_runs.proofs.LevelMoves.{BaseMoves, EachTask, Fitting, Silences, Sleeping, is_blocked}
 use Rattle.ceiling_runs.proofs.Triples.{Alters, At, Keeps, Leads, State, With, from-leads, nothing-keeps, then-keeps}
 use Rattle.profile_machine.specs.Dispatching.{ready}
-use Rattle.profile_machine.specs.Inheritance.{inherit}
+use Rattle.profile_machine.specs.Inheritance.{inherit, same_cause}
 use Rattle.profile_machine.specs.Steps.{Step, for_each}
 use Rattle.profile_machine.specs.Tasks.{waiting_in}
 use Rattle.profile_machine.specs.Words.{same_who}
@@ -11,6 +11,7 @@ use Rattle.profile_machine.specs.declared.world.World.{World}
 use Rattle.profile_machine.specs.declared.world.lines.Part.{Part}
 use Rattle.profile_machine.specs.declared.world.lines.Said.{Said}
 use Rattle.profile_machine.specs.declared.world.tasks.Cause.{Cause}
+use Rattle.profile_machine.specs.declared.world.tasks.Cause.TheVariants as inherited_by
 use Rattle.profile_machine.specs.declared.world.tasks.State as tasks
 use Rattle.profile_machine.specs.declared.world.tasks.State.TheVariants.{Blocked, Made, Runnable}
 use Rattle.profile_machine.specs.declared.world.tasks.Task.{Task}
@@ -92,5 +93,5 @@ module _ {p : Image} {Fits : Fitting} {Sleeps : Sleeping} {X : State} (moves : B
   pub ready-at : (part : Part) (name : Who) (v : World) → Fits part name → Sleeps v name → Leads (At X v) X (ready p part name)
   ready-at part name v fits s = asleep_at name v (ready p part name) s (moves.wakes part name fits)
 
-  pub inherit-alters : (name : Who) (cause : Cause) (level : ℕ) → Alters X (inherit name cause level)
-  inherit-alters name cause level = record { turns = λ w said h. moves.inherits name cause level w said h }
+  pub inherit-alters : (name : Who) (cause : Cause) (level : ℕ) → same_cause inherited_by.Activation cause ≡ false → Alters X (inherit name cause level)
+  inherit-alters name cause level other = record { turns = λ w said h. moves.inherits name cause level w said other h }

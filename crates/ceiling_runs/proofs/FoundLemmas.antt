@@ -63,7 +63,7 @@ others-step : (name k : Who) (z : Task) (zs rest : List Task) (b : Bool) → sam
 others-step name k z zs rest true apart is e = e ∙ sym (ap (λ t. cond t (Some z) (find (is_who k) zs)) (apart-named name k z apart is))
 others-step name k z zs rest false apart is e = ap (λ r. cond (is_who k z) (Some z) r) e
 
-kept-others : (name k : Who) (xs : List Task) → same_who k name ≡ false → find (is_who k) (without (is_who name) xs) ≡ find (is_who k) xs
+pub kept-others : (name k : Who) (xs : List Task) → same_who k name ≡ false → find (is_who k) (without (is_who name) xs) ≡ find (is_who k) xs
 kept-others name k [] apart = refl
 kept-others name k (z ∷ zs) apart = others-step name k z zs (without (is_who name) zs) (is_who name z) apart refl (kept-others name k zs apart)
 
@@ -71,7 +71,7 @@ none-step : (name : Who) (z : Task) (rest : List Task) (b : Bool) → is_who nam
 none-step name z rest true is e = e
 none-step name z rest false is e = ap (λ t. cond t (Some z) (find (is_who name) rest)) is ∙ e
 
-none-left : (name : Who) (xs : List Task) → find (is_who name) (without (is_who name) xs) ≡ None
+pub none-left : (name : Who) (xs : List Task) → find (is_who name) (without (is_who name) xs) ≡ None
 none-left name [] = refl
 none-left name (z ∷ zs) = none-step name z (without (is_who name) zs) (is_who name z) refl (none-left name zs)
 

@@ -6,23 +6,21 @@ use Rattle.ann_base.specs.declared.identities.ObjectNo.{ObjectNo}
 use Rattle.ann_base.specs.declared.identities.TaskNo.{TaskNo}
 use Rattle.ceiling_runs.proofs.ActingMoves.{ActingMoves, Admitting, IsNew, LaterMoves, SelectMoves}
 use Rattle.ceiling_runs.proofs.Kept.CallEnds.{deliver-keeps}
-use Rattle.ceiling_runs.proofs.Kept.Calls.{edit_call-alters, edit_queue-alters, with_call-keeps}
 use Rattle.ceiling_runs.proofs.Kept.Frames.{raises-keeps}
 use Rattle.ceiling_runs.proofs.Kept.Instant.{Appointing, OtherMoves}
-use Rattle.ceiling_runs.proofs.Kept.Priorities.{says_deadline-keeps}
+use Rattle.ceiling_runs.proofs.Kept.Priorities.{reprioritize_own-keeps, says_deadline-keeps}
 use Rattle.ceiling_runs.proofs.Kept.Rendezvous.{begin_accept-keeps, finish_without_room-keeps}
 use Rattle.ceiling_runs.proofs.Kept.Tasks.{edit_task-alters}
 use Rattle.ceiling_runs.proofs.LevelMoves.{BaseMoves, EachTask, Fitting, Naming, Silences, Sleeping}
-use Rattle.ceiling_runs.proofs.Triples.{Alters, At, Keeps, Leads, State, With, branch-keeps, branch-leads, changes-keeps, for_some-keeps, from-leads, from_at, looks-keeps, looks-leads, looks-with, nothing-keeps, then-keeps, then-leads, then-together, unchanged-alters, when-keeps, when-leads}
+use Rattle.ceiling_runs.proofs.Triples.{Alters, At, Keeps, Leads, State, With, branch-keeps, branch-leads, changes-keeps, from-leads, from_at, looks-keeps, looks-leads, looks-with, nothing-keeps, then-keeps, then-leads, then-together, when-keeps, when-leads}
 use Rattle.ceiling_runs.specs.Cores.{Same}
 use Rattle.profile_machine.specs.CallEnds.{deliver}
-use Rattle.profile_machine.specs.Calls.{place_of_entry, put_call, take_call}
 use Rattle.profile_machine.specs.Declarations.{says_object, with_object}
-use Rattle.profile_machine.specs.Dispatching.{active, active_of, block, deadline_shown, grant_quantum, granted, keep_level, level_kept_by, ready, says_block, says_ready, to_head, to_tail, without_kept_level, word_of}
+use Rattle.profile_machine.specs.Dispatching.{active, block, deadline_shown, grant_quantum, granted, keep_level, level_kept_by, ready, says_block, says_ready, to_head, to_tail, without_kept_level, word_of}
 use Rattle.profile_machine.specs.Frames.{in_protected}
 use Rattle.profile_machine.specs.Inheritance.{falls, inherit, lose, lose_running}
 use Rattle.profile_machine.specs.Masters.{forget_task, part_of}
-use Rattle.profile_machine.specs.Priorities.{call_waited_for, defer_base, defer_deadline, is_queued, is_runnable_at_edf, placed_anew, placing_of, replace_in, reprioritize, reprioritize_own, says_base, set_base, set_deadline, set_deferred, set_or_defer_base, set_or_defer_deadline, take_base, take_deadline, with_priority}
+use Rattle.profile_machine.specs.Priorities.{defer_base, defer_deadline, is_runnable_at_edf, placing_of, replace_in, says_base, set_base, set_deadline, set_deferred, set_or_defer_base, set_or_defer_deadline, take_base, take_deadline}
 use Rattle.profile_machine.specs.Program.{edf_low, has_edf, is_robin_level}
 use Rattle.profile_machine.specs.Protected.{entering}
 use Rattle.profile_machine.specs.Rendezvous.{meet_without_room}
@@ -30,8 +28,6 @@ use Rattle.profile_machine.specs.Steps.{changes, is_part_before, nothing, says, 
 use Rattle.profile_machine.specs.Tasking.{create_task, fall_from, says_done}
 use Rattle.profile_machine.specs.Tasks.{edit_task, task_of, with_state}
 use Rattle.profile_machine.specs.declared.image.Image.{Image}
-use Rattle.profile_machine.specs.declared.image.Queuing.{Queuing}
-use Rattle.profile_machine.specs.declared.image.Queuing.TheVariants as queuing
 use Rattle.profile_machine.specs.declared.numbers.DeclNo.{DeclNo}
 use Rattle.profile_machine.specs.declared.numbers.ProtectedUnitNo.{ProtectedUnitNo}
 use Rattle.profile_machine.specs.declared.numbers.StatementNo.{StatementNo}
@@ -197,23 +193,11 @@ module _ {p : Image} {Fits : Part → Type 0} {X : State} (free : FreeBase p Fit
       then-keeps _ _ (changes-keeps _ (edit_task-alters free.quiet name (λ t. record t { deadline = d }) (λ t. refl)))
       (then-keeps _ _ (says_deadline-keeps free.quiet part name d) (looks-keeps _ (λ w. when-keeps (is_runnable_at_edf p w name (task_of w name).state) _ (to_tail-free placing name fits))))
 
-  placed_anew-alters : (queuing : Queuing) (c : Call) (level : ℕ) → Alters X (placed_anew queuing p c level)
-  placed_anew-alters queuing.Fifo c level = unchanged-alters
-  placed_anew-alters queuing.Priority c level = record { turns = λ w said h. (edit_queue-alters free.quiet c.owner (place_of_entry p c.entry) (λ q. put_call queuing.Priority w c.number level (take_call c.number q))).turns w said h }
-
-  reprioritize-free : (level : ℕ) (c : Call) → Keeps X (reprioritize p level c)
-  unfolding reprioritize
-  reprioritize-free level c = when-keeps (is_queued c) _ (then-keeps _ _ (changes-keeps _ (edit_call-alters free.quiet c.number (with_priority level))) (changes-keeps _ (placed_anew-alters p.policies.queuing c level)))
-
-  reprioritize_own-free : (name : Who) (waiting : Waiting) → Keeps X (reprioritize_own p name waiting)
-  unfolding reprioritize_own
-  reprioritize_own-free name waiting = looks-keeps _ (λ w. for_some-keeps (call_waited_for waiting) _ (λ c. with_call-keeps free.quiet c _ (reprioritize-free (active_of p w name))))
-
   pub replace_in-free : (part : Part) (name : Who) (state : tasks.State) → Fits part → Keeps X (replace_in p part name state)
   unfolding replace_in
   replace_in-free part name Made fits = nothing-keeps
   replace_in-free part name Runnable fits = to_tail-free part name fits
-  replace_in-free part name (Blocked waiting) fits = reprioritize_own-free name waiting
+  replace_in-free part name (Blocked waiting) fits = reprioritize_own-keeps free.quiet p name waiting
 
   sets_deadline-free : (actor name : Who) (d : ℤ) → ((part : Part) → Fits part) → Keeps X (set_or_defer_deadline p actor name d)
   unfolding set_or_defer_deadline defer_deadline

@@ -1,17 +1,23 @@
 -- Priorities that are inherited, and base priorities and deadlines that are set: each step keeps what its parts keep.
+use Rattle.ceiling_runs.proofs.Kept.Calls.{edit_call-alters, edit_queue-alters, with_call-keeps}
+use Rattle.profile_machine.specs.Calls.{place_of_entry, put_call, take_call}
 use Rattle.ann_base.specs.declared.exceptions.Raised.TheVariants as exception
+use Rattle.profile_machine.specs.declared.image.Queuing.{Queuing}
+use Rattle.profile_machine.specs.declared.image.Queuing.TheVariants as queuing
+use Rattle.profile_machine.specs.declared.world.tasks.Waiting.{Waiting}
+use Rattle.profile_machine.specs.declared.world.calls.Call.{Call}
 use Rattle.ann_base.specs.declared.identities.TaskNo.{TaskNo}
 use Rattle.ceiling_runs.proofs.ActingMoves.{ActingMoves, Admitting, LaterMoves}
 use Rattle.ceiling_runs.proofs.Kept.Frames.{given-keeps, given-through, goes-keeps, raise_if-keeps, raise_if-through, weakly}
 use Rattle.ceiling_runs.proofs.Kept.Tasks.{edit_task-alters, plain-alters, says-keeps}
 use Rattle.ceiling_runs.proofs.Kept.Waking.{each-any, found-each, inherit-alters}
 use Rattle.ceiling_runs.proofs.LevelMoves.{Fitting, Naming, Silences, Sleeping}
-use Rattle.ceiling_runs.proofs.Triples.{Alters, Keeps, Leads, State, changes-keeps, looks-keeps, nothing-keeps, sees-keeps, sees-leads, then-keeps, then-leads, when-keeps}
-use Rattle.profile_machine.specs.Dispatching.{to_tail}
+use Rattle.ceiling_runs.proofs.Triples.{Alters, Keeps, Leads, State, changes-keeps, looks-keeps, nothing-keeps, sees-keeps, sees-leads, then-keeps, then-leads, when-keeps, for_some-keeps, unchanged-alters}
+use Rattle.profile_machine.specs.Dispatching.{to_tail, active_of}
 use Rattle.profile_machine.specs.Frames.{goes, in_protected}
 use Rattle.profile_machine.specs.Inheritance.{inherit, inherit_running, rises, same_cause}
 use Rattle.profile_machine.specs.Operators.{Valued, held_moment, ticks, ◌>>=◌}
-use Rattle.profile_machine.specs.Priorities.{delay_and_set_deadline, delay_with_deadline, is_edf_base, must_be_task, priority_in_range, quantum_of, says_deadline, set_base_of, set_deadline_of, set_or_defer_base, set_priority, set_quantum}
+use Rattle.profile_machine.specs.Priorities.{delay_and_set_deadline, delay_with_deadline, is_edf_base, must_be_task, priority_in_range, quantum_of, says_deadline, set_base_of, set_deadline_of, set_or_defer_base, set_priority, set_quantum, call_waited_for, is_queued, placed_anew, reprioritize, reprioritize_own, with_priority}
 use Rattle.profile_machine.specs.Program.{interrupt_priority, next_of}
 use Rattle.profile_machine.specs.Statements.{delay_to, delay_until, wait_until}
 use Rattle.profile_machine.specs.Tasks.{found_task, is_who}
@@ -48,6 +54,19 @@ module _ {X : State} (quiet : Silences X) where
   unfolding says_deadline
   says_deadline-keeps part (who.Task t) d = says-keeps quiet part (line.Deadline t d) refl
   says_deadline-keeps part who.Agent d = nothing-keeps
+
+  -- the call of somebody who waits gets its active priority
+  placed_anew-alters : (queuing : Queuing) (p : Image) (c : Call) (level : ℕ) → Alters X (placed_anew queuing p c level)
+  placed_anew-alters queuing.Fifo p c level = unchanged-alters
+  placed_anew-alters queuing.Priority p c level = record { turns = λ w said h. (edit_queue-alters quiet c.owner (place_of_entry p c.entry) (λ q. put_call queuing.Priority w c.number level (take_call c.number q))).turns w said h }
+
+  reprioritize-keeps : (p : Image) (level : ℕ) (c : Call) → Keeps X (reprioritize p level c)
+  unfolding reprioritize
+  reprioritize-keeps p level c = when-keeps (is_queued c) _ (then-keeps _ _ (changes-keeps _ (edit_call-alters quiet c.number (with_priority level))) (changes-keeps _ (placed_anew-alters p.policies.queuing p c level)))
+
+  pub reprioritize_own-keeps : (p : Image) (name : Who) (waiting : Waiting) → Keeps X (reprioritize_own p name waiting)
+  unfolding reprioritize_own
+  reprioritize_own-keeps p name waiting = looks-keeps _ (λ w. for_some-keeps (call_waited_for waiting) _ (λ c. with_call-keeps quiet c _ (reprioritize-keeps p (active_of p w name))))
 
 module _ {p : Image} {actor : Who} {Fits : Fitting} {Sleeps : Sleeping} {X : State} (later : LaterMoves p actor Fits Sleeps X) where
   pub inherit_running-keeps : (cause : Cause) (level : ℕ) → same_cause inherited_by.Activation cause ≡ false → Keeps X (inherit_running p actor cause level)

@@ -38,7 +38,7 @@ use Rattle.trace_text.specs.declared.events.Who.TheVariants as who
 abbrev Fine : ℕ → Option ℕ → Option (Part × Option ℕ) → Type 0
 Fine level shown last = MayBePlaced ThePlacing last × IsAtMost (place_by last shown) level
 
-at_most-risen : (place : Option ℕ) (a b : ℕ) → a ≤ b → IsAtMost place a → IsAtMost place b
+pub at_most-risen : (place : Option ℕ) (a b : ℕ) → a ≤ b → IsAtMost place a → IsAtMost place b
 at_most-risen None a b up h = tt
 at_most-risen (Some level) a b up h = le_trans h up
 
@@ -56,7 +56,7 @@ put-fine : (last : Option (Part × Option ℕ)) (part : Part) (level : ℕ) (sho
 put-fine None part level shown early may = (inr early, le_refl level)
 put-fine (Some last) part level shown early may = put-test (is_part_before part last.0) last part level shown early may
 
-block-last : (part : Part) → is_part_before TheBlock part ≡ false
+pub block-last : (part : Part) → is_part_before TheBlock part ≡ false
 block-last TheCall = refl
 block-last TheFinish = refl
 block-last Own = refl

@@ -1,12 +1,13 @@
 -- What comes about beside the effect of who acts leaves everybody at or below its active priority: its lines are of one part, and
 -- place each who becomes ready at the active priority that it then has.
+use Rattle.profile_machine.specs.declared.world.tasks.Cause.TheVariants as inherited_by
 use Rattle.ceiling_places.proofs.EditLemmas.{active-plain, active-same, edit-others, inherit-rises}
 use Rattle.ceiling_places.proofs.PartOrder.{last_put-append}
 use Rattle.ceiling_places.proofs.QueueLemmas.{effects_place_by_the_last}
 use Rattle.ceiling_places.specs.PlaceLaws.{AreAtMostActive, IsAtMost, OthersKeepPlaces, level_shown}
 use Rattle.ceiling_places.specs.Puts.{last_put, place_by, puts, with_put}
 use Rattle.ceiling_runs.proofs.FoundLemmas.{by_test}
-use Rattle.ceiling_runs.proofs.FreeMoves.{any_world}
+use Rattle.ceiling_runs.proofs.FreeMoves.{any_task, any_world}
 use Rattle.ceiling_runs.proofs.Kept.Frames.{open_sequence-keeps}
 use Rattle.ceiling_runs.proofs.Kept.Instant.{OtherMoves}
 use Rattle.ceiling_runs.proofs.Kept.Scopes.{open_scope-alters}
@@ -17,7 +18,7 @@ use Rattle.ceiling_runs.proofs.Triples.{Ends, Keeps, Leads, State, With, changes
 use Rattle.ceiling_runs.specs.RunLaws.{levels_told}
 use Rattle.machine_laws.proofs.Moves.{lines_of}
 use Rattle.profile_machine.specs.Dispatching.{active, active_of, deadline_shown, grant_quantum, granted, keep_level, level_kept_by, ready, says_ready, to_tail}
-use Rattle.profile_machine.specs.Inheritance.{inherit}
+use Rattle.profile_machine.specs.Inheritance.{inherit, same_cause}
 use Rattle.profile_machine.specs.Instant.{budgets_due, events_due, moments_due, quantum_spent, script_items, timers_due}
 use Rattle.profile_machine.specs.Program.{edf_low, is_robin_level}
 use Rattle.profile_machine.specs.Run.{blank_world, environment, opening, opens}
@@ -48,7 +49,7 @@ use Rattle.trace_text.specs.declared.events.Who.{Who}
 use Rattle.trace_text.specs.declared.events.Who.TheVariants as who
 
 -- what was said last of somebody is of the own part
-abbrev OwnPut : Option (Part × Option ℕ) → Type 0
+abbrev pub OwnPut : Option (Part × Option ℕ) → Type 0
 OwnPut None = Unit {0}
 OwnPut (Some r) = r.0 ≡ Own
 
@@ -68,7 +69,7 @@ lowly-risen shown last a b up h = (h.0, at_most-risen (place_by last shown) a b 
 
 -- ---- lines
 
-puts-apart : (n : Who) (x : Line) → is_apart x ≡ false → puts n x ≡ None
+pub puts-apart : (n : Who) (x : Line) → is_apart x ≡ false → puts n x ≡ None
 puts-apart n (line.Ready name level end deadline) e = absurd cc
 puts-apart n (line.Block name waits) e = absurd cc
 puts-apart n (line.Done t) e = absurd cc
@@ -78,7 +79,7 @@ with-none : (last : Option (Part × Option ℕ)) (part : Part) → with_put last
 with-none None part = refl
 with-none (Some last) part = refl
 
-unsaid : (n : Who) (said : List Said) (part : Part) (x : Line) → puts n x ≡ None → last_put n (said ++ said_so part x ∷ []) ≡ last_put n said
+pub unsaid : (n : Who) (said : List Said) (part : Part) (x : Line) → puts n x ≡ None → last_put n (said ++ said_so part x ∷ []) ≡ last_put n said
 unsaid n said part x e = last_put-append n said (said_so part x) ∙ ap (with_put (last_put n said) part) e ∙ with-none (last_put n said) part
 
 own-placed : (part : Part) (place : Option ℕ) (level : ℕ) (shown : Option ℕ) → part ≡ Own → Lowly level shown (cond (is_part_before Own part) (Some (part, place)) (Some (Own, Some level)))
@@ -88,7 +89,7 @@ placed-so : (last : Option (Part × Option ℕ)) (level : ℕ) (shown : Option �
 placed-so None level shown own = (refl, le_refl level)
 placed-so (Some last) level shown own = own-placed last.0 last.1 level shown own
 
-same-self : (a : Who) → same_who a a ≡ true
+pub same-self : (a : Who) → same_who a a ≡ true
 same-self (who.Task a) = eq-eqb a.0 a.0 refl
 same-self who.Agent = refl
 
@@ -114,9 +115,9 @@ module _ (p : Image) (s : Levels) where
     ends_scope = λ id w said h. low-same w (end_scope id w) said (λ n. active-plain p w (end_scope id w) n refl refl) h;
   }
 
-  low-inherits : (name : Who) (cause : Cause) (level : ℕ) (w : World) (said : List Said) → Low p s w said → Low p s (inherit name cause level w) said
+  low-inherits : (name : Who) (cause : Cause) (level : ℕ) (w : World) (said : List Said) → same_cause inherited_by.Activation cause ≡ false → Low p s w said → Low p s (inherit name cause level w) said
   unfolding Low
-  low-inherits name cause level w said h = λ n. lowly-risen (level_shown n s) (last_put n said) (active_of p w n) (active_of p (inherit name cause level w) n) (inherit-rises p name cause level w n) (h n)
+  low-inherits name cause level w said other h = λ n. lowly-risen (level_shown n s) (last_put n said) (active_of p w n) (active_of p (inherit name cause level w) n) (inherit-rises p name cause level w n) (h n)
 
   -- somebody is placed in a world in which all others are as they were
   own-line : (name : Who) (end : QueueEnd) (deadline : Option ℤ) (w : World) (said : List Said) → OwnPut (last_put name said) → Lowly (active_of p w name) (level_shown name s) (last_put name (said ++ said_so Own (line.Ready name (active_of p w name) end deadline) ∷ []))
@@ -168,7 +169,7 @@ module _ (p : Image) (s : Levels) where
   low_wakes : (part : Part) (name : Who) → part ≡ Own → Leads (With (Low p s) (λ w. any_world w name)) (Low p s) (ready p part name)
   low_wakes part name is = subst (λ q. Leads (With (Low p s) (λ w. any_world w name)) (Low p s) (ready p q name)) (sym is) (from-leads (ready p Own name) (λ w said h. h.0) (low_readies name))
 
-  low_others : OtherMoves p any_world (Low p s)
+  low_others : OtherMoves p any_world any_task (Low p s)
   low_others = record {
     base = record {
       quiet = low_quiet;
@@ -179,7 +180,9 @@ module _ (p : Image) (s : Levels) where
       sleeps_heir = λ heir cause level w name k. tt;
       wakes = low_wakes;
     };
-    readies = low_readies;
+    drawn = λ v said t h e. tt;
+    drawn_on = λ a b t same k. tt;
+    readies = λ t. from-leads (ready p Own (who.Task t)) (λ w said h. h.0) (low_readies (who.Task t));
     tails = λ t. from-leads (to_tail p Own (who.Task t)) (λ w said h. h.0) (low_tails (who.Task t));
   }
 
@@ -225,7 +228,7 @@ module _ (p : Image) where
   low_settles sight v xs h = record { follow = any_follow sight (lines_of p xs); shows = low-over sight v xs h }
 
   beside : Others see_levels any_event Shows p
-  beside sight = (Low p sight, any_world, low_others p sight, low-starts p sight, low_settles sight)
+  beside sight = (Low p sight, any_world, any_task, low_others p sight, low-starts p sight, low_settles sight)
 
   pub opening-low : (script : List (ℤ × Item)) → AreAtMostActive p (levels_told no_levels (opening p script).1) (opening p script).0
   opening-low script =

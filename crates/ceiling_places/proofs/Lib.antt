@@ -3,7 +3,12 @@ pub mod QueueLemmas
 pub mod StepLemmas
 pub mod EditLemmas
 pub mod BesideLemmas
-pub mod RunLemmas
+pub mod TockPlaces
 pub mod ActingLemmas
 pub mod WaitLemmas
-pub mod WaitRuns
+pub mod SoundWorlds
+pub mod CorePoints
+pub mod Standing
+pub mod EffectMoves
+pub mod EffectKeeps
+pub mod StandingRuns

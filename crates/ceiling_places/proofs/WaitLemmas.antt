@@ -1,15 +1,16 @@
 -- Nobody who waits is shown in the queue, as far as what comes about beside the effect of who acts decides on it.
+use Rattle.profile_machine.specs.declared.world.tasks.Cause.TheVariants as inherited_by
 use Rattle.ann_base.specs.declared.identities.TaskNo.{TaskNo}
 use Rattle.ceiling_places.proofs.BesideLemmas.{any_event, seen-told}
 use Rattle.ceiling_places.proofs.EditLemmas.{edit-state}
 use Rattle.ceiling_places.proofs.PartOrder.{last_put-append}
 use Rattle.ceiling_places.proofs.QueueLemmas.{effects_place_by_the_last}
-use Rattle.ceiling_places.proofs.RunLemmas.{tock_lines-entries}
+use Rattle.ceiling_places.proofs.TockPlaces.{tock_lines-entries}
 use Rattle.ceiling_places.specs.PlaceLaws.{AreWaitersOut, OthersKeepWaitersOut, TocksKeepWaitersOut, level_in, level_shown}
 use Rattle.ceiling_places.specs.Puts.{last_put, place_by, puts, with_put}
 use Rattle.ceiling_runs.proofs.CoreLemmas.{core-same}
 use Rattle.ceiling_runs.proofs.FoundLemmas.{by_test, set-other}
-use Rattle.ceiling_runs.proofs.FreeMoves.{any_world}
+use Rattle.ceiling_runs.proofs.FreeMoves.{any_task, any_world}
 use Rattle.ceiling_runs.proofs.Kept.Instant.{OtherMoves}
 use Rattle.ceiling_runs.proofs.Kept.Waking.{who-is}
 use Rattle.ceiling_runs.proofs.LevelMoves.{Silences, is_apart, said_so}
@@ -21,7 +22,7 @@ use Rattle.ceiling_runs.specs.Cores.{Core}
 use Rattle.machine_laws.proofs.LineLemmas.{tocks_say_ticks}
 use Rattle.machine_laws.proofs.Moves.{lines_of}
 use Rattle.profile_machine.specs.Dispatching.{active, active_of, deadline_shown, grant_quantum, granted, keep_level, level_kept_by, ready, says_ready, to_tail}
-use Rattle.profile_machine.specs.Inheritance.{inherit}
+use Rattle.profile_machine.specs.Inheritance.{inherit, same_cause}
 use Rattle.profile_machine.specs.Instant.{budgets_due, events_due, moments_due, quantum_spent, script_items, timers_due}
 use Rattle.profile_machine.specs.Program.{edf_low, is_robin_level}
 use Rattle.profile_machine.specs.Run.{tock}
@@ -143,8 +144,8 @@ module _ (p : Image) (s : Levels) where
     ends_scope = λ id w said h. out-same w (end_scope id w) said (λ n. ended-waits w (end_scope id w) n refl refl) h;
   }
 
-  out-inherits : (name : Who) (cause : Cause) (level : ℕ) (w : World) (said : List Said) → Out s w said → Out s (inherit name cause level w) said
-  out-inherits name cause level w said h =
+  out-inherits : (name : Who) (cause : Cause) (level : ℕ) (w : World) (said : List Said) → same_cause inherited_by.Activation cause ≡ false → Out s w said → Out s (inherit name cause level w) said
+  out-inherits name cause level w said other h =
       out-same w (inherit name cause level w) said (λ n. still-waits name (λ t. record t { inherited = record { cause = cause; level = level } ∷ t.inherited }) w n (λ t. refl) (λ t. refl)) h
 
   -- who is placed does not wait, and others as before
@@ -174,7 +175,7 @@ module _ (p : Image) (s : Levels) where
   out_tails : (t : TaskNo) → Leads (With (Out s) (λ w. is_runnable (task_of w (who.Task t)) ≡ true)) (Out s) (to_tail p Own (who.Task t))
   out_tails t = record { runs = λ w said h. tail-out Own (who.Task t) w w said (runnable-waits (task_of w (who.Task t)).state h.1) (λ n apart. refl) h.0 }
 
-  out_others : OtherMoves p any_world (Out s)
+  out_others : OtherMoves p any_world any_task (Out s)
   out_others = record {
     base = record {
       quiet = out_quiet;
@@ -185,7 +186,9 @@ module _ (p : Image) (s : Levels) where
       sleeps_heir = λ heir cause level w name k. tt;
       wakes = λ part name is. from-leads (ready p part name) (λ w said h. h.0) (out_readies part name);
     };
-    readies = λ name. out_readies Own name;
+    drawn = λ v said t h e. tt;
+    drawn_on = λ a b t same k. tt;
+    readies = λ t. from-leads (ready p Own (who.Task t)) (λ w said h. h.0) (out_readies Own (who.Task t));
     tails = out_tails;
   }
 
@@ -208,7 +211,7 @@ module _ (p : Image) where
   out_settles sight v xs h = record { follow = any_follow sight (lines_of p xs); shows = out-over sight v xs h }
 
   out_beside : Others see_levels any_event AreWaitersOut p
-  out_beside sight = (Out sight, any_world, out_others p sight, out-starts p sight, out_settles sight)
+  out_beside sight = (Out sight, any_world, any_task, out_others p sight, out-starts p sight, out_settles sight)
 
 pub others_keep_waiters_out : OthersKeepWaitersOut
 others_keep_waiters_out p w sight h =

@@ -1,5 +1,5 @@
 -- At which level lines show somebody: those of an effect, and those of a run.
-use Rattle.std.specs.Prelude.{◌≡◌, ◌≤◌, ◌⊎◌, ℕ, ℤ, true, IsTrue, List, Option, Some, None}
+use Rattle.std.specs.Prelude.{◌≡◌, ◌≤◌, ℕ, ℤ, true, false, IsTrue, List, Option, Some, None}
 use Rattle.trace_text.specs.declared.events.Entry.{Entry}
 use Rattle.trace_text.specs.declared.events.Event.{Event}
 use Rattle.trace_text.specs.declared.events.Who.{Who}
@@ -11,13 +11,13 @@ use Rattle.profile_machine.specs.declared.run_data.Item.{Item}
 use Rattle.profile_machine.specs.declared.world.World.{World}
 use Rattle.profile_machine.specs.declared.world.lines.Part.{Part}
 use Rattle.profile_machine.specs.declared.world.lines.Said.{Said}
+use Rattle.profile_machine.specs.declared.world.tasks.Task.{Task}
 use Rattle.profile_machine.specs.declared.world.tasks.Waiting.{Waiting}
-use Rattle.profile_machine.specs.Steps.{Done, done, settled, settles, ◌▶◌}
+use Rattle.profile_machine.specs.Steps.{Done, done, settled, ◌▶◌}
 use Rattle.profile_machine.specs.Dispatching.{active_of, block, ready, to_head, to_tail}
-use Rattle.profile_machine.specs.Frames.{top_of}
 use Rattle.profile_machine.specs.Instant.{budgets_due, effect, events_due, is_over, moments_due, quantum_spent, script_items, timers_due}
 use Rattle.profile_machine.specs.Run.{run_of, tock}
-use Rattle.profile_machine.specs.Tasks.{task_of, waiting_of}
+use Rattle.profile_machine.specs.Tasks.{is_runnable, task_at, task_of, waiting_of}
 use Rattle.ceiling_laws.specs.CeilingLaws.{edf_is_below_interrupts}
 use Rattle.ceiling_runs.specs.RunLaws.{Tells, levels_told}
 use Rattle.ceiling_places.specs.Puts.{last_put, place_by, with_put}
@@ -91,31 +91,19 @@ OthersKeepWaitersOut = (p : Image) (w : World) (sight : Levels) → AreWaitersOu
 abbrev pub TocksKeepWaitersOut : Type 0
 TocksKeepWaitersOut = (p : Image) (w : World) (sight : Levels) → AreWaitersOut sight w → AreWaitersOut (levels_told sight (tock p w).1) (tock p w).0
 
--- What is not proved of every run: the effects of its actions leave it so.
-abbrev pub EffectsKeepPlaces : Image → List (ℤ × Item) → ℕ → Type 0
-EffectsKeepPlaces p script bound = (lines : List Event) (w : World) → Tells p script bound lines w → (name : Who) → w.ran ≡ Some name → is_over (task_of w name).ticks_left ≡ true
-    → AreAtMostActive p (levels_told no_levels lines) w → let behind = settles p (effect p name) w in AreAtMostActive p (levels_told (levels_told no_levels lines) behind.1) behind.0
+-- So it is in every run: before each instant everybody who is shown stands at or below its active priority (D.1, D.2.1).
+abbrev pub RunsPlaceAtMostActive : Type 0
+RunsPlaceAtMostActive = (p : Image) (script : List (ℤ × Item)) (bound : ℕ) (lines : List Event) (w : World) → Tells p script bound lines w → AreAtMostActive p (levels_told no_levels lines) w
 
--- Where they do, everybody stands at or below its active priority before each instant of the run.
-abbrev pub EffectsPlaceEverybody : Type 0
-EffectsPlaceEverybody = (p : Image) (script : List (ℤ × Item)) (bound : ℕ) → EffectsKeepPlaces p script bound
-    → (lines : List Event) (w : World) → Tells p script bound lines w → AreAtMostActive p (levels_told no_levels lines) w
+-- who is there and is not ready does not stand in the queue that lines show
+abbrev pub AreOthersOut : Levels → World → Type 0
+AreOthersOut sight w = (name : Who) (x : Task) → task_at w name ≡ Some x → is_runnable x ≡ false → level_shown name sight ≡ None
 
--- The same of who waits: where the effects of a run leave nobody in the queue who waits, nobody who waits stands there before
--- each instant; and who acts does not wait.
-abbrev pub EffectsKeepWaitersOut : Image → List (ℤ × Item) → ℕ → Type 0
-EffectsKeepWaitersOut p script bound = (lines : List Event) (w : World) → Tells p script bound lines w → (name : Who) → w.ran ≡ Some name → is_over (task_of w name).ticks_left ≡ true
-    → AreWaitersOut (levels_told no_levels lines) w → let behind = settles p (effect p name) w in AreWaitersOut (levels_told (levels_told no_levels lines) behind.1) behind.0
+-- And nobody stands there who waits or has only been made; whose action has ended is ready (D.2.1).
+abbrev pub RunsShowWhoIsReady : Type 0
+RunsShowWhoIsReady = (p : Image) (script : List (ℤ × Item)) (bound : ℕ) (lines : List Event) (w : World) → Tells p script bound lines w
+    → AreOthersOut (levels_told no_levels lines) w × ((name : Who) → w.ran ≡ Some name → is_over (task_of w name).ticks_left ≡ true → is_runnable (task_of w name) ≡ true)
 
-abbrev pub EffectsHideWaiters : Type 0
-EffectsHideWaiters = (p : Image) (script : List (ℤ × Item)) (bound : ℕ) → EffectsKeepWaitersOut p script bound
-    → (lines : List Event) (w : World) → Tells p script bound lines w → AreWaitersOut (levels_told no_levels lines) w × ((name : Who) → w.ran ≡ Some name → waiting_of w name ≡ None)
-
--- before each instant of a run, whose action has ended has a rest, or it is the agent, or no release is served
-abbrev pub WhoActsHasRest : Image → List (ℤ × Item) → ℕ → Type 0
-WhoActsHasRest p script bound = (lines : List Event) (w : World) → Tells p script bound lines w → (name : Who) → w.ran ≡ Some name → is_over (task_of w name).ticks_left ≡ true
-    → top_of w name ≡ None → (w.serving ≡ None) ⊎ (who.Agent ≡ name)
-
--- Such a run keeps the law of ceilings, in a source whose interrupts have no deadlines (D.3).
-abbrev pub EffectsKeepCeilings : Type 0
-EffectsKeepCeilings = (p : Image) (script : List (ℤ × Item)) (bound : ℕ) → IsTrue (edf_is_below_interrupts p) → EffectsKeepPlaces p script bound → WhoActsHasRest p script bound → CeilingOk (run_of p script bound)
+-- Every run keeps the law of ceilings, of a source whose interrupts have no deadlines (D.3).
+abbrev pub RunsKeepCeilings : Type 0
+RunsKeepCeilings = (p : Image) → IsTrue (edf_is_below_interrupts p) → (script : List (ℤ × Item)) (bound : ℕ) → CeilingOk (run_of p script bound)

@@ -3,7 +3,7 @@
 #![tactic(auto)]
 
 ghost use Rattle.ceiling_places.specs.Acting.{ReadyLeavesLow, PlacingLeavesLow, BlockLeavesLow, InheritanceLeavesLow, LossLeavesLow, BaseLeavesLow, EndLeavesLow};
-ghost use Rattle.ceiling_places.specs.PlaceLaws.{EffectsPlaceByTheLast, ReadyPlaces, TailPlaces, HeadPlaces, BlockTakesOut, OthersKeepPlaces, TocksKeepPlaces, EffectsPlaceEverybody, EffectsKeepCeilings, OthersKeepWaitersOut, TocksKeepWaitersOut, EffectsHideWaiters};
+ghost use Rattle.ceiling_places.specs.PlaceLaws.{EffectsPlaceByTheLast, ReadyPlaces, TailPlaces, HeadPlaces, BlockTakesOut, OthersKeepPlaces, TocksKeepPlaces, OthersKeepWaitersOut, TocksKeepWaitersOut, RunsPlaceAtMostActive, RunsShowWhoIsReady, RunsKeepCeilings};
 
 /// The lines of an effect are put in order by their parts. Then they show everybody where that line leaves it that comes last by
 /// its part, and of those of one part the one that was said last; where no line speaks of its place, as before (D.2.1).
@@ -24,7 +24,7 @@ pub fn steps_place_at_the_active_priority()
 
 /// Where lines show nobody above its active priority, so do they behind all that comes about in an instant beside the effect of
 /// who acts, and behind a tock: in any world (D.1, D.2.1).
-#[tactic(auto, using(crate::proofs::BesideLemmas::others_keep_places, crate::proofs::RunLemmas::tocks_keep_places))]
+#[tactic(auto, using(crate::proofs::BesideLemmas::others_keep_places, crate::proofs::TockPlaces::tocks_keep_places))]
 pub fn nothing_beside_an_effect_places_above()
     ensures others { OthersKeepPlaces }
     ensures tocks { TocksKeepPlaces }
@@ -52,17 +52,22 @@ pub fn steps_of_effects_place_nobody_above()
     ensures end { EndLeavesLow }
 {}
 
-/// If the effects of its actions leave it so too, the lines of a run show nobody above its active priority, before each instant;
-/// and then the run keeps the law of ceilings, in a source whose interrupts have no deadlines, where who acts has a rest (D.3).
-#[tactic(auto, using(crate::proofs::RunLemmas::effects_place_everybody, crate::proofs::RunLemmas::effects_keep_ceilings))]
-pub fn effects_decide_on_places()
-    ensures places { EffectsPlaceEverybody }
-    ensures ceilings { EffectsKeepCeilings }
+/// Before each instant of every run everybody who stands in the queue that the lines show stands at or below its active priority
+/// (D.1, D.2.1).
+#[tactic(auto, using(crate::proofs::StandingRuns::runs_place_at_most_active))]
+pub fn runs_place_nobody_above()
+    ensures { RunsPlaceAtMostActive }
 {}
 
-/// If the effects of its actions leave nobody in the queue who waits, nobody who waits stands there before each instant of a run,
-/// and who acts does not wait.
-#[tactic(auto, using(crate::proofs::WaitRuns::effects_hide_waiters))]
-pub fn effects_decide_on_who_waits()
-    ensures { EffectsHideWaiters }
+/// Before each instant of every run nobody stands there who waits or has only been made, and whose action has ended is ready
+/// (D.2.1).
+#[tactic(auto, using(crate::proofs::StandingRuns::runs_show_who_is_ready))]
+pub fn runs_show_who_is_ready()
+    ensures { RunsShowWhoIsReady }
+{}
+
+/// Every run of a source whose interrupts have no deadlines keeps the law of ceilings, whatever its script and its bound (D.3).
+#[tactic(auto, using(crate::proofs::StandingRuns::runs_keep_ceilings))]
+pub fn runs_keep_the_law_of_ceilings()
+    ensures { RunsKeepCeilings }
 {}

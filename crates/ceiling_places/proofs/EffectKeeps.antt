@@ -254,7 +254,7 @@ module _ (p : Image) (s : Levels) (a : Who) where
 
   -- ---- at a select
 
-  IsListed : World → Who → Type 0
+  pub IsListed : World → Who → Type 0
   IsListed v name = is_fresh v.drawn.tasks name ≡ false
 
   listed_each : (v : World) → Sound v → EachTask (λ t. IsListed v t.who) v.tasks

@@ -96,6 +96,7 @@ module _ {p : Image} {Parts : Fitting} (P : Point) (wakeful : Wakeful p Parts P)
   known-asleep name w sleeps (inr drawn) = drawn
 
   pub wakes-holds : (part : Part) (name : Who) → Parts part name → Leads (With (Holds P) (λ w. Sleeping_in w name)) (Holds P) (ready p part name)
+  unfolding Waking
   wakes-holds part name fits =
       from-leads (ready p part name) (λ w said h. holds-knowing P name (λ d c. (is_fresh d name ≡ false) × (sleeps_in c ≡ true)) w said (known-asleep name w h.1 (known w name (holds-sound P w said h.0)), h.1) h.0)
       (ready-holds p (Waking name) P name part (waking name part fits))

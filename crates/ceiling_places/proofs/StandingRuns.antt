@@ -25,7 +25,7 @@ use Rattle.profile_machine.specs.declared.world.lines.Part.{Part}
 use Rattle.profile_machine.specs.declared.world.lines.Said.{Said}
 use Rattle.ceiling_places.proofs.EffectMoves.{Sleeping_in, Wakeful, base_moves, ceases_good, clash_of, good-rises, good-wakes, runs-drawn}
 use Rattle.ann_base.specs.declared.identities.TaskNo.{TaskNo}
-use Rattle.ceiling_runs.specs.RunLaws.{Tells, levels_told}
+use Rattle.ceiling_runs.specs.RunLaws.{Tells, levels_told, told_first, told_on}
 use Rattle.profile_machine.specs.Dispatching.{active_of, ready, to_tail}
 use Rattle.std.proofs.Common.{ap, cond, le_refl, refl, subst, sym, ◌≡◌, ◌∙◌, ◌⊎◌, ◌≤◌, ◌∷◌, ◌++◌, inl, inr}
 use Rattle.profile_machine.specs.Run.{blank_world, environment, opening, opens, tock}

@@ -5,10 +5,10 @@ use Rattle.ann_base.specs.declared.identities.TaskNo.{TaskNo}
 use Rattle.ceiling_runs.proofs.LevelMoves.{BaseMoves, EachTask, FitsAll, Fitting, Naming, Silences, Sleeping, is_blocked}
 use Rattle.ceiling_runs.proofs.Triples.{Alters, Keeps, Leads, State, With}
 use Rattle.ceiling_runs.specs.Cores.{Same}
+use Rattle.profile_machine.specs.Appointments.{appoint}
 use Rattle.profile_machine.specs.CallEnds.{deliver}
 use Rattle.profile_machine.specs.Declarations.{says_object, with_object}
 use Rattle.profile_machine.specs.Dispatching.{block, ready, says_block, to_head, to_tail}
-use Rattle.profile_machine.specs.Appointments.{appoint}
 use Rattle.profile_machine.specs.Inheritance.{inherit, lose, lose_running}
 use Rattle.profile_machine.specs.Masters.{forget_task, waits_at_terminate}
 use Rattle.profile_machine.specs.Priorities.{set_deferred, set_or_defer_base, set_or_defer_deadline}

@@ -1,6 +1,4 @@
 -- The agent's base priority is that of interrupts in every world that a run reaches.
-use Rattle.profile_machine.specs.Appointments.{appoint}
-use Rattle.profile_machine.specs.declared.world.appointments.Due.TheVariants as due_for
 use Rattle.ann_base.specs.declared.identities.TaskNo.{TaskNo}
 use Rattle.ceiling_runs.proofs.FreeMoves.{EveryPart, FreeBase, FreeMoves, anywhere, late_base, ready_by_line, to_tail-free}
 use Rattle.ceiling_runs.proofs.Kept.Declarations.{set_thing-same}
@@ -14,6 +12,7 @@ use Rattle.ceiling_runs.proofs.Triples.{Alters, At, Ends, Keeps, Leads, State, c
 use Rattle.ceiling_runs.specs.RunLaws.{AgentKeepsBase}
 use Rattle.machine_laws.proofs.Moves.{lines_of}
 use Rattle.machine_laws.specs.Reached.{Comes, before, behind, opened, ticked}
+use Rattle.profile_machine.specs.Appointments.{appoint}
 use Rattle.profile_machine.specs.Declarations.{says_object, set_thing, with_object}
 use Rattle.profile_machine.specs.Instant.{instant}
 use Rattle.profile_machine.specs.Masters.{forget_task, part_of}
@@ -30,6 +29,7 @@ use Rattle.profile_machine.specs.declared.numbers.StatementNo.{StatementNo}
 use Rattle.profile_machine.specs.declared.run_data.Item.{Item}
 use Rattle.profile_machine.specs.declared.values.Value.TheVariants as value_of
 use Rattle.profile_machine.specs.declared.world.World.{World}
+use Rattle.profile_machine.specs.declared.world.appointments.Due.TheVariants as due_for
 use Rattle.profile_machine.specs.declared.world.lines.Line.{Line}
 use Rattle.profile_machine.specs.declared.world.lines.Line.TheVariants as line
 use Rattle.profile_machine.specs.declared.world.lines.Part.{Part}

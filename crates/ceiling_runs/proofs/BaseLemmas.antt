@@ -1,12 +1,10 @@
 -- The lines of a run tell the base priorities of the tasks that are there.
-use Rattle.profile_machine.specs.Appointments.{appoint}
-use Rattle.profile_machine.specs.declared.world.appointments.Due.TheVariants as due_for
 use Rattle.ann_base.specs.declared.identities.TaskNo.{TaskNo}
 use Rattle.ceiling_runs.proofs.ActingMoves.{Either, IsNew}
 use Rattle.ceiling_runs.proofs.CoreLemmas.{found-same, seen-found, seen_in}
 use Rattle.ceiling_runs.proofs.FoldOrder.{Ordered, Sooner, fold, fold-append, fold-in_order, ordered-append, sooner-append}
 use Rattle.ceiling_runs.proofs.FoundLemmas.{EditedFound, added-found, edit-found, forgotten-found}
-use Rattle.ceiling_runs.proofs.FreeMoves.{any_task, EveryPart, FreeBase, FreeMoves, any_world, anywhere, free_others, freely, late_base, ready_by_line, replace_in-free, to_tail-free}
+use Rattle.ceiling_runs.proofs.FreeMoves.{EveryPart, FreeBase, FreeMoves, any_task, any_world, anywhere, free_others, freely, late_base, ready_by_line, replace_in-free, to_tail-free}
 use Rattle.ceiling_runs.proofs.Kept.Act.{effect-leads}
 use Rattle.ceiling_runs.proofs.Kept.Declarations.{set_thing-same}
 use Rattle.ceiling_runs.proofs.Kept.Frames.{open_sequence-keeps}
@@ -17,10 +15,11 @@ use Rattle.ceiling_runs.proofs.SameLemmas.{edit_task-same, same_then}
 use Rattle.ceiling_runs.proofs.TockLemmas.{tock-same}
 use Rattle.ceiling_runs.proofs.Triples.{Alters, Ends, Keeps, Leads, State, With, changes-keeps, changes-leads, for_some-keeps, from-leads, from_at, looks-keeps, nothing-keeps, then-keeps, then-leads}
 use Rattle.ceiling_runs.specs.Cores.{Core, Same, core}
-use Rattle.ceiling_runs.specs.RunLaws.{AreBasesShown, BasesAreTold, Tells, told_first, told_on, bases_told}
+use Rattle.ceiling_runs.specs.RunLaws.{AreBasesShown, BasesAreTold, Tells, bases_told, told_first, told_on}
 use Rattle.machine_laws.proofs.LineLemmas.{tocks_say_ticks}
 use Rattle.machine_laws.proofs.Moves.{lines_of}
 use Rattle.machine_laws.specs.LineKinds.{AllAre, is_of_tock}
+use Rattle.profile_machine.specs.Appointments.{appoint}
 use Rattle.profile_machine.specs.Declarations.{says_object, set_thing, with_object}
 use Rattle.profile_machine.specs.Dispatching.{to_tail}
 use Rattle.profile_machine.specs.Frames.{edit_first, edit_top, goes, goes_on, new_frame, open_sequence, push}
@@ -44,6 +43,7 @@ use Rattle.profile_machine.specs.declared.run_data.Item.{Item}
 use Rattle.profile_machine.specs.declared.values.Value.{Value}
 use Rattle.profile_machine.specs.declared.values.Value.TheVariants as value_of
 use Rattle.profile_machine.specs.declared.world.World.{World}
+use Rattle.profile_machine.specs.declared.world.appointments.Due.TheVariants as due_for
 use Rattle.profile_machine.specs.declared.world.lines.Line.{Line}
 use Rattle.profile_machine.specs.declared.world.lines.Line.TheVariants as line
 use Rattle.profile_machine.specs.declared.world.lines.Part.{Part}

@@ -1,6 +1,4 @@
 -- The lines of a run tell the ceilings of the protected objects that are there.
-use Rattle.profile_machine.specs.Appointments.{appoint}
-use Rattle.profile_machine.specs.declared.world.appointments.Due.TheVariants as due_for
 use Rattle.ann_base.specs.declared.identities.ObjectNo.{ObjectNo}
 use Rattle.ann_base.specs.declared.identities.TaskNo.{TaskNo}
 use Rattle.ceiling_runs.proofs.CoreLemmas.{shown-fewer, shown-same}
@@ -15,10 +13,11 @@ use Rattle.ceiling_runs.proofs.RunLemmas.{Instants, Settles, free_instants, inst
 use Rattle.ceiling_runs.proofs.TockLemmas.{tock-same}
 use Rattle.ceiling_runs.proofs.Triples.{Alters, Ends, Keeps, State, changes-keeps, for_some-keeps, from-leads, from_at, looks-keeps, nothing-keeps, then-keeps}
 use Rattle.ceiling_runs.specs.Cores.{ceiling_in}
-use Rattle.ceiling_runs.specs.RunLaws.{AreCeilingsShown, CeilingsAreTold, Tells, told_first, told_on, ceilings_told}
+use Rattle.ceiling_runs.specs.RunLaws.{AreCeilingsShown, CeilingsAreTold, Tells, ceilings_told, told_first, told_on}
 use Rattle.machine_laws.proofs.LineLemmas.{tocks_say_ticks}
 use Rattle.machine_laws.proofs.Moves.{lines_of}
 use Rattle.machine_laws.specs.LineKinds.{AllAre, is_of_tock}
+use Rattle.profile_machine.specs.Appointments.{appoint}
 use Rattle.profile_machine.specs.Declarations.{new_object, says_object, with_object}
 use Rattle.profile_machine.specs.Instant.{instant}
 use Rattle.profile_machine.specs.Lines.{event_of}
@@ -37,6 +36,7 @@ use Rattle.profile_machine.specs.declared.numbers.StatementNo.{StatementNo}
 use Rattle.profile_machine.specs.declared.run_data.Item.{Item}
 use Rattle.profile_machine.specs.declared.values.Value.TheVariants as value_of
 use Rattle.profile_machine.specs.declared.world.World.{World}
+use Rattle.profile_machine.specs.declared.world.appointments.Due.TheVariants as due_for
 use Rattle.profile_machine.specs.declared.world.lines.Line.{Line}
 use Rattle.profile_machine.specs.declared.world.lines.Line.TheVariants as line
 use Rattle.profile_machine.specs.declared.world.lines.Part.{Part}

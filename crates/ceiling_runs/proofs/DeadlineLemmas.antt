@@ -1,9 +1,6 @@
 -- A deadline is told only of tasks, where no level of interrupts is dispatched by deadlines, so the agent has none.
-use Rattle.profile_machine.specs.Appointments.{appoint}
-use Rattle.profile_machine.specs.declared.world.appointments.Due.TheVariants as due_for
-use Rattle.std.specs.List.{list_all}
-use Rattle.ceiling_laws.specs.CeilingLaws.{edf_is_below_interrupts, is_below_interrupts}
 use Rattle.ann_base.specs.declared.identities.TaskNo.{TaskNo}
+use Rattle.ceiling_laws.specs.CeilingLaws.{edf_is_below_interrupts, is_below_interrupts}
 use Rattle.ceiling_runs.proofs.AgentLemmas.{AgentKeeps, KeepsAgent, agent_base, agent_quiet, plainly_alters, see_nothing, task_alters}
 use Rattle.ceiling_runs.proofs.BaseLemmas.{bases_are_told}
 use Rattle.ceiling_runs.proofs.FreeMoves.{EveryPart, FreeBase, FreeMoves, anywhere, late_base, to_tail-free}
@@ -15,9 +12,10 @@ use Rattle.ceiling_runs.proofs.LevelMoves.{Silences, is_apart, said_so}
 use Rattle.ceiling_runs.proofs.RunLemmas.{Instants, Settles, free_instants, instant_onward, settles_onward}
 use Rattle.ceiling_runs.proofs.TockLemmas.{tock-same}
 use Rattle.ceiling_runs.proofs.Triples.{Alters, At, Ends, Keeps, Leads, State, changes-keeps, for_some-keeps, from-leads, looks-keeps, then-keeps}
-use Rattle.ceiling_runs.specs.RunLaws.{AreBasesShown, DeadlinesAreOfTasks, Tells, told_first, told_on, bases_told, levels_told}
+use Rattle.ceiling_runs.specs.RunLaws.{AreBasesShown, DeadlinesAreOfTasks, Tells, bases_told, levels_told, told_first, told_on}
 use Rattle.machine_laws.proofs.LineLemmas.{AllAre-append, tocks_say_ticks}
 use Rattle.machine_laws.specs.LineKinds.{AllAre, is_of_tock}
+use Rattle.profile_machine.specs.Appointments.{appoint}
 use Rattle.profile_machine.specs.Declarations.{says_object, with_object}
 use Rattle.profile_machine.specs.Dispatching.{active, deadline_shown, kept_level_or_base, levels_inherited, own_level, says_ready}
 use Rattle.profile_machine.specs.Instant.{instant}
@@ -38,6 +36,7 @@ use Rattle.profile_machine.specs.declared.numbers.StatementNo.{StatementNo}
 use Rattle.profile_machine.specs.declared.run_data.Item.{Item}
 use Rattle.profile_machine.specs.declared.values.Value.TheVariants as value_of
 use Rattle.profile_machine.specs.declared.world.World.{World}
+use Rattle.profile_machine.specs.declared.world.appointments.Due.TheVariants as due_for
 use Rattle.profile_machine.specs.declared.world.lines.Line.{Line}
 use Rattle.profile_machine.specs.declared.world.lines.Line.TheVariants as line
 use Rattle.profile_machine.specs.declared.world.lines.Part.{Part}
@@ -50,7 +49,8 @@ use Rattle.profile_machine.specs.declared.world.tasks.Task.{Task}
 use Rattle.std.proofs.Common.{ap, arith, map, refl, subst, sym, ◌∙◌, ◌≡◌, ◌≤◌}
 use Rattle.std.proofs.Math.Nat.{le-max_right}
 use Rattle.std.proofs.lemmas.Bool.{eqb-true, leb-true}
-use Rattle.std.specs.Prelude.{Bool, List, if◌then◌else◌, leb, not, ◌||◌, ◌+◌, ◌&&◌, None, Option, Some, [], cond, false, max, true, ℕ, ℤ, ◌++◌, ◌-◌, ◌∷◌}
+use Rattle.std.specs.List.{list_all}
+use Rattle.std.specs.Prelude.{Bool, List, None, Option, Some, [], cond, false, if◌then◌else◌, leb, max, not, true, ℕ, ℤ, ◌&&◌, ◌++◌, ◌+◌, ◌-◌, ◌||◌, ◌∷◌}
 use Rattle.tick_lines.proofs.LineByLine.{Follow}
 use Rattle.trace_text.specs.Laws.{Levels, base_of, no_levels, see_levels}
 use Rattle.trace_text.specs.Queue.{entry_of, placed, queue_after, who_eq, without}

@@ -1,6 +1,4 @@
 -- Of an effect: at first nothing is said of levels; later no action begins, or one has begun rightly.
-use Rattle.profile_machine.specs.Appointments.{appoint}
-use Rattle.profile_machine.specs.declared.world.appointments.Due.TheVariants as due_for
 use Rattle.ann_base.specs.declared.identities.ObjectNo.{ObjectNo}
 use Rattle.ann_base.specs.declared.identities.TaskNo.{TaskNo}
 use Rattle.ceiling_runs.proofs.ActingMoves.{Admitting, Either}
@@ -16,6 +14,7 @@ use Rattle.ceiling_runs.specs.Cores.{Core, Same, ceiling_in, core}
 use Rattle.ceiling_runs.specs.RunLaws.{AreCeilingsShown, InstantsKeepCeilings, ShowsPlace, ShowsRunner, TocksKeepCeilings, keep_ceilings}
 use Rattle.machine_laws.proofs.LineLemmas.{tocks_say_ticks}
 use Rattle.machine_laws.specs.LineKinds.{is_of_tock}
+use Rattle.profile_machine.specs.Appointments.{appoint}
 use Rattle.profile_machine.specs.Declarations.{says_object, set_thing, with_object}
 use Rattle.profile_machine.specs.Dispatching.{active, active_of, kept_level_or_base}
 use Rattle.profile_machine.specs.Instant.{budgets_due, effect, effect_of_runner, events_due, finish_action, instant, is_over, moments_due, quantum_spent, script_items, timers_due}
@@ -37,6 +36,7 @@ use Rattle.profile_machine.specs.declared.numbers.StatementNo.{StatementNo}
 use Rattle.profile_machine.specs.declared.run_data.Item.{Item}
 use Rattle.profile_machine.specs.declared.values.Value.TheVariants as value_of
 use Rattle.profile_machine.specs.declared.world.World.{World}
+use Rattle.profile_machine.specs.declared.world.appointments.Due.TheVariants as due_for
 use Rattle.profile_machine.specs.declared.world.lines.Line.{Line}
 use Rattle.profile_machine.specs.declared.world.lines.Line.TheVariants as line
 use Rattle.profile_machine.specs.declared.world.lines.Part.{Part}

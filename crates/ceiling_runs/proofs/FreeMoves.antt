@@ -1,6 +1,4 @@
 -- What each change of a level and each line that tells one keeps by itself, whoever acts and in whichever part, all effects keep.
-use Rattle.profile_machine.specs.Appointments.{appoint}
-use Rattle.profile_machine.specs.declared.world.appointments.Due.TheVariants as due_for
 use Rattle.ann_base.specs.declared.exceptions.Raised.TheVariants as exception
 use Rattle.ann_base.specs.declared.identities.ObjectNo.{ObjectNo}
 use Rattle.ann_base.specs.declared.identities.TaskNo.{TaskNo}
@@ -14,6 +12,7 @@ use Rattle.ceiling_runs.proofs.Kept.Tasks.{edit_task-alters}
 use Rattle.ceiling_runs.proofs.LevelMoves.{BaseMoves, EachTask, Fitting, Naming, Silences, Sleeping}
 use Rattle.ceiling_runs.proofs.Triples.{Alters, At, Keeps, Leads, State, With, branch-keeps, branch-leads, changes-keeps, from-leads, from_at, looks-keeps, looks-leads, looks-with, nothing-keeps, then-keeps, then-leads, then-together, when-keeps, when-leads}
 use Rattle.ceiling_runs.specs.Cores.{Same}
+use Rattle.profile_machine.specs.Appointments.{appoint}
 use Rattle.profile_machine.specs.CallEnds.{deliver}
 use Rattle.profile_machine.specs.Declarations.{says_object, with_object}
 use Rattle.profile_machine.specs.Dispatching.{active, block, deadline_shown, grant_quantum, granted, keep_level, level_kept_by, ready, says_block, says_ready, to_head, to_tail, without_kept_level, word_of}
@@ -32,6 +31,7 @@ use Rattle.profile_machine.specs.declared.numbers.DeclNo.{DeclNo}
 use Rattle.profile_machine.specs.declared.numbers.ProtectedUnitNo.{ProtectedUnitNo}
 use Rattle.profile_machine.specs.declared.numbers.StatementNo.{StatementNo}
 use Rattle.profile_machine.specs.declared.world.World.{World}
+use Rattle.profile_machine.specs.declared.world.appointments.Due.TheVariants as due_for
 use Rattle.profile_machine.specs.declared.world.calls.Call.{Call}
 use Rattle.profile_machine.specs.declared.world.calls.Outcome.TheVariants as call_ended
 use Rattle.profile_machine.specs.declared.world.lines.Line.TheVariants as line

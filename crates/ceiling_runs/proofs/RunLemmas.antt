@@ -1,6 +1,6 @@
 -- What each effect keeps of the lines and of what they show, every run keeps: the form of a law on lines.
 use Rattle.ceiling_runs.proofs.ActingMoves.{Either}
-use Rattle.ceiling_runs.proofs.FreeMoves.{any_task, FreeMoves, any_world, anywhere, free_others, freely}
+use Rattle.ceiling_runs.proofs.FreeMoves.{FreeMoves, any_task, any_world, anywhere, free_others, freely}
 use Rattle.ceiling_runs.proofs.Kept.Act.{effect-leads}
 use Rattle.ceiling_runs.proofs.Kept.Instant.{Appointing, OtherMoves, appointments_due-keeps, budgets_due-keeps, quantum_spent-keeps, script_items-keeps, timers_due-keeps}
 use Rattle.ceiling_runs.proofs.LevelMoves.{Sleeping}

@@ -1,17 +1,17 @@
 -- Changes that touch no task's level or state and no object's ceiling.
-use Rattle.std.proofs.Common.{◌≡◌, Bool, true, false, cond, List, [], ◌∷◌, map, Option, Some, None, refl, sym, ap, subst, ◌∙◌, ◌⊎◌, inl, inr}
-use Rattle.std.specs.Prelude.{find}
 use Rattle.ann_base.specs.declared.identities.ObjectNo.{ObjectNo}
-use Rattle.trace_text.specs.declared.events.Who.{Who}
-use Rattle.trace_text.specs.declared.events.Who.TheVariants as who
+use Rattle.ceiling_runs.specs.Cores.{Same, ceiling_in, core}
+use Rattle.profile_machine.specs.Calls.{edit_object}
+use Rattle.profile_machine.specs.Tasks.{edit_task, edit_task_found, is_who, task_at}
+use Rattle.profile_machine.specs.Values.{is_object}
+use Rattle.profile_machine.specs.Words.{edit_found, same_who, set_where}
 use Rattle.profile_machine.specs.declared.world.World.{World}
 use Rattle.profile_machine.specs.declared.world.objects.Object.{Object}
 use Rattle.profile_machine.specs.declared.world.tasks.Task.{Task}
-use Rattle.profile_machine.specs.Words.{same_who, set_where, edit_found}
-use Rattle.profile_machine.specs.Tasks.{is_who, task_at, edit_task_found, edit_task}
-use Rattle.profile_machine.specs.Values.{is_object}
-use Rattle.profile_machine.specs.Calls.{edit_object}
-use Rattle.ceiling_runs.specs.Cores.{core, ceiling_in, Same}
+use Rattle.std.proofs.Common.{Bool, List, None, Option, Some, [], ap, cond, false, inl, inr, map, refl, subst, sym, true, ◌∙◌, ◌∷◌, ◌≡◌, ◌⊎◌}
+use Rattle.std.specs.Prelude.{find}
+use Rattle.trace_text.specs.declared.events.Who.{Who}
+use Rattle.trace_text.specs.declared.events.Who.TheVariants as who
 
 pub same_self : (w : World) → Same w w
 same_self w = record { tasks = refl; agent = refl; objects = refl; drawn_tasks = refl; drawn_objects = refl; delays = λ t e. e }

@@ -1,11 +1,12 @@
 -- The law of ceilings of a whole run, from what its lines place before each instant.
-use Rattle.ceiling_runs.proofs.ShownPlaces.{who_acts_is_shown}
+use Rattle.ceiling_laws.specs.CeilingLaws.{edf_is_below_interrupts}
 use Rattle.ceiling_runs.proofs.CeilingLemmas.{ceilings_are_told}
 use Rattle.ceiling_runs.proofs.DeadlineLemmas.{deadlines_are_of_tasks}
 use Rattle.ceiling_runs.proofs.EnterMoves.{instants_keep_ceilings, opening_keeps_ceilings, tocks_keep_ceilings}
-use Rattle.ceiling_runs.specs.RunLaws.{AreCeilingsShown, ArePlaced, PlacesKeepCeilings, ShowsPlace, ShowsRunner, Tells, told_first, told_on, ceilings_told, keep_ceilings, levels_told}
-use Rattle.ceiling_laws.specs.CeilingLaws.{edf_is_below_interrupts}
+use Rattle.ceiling_runs.proofs.ShownPlaces.{who_acts_is_shown}
+use Rattle.ceiling_runs.specs.RunLaws.{AreCeilingsShown, ArePlaced, PlacesKeepCeilings, ShowsPlace, ShowsRunner, Tells, ceilings_told, keep_ceilings, levels_told, told_first, told_on}
 use Rattle.machine_laws.proofs.ListLemmas.{both}
+use Rattle.profile_machine.specs.Dispatching.{active_of}
 use Rattle.profile_machine.specs.Instant.{instant, is_over}
 use Rattle.profile_machine.specs.Run.{Ran, at_tick, opening, run_from, run_of, stop, stopped, then_runs, tock}
 use Rattle.profile_machine.specs.Tasks.{nobody, task_at, task_of}
@@ -15,14 +16,12 @@ use Rattle.profile_machine.specs.declared.run_data.Item.{Item}
 use Rattle.profile_machine.specs.declared.world.World.{World}
 use Rattle.profile_machine.specs.declared.world.tasks.Task.{Task}
 use Rattle.std.proofs.Common.{ap, refl, subst, sym, ◌∙◌, ◌≡◌}
-use Rattle.std.specs.Prelude.{Bool, List, None, Option, Some, [], false, suc, true, zero, ℕ, ℤ, ◌&&◌, ◌++◌, ◌∷◌}
+use Rattle.std.specs.Prelude.{Bool, List, None, Option, Some, [], false, suc, true, zero, ℕ, ℤ, ◌&&◌, ◌++◌, ◌∷◌, ◌≤◌}
 use Rattle.trace_text.proofs.LawsFollowed.{lines_hold}
 use Rattle.trace_text.specs.Laws.{Levels, is_below_ceiling, no_levels, see_levels}
 use Rattle.trace_text.specs.Queue.{entry_of, follows_lines}
-use Rattle.trace_text.specs.declared.events.Entry.{Entry}
-use Rattle.profile_machine.specs.Dispatching.{active_of}
-use Rattle.std.specs.Prelude.{◌≤◌}
 use Rattle.trace_text.specs.declared.events.Ended.{Ended}
+use Rattle.trace_text.specs.declared.events.Entry.{Entry}
 use Rattle.trace_text.specs.declared.events.Event.{Event}
 use Rattle.trace_text.specs.declared.events.Event.TheVariants as written
 use Rattle.trace_text.specs.declared.events.Who.{Who}

@@ -1,16 +1,16 @@
 -- What of a task decides at which level it is placed, and what of an object decides who is let in; and changes that touch none
 -- of these, and let no task wait for a moment that waited for none.
-use Rattle.std.specs.Prelude.{◌≡◌, ℕ, Bool, true, List, Option, map}
-use Rattle.std.specs.List.{list_any}
 use Rattle.ann_base.specs.declared.identities.ObjectNo.{ObjectNo}
 use Rattle.ann_base.specs.declared.identities.TaskNo.{TaskNo}
-use Rattle.trace_text.specs.declared.events.Who.{Who}
+use Rattle.profile_machine.specs.Appointments.{is_delay_of}
 use Rattle.profile_machine.specs.declared.world.World.{World}
 use Rattle.profile_machine.specs.declared.world.objects.Object.{Object}
 use Rattle.profile_machine.specs.declared.world.tasks.Inherited.{Inherited}
 use Rattle.profile_machine.specs.declared.world.tasks.State.{State}
 use Rattle.profile_machine.specs.declared.world.tasks.Task.{Task}
-use Rattle.profile_machine.specs.Appointments.{is_delay_of}
+use Rattle.std.specs.List.{list_any}
+use Rattle.std.specs.Prelude.{Bool, List, Option, map, true, ℕ, ◌≡◌}
+use Rattle.trace_text.specs.declared.events.Who.{Who}
 
 -- who it is, its state, and what its active priority is made of
 pub record Core : Type 0 where

@@ -1,24 +1,24 @@
 -- What every world that a run reaches has in common with its lines, as far as ceilings are concerned.
-use Rattle.std.specs.Prelude.{◌≡◌, ◌≤◌, ◌&&◌, ◌++◌, ℕ, ℤ, Bool, true, IsTrue, List, [], ◌∷◌, Some, None}
 use Rattle.ann_base.specs.declared.identities.TaskNo.{TaskNo}
-use Rattle.trace_text.specs.declared.events.Entry.{Entry}
-use Rattle.trace_text.specs.declared.events.Event.{Event}
-use Rattle.trace_text.specs.declared.events.Who.{Who}
-use Rattle.trace_text.specs.declared.events.Who.TheVariants as who
-use Rattle.trace_text.specs.Queue.{entry_of}
-use Rattle.trace_text.specs.Laws.{Levels, level_of, ceilings_after, bases_after, base_of, see_levels, no_levels, is_below_ceiling, CeilingOk}
+use Rattle.ceiling_laws.specs.CeilingLaws.{edf_is_below_interrupts}
+use Rattle.machine_laws.specs.Reached.{Reached}
+use Rattle.profile_machine.specs.Dispatching.{active_of}
+use Rattle.profile_machine.specs.Instant.{instant, is_over}
+use Rattle.profile_machine.specs.Program.{has_edf, interrupt_priority}
+use Rattle.profile_machine.specs.Run.{opening, run_of, stop, tock}
+use Rattle.profile_machine.specs.Tasks.{found_task, task_at, task_of}
 use Rattle.profile_machine.specs.declared.image.Image.{Image}
 use Rattle.profile_machine.specs.declared.run_data.Item.{Item}
 use Rattle.profile_machine.specs.declared.world.World.{World}
 use Rattle.profile_machine.specs.declared.world.objects.Object.{Object}
 use Rattle.profile_machine.specs.declared.world.tasks.Task.{Task}
-use Rattle.profile_machine.specs.Program.{has_edf, interrupt_priority}
-use Rattle.profile_machine.specs.Tasks.{task_at, task_of, found_task}
-use Rattle.profile_machine.specs.Dispatching.{active_of}
-use Rattle.profile_machine.specs.Instant.{is_over, instant}
-use Rattle.profile_machine.specs.Run.{opening, tock, stop, run_of}
-use Rattle.machine_laws.specs.Reached.{Reached}
-use Rattle.ceiling_laws.specs.CeilingLaws.{edf_is_below_interrupts}
+use Rattle.std.specs.Prelude.{Bool, IsTrue, List, None, Some, [], true, ℕ, ℤ, ◌&&◌, ◌++◌, ◌∷◌, ◌≡◌, ◌≤◌}
+use Rattle.trace_text.specs.Laws.{CeilingOk, Levels, base_of, bases_after, ceilings_after, is_below_ceiling, level_of, no_levels, see_levels}
+use Rattle.trace_text.specs.Queue.{entry_of}
+use Rattle.trace_text.specs.declared.events.Entry.{Entry}
+use Rattle.trace_text.specs.declared.events.Event.{Event}
+use Rattle.trace_text.specs.declared.events.Who.{Who}
+use Rattle.trace_text.specs.declared.events.Who.TheVariants as who
 
 -- handlers run at the priority of interrupts: the agent's base priority is set by nobody (own)
 abbrev pub AgentKeepsBase : Type 0

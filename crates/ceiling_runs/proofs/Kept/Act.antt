@@ -7,7 +7,7 @@ use Rattle.ceiling_runs.proofs.Kept.Controlled.{assign_controlled-keeps, end_in_
 use Rattle.ceiling_runs.proofs.Kept.Declarations.{declare-keeps}
 use Rattle.ceiling_runs.proofs.Kept.EntryCalls.{asynchronous_select-leads, entry_call-leads, requeue-keeps}
 use Rattle.ceiling_runs.proofs.Kept.Frames.{edit_top-alters, goes-keeps, open_if_ready-keeps, pass_on-keeps, pop-alters, raises-keeps, weakly, with_room-keeps}
-use Rattle.ceiling_runs.proofs.Kept.Handlers.{add_member-keeps, add_to_budget-keeps, cancel_budget-keeps, cancel_event-keeps, cancel_timer-keeps, remove_member-keeps, replenish-keeps, set_budget-keeps, set_event-keeps, set_timer-keeps, call_handler-leads}
+use Rattle.ceiling_runs.proofs.Kept.Handlers.{add_member-keeps, add_to_budget-keeps, call_handler-leads, cancel_budget-keeps, cancel_event-keeps, cancel_timer-keeps, remove_member-keeps, replenish-keeps, set_budget-keeps, set_event-keeps, set_timer-keeps}
 use Rattle.ceiling_runs.proofs.Kept.Masters.{fits_part}
 use Rattle.ceiling_runs.proofs.Kept.Priorities.{delay_and_set_deadline-keeps, delay_until-keeps, set_deadline_of-leads, set_priority-leads, set_quantum-keeps}
 use Rattle.ceiling_runs.proofs.Kept.Protected.{call_operation-leads, call_own_operation-keeps}
@@ -15,9 +15,9 @@ use Rattle.ceiling_runs.proofs.Kept.Rendezvous.{accept-keeps, end_in_accept-keep
 use Rattle.ceiling_runs.proofs.Kept.Scopes.{drop_appointment-alters, open_scope-alters}
 use Rattle.ceiling_runs.proofs.Kept.Serving.{end_in_protected-keeps}
 use Rattle.ceiling_runs.proofs.Kept.Statements.{assign-keeps, assign_array-keeps, block_statement-keeps, case_statement-keeps, exit_statement-keeps, first_turn-keeps, for_bounds-keeps, if_statement-keeps, later_turn-keeps, null-keeps, put_line-keeps, raise_again-keeps, while_turn-keeps}
-use Rattle.ceiling_runs.proofs.Kept.Tasks.{edit_task-alters}
 use Rattle.ceiling_runs.proofs.Kept.Subprograms.{call_subprogram-keeps, return-keeps, return_value-keeps}
 use Rattle.ceiling_runs.proofs.Kept.Tasking.{abort_statement-keeps, activate-keeps, create-leads, end_own_activation-keeps, end_scope_mark-leads, take_terminates-leads, unwind_all-keeps}
+use Rattle.ceiling_runs.proofs.Kept.Tasks.{edit_task-alters}
 use Rattle.ceiling_runs.proofs.LevelMoves.{Fitting, Naming, Silences, Sleeping}
 use Rattle.ceiling_runs.proofs.Triples.{Alters, Ends, Keeps, Leads, State, changes-keeps, cond-keeps, from-leads, looks-keeps, looks-leads, nothing-keeps, option-keeps, sees-keeps, then-keeps, then-leads, to-leads, unchanged-alters}
 use Rattle.profile_machine.specs.Act.{act, act_frame, act_statement, act_top, act_without, behind_handled, below, call, call_main, drop_trigger, end_abortable_by, end_handled, end_in_abortable, end_mark, end_top, handle_or_pass, handler_for, keeping, wait_for_trigger, waiting_mark}
@@ -53,7 +53,6 @@ use Rattle.profile_machine.specs.declared.world.marks.AbortableMark.{AbortableMa
 use Rattle.profile_machine.specs.declared.world.marks.Frame.{Frame}
 use Rattle.profile_machine.specs.declared.world.marks.Mark.{Mark}
 use Rattle.profile_machine.specs.declared.world.marks.Mark.TheVariants.{Abortable, Handled, InAccept, InAssign, InFinalize, InInitialize, InProtected, Scope}
-use Rattle.profile_machine.specs.declared.world.tasks.Task.{Task}
 use Rattle.profile_machine.specs.declared.world.tasks.Waiting.TheVariants as waits_for
 use Rattle.std.proofs.Common.{inl, inr, refl, ◌≡◌}
 use Rattle.std.specs.Prelude.{List, None, Option, Some, ℕ}

@@ -1,10 +1,4 @@
 -- The parts of an instant beside the effect of the action that ended: each step keeps what its parts keep.
-use Rattle.profile_machine.specs.declared.world.lines.Said.{Said}
-use Rattle.profile_machine.specs.declared.numbers.StatementNo.{StatementNo}
-use Rattle.std.specs.List.{list_any}
-use Rattle.profile_machine.specs.Handlers.{release}
-use Rattle.profile_machine.specs.CallEnds.{trigger_at}
-use Rattle.profile_machine.specs.Unwinding.{unwind}
 use Rattle.ann_base.specs.declared.identities.CallNo.{CallNo}
 use Rattle.ann_base.specs.declared.identities.TaskNo.{TaskNo}
 use Rattle.ceiling_runs.proofs.Kept.CallEnds.{deliver-keeps, trigger_at-keeps}
@@ -12,23 +6,27 @@ use Rattle.ceiling_runs.proofs.Kept.Calls.{unqueued-alters, with_call-keeps}
 use Rattle.ceiling_runs.proofs.Kept.Frames.{open_sequence-keeps}
 use Rattle.ceiling_runs.proofs.Kept.Handlers.{clear_timer-alters, interrupt-keeps, release-keeps}
 use Rattle.ceiling_runs.proofs.Kept.Scopes.{dropped-same, or-behind}
-use Rattle.ceiling_runs.proofs.SameLemmas.{edit_task-same}
-use Rattle.ceiling_runs.specs.Cores.{Same, is_delayed}
 use Rattle.ceiling_runs.proofs.Kept.Tasks.{plain-alters, says-keeps}
 use Rattle.ceiling_runs.proofs.Kept.Unwinding.{unwind-keeps}
 use Rattle.ceiling_runs.proofs.LevelMoves.{BaseMoves, Sleeping}
-use Rattle.ceiling_runs.proofs.Triples.{Alters, At, Ends, Keeps, Leads, State, With, changes-keeps, for_each-keeps, for_some-keeps, looks-keeps, looks-with, nothing-keeps, then-keeps, then-leads, when-leads, changes-leads, from-leads, from_at}
+use Rattle.ceiling_runs.proofs.SameLemmas.{edit_task-same}
+use Rattle.ceiling_runs.proofs.Triples.{Alters, At, Ends, Keeps, Leads, State, With, changes-keeps, changes-leads, for_each-keeps, for_some-keeps, from-leads, from_at, looks-keeps, looks-with, nothing-keeps, then-keeps, then-leads, when-leads}
+use Rattle.ceiling_runs.specs.Cores.{Same, is_delayed}
 use Rattle.profile_machine.specs.Appointments.{drop_appointment, first_due, is_an_event, is_delay_of}
+use Rattle.profile_machine.specs.CallEnds.{trigger_at}
 use Rattle.profile_machine.specs.Dispatching.{active, ready, to_tail}
 use Rattle.profile_machine.specs.Frames.{any_protected, edit_first, edit_top, goes, goes_on}
+use Rattle.profile_machine.specs.Handlers.{release}
 use Rattle.profile_machine.specs.Instant.{all_due, come_due, deliver_kept_interrupt, end_delay, expire, expire_timer, has_spent_quantum, interrupt_comes, is_flag, is_the_same_due, items_due, no_budget_due, no_timers_due, run_out, script_item, spend_quantum, take_delay, take_due, take_item, time_out, with_kept_interrupt, with_masked, with_port, with_script}
 use Rattle.profile_machine.specs.Masters.{terminate}
 use Rattle.profile_machine.specs.Program.{is_robin_level, next_of}
 use Rattle.profile_machine.specs.Steps.{Step, changes, for_each, for_some, looks, nothing, says, ◌▷◌}
 use Rattle.profile_machine.specs.Tasks.{is_runnable, task_of, waiting_of, with_frames}
+use Rattle.profile_machine.specs.Unwinding.{unwind}
 use Rattle.profile_machine.specs.Values.{budget_of, timer_of, value}
 use Rattle.profile_machine.specs.Words.{is_empty, same_bool}
 use Rattle.profile_machine.specs.declared.image.Image.{Image}
+use Rattle.profile_machine.specs.declared.numbers.StatementNo.{StatementNo}
 use Rattle.profile_machine.specs.declared.run_data.Item.{Item}
 use Rattle.profile_machine.specs.declared.run_data.Item.TheVariants as item
 use Rattle.profile_machine.specs.declared.world.World.{World}
@@ -39,9 +37,11 @@ use Rattle.profile_machine.specs.declared.world.appointments.TimerSetting.{Timer
 use Rattle.profile_machine.specs.declared.world.calls.Outcome.TheVariants as call_ended
 use Rattle.profile_machine.specs.declared.world.lines.Line.TheVariants as line
 use Rattle.profile_machine.specs.declared.world.lines.Part.TheVariants.{Own}
+use Rattle.profile_machine.specs.declared.world.lines.Said.{Said}
 use Rattle.profile_machine.specs.declared.world.tasks.Waiting.{Waiting}
 use Rattle.profile_machine.specs.declared.world.tasks.Waiting.TheVariants as waits_for
-use Rattle.std.proofs.Common.{ap, eq-eqb, refl, subst, sym, ◌∙◌, ◌≡◌, cond}
+use Rattle.std.proofs.Common.{ap, cond, eq-eqb, refl, subst, sym, ◌∙◌, ◌≡◌}
+use Rattle.std.specs.List.{list_any}
 use Rattle.std.specs.Prelude.{Bool, List, None, Option, Some, [], eqb, false, find, int_le, length, not, pos, suc, true, zero, ℕ, ℤ, ◌&&◌, ◌||◌, ◌∷◌}
 use Rattle.trace_text.specs.declared.events.Who.{Who}
 use Rattle.trace_text.specs.declared.events.Who.TheVariants as who

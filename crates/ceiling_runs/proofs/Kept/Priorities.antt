@@ -1,38 +1,38 @@
 -- Priorities that are inherited, and base priorities and deadlines that are set: each step keeps what its parts keep.
-use Rattle.ceiling_runs.proofs.Kept.Calls.{edit_call-alters, edit_queue-alters, with_call-keeps}
-use Rattle.profile_machine.specs.Calls.{place_of_entry, put_call, take_call}
 use Rattle.ann_base.specs.declared.exceptions.Raised.TheVariants as exception
-use Rattle.profile_machine.specs.declared.image.Queuing.{Queuing}
-use Rattle.profile_machine.specs.declared.image.Queuing.TheVariants as queuing
-use Rattle.profile_machine.specs.declared.world.tasks.Waiting.{Waiting}
-use Rattle.profile_machine.specs.declared.world.calls.Call.{Call}
 use Rattle.ann_base.specs.declared.identities.TaskNo.{TaskNo}
 use Rattle.ceiling_runs.proofs.ActingMoves.{ActingMoves, Admitting, LaterMoves}
+use Rattle.ceiling_runs.proofs.Kept.Calls.{edit_call-alters, edit_queue-alters, with_call-keeps}
 use Rattle.ceiling_runs.proofs.Kept.Frames.{given-keeps, given-through, goes-keeps, raise_if-keeps, raise_if-through, weakly}
 use Rattle.ceiling_runs.proofs.Kept.Tasks.{edit_task-alters, plain-alters, says-keeps}
 use Rattle.ceiling_runs.proofs.Kept.Waking.{each-any, found-each, inherit-alters}
 use Rattle.ceiling_runs.proofs.LevelMoves.{Fitting, Naming, Silences, Sleeping}
-use Rattle.ceiling_runs.proofs.Triples.{Alters, Keeps, Leads, State, changes-keeps, looks-keeps, nothing-keeps, sees-keeps, sees-leads, then-keeps, then-leads, when-keeps, for_some-keeps, unchanged-alters}
-use Rattle.profile_machine.specs.Dispatching.{to_tail, active_of}
+use Rattle.ceiling_runs.proofs.Triples.{Alters, Keeps, Leads, State, changes-keeps, for_some-keeps, looks-keeps, nothing-keeps, sees-keeps, sees-leads, then-keeps, then-leads, unchanged-alters, when-keeps}
+use Rattle.profile_machine.specs.Calls.{place_of_entry, put_call, take_call}
+use Rattle.profile_machine.specs.Dispatching.{active_of, to_tail}
 use Rattle.profile_machine.specs.Frames.{goes, in_protected}
 use Rattle.profile_machine.specs.Inheritance.{inherit, inherit_running, rises, same_cause}
 use Rattle.profile_machine.specs.Operators.{Valued, held_moment, ticks, ◌>>=◌}
-use Rattle.profile_machine.specs.Priorities.{delay_and_set_deadline, delay_with_deadline, is_edf_base, must_be_task, priority_in_range, quantum_of, says_deadline, set_base_of, set_deadline_of, set_or_defer_base, set_priority, set_quantum, call_waited_for, is_queued, placed_anew, reprioritize, reprioritize_own, with_priority}
+use Rattle.profile_machine.specs.Priorities.{call_waited_for, delay_and_set_deadline, delay_with_deadline, is_edf_base, is_queued, must_be_task, placed_anew, priority_in_range, quantum_of, reprioritize, reprioritize_own, says_deadline, set_base_of, set_deadline_of, set_or_defer_base, set_priority, set_quantum, with_priority}
 use Rattle.profile_machine.specs.Program.{interrupt_priority, next_of}
 use Rattle.profile_machine.specs.Statements.{delay_to, delay_until, wait_until}
 use Rattle.profile_machine.specs.Tasks.{found_task, is_who}
 use Rattle.profile_machine.specs.Values.{live_task, moment, optional_task, value, whole_in}
 use Rattle.profile_machine.specs.Words.{edit_at, same_who}
 use Rattle.profile_machine.specs.declared.image.Image.{Image}
+use Rattle.profile_machine.specs.declared.image.Queuing.{Queuing}
+use Rattle.profile_machine.specs.declared.image.Queuing.TheVariants as queuing
 use Rattle.profile_machine.specs.declared.numbers.ExprNo.{ExprNo}
 use Rattle.profile_machine.specs.declared.numbers.StatementNo.{StatementNo}
 use Rattle.profile_machine.specs.declared.world.World.{World}
+use Rattle.profile_machine.specs.declared.world.calls.Call.{Call}
 use Rattle.profile_machine.specs.declared.world.lines.Line.TheVariants as line
 use Rattle.profile_machine.specs.declared.world.lines.Part.{Part}
 use Rattle.profile_machine.specs.declared.world.lines.Part.TheVariants.{Own, ThePlacing}
 use Rattle.profile_machine.specs.declared.world.tasks.Cause.{Cause}
 use Rattle.profile_machine.specs.declared.world.tasks.Cause.TheVariants as inherited_by
 use Rattle.profile_machine.specs.declared.world.tasks.Task as world
+use Rattle.profile_machine.specs.declared.world.tasks.Waiting.{Waiting}
 use Rattle.profile_machine.specs.declared.world.tasks.Waiting.TheVariants as waits_for
 use Rattle.std.proofs.Common.{refl, subst, sym, ◌≡◌}
 use Rattle.std.specs.Prelude.{Bool, List, None, Option, Some, false, int_lt, pos, true, ℕ, ℤ, ◌+ℤ◌, ◌||◌}

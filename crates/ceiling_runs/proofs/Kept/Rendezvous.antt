@@ -1,5 +1,4 @@
 -- Accepting calls: each step keeps what its parts keep.
-use Rattle.profile_machine.specs.declared.world.lines.Said.{Said}
 use Rattle.ann_base.specs.declared.exceptions.Raised.TheVariants as exception
 use Rattle.ann_base.specs.declared.identities.CallNo.{CallNo}
 use Rattle.ann_base.specs.declared.identities.TaskNo.{TaskNo}
@@ -14,7 +13,7 @@ use Rattle.ceiling_runs.proofs.Kept.Sending.{begin_abortable-keeps, send_on-keep
 use Rattle.ceiling_runs.proofs.Kept.Tasks.{says-keeps}
 use Rattle.ceiling_runs.proofs.Kept.Waking.{Asleep, asleep_at, asleep_quiet, waiting-blocked}
 use Rattle.ceiling_runs.proofs.LevelMoves.{BaseMoves, Fitting, Naming, Silences, Sleeping}
-use Rattle.ceiling_runs.proofs.Triples.{Alters, At, Keeps, Leads, State, With, branch-leads, changes-keeps, for_some-keeps, from-leads, from_at, looks-keeps, looks-leads, looks-with, nothing-keeps, sees-leads, then-keeps, then-leads, unchanged-alters, to-leads}
+use Rattle.ceiling_runs.proofs.Triples.{Alters, At, Keeps, Leads, State, With, branch-leads, changes-keeps, for_some-keeps, from-leads, from_at, looks-keeps, looks-leads, looks-with, nothing-keeps, sees-leads, then-keeps, then-leads, to-leads, unchanged-alters}
 use Rattle.profile_machine.specs.Appointments.{drop_delay}
 use Rattle.profile_machine.specs.CallEnds.{deliver}
 use Rattle.profile_machine.specs.Calls.{enqueue, next_call, parameters_of, place_of_entry}
@@ -46,6 +45,7 @@ use Rattle.profile_machine.specs.declared.world.lines.Line.TheVariants as line
 use Rattle.profile_machine.specs.declared.world.lines.MeetingEnd.TheVariants as meeting
 use Rattle.profile_machine.specs.declared.world.lines.Part.{Part}
 use Rattle.profile_machine.specs.declared.world.lines.Part.TheVariants.{Own, TheBlock, TheFinish}
+use Rattle.profile_machine.specs.declared.world.lines.Said.{Said}
 use Rattle.profile_machine.specs.declared.world.marks.AcceptMark.{AcceptMark}
 use Rattle.profile_machine.specs.declared.world.marks.Mark.{Mark}
 use Rattle.profile_machine.specs.declared.world.marks.Mark.TheVariants.{InAccept}

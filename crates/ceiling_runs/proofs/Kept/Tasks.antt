@@ -1,9 +1,9 @@
 -- Changes of tasks and lines that tell nothing of levels: each step keeps what its parts keep.
 use Rattle.ann_base.specs.declared.identities.ObjectNo.{ObjectNo}
+use Rattle.ann_base.specs.declared.identities.TaskNo.{TaskNo}
 use Rattle.ceiling_runs.proofs.LevelMoves.{Silences, is_apart}
 use Rattle.ceiling_runs.proofs.SameLemmas.{edit_object-same, edit_task-same}
 use Rattle.ceiling_runs.proofs.Triples.{Alters, Ends, Keeps, State}
-use Rattle.ann_base.specs.declared.identities.TaskNo.{TaskNo}
 use Rattle.ceiling_runs.specs.Cores.{Same, ceiling_in, core, is_delayed}
 use Rattle.profile_machine.specs.Calls.{edit_object}
 use Rattle.profile_machine.specs.Notation.{agent}

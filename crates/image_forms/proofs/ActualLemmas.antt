@@ -1,5 +1,5 @@
 -- The actuals of a call, one after another.
-use Rattle.std.proofs.Common.{◌≡◌, ℕ, ◌+◌, ◌<◌, suc, Bool, ◌&&◌, List, ◌∷◌, drop, length, get_or, refl, ap, sym, ◌∙◌, arith}
+use Rattle.std.proofs.Common.{◌≡◌, ℕ, ◌+◌, ◌<◌, suc, Bool, true, false, ◌&&◌, List, ◌∷◌, drop, length, get_or, refl, ap, sym, ◌∙◌, arith}
 use Rattle.std.proofs.lemmas.List.{drop_more}
 use Rattle.ada_tree.specs.declared.expressions.Expression.{Expression}
 use Rattle.ada_tree.specs.declared.expressions.Argument.{Argument}
@@ -28,3 +28,10 @@ actuals_more number formals f arguments n l is =
     ap (λ fs. actuals_from number fs arguments n) cut
     ∙ one_more number f (drop (number + 1) formals) arguments n
     ∙ ap (λ k. actual_built f (argument_from number f.name 0 arguments) n && actuals_from k (drop (number + 1) formals) arguments n) next
+
+-- where the first is not built, all are not; where it is, the others decide
+pub first_missing : {whole : Bool} (first others : Bool) → first ≡ false → (first && others) ≡ whole → false ≡ whole
+first_missing first others is e = ap (λ b. b && others) (sym is) ∙ e
+
+pub first_there : {whole : Bool} (first others : Bool) → first ≡ true → (first && others) ≡ whole → others ≡ whole
+first_there first others is e = ap (λ b. b && others) (sym is) ∙ e

@@ -1,7 +1,8 @@
 -- What each step by which an effect changes somebody's level makes of places.
+use Rattle.ann_base.specs.declared.identities.TaskNo.{TaskNo}
 use Rattle.ceiling_places.proofs.EditLemmas.{edit-others, edit-state, inherit-rises}
 use Rattle.ceiling_places.proofs.PartOrder.{last_put-append}
-use Rattle.ceiling_places.specs.Acting.{AreLow, BlockLeavesLow, BaseLeavesLow, EndLeavesLow, InheritanceLeavesLow, LeadsLow, LossLeavesLow, MayBePlaced, PlacingLeavesLow, ReadyLeavesLow}
+use Rattle.ceiling_places.specs.Acting.{AreLow, BaseLeavesLow, BlockLeavesLow, EndLeavesLow, InheritanceLeavesLow, LeadsLow, LossLeavesLow, MayBePlaced, PlacingLeavesLow, ReadyLeavesLow}
 use Rattle.ceiling_places.specs.PlaceLaws.{IsAtMost, level_shown}
 use Rattle.ceiling_places.specs.Puts.{last_put, place_by, puts, with_put}
 use Rattle.ceiling_runs.proofs.FoundLemmas.{by_test}
@@ -10,10 +11,9 @@ use Rattle.ceiling_runs.proofs.LevelMoves.{said_so}
 use Rattle.profile_machine.specs.Dispatching.{active, active_of, block, deadline_shown, grant_quantum, granted, keep_level, level_kept_by, ready, says_block, says_ready, to_head, to_tail, without_kept_level, word_of}
 use Rattle.profile_machine.specs.Inheritance.{falls, inherit, inherit_running, lose, lose_running, rises, same_cause}
 use Rattle.profile_machine.specs.Priorities.{replace_in, says_base, set_base}
-use Rattle.profile_machine.specs.Tasking.{says_done}
-use Rattle.ann_base.specs.declared.identities.TaskNo.{TaskNo}
 use Rattle.profile_machine.specs.Program.{edf_low, is_robin_level}
 use Rattle.profile_machine.specs.Steps.{is_part_before, when}
+use Rattle.profile_machine.specs.Tasking.{says_done}
 use Rattle.profile_machine.specs.Tasks.{edit_task, task_of, with_state}
 use Rattle.profile_machine.specs.Words.{same_who, without}
 use Rattle.profile_machine.specs.declared.image.Image.{Image}
@@ -27,7 +27,7 @@ use Rattle.profile_machine.specs.declared.world.tasks.Cause.{Cause}
 use Rattle.profile_machine.specs.declared.world.tasks.State.TheVariants.{Blocked, Runnable}
 use Rattle.profile_machine.specs.declared.world.tasks.Task.{Task}
 use Rattle.profile_machine.specs.declared.world.tasks.Waiting.{Waiting}
-use Rattle.std.proofs.Common.{Bool, List, None, Option, Some, [], ap, arith, cond, eq-eqb, false, inl, inr, le_refl, le_trans, ltb, refl, subst, sym, true, ℕ, ◌++◌, ◌&&◌, ◌∙◌, ◌∷◌, ◌≡◌, ◌≤◌, ◌⊎◌}
+use Rattle.std.proofs.Common.{Bool, List, None, Option, Some, [], ap, arith, cond, eq-eqb, false, inl, inr, le_refl, le_trans, ltb, refl, subst, sym, true, ℕ, ◌&&◌, ◌++◌, ◌∙◌, ◌∷◌, ◌≡◌, ◌≤◌, ◌⊎◌}
 use Rattle.std.specs.Prelude.{eqb, slice_index_or}
 use Rattle.trace_text.specs.Laws.{Levels}
 use Rattle.trace_text.specs.declared.events.QueueEnd.{QueueEnd}

@@ -1,6 +1,5 @@
 -- What comes about beside the effect of who acts leaves everybody at or below its active priority: its lines are of one part, and
 -- place each who becomes ready at the active priority that it then has.
-use Rattle.profile_machine.specs.declared.world.tasks.Cause.TheVariants as inherited_by
 use Rattle.ceiling_places.proofs.EditLemmas.{active-plain, active-same, edit-others, inherit-rises}
 use Rattle.ceiling_places.proofs.PartOrder.{last_put-append}
 use Rattle.ceiling_places.proofs.QueueLemmas.{effects_place_by_the_last}
@@ -36,9 +35,10 @@ use Rattle.profile_machine.specs.declared.world.lines.Part.TheVariants.{Own}
 use Rattle.profile_machine.specs.declared.world.lines.Said.{Said}
 use Rattle.profile_machine.specs.declared.world.marks.Purpose.TheVariants as opened_for
 use Rattle.profile_machine.specs.declared.world.tasks.Cause.{Cause}
+use Rattle.profile_machine.specs.declared.world.tasks.Cause.TheVariants as inherited_by
 use Rattle.profile_machine.specs.declared.world.tasks.State.TheVariants.{Runnable}
 use Rattle.profile_machine.specs.declared.world.tasks.Task.{Task}
-use Rattle.std.proofs.Common.{Bool, List, None, Option, Some, [], ap, cond, eq-eqb, false, le_refl, le_trans, refl, subst, sym, true, ℕ, ℤ, ◌++◌, ◌&&◌, ◌∙◌, ◌∷◌, ◌≡◌, ◌≤◌}
+use Rattle.std.proofs.Common.{Bool, List, None, Option, Some, [], ap, cond, eq-eqb, false, le_refl, le_trans, refl, subst, sym, true, ℕ, ℤ, ◌&&◌, ◌++◌, ◌∙◌, ◌∷◌, ◌≡◌, ◌≤◌}
 use Rattle.std.specs.Prelude.{eqb, slice_index_or}
 use Rattle.tick_lines.proofs.LineByLine.{Follow, seen_behind}
 use Rattle.trace_text.specs.Laws.{Levels, no_levels, see_levels}

@@ -1,34 +1,34 @@
 -- What holds of everybody, by what of it decides at which level it is placed, and by what an effect has said last of its place.
-use Rattle.profile_machine.specs.declared.world.lines.Part.{Part}
-use Rattle.profile_machine.specs.declared.world.tasks.Task.{Task}
-use Rattle.ceiling_runs.proofs.Triples.{Ends, Keeps, Leads, State, changes-leads, then-leads}
-use Rattle.trace_text.specs.declared.events.QueueEnd.TheVariants.{Head, Tail}
-use Rattle.profile_machine.specs.declared.image.Image.{Image}
-use Rattle.ceiling_places.proofs.SoundWorlds.{IsAbsent, Sound, sound-edit, sound-plain, sound-same, is_agent}
-use Rattle.profile_machine.specs.declared.world.lines.Line.{Line}
-use Rattle.std.specs.Prelude.{List, eqb, find, slice_index_or, Bool, Option, ℕ, None, Some, false, true}
-use Rattle.trace_text.specs.declared.events.QueueEnd.{QueueEnd}
-use Rattle.profile_machine.specs.declared.world.tasks.State.TheVariants.{Runnable}
-use Rattle.profile_machine.specs.declared.world.lines.Said.{Said}
-use Rattle.ceiling_runs.specs.Cores.{Same, Core, core}
-use Rattle.ceiling_runs.proofs.LevelMoves.{Silences, said_so}
-use Rattle.trace_text.specs.declared.events.Who.{Who}
-use Rattle.profile_machine.specs.declared.world.World.{World}
-use Rattle.std.proofs.Common.{[], ap, map, refl, subst, sym, ◌≡◌, ◌∙◌, ◌⊎◌, ◌∷◌, ◌++◌, ◌&&◌, inl, inr, cond}
-use Rattle.profile_machine.specs.Dispatching.{active, deadline_shown, grant_quantum, granted, keep_level, kept_level_or_base, level_kept_by, ready, says_ready, to_head, to_tail}
-use Rattle.ceiling_runs.proofs.FoundLemmas.{by_test, set-other}
-use Rattle.profile_machine.specs.Steps.{changes, says}
-use Rattle.ceiling_runs.proofs.CoreLemmas.{core-same}
-use Rattle.profile_machine.specs.Program.{edf_low, is_robin_level}
-use Rattle.profile_machine.specs.Tasks.{edit_task, edit_task_found, is_who, nobody, task_at, task_of, with_state}
-use Rattle.ceiling_runs.proofs.SameLemmas.{edit_task-same, found_is_who, set_where-found}
-use Rattle.profile_machine.specs.Scopes.{end_scope}
-use Rattle.profile_machine.specs.Words.{greatest_of, option_or_else, same_who}
-use Rattle.ceiling_places.specs.Puts.{last_put, puts, with_put}
-use Rattle.ceiling_places.proofs.PartOrder.{last_put-append}
 use Rattle.ceiling_places.proofs.BesideLemmas.{puts-apart, same-self, unsaid}
+use Rattle.ceiling_places.proofs.PartOrder.{last_put-append}
+use Rattle.ceiling_places.proofs.SoundWorlds.{IsAbsent, Sound, is_agent, sound-edit, sound-plain, sound-same}
+use Rattle.ceiling_places.specs.Puts.{last_put, puts, with_put}
+use Rattle.ceiling_runs.proofs.CoreLemmas.{core-same}
+use Rattle.ceiling_runs.proofs.FoundLemmas.{by_test, set-other}
 use Rattle.ceiling_runs.proofs.Kept.Waking.{who-is}
+use Rattle.ceiling_runs.proofs.LevelMoves.{Silences, said_so}
+use Rattle.ceiling_runs.proofs.SameLemmas.{edit_task-same, found_is_who, set_where-found}
+use Rattle.ceiling_runs.proofs.Triples.{Ends, Keeps, Leads, State, changes-leads, then-leads}
+use Rattle.ceiling_runs.specs.Cores.{Core, Same, core}
+use Rattle.profile_machine.specs.Dispatching.{active, deadline_shown, grant_quantum, granted, keep_level, kept_level_or_base, level_kept_by, ready, says_ready, to_head, to_tail}
+use Rattle.profile_machine.specs.Program.{edf_low, is_robin_level}
+use Rattle.profile_machine.specs.Scopes.{end_scope}
+use Rattle.profile_machine.specs.Steps.{changes, says}
+use Rattle.profile_machine.specs.Tasks.{edit_task, edit_task_found, is_who, nobody, task_at, task_of, with_state}
+use Rattle.profile_machine.specs.Words.{greatest_of, option_or_else, same_who}
+use Rattle.profile_machine.specs.declared.image.Image.{Image}
+use Rattle.profile_machine.specs.declared.world.World.{World}
+use Rattle.profile_machine.specs.declared.world.lines.Line.{Line}
 use Rattle.profile_machine.specs.declared.world.lines.Line.TheVariants as line
+use Rattle.profile_machine.specs.declared.world.lines.Part.{Part}
+use Rattle.profile_machine.specs.declared.world.lines.Said.{Said}
+use Rattle.profile_machine.specs.declared.world.tasks.State.TheVariants.{Runnable}
+use Rattle.profile_machine.specs.declared.world.tasks.Task.{Task}
+use Rattle.std.proofs.Common.{[], ap, cond, inl, inr, map, refl, subst, sym, ◌&&◌, ◌++◌, ◌∙◌, ◌∷◌, ◌≡◌, ◌⊎◌}
+use Rattle.std.specs.Prelude.{Bool, List, None, Option, Some, eqb, false, find, slice_index_or, true, ℕ}
+use Rattle.trace_text.specs.declared.events.QueueEnd.{QueueEnd}
+use Rattle.trace_text.specs.declared.events.QueueEnd.TheVariants.{Head, Tail}
+use Rattle.trace_text.specs.declared.events.Who.{Who}
 use Rattle.trace_text.specs.declared.events.Who.TheVariants as who
 
 -- what may hold of somebody: by how many task numbers were drawn, who it is, what it is, and what was said last of it

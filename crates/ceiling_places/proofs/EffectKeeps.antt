@@ -1,69 +1,69 @@
 -- Effects leave everybody at or below its active priority, and who is not ready nowhere.
-use Rattle.profile_machine.specs.declared.world.tasks.State.TheVariants.{Blocked, Made, Runnable}
-use Rattle.profile_machine.specs.declared.numbers.DeclNo.{DeclNo}
-use Rattle.profile_machine.specs.declared.world.scopes.ScopeId.{ScopeId}
-use Rattle.profile_machine.specs.declared.world.tasks.Task.{Task}
-use Rattle.trace_text.specs.declared.events.Who.{Who}
-use Rattle.ceiling_runs.proofs.ActingMoves.{ActingMoves, IsNew, LaterMoves, SelectMoves}
-use Rattle.ceiling_runs.proofs.Triples.{Alters, Ends, Leads, State, With, changes-keeps, changes-leads, for_some-keeps, from-leads, nothing-leads, then-keeps, then-leads, Keeps, looks-keeps}
-use Rattle.std.specs.Prelude.{Bool, List, find, leb, suc, ℤ, ◌-◌, Option, ℕ, None, Some, [], false, true}
-use Rattle.profile_machine.specs.declared.world.calls.Call.{Call}
-use Rattle.ceiling_places.proofs.Standing.{Dying, Ending, First, Fits, Hidden, IsShownRightly, IsUnmade, Later, Owing, apart-sym, asleep-hidden, at_most-out, awake, block-put, fits_finish, fits_other, fits_own, limit, limit-other, nobody-runs, nobody-sleeps, out-late, place, placed-good, put-late, put-out, Last, runs_in, sleeps_in, Choosing, Good, Since, Sized, blocked-good}
-use Rattle.ceiling_runs.proofs.LevelMoves.{EachTask, Fitting, is_blocked}
-use Rattle.ceiling_places.proofs.CorePoints.{Except, Holds, Places, Point, Readies, Turns, active_in, holds-also, holds-edit, holds-of, holds-plain, holds-put, holds-sound, holds_quiet, not-absent, ready-holds, keeps_says}
-use Rattle.profile_machine.specs.declared.image.Image.{Image}
-use Rattle.ceiling_places.specs.PlaceLaws.{IsAtMost, level_shown}
-use Rattle.ceiling_places.proofs.SoundWorlds.{IsThere, Sound, Unactivated, all_there, known, sound-add, sound-appoint, sound-edit, sound-forget, sound-plain, sound-task, unactivated-loses, unactivated_without, each-on, IsAbsent, is_agent, is_fresh}
-use Rattle.trace_text.specs.Laws.{Levels}
-use Rattle.profile_machine.specs.declared.world.scopes.Located.{Located}
-use Rattle.ceiling_places.specs.Acting.{MayBePlaced}
-use Rattle.profile_machine.specs.declared.world.lines.Part.TheVariants.{OfOther, TheBlock, TheFinish, Own}
-use Rattle.profile_machine.specs.declared.world.lines.Part.{Part}
-use Rattle.profile_machine.specs.declared.numbers.ProtectedUnitNo.{ProtectedUnitNo}
-use Rattle.profile_machine.specs.declared.world.lines.Said.{Said}
-use Rattle.ceiling_runs.specs.Cores.{Same, Core, core}
-use Rattle.ceiling_places.proofs.EffectMoves.{Sleeping_in, Wakeful, base_moves, later-kept, base_set_or_deferred, ceases_good, deadline_set_or_deferred, deferred_set, dying_wakeful, ending_wakeful, good_wakeful, heads_later, later-rises, later-wakes, later_wakeful, lost_later, nobody-acts, owed_loses, owes_since, owing_wakeful, paid, rests_choosing, self_apart, starts_later, tails_later, clash_of, good-choosing, keeps_turns, since_wakeful}
-use Rattle.profile_machine.specs.declared.numbers.StatementNo.{StatementNo}
-use Rattle.ann_base.specs.declared.identities.TaskNo.{TaskNo}
-use Rattle.profile_machine.specs.declared.world.tasks.Waiting.{Waiting}
-use Rattle.trace_text.specs.declared.events.Waits.{Waits}
-use Rattle.profile_machine.specs.declared.world.World.{World}
-use Rattle.profile_machine.specs.Tasking.{add_task, create_task, says_created, says_done}
-use Rattle.ceiling_runs.proofs.FreeMoves.{anywhere}
-use Rattle.profile_machine.specs.Appointments.{appoint}
-use Rattle.std.proofs.Common.{arith, cond, le_refl, subst, ◌≡◌, ◌∙◌, ◌⊎◌, ◌∷◌, ◌++◌, inl, inr, ap, refl, sym}
-use Rattle.profile_machine.specs.Rendezvous.{begin_accept, finish_without_room, meet_without_room}
-use Rattle.ceiling_runs.proofs.Kept.Rendezvous.{begin_accept-keeps, finish_without_room-keeps}
-use Rattle.profile_machine.specs.Dispatching.{block, ready, says_block, without_kept_level, word_of}
-use Rattle.ceiling_runs.proofs.FoundLemmas.{by_test, kept-others, none-left}
-use Rattle.profile_machine.specs.CallEnds.{deliver}
-use Rattle.ceiling_runs.proofs.Kept.CallEnds.{deliver-keeps}
-use Rattle.profile_machine.specs.Frames.{edit_first, edit_top, goes, goes_on}
-use Rattle.profile_machine.specs.Tasks.{edit_task, is_made, is_made_state, is_runnable_state, is_who, nobody, waiting_in, waiting_of, with_frames, task_of, with_state}
-use Rattle.ceiling_runs.proofs.SameLemmas.{edit_task-same}
-use Rattle.profile_machine.specs.Masters.{forget_task, waits_at_terminate}
-use Rattle.profile_machine.specs.Inheritance.{inherit, lose, same_cause}
-use Rattle.profile_machine.specs.Steps.{is_part_before, says, ◌▷◌, changes, looks, for_some}
-use Rattle.ceiling_places.specs.Puts.{last_put, puts, with_put}
-use Rattle.std.proofs.lemmas.Bool.{le-leb}
-use Rattle.profile_machine.specs.Program.{next_of, protected_unit_of}
-use Rattle.profile_machine.specs.Words.{option_or_else, without, same_who}
-use Rattle.ceiling_runs.proofs.Kept.Frames.{raises-keeps}
-use Rattle.ceiling_runs.proofs.Kept.Tasks.{same-alters}
-use Rattle.ceiling_places.proofs.BesideLemmas.{same-self}
-use Rattle.profile_machine.specs.Declarations.{says_object, with_object, set_thing}
-use Rattle.profile_machine.specs.Priorities.{set_or_defer_base, set_or_defer_deadline}
-use Rattle.ceiling_runs.proofs.Kept.Declarations.{set_thing-same}
-use Rattle.ceiling_runs.proofs.Kept.Waking.{who-is}
-use Rattle.profile_machine.specs.declared.world.calls.Outcome.TheVariants as call_ended
-use Rattle.trace_text.specs.declared.events.Created.TheVariants as created
-use Rattle.profile_machine.specs.declared.world.appointments.Due.TheVariants as due_for
 use Rattle.ann_base.specs.declared.exceptions.Raised.TheVariants as exception
-use Rattle.profile_machine.specs.declared.world.tasks.Cause.TheVariants as inherited_by
-use Rattle.profile_machine.specs.declared.world.lines.Line.TheVariants as line
-use Rattle.profile_machine.specs.declared.world.tasks.State as tasks
+use Rattle.ann_base.specs.declared.identities.TaskNo.{TaskNo}
+use Rattle.ceiling_places.proofs.BesideLemmas.{same-self}
+use Rattle.ceiling_places.proofs.CorePoints.{Except, Holds, Places, Point, Readies, Turns, active_in, holds-also, holds-edit, holds-of, holds-plain, holds-put, holds-sound, holds_quiet, keeps_says, not-absent, ready-holds}
+use Rattle.ceiling_places.proofs.EffectMoves.{Sleeping_in, Wakeful, base_moves, base_set_or_deferred, ceases_good, clash_of, deadline_set_or_deferred, deferred_set, dying_wakeful, ending_wakeful, good-choosing, good_wakeful, heads_later, keeps_turns, later-kept, later-rises, later-wakes, later_wakeful, lost_later, nobody-acts, owed_loses, owes_since, owing_wakeful, paid, rests_choosing, self_apart, since_wakeful, starts_later, tails_later}
+use Rattle.ceiling_places.proofs.SoundWorlds.{IsAbsent, IsThere, Sound, Unactivated, all_there, each-on, is_agent, is_fresh, known, sound-add, sound-appoint, sound-edit, sound-forget, sound-plain, sound-task, unactivated-loses, unactivated_without}
+use Rattle.ceiling_places.proofs.Standing.{Choosing, Dying, Ending, First, Fits, Good, Hidden, IsShownRightly, IsUnmade, Last, Later, Owing, Since, Sized, apart-sym, asleep-hidden, at_most-out, awake, block-put, blocked-good, fits_finish, fits_other, fits_own, limit, limit-other, nobody-runs, nobody-sleeps, out-late, place, placed-good, put-late, put-out, runs_in, sleeps_in}
+use Rattle.ceiling_places.specs.Acting.{MayBePlaced}
+use Rattle.ceiling_places.specs.PlaceLaws.{IsAtMost, level_shown}
+use Rattle.ceiling_places.specs.Puts.{last_put, puts, with_put}
+use Rattle.ceiling_runs.proofs.ActingMoves.{ActingMoves, IsNew, LaterMoves, SelectMoves}
+use Rattle.ceiling_runs.proofs.FoundLemmas.{by_test, kept-others, none-left}
+use Rattle.ceiling_runs.proofs.FreeMoves.{anywhere}
+use Rattle.ceiling_runs.proofs.Kept.CallEnds.{deliver-keeps}
+use Rattle.ceiling_runs.proofs.Kept.Declarations.{set_thing-same}
+use Rattle.ceiling_runs.proofs.Kept.Frames.{raises-keeps}
+use Rattle.ceiling_runs.proofs.Kept.Rendezvous.{begin_accept-keeps, finish_without_room-keeps}
+use Rattle.ceiling_runs.proofs.Kept.Tasks.{same-alters}
+use Rattle.ceiling_runs.proofs.Kept.Waking.{who-is}
+use Rattle.ceiling_runs.proofs.LevelMoves.{EachTask, Fitting, is_blocked}
+use Rattle.ceiling_runs.proofs.SameLemmas.{edit_task-same}
+use Rattle.ceiling_runs.proofs.Triples.{Alters, Ends, Keeps, Leads, State, With, changes-keeps, changes-leads, for_some-keeps, from-leads, looks-keeps, nothing-leads, then-keeps, then-leads}
+use Rattle.ceiling_runs.specs.Cores.{Core, Same, core}
+use Rattle.profile_machine.specs.Appointments.{appoint}
+use Rattle.profile_machine.specs.CallEnds.{deliver}
+use Rattle.profile_machine.specs.Declarations.{says_object, set_thing, with_object}
+use Rattle.profile_machine.specs.Dispatching.{block, ready, says_block, without_kept_level, word_of}
+use Rattle.profile_machine.specs.Frames.{edit_first, edit_top, goes, goes_on}
+use Rattle.profile_machine.specs.Inheritance.{inherit, lose, same_cause}
+use Rattle.profile_machine.specs.Masters.{forget_task, waits_at_terminate}
+use Rattle.profile_machine.specs.Priorities.{set_or_defer_base, set_or_defer_deadline}
+use Rattle.profile_machine.specs.Program.{next_of, protected_unit_of}
+use Rattle.profile_machine.specs.Rendezvous.{begin_accept, finish_without_room, meet_without_room}
+use Rattle.profile_machine.specs.Steps.{changes, for_some, is_part_before, looks, says, ◌▷◌}
+use Rattle.profile_machine.specs.Tasking.{add_task, create_task, says_created, says_done}
+use Rattle.profile_machine.specs.Tasks.{edit_task, is_made, is_made_state, is_runnable_state, is_who, nobody, task_of, waiting_in, waiting_of, with_frames, with_state}
+use Rattle.profile_machine.specs.Words.{option_or_else, same_who, without}
+use Rattle.profile_machine.specs.declared.image.Image.{Image}
+use Rattle.profile_machine.specs.declared.numbers.DeclNo.{DeclNo}
+use Rattle.profile_machine.specs.declared.numbers.ProtectedUnitNo.{ProtectedUnitNo}
+use Rattle.profile_machine.specs.declared.numbers.StatementNo.{StatementNo}
 use Rattle.profile_machine.specs.declared.values.Value.TheVariants as value_of
+use Rattle.profile_machine.specs.declared.world.World.{World}
+use Rattle.profile_machine.specs.declared.world.appointments.Due.TheVariants as due_for
+use Rattle.profile_machine.specs.declared.world.calls.Call.{Call}
+use Rattle.profile_machine.specs.declared.world.calls.Outcome.TheVariants as call_ended
+use Rattle.profile_machine.specs.declared.world.lines.Line.TheVariants as line
+use Rattle.profile_machine.specs.declared.world.lines.Part.{Part}
+use Rattle.profile_machine.specs.declared.world.lines.Part.TheVariants.{OfOther, Own, TheBlock, TheFinish}
+use Rattle.profile_machine.specs.declared.world.lines.Said.{Said}
+use Rattle.profile_machine.specs.declared.world.scopes.Located.{Located}
+use Rattle.profile_machine.specs.declared.world.scopes.ScopeId.{ScopeId}
+use Rattle.profile_machine.specs.declared.world.tasks.Cause.TheVariants as inherited_by
+use Rattle.profile_machine.specs.declared.world.tasks.State as tasks
+use Rattle.profile_machine.specs.declared.world.tasks.State.TheVariants.{Blocked, Made, Runnable}
+use Rattle.profile_machine.specs.declared.world.tasks.Task.{Task}
+use Rattle.profile_machine.specs.declared.world.tasks.Waiting.{Waiting}
 use Rattle.profile_machine.specs.declared.world.tasks.Waiting.TheVariants as waits_for
+use Rattle.std.proofs.Common.{ap, arith, cond, inl, inr, le_refl, refl, subst, sym, ◌++◌, ◌∙◌, ◌∷◌, ◌≡◌, ◌⊎◌}
+use Rattle.std.proofs.lemmas.Bool.{le-leb}
+use Rattle.std.specs.Prelude.{Bool, List, None, Option, Some, [], false, find, leb, suc, true, ℕ, ℤ, ◌-◌}
+use Rattle.trace_text.specs.Laws.{Levels}
+use Rattle.trace_text.specs.declared.events.Created.TheVariants as created
+use Rattle.trace_text.specs.declared.events.Waits.{Waits}
+use Rattle.trace_text.specs.declared.events.Who.{Who}
 use Rattle.trace_text.specs.declared.events.Who.TheVariants as who
 
 made-apart : {P : Type 0} (state : tasks.State) → is_made_state state ≡ true → is_runnable_state state ≡ true → P
@@ -461,8 +461,7 @@ module _ (p : Image) (s : Levels) (a : Who) where
   made_places v name made = record {
     others = λ d n c l apart h. (h, (λ same. clash_of (same_who n name) same apart), made);
     own = λ d c l h.
-        let out = put-out (OfOther name) l (level_shown name s) (subst (λ q. MayBePlaced q l) (limit-other p s a name made.other) h.0.0.late) in
-        (
+        let out = put-out (OfOther name) l (level_shown name s) (subst (λ q. MayBePlaced q l) (limit-other p s a name made.other) h.0.0.late) in (
           (
             (
               record {
@@ -502,8 +501,7 @@ module _ (p : Image) (s : Levels) (a : Who) where
       holds-forget (Ending p s a v name) (Since p s a v) name (record {
         others = λ d n c l apart h. h.0;
         task = λ d c l task h.
-            let hidden = h.1 (same-self name) in
-            (
+            let hidden = h.1 (same-self name) in (
               (record { late = h.0.0.0.late; low = at_most-out (place p s a name l) (active_in p (core nobody)) hidden; shown = inr (inl hidden); fresh = λ e. hidden }, λ same. clash_of (same_who name a) same h.2.other),
               h.0.1,
               λ sleeps. nobody-sleeps sleeps,
@@ -518,8 +516,7 @@ module _ (p : Image) (s : Levels) (a : Who) where
   last_places t is = record {
     others = λ d n c l apart h. ((λ e. h.0), (λ same. clash_of (same_who n a) same (ap (same_who n) (sym is) ∙ apart)));
     own = λ d c l h.
-        let acts = h.1 (ap (same_who (who.Task t)) (sym is) ∙ same-self (who.Task t)) in
-        (
+        let acts = h.1 (ap (same_who (who.Task t)) (sym is) ∙ same-self (who.Task t)) in (
           (λ apart. clash_of (same_who (who.Task t) a) (ap (same_who (who.Task t)) (sym is) ∙ same-self (who.Task t)) apart),
           (λ same. record {
             late = put-late (limit p s a (who.Task t)) Own l None (fits_own p s a (who.Task t)) h.0.late;
@@ -601,8 +598,7 @@ module _ (p : Image) (s : Levels) (a : Who) where
 
   added-is : (d : ℕ) (n : Who) (t : Task) (before : Core) (l : Last) → t.who ≡ who.Task (record { 0 = d }) → same_who n t.who ≡ true → before ≡ core nobody → First p s a d n before l → Later p s a (suc d) n (core t) l
   added-is d n t before l numbered named was h =
-      let hidden = h.0.fresh (ap (is_fresh d) (who-is n t.who named ∙ numbered) ∙ fresh-next d) in
-      (
+      let hidden = h.0.fresh (ap (is_fresh d) (who-is n t.who named ∙ numbered) ∙ fresh-next d) in (
         record { late = h.0.late; low = at_most-out (place p s a n l) (active_in p (core t)) hidden; shown = inr (inl hidden); fresh = λ e. hidden },
         λ same. nobody-runs (subst (λ c. runs_in c ≡ true) was (h.1 same).1),
       )
@@ -645,9 +641,9 @@ module _ (p : Image) (s : Levels) (a : Who) where
   meeting_wakeful t = record {
     rises = λ d n u l i named h. (later-rises p s a d n u l i named h.0, h.1);
     wakes = λ part d n c e l is drawn sleeps runs h. (
-        later-wakes p s a part d n c e l (finish_fits part n is) drawn sleeps runs h.0,
-        λ same. (put-late TheFinish part l (Some (active_in p e)) (ap (is_part_before TheFinish) is) (h.1 same).0, drawn),
-      );
+      later-wakes p s a part d n c e l (finish_fits part n is) drawn sleeps runs h.0,
+      λ same. (put-late TheFinish part l (Some (active_in p e)) (ap (is_part_before TheFinish) is) (h.1 same).0, drawn),
+    );
   }
 
   asleep-drawn : (n : Who) (w : World) → sleeps_in (core (task_of w n)) ≡ true → IsAbsent n (core (task_of w n)) ⊎ (is_fresh w.drawn.tasks n ≡ false) → is_fresh w.drawn.tasks n ≡ false
@@ -658,10 +654,13 @@ module _ (p : Image) (s : Levels) (a : Who) where
   unfolding Holds Meeting
   meeting_starts t w said h sleeps = (
     h.0,
-    λ n. (h.1 n, λ same. let asleep : sleeps_in (core (task_of w n)) ≡ true = ap (λ m. is_blocked (task_of w m).state) (who-is n (who.Task t) same) ∙ sleeps in (
+    λ n. (
+      h.1 n,
+      λ same. let asleep : sleeps_in (core (task_of w n)) ≡ true = ap (λ m. is_blocked (task_of w m).state) (who-is n (who.Task t) same) ∙ sleeps in (
         out-late TheFinish (last_put n said) (level_shown n s) (asleep-hidden p s a n (core (task_of w n)) (last_put n said) (h.1 n).0.shown asleep),
         asleep-drawn n w asleep (known w n h.0),
-      )),
+      ),
+    ),
   )
 
   record Met (name : Who) (d : ℕ) (c : Core) (l : Last) : Type 0 where

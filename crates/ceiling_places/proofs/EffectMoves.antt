@@ -1,47 +1,47 @@
 -- What each step of an effect makes of places: all that an effect keeps.
-use Rattle.ceiling_runs.proofs.Kept.Tasks.{edit_task-alters}
-use Rattle.profile_machine.specs.Program.{has_edf}
-use Rattle.profile_machine.specs.Frames.{in_protected}
-use Rattle.profile_machine.specs.declared.world.tasks.State.TheVariants.{Blocked, Made, Runnable}
-use Rattle.profile_machine.specs.declared.world.tasks.Cause.{Cause}
-use Rattle.profile_machine.specs.declared.image.Image.{Image}
-use Rattle.profile_machine.specs.declared.world.tasks.Inherited.{Inherited}
-use Rattle.ceiling_places.specs.PlaceLaws.{IsAtMost}
-use Rattle.profile_machine.specs.declared.world.tasks.Task.{Task}
-use Rattle.trace_text.specs.declared.events.Who.{Who}
-use Rattle.ceiling_places.proofs.Standing.{Fits, Acting, Bare, Choosing, Dying, Ending, First, IsShownRightly, IsUnmade, Loose, Owing, Since, acting-placed, acts_early, at_most-out, awake, blocked-put, fits_limit, limit, limit-actor, nobody-runs, nobody-sleeps, placed-good, runs_in, sleeps_in, woken-good, Good, Hidden, Last, place, Later, Owes}
-use Rattle.ceiling_runs.proofs.Triples.{At, Keeps, Leads, State, With, changes-keeps, changes-leads, from-leads, from_at, looks-keeps, looks-leads, looks-with, nothing-keeps, nothing-leads, then-keeps, then-leads, when-keeps, when-leads, branch-leads}
-use Rattle.ceiling_runs.proofs.LevelMoves.{BaseMoves, Fitting, Sleeping, is_blocked}
-use Rattle.std.specs.Prelude.{Bool, List, Option, not, ℤ, ℕ, None, Some, false, true}
-use Rattle.ceiling_places.proofs.CorePoints.{Holds, Knowing, Places, Point, Readies, at_active, core-plain, holds-also, holds-edit, holds-knowing, holds-of, holds-sound, keeps_says, not-absent, ready-holds, state-kept, to_head-holds, to_tail-holds, Turns, active_in, holds_quiet}
-use Rattle.ceiling_places.proofs.SoundWorlds.{IsAbsent, Sound, Unactivated, is_fresh, known, sound-edit, unactivated_without, is_agent}
-use Rattle.trace_text.specs.Laws.{Levels}
-use Rattle.profile_machine.specs.declared.world.lines.Part.{Part}
-use Rattle.profile_machine.specs.declared.world.lines.Said.{Said}
-use Rattle.ceiling_runs.specs.Cores.{Same, Core, core}
-use Rattle.profile_machine.specs.Steps.{Step, when, changes}
-use Rattle.profile_machine.specs.declared.world.lines.Part.TheVariants.{TheBlock, ThePlacing}
-use Rattle.profile_machine.specs.declared.world.World.{World}
-use Rattle.profile_machine.specs.Dispatching.{active_of, ready, to_head, to_tail}
-use Rattle.std.proofs.Common.{ap, arith, ltb, refl, subst, ◌≡◌, ◌∙◌, ◌⊎◌, ◌≤◌, ◌∷◌, ◌&&◌, inl, inr, sym}
 use Rattle.ceiling_places.proofs.ActingLemmas.{at_most-risen}
-use Rattle.ceiling_runs.proofs.FoundLemmas.{by_test}
-use Rattle.ceiling_runs.proofs.CoreLemmas.{core-same}
-use Rattle.profile_machine.specs.Priorities.{defer_base, defer_deadline, is_runnable_at_edf, placing_of, replace_in, reprioritize_own, says_base, says_deadline, set_base, set_deadline, set_deferred, set_or_defer_base, set_or_defer_deadline, take_base, take_deadline}
-use Rattle.profile_machine.specs.Scopes.{end_scope}
-use Rattle.profile_machine.specs.Tasking.{fall_from}
-use Rattle.profile_machine.specs.Inheritance.{falls, inherit, lose, lose_running, same_cause}
-use Rattle.profile_machine.specs.Tasks.{is_runnable_state, nobody, task_of, edit_task}
-use Rattle.ceiling_places.specs.Puts.{last_put, with_put}
-use Rattle.std.proofs.Math.Nat.{le-max_right}
-use Rattle.profile_machine.specs.Masters.{part_of}
-use Rattle.ceiling_runs.proofs.Kept.Priorities.{reprioritize_own-keeps, says_deadline-keeps}
 use Rattle.ceiling_places.proofs.BesideLemmas.{same-self}
+use Rattle.ceiling_places.proofs.CorePoints.{Holds, Knowing, Places, Point, Readies, Turns, active_in, at_active, core-plain, holds-also, holds-edit, holds-knowing, holds-of, holds-sound, holds_quiet, keeps_says, not-absent, ready-holds, state-kept, to_head-holds, to_tail-holds}
+use Rattle.ceiling_places.proofs.SoundWorlds.{IsAbsent, Sound, Unactivated, is_agent, is_fresh, known, sound-edit, unactivated_without}
+use Rattle.ceiling_places.proofs.Standing.{Acting, Bare, Choosing, Dying, Ending, First, Fits, Good, Hidden, IsShownRightly, IsUnmade, Last, Later, Loose, Owes, Owing, Since, acting-placed, acts_early, at_most-out, awake, blocked-put, fits_limit, limit, limit-actor, nobody-runs, nobody-sleeps, place, placed-good, runs_in, sleeps_in, woken-good}
+use Rattle.ceiling_places.specs.PlaceLaws.{IsAtMost}
+use Rattle.ceiling_places.specs.Puts.{last_put, with_put}
+use Rattle.ceiling_runs.proofs.CoreLemmas.{core-same}
+use Rattle.ceiling_runs.proofs.FoundLemmas.{by_test}
+use Rattle.ceiling_runs.proofs.Kept.Priorities.{reprioritize_own-keeps, says_deadline-keeps}
+use Rattle.ceiling_runs.proofs.Kept.Tasks.{edit_task-alters}
 use Rattle.ceiling_runs.proofs.Kept.Waking.{who-is}
-use Rattle.profile_machine.specs.Words.{without, same_who}
-use Rattle.profile_machine.specs.declared.world.tasks.Cause.TheVariants as inherited_by
+use Rattle.ceiling_runs.proofs.LevelMoves.{BaseMoves, Fitting, Sleeping, is_blocked}
+use Rattle.ceiling_runs.proofs.Triples.{At, Keeps, Leads, State, With, branch-leads, changes-keeps, changes-leads, from-leads, from_at, looks-keeps, looks-leads, looks-with, nothing-keeps, nothing-leads, then-keeps, then-leads, when-keeps, when-leads}
+use Rattle.ceiling_runs.specs.Cores.{Core, Same, core}
+use Rattle.profile_machine.specs.Dispatching.{active_of, ready, to_head, to_tail}
+use Rattle.profile_machine.specs.Frames.{in_protected}
+use Rattle.profile_machine.specs.Inheritance.{falls, inherit, lose, lose_running, same_cause}
+use Rattle.profile_machine.specs.Masters.{part_of}
+use Rattle.profile_machine.specs.Priorities.{defer_base, defer_deadline, is_runnable_at_edf, placing_of, replace_in, reprioritize_own, says_base, says_deadline, set_base, set_deadline, set_deferred, set_or_defer_base, set_or_defer_deadline, take_base, take_deadline}
+use Rattle.profile_machine.specs.Program.{has_edf}
+use Rattle.profile_machine.specs.Scopes.{end_scope}
+use Rattle.profile_machine.specs.Steps.{Step, changes, when}
+use Rattle.profile_machine.specs.Tasking.{fall_from}
+use Rattle.profile_machine.specs.Tasks.{edit_task, is_runnable_state, nobody, task_of}
+use Rattle.profile_machine.specs.Words.{same_who, without}
+use Rattle.profile_machine.specs.declared.image.Image.{Image}
+use Rattle.profile_machine.specs.declared.world.World.{World}
 use Rattle.profile_machine.specs.declared.world.lines.Line.TheVariants as line
+use Rattle.profile_machine.specs.declared.world.lines.Part.{Part}
+use Rattle.profile_machine.specs.declared.world.lines.Part.TheVariants.{TheBlock, ThePlacing}
+use Rattle.profile_machine.specs.declared.world.lines.Said.{Said}
+use Rattle.profile_machine.specs.declared.world.tasks.Cause.{Cause}
+use Rattle.profile_machine.specs.declared.world.tasks.Cause.TheVariants as inherited_by
+use Rattle.profile_machine.specs.declared.world.tasks.Inherited.{Inherited}
 use Rattle.profile_machine.specs.declared.world.tasks.State as tasks
+use Rattle.profile_machine.specs.declared.world.tasks.State.TheVariants.{Blocked, Made, Runnable}
+use Rattle.profile_machine.specs.declared.world.tasks.Task.{Task}
+use Rattle.std.proofs.Common.{ap, arith, inl, inr, ltb, refl, subst, sym, ◌&&◌, ◌∙◌, ◌∷◌, ◌≡◌, ◌≤◌, ◌⊎◌}
+use Rattle.std.proofs.Math.Nat.{le-max_right}
+use Rattle.std.specs.Prelude.{Bool, List, None, Option, Some, false, not, true, ℕ, ℤ}
+use Rattle.trace_text.specs.Laws.{Levels}
+use Rattle.trace_text.specs.declared.events.Who.{Who}
 use Rattle.trace_text.specs.declared.events.Who.TheVariants as who
 
 abbrev pub Sleeping_in : Sleeping
@@ -179,13 +179,13 @@ module _ (p : Image) (s : Levels) (a : Who) where
   pub owing_wakeful : (before : World) → Wakeful p (Fits p s a) (Owing p s a before)
   owing_wakeful before = record {
     rises = λ d n t l i named h. (
-        (λ apart. good-rises d n t l i named (h.0 apart)),
-        (λ same. let o = h.1 same in record { late = o.late; low = o.low; acting = acting-kept d n (core t) (core (record t { inherited = i ∷ t.inherited })) l refl o.acting }),
-      );
+      (λ apart. good-rises d n t l i named (h.0 apart)),
+      (λ same. let o = h.1 same in record { late = o.late; low = o.low; acting = acting-kept d n (core t) (core (record t { inherited = i ∷ t.inherited })) l refl o.acting }),
+    );
     wakes = λ part d n c e l fits drawn sleeps runs h. (
-        (λ apart. good-wakes part d n c e l fits drawn sleeps runs (h.0 apart)),
-        (λ same. owed-wakes before part d n c e l fits drawn same sleeps runs (h.1 same).acting.1 (h.1 same)),
-      );
+      (λ apart. good-wakes part d n c e l fits drawn sleeps runs (h.0 apart)),
+      (λ same. owed-wakes before part d n c e l fits drawn same sleeps runs (h.1 same).acting.1 (h.1 same)),
+    );
   }
 
   pub since_wakeful : (v : World) → Wakeful p (Fits p s a) (Since p s a v)
@@ -203,10 +203,10 @@ module _ (p : Image) (s : Levels) (a : Who) where
   ending_wakeful v name = record {
     rises = λ d n t l i named h. ((later-rises d n t l i named h.0.0, h.0.1, h.0.2), h.1, h.2);
     wakes = λ part d n c e l fits drawn sleeps runs h. (
-        (later-wakes part d n c e l fits drawn sleeps runs h.0.0, h.0.1, λ slept. awake e runs slept),
-        (λ same. clash_of (same_who n name) same (ended-apart v name n (h.0.2 sleeps) h.2)),
-        h.2,
-      );
+      (later-wakes part d n c e l fits drawn sleeps runs h.0.0, h.0.1, λ slept. awake e runs slept),
+      (λ same. clash_of (same_who n name) same (ended-apart v name n (h.0.2 sleeps) h.2)),
+      h.2,
+    );
   }
 
   pub gone-rises : (d : ℕ) (n : Who) (t : Task) (l : Last) (i : Inherited) → Hidden p s a n l ⊎ ((is_agent n ≡ true) × IsAtMost (place p s a n l) (active_in p (core t))) → Hidden p s a n l ⊎ ((is_agent n ≡ true) × IsAtMost (place p s a n l) (active_in p (core (record t { inherited = i ∷ t.inherited }))))
@@ -216,13 +216,13 @@ module _ (p : Image) (s : Levels) (a : Who) where
   pub dying_wakeful : Wakeful p (Fits p s a) (Dying p s a)
   dying_wakeful = record {
     rises = λ d n t l i named h. (
-        (λ apart. good-rises d n t l i named (h.0 apart)),
-        (λ same. let o = h.1 same in record { late = o.late; runs = o.runs; fresh = o.fresh; gone = gone-rises d n t l i o.gone }),
-      );
+      (λ apart. good-rises d n t l i named (h.0 apart)),
+      (λ same. let o = h.1 same in record { late = o.late; runs = o.runs; fresh = o.fresh; gone = gone-rises d n t l i o.gone }),
+    );
     wakes = λ part d n c e l fits drawn sleeps runs h. (
-        (λ apart. good-wakes part d n c e l fits drawn sleeps runs (h.0 apart)),
-        (λ same. awake c (h.1 same).runs sleeps),
-      );
+      (λ apart. good-wakes part d n c e l fits drawn sleeps runs (h.0 apart)),
+      (λ same. awake c (h.1 same).runs sleeps),
+    );
   }
 
   -- ---- modes that lead to others
@@ -279,15 +279,15 @@ module _ (p : Image) (s : Levels) (a : Who) where
   loose_turns name f named same = record {
     others = λ d n c l apart h. ((λ e. h), (λ is. clash_of (same_who n name) is apart));
     own = λ d t l is h. (
-        (λ apart. self_apart name apart),
-        (λ self. record {
-          late = h.0.late;
-          shown = shown-kept name t (core (f t)) l is (same t) h.0.shown;
-          fresh = h.0.fresh;
-          absent = λ absent. not-absent name t f is (named t) absent;
-          acting = λ acts. acting-kept d name (core t) (core (f t)) l (same t) (h.1 acts);
-        }),
-      );
+      (λ apart. self_apart name apart),
+      (λ self. record {
+        late = h.0.late;
+        shown = shown-kept name t (core (f t)) l is (same t) h.0.shown;
+        fresh = h.0.fresh;
+        absent = λ absent. not-absent name t f is (named t) absent;
+        acting = λ acts. acting-kept d name (core t) (core (f t)) l (same t) (h.1 acts);
+      }),
+    );
     missed = λ d l task h. ((λ apart. self_apart name apart), (λ self. later-bare d name (core nobody) l h));
   }
 
@@ -457,13 +457,13 @@ module _ (p : Image) (s : Levels) (a : Who) where
   owes_since w said h = (
     h.0,
     λ n. (
-        (λ apart. (h.1 n).0),
-        (λ same. record {
-          late = (h.1 n).0.late;
-          low = subst (λ m. IsAtMost (place p s a n (last_put n said)) (active_of p w m)) (who-is n a same) (h.1 n).0.low;
-          acting = (h.1 n).1 same;
-        }),
-      ),
+      (λ apart. (h.1 n).0),
+      (λ same. record {
+        late = (h.1 n).0.late;
+        low = subst (λ m. IsAtMost (place p s a n (last_put n said)) (active_of p w m)) (who-is n a same) (h.1 n).0.low;
+        acting = (h.1 n).1 same;
+      }),
+    ),
   )
 
   pub owed_loses : (before w : World) (said : List Said) → Holds (Owing p s a before) w said → Holds (Owing p s a before) (lose a inherited_by.Activation w) said

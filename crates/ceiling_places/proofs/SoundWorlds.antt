@@ -1,30 +1,30 @@
 -- What of a world stays sound: its tasks bear numbers of tasks, each another, and only numbers that were drawn; for no other task a
-use Rattle.profile_machine.specs.declared.world.tasks.Task.{Task}
-use Rattle.trace_text.specs.declared.events.Who.{Who}
-use Rattle.profile_machine.specs.declared.world.World.{World}
-use Rattle.profile_machine.specs.declared.world.appointments.Appointment.{Appointment}
-use Rattle.std.specs.Prelude.{Bool, Option, eqb, find, int_lt, leb, not, ℤ, List, suc, ℕ, None, Some, [], false, true}
-use Rattle.ceiling_runs.proofs.LevelMoves.{EachTask}
-use Rattle.profile_machine.specs.declared.world.tasks.Inherited.{Inherited}
-use Rattle.ceiling_runs.specs.Cores.{Same, core, is_delayed, Core}
+-- moment is appointed; and the agent was activated by nobody.
 use Rattle.ann_base.specs.declared.identities.TaskNo.{TaskNo}
-use Rattle.profile_machine.specs.Tasking.{add_task}
-use Rattle.std.proofs.Common.{ap, arith, cond, le_refl, le_trans, map, refl, subst, sym, ◌≡◌, ◌∙◌, ◌⊎◌, ◌≤◌, ◌∷◌, ◌++◌, ◌||◌, inl, inr}
-use Rattle.profile_machine.specs.Appointments.{appoint, put_appointment, is_delay_of}
-use Rattle.profile_machine.specs.Tasks.{edit_task, edit_task_found, is_who, nobody, task_at, task_of}
-use Rattle.profile_machine.specs.Masters.{forget_task}
+use Rattle.ceiling_places.proofs.BesideLemmas.{same-self}
 use Rattle.ceiling_runs.proofs.Kept.Waking.{found-each, who-is}
+use Rattle.ceiling_runs.proofs.LevelMoves.{EachTask}
 use Rattle.ceiling_runs.proofs.SameLemmas.{found_is_who, set_where-seen}
-use Rattle.std.proofs.lemmas.Bool.{le-leb}
-use Rattle.std.specs.List.{list_any}
+use Rattle.ceiling_runs.specs.Cores.{Core, Same, core, is_delayed}
+use Rattle.profile_machine.specs.Appointments.{appoint, is_delay_of, put_appointment}
+use Rattle.profile_machine.specs.Inheritance.{same_cause}
+use Rattle.profile_machine.specs.Masters.{forget_task}
+use Rattle.profile_machine.specs.Tasking.{add_task}
+use Rattle.profile_machine.specs.Tasks.{edit_task, edit_task_found, is_who, nobody, task_at, task_of}
 use Rattle.profile_machine.specs.WellFormed.{number_in}
 use Rattle.profile_machine.specs.Words.{option_or_else, same_task, same_who, without}
-use Rattle.ceiling_places.proofs.BesideLemmas.{same-self}
-use Rattle.profile_machine.specs.Inheritance.{same_cause}
+use Rattle.profile_machine.specs.declared.world.World.{World}
+use Rattle.profile_machine.specs.declared.world.appointments.Appointment.{Appointment}
 use Rattle.profile_machine.specs.declared.world.appointments.Due.TheVariants as due_for
 use Rattle.profile_machine.specs.declared.world.tasks.Cause.TheVariants as inherited_by
+use Rattle.profile_machine.specs.declared.world.tasks.Inherited.{Inherited}
+use Rattle.profile_machine.specs.declared.world.tasks.Task.{Task}
+use Rattle.std.proofs.Common.{ap, arith, cond, inl, inr, le_refl, le_trans, map, refl, subst, sym, ◌++◌, ◌||◌, ◌∙◌, ◌∷◌, ◌≡◌, ◌≤◌, ◌⊎◌}
+use Rattle.std.proofs.lemmas.Bool.{le-leb}
+use Rattle.std.specs.List.{list_any}
+use Rattle.std.specs.Prelude.{Bool, List, None, Option, Some, [], eqb, false, find, int_lt, leb, not, suc, true, ℕ, ℤ}
+use Rattle.trace_text.specs.declared.events.Who.{Who}
 use Rattle.trace_text.specs.declared.events.Who.TheVariants as who
--- moment is appointed; and the agent was activated by nobody.
 
 -- ---- names
 

@@ -1,31 +1,31 @@
 -- Where an effect leaves somebody: at or below its active priority, and nowhere where it is not ready.
-use Rattle.profile_machine.specs.declared.world.tasks.State.TheVariants.{Blocked, Made, Runnable}
-use Rattle.profile_machine.specs.declared.world.lines.Part.TheVariants.{OfOther, Own, TheBlock, TheCall, TheFinish, ThePlacing}
-use Rattle.std.specs.Prelude.{Bool, Option, ℕ, None, Some, false, true}
-use Rattle.ceiling_runs.specs.Cores.{Core, core}
-use Rattle.ceiling_places.proofs.CorePoints.{Except, Point, active_in}
-use Rattle.ceiling_runs.proofs.LevelMoves.{Fitting, is_blocked}
-use Rattle.profile_machine.specs.declared.image.Image.{Image}
-use Rattle.ceiling_places.proofs.SoundWorlds.{IsAbsent, is_agent, is_fresh}
-use Rattle.ceiling_places.specs.PlaceLaws.{IsAtMost, level_shown}
-use Rattle.trace_text.specs.Laws.{Levels}
-use Rattle.ceiling_places.specs.Acting.{MayBePlaced}
-use Rattle.profile_machine.specs.declared.world.lines.Part.{Part}
-use Rattle.trace_text.specs.declared.events.Who.{Who}
-use Rattle.profile_machine.specs.declared.world.World.{World}
-use Rattle.profile_machine.specs.Dispatching.{active_of}
-use Rattle.std.proofs.Common.{ap, arith, cond, le_refl, ltb, refl, subst, sym, ◌≡◌, ◌∙◌, ◌⊎◌, inl, inr}
 use Rattle.ceiling_places.proofs.ActingLemmas.{block-last}
+use Rattle.ceiling_places.proofs.BesideLemmas.{same-self}
+use Rattle.ceiling_places.proofs.CorePoints.{Except, Point, active_in}
+use Rattle.ceiling_places.proofs.SoundWorlds.{IsAbsent, is_agent, is_fresh}
+use Rattle.ceiling_places.specs.Acting.{MayBePlaced}
+use Rattle.ceiling_places.specs.PlaceLaws.{IsAtMost, level_shown}
+use Rattle.ceiling_places.specs.Puts.{place_by, with_put}
 use Rattle.ceiling_runs.proofs.FoundLemmas.{by_test}
+use Rattle.ceiling_runs.proofs.Kept.Waking.{who-is}
+use Rattle.ceiling_runs.proofs.LevelMoves.{Fitting, is_blocked}
+use Rattle.ceiling_runs.specs.Cores.{Core, core}
+use Rattle.profile_machine.specs.Dispatching.{active_of}
+use Rattle.profile_machine.specs.Masters.{part_of, waits_at_terminate}
+use Rattle.profile_machine.specs.Priorities.{placing_of}
 use Rattle.profile_machine.specs.Steps.{is_numbered_before, is_part_before}
 use Rattle.profile_machine.specs.Tasks.{is_runnable_state, nobody, task_of, waiting_in}
-use Rattle.profile_machine.specs.Masters.{part_of, waits_at_terminate}
-use Rattle.ceiling_places.specs.Puts.{place_by, with_put}
-use Rattle.profile_machine.specs.Priorities.{placing_of}
-use Rattle.ceiling_places.proofs.BesideLemmas.{same-self}
 use Rattle.profile_machine.specs.Words.{same_who}
-use Rattle.ceiling_runs.proofs.Kept.Waking.{who-is}
+use Rattle.profile_machine.specs.declared.image.Image.{Image}
+use Rattle.profile_machine.specs.declared.world.World.{World}
+use Rattle.profile_machine.specs.declared.world.lines.Part.{Part}
+use Rattle.profile_machine.specs.declared.world.lines.Part.TheVariants.{OfOther, Own, TheBlock, TheCall, TheFinish, ThePlacing}
 use Rattle.profile_machine.specs.declared.world.tasks.State as tasks
+use Rattle.profile_machine.specs.declared.world.tasks.State.TheVariants.{Blocked, Made, Runnable}
+use Rattle.std.proofs.Common.{ap, arith, cond, inl, inr, le_refl, ltb, refl, subst, sym, ◌∙◌, ◌≡◌, ◌⊎◌}
+use Rattle.std.specs.Prelude.{Bool, None, Option, Some, false, true, ℕ}
+use Rattle.trace_text.specs.Laws.{Levels}
+use Rattle.trace_text.specs.declared.events.Who.{Who}
 use Rattle.trace_text.specs.declared.events.Who.TheVariants as who
 
 abbrev pub Last : Type 0

@@ -1,61 +1,61 @@
 -- Before each instant of every run, and behind it, everybody who is shown stands at or below its active priority, and who is not
-use Rattle.profile_machine.specs.declared.world.lines.Part.TheVariants.{Own}
-use Rattle.trace_text.specs.declared.events.Entry.{Entry}
-use Rattle.profile_machine.specs.declared.world.tasks.Task.{Task}
-use Rattle.trace_text.specs.declared.events.Who.{Who}
-use Rattle.profile_machine.specs.declared.world.World.{World}
-use Rattle.ceiling_runs.proofs.Kept.Instant.{Appointing, OtherMoves}
-use Rattle.std.specs.Prelude.{Bool, List, ℕ, ℤ, Option, None, Some, [], false, true}
-use Rattle.ceiling_runs.specs.Cores.{Core, core}
-use Rattle.ceiling_runs.proofs.ActingMoves.{Either}
-use Rattle.trace_text.specs.declared.events.Event.{Event}
-use Rattle.ceiling_places.proofs.Standing.{First, Fits, Last, Later, fits_own, limit, place, placed-good, Good, runs_in}
-use Rattle.tick_lines.proofs.LineByLine.{Follow}
-use Rattle.ceiling_places.proofs.CorePoints.{Holds, Knowing, Places, Point, Readies, active_in, at_active, core-plain, holds-also, holds-knowing, holds-sound, holds_quiet, keeps_says, not-absent, ready-holds, to_tail-holds}
-use Rattle.profile_machine.specs.declared.image.Image.{Image}
-use Rattle.ceiling_places.proofs.SoundWorlds.{IsAbsent, Sound, known, sound-plain, sound-same, is_fresh}
-use Rattle.ceiling_places.specs.PlaceLaws.{IsAtMost, RunsKeepCeilings, RunsPlaceAtMostActive, RunsShowWhoIsReady, level_in, level_shown}
-use Rattle.profile_machine.specs.declared.run_data.Item.{Item}
-use Rattle.ceiling_runs.proofs.Triples.{Leads, With, changes-keeps, from-leads, then-leads}
-use Rattle.ceiling_places.specs.Acting.{MayBePlaced}
-use Rattle.profile_machine.specs.Steps.{Move, changes, is_part_before, placed_by, rests, settles, ◌▶◌, says}
-use Rattle.ceiling_runs.proofs.RunLemmas.{Others, Settles, behind_onward, settles_onward}
-use Rattle.ceiling_places.proofs.BesideLemmas.{OwnPut, any_event, same-self, seen-told}
-use Rattle.profile_machine.specs.declared.world.lines.Part.{Part}
-use Rattle.profile_machine.specs.declared.world.lines.Said.{Said}
-use Rattle.ceiling_places.proofs.EffectMoves.{Sleeping_in, Wakeful, base_moves, ceases_good, clash_of, good-rises, good-wakes, runs-drawn}
-use Rattle.ann_base.specs.declared.identities.TaskNo.{TaskNo}
-use Rattle.ceiling_runs.specs.RunLaws.{Tells, levels_told, told_first, told_on}
-use Rattle.profile_machine.specs.Dispatching.{active_of, ready, to_tail}
-use Rattle.std.proofs.Common.{ap, cond, le_refl, refl, subst, sym, ◌≡◌, ◌∙◌, ◌⊎◌, ◌≤◌, ◌∷◌, ◌++◌, inl, inr}
-use Rattle.profile_machine.specs.Run.{blank_world, environment, opening, opens, tock}
-use Rattle.profile_machine.specs.Instant.{budgets_due, effect, effect_of_runner, events_due, finish_action, instant, is_over, moments_due, quantum_spent, script_items, timers_due}
-use Rattle.ceiling_runs.proofs.FoundLemmas.{by_test}
-use Rattle.ceiling_runs.proofs.CoreLemmas.{core-same}
-use Rattle.ceiling_runs.proofs.Kept.Act.{effect-leads}
-use Rattle.ceiling_places.proofs.EffectKeeps.{effect_moves, begun_runs}
-use Rattle.ceiling_places.proofs.QueueLemmas.{effects_place_by_the_last}
-use Rattle.trace_text.specs.Queue.{entry_of}
-use Rattle.ceiling_runs.proofs.SameLemmas.{found_is_who}
-use Rattle.profile_machine.specs.Tasks.{is_runnable, nobody, task_at, task_of}
-use Rattle.ceiling_places.specs.Puts.{last_put, with_put}
-use Rattle.ceiling_places.proofs.TockPlaces.{levels-append, tock_lines-entries}
-use Rattle.machine_laws.proofs.Moves.{lines_of}
-use Rattle.trace_text.specs.Laws.{no_levels, see_levels, Levels}
-use Rattle.profile_machine.specs.Scopes.{open_scope, plainly}
-use Rattle.ceiling_runs.proofs.Kept.Scopes.{open_scope-alters}
-use Rattle.ceiling_runs.proofs.Kept.Frames.{open_sequence-keeps}
-use Rattle.profile_machine.specs.Words.{option_or_else}
-use Rattle.ceiling_runs.proofs.WholeRuns.{places_keep_ceilings}
-use Rattle.ceiling_runs.proofs.TockLemmas.{tock-same}
-use Rattle.machine_laws.proofs.LineLemmas.{tocks_say_ticks}
-use Rattle.ceiling_runs.proofs.Kept.Waking.{who-is}
-use Rattle.ceiling_runs.proofs.ShownPlaces.{who_acts_is_shown}
-use Rattle.trace_text.specs.declared.events.Created.TheVariants as created
-use Rattle.profile_machine.specs.declared.world.lines.Line.TheVariants as line
-use Rattle.profile_machine.specs.declared.world.marks.Purpose.TheVariants as opened_for
-use Rattle.trace_text.specs.declared.events.Who.TheVariants as who
 -- ready is not shown.
+use Rattle.ann_base.specs.declared.identities.TaskNo.{TaskNo}
+use Rattle.ceiling_places.proofs.BesideLemmas.{OwnPut, any_event, same-self, seen-told}
+use Rattle.ceiling_places.proofs.CorePoints.{Holds, Knowing, Places, Point, Readies, active_in, at_active, core-plain, holds-also, holds-knowing, holds-sound, holds_quiet, keeps_says, not-absent, ready-holds, to_tail-holds}
+use Rattle.ceiling_places.proofs.EffectKeeps.{begun_runs, effect_moves}
+use Rattle.ceiling_places.proofs.EffectMoves.{Sleeping_in, Wakeful, base_moves, ceases_good, clash_of, good-rises, good-wakes, runs-drawn}
+use Rattle.ceiling_places.proofs.QueueLemmas.{effects_place_by_the_last}
+use Rattle.ceiling_places.proofs.SoundWorlds.{IsAbsent, Sound, is_fresh, known, sound-plain, sound-same}
+use Rattle.ceiling_places.proofs.Standing.{First, Fits, Good, Last, Later, fits_own, limit, place, placed-good, runs_in}
+use Rattle.ceiling_places.proofs.TockPlaces.{levels-append, tock_lines-entries}
+use Rattle.ceiling_places.specs.Acting.{MayBePlaced}
+use Rattle.ceiling_places.specs.PlaceLaws.{IsAtMost, RunsKeepCeilings, RunsPlaceAtMostActive, RunsShowWhoIsReady, level_in, level_shown}
+use Rattle.ceiling_places.specs.Puts.{last_put, with_put}
+use Rattle.ceiling_runs.proofs.ActingMoves.{Either}
+use Rattle.ceiling_runs.proofs.CoreLemmas.{core-same}
+use Rattle.ceiling_runs.proofs.FoundLemmas.{by_test}
+use Rattle.ceiling_runs.proofs.Kept.Act.{effect-leads}
+use Rattle.ceiling_runs.proofs.Kept.Frames.{open_sequence-keeps}
+use Rattle.ceiling_runs.proofs.Kept.Instant.{Appointing, OtherMoves}
+use Rattle.ceiling_runs.proofs.Kept.Scopes.{open_scope-alters}
+use Rattle.ceiling_runs.proofs.Kept.Waking.{who-is}
+use Rattle.ceiling_runs.proofs.RunLemmas.{Others, Settles, behind_onward, settles_onward}
+use Rattle.ceiling_runs.proofs.SameLemmas.{found_is_who}
+use Rattle.ceiling_runs.proofs.ShownPlaces.{who_acts_is_shown}
+use Rattle.ceiling_runs.proofs.TockLemmas.{tock-same}
+use Rattle.ceiling_runs.proofs.Triples.{Leads, With, changes-keeps, from-leads, then-leads}
+use Rattle.ceiling_runs.proofs.WholeRuns.{places_keep_ceilings}
+use Rattle.ceiling_runs.specs.Cores.{Core, core}
+use Rattle.ceiling_runs.specs.RunLaws.{Tells, levels_told, told_first, told_on}
+use Rattle.machine_laws.proofs.LineLemmas.{tocks_say_ticks}
+use Rattle.machine_laws.proofs.Moves.{lines_of}
+use Rattle.profile_machine.specs.Dispatching.{active_of, ready, to_tail}
+use Rattle.profile_machine.specs.Instant.{budgets_due, effect, effect_of_runner, events_due, finish_action, instant, is_over, moments_due, quantum_spent, script_items, timers_due}
+use Rattle.profile_machine.specs.Run.{blank_world, environment, opening, opens, tock}
+use Rattle.profile_machine.specs.Scopes.{open_scope, plainly}
+use Rattle.profile_machine.specs.Steps.{Move, changes, is_part_before, placed_by, rests, says, settles, ◌▶◌}
+use Rattle.profile_machine.specs.Tasks.{is_runnable, nobody, task_at, task_of}
+use Rattle.profile_machine.specs.Words.{option_or_else}
+use Rattle.profile_machine.specs.declared.image.Image.{Image}
+use Rattle.profile_machine.specs.declared.run_data.Item.{Item}
+use Rattle.profile_machine.specs.declared.world.World.{World}
+use Rattle.profile_machine.specs.declared.world.lines.Line.TheVariants as line
+use Rattle.profile_machine.specs.declared.world.lines.Part.{Part}
+use Rattle.profile_machine.specs.declared.world.lines.Part.TheVariants.{Own}
+use Rattle.profile_machine.specs.declared.world.lines.Said.{Said}
+use Rattle.profile_machine.specs.declared.world.marks.Purpose.TheVariants as opened_for
+use Rattle.profile_machine.specs.declared.world.tasks.Task.{Task}
+use Rattle.std.proofs.Common.{ap, cond, inl, inr, le_refl, refl, subst, sym, ◌++◌, ◌∙◌, ◌∷◌, ◌≡◌, ◌≤◌, ◌⊎◌}
+use Rattle.std.specs.Prelude.{Bool, List, None, Option, Some, [], false, true, ℕ, ℤ}
+use Rattle.tick_lines.proofs.LineByLine.{Follow}
+use Rattle.trace_text.specs.Laws.{Levels, no_levels, see_levels}
+use Rattle.trace_text.specs.Queue.{entry_of}
+use Rattle.trace_text.specs.declared.events.Created.TheVariants as created
+use Rattle.trace_text.specs.declared.events.Entry.{Entry}
+use Rattle.trace_text.specs.declared.events.Event.{Event}
+use Rattle.trace_text.specs.declared.events.Who.{Who}
+use Rattle.trace_text.specs.declared.events.Who.TheVariants as who
 
 -- ---- what the lines of a run show of somebody
 
@@ -104,9 +104,9 @@ module _ (p : Image) where
   acts_first sight a w drawn runs h = (
     h.0,
     λ n. (
-        good-first sight a n w.drawn.tasks (core (task_of w n)) (h.1 n),
-        λ same. (ap (is_fresh w.drawn.tasks) (who-is n a same) ∙ drawn, ap (λ m. runs_in (core (task_of w m))) (who-is n a same) ∙ runs, refl),
-      ),
+      good-first sight a n w.drawn.tasks (core (task_of w n)) (h.1 n),
+      λ same. (ap (is_fresh w.drawn.tasks) (who-is n a same) ∙ drawn, ap (λ m. runs_in (core (task_of w m))) (who-is n a same) ∙ runs, refl),
+    ),
   )
 
   either_over : (sight : Levels) (a : Who) → Settles see_levels any_event (AllStand p) p sight (Either (Holds (Good p sight a)) (Holds (Later p sight a)))
@@ -269,8 +269,7 @@ module _ (p : Image) where
   tock-stands : (sight : Levels) (w : World) → AllStand p sight w → AllStand p (levels_told sight (tock p w).1) (tock p w).0
   tock-stands sight w h =
       let behind = (tock p w).0 in
-      let same = tock-same p w in
-      (
+      let same = tock-same p w in (
         sound-same w behind same h.0,
         λ n. stands_on sight (levels_told sight (tock p w).1) w.drawn.tasks behind.drawn.tasks n (core (task_of w n)) (core (task_of behind n))
             (ap (λ queue. level_in (entry_of n queue)) (tock_lines-entries sight (tock p w).1 (tocks_say_ticks p w))) same.drawn_tasks (core-same w behind n same) (h.1 n),

@@ -1,11 +1,12 @@
 -- At which level lines show somebody: those of an effect, and those of a run.
-use Rattle.std.specs.Prelude.{◌≡◌, ◌≤◌, ℕ, ℤ, true, false, IsTrue, List, Option, Some, None}
-use Rattle.trace_text.specs.declared.events.Entry.{Entry}
-use Rattle.trace_text.specs.declared.events.Event.{Event}
-use Rattle.trace_text.specs.declared.events.Who.{Who}
-use Rattle.trace_text.specs.declared.events.Who.TheVariants as who
-use Rattle.trace_text.specs.Queue.{entry_of}
-use Rattle.trace_text.specs.Laws.{CeilingOk, Levels, no_levels}
+use Rattle.ceiling_laws.specs.CeilingLaws.{edf_is_below_interrupts}
+use Rattle.ceiling_places.specs.Puts.{last_put, place_by, with_put}
+use Rattle.ceiling_runs.specs.RunLaws.{Tells, levels_told}
+use Rattle.profile_machine.specs.Dispatching.{active_of, block, ready, to_head, to_tail}
+use Rattle.profile_machine.specs.Instant.{budgets_due, events_due, is_over, moments_due, quantum_spent, script_items, timers_due}
+use Rattle.profile_machine.specs.Run.{run_of, tock}
+use Rattle.profile_machine.specs.Steps.{Done, done, settled, ◌▶◌}
+use Rattle.profile_machine.specs.Tasks.{is_runnable, task_at, task_of, waiting_of}
 use Rattle.profile_machine.specs.declared.image.Image.{Image}
 use Rattle.profile_machine.specs.declared.run_data.Item.{Item}
 use Rattle.profile_machine.specs.declared.world.World.{World}
@@ -13,14 +14,12 @@ use Rattle.profile_machine.specs.declared.world.lines.Part.{Part}
 use Rattle.profile_machine.specs.declared.world.lines.Said.{Said}
 use Rattle.profile_machine.specs.declared.world.tasks.Task.{Task}
 use Rattle.profile_machine.specs.declared.world.tasks.Waiting.{Waiting}
-use Rattle.profile_machine.specs.Steps.{Done, done, settled, ◌▶◌}
-use Rattle.profile_machine.specs.Dispatching.{active_of, block, ready, to_head, to_tail}
-use Rattle.profile_machine.specs.Instant.{budgets_due, effect, events_due, is_over, moments_due, quantum_spent, script_items, timers_due}
-use Rattle.profile_machine.specs.Run.{run_of, tock}
-use Rattle.profile_machine.specs.Tasks.{is_runnable, task_at, task_of, waiting_of}
-use Rattle.ceiling_laws.specs.CeilingLaws.{edf_is_below_interrupts}
-use Rattle.ceiling_runs.specs.RunLaws.{Tells, levels_told}
-use Rattle.ceiling_places.specs.Puts.{last_put, place_by, with_put}
+use Rattle.std.specs.Prelude.{IsTrue, List, None, Option, Some, false, true, ℕ, ℤ, ◌≡◌, ◌≤◌}
+use Rattle.trace_text.specs.Laws.{CeilingOk, Levels, no_levels}
+use Rattle.trace_text.specs.Queue.{entry_of}
+use Rattle.trace_text.specs.declared.events.Entry.{Entry}
+use Rattle.trace_text.specs.declared.events.Event.{Event}
+use Rattle.trace_text.specs.declared.events.Who.{Who}
 
 abbrev pub level_in : Option Entry → Option ℕ
 level_in None = None

@@ -1,7 +1,7 @@
 //! All that the program does.
 ghost use Rattle.std.specs.Prelude.{◌≡◌, ◌≢◌, ◌≤◌, ◌⊎◌, IsTrue, None, codes};
 ghost use Rattle.ann_base.specs.Outside.{Rose, extended};
-ghost use Rattle.trace_text.specs.Laws.{DispatchOk, ExclusiveOk, HandlersOk, LeftOk};
+ghost use Rattle.trace_text.specs.Laws.{DispatchOk, CeilingOk, ExclusiveOk, HandlersOk, LeftOk};
 ghost use Rattle.tick_lines.specs.TickLaws.{SwitchesOk, ReleasesOk, StuckOk, follows_tick_order};
 ghost use Rattle.commands.specs.Asked.{asked_of};
 ghost use Rattle.commands.specs.Outside.{shelf_of, sink_of};
@@ -11,10 +11,12 @@ ghost use Rattle.commands.specs.Statuses.{Headline, HeadlineUnder, LoadTold, Acc
 use crate::noting::conclude;
 use crate::performing::perform;
 use ann_base::{Shelf, Sink};
+use ceiling_places::runs_keep_the_law_of_ceilings;
 use exit_laws::runs_keep_exclusion;
 use handler_laws::runs_keep_handlers;
 use leaving_laws::runs_leave_rightly;
 use machine_laws::dispatching::runs_dispatch;
+use policy_laws::deadlines_are_below_interrupts;
 use std::alloc::Global;
 use tick_lines::{
     runs_are_in_tick_order, runs_are_rightly_stuck, runs_release_in_order, runs_switch,
@@ -82,13 +84,16 @@ pub fn top<S: Shelf, K: Sink>(
         (shelf_of S.files S.faults shelf.old shelf.new)
         (sink_of K.held K.faults out.old out.new) result }
     // The lines of a run that is asked for keep these laws: who runs is the first of the ready
-    // queues; a protected action begins only beside those that it may be open with, and one that
-    // ends was open; effects of a tick come first, then who runs, then who is served; a `run` line
-    // is a switch; releases are taken up in their order, one is served before the next is, and the
-    // agent is ready just where one is left to serve; a region is left once, and its controlled
-    // objects are finalized in the reverse of their order; a run is stuck only where nobody is
-    // ready.
+    // queues; nobody enters a protected object above its ceiling; a protected action begins only
+    // beside those that it may be open with, and one that ends was open; effects of a tick come
+    // first, then who runs, then who is served; a `run` line is a switch; releases are taken up in
+    // their order, one is served before the next is, and the agent is ready just where one is left
+    // to serve; a region is left once, and its controlled objects are finalized in the reverse of
+    // their order; a run is stuck only where nobody is ready.
     ensures dispatch { result ≤ 3 → LawTold DispatchOk (asked_of words.now)
+        (shelf_of S.files S.faults shelf.old shelf.new)
+        (sink_of K.held K.faults out.old out.new) }
+    ensures ceilings { result ≤ 3 → LawTold CeilingOk (asked_of words.now)
         (shelf_of S.files S.faults shelf.old shelf.new)
         (sink_of K.held K.faults out.old out.new) }
     ensures exclusion { result ≤ 3 → LawTold ExclusiveOk (asked_of words.now)
@@ -186,6 +191,8 @@ pub fn top<S: Shelf, K: Sink>(
     verdicts_tell();
     lines_tell();
     runs_dispatch();
+    deadlines_are_below_interrupts();
+    runs_keep_the_law_of_ceilings();
     runs_keep_exclusion();
     runs_are_in_tick_order();
     runs_switch();

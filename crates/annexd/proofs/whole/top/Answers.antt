@@ -1,12 +1,13 @@
-use Rattle.std.proofs.Common.{inl, inr, IsTrue, arith}
-use Rattle.trace_text.specs.Laws.{DispatchOk, ExclusiveOk, HandlersOk, LeftOk}
+use Rattle.std.proofs.Common.{inl, inr, IsTrue, sym, subst, arith}
+use Rattle.trace_text.specs.Laws.{DispatchOk, CeilingOk, ExclusiveOk, HandlersOk, LeftOk}
+use Rattle.ceiling_laws.specs.CeilingLaws.{edf_is_below_interrupts}
 use Rattle.tick_lines.specs.TickLaws.{SwitchesOk, ReleasesOk, StuckOk, follows_tick_order}
 use Rattle.commands.specs.Asked.{asked_of}
 use Rattle.commands.specs.Outside.{shelf_of, sink_of}
 use Rattle.commands.proofs.RunsTold.{headline, headline_under, load_told, acceptance}
 use Rattle.commands.proofs.TablesTold.{table_told, beyond}
 use Rattle.commands.proofs.TracesTold.{trace_told, laws_told, report_told}
-use Rattle.commands.proofs.DoneTold.{known_status, done_told, law_told, quiet}
+use Rattle.commands.proofs.DoneTold.{known_status, done_told, law_told, law_told_where, quiet}
 use Rattle.commands.proofs.FaultsTold.{refused_source, not_accepted, not_accepted_under, load_not_accepted, refused_script, no_script, kept, words, refused_words, note_words, read_fault, note_read, write_fault, prefix_told, note_tried, note_memory, breach, quiet_breach, refused_trace, kept_refused_trace, failure, quiet_failure, refused_table, kept_refused_table}
 use Rattle.annexd.proofs.whole.top.Goals as goal
 
@@ -33,6 +34,10 @@ returns g c =
       statuses = known_status asked shelf out notes o status p n;
       run = done_told asked shelf out notes o status p n;
       dispatch = law_told DispatchOk c.runs_dispatch.ensures asked shelf out notes o status p n;
+      ceilings =
+          law_told_where (λ p. IsTrue (edf_is_below_interrupts p))
+          (λ bytes image fits. subst (λ p. IsTrue (edf_is_below_interrupts p)) (sym fits.numbered) (c.deadlines_are_below_interrupts.ensures fits.tree fits.unbroken))
+          CeilingOk c.runs_keep_the_law_of_ceilings.ensures asked shelf out notes o status p n;
       exclusion = law_told ExclusiveOk c.runs_keep_exclusion.ensures asked shelf out notes o status p n;
       in_tick_order = law_told (λ lines. IsTrue (follows_tick_order lines)) c.runs_are_in_tick_order.ensures asked shelf out notes o status p n;
       switches = law_told SwitchesOk c.runs_switch.ensures asked shelf out notes o status p n;

@@ -12,6 +12,7 @@ use Rattle.commands.specs.declared.requests.Work.{Work}
 use Rattle.commands.specs.declared.requests.Work.TheVariants as work
 use Rattle.commands.specs.declared.requests.TableTest.{TableTest}
 use Rattle.trace_text.specs.Queue.{Line}
+use Rattle.trace_text.specs.Text.{ArePrintable}
 use Rattle.machine_kernel.specs.Future.{lines_of_run}
 use Rattle.profile_machine.specs.Run.{run_of}
 use Rattle.commands.specs.Requests.{Asked, SourceAsked, ScriptAsked, LoadAsked, TableAsked, TraceAsked}
@@ -101,17 +102,21 @@ law_of_lines : (law : List Line → Type 0) → OfAcceptedRuns law → (bytes : 
 unfolding lines_of_run
 law_of_lines law holds bytes p fits script bound = holds bytes p fits script bound
 
-law_done : (law : List Line → Type 0) → OfAcceptedRuns law → (items : List (ℤ × Item)) (ticks : ℕ) (bytes : List ℕ) (out : SinkChange) (o : Outcome) → IsDone items (work.Run ticks) bytes out o → WrittenKeeps law items ticks bytes out
+-- a law of the lines of each run that was done
+abbrev OfDone : (List Line → Type 0) → Type 0
+OfDone law = (items : List (ℤ × Item)) (ticks : ℕ) (bytes : List ℕ) (out : SinkChange) (o : Outcome) (done : IsDone items (work.Run ticks) bytes out o) → law (lines_of_run done.image items ticks)
+
+law_done : (law : List Line → Type 0) → OfDone law → (items : List (ℤ × Item)) (ticks : ℕ) (bytes : List ℕ) (out : SinkChange) (o : Outcome) → IsDone items (work.Run ticks) bytes out o → WrittenKeeps law items ticks bytes out
 law_done law holds items ticks bytes out o done = record {
   image = done.image;
   lines = lines_of_run done.image items ticks;
   accepted = done.accepted;
   are_of_run = refl;
   text = done.text;
-  keeps = law_of_lines law holds bytes done.image done.accepted items ticks;
+  keeps = holds items ticks bytes out o done;
 }
 
-law_by : (law : List Line → Type 0) → OfAcceptedRuns law → (asked : Option Asked) (shelf : ShelfChange) (out : SinkChange) (status : ℕ) → DoneTold asked shelf out status → LawTold law asked shelf out
+law_by : (law : List Line → Type 0) → OfDone law → (asked : Option Asked) (shelf : ShelfChange) (out : SinkChange) (status : ℕ) → DoneTold asked shelf out status → LawTold law asked shelf out
 law_by law holds None shelf out status h = tt
 law_by law holds (Some (SourceAsked source (work.Run ticks))) shelf out status h =
     told_map (told shelf.files source) (λ bytes. EndedWith [] (work.Run ticks) bytes out status) (λ bytes. WrittenKeeps law [] ticks bytes out) (λ bytes ended. law_done law holds [] ticks bytes out ended.0 ended.1) h
@@ -124,14 +129,25 @@ law_by law holds (Some (LoadAsked tasks)) shelf out status h = tt
 law_by law holds (Some (TableAsked table t)) shelf out status h = tt
 law_by law holds (Some (TraceAsked trace w)) shelf out status h = tt
 
+accepted_done : (law : List Line → Type 0) → OfAcceptedRuns law → OfDone law
+accepted_done law holds items ticks bytes out o done = law_of_lines law holds bytes done.image done.accepted items ticks
+
 pub law_told : (law : List Line → Type 0) → OfRuns law → (asked : Option Asked) (shelf : ShelfChange) (out notes : SinkChange) (o : Outcome) (status : ℕ) → Performs asked shelf out o → Concludes o notes status → status ≤ 3 → LawTold law asked shelf out
 law_told law holds asked shelf out notes o status p c small =
-    law_by law (λ bytes image fits script bound. holds image script bound) asked shelf out status (done_told asked shelf out notes o status p c small)
+    law_by law (accepted_done law (λ bytes image fits script bound. holds image script bound)) asked shelf out status (done_told asked shelf out notes o status p c small)
 
 -- a law that needs of an image what each accepted source gives it
 pub law_told_where : (has : Image → Type 0) → OfAccepted has → (law : List Line → Type 0) → OfRunsWhere has law → (asked : Option Asked) (shelf : ShelfChange) (out notes : SinkChange) (o : Outcome) (status : ℕ) → Performs asked shelf out o → Concludes o notes status → status ≤ 3 → LawTold law asked shelf out
 law_told_where has given law holds asked shelf out notes o status p c small =
-    law_by law (λ bytes image fits script bound. holds image (given bytes image fits) script bound) asked shelf out status (done_told asked shelf out notes o status p c small)
+    law_by law (accepted_done law (λ bytes image fits script bound. holds image (given bytes image fits) script bound)) asked shelf out status (done_told asked shelf out notes o status p c small)
+
+-- the lines of a run that was done are printable
+printable_done : OfDone ArePrintable
+printable_done items ticks bytes out o done = done.printable
+
+pub printable_told : (asked : Option Asked) (shelf : ShelfChange) (out notes : SinkChange) (o : Outcome) (status : ℕ) → Performs asked shelf out o → Concludes o notes status → status ≤ 3 → LawTold ArePrintable asked shelf out
+printable_told asked shelf out notes o status p c small =
+    law_by ArePrintable printable_done asked shelf out status (done_told asked shelf out notes o status p c small)
 
 quiet_by : (o : Outcome) (notes : SinkChange) (status : ℕ) → (status ≡ status_of o) × IsNoted (note_of o) notes → status ≤ 3 → IsKept notes
 quiet_by (Ended stop) notes status c small = c.1

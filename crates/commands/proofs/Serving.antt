@@ -37,7 +37,7 @@ use Rattle.commands.specs.declared.requests.Work.TheVariants as work
 use Rattle.commands.specs.Requests.{SourceAsked, LoadAsked, TableAsked, TraceAsked}
 use Rattle.commands.specs.Outside.{ShelfChange, SinkChange, IsKept, Gained, GainedPrefix}
 use Rattle.commands.specs.Traces.{trace_answer, verdict_answer, report_answer, file_answer}
-use Rattle.commands.specs.Performed.{text_for, outcome_for, without_image, ServesImage, ServesBytes, TestsDuties, TestsBytes, TellsTrace, Performs, IsDone, IsRefused, IsCutShort, IsTested, IsNoTable, IsTestCutShort}
+use Rattle.commands.specs.Performed.{text_for, outcome_for, ArePrintableFor, without_image, ServesImage, ServesBytes, TestsDuties, TestsBytes, TellsTrace, Performs, IsDone, IsRefused, IsCutShort, IsTested, IsNoTable, IsTestCutShort}
 
 -- ---- from an image to the bytes
 
@@ -56,15 +56,15 @@ abbrev pub IsAnswered : List ℕ → Image → Type 0
 IsAnswered bytes image = (other : Image) → IsAccepted bytes other → accepted_as other ≡ Ok image
 
 pub is_done : (items : List (ℤ × Item)) (asked : Work) (bytes : List ℕ) (image : Image) (out : SinkChange) (o : Outcome) → IsAccepted bytes image → IsAnswered bytes image →
-    Gained out (text_for items asked image) → outcome_for items asked image ≡ o → IsDone items asked bytes out o
-is_done items asked bytes image out o accepted only text is =
-    record { image = image; accepted = accepted; only = λ other fits. same_image other image (only other fits); text = text; outcome_is = is }
+    Gained out (text_for items asked image) → outcome_for items asked image ≡ o → ArePrintableFor items asked image → IsDone items asked bytes out o
+is_done items asked bytes image out o accepted only text is printable =
+    record { image = image; accepted = accepted; only = λ other fits. same_image other image (only other fits); text = text; outcome_is = is; printable = printable }
 
 -- what is done with the image of accepted bytes is done with the bytes
 pub accepted_served : (asked : Work) (bytes : List ℕ) (image : Image) (out : SinkChange) (o : Outcome) → IsAccepted bytes image →
     IsAnswered bytes image → ServesImage [] asked image out o → ServesBytes asked bytes out o
-accepted_served asked bytes image out (Ended stop) accepted only h = is_done [] asked bytes image out (Ended stop) accepted only h.0 h.1
-accepted_served asked bytes image out Accepted accepted only h = is_done [] asked bytes image out Accepted accepted only h.0 h.1
+accepted_served asked bytes image out (Ended stop) accepted only h = is_done [] asked bytes image out (Ended stop) accepted only h.0 h.1 h.2
+accepted_served asked bytes image out Accepted accepted only h = is_done [] asked bytes image out Accepted accepted only h.0 h.1 h.2
 accepted_served asked bytes image out (Tested failed) accepted only h = h
 accepted_served asked bytes image out (Traced broken) accepted only h = h
 accepted_served asked bytes image out WordsRefused accepted only h = h

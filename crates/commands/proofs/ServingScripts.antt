@@ -70,10 +70,10 @@ pub image_served : (script : List ℕ) (ticks : ℕ) (bytes : List ℕ) (image :
     ServesScript script ticks image shelf out o → ServesUnder script ticks bytes shelf out o
 image_served script ticks bytes image shelf out (Ended stop) accepted only h =
     items_map shelf script (λ items. ServesImage items (work.Run ticks) image out (Ended stop)) (λ items. IsDone items (work.Run ticks) bytes out (Ended stop))
-    (λ items s. is_done items (work.Run ticks) bytes image out (Ended stop) accepted only s.0 s.1) h
+    (λ items s. is_done items (work.Run ticks) bytes image out (Ended stop) accepted only s.0 s.1 s.2) h
 image_served script ticks bytes image shelf out Accepted accepted only h =
     items_map shelf script (λ items. ServesImage items (work.Run ticks) image out Accepted) (λ items. IsDone items (work.Run ticks) bytes out Accepted)
-    (λ items s. is_done items (work.Run ticks) bytes image out Accepted accepted only s.0 s.1) h
+    (λ items s. is_done items (work.Run ticks) bytes image out Accepted accepted only s.0 s.1 s.2) h
 image_served script ticks bytes image shelf out (Tested failed) accepted only h = absurd h
 image_served script ticks bytes image shelf out (Traced broken) accepted only h = absurd h
 image_served script ticks bytes image shelf out WordsRefused accepted only h = absurd h

@@ -4,8 +4,10 @@ use Rattle.ann_base.specs.declared.faults.OrMemory.{OrMemory}
 use Rattle.ann_base.specs.declared.faults.OrMemory.TheVariants as answer
 use Rattle.ann_base.specs.Outside.{Lacks}
 use Rattle.outside_bytes.specs.Files.{told, WhereTold}
+use Rattle.trace_text.specs.Text.{ArePrintable}
 use Rattle.profile_machine.specs.declared.run_data.Item.{Item}
 use Rattle.profile_machine.specs.declared.image.Image.{Image}
+use Rattle.machine_kernel.specs.Future.{lines_of_run}
 use Rattle.ada_front.specs.declared.refusing.Refusal.{Refusal}
 use Rattle.ada_front.specs.Accepted.{Accepted as IsAccepted, judged}
 use Rattle.event_script.specs.declared.faults.ScriptFault.{ScriptFault}
@@ -41,12 +43,20 @@ outcome_for items (work.Run ticks) image = Ended (stop_under items image ticks)
 outcome_for items (work.Summary ticks) image = Ended (stop_under items image ticks)
 outcome_for items work.Accept image = Accepted
 
+-- the lines of a run that is asked for are printable
+abbrev pub ArePrintableFor : List (ℤ × Item) → Work → Image → Type 0
+ArePrintableFor items (work.Run ticks) image = ArePrintable (lines_of_run image items ticks)
+ArePrintableFor items (work.Summary ticks) image = Unit {0}
+ArePrintableFor items work.Accept image = Unit {0}
+
 -- ---- of an image
 
--- where the work was done, the text is written whole; where not, a prefix of it
+-- where the work was done, the text is written whole, and a run has printable lines; where not, a prefix of the text
 abbrev pub ServesImage : List (ℤ × Item) → Work → Image → SinkChange → Outcome → Type 0
-ServesImage items asked image out (Ended stop) = Gained out (text_for items asked image) × (outcome_for items asked image ≡ Ended stop)
-ServesImage items asked image out Accepted = Gained out (text_for items asked image) × (outcome_for items asked image ≡ Accepted)
+ServesImage items asked image out (Ended stop) =
+    Gained out (text_for items asked image) × (outcome_for items asked image ≡ Ended stop) × ArePrintableFor items asked image
+ServesImage items asked image out Accepted =
+    Gained out (text_for items asked image) × (outcome_for items asked image ≡ Accepted) × ArePrintableFor items asked image
 ServesImage items asked image out (Tested failed) = ⊥
 ServesImage items asked image out (Traced broken) = ⊥
 ServesImage items asked image out WordsRefused = ⊥
@@ -60,13 +70,14 @@ ServesImage items asked image out NoMemory = GainedPrefix out (text_for items as
 
 -- ---- of the bytes of a source
 
--- they are accepted as one image alone, and the text that is asked for is written whole
+-- they are accepted as one image alone, and the text that is asked for is written whole; a run has printable lines
 pub record IsDone (items : List (ℤ × Item)) (asked : Work) (bytes : List ℕ) (out : SinkChange) (outcome : Outcome) : Type 0 where
   pub image : Image
   pub accepted : IsAccepted bytes image
   pub only : (other : Image) → IsAccepted bytes other → other ≡ image
   pub text : Gained out (text_for items asked image)
   pub outcome_is : outcome_for items asked image ≡ outcome
+  pub printable : ArePrintableFor items asked image
 
 -- the outcome of bytes without an image
 abbrev pub without_image : OrMemory Refusal → Outcome

@@ -157,7 +157,7 @@ DoneTold (Some (TraceAsked trace work)) shelf out status =
     (status ≡ 0) × WhereTold (told shelf.files trace) (λ bytes. IsTraced work bytes out false)
 
 -- Lines were written that keep a law, and they are those of the run of the accepted bytes. Different lists of printable
--- lines have different texts, so where they are printable the text says which lines they are.
+-- lines have different texts, so where the law is that they are printable the text says which lines they are.
 pub record WrittenKeeps (law : List Line → Type 0) (items : List (ℤ × Item)) (ticks : ℕ) (bytes : List ℕ) (out : SinkChange) : Type 0 where
   pub image : Image
   pub lines : List Line

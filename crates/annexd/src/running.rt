@@ -1,8 +1,10 @@
 //! Running an image and writing its trace.
-ghost use Rattle.std.specs.Prelude.{◌≡◌, ◌≤◌, ◌<◌, codes, IfOk, IfErr, OnOk, OnErr};
+ghost use Rattle.std.specs.Prelude.{◌≡◌, ◌≤◌, ◌<◌, [], codes, IfOk, IfErr, OnOk, OnErr};
 ghost use Rattle.ann_base.specs.Answers.{OfFault};
 ghost use Rattle.ann_base.specs.Outside.{Rose, extended};
 ghost use Rattle.outside_bytes.specs.Pieces.{HoldsPrefix};
+ghost use Rattle.trace_text.specs.Text.{ArePrintable};
+ghost use Rattle.machine_kernel.specs.Future.{lines_of_run};
 ghost use Rattle.commands.specs.Runs.{text_of_run, stop_of, text_under, stop_under};
 
 use ann_base::{Failed, Moment, OrMemory, Sink};
@@ -24,6 +26,7 @@ pub fn run<K: Sink>(
     requires positive { 0 < ticks }
     requires bounded { ticks ≤ MOST_TICKS }
     ensures written { OnOk result (K.held out.new ≡ extended (K.held out.old) (text_of_run image ticks)) }
+    ensures printable { OnOk result (ArePrintable (lines_of_run image [] ticks)) }
     ensures stop { IfOk result (λ stop. stop ≡ stop_of image ticks) }
     ensures prefix { OnErr result (HoldsPrefix (K.held out.old) (K.held out.new) (text_of_run image ticks)) }
     ensures monotone { K.faults out.old ≤ K.faults out.new }
@@ -33,7 +36,7 @@ pub fn run<K: Sink>(
 }
 
 /// Writes the run of an image under the items of a script up to so many ticks, line by line: all of its text where it
-/// ends, and a prefix of it otherwise.
+/// ends, and a prefix of it otherwise. Where it ends, each of its lines is printable.
 pub fn run_under<K: Sink>(
     alloc: Global,
     image: Image,
@@ -44,6 +47,7 @@ pub fn run_under<K: Sink>(
     requires positive { 0 < ticks }
     requires bounded { ticks ≤ MOST_TICKS }
     ensures written { OnOk result (K.held out.new ≡ extended (K.held out.old) (text_under items image ticks)) }
+    ensures printable { OnOk result (ArePrintable (lines_of_run image items ticks)) }
     ensures stop { IfOk result (λ stop. stop ≡ stop_under items image ticks) }
     ensures prefix { OnErr result (HoldsPrefix (K.held out.old) (K.held out.new) (text_under items image ticks)) }
     ensures monotone { K.faults out.old ≤ K.faults out.new }

@@ -2,6 +2,7 @@
 ghost use Rattle.std.specs.Prelude.{◌≡◌, ◌≢◌, ◌≤◌, ◌⊎◌, IsTrue, None, codes};
 ghost use Rattle.ann_base.specs.Outside.{Rose, extended};
 ghost use Rattle.trace_text.specs.Laws.{DispatchOk, CeilingOk, ExclusiveOk, HandlersOk, LeftOk};
+ghost use Rattle.trace_text.specs.Text.{ArePrintable};
 ghost use Rattle.tick_lines.specs.TickLaws.{SwitchesOk, ReleasesOk, StuckOk, follows_tick_order};
 ghost use Rattle.commands.specs.Asked.{asked_of};
 ghost use Rattle.commands.specs.Outside.{shelf_of, sink_of};
@@ -83,13 +84,18 @@ pub fn top<S: Shelf, K: Sink>(
     ensures run { result ≤ 3 → DoneTold (asked_of words.now)
         (shelf_of S.files S.faults shelf.old shelf.new)
         (sink_of K.held K.faults out.old out.new) result }
-    // The lines of a run that is asked for keep these laws: who runs is the first of the ready
-    // queues; nobody enters a protected object above its ceiling; a protected action begins only
-    // beside those that it may be open with, and one that ends was open; effects of a tick come
-    // first, then who runs, then who is served; a `run` line is a switch; releases are taken up in
-    // their order, one is served before the next is, and the agent is ready just where one is left
-    // to serve; a region is left once, and its controlled objects are finalized in the reverse of
-    // their order; a run is stuck only where nobody is ready.
+    // The lines of a run that is asked for are printable, so the text that is written says which
+    // lines they are: different lists of printable lines have different texts.
+    ensures printable { result ≤ 3 → LawTold ArePrintable (asked_of words.now)
+        (shelf_of S.files S.faults shelf.old shelf.new)
+        (sink_of K.held K.faults out.old out.new) }
+    // They keep these laws: who runs is the first of the ready queues; nobody enters a protected
+    // object above its ceiling; a protected action begins only beside those that it may be open
+    // with, and one that ends was open; effects of a tick come first, then who runs, then who is
+    // served; a `run` line is a switch; releases are taken up in their order, one is served before
+    // the next is, and the agent is ready just where one is left to serve; a region is left once,
+    // and its controlled objects are finalized in the reverse of their order; a run is stuck only
+    // where nobody is ready.
     ensures dispatch { result ≤ 3 → LawTold DispatchOk (asked_of words.now)
         (shelf_of S.files S.faults shelf.old shelf.new)
         (sink_of K.held K.faults out.old out.new) }

@@ -7,7 +7,7 @@ use Rattle.commands.specs.Outside.{shelf_of, sink_of}
 use Rattle.commands.proofs.RunsTold.{headline, headline_under, load_told, acceptance}
 use Rattle.commands.proofs.TablesTold.{table_told, beyond}
 use Rattle.commands.proofs.TracesTold.{trace_told, laws_told, report_told}
-use Rattle.commands.proofs.DoneTold.{known_status, done_told, law_told, law_told_where, quiet}
+use Rattle.commands.proofs.DoneTold.{known_status, done_told, law_told, law_told_where, printable_told, quiet}
 use Rattle.commands.proofs.FaultsTold.{refused_source, not_accepted, not_accepted_under, load_not_accepted, refused_script, no_script, kept, words, refused_words, note_words, read_fault, note_read, write_fault, prefix_told, note_tried, note_memory, breach, quiet_breach, refused_trace, kept_refused_trace, failure, quiet_failure, refused_table, kept_refused_table}
 use Rattle.annexd.proofs.whole.top.Goals as goal
 
@@ -33,6 +33,7 @@ returns g c =
       reported = report_told c.lines_tell.ensures.formed c.lines_tell.ensures.only asked shelf out notes o status p n;
       statuses = known_status asked shelf out notes o status p n;
       run = done_told asked shelf out notes o status p n;
+      printable = printable_told asked shelf out notes o status p n;
       dispatch = law_told DispatchOk c.runs_dispatch.ensures asked shelf out notes o status p n;
       ceilings =
           law_told_where (λ p. IsTrue (edf_is_below_interrupts p))

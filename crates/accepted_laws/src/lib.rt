@@ -8,13 +8,11 @@ ghost use Rattle.accepted_laws.specs.AcceptedLaws.{NothingAcceptedIsLost, Accept
 
 /// Nothing of an accepted source is lost: from its image the declarations and statements of its tree can be read back, all of
 /// them, in order and with their parts.
-#[tactic(auto, using(crate::proofs::Kept::nothing_accepted_is_lost))]
 pub fn nothing_accepted_is_lost()
     ensures { NothingAcceptedIsLost }
 {}
 
 /// Each direct name of an accepted source denotes by the table of its names what it means by its position.
-#[tactic(auto, using(crate::proofs::Kept::accepted_names_by_position))]
 pub fn accepted_names_by_position()
     ensures { AcceptedNamesByPosition }
 {}

@@ -29,7 +29,7 @@ use Rattle.ada_legality.specs.Types.{has_type, fits}
 use Rattle.ada_legality.specs.Calls.{formals_of_operation, named_parts, formal_names, parts_of_operation, formal_at, given_before, is_for_a_formal, is_misnamed, some_are_named, stray_actuals, some_are_misnamed, all_given, wrong_actuals, is_for, actual_from}
 use Rattle.ada_legality.specs.Reading.{Reading, asked_of, value_judged, fitted, actual_wanted, actual_if, actuals_fitted, actuals_numbered, actuals_judged}
 use Rattle.ada_legality.specs.ReadExpressions.{arguments_read, same_reading}
-use Rattle.ada_image.specs.BuiltExpressions.{Built, same_built, is_there, is_built_if_there, first_in, function_built, operation_built}
+use Rattle.ada_image.specs.BuiltExpressions.{Built, same_built, is_there, is_built_if_there, first_in, operation_built}
 use Rattle.image_laws.proofs.Expressions.{argument_of, actuals-mapped}
 use Rattle.built_laws.specs.Clear.{Clear, has_values}
 use Rattle.built_laws.proofs.Nothing.{none-of, unless-none}

@@ -1,11 +1,11 @@
 -- Assignments of values, and returns, are built, where no rule is broken.
-use Rattle.std.proofs.Common.{◌≡◌, Bool, true, false, cond, not, ◌&&◌, [], ◌++◌, Option, Some, None, is_some, refl, sym, ap, ◌∙◌}
+use Rattle.std.proofs.Common.{◌≡◌, Bool, true, false, cond, not, [], Option, Some, None, is_some, refl}
 use Rattle.std.proofs.lemmas.Bool.{and_from, and_parts, false≢true}
 use Rattle.ada_tree.specs.declared.expressions.Expression.{Expression}
 use Rattle.ada_tree.specs.declared.statements.Assignment.{Assignment}
 use Rattle.ada_regions.specs.declared.types.AdaType.{AdaType}
 use Rattle.ada_regions.specs.declared.types.AdaType.TheVariants as types
-use Rattle.ada_image.specs.Layout.{is_array, is_kept, is_thing, subtype_is}
+use Rattle.ada_image.specs.Layout.{is_array, is_kept, subtype_is}
 use Rattle.ada_regions.specs.Statics.{subtype_of_name}
 use Rattle.ada_legality.specs.declared.reading.Asked.TheVariants as asking
 use Rattle.ada_legality.specs.declared.reading.Typed.{Typed}
@@ -13,13 +13,13 @@ use Rattle.ada_legality.specs.declared.reading.Typed.TheVariants as typing
 use Rattle.ada_legality.specs.declared.standing.Known.{Known}
 use Rattle.ada_legality.specs.Faults.{faults_in}
 use Rattle.ada_legality.specs.Types.{operand_type}
-use Rattle.ada_legality.specs.Reading.{expected, fitted}
+use Rattle.ada_legality.specs.Reading.{fitted}
 use Rattle.ada_legality.specs.ReadExpressions.{read_expression}
 use Rattle.ada_legality.specs.CallStatements.{found_if, value_found, value_alone_found}
 use Rattle.ada_legality.specs.SimpleStatements.{assignment_found, assignment_judged, function_around, result_expected, return_found, type_of_index_of, typed_target}
 use Rattle.ada_image.specs.BuiltExpressions.{expression_built}
 use Rattle.ada_image.specs.BuiltStatements.{assigned_built, source_built}
-use Rattle.built_laws.specs.Clear.{expression_clear, has_values}
+use Rattle.built_laws.specs.Clear.{has_values}
 use Rattle.built_laws.specs.Laws.{ReadAssignmentsBuilt, ReadReturnsBuilt, has_value_type, source_clear, target_index_clear}
 use Rattle.built_laws.proofs.Nothing.{none-of}
 use Rattle.built_laws.proofs.Expressions.{expected_expressions_built}

@@ -1,5 +1,5 @@
 -- An attribute of a type of values is built.
-use Rattle.std.proofs.Common.{◌≡◌, ℕ, Bool, true, false, cond, not, ◌&&◌, Option, Some, None, option_map, refl}
+use Rattle.std.proofs.Common.{◌≡◌, ℕ, Bool, true, false, cond, Option, Some, None, option_map, refl}
 use Rattle.std.specs.Prelude.{unwrap_or}
 use Rattle.std.proofs.lemmas.Bool.{false≢true}
 use Rattle.ada_tree.specs.declared.names.Name.{Name}
@@ -18,7 +18,7 @@ use Rattle.ada_legality.specs.declared.reading.Typed.TheVariants as typing
 use Rattle.ada_legality.specs.declared.standing.Known.{Known}
 use Rattle.ada_legality.specs.Types.{typed_as}
 use Rattle.ada_legality.specs.Values.{denoted_kind, entity_of_name}
-use Rattle.ada_legality.specs.Attributes.{has_count, has_images, is_library_handler, typed_access, typed_attribute, typed_attribute_of, takes_arguments}
+use Rattle.ada_legality.specs.Attributes.{has_count, has_images, is_library_handler, typed_access, typed_attribute, typed_attribute_of}
 use Rattle.ada_image.specs.BuiltExpressions.{attribute_built, is_entry}
 use Rattle.built_laws.specs.Clear.{has_values, ends_clear}
 

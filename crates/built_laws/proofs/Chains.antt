@@ -1,5 +1,5 @@
 -- Chains of operators of one level: where the whole is a value, each operand is built.
-use Rattle.std.proofs.Common.{◌≡◌, Bool, true, false, List, [], ◌∷◌, map, refl}
+use Rattle.std.proofs.Common.{◌≡◌, Bool, true, List, [], ◌∷◌, map, refl}
 use Rattle.std.proofs.lemmas.Bool.{and_from, and_parts}
 use Rattle.ada_tree.specs.declared.operators.LogicalOperator.{LogicalOperator}
 use Rattle.ada_tree.specs.declared.expressions.Operand.{Operand}
@@ -17,7 +17,7 @@ use Rattle.image_laws.proofs.Expressions.{operand_of, addend_of, multiplied_of}
 use Rattle.built_laws.specs.Clear.{Clear, has_values, same_clear, operands_clear, addends_clear, factors_clear}
 use Rattle.built_laws.proofs.Nothing.{none-of}
 use Rattle.built_laws.proofs.Operators.{operation-there, operation-values, typed-there, sum-read}
-use Rattle.built_laws.proofs.Operands.{ReadLaw, OperandWell, operand-well}
+use Rattle.built_laws.proofs.Operands.{ReadLaw, operand-well}
 
 -- a chain behind its first operand: it has a type, and where that is one of values the first operand has one too, and the others are built
 pub record ChainWell (left : Read) (whole : Read) (is_built : Bool) : Type 0 where

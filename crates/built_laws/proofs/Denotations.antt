@@ -1,7 +1,7 @@
 -- A name without attribute that is a value is built: what it denotes, where no rule is broken.
-use Rattle.std.proofs.Common.{◌≡◌, ℕ, Bool, true, false, cond, not, ◌&&◌, ◌||◌, List, [], ◌∷◌, ◌++◌, map, Option, Some, None, option_map, is_some, is_none, refl, sym, ap, ◌∙◌}
+use Rattle.std.proofs.Common.{◌≡◌, ℕ, Bool, true, false, cond, not, ◌&&◌, ◌||◌, List, [], ◌∷◌, map, Option, Some, None, option_map, is_some, is_none, refl, sym, ap, ◌∙◌}
 use Rattle.std.specs.Prelude.{unwrap_or}
-use Rattle.std.proofs.lemmas.Bool.{and_parts, false≢true}
+use Rattle.std.proofs.lemmas.Bool.{false≢true}
 use Rattle.ann_base.specs.declared.places.Place.{Place}
 use Rattle.ada_tree.specs.declared.expressions.Argument.{Argument}
 use Rattle.ada_regions.specs.declared.entities.Denoted.{Denoted}
@@ -12,14 +12,11 @@ use Rattle.ada_regions.specs.declared.predefined.Predefined.TheVariants as items
 use Rattle.ada_regions.specs.declared.predefined.PredefinedUnit.{PredefinedUnit}
 use Rattle.ada_regions.specs.declared.predefined.PredefinedUnit.TheVariants as units
 use Rattle.ada_regions.specs.declared.types.AdaType.{AdaType}
-use Rattle.ada_regions.specs.declared.types.Subtype.{Subtype}
 use Rattle.ada_regions.specs.Names.{kind_at}
 use Rattle.ada_regions.specs.PredefinedUnits.{names_of_formals}
 use Rattle.ada_regions.specs.Words.{and_then, nothing_there}
 use Rattle.ada_regions.specs.Completions.{holds_of}
-use Rattle.ada_image.specs.TypesOfExpressions.{type_of_operation}
-use Rattle.ada_image.specs.ImageOfExpressions.{actuals_for, first_argument}
-use Rattle.ada_legality.specs.declared.parts.ActualPart.{ActualPart}
+use Rattle.ada_image.specs.ImageOfExpressions.{actuals_for}
 use Rattle.ada_legality.specs.declared.reading.Asked.TheVariants as asking
 use Rattle.ada_legality.specs.declared.reading.Typed.{Typed}
 use Rattle.ada_legality.specs.declared.reading.Typed.TheVariants as typing
@@ -27,10 +24,10 @@ use Rattle.ada_legality.specs.declared.standing.Known.{Known}
 use Rattle.ada_legality.specs.Faults.{faults_in}
 use Rattle.ada_legality.specs.Types.{typed_by}
 use Rattle.ada_legality.specs.Calls.{formals_denoted, formals_of_item, moment_is_span}
-use Rattle.ada_legality.specs.Values.{denoted_kind, denotes_function, denotes_value, is_function_kind, is_function_operation, subtype_of_entity, subtype_of_object, subtype_with_index, type_of_constant, typed_call, typed_constant, typed_denoted, typed_value, unless_index}
+use Rattle.ada_legality.specs.Values.{denoted_kind, denotes_function, is_function_kind, is_function_operation, subtype_of_entity, subtype_of_object, subtype_with_index, type_of_constant, typed_call, typed_constant, typed_denoted, typed_value, unless_index}
 use Rattle.ada_legality.specs.Attributes.{ends_of_object}
 use Rattle.ada_legality.specs.Reading.{Reading, actuals_judged}
-use Rattle.ada_legality.specs.ReadExpressions.{arguments_read, denoted_judged, element_judged, index_fits, is_unclear_object, may_be_value, same_reading}
+use Rattle.ada_legality.specs.ReadExpressions.{arguments_read, denoted_judged, element_judged, index_fits, is_unclear_object, may_be_value}
 use Rattle.ada_image.specs.BuiltExpressions.{Built, same_built, denoted_built, entity_built, item_built, operation_built}
 use Rattle.image_laws.proofs.Expressions.{argument_of}
 use Rattle.built_laws.specs.Clear.{Clear, has_values, constant_clear, denoted_clear, index_clear, item_clear}

@@ -4,7 +4,6 @@ use Rattle.std.proofs.lemmas.Bool.{and_from, and_parts, false≢true}
 use Rattle.ann_base.specs.declared.places.Place.{Place}
 use Rattle.ada_lex.specs.Meaning.{decimals_of}
 use Rattle.ada_tree.specs.declared.names.Name.{Name}
-use Rattle.ada_tree.specs.declared.operators.Sign.{Sign}
 use Rattle.ada_tree.specs.declared.operators.Sign.TheVariants as sign
 use Rattle.ada_tree.specs.declared.expressions.Expression.{Expression}
 use Rattle.ada_tree.specs.declared.expressions.Expression.TheOpen.{Expression-F}
@@ -17,10 +16,7 @@ use Rattle.ada_tree.specs.declared.expressions.AttributeDesignator.{AttributeDes
 use Rattle.profile_machine.specs.declared.expressions.UnaryOperator.TheVariants as unary
 use Rattle.ada_regions.specs.Names.{denoted_by}
 use Rattle.ada_regions.specs.Words.{nothing_there}
-use Rattle.ada_regions.specs.declared.types.AdaType.{AdaType}
-use Rattle.ada_image.specs.Layout.{is_thing}
 use Rattle.ada_image.specs.ImageOfExpressions.{relational_operator, highest_operator}
-use Rattle.ada_legality.specs.declared.reading.Asked.{Asked}
 use Rattle.ada_legality.specs.declared.reading.Read.{Read}
 use Rattle.ada_legality.specs.declared.reading.Shape.{Shape}
 use Rattle.ada_legality.specs.declared.reading.Shape.TheVariants as shapes
@@ -30,11 +26,11 @@ use Rattle.ada_legality.specs.Faults.{faults_in}
 use Rattle.ada_legality.specs.Places.{place_of}
 use Rattle.ada_legality.specs.Types.{has_type, typed_if, operation_type_of_one}
 use Rattle.ada_legality.specs.Values.{typed_name}
-use Rattle.ada_legality.specs.Reading.{Reading, as_operand, call_inside, calls_function, expected, is_number, number_read, text_read, bracketed_read, signed_read, signed_judged, first_relation, compared_read, first_term, highest_read, plain_read, with_minus, operation_of_one_judged}
+use Rattle.ada_legality.specs.Reading.{Reading, as_operand, calls_function, expected, is_number, number_read, text_read, bracketed_read, signed_read, signed_judged, first_relation, compared_read, first_term, highest_read, plain_read, with_minus, operation_of_one_judged}
 use Rattle.ada_legality.specs.ReadExpressions.{name_shape, name_read, attribute_read, name_judged, arguments_read, named_expression, operand_read, logical_expression, relational_expression, adding_expression, multiplying_expression, signed_expression, highest_expression, bracketed_expression, form_read, same_reading, read_expression}
 use Rattle.ada_image.specs.BuiltExpressions.{Built, same_built, denoted_built, named_built, form_built, expression_built}
 use Rattle.image_laws.proofs.Expressions.{argument_of, mapped_form, mapped-twice}
-use Rattle.built_laws.specs.Clear.{Clear, has_values, same_clear, named_clear, arguments_clear, attribute_clear, name_clear, form_clear, expression_clear}
+use Rattle.built_laws.specs.Clear.{Clear, same_clear, named_clear, arguments_clear, attribute_clear, name_clear, form_clear, expression_clear}
 use Rattle.built_laws.specs.Laws.{ReadExpressionsBuilt, ExpectedExpressionsBuilt}
 use Rattle.built_laws.proofs.Nothing.{none-of, unless-none}
 use Rattle.built_laws.proofs.Operators.{operation-there, operation-values, operation-of_one, one-there, typed-there}

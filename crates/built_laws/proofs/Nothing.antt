@@ -3,7 +3,6 @@ use Rattle.std.proofs.Common.{◌≡◌, Bool, true, false, List, [], ◌∷◌,
 use Rattle.std.specs.List.{flat_map}
 use Rattle.ann_base.specs.declared.places.Place.{Place}
 use Rattle.ada_legality.specs.declared.faults.Fault.{Fault}
-use Rattle.ada_legality.specs.declared.findings.Finding.{Finding}
 use Rattle.ada_legality.specs.declared.rules.Rule.{Rule}
 use Rattle.ada_legality.specs.Findings.{Found, broken_if, broken_unless}
 use Rattle.ada_legality.specs.Faults.{fault_in, faults_in}

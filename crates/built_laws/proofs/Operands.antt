@@ -1,5 +1,5 @@
 -- What is said of an expression that is read, and of operands and arguments, where no rule is broken.
-use Rattle.std.proofs.Common.{◌≡◌, Bool, true, false, List, [], ◌∷◌, map, refl}
+use Rattle.std.proofs.Common.{◌≡◌, Bool, true, false, List, [], ◌∷◌, map}
 use Rattle.std.specs.Prelude.{⊤}
 use Rattle.std.proofs.lemmas.Bool.{and_parts}
 use Rattle.ada_tree.specs.declared.expressions.Argument.{Argument}

@@ -1,5 +1,5 @@
 -- Operands of operators are of types of values, where no rule of operators is broken.
-use Rattle.std.proofs.Common.{◌≡◌, ℕ, Bool, true, false, not, ◌&&◌, [], Option, Some, None, is_some, is_none, refl, sym, ap, ◌∙◌, eqb-true}
+use Rattle.std.proofs.Common.{◌≡◌, Bool, true, false, not, ◌&&◌, [], Option, Some, None, is_some, is_none, refl, sym, ap, ◌∙◌, eqb-true}
 use Rattle.std.specs.Prelude.{ltb, unwrap_or}
 use Rattle.std.proofs.lemmas.Bool.{and_parts, false≢true}
 use Rattle.ann_base.specs.declared.places.Place.{Place}
@@ -15,7 +15,7 @@ use Rattle.ada_image.specs.Layout.{is_thing}
 use Rattle.ada_legality.specs.declared.reading.Typed.{Typed}
 use Rattle.ada_legality.specs.declared.reading.Typed.TheVariants as typing
 use Rattle.ada_legality.specs.Faults.{faults_in}
-use Rattle.ada_legality.specs.Types.{type_number, same_type, is_boolean, is_scalar, is_ordered, is_integer, is_duration, is_span_of_time, is_text, sum_of, difference_of, product_of, quotient_of, remainder_of, boolean_if, same_if, result_of, result_of_one, operand_type, has_type, typed_if, operation_type, operation_type_of_one}
+use Rattle.ada_legality.specs.Types.{type_number, same_type, is_boolean, is_scalar, is_ordered, is_text, sum_of, difference_of, product_of, quotient_of, remainder_of, boolean_if, result_of, result_of_one, operand_type, has_type, typed_if, operation_type, operation_type_of_one}
 use Rattle.ada_legality.specs.Reading.{operation_judged, operation_of_one_judged, concatenation_judged, sum_judged, typed_sum}
 use Rattle.ada_regions.specs.Words.{and_then}
 use Rattle.built_laws.specs.Clear.{has_values}

@@ -1,5 +1,5 @@
 -- A value that may be the call of a function of the source is built, where no rule is broken.
-use Rattle.std.proofs.Common.{◌≡◌, ℕ, Bool, true, false, cond, not, ◌&&◌, ◌||◌, List, [], ◌∷◌, ◌++◌, map, Option, Some, None, option_map, refl, sym, ap, subst, ◌∙◌}
+use Rattle.std.proofs.Common.{◌≡◌, Bool, true, false, cond, ◌&&◌, ◌||◌, List, [], ◌∷◌, ◌++◌, map, Option, Some, None, option_map, refl, sym, ap, subst, ◌∙◌}
 use Rattle.std.specs.Prelude.{unwrap_or, is_some}
 use Rattle.std.proofs.lemmas.Bool.{and_parts, false≢true}
 use Rattle.ann_base.specs.declared.places.Place.{Place}
@@ -17,14 +17,13 @@ use Rattle.ada_regions.specs.declared.entities.EntityKind.{EntityKind}
 use Rattle.ada_regions.specs.declared.entities.EntityKind.TheVariants as entity
 use Rattle.ada_regions.specs.Completions.{holds_of}
 use Rattle.ada_regions.specs.Names.{denoted_by, kind_at}
-use Rattle.ada_regions.specs.Words.{and_then, nothing_there}
+use Rattle.ada_regions.specs.Words.{and_then}
 use Rattle.ada_regions.specs.declared.types.AdaType.{AdaType}
 use Rattle.ada_image.specs.Layout.{is_thing}
 use Rattle.ada_image.specs.ImageOfCalls.{FunctionCall, call_of_kind}
 use Rattle.ada_legality.specs.declared.parts.ActualPart.{ActualPart}
 use Rattle.ada_legality.specs.declared.reading.Asked.TheVariants as asking
 use Rattle.ada_legality.specs.declared.reading.Read.{Read}
-use Rattle.ada_legality.specs.declared.reading.Shape.{Shape}
 use Rattle.ada_legality.specs.declared.reading.Shape.TheVariants as shapes
 use Rattle.ada_legality.specs.declared.standing.Known.{Known}
 use Rattle.ada_legality.specs.Faults.{faults_in}
@@ -32,10 +31,9 @@ use Rattle.ada_legality.specs.Findings.{Found}
 use Rattle.ada_legality.specs.Places.{place_of}
 use Rattle.ada_legality.specs.Calls.{formals_denoted, formals_of_kind}
 use Rattle.ada_legality.specs.CallStatements.{value_alone_found}
-use Rattle.ada_legality.specs.Attributes.{ends_of_object}
 use Rattle.ada_legality.specs.Values.{denoted_kind, denotes_function, denotes_value, is_function_kind, is_literal_kind, is_object_kind}
 use Rattle.ada_legality.specs.Reading.{Reading, actuals_judged, calls_function, fitted, first_relation, first_term, compared_read, signed_read, highest_read, bracketed_read, number_read, text_read}
-use Rattle.ada_legality.specs.ReadExpressions.{arguments_read, attribute_read, element_judged, name_judged, name_read, name_shape, named_expression, logical_expression, relational_expression, adding_expression, multiplying_expression, signed_expression, highest_expression, bracketed_expression, denoted_judged, form_read, may_be_value, read_expression, same_reading}
+use Rattle.ada_legality.specs.ReadExpressions.{arguments_read, attribute_read, name_judged, name_read, name_shape, named_expression, logical_expression, relational_expression, adding_expression, multiplying_expression, signed_expression, highest_expression, bracketed_expression, denoted_judged, form_read, may_be_value, read_expression, same_reading}
 use Rattle.ada_image.specs.BuiltExpressions.{kind_of}
 use Rattle.ada_image.specs.BuiltStatements.{call_built, call_in, call_of_form, call_or_value_built, source_built}
 use Rattle.image_laws.proofs.Expressions.{argument_of, mapped_form}

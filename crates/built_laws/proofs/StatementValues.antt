@@ -1,9 +1,8 @@
 -- Where statements have values, these are built: conditions, delays, the bounds of loops, and what a case selects by.
-use Rattle.std.proofs.Common.{◌≡◌, Bool, true, false, not, ◌||◌, [], ◌++◌, Option, Some, None, refl, ap}
+use Rattle.std.proofs.Common.{◌≡◌, Bool, true, false, not, [], Option, Some, None, refl, ap}
 use Rattle.std.specs.Prelude.{⊤, unwrap_or}
 use Rattle.std.proofs.lemmas.Bool.{and_from, and_parts, false≢true}
 use Rattle.ada_tree.specs.declared.expressions.Expression.{Expression}
-use Rattle.ada_tree.specs.declared.statements.Delay.{Delay}
 use Rattle.ada_tree.specs.declared.statements.Iteration.TheVariants as iteration
 use Rattle.ada_regions.specs.Words.{or_else}
 use Rattle.ada_regions.specs.declared.types.AdaType.{AdaType}
@@ -16,7 +15,7 @@ use Rattle.ada_legality.specs.declared.reading.Typed.TheVariants as typing
 use Rattle.ada_legality.specs.declared.standing.Known.{Known}
 use Rattle.ada_legality.specs.Faults.{faults_in}
 use Rattle.ada_legality.specs.Types.{is_discrete, discrete_if, has_type, type_of_bounds, type_of_low, typed_is}
-use Rattle.ada_legality.specs.Reading.{call_inside, calls_function, expected, is_discrete_or_refused}
+use Rattle.ada_legality.specs.Reading.{expected, is_discrete_or_refused}
 use Rattle.ada_legality.specs.ReadExpressions.{read_expression}
 use Rattle.ada_legality.specs.CallStatements.{condition_found, value_found}
 use Rattle.ada_legality.specs.Choices.{case_judged, selector_judged}
@@ -26,7 +25,7 @@ use Rattle.built_laws.specs.Clear.{has_values, expression_clear}
 use Rattle.built_laws.specs.Laws.{ReadConditionsBuilt, ReadDelaysBuilt, ReadIterationsBuilt, ReadSelectorsBuilt}
 use Rattle.built_laws.proofs.Nothing.{none-of, unless-none}
 use Rattle.built_laws.proofs.Actuals.{fitted-values}
-use Rattle.built_laws.proofs.Operands.{ReadWell, no-call}
+use Rattle.built_laws.proofs.Operands.{no-call}
 use Rattle.built_laws.proofs.Expressions.{expression-law, expected_expressions_built}
 
 -- ---- conditions and delays

@@ -1,5 +1,5 @@
 -- An expression that is the name of a variable is built as one: its index is, where it has one.
-use Rattle.std.proofs.Common.{◌≡◌, ℕ, Bool, true, false, cond, not, ◌&&◌, List, [], ◌∷◌, ◌++◌, map, Option, Some, None, option_map, is_none, refl, sym, ap, subst, ◌∙◌}
+use Rattle.std.proofs.Common.{◌≡◌, ℕ, Bool, true, false, cond, not, ◌&&◌, List, [], ◌∷◌, ◌++◌, map, Option, Some, None, option_map, is_none, refl, sym, ap, ◌∙◌}
 use Rattle.std.specs.Prelude.{unwrap_or}
 use Rattle.std.proofs.lemmas.Bool.{and_parts, false≢true}
 use Rattle.ann_base.specs.declared.places.Place.{Place}
@@ -27,9 +27,7 @@ use Rattle.ada_regions.specs.Words.{and_then, nothing_there}
 use Rattle.ada_image.specs.ImageOfExpressions.{first_argument}
 use Rattle.ada_legality.specs.declared.parts.ActualPart.{ActualPart}
 use Rattle.ada_legality.specs.declared.reading.Read.{Read}
-use Rattle.ada_legality.specs.declared.reading.Shape.{Shape}
 use Rattle.ada_legality.specs.declared.reading.Shape.TheVariants as shapes
-use Rattle.ada_legality.specs.declared.reading.Typed.{Typed}
 use Rattle.ada_legality.specs.declared.reading.Typed.TheVariants as typing
 use Rattle.ada_legality.specs.declared.standing.Known.{Known}
 use Rattle.ada_legality.specs.Faults.{faults_in}
@@ -37,7 +35,7 @@ use Rattle.ada_legality.specs.Places.{place_of}
 use Rattle.ada_legality.specs.Types.{has_type, typed_by}
 use Rattle.ada_legality.specs.Attributes.{is_variable, is_variable_kind}
 use Rattle.ada_legality.specs.Values.{denoted_kind, denotes_function, is_function_kind, subtype_of_entity, subtype_of_object, subtype_with_index, typed_call, typed_denoted, typed_name, typed_value}
-use Rattle.ada_legality.specs.Reading.{Reading, shape_is_variable, plain_read, with_minus, first_relation, with_relation, first_term, with_term, with_factor, compared_read, signed_read, highest_read, bracketed_read, number_read, text_read}
+use Rattle.ada_legality.specs.Reading.{Reading, shape_is_variable, first_relation, with_relation, first_term, with_term, with_factor, compared_read, signed_read, highest_read, bracketed_read, number_read, text_read}
 use Rattle.ada_legality.specs.ReadExpressions.{arguments_read, addends_read, factors_read, operands_read, attribute_read, name_judged, name_read, name_shape, named_expression, logical_expression, relational_expression, adding_expression, multiplying_expression, signed_expression, highest_expression, bracketed_expression, denoted_judged, form_read, may_be_value, reading_layer, read_expression, same_reading}
 use Rattle.ada_image.specs.BuiltExpressions.{expression_built}
 use Rattle.ada_image.specs.BuiltStatements.{value_if_there, variable_built, variable_form_built}

@@ -18,7 +18,7 @@ use Rattle.commands.specs.Outcomes.{status_of, note_of, refusal_text, script_not
 use Rattle.commands.specs.Performed.{OfAsked, OfSource, OfRun, OfNoScript, OfItems, IsAcceptable, OfTable, OfTrace, IsDone, IsRefused, IsTested, IsNoTable, IsTraced, IsNoTrace, IsFileCutShort, IsUnread, Performs}
 use Rattle.commands.specs.Statuses.{IsPrinted, NotAccepted, NotAcceptedUnder, LoadNotAccepted, NoScript, ScriptRefusalTold, RefusalTold, FailureTold, TableRefusalTold, BreachTold, TraceRefusalTold, IsCause, NoteTried, PrefixTold}
 use Rattle.commands.proofs.Told.{ItemsWith}
-use Rattle.commands.proofs.Conclusions.{stop_status-small, is_refused, is_refused_script, is_failed_test, is_refused_table, is_breach, is_refused_trace, is_words, is_read_fault, is_write_fault, is_memory, concluded, known, FailedNote, failed, low}
+use Rattle.commands.proofs.Conclusions.{stop_status-small, is_refused, is_refused_script, is_failed_test, is_refused_table, is_breach, is_refused_trace, is_words, is_read_fault, is_write_fault, is_memory, concluded, FailedNote, failed, low}
 use Rattle.commands.proofs.AskedFiles.{at_source_under, at_run, at_run_under, at_items, at_acceptable, no_table, source_no_script, script_no_table, script_no_trace, source_no_trace, at_load_run, load_no_script, load_no_table, load_no_trace, source_map, table_map, trace_map, nothing_asked, no_request}
 use Rattle.commands.proofs.RunsTold.{disturbed, no_items}
 use Rattle.commands.proofs.DoneTold.{printed}

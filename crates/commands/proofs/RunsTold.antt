@@ -17,7 +17,7 @@ use Rattle.commands.specs.Outside.{ShelfChange, SinkChange, IsKept, Gained}
 use Rattle.commands.specs.Outcomes.{status_of, Concludes}
 use Rattle.commands.specs.Performed.{text_for, outcome_for, OfItems, IsDone, IsRefused, IsTested, IsNoTable, IsTraced, IsNoTrace, Performs}
 use Rattle.commands.specs.Statuses.{IsUndisturbed, Headline, HeadlineUnder, LoadTold, AcceptanceTold}
-use Rattle.commands.proofs.Conclusions.{concluded, known, failed}
+use Rattle.commands.proofs.Conclusions.{concluded, failed}
 use Rattle.commands.proofs.AskedFiles.{at_source, at_source_under, at_run, at_run_under, at_items, at_no_script, no_table, source_no_script, script_no_table, script_no_trace, source_no_trace, at_load, at_load_run, load_no_script, load_no_table, load_no_trace, no_request}
 
 -- ---- what is accepted is done

@@ -1,6 +1,5 @@
 -- What a test of a table tells.
 use Rattle.std.proofs.Common.{◌≡◌, ℕ, Bool, List, Option, Some, None, Result, Ok, Err, if◌then◌else◌, is_some, refl, sym, ap, subst, ◌∙◌, arith}
-use Rattle.outside_bytes.specs.Files.{told}
 use Rattle.sched_tests.specs.declared.duties.Duty.{Duty}
 use Rattle.sched_tests.specs.declared.duties.TableFault.{TableFault}
 use Rattle.sched_tests.specs.Demand.{first_over_of, busy_of}

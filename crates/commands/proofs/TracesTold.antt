@@ -1,6 +1,5 @@
 -- What is told of a trace.
 use Rattle.std.proofs.Common.{◌≡◌, ℕ, Bool, List, Option, Result, Ok, Err, refl, sym, subst}
-use Rattle.outside_bytes.specs.Files.{told}
 use Rattle.commands.specs.declared.outcomes.Outcome.{Outcome}
 use Rattle.commands.specs.declared.outcomes.Outcome.TheVariants.{Ended, Accepted, Tested, Traced, WordsRefused, SourceRefused, ScriptRefused, TableRefused, TraceRefused, ReadFault, WriteFault, NoMemory}
 use Rattle.trace_laws.specs.declared.verdicts.Verdict.{Verdict}

@@ -13,8 +13,8 @@ use ada_regions::{AdaType, Subtype};
 use ada_subtypes::subtype_of_name;
 use ada_tree::{Addend, Argument, Expression, ExpressionForm, Name, OneOrMore};
 use ann_base::NoMemory;
-use image_expressions::{expression_made, first_argument, no_value};
-use image_layout::action_put;
+use image_expressions::{expression_made, no_value};
+use image_layout::{action_put, first_argument};
 use profile_machine::{ExprNo, Piece, Sequence, StatementForm, StatementNo};
 use std::alloc::Global;
 

@@ -16,8 +16,8 @@ use ada_regions::Operation;
 use ada_tree::{Argument, Expression};
 use ann_base::NoMemory;
 use image_actuals::{no_variable, not_built, put_line_put, value_or_none, variable_in};
-use image_expressions::{argument_from, expression_made, named, thing_in};
-use image_layout::action_put;
+use image_expressions::{expression_made, named, thing_in};
+use image_layout::{action_put, argument_from};
 use profile_machine::{DeclNo, ExprNo, StatementForm, StatementNo, VariableName};
 use std::alloc::Global;
 

@@ -15,8 +15,7 @@ use ada_image::{Lists, Within};
 use ada_tree::{Argument, Expression, Identifier};
 use ann_base::NoMemory;
 use image_actuals::value_or_none;
-use image_expressions::argument_from;
-use image_layout::action_put;
+use image_layout::{action_put, argument_from};
 use image_types::is_span;
 use profile_machine::{ExprNo, Setting, StatementForm, StatementNo};
 

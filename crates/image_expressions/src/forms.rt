@@ -4,7 +4,6 @@ ghost use Rattle.std.specs.Prelude.{◌≡◌, option_copied, option_map, IfOk};
 ghost use Rattle.ada_image.specs.Made.{Made};
 ghost use Rattle.ada_image.specs.ImageOfExpressions.{expression_image, expression_made, signs_in, signs_if, item_made, denoted_made, named_made};
 
-use crate::arguments::first_argument;
 use crate::functions::function_made;
 use crate::images::Imaged;
 use crate::literals::literal_value;
@@ -20,7 +19,7 @@ use ada_image::{Lists, Within};
 use ada_regions::{Denoted, Names, Predefined};
 use ada_tree::{Argument, AttributeDesignator, Expression, ExpressionForm, Name};
 use ann_base::NoMemory;
-use image_layout::{added, highest_operator};
+use image_layout::{added, first_argument, highest_operator};
 use profile_machine::{ExprNo, Value};
 
 /// What a predefined unit declares, as a value.

@@ -6,7 +6,6 @@ ghost use Rattle.ada_image.specs.Made.{Made};
 ghost use Rattle.ada_image.specs.ImageOfExpressions.{actuals_for, image_or_none, optional_made, span_made, same_ticks_made, of_task_made, port_made, name_in, of_thing_made, thing_in, images_for, function_made};
 ghost use Rattle.profile_machine.specs.declared.expressions.Expression.TheVariants as valuation;
 
-use crate::arguments::argument_from;
 use crate::images::Imaged;
 use crate::names::thing_in;
 use crate::values::no_value;
@@ -14,7 +13,7 @@ use ada_image::{Lists, Within};
 use ada_regions::Operation;
 use ada_tree::Argument;
 use ann_base::{Moment, NoMemory};
-use image_layout::value_put;
+use image_layout::{argument_from, value_put};
 use profile_machine::{DeclNo, ExprNo, Expression};
 
 /// An actual; where it is missing, what no accepted source has there.

@@ -3,7 +3,6 @@
 //! cannot hold is answered as want of memory.
 #![tactic(auto)]
 
-mod arguments;
 mod forms;
 mod functions;
 mod images;
@@ -15,7 +14,6 @@ mod sums;
 mod values;
 mod variables;
 
-pub use arguments::{argument_from, first_argument};
 pub use forms::{expression_made, named, signs_if, signs_in};
 pub use images::Imaged;
 pub use names::{

@@ -9,8 +9,7 @@ use crate::expressions::expression_built;
 use crate::names::kind_of;
 use ada_regions::{EntityKind, Formal, Mode, Names};
 use ada_tree::{Argument, AttributeDesignator, Expression, ExpressionForm, Name};
-use image_expressions::{argument_from, first_argument};
-use image_layout::subtype_is_thing;
+use image_layout::{argument_from, first_argument, subtype_is_thing};
 
 /// A value that has to be there.
 pub(crate) fn value_there(expression: Option<&Expression>, names: &Names<'_>) -> bool

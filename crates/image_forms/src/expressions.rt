@@ -12,7 +12,7 @@ use ada_tree::{
     Addend, Argument, AttributeDesignator, Expression, ExpressionForm, Multiplied, Name, OneOrMore,
     Operand,
 };
-use image_expressions::first_argument;
+use image_layout::first_argument;
 
 /// What a predefined unit declares, as a value.
 fn item_built<E: HasForm>(item: Predefined, arguments: &[Argument<E>], names: &Names<'_>) -> bool

@@ -7,7 +7,7 @@ ghost use Rattle.ada_image.specs.BuiltExpressions.{is_there, is_built_if_there, 
 use crate::forms::HasForm;
 use ada_regions::{Names, Operation};
 use ada_tree::Argument;
-use image_expressions::argument_from;
+use image_layout::argument_from;
 
 /// An actual that has to be there.
 fn is_there<E: HasForm>(actual: Option<&E>, names: &Names<'_>) -> bool

@@ -9,7 +9,7 @@ use crate::actuals::{value_if_there, value_there, variable_there};
 use crate::texts::text_built;
 use ada_regions::{Names, Operation};
 use ada_tree::{Argument, Expression};
-use image_expressions::argument_from;
+use image_layout::argument_from;
 
 /// The moment or the span of a Set_Handler (D.14.1, D.15).
 #[tactic(auto, unfolding(ada_image::specs::ImageOfProcedures::moment_of))]

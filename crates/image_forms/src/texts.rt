@@ -6,7 +6,7 @@ ghost use Rattle.ada_image.specs.BuiltStatements.{piece_built, pieces_built, tex
 use crate::actuals::value_there;
 use ada_regions::Names;
 use ada_tree::{Addend, Expression, ExpressionForm, OneOrMore};
-use image_expressions::first_argument;
+use image_layout::first_argument;
 
 /// What is joined with others.
 fn piece_built(expression: &Expression, names: &Names<'_>) -> bool

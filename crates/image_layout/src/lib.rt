@@ -1,8 +1,11 @@
-//! What the making of an image stands on: its lists, the places of statements, the cells of declarations, and what rules
-//! of legality ask for too, overriding procedures, the units of entries, operators and the parts of names (ISO/IEC
-//! 8652:2012, 3.3.1, 3.5, 3.6, 4.1.3, 4.5, 5.1, 7.6, 9.5.2). Each function has the name of the definition of `ada_image` of which it is the counterpart.
+//! What the making of an image stands on: its lists, the places of statements, the cells of
+//! declarations, the arguments of calls, and what rules of legality ask for too, overriding
+//! procedures, the units of entries, operators and the parts of names (ISO/IEC 8652:2012, 3.3.1,
+//! 3.5, 3.6, 4.1.3, 4.5, 5.1, 6.4.1, 7.6, 9.5.2). Each function has the name of the definition of
+//! `ada_image` of which it is the counterpart.
 #![tactic(auto)]
 
+mod arguments;
 mod entries;
 mod first_values;
 mod making;
@@ -15,6 +18,7 @@ mod subtypes;
 mod widths;
 mod within;
 
+pub use arguments::{argument_from, first_argument};
 pub use entries::same_entry_unit;
 pub use first_values::first_value;
 pub use making::{action_put, counted, first_put, put_at, reserved, the_action, value_put};

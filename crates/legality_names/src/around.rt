@@ -2,6 +2,7 @@
 ghost use Rattle.std.specs.Prelude.{◌≡◌, ◌||◌, find, option_copied};
 ghost use Rattle.ada_legality.specs.Values.{unit_around, type_around, is_entity, is_type, stands_in_unit, stands_in_type};
 ghost use Rattle.ada_legality.specs.Words.{is_body, is_accept, body_around, sequence_around};
+ghost use Rattle.ada_legality.specs.SimpleStatements.{same_entities};
 ghost use Rattle.ada_legality.specs.Attributes.{is_task_body, in_own_task, single_object, is_protected_body, innermost_unit, is_type_in};
 
 use ada_legality::{Around, Known};
@@ -211,5 +212,15 @@ pub fn innermost_unit(known: &Known<'_, '_>) -> Option<AdaType>
     match protected_body_found(&known.around) {
         None => None,
         Some(around) => type_around(*around),
+    }
+}
+
+/// Two entities are the same.
+pub fn same_entities(a: Option<u32>, b: Option<u32>) -> bool
+    ensures { result ≡ same_entities a b }
+{
+    match (a, b) {
+        (Some(a), Some(b)) => a == b,
+        _ => false,
     }
 }

@@ -1,6 +1,7 @@
 //! Kinds of entities (ISO/IEC 8652:2012, 3.1, 3.3, 6.1, 9.5.2).
 ghost use Rattle.std.specs.Prelude.{◌≡◌};
 ghost use Rattle.ada_legality.specs.Values.{is_object_kind, is_literal_kind, is_function_kind, is_procedure_kind, is_entry_kind, formals_of_subprogram};
+ghost use Rattle.ada_legality.specs.SimpleStatements.{task_type_of_entry};
 ghost use Rattle.ada_legality.specs.Attributes.{protected_procedure, is_in_mode, is_variable_kind, type_of_entry_unit, unit_type_of_entry};
 
 use ada_regions::{AdaType, EntityKind, Formal, Mode};
@@ -122,6 +123,19 @@ pub fn unit_type_of_entry(kind: &EntityKind) -> Option<AdaType>
 {
     match kind {
         EntityKind::Entry { unit, .. } => Some(type_of_entry_unit(*unit)),
+        _ => None,
+    }
+}
+
+/// The task unit of an entry.
+pub fn task_type_of_entry(kind: &EntityKind) -> Option<AdaType>
+    ensures { result ≡ task_type_of_entry kind.now }
+{
+    match kind {
+        EntityKind::Entry { unit, .. } => match unit {
+            EntryUnit::Task(unit) => Some(AdaType::Task(*unit)),
+            EntryUnit::Protected(_) => None,
+        },
         _ => None,
     }
 }

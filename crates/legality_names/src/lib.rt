@@ -6,6 +6,7 @@
 mod around;
 mod attributes;
 mod entities;
+mod exceptions;
 mod kinds;
 mod predefined;
 mod prefixes;
@@ -16,7 +17,8 @@ mod variables;
 
 pub use around::{
     body_around, in_own_task, innermost_unit, is_accept, is_body, is_entity, is_type, is_type_in,
-    sequence_around, single_object, stands_in_type, stands_in_unit, type_around, unit_around,
+    same_entities, sequence_around, single_object, stands_in_type, stands_in_unit, type_around,
+    unit_around,
 };
 pub use attributes::{
     counts, ends_of_mark, ends_of_object, has_images, is_task_object, takes_arguments,
@@ -26,9 +28,10 @@ pub use entities::{
     denoted_kind, entity_of_name, is_library_object, kind_of_identifier, kind_of_name,
     object_subtype, subtype_of_entity, type_of_unit_kind,
 };
+pub use exceptions::names_exception;
 pub use kinds::{
     formals_of_subprogram, is_entry_kind, is_function_kind, is_literal_kind, is_object_kind,
-    is_procedure_kind, is_variable_kind, unit_type_of_entry,
+    is_procedure_kind, is_variable_kind, task_type_of_entry, unit_type_of_entry,
 };
 pub use predefined::{operation_denoted, operation_of};
 pub use prefixes::{

@@ -6,15 +6,17 @@ ghost use Rattle.ada_regions.specs.Completions.{holds_of};
 ghost use Rattle.ada_legality.specs.Words.{any_in_body, any_in_sequence};
 ghost use Rattle.ada_legality.specs.CallStatements.{condition_found, found_if};
 ghost use Rattle.ada_image.specs.ReadExpressions.{same_truth};
-ghost use Rattle.ada_legality.specs.SimpleStatements.{is_loop, same_entities, is_loop_named, is_label_kind, exit_judged, exit_found, function_of, function_around, is_package_around, stands_in_package, returned, return_judged, result_expected, return_found, is_handler, is_exception_kind, is_exception_item, denotes_exception, raise_found};
+ghost use Rattle.ada_legality.specs.SimpleStatements.{is_loop, same_entities, is_loop_named, is_label_kind, exit_judged, exit_found, function_of, function_around, is_package_around, stands_in_package, returned, return_judged, result_expected, return_found, is_handler, raise_found};
 
-use ada_entities::{denoted_by, entity_denoted};
+use ada_entities::entity_denoted;
 use ada_legality::{Around, Finding, Known, Rule, SubprogramAround};
-use ada_regions::{AdaType, Denoted, EntityKind, Predefined};
+use ada_regions::{AdaType, EntityKind};
 use ada_tree::{Exit, Expression, Identifier, Name};
 use ann_base::{NoMemory, Place};
 use legality_expressions::place_of;
-use legality_names::{denoted_kind, is_accept, is_body, kind_of_identifier, sequence_around};
+use legality_names::{
+    is_accept, is_body, kind_of_identifier, names_exception, same_entities, sequence_around,
+};
 use legality_parts::{condition_found, value_alone_found_if};
 use legality_types::{broken_unless, note};
 use std::alloc::Global;
@@ -25,16 +27,6 @@ fn is_loop(around: Around) -> bool
 {
     match around {
         Around::Loop(_) => true,
-        _ => false,
-    }
-}
-
-/// Two entities are the same.
-pub fn same_entities(a: Option<u32>, b: Option<u32>) -> bool
-    ensures { result ≡ same_entities a b }
-{
-    match (a, b) {
-        (Some(a), Some(b)) => a == b,
         _ => false,
     }
 }
@@ -295,48 +287,6 @@ fn stands_in_handler(outer: &List<Around>) -> bool
         }
     }
     false
-}
-
-fn is_exception_kind(kind: &EntityKind) -> bool
-    ensures { result ≡ is_exception_kind kind.now }
-{
-    match kind {
-        EntityKind::Exception(_) => true,
-        _ => false,
-    }
-}
-
-fn is_exception_item(item: Predefined) -> bool
-    ensures { result ≡ is_exception_item item }
-{
-    match item {
-        Predefined::Exception(_) => true,
-        _ => false,
-    }
-}
-
-/// An exception.
-#[tactic(auto, unfolding(ada_legality::specs::SimpleStatements::denotes_exception))]
-fn denotes_exception(known: &Known<'_, '_>, denoted: Denoted) -> bool
-    ensures { result ≡ denotes_exception known.now denoted }
-{
-    match denoted {
-        Denoted::Item { item, .. } => is_exception_item(item),
-        _ => match denoted_kind(known.names.get(), denoted) {
-            None => false,
-            Some(kind) => is_exception_kind(kind),
-        },
-    }
-}
-
-/// A name denotes an exception.
-pub fn names_exception(known: &Known<'_, '_>, name: &Name) -> bool
-    ensures { result ≡ is_denoted (denotes_exception known.now) known.now name.now }
-{
-    match denoted_by(known.names.get(), name) {
-        None => false,
-        Some(denoted) => denotes_exception(known, denoted),
-    }
 }
 
 /// A raise: without a name it stands in a handler, and in no body inside it.

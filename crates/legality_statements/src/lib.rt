@@ -10,6 +10,6 @@ mod requeues;
 
 pub use assignments::{assignment_found, delay_found};
 pub use calls::call_found;
-pub use leaving::{exit_found, names_exception, raise_found, return_found, same_entities};
+pub use leaving::{exit_found, raise_found, return_found};
 pub use loops::{entry_call_found, guard_found, iteration_found, trigger_found, with_iteration};
-pub use requeues::{abort_found, names_entry, requeue_found, task_type_of_entry};
+pub use requeues::{abort_found, names_entry, requeue_found};

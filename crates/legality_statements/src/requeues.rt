@@ -19,11 +19,11 @@ use ann_base::{NoMemory, Place};
 use legality_expressions::{is_unclear_object, place_of};
 use legality_names::{
     denotes_value, innermost_unit, is_accept, is_body, is_entry_kind, is_task_object, is_type_in,
-    kind_of_name, object_prefix, sequence_around, stands_in_unit, unit_type_of_entry,
+    kind_of_name, object_prefix, sequence_around, stands_in_unit, task_type_of_entry,
+    unit_type_of_entry,
 };
 use legality_profiles::same_mode;
 use legality_types::{broken_if, broken_unless, same_type_if};
-use profile_machine::EntryUnit;
 use world_tables::List;
 
 /// A task object, or one whose own declaration names no type.
@@ -162,19 +162,6 @@ fn is_of_same_object(known: &Known<'_, '_>, name: &Name) -> bool
 {
     is_type_in(unit_type_of_name(known, name), innermost_unit(known))
         && names_unit_around(known, name)
-}
-
-/// The task unit of an entry.
-pub fn task_type_of_entry(kind: &EntityKind) -> Option<AdaType>
-    ensures { result ≡ task_type_of_entry kind.now }
-{
-    match kind {
-        EntityKind::Entry { unit, .. } => match unit {
-            EntryUnit::Task(unit) => Some(AdaType::Task(*unit)),
-            EntryUnit::Protected(_) => None,
-        },
-        _ => None,
-    }
 }
 
 /// An entry of a task.

@@ -26,7 +26,7 @@ use Rattle.profile_machine.specs.declared.world.marks.ProtectedMark.{ProtectedMa
 use Rattle.profile_machine.specs.declared.world.marks.Purpose.{Purpose}
 use Rattle.profile_machine.specs.declared.world.tasks.Task.{Task}
 use Rattle.profile_machine.specs.declared.world.tasks.Waiting.{Waiting}
-use Rattle.profile_machine.specs.declared.world.tasks.State.TheVariants.{Made, Runnable, Blocked}
+use Rattle.profile_machine.specs.declared.world.tasks.State.TheVariants.{Runnable, Blocked}
 use Rattle.profile_machine.specs.declared.world.scopes.Beginning.{Beginning}
 use Rattle.profile_machine.specs.declared.world.scopes.ScopeId.{ScopeId}
 use Rattle.profile_machine.specs.declared.world.scopes.Located.{Located}

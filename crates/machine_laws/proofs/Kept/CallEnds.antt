@@ -26,10 +26,10 @@ use Rattle.profile_machine.specs.Scopes.{write_cell}
 use Rattle.profile_machine.specs.Operators.{Valued, checked}
 use Rattle.profile_machine.specs.CallEnds.{go_by_outcome, resume, store, or_stored, copy_back, with_results, edit_depth, edit_frame, edit_abortable, edit_abortable_at, trigger_at, trigger_outcome, forget_trigger, run_triggered, ended_by_itself, behind_abortable, end_abortable, end_abortable_in, end_top_abortable, end_wait, waits_for_end, end_for_abortable, end_for_caller, end_for, end_with, end_call, deliver, gone, waited_mark, is_cancelled}
 use Rattle.std.specs.Prelude.{slice_set, true, false, cond, eqb, length}
-use Rattle.std.proofs.Common.{◌≡◌, refl, ap, ◌∙◌}
+use Rattle.std.proofs.Common.{◌≡◌, refl, ap}
 use Rattle.machine_laws.proofs.Moves.{StepRelation, MoveRelation}
 use Rattle.machine_laws.proofs.FineMoves.{GoodWorld, Naming, FineMoves, nature, natures}
-use Rattle.machine_laws.proofs.Kept.Combinators.{Keeps, Alters, Gives, bind-gives, branch-keeps, changes-keeps, looks-keeps, nothing-keeps, ok-gives, says-keeps, then-keeps, unchanged-alters, when-keeps, changes_then-from, either-from, from-keeps, keeps-from, looks-from, looks_at-from, From}
+use Rattle.machine_laws.proofs.Kept.Combinators.{Keeps, Alters, Gives, bind-gives, branch-keeps, changes-keeps, looks-keeps, nothing-keeps, ok-gives, says-keeps, then-keeps, unchanged-alters, when-keeps, changes_then-from, keeps-from, looks-from, looks_at-from, From}
 use Rattle.machine_laws.proofs.Kept.Tasks.{edit_frames-alters}
 use Rattle.machine_laws.proofs.Kept.Dispatching.{ready-keeps}
 use Rattle.machine_laws.proofs.Kept.Frames.{goes-keeps, popped, leaves-keeps, raises-keeps, pass_on-keeps, open_sequence-keeps}

@@ -4,7 +4,6 @@ use Rattle.profile_machine.specs.declared.world.lines.Line.TheVariants as line
 use Rattle.trace_text.specs.declared.events.Who.{Who}
 use Rattle.trace_text.specs.declared.events.QueueEnd.{QueueEnd}
 use Rattle.profile_machine.specs.declared.image.Image.{Image}
-use Rattle.profile_machine.specs.declared.world.World.{World}
 use Rattle.profile_machine.specs.declared.world.tasks.Task.{Task}
 use Rattle.profile_machine.specs.declared.world.tasks.Waiting.{Waiting}
 use Rattle.profile_machine.specs.declared.world.tasks.State.TheVariants.{Runnable, Blocked}
@@ -17,7 +16,7 @@ use Rattle.std.proofs.Common.{◌≡◌, refl}
 use Rattle.std.specs.Prelude.{false}
 use Rattle.machine_laws.proofs.Moves.{StepRelation, MoveRelation}
 use Rattle.machine_laws.proofs.FineMoves.{GoodWorld, Naming, FineMoves}
-use Rattle.machine_laws.proofs.Kept.Combinators.{Keeps, From, Alters, changes-keeps, from-keeps, said-from, said-keeps, then-keeps, looks_at-from}
+use Rattle.machine_laws.proofs.Kept.Combinators.{Keeps, Alters, changes-keeps, from-keeps, said-from, said-keeps, then-keeps, looks_at-from}
 use Rattle.machine_laws.proofs.Kept.Tasks.{edit_task-alters}
 
 -- a quantum is no state

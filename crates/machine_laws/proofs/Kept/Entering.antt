@@ -16,7 +16,6 @@ use Rattle.profile_machine.specs.Tasks.{task_at, edit_task_found, edit_task}
 use Rattle.profile_machine.specs.Values.{object_of, is_object}
 use Rattle.profile_machine.specs.Protected.{is_action_of, has_open, excludes, is_above_ceiling, entering_option, entering}
 use Rattle.machine_laws.proofs.Moves.{LetsIn, FindsHeld}
-use Rattle.machine_laws.proofs.FineMoves.{GoodWorld, Naming, FineMoves}
 
 abbrev tested : Bool → Bool → Bool → Entering
 tested inside above held = cond inside entering_is.SameObject (cond above entering_is.AboveCeiling (cond held entering_is.Held entering_is.Inside))

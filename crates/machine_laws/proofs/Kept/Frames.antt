@@ -17,7 +17,7 @@ use Rattle.profile_machine.specs.Program.{form_of, next_of}
 use Rattle.profile_machine.specs.declared.world.lines.Part.{Part}
 use Rattle.profile_machine.specs.declared.world.lines.Part.TheVariants.{Own}
 use Rattle.profile_machine.specs.Steps.{Step, changes, ◌▷◌}
-use Rattle.profile_machine.specs.Frames.{top_of, new_frame, edit_first, edit_top, goes, push, pop, leaves, raises, has_room, open_handled, open_at, onward_of, open_sequence, open_if_ready, stands_in, exit_loop, pass_on, is_protected, given, raise_if, with_room, goes_on}
+use Rattle.profile_machine.specs.Frames.{top_of, new_frame, edit_first, edit_top, goes, push, pop, leaves, raises, has_room, open_handled, open_at, open_sequence, open_if_ready, stands_in, exit_loop, pass_on, is_protected, given, raise_if, with_room, goes_on}
 use Rattle.profile_machine.specs.Operators.{Valued}
 use Rattle.machine_laws.proofs.Moves.{StepRelation, MoveRelation}
 use Rattle.machine_laws.proofs.FineMoves.{GoodWorld, Naming, FineMoves, Openings, nature, natures}

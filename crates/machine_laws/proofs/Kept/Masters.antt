@@ -12,7 +12,7 @@ use Rattle.profile_machine.specs.declared.world.World.{World}
 use Rattle.profile_machine.specs.declared.world.tasks.State.TheVariants.{Runnable}
 use Rattle.profile_machine.specs.declared.world.lines.Part.TheVariants.{OfOther}
 use Rattle.profile_machine.specs.Words.{same_who}
-use Rattle.profile_machine.specs.Steps.{changes, for_some, ◌▷◌}
+use Rattle.profile_machine.specs.Steps.{changes, for_some}
 use Rattle.profile_machine.specs.Tasks.{edit_task, with_state, waiting_of}
 use Rattle.profile_machine.specs.Dispatching.{ready}
 use Rattle.profile_machine.specs.Frames.{leaves}

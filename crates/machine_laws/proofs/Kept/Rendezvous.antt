@@ -37,12 +37,11 @@ use Rattle.profile_machine.specs.Rendezvous.{accept_scope, open_accept, has_room
 use Rattle.std.proofs.Common.{◌≡◌, refl}
 use Rattle.machine_laws.proofs.Moves.{StepRelation, MoveRelation}
 use Rattle.machine_laws.proofs.FineMoves.{GoodWorld, Naming, FineMoves, Openings, finely}
-use Rattle.machine_laws.proofs.Kept.Combinators.{Keeps, From, Alters, branch-keeps, changes-keeps, for_some-keeps, keeps-from, looks-from, looks-keeps, nothing-keeps, says-keeps, sees-keeps, then-from, then-keeps, unchanged-alters, changes_then-from, looks_at-from}
+use Rattle.machine_laws.proofs.Kept.Combinators.{Keeps, From, Alters, branch-keeps, changes-keeps, for_some-keeps, keeps-from, looks-from, looks-keeps, nothing-keeps, says-keeps, then-from, then-keeps, unchanged-alters, changes_then-from, looks_at-from}
 use Rattle.machine_laws.proofs.AtOnce.{at_once, later_behind}
 use Rattle.machine_laws.proofs.Kept.Serving.{keeps_sending-number}
-use Rattle.machine_laws.proofs.Kept.Tasks.{edit_task-alters}
 use Rattle.machine_laws.proofs.Kept.Dispatching.{ready-keeps, block-keeps, blocked-keeps}
-use Rattle.machine_laws.proofs.Kept.Frames.{goes-keeps, raises-keeps, open_sequence-keeps, pass_on-keeps, given-keeps, raise_if-keeps, edit_top-alters, goes_then-from, popped, given-from, raise_if-from}
+use Rattle.machine_laws.proofs.Kept.Frames.{goes-keeps, raises-keeps, open_sequence-keeps, pass_on-keeps, raise_if-keeps, edit_top-alters, goes_then-from, popped, given-from, raise_if-from}
 use Rattle.machine_laws.proofs.Kept.Scopes.{end_scope-alters}
 use Rattle.machine_laws.proofs.Kept.Inheritance.{inherit-alters, inherit_running-keeps, lose_running-keeps}
 use Rattle.machine_laws.proofs.Kept.Appointments.{appoint-from, is_later, drop_delay-alters}

@@ -1,8 +1,7 @@
 -- Queued calls that are served, and objects that are released: each step keeps a relation that its parts keep.
-use Rattle.std.specs.Prelude.{ℕ, zero, suc, Bool, true, false, List, [], ◌∷◌, ◌++◌, Option, Some, None, length}
+use Rattle.std.specs.Prelude.{ℕ, zero, suc, Bool, true, false, List, [], ◌∷◌, Option, Some, None, length}
 use Rattle.std.proofs.lemmas.Bool.{eqb-true}
 use Rattle.ann_base.specs.declared.identities.CallNo.{CallNo}
-use Rattle.ann_base.specs.declared.identities.ObjectNo.{ObjectNo}
 use Rattle.ann_base.specs.declared.exceptions.Raised.{Raised}
 use Rattle.ann_base.specs.declared.exceptions.Raised.TheVariants as exception
 use Rattle.trace_text.specs.declared.events.Mode.{Mode}
@@ -32,11 +31,11 @@ use Rattle.profile_machine.specs.Dispatching.{block}
 use Rattle.profile_machine.specs.Steps.{Step, says, changes, looks, when, nothing, ◌▷◌}
 use Rattle.profile_machine.specs.Protected.{served_next}
 use Rattle.profile_machine.specs.Values.{object_of}
-use Rattle.profile_machine.specs.Serving.{serves_nothing, is_served_now, serve_ends, end_release, close_action, wait_or_unwind, wait_for_own, resume_own, behind_action, release_object, settle_sent, begins_part, chosen_is_sent, serve_chosen, serve_next, serve_calls, go_on_by_mode, end_operation, finish_raised, finish_well, finish_call, end_entry_body, end_in_protected_by, end_in_protected, keep_values, keeps_sending, end_body_of_entry, part_of_start, with_body_left, no_longer_serves}
+use Rattle.profile_machine.specs.Serving.{serves_nothing, is_served_now, serve_ends, end_release, close_action, wait_or_unwind, wait_for_own, resume_own, behind_action, release_object, settle_sent, begins_part, chosen_is_sent, serve_chosen, serve_next, serve_calls, go_on_by_mode, end_operation, finish_raised, finish_well, finish_call, end_entry_body, end_in_protected_by, end_in_protected, keep_values, keeps_sending, end_body_of_entry, part_of_start}
 use Rattle.std.proofs.Common.{◌≡◌, refl, sym, subst}
 use Rattle.machine_laws.proofs.Moves.{StepRelation, MoveRelation, own, Moves}
 use Rattle.machine_laws.proofs.FineMoves.{GoodWorld, Naming, FineMoves, Openings, Exits, AnyWorld, AnyRelease, finely}
-use Rattle.machine_laws.proofs.Kept.Combinators.{Keeps, Kept, From, Alters, changes-keeps, keeps-from, looks-from, looks-keeps, then-from, nothing-keeps, says-keeps, then-keeps, when-keeps}
+use Rattle.machine_laws.proofs.Kept.Combinators.{Keeps, Kept, From, changes-keeps, keeps-from, looks-from, looks-keeps, then-from, nothing-keeps, says-keeps, then-keeps, when-keeps}
 use Rattle.machine_laws.proofs.Kept.Dispatching.{block-keeps}
 use Rattle.machine_laws.proofs.Kept.Frames.{edit_top-alters, leaves-keeps, pass_on-keeps}
 use Rattle.machine_laws.proofs.Kept.Inheritance.{lose_running-keeps}

@@ -29,12 +29,12 @@ use Rattle.profile_machine.specs.Scopes.{home, end_scope, cells_of, scope_in_use
 use Rattle.profile_machine.specs.Controlled.{next_to_finalize, finalize, top_region}
 use Rattle.profile_machine.specs.Declarations.{set_thing}
 use Rattle.profile_machine.specs.Tasking.{unit_of_declaration, optional_span, created_task, add_task, says_created, create_task, create, fall_from, unit_of_task, begin_task, says_done, fail_to_begin, activate_one, await_group, activate_group, activate, end_own_activation, end_made, complete_if_task, wait_for_dependents, leave_region, end_environment, end_task, is_normal, end_body, behind_scope, says_left, end_of_scope, go_on_leaving, end_scope_mark_of, end_scope_mark, says_abort, abort_one, unwind_one, abort_all, abort_statement, block_at_terminate, take_terminates, unwind_all, no_failure, is_to_activate, top_region_of_scope, is_to_abort, left_by, abnormal_task, named_tasks}
-use Rattle.std.proofs.Common.{◌≡◌, refl, sym, ap, ◌∙◌}
+use Rattle.std.proofs.Common.{◌≡◌, refl, ap, ◌∙◌}
 use Rattle.profile_machine.specs.Values.{seen_by}
 use Rattle.machine_laws.proofs.Moves.{StepRelation, MoveRelation}
 use Rattle.machine_laws.proofs.FineMoves.{GoodWorld, Naming, FineMoves, Openings, EachIs, first_is_false}
-use Rattle.machine_laws.proofs.Kept.Combinators.{Keeps, From, Alters, branch-keeps, changes-from, changes-keeps, cond-keeps, for_each-keeps, for_some-keeps, looks-from, looks-keeps, nothing-keeps, option-keeps, says-keeps, sees-keeps, then-from, then-keeps, when-keeps, for_each_task-keeps, some_of-others, listed-keeps, when-keeps-if, keeps-from, looks_at-from, changes_then-from}
-use Rattle.machine_laws.proofs.Kept.Frames.{raise_if-from, given-from, edit_top-alters, goes-keeps, raises-keeps, pass_on-keeps, given-keeps, raise_if-keeps, goes_then-from, popped}
+use Rattle.machine_laws.proofs.Kept.Combinators.{Keeps, From, Alters, branch-keeps, changes-keeps, cond-keeps, for_each-keeps, for_some-keeps, looks-from, looks-keeps, nothing-keeps, says-keeps, sees-keeps, then-keeps, when-keeps, for_each_task-keeps, some_of-others, listed-keeps, when-keeps-if, keeps-from, looks_at-from, changes_then-from}
+use Rattle.machine_laws.proofs.Kept.Frames.{raise_if-from, given-from, edit_top-alters, goes-keeps, raises-keeps, pass_on-keeps, given-keeps, raise_if-keeps, popped}
 use Rattle.machine_laws.proofs.Kept.Tasks.{edit_task-alters}
 use Rattle.machine_laws.proofs.Kept.Dispatching.{to_head-keeps, ready-keeps, says_block-keeps, block-keeps}
 use Rattle.machine_laws.proofs.Kept.Scopes.{open_scope-alters, end_scope-alters}

@@ -1,7 +1,7 @@
-use Rattle.std.proofs.Common.{◌≡◌, ◌∙◌, ◌&&◌, Bool, true, false, sym, ap}
+use Rattle.std.proofs.Common.{◌∙◌, true, false, sym, ap}
 use Rattle.ada_image.specs.ImageOfExpressions.{argument_from, actuals_for}
-use Rattle.ada_image.specs.BuiltStatements.{actual_built, arguments_built}
-use Rattle.image_forms.proofs.ActualLemmas.{actuals_from, actuals_more, first_missing, first_there}
+use Rattle.ada_image.specs.BuiltStatements.{actual_built}
+use Rattle.image_forms.proofs.ActualLemmas.{actuals_more, first_missing, first_there}
 use Rattle.image_forms.proofs.actuals.arguments_built.Goals as goal
 
 -- an actual is not built

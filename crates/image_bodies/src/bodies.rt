@@ -1,12 +1,12 @@
 //! Bodies among declarations (ISO/IEC 8652:2012, 6.3, 9.1, 9.4, 9.5.2).
 ghost use Rattle.std.specs.Prelude.{◌≡◌};
 ghost use Rattle.ada_image.specs.Made.{Made};
-ghost use Rattle.ada_image.specs.ImageOfDeclarations.{body_put, operation_body_put, operation_bodies_put, inner_body_put, inner_bodies_put};
+ghost use Rattle.ada_image.specs.ImageOfDeclarations.{body_put, subprogram_declared_as, operation_body_put, operation_bodies_put, inner_body_put, inner_bodies_put};
 
 use crate::making::MakeSequence;
 use ada_entities::entity_denoted;
 use ada_image::{Lists, SequencePlace, Within};
-use ada_tree::{Declaration, OperationBody};
+use ada_tree::{Body, Declaration, OperationBody, SubprogramSpecification};
 use ann_base::{NoMemory, Place};
 use image_layout::{first_put, in_body_of, in_unit};
 use image_objects::subprogram_declared_as;
@@ -34,6 +34,28 @@ pub fn body_put<Q: MakeSequence>(
     first_put(lists, scope, first)
 }
 
+/// The body of a subprogram that its name declares (6.3).
+fn subprogram_body_put<Q: MakeSequence>(
+    alloc: Global,
+    lists: &mut Lists,
+    within: &Within<'_, '_>,
+    specification: &SubprogramSpecification,
+    body: &Body<Q>,
+) -> Result<(), NoMemory>
+    ensures { Made (body_put Q.making within.now specification.now.place (subprogram_declared_as within.now specification.now.name) false body.now.sequence) lists.old lists.new result }
+{
+    let function = subprogram_declared_as(within, &specification.name);
+    body_put(
+        alloc,
+        lists,
+        within,
+        specification.place,
+        function,
+        false,
+        &body.sequence,
+    )
+}
+
 /// The body of an operation of a protected unit (9.4).
 #[tactic(auto, unfolding(ada_image::specs::ImageOfDeclarations::operation_body_put))]
 fn operation_body_put<Q: MakeSequence>(
@@ -48,18 +70,7 @@ fn operation_body_put<Q: MakeSequence>(
         OperationBody::Subprogram {
             specification,
             body,
-        } => {
-            let function = subprogram_declared_as(within, &specification.name);
-            body_put(
-                alloc,
-                lists,
-                within,
-                specification.place,
-                function,
-                false,
-                &body.sequence,
-            )
-        }
+        } => subprogram_body_put(alloc, lists, within, specification, body),
         OperationBody::Entry { head, body } => {
             body_put(
                 alloc,
@@ -109,18 +120,7 @@ fn inner_body_put<Q: MakeSequence>(
         Declaration::SubprogramBody {
             specification,
             body,
-        } => {
-            let function = subprogram_declared_as(within, &specification.name);
-            body_put(
-                alloc,
-                lists,
-                within,
-                specification.place,
-                function,
-                false,
-                &body.sequence,
-            )
-        }
+        } => subprogram_body_put(alloc, lists, within, specification, body),
         Declaration::Task(_) => Ok(()),
         Declaration::TaskBody { place, name, body } => {
             let unit = entity_denoted(within.names.get(), name.place);

@@ -6,13 +6,14 @@ ghost use Rattle.profile_machine.specs.Tasks.{waiting_of};
 ghost use Rattle.machine_frames.specs.Did.{Did};
 
 use ann_base::{CallNo, NoMemory, Raised};
-use machine_calls::{copied_call, deliver, next_of_queue, parameters_of, place_of_entry, queue_of};
+use machine_calls::deliver;
 use machine_dispatching::{block, inherit_running};
 use machine_frames::{
     Effect, goes, has_room, in_protected, new_frame, push, raises, says, waiting_of,
 };
 use machine_operators::{Program, form_of, marks_of, next_of, scope_of};
 use machine_protected::begin_call;
+use machine_queues::{copied_call, next_of_queue, parameters_of, place_of_entry, queue_of};
 use machine_values::{begin_scope, innermost, next_id};
 use profile_machine::world::{
     AcceptMark, Beginning, Call, Cause, Line, Mark, MeetingEnd, Outcome, Owner, Part, ScopeId,

@@ -7,12 +7,12 @@ ghost use Rattle.profile_machine.specs.Unwinding.{any_struck};
 ghost use Rattle.machine_frames.specs.Did.{Did};
 ghost use Rattle.machine_calls.specs.Endings.{ending_by, ending_in, ended_so};
 
-use crate::calls::{call_of, forget_call};
 use crate::marks::{set_triggered_at, strike_at};
 use crate::onward::onward_when_done;
 use ann_base::{CallNo, NoMemory, TaskNo};
 use machine_frames::{Effect, goes, leaves, leaving_of, pass_on, pop, raises, says, task_at};
 use machine_operators::Program;
+use machine_queues::{call_of, forget_call};
 use profile_machine::world::{AbortableMark, Frame, Line, Mark, Outcome, Part, World};
 use profile_machine::{Leaving, StatementNo};
 use trace_text::Who;

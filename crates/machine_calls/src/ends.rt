@@ -6,16 +6,15 @@ ghost use Rattle.profile_machine.specs.Tasks.{waiting_of};
 ghost use Rattle.machine_frames.specs.Did.{Did};
 
 use crate::abortable::{end_top_abortable, trigger_at};
-use crate::calls::{call_mut, copied_call, forget_call};
 use crate::marks::{abortable_depth, set_waited_at};
 use crate::onward::{onward_when_cancelled, onward_when_done};
-use crate::queues::unqueued;
 use crate::results::with_results;
 use crate::unwinding::unwind;
 use ann_base::{CallNo, NoMemory};
 use machine_dispatching::ready;
 use machine_frames::{Effect, goes, leaves, open_sequence, raises, says, waiting_of};
 use machine_operators::Program;
+use machine_queues::{call_mut, copied_call, forget_call, unqueued};
 use profile_machine::world::{Call, Line, Outcome, Part, Waiting, World};
 use profile_machine::{Leaving, StatementNo};
 use trace_text::Who;

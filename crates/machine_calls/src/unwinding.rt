@@ -9,13 +9,12 @@ ghost use Rattle.machine_calls.specs.declared.unwinding.Unwinding.TheVariants.{C
 ghost use Rattle.machine_calls.specs.UnwindingSteps.{unwind_so};
 ghost use Rattle.machine_calls.specs.Unwindings.{unwinding_of, unwinding_of_waiting};
 
-use crate::calls::{copied_call, forget_call};
-use crate::cancellation::{attempt_on, is_cancellable};
 use crate::striking::may_unwind;
 use ann_base::{CallNo, NoMemory};
 use machine_dispatching::{drop_delay, ready};
 use machine_frames::{Effect, leaves, set_ticks, task_at};
 use machine_operators::Program;
+use machine_queues::{attempt_on, copied_call, forget_call, is_cancellable};
 use profile_machine::Leaving;
 use profile_machine::world::{Part, State, Waiting, World};
 use trace_text::Who;

@@ -8,9 +8,9 @@ ghost use Rattle.machine_frames.specs.Did.{Did};
 ghost use Rattle.machine_entry_calls.specs.Making.{call_number, add_numbered, LeadsWith};
 
 use ann_base::{CallNo, NoMemory, Raised};
-use machine_calls::{call_drawn, copy_of_call, forget_call, says_call};
 use machine_frames::{Effect, goes, has_room, raises};
 use machine_operators::{Program, next_of};
+use machine_queues::{call_drawn, copy_of_call, forget_call, says_call};
 use profile_machine::world::{Call, CallKind, Part, World};
 use trace_text::Who;
 

@@ -8,9 +8,9 @@ ghost use Rattle.machine_frames.specs.Did.{Did};
 
 use crate::owners::owner_of_entry;
 use ann_base::{CallNo, NoMemory};
-use machine_calls::call_mut;
 use machine_frames::{Effect, leaves, raises, task_at};
 use machine_operators::Program;
+use machine_queues::call_mut;
 use machine_statements::call_that_returns;
 use machine_values::seen_by;
 use profile_machine::world::{Owner, Part, Sending, World};

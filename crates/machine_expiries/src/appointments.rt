@@ -10,11 +10,12 @@ ghost use Rattle.machine_dispatching.specs.Appointments.{is_due_of};
 ghost use Rattle.machine_expiries.specs.Moved.{Moved};
 
 use ann_base::{CallNo, NoMemory};
-use machine_calls::{copied_call, deliver, trigger_at, unqueued, unwind};
+use machine_calls::{deliver, trigger_at, unwind};
 use machine_dispatching::{DueOf, drop_appointment, first_due, ready, settle};
 use machine_frames::{Effect, goes, open_sequence, says, waiting_of};
 use machine_handlers::release;
 use machine_operators::{Program, next_of};
+use machine_queues::{copied_call, unqueued};
 use profile_machine::world::{Due, Line, Outcome, Part, Waiting, World};
 use std::alloc::Global;
 use trace_text::Who;

@@ -1,4 +1,5 @@
 mod BudgetLemmas
+mod EditLemmas
 mod EventLemmas
 mod GivenLemmas
 mod MemberLemmas

@@ -9,7 +9,7 @@ use machine_accepts::delay_moment;
 use machine_dispatching::appoint;
 use machine_frames::{Effect, frame_count, goes, has_room, raises};
 use machine_operators::{Program, form_of, next_of};
-use machine_protected::open_abortable;
+use machine_sending::open_abortable;
 use machine_values::seen_by;
 use profile_machine::world::{CallKind, Due, Part, World};
 use profile_machine::{StatementForm, StatementNo};

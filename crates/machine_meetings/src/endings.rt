@@ -9,11 +9,13 @@ ghost use Rattle.machine_meetings.specs.Meetings.{says_gone, rendezvous_ends};
 use crate::meetings::{Arrival, meet};
 use ann_base::{CallNo, NoMemory, Raised, TaskNo};
 use machine_accepts::accept_for;
-use machine_calls::{call_mut, copied_call, deliver, enqueue, formals_count, gone};
+use machine_calls::{deliver, gone};
 use machine_dispatching::lose_running;
 use machine_frames::{Effect, found_task, pass_on, pop, says};
 use machine_operators::Program;
-use machine_protected::{keeps_sending, says_finish, send_on, sent_not_begun, with_values};
+use machine_protected::{keeps_sending, says_finish, with_values};
+use machine_queues::{call_mut, copied_call, enqueue, formals_count};
+use machine_sending::{send_on, sent_not_begun};
 use machine_values::{end_scope, scope_in_use};
 use profile_machine::world::{
     AcceptMark, Call, Cause, Line, MeetingEnd, Outcome, Owner, Part, ScopeId, Sending, World,

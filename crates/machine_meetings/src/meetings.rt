@@ -11,7 +11,7 @@ use machine_dispatching::{block, drop_delay, inherit, ready};
 use machine_entry_calls::end_at_once;
 use machine_frames::{Effect, open_sequence, raises};
 use machine_operators::Program;
-use machine_protected::begin_abortable;
+use machine_sending::begin_abortable;
 use profile_machine::StatementNo;
 use profile_machine::world::{Call, Cause, Outcome, Part, Waiting};
 use std::alloc::Global;

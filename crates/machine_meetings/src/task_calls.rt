@@ -10,14 +10,15 @@ use crate::meetings::{Arrival, meet};
 use crate::parameters::{entry_parameters, results_in, values_in};
 use ann_base::{CallNo, Level, Moment, NoMemory, OrMemory, Raised, TaskNo};
 use machine_accepts::{accept_for, delay_moment};
-use machine_calls::{call_in, enqueue, gone, is_full};
+use machine_calls::{call_in, gone};
 use machine_dispatching::active_of;
 use machine_entry_calls::{
     call_object, end_at_once, has_room_if_queued, make_call, owner_of_entry,
 };
 use machine_frames::{Effect, in_protected, is_deferred, raises};
 use machine_operators::{Program, entry_of, form_of};
-use machine_protected::{is_triggering, not_accepted};
+use machine_queues::{enqueue, is_full};
+use machine_sending::{is_triggering, not_accepted};
 use machine_values::{Seen, or_raised, seen_by};
 use profile_machine::world::{Call, CallKind, Owner, Part, Variable, World};
 use profile_machine::{Actual, EntryNo, EntryOwner, StatementForm, StatementNo, Value};

@@ -1,6 +1,5 @@
 pub mod Finished
 pub mod Heads
 pub mod Operations
-pub mod Sent
 pub mod Turns
 pub mod Values

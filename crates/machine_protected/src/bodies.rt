@@ -6,9 +6,9 @@ ghost use Rattle.machine_frames.specs.Did.{Did};
 
 use crate::actions::body_of_object;
 use ann_base::{CallNo, NoMemory, ObjectNo};
-use machine_calls::{call_mut, parameters_of, unqueued};
 use machine_frames::{Effect, has_room, says, task_mut};
 use machine_operators::{Program, entry_of, marks_of, scope_of};
+use machine_queues::{call_mut, parameters_of, unqueued};
 use machine_values::open_scope;
 use profile_machine::world::{Call, Line, Mark, Part, Purpose, World};
 use profile_machine::{EntryNo, ScopeNo};

@@ -8,12 +8,13 @@ ghost use Rattle.machine_frames.specs.Did.{Did};
 ghost use Rattle.machine_protected.specs.Finished.{says_finish};
 
 use crate::releases::release_object;
-use crate::sending::send_on;
 use crate::serving::serve_calls;
 use ann_base::{CallNo, NoMemory, Raised};
-use machine_calls::{copied_call, deliver, enqueue};
+use machine_calls::deliver;
 use machine_frames::{Effect, says, task_mut};
 use machine_operators::Program;
+use machine_queues::{copied_call, enqueue};
+use machine_sending::send_on;
 use profile_machine::Leaving;
 use profile_machine::world::{
     Call, Line, Mark, MeetingEnd, Outcome, Part, ProtectedMark, Sending, World,

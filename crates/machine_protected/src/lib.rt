@@ -1,6 +1,6 @@
-//! Protected objects: actions on them, their ceilings, the bodies that run in them, calls that are
-//! sent on, and the service of what is queued. Each function has the name of the machine's
-//! definition of which it is the counterpart.
+//! Protected objects: actions on them, their ceilings, the bodies that run in them, and the service
+//! of what is queued (ISO/IEC 8652:2012, 9.5.1, 9.5.2, 9.5.3, D.3). Each function has the name of the
+//! machine's definition of which it is the counterpart.
 #![tactic(auto)]
 
 mod actions;
@@ -11,9 +11,7 @@ mod exclusion;
 mod operations;
 mod parameters;
 mod releases;
-mod sending;
 mod serving;
-mod waiting;
 
 pub use actions::{begin_action_on, body_of_object, ceiling_of};
 pub use barriers::{is_barrier_open, next_with};
@@ -23,5 +21,3 @@ pub use exclusion::{entering, find_held, is_above_ceiling};
 pub use operations::{call_operation, call_own_operation};
 pub use parameters::{end_body_of_entry, keeps_sending, with_values};
 pub use releases::end_release;
-pub use sending::{begin_abortable, may_begin_abortable, send_on, sent_not_begun};
-pub use waiting::{is_triggering, not_accepted, open_abortable};

@@ -6,9 +6,9 @@ ghost use Rattle.machine_frames.specs.Did.{Did};
 ghost use Rattle.machine_protected.specs.Values.{with_item};
 
 use ann_base::{CallNo, NoMemory};
-use machine_calls::{call_mut, call_of, formals_count};
 use machine_frames::Effect;
 use machine_operators::Program;
+use machine_queues::{call_mut, call_of, formals_count};
 use profile_machine::world::{Call, World};
 use profile_machine::{Leaving, Value};
 use world_tables::List;

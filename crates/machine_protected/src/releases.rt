@@ -8,15 +8,14 @@ ghost use Rattle.profile_machine.specs.Words.{without};
 ghost use Rattle.machine_frames.specs.Did.{Did};
 
 use crate::exclusion::is_action_of;
-use crate::waiting::{is_triggering, open_abortable, wait_for_call};
 use ann_base::{CallNo, NoMemory, ObjectNo};
-use machine_calls::{
-    attempt_on, copied_call, forget_call, is_cancellable, may_unwind, object_mut, resume,
-};
+use machine_calls::{may_unwind, resume};
 use machine_dispatching::{block, lose_running};
 use machine_frames::{Effect, has_room, leaves, pass_on, pop, says, task_at};
 use machine_operators::Program;
 use machine_priorities::set_deferred;
+use machine_queues::{attempt_on, copied_call, forget_call, is_cancellable, object_mut};
+use machine_sending::{is_triggering, open_abortable, wait_for_call};
 use profile_machine::Leaving;
 use profile_machine::world::{
     Action, Call, Cause, Line, Outcome, Part, ProtectedMark, Release, Waiting, World,

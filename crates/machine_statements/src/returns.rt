@@ -8,9 +8,10 @@ ghost use Rattle.machine_statements.specs.Becomes.{Becomes};
 
 use crate::faults::refused;
 use ann_base::{CallNo, NoMemory, OrMemory, Raised};
-use machine_calls::{call_mut, store};
+use machine_calls::store;
 use machine_frames::{Effect, leaves, raises, task_at};
 use machine_operators::{Program, checked, scope_of, subprogram_of};
+use machine_queues::call_mut;
 use machine_values::{home, innermost, or_raised, seen_by, value, write_cell};
 use profile_machine::world::{Call, CopyBack, Frame, Mark, Part, Purpose, ResultTo, World};
 use profile_machine::{ExprNo, Leaving, SubprogramNo, Value};

@@ -1,6 +1,6 @@
 use Rattle.std.proofs.Common.{rules, sym}
 use Rattle.profile_machine.specs.Handlers.{raised_by}
-use Rattle.machine_calls.proofs.EditLemmas.{set_found}
+use Rattle.machine_handlers.proofs.EditLemmas.{set_found}
 use Rattle.machine_handlers.proofs.budgets.raise_by.Goals as goal
 
 pub returns-in-Some : goal.returns-in-Some

@@ -1,6 +1,6 @@
 use Rattle.std.proofs.Common.{sym}
 use Rattle.profile_machine.specs.Handlers.{with_handler}
-use Rattle.machine_calls.proofs.EditLemmas.{set_found}
+use Rattle.machine_handlers.proofs.EditLemmas.{set_found}
 use Rattle.machine_handlers.proofs.budgets.set_handler.Goals as goal
 
 pub returns-in-Some : goal.returns-in-Some

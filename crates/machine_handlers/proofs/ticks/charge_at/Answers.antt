@@ -1,6 +1,6 @@
 use Rattle.std.proofs.Common.{slice_set, sym, ap, ◌∙◌}
 use Rattle.profile_machine.specs.Handlers.{charged_budget}
-use Rattle.machine_calls.proofs.EditLemmas.{set_found}
+use Rattle.machine_handlers.proofs.EditLemmas.{set_found}
 use Rattle.machine_handlers.proofs.ticks.charge_at.Goals as goal
 
 pub returns-in-Some : goal.returns-in-Some

@@ -1,0 +1,6 @@
+mod EditLemmas
+mod HeadLemmas
+mod OkLemmas
+mod PutLemmas
+mod QueueLemmas
+mod TakeLemmas

@@ -1,11 +1,12 @@
 //! How a scope begins, and how it ends (ISO/IEC 8652:2012, 3.1, 7.6.1).
 ghost use Rattle.std.specs.Prelude.{◌≡◌, ◌+◌, ◌^◌, ◌≤◌, ◌++◌, drop, length, IfOk, OnOk, OnErr};
+ghost use Rattle.std.specs.List.{list_all};
 ghost use Rattle.profile_machine.specs.Program.{initial_cells};
 ghost use Rattle.profile_machine.specs.Scopes.{plainly, next_id, scope_drawn, begin_scope, region_drawn, draw_region, region_of_next, new_scope_mark, open_scope, is_id, is_library, goes_with, end_scope};
-ghost use Rattle.profile_machine.specs.Words.{without};
+ghost use Rattle.profile_machine.specs.Words.{is_empty, without};
 
 use crate::scopes::same_id;
-use ann_base::{NoMemory, RegionNo};
+use ann_base::{CallNo, NoMemory, RegionNo};
 use machine_frames::{new_frame, push};
 use machine_operators::{Program, initial_cells, scope_of};
 use profile_machine::world::{
@@ -193,10 +194,17 @@ pub fn is_library(id: ScopeId) -> bool
     id.0 == 0
 }
 
+/// Whether no call is queued on any entry.
+fn are_empty(queues: &List<List<CallNo>>) -> bool
+    ensures { result ≡ list_all is_empty queues.now }
+{
+    queues.iter().all(|queue| queue.is_empty())
+}
+
 fn goes_with(id: ScopeId, object: &Object) -> bool
     ensures { result ≡ goes_with id object.now }
 {
-    same_id(id, object.located.within) && !is_library(id)
+    same_id(id, object.located.within) && !is_library(id) && are_empty(&object.queues)
 }
 
 fn leave_scopes(scopes: &mut List<ScopeInUse>, id: ScopeId)
@@ -211,8 +219,8 @@ fn leave_objects(objects: &mut List<Object>, id: ScopeId)
     objects.retain(|object| !goes_with(id, object));
 }
 
-/// The scope is no longer in use, and the protected objects that its declarations made are no longer there, other than
-/// library objects.
+/// The scope is no longer in use, and the protected objects that its declarations made are no longer
+/// there, other than library objects and those on which calls are queued.
 pub fn end_scope(id: ScopeId, world: &mut World)
     ensures { world.new ≡ end_scope id world.old }
 {

@@ -1,5 +1,6 @@
 -- Scopes in use: where a name's cells are, how a scope begins and ends (3.1, 7.6.1, 8.2).
 use Rattle.std.specs.Prelude.{ℕ, suc, zero, pos, Bool, true, false, not, ◌&&◌, List, [], ◌∷◌, ◌++◌, Option, Some, None, eqb, length, find, drop, option_map, slice_index_or, slice_set}
+use Rattle.std.specs.List.{list_all}
 use Rattle.ann_base.specs.declared.identities.RegionNo.{RegionNo}
 use Rattle.trace_text.specs.declared.events.Who.{Who}
 use Rattle.profile_machine.specs.declared.image.Image.{Image}
@@ -17,7 +18,7 @@ use Rattle.profile_machine.specs.declared.world.scopes.Beginning.{Beginning}
 use Rattle.profile_machine.specs.declared.world.objects.Object.{Object}
 use Rattle.profile_machine.specs.declared.world.Drawn.{Drawn}
 use Rattle.profile_machine.specs.declared.world.marks.Mark.TheVariants.{Scope, Handled, InProtected, InAccept, Abortable, InInitialize, InFinalize, InAssign}
-use Rattle.profile_machine.specs.Words.{same_id, same_scope, without, edit_where, some_where}
+use Rattle.profile_machine.specs.Words.{same_id, same_scope, without, edit_where, some_where, is_empty}
 use Rattle.profile_machine.specs.Program.{scope_of, initial_cells}
 use Rattle.profile_machine.specs.Frames.{push, new_frame, frames_of}
 
@@ -128,8 +129,9 @@ open_scope p name scope b purpose w =
 abbrev pub is_library : ScopeId → Bool
 is_library id = eqb id.0 0
 
+-- so is one on which calls are still queued: no source is known of whose objects one is, when its scope ends (own)
 abbrev pub goes_with : ScopeId → Object → Bool
-goes_with id o = same_id id o.located.within && not (is_library id)
+goes_with id o = same_id id o.located.within && not (is_library id) && list_all is_empty o.queues
 
 -- the other protected objects that its declarations made are no longer there
 abbrev pub end_scope : ScopeId → World → World

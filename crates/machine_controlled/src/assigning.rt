@@ -13,7 +13,7 @@ use crate::registration::{next_number, registered_object};
 use ann_base::{NoMemory, Raised};
 use machine_frames::{Effect, leaves, pop, raises};
 use machine_operators::{Program, declaration_of};
-use machine_statements::{cells_from, put_cells};
+use machine_parameters::{cells_from, put_cells};
 use machine_values::{CONTROLLED_CELLS, scope_mut};
 use profile_machine::world::{AssignMark, AssignStep, Located, Part, Registered, Variable, World};
 use profile_machine::{Leaving, SubprogramNo};

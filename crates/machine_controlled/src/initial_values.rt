@@ -10,7 +10,7 @@ ghost use Rattle.machine_statements.specs.Becomes.{Becomes};
 
 use ann_base::{NoMemory, OrMemory, Raised};
 use machine_operators::{Program, declaration_of, initial_cells, scope_of};
-use machine_statements::{checked_for, copy_cells, put_cells};
+use machine_parameters::{checked_for, copy_cells, put_cells};
 use machine_values::{
     Seen, component_at, object_cell, or_raised, scope_in_use, scope_mut, seen_by, value, write_cell,
 };

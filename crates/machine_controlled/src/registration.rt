@@ -6,8 +6,7 @@ ghost use Rattle.machine_frames.specs.Did.{Did};
 
 use crate::operations::first_place;
 use ann_base::{NoMemory, RegionNo};
-use machine_frames::{Effect, says, top_of};
-use machine_masters::region_of_mark;
+use machine_frames::{Effect, region_of_mark, says, top_of};
 use machine_operators::Program;
 use machine_values::{same_id, write_cell};
 use profile_machine::Value;

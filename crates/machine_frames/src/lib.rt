@@ -5,6 +5,8 @@
 mod deferral;
 mod effects;
 mod frames;
+mod objects;
+mod regions;
 mod room;
 mod sequences;
 mod tasks;
@@ -17,6 +19,8 @@ pub use frames::{
     exit_loop, goes, leaves, leaving_of, new_frame, onward_of, pass_on, pop, push, raises, says,
     stands_in, statement_of_mark, top_of, within_of,
 };
+pub use objects::object_of;
+pub use regions::region_of_mark;
 pub use room::{frame_count, has_room};
 pub use sequences::{open_at, open_handled, open_if_ready, open_sequence};
 pub use tasks::{

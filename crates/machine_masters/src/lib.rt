@@ -13,6 +13,5 @@ mod termination;
 pub use activations::{end_activation, has_activating, has_group_failed};
 pub use completion::complete;
 pub use masters::{depends_on_region, depends_on_task, has_dependents};
-pub use regions::region_of_mark;
 pub use terminate_alternatives::{leave_by_terminate, may_terminate, waits_at_terminate};
 pub use termination::terminate;

@@ -4,24 +4,9 @@ ghost use Rattle.std.specs.List.{list_any};
 ghost use Rattle.profile_machine.specs.Masters.{region_of_mark, has_region, owns, owner_of, is_scope_being_left, is_being_left_in, is_region_being_left};
 
 use ann_base::RegionNo;
+use machine_frames::region_of_mark;
 use profile_machine::world::{Frame, Mark, Task, World};
 use world_tables::List;
-
-/// The region of a mark, which the scope of a master has.
-pub fn region_of_mark(mark: &Mark) -> Option<RegionNo>
-    ensures { result ≡ region_of_mark mark.now }
-{
-    match mark {
-        Mark::Scope(scope) => scope.region,
-        Mark::Handled(_)
-        | Mark::InProtected(_)
-        | Mark::InAccept(_)
-        | Mark::Abortable(_)
-        | Mark::InInitialize(_)
-        | Mark::InFinalize(_)
-        | Mark::InAssign(_) => None,
-    }
-}
 
 // Whether a frame's mark has this region.
 fn has_region(region: RegionNo, frame: &Frame) -> bool

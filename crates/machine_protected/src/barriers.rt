@@ -8,9 +8,10 @@ ghost use Rattle.profile_machine.specs.Words.{first_of_list};
 ghost use Rattle.machine_protected.specs.Heads.{next_with, next_or};
 
 use ann_base::{CallNo, NoMemory, ObjectNo, OrMemory};
+use machine_frames::object_of;
 use machine_operators::{Program, entry_of, policies, protected_unit_of};
 use machine_queues::{place_of_entry, priority_of};
-use machine_values::{Seen, condition, object_of};
+use machine_values::{Seen, condition};
 use profile_machine::world::{Object, World};
 use profile_machine::{EntryBody, EntryNo, Queuing};
 use trace_text::Who;

@@ -8,9 +8,8 @@ ghost use Rattle.machine_frames.specs.Did.{Did};
 
 use ann_base::{Level, NoMemory, ObjectNo};
 use machine_dispatching::{active_of, to_tail};
-use machine_frames::{Effect, same_who, says, task_at};
+use machine_frames::{Effect, object_of, same_who, says, task_at};
 use machine_operators::{Program, has_edf};
-use machine_values::object_of;
 use profile_machine::world::{Action, Entering, Line, Object, Part, World};
 use trace_text::{Mode, Who};
 use world_tables::List;

@@ -10,12 +10,12 @@ ghost use Rattle.machine_protected.specs.Operations.{own_operation};
 use crate::actions::{begin_action_on, body_of_object, outer_of_body};
 use crate::exclusion::{entering, find_held, has_open};
 use ann_base::{NoMemory, ObjectNo, OrMemory, Raised};
-use machine_frames::{Effect, goes, has_room, raises};
+use machine_frames::{Effect, goes, has_room, object_of, raises};
 use machine_operators::{
     Program, form_of, marks_of, next_of, opens_handled, scope_of, subprogram_of,
 };
 use machine_parameters::{begin_body, handed, result_to};
-use machine_values::{object_number, object_of, open_scope, own_object, seen_by};
+use machine_values::{object_number, open_scope, own_object, seen_by};
 use profile_machine::world::{Entering, Handed, Part, Purpose, ResultTo, World};
 use profile_machine::{
     Actual, DeclNo, Destination, ProtectedUnitNo, ScopeNo, StatementNo, Subprogram, SubprogramNo,

@@ -1,12 +1,10 @@
-//! Simple and compound statements, calls of subprograms and returns, and what an action costs. Each
-//! function has the name of the machine's definition of which it is the counterpart. A number that
+//! Simple and compound statements, calls of subprograms and returns. Each function has the name of the machine's definition of which it is the counterpart. A number that
 //! its type cannot hold is answered as want of memory.
 #![tactic(auto)]
 
 mod assignments;
 mod calls;
 mod choices;
-mod costs;
 mod delays;
 mod faults;
 mod loops;
@@ -14,10 +12,9 @@ mod returns;
 mod sequences;
 mod texts;
 
-pub use assignments::{assign, assign_array, cells_from, checked_for, copy_cells, put_cells};
+pub use assignments::{assign, assign_array};
 pub use calls::call_subprogram;
 pub use choices::{case_statement, if_statement};
-pub use costs::{cost, has_registered, of_region};
 pub use delays::{delay_statement, delay_until_statement, relative_moment};
 pub use faults::refused;
 pub use loops::{exit_statement, first_turn, for_bounds, later_turn, while_turn};

@@ -8,11 +8,11 @@ ghost use Rattle.profile_machine.specs.Steps.{watches};
 ghost use Rattle.machine_ticks.specs.Ticks.{Ticks};
 
 use ann_base::NoMemory;
+use machine_costs::cost;
 use machine_dispatching::choose;
 use machine_frames::{same_who, set_ticks, task_at, task_mut};
 use machine_handlers::charge;
 use machine_operators::Program;
-use machine_statements::cost;
 use profile_machine::world::World;
 use trace_text::Who;
 use world_tables::List;

@@ -11,8 +11,8 @@ ghost use Rattle.machine_values.specs.Lends.{lends_scope};
 ghost use Rattle.machine_values.specs.Sought.{is_sought};
 
 use ann_base::ObjectNo;
-use machine_frames::task_at;
-use profile_machine::world::{Frame, Mark, Object, ScopeId, ScopeInUse, World};
+use machine_frames::{object_of, task_at};
+use profile_machine::world::{Frame, Mark, ScopeId, ScopeInUse, World};
 use profile_machine::{ProtectedUnitNo, ScopeNo, Value};
 use trace_text::Who;
 use world_tables::List;
@@ -70,16 +70,6 @@ pub fn innermost(world: &World, name: Who) -> Option<ScopeId>
     ensures { result ≡ innermost world.now name }
 {
     first_id(&task_at(world, name)?.frames)
-}
-
-/// The protected object with this number, if it is there.
-pub fn object_of(world: &World, number: ObjectNo) -> Option<&Object>
-    ensures { option_copied result ≡ object_of world.now number }
-{
-    world
-        .objects
-        .iter()
-        .find(|object| number.0 == object.number.0)
 }
 
 /// Whether the object with this number, if one is named and there, is of the unit.

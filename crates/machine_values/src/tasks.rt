@@ -5,10 +5,9 @@ ghost use Rattle.profile_machine.specs.Tasks.{number_of};
 ghost use Rattle.profile_machine.specs.Values.{live_task, object_of, queue_at, queues_of, own_queues, count_of_entry};
 
 use crate::names::own_object;
-use crate::scopes::object_of;
 use crate::seen::Seen;
 use ann_base::{CallNo, Moment, NoMemory, ObjectNo, Raised, TaskNo};
-use machine_frames::task_at;
+use machine_frames::{object_of, task_at};
 use profile_machine::world::{Task, World};
 use profile_machine::{Entry, EntryUnit, Value};
 use trace_text::Who;

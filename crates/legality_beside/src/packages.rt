@@ -13,7 +13,7 @@ use ada_tree::{
     Declaration, Identifier, LibraryPackage, Package, PackageBody, PackageDeclaration, Sequence,
 };
 use ann_base::{NoMemory, Place};
-use legality_names::is_entity;
+use legality_entities::is_entity;
 use legality_types::{broken_if, broken_unless};
 use std::alloc::Global;
 use world_tables::List;

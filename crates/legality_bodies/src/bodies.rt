@@ -14,7 +14,7 @@ use legality_declarations::{
     barrier_found, definition_found, entry_body_judged, object_found, protected_found, task_found,
     unit_body_judged, unit_here, use_found,
 };
-use legality_names::with_around;
+use legality_entities::with_around;
 use legality_parts::{indication_found, parameters_found};
 use legality_subprograms::{
     specification_found, subprogram_body_judged, subprogram_found, subprogram_here,

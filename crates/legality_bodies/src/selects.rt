@@ -13,7 +13,7 @@ use ada_tree::{
 };
 use ann_base::{NoMemory, Place};
 use legality_choices::selective_accept_judged;
-use legality_names::with_around;
+use legality_entities::with_around;
 use legality_statements::{delay_found, entry_call_found, guard_found, trigger_found};
 use legality_types::broken_if;
 use profile_machine::Sequence;

@@ -10,7 +10,7 @@ use ada_entities::copy;
 use ada_legality::{ActualPart, FormalPart, Known, Wanted};
 use ada_regions::{AdaType, Denoted, EntityKind, Formal, Mode, Operation, Subtype};
 use ann_base::NoMemory;
-use legality_names::{denoted_kind, operation_of};
+use legality_entities::{denoted_kind, operation_of};
 use profile_machine::Sequence;
 use std::alloc::Global;
 

@@ -9,7 +9,7 @@ use ada_legality::{Around, Finding, Known, Read, Rule, Shape, Typed};
 use ada_regions::{AdaType, Formal, Mode};
 use ann_base::NoMemory;
 use image_layout::is_in_out;
-use legality_names::{formals_of_subprogram, is_type};
+use legality_entities::{formals_of_subprogram, is_type};
 use legality_types::{broken_if, broken_unless, has_type, same_type};
 use world_tables::List;
 

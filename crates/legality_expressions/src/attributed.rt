@@ -11,9 +11,10 @@ use ada_regions::{AdaType, Denoted, EntityKind};
 use ada_tree::{Attribute, Name};
 use ann_base::NoMemory;
 use legality_calls::{actuals_numbered, without_name};
+use legality_entities::{denoted_kind, is_function_kind, is_procedure_kind};
 use legality_names::{
-    counts, denoted_kind, has_images, is_function_kind, is_library_handler, is_procedure_kind,
-    is_task_object, takes_arguments, type_of_ends, typed_attribute_of,
+    counts, has_images, is_library_handler, is_task_object, takes_arguments, type_of_ends,
+    typed_attribute_of,
 };
 use legality_reads::{image_length, plain_read, type_of_prefix};
 use legality_types::{broken_if, broken_unless};

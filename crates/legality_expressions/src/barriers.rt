@@ -4,7 +4,7 @@ ghost use Rattle.ada_legality.specs.Reading.{is_own_component, is_truth, denotes
 
 use ada_legality::Known;
 use ada_regions::{AdaType, ComponentOwner, Denoted, EntityKind, Predefined};
-use legality_names::{denoted_kind, innermost_unit, is_literal_kind, is_type};
+use legality_entities::{denoted_kind, innermost_unit, is_literal_kind, is_type};
 
 /// A component of the object around.
 #[tactic(auto, unfolding(ada_legality::specs::Reading::is_own_component))]

@@ -14,10 +14,10 @@ use ada_regions::{AdaType, ComponentOwner, Denoted, EntityKind};
 use ada_tree::Name;
 use ann_base::{NoMemory, Place};
 use legality_calls::{actuals_judged, actuals_numbered, formals_denoted, without_name};
-use legality_names::{
-    denoted_kind, denotes_function, denotes_value, ends_of_object, is_function_kind,
-    is_object_kind, is_variable, kind_of_name, subtype_of_entity, typed_name,
+use legality_entities::{
+    denoted_kind, is_function_kind, is_object_kind, kind_of_name, subtype_of_entity,
 };
+use legality_names::{denotes_function, denotes_value, ends_of_object, is_variable, typed_name};
 use legality_reads::{fitted, plain_read};
 use legality_types::broken_unless;
 use std::alloc::Global;

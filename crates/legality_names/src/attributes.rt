@@ -4,14 +4,13 @@ ghost use Rattle.ada_regions.specs.Completions.{holds_of};
 ghost use Rattle.ada_legality.specs.Values.{denoted_kind};
 ghost use Rattle.ada_legality.specs.Attributes.{type_of_index, type_of_mark_ends, ends_of_mark, ends_of_object, type_of_ends, has_images, has_count, is_task_object, typed_attribute, takes_arguments, typed_attribute_of};
 
-use crate::around::{in_own_task, stands_in_type};
-use crate::entities::{denoted_kind, subtype_of_entity};
 use crate::prefixes::typed_access;
 use ada_entities::denoted_by;
 use ada_legality::{Known, Typed};
 use ada_regions::{AdaType, Denoted, EntityKind};
 use ada_subtypes::mark_denoted;
 use ada_tree::{Attribute, Name};
+use legality_entities::{denoted_kind, in_own_task, stands_in_type, subtype_of_entity};
 use legality_types::{has_ranges, is_discrete, is_task_unit, typed_as, typed_if};
 use profile_machine::EntryUnit;
 

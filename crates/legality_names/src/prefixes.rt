@@ -5,14 +5,15 @@ ghost use Rattle.ada_regions.specs.Names.{kind_at};
 ghost use Rattle.ada_legality.specs.Values.{is_object_kind};
 ghost use Rattle.ada_legality.specs.Attributes.{object_prefix, handler_object, is_library_entity, is_handler_of, is_library_handler, typed_access};
 
-use crate::around::single_object;
-use crate::entities::{entity_of_name, is_library_object, kind_of_name};
-use crate::kinds::{is_object_kind, protected_procedure};
 use ada_entities::{entity_denoted, kind_at};
 use ada_legality::{Known, Typed};
 use ada_regions::{AdaType, Names};
 use ada_tree::Name;
 use image_layout::prefix_part;
+use legality_entities::{
+    entity_of_name, is_library_object, is_object_kind, kind_of_name, protected_procedure,
+    single_object,
+};
 use profile_machine::ProtectedUnitNo;
 
 /// An entity that is an object.

@@ -6,20 +6,17 @@ ghost use Rattle.profile_machine.specs.declared.values.Constraint.TheVariants as
 ghost use Rattle.ada_legality.specs.declared.reading.Typed.TheVariants as typing;
 ghost use Rattle.ada_legality.specs.Values.{denotes_value, denotes_object, denotes_function, denotes_procedure, component_subtype, subtype_with_index, unless_index, typed_constant, typed_value, result_of_kind, typed_operation_call, typed_call, typed_denoted, typed_name};
 
-use crate::entities::{denoted_kind, subtype_of_entity};
-use crate::kinds::{
-    is_entry_kind, is_function_kind, is_literal_kind, is_object_kind, is_procedure_kind,
-};
-use crate::predefined::{
-    constant_type, is_function_operation, is_predefined_constant, operation_denoted, operation_of,
-    type_of_constant,
-};
 use ada_entities::denoted_by;
 use ada_legality::{Known, Typed};
 use ada_regions::{AdaType, Denoted, EntityKind, Names, Operation, PredefinedUnit, Subtype};
 use ada_tree::Name;
 use image_layout::array_of;
 use image_types::type_of_operation;
+use legality_entities::{
+    constant_type, denoted_kind, is_entry_kind, is_function_kind, is_function_operation,
+    is_literal_kind, is_object_kind, is_predefined_constant, is_procedure_kind, operation_denoted,
+    operation_of, subtype_of_entity, type_of_constant,
+};
 use legality_types::{typed_as, typed_by, typed_if};
 use profile_machine::Constraint;
 

@@ -8,7 +8,7 @@ use ada_legality::{Finding, Known};
 use ada_regions::EntityKind;
 use ada_tree::Identifier;
 use ann_base::{NoMemory, Place};
-use legality_names::kind_of_identifier;
+use legality_entities::kind_of_identifier;
 use legality_types::note;
 use profile_machine::DeclNo;
 use world_tables::List;

@@ -7,7 +7,7 @@ use ada_entities::entity_denoted;
 use ada_occurrences::{Occurrence, Occurrences};
 use ada_regions::Names;
 use ada_tree::{Identifier, Parameter, SubprogramSpecification};
-use legality_names::is_entity;
+use legality_entities::is_entity;
 
 /// Whether an identifier denotes this entity.
 pub fn declares_entity(names: &Names<'_>, entity: u32, name: &Identifier) -> bool

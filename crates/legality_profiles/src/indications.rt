@@ -8,7 +8,7 @@ use ada_legality::Span;
 use ada_regions::{Mode, Names};
 use ada_subtypes::{indicated_subtype, mode_of};
 use ada_tree::{Constraint, Parameter, SubtypeIndication};
-use legality_names::same_named;
+use legality_entities::same_named;
 use legality_numbers::same_number;
 use legality_pragmas::ends_of;
 

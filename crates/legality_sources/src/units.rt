@@ -14,7 +14,7 @@ use ann_base::{NoMemory, Place};
 use legality_bodies::{Judge, judge_each, judge_if};
 use legality_choices::{place_of_priority, stated_value};
 use legality_contexts::context_found;
-use legality_names::with_around;
+use legality_entities::with_around;
 use legality_parts::aspects_found;
 use legality_types::note;
 use sqlite_items::Items;

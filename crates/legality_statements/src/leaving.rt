@@ -13,10 +13,10 @@ use ada_legality::{Around, Finding, Known, Rule, SubprogramAround};
 use ada_regions::{AdaType, EntityKind};
 use ada_tree::{Exit, Expression, Identifier, Name};
 use ann_base::{NoMemory, Place};
-use legality_expressions::place_of;
-use legality_names::{
+use legality_entities::{
     is_accept, is_body, kind_of_identifier, names_exception, same_entities, sequence_around,
 };
+use legality_expressions::place_of;
 use legality_parts::{condition_found, value_alone_found_if};
 use legality_types::{broken_unless, note};
 use std::alloc::Global;

@@ -10,7 +10,7 @@ use ada_legality::{Finding, Rule};
 use ada_regions::{Denoted, Names};
 use ada_tree::{Identifier, Name};
 use ann_base::{NoMemory, Place};
-use legality_names::is_unit_name;
+use legality_entities::is_unit_name;
 use legality_types::broken_unless;
 use world_tables::List;
 

@@ -73,7 +73,7 @@ pub fn formals_of_subprogram(kind: &EntityKind) -> &[Formal]
 
 /// The protected unit of a procedure of one.
 #[tactic(auto, unfolding(ada_legality::specs::Attributes::protected_procedure))]
-pub(crate) fn protected_procedure(kind: &EntityKind) -> Option<ProtectedUnitNo>
+pub fn protected_procedure(kind: &EntityKind) -> Option<ProtectedUnitNo>
     ensures { result ≡ protected_procedure kind.now }
 {
     match kind {

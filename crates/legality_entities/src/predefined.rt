@@ -6,7 +6,7 @@ use ada_regions::{AdaType, Denoted, Operation, Predefined};
 use image_types::type_of_operation;
 
 /// A predefined function.
-pub(crate) fn is_function_operation(operation: Operation) -> bool
+pub fn is_function_operation(operation: Operation) -> bool
     ensures { result ≡ is_function_operation operation }
 {
     type_of_operation(operation).is_some()
@@ -14,7 +14,7 @@ pub(crate) fn is_function_operation(operation: Operation) -> bool
 
 /// The type of a constant, of False or True.
 #[tactic(auto, unfolding(ada_legality::specs::Values::type_of_constant))]
-pub(crate) fn type_of_constant(item: Predefined) -> Option<AdaType>
+pub fn type_of_constant(item: Predefined) -> Option<AdaType>
     ensures { result ≡ type_of_constant item }
 {
     match item {
@@ -45,7 +45,7 @@ pub fn operation_denoted(denoted: Denoted) -> Option<Operation>
 }
 
 /// The type of a constant that is denoted.
-pub(crate) fn constant_type(denoted: Denoted) -> Option<AdaType>
+pub fn constant_type(denoted: Denoted) -> Option<AdaType>
     ensures { result ≡ constant_type denoted }
 {
     match denoted {
@@ -55,7 +55,7 @@ pub(crate) fn constant_type(denoted: Denoted) -> Option<AdaType>
 }
 
 /// A predefined constant.
-pub(crate) fn is_predefined_constant(item: Predefined) -> bool
+pub fn is_predefined_constant(item: Predefined) -> bool
     ensures { result ≡ is_predefined_constant item }
 {
     match item {

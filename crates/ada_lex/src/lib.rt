@@ -16,6 +16,3 @@ pub use lexing::{MAX_SOURCE, lex};
 pub use meaning::{decimals, lower_case, same_word, spelling, text_value, whole_value};
 pub use tokens::{Kind, LexFault, Token};
 pub use words::{Reserved, is_reserved, reserved_word};
-
-#[cfg(test)]
-mod tests;

@@ -20,6 +20,3 @@ pub use memory::{MemShelf, MemSink};
 pub use names::{NAME_BYTES, Name};
 pub use outside::{Shelf, Sink};
 pub use places::Place;
-
-#[cfg(test)]
-mod tests;

@@ -8,8 +8,6 @@ mod items;
 mod laws;
 mod numbers;
 mod reading;
-#[cfg(test)]
-mod tests;
 mod words;
 
 pub use faults::{LAST_TICK, MOST_ITEMS, MOST_NUMBER, SCRIPT_BYTES, ScriptFault, ScriptFaultKind};

@@ -17,6 +17,3 @@ pub use fifo::FifoLevel;
 pub use keys::{AnyKey, LevelKind};
 pub use policy::LevelPolicy;
 pub use robin::RobinLevel;
-
-#[cfg(test)]
-mod tests;

@@ -10,8 +10,6 @@ mod regions;
 mod room;
 mod sequences;
 mod tasks;
-#[cfg(test)]
-mod tests;
 
 pub use deferral::{any_defers, any_protected, defers, in_protected, is_deferred, is_protected};
 pub use effects::Effect;

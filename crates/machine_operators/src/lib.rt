@@ -8,8 +8,6 @@ mod levels;
 mod openings;
 mod operators;
 mod ranges;
-#[cfg(test)]
-mod tests;
 mod texts;
 
 pub use cells::initial_cells;

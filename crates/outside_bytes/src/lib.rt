@@ -5,8 +5,6 @@
 #![tactic(auto)]
 
 mod reading;
-#[cfg(test)]
-mod tests;
 mod writing;
 
 pub use reading::read_file;

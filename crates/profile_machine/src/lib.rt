@@ -9,8 +9,6 @@ mod run_data;
 mod sequence;
 mod short;
 mod statements;
-#[cfg(test)]
-mod tests;
 mod values;
 pub mod world;
 

@@ -5,6 +5,3 @@ mod levels;
 mod queues;
 
 pub use queues::{LEVELS, Ready};
-
-#[cfg(test)]
-mod tests;

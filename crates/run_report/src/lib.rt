@@ -6,8 +6,6 @@ mod clocks;
 mod dated;
 mod report;
 mod tallies;
-#[cfg(test)]
-mod tests;
 mod theorems;
 mod writing;
 

@@ -8,8 +8,6 @@ mod duties;
 mod laws;
 mod reading;
 mod responses;
-#[cfg(test)]
-mod tests;
 
 pub use demands::{busy, first_over};
 pub use duties::{

@@ -7,6 +7,3 @@ mod rows;
 
 pub use causes::Cause;
 pub use levels::{INHERITED, Levels};
-
-#[cfg(test)]
-mod tests;

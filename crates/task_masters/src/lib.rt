@@ -6,8 +6,6 @@ mod changes;
 mod dependence;
 mod masters;
 mod task;
-#[cfg(test)]
-mod tests;
 
 pub use masters::{LIVE_TASKS, Masters};
 pub use task::{Activation, Home, Stage, Task};

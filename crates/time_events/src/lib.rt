@@ -4,8 +4,6 @@
 
 mod agenda;
 mod due;
-#[cfg(test)]
-mod tests;
 
 pub use agenda::{APPOINTMENTS, Agenda};
 pub use due::{Appointment, Due};

@@ -3,8 +3,6 @@
 
 mod judging;
 mod reporting;
-#[cfg(test)]
-mod tests;
 mod texts;
 mod theorems;
 mod writing;

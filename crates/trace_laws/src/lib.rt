@@ -5,8 +5,6 @@ mod actions;
 mod counts;
 mod laws;
 mod regions;
-#[cfg(test)]
-mod tests;
 mod theorems;
 mod verdicts;
 

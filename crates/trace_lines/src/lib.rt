@@ -6,8 +6,6 @@ mod levels;
 mod lines;
 mod queue;
 mod ranks;
-#[cfg(test)]
-mod tests;
 
 pub use laws::facts_tell;
 pub use lines::{Lines, Malformed};

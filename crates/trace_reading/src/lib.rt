@@ -4,8 +4,6 @@
 mod fields;
 mod laws;
 mod read;
-#[cfg(test)]
-mod tests;
 mod words;
 
 pub use fields::{exception_of, name_of, text_of};

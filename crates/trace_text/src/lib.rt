@@ -4,8 +4,6 @@
 mod buffer;
 mod events;
 mod laws;
-#[cfg(test)]
-mod tests;
 mod words;
 mod write;
 

@@ -3,8 +3,6 @@
 
 mod lists;
 mod tables;
-#[cfg(test)]
-mod tests;
 
 pub use lists::List;
 pub use tables::Table;

@@ -1,4 +1,0 @@
-use Rattle.task_levels.proofs.tests.priorities_by_cause.Goals as goal
-
-pub begin-requires-clause-absent : goal.begin-requires-clause-absent
-begin-requires-clause-absent g c = c.in_ok-levels.ensures.absent (record { 0 = 256 })

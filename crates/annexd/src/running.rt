@@ -4,7 +4,7 @@ ghost use Rattle.ann_base.specs.Answers.{OfFault};
 ghost use Rattle.ann_base.specs.Outside.{Rose, extended};
 ghost use Rattle.outside_bytes.specs.Pieces.{HoldsPrefix};
 ghost use Rattle.trace_text.specs.Text.{ArePrintable};
-ghost use Rattle.machine_kernel.specs.Future.{lines_of_run};
+ghost use Rattle.profile_machine.specs.Run.{lines_of_run};
 ghost use Rattle.commands.specs.Runs.{text_of_run, stop_of, text_under, stop_under};
 
 use ann_base::{Failed, Moment, OrMemory, Sink};

@@ -3,7 +3,7 @@ ghost use Rattle.std.specs.Prelude.{◌≡◌, ◌≤◌, ◌<◌, [], IfOk, IfE
 ghost use Rattle.ann_base.specs.Answers.{OfFault};
 ghost use Rattle.ann_base.specs.Outside.{Rose, extended};
 ghost use Rattle.outside_bytes.specs.Pieces.{HoldsPrefix};
-ghost use Rattle.machine_kernel.specs.Future.{lines_of_run};
+ghost use Rattle.profile_machine.specs.Run.{lines_of_run};
 ghost use Rattle.load_runs.specs.Tallies.{Tallies};
 ghost use Rattle.commands.specs.Runs.{stop_of, summary_under, stop_under};
 

@@ -13,8 +13,7 @@ use Rattle.commands.specs.declared.requests.Work.TheVariants as work
 use Rattle.commands.specs.declared.requests.TableTest.{TableTest}
 use Rattle.trace_text.specs.Queue.{Line}
 use Rattle.trace_text.specs.Text.{ArePrintable}
-use Rattle.machine_kernel.specs.Future.{lines_of_run}
-use Rattle.profile_machine.specs.Run.{run_of}
+use Rattle.profile_machine.specs.Run.{run_of, lines_of_run}
 use Rattle.commands.specs.Requests.{Asked, SourceAsked, ScriptAsked, LoadAsked, TableAsked, TraceAsked}
 use Rattle.commands.specs.Outside.{ShelfChange, SinkChange, IsKept}
 use Rattle.commands.specs.Outcomes.{stop_status, status_of, note_of, IsNoted, Concludes}

@@ -7,7 +7,7 @@ use Rattle.outside_bytes.specs.Files.{told, WhereTold}
 use Rattle.trace_text.specs.Text.{ArePrintable}
 use Rattle.profile_machine.specs.declared.run_data.Item.{Item}
 use Rattle.profile_machine.specs.declared.image.Image.{Image}
-use Rattle.machine_kernel.specs.Future.{lines_of_run}
+use Rattle.profile_machine.specs.Run.{lines_of_run}
 use Rattle.ada_front.specs.declared.refusing.Refusal.{Refusal}
 use Rattle.ada_front.specs.Accepted.{Accepted as IsAccepted, judged}
 use Rattle.event_script.specs.declared.faults.ScriptFault.{ScriptFault}

@@ -5,7 +5,7 @@ use Rattle.trace_text.specs.Text.{text_of}
 use Rattle.trace_text.specs.Summary.{summary_of}
 use Rattle.profile_machine.specs.declared.run_data.Item.{Item}
 use Rattle.profile_machine.specs.declared.image.Image.{Image}
-use Rattle.machine_kernel.specs.Future.{lines_of_run, stop_of_run}
+use Rattle.profile_machine.specs.Run.{lines_of_run, stop_of_run}
 
 -- the text of the run of an image without a script up to so many ticks, and its stop
 abbrev pub text_of_run : Image → ℕ → List ℕ

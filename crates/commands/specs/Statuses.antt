@@ -14,7 +14,7 @@ use Rattle.sched_tests.specs.Reading.{table_of}
 use Rattle.sched_tests.specs.Reports.{table_note}
 use Rattle.trace_text.specs.Queue.{Line}
 use Rattle.trace_text.specs.Text.{text_of}
-use Rattle.machine_kernel.specs.Future.{lines_of_run}
+use Rattle.profile_machine.specs.Run.{lines_of_run}
 use Rattle.run_report.specs.Texts.{report_text}
 use Rattle.trace_files.specs.Reported.{IsFormedTrace}
 use Rattle.trace_laws.specs.declared.verdicts.Verdict.{Verdict}

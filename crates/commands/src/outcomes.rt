@@ -4,8 +4,8 @@ ghost use Rattle.commands.specs.Outcomes.{status_of, stop_status, without_items}
 
 use ada_front::Refusal;
 use event_script::ScriptFault;
-use machine_kernel::Stop;
 use sched_tests::TableFault;
+use trace_text::Ended as Stop;
 
 /// How a command ended.
 #[derive(Drop)]

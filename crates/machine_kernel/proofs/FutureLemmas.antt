@@ -7,10 +7,10 @@ use Rattle.profile_machine.specs.declared.image.Image.{Image}
 use Rattle.profile_machine.specs.declared.run_data.Item.{Item}
 use Rattle.profile_machine.specs.declared.world.World.{World}
 use Rattle.profile_machine.specs.Instant.{instant}
-use Rattle.profile_machine.specs.Run.{tock, stop, opening, run_from, at_tick}
+use Rattle.profile_machine.specs.Run.{tock, stop, opening, run_from, at_tick, lines_of_run, stop_of_run}
 use Rattle.machine_laws.specs.IdleLaws.{IdleStretches}
 use Rattle.machine_kernel.specs.Jump.{jumped}
-use Rattle.machine_kernel.specs.Future.{Shown, advanced, advanced_by, future_of, first_line, lines_from, lines_unless, after_instant, goes_by, unless_stopped, end_lines, stop_of, stop_from, stop_unless, opened, lines_of_run, stop_of_run, left_of, flag}
+use Rattle.machine_kernel.specs.Future.{Shown, advanced, advanced_by, future_of, first_line, lines_from, lines_unless, after_instant, goes_by, unless_stopped, end_lines, stop_of, stop_from, stop_unless, opened, left_of, flag}
 use Rattle.machine_kernel.proofs.JumpLemmas.{jumped-run, jumped-later}
 
 at_tick-append : (now : ℕ) (xs ys : List Event) → at_tick now (xs ++ ys) ≡ at_tick now xs ++ at_tick now ys

@@ -16,7 +16,8 @@ use Rattle.machine_kernel.specs.declared.kernel.Next.{Next}
 use Rattle.machine_kernel.specs.declared.kernel.Next.TheVariants as did
 use Rattle.machine_kernel.specs.Reached.{is_in_time}
 use Rattle.machine_kernel.specs.Kernel.{shown, future, stop_to_come, left_to_do}
-use Rattle.machine_kernel.specs.Future.{Shown, future_of, stop_of, left_of, advanced, written_of, first_line, opened, lines_of_run, stop_of_run}
+use Rattle.machine_kernel.specs.Future.{Shown, future_of, stop_of, left_of, advanced, written_of, first_line, opened}
+use Rattle.profile_machine.specs.Run.{lines_of_run, stop_of_run}
 use Rattle.machine_kernel.specs.Next.{IfGoing, IfEnded}
 use Rattle.machine_kernel.proofs.FutureLemmas.{Moves, advanced-future, advanced-stop, advanced-left, stopped-future, stopped-stop, opened-future, opened-stop}
 

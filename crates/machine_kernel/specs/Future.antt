@@ -8,7 +8,7 @@ use Rattle.profile_machine.specs.declared.image.Image.{Image}
 use Rattle.profile_machine.specs.declared.run_data.Item.{Item}
 use Rattle.profile_machine.specs.declared.world.World.{World}
 use Rattle.profile_machine.specs.Instant.{instant}
-use Rattle.profile_machine.specs.Run.{tock, stop, run_from, at_tick, opening, run}
+use Rattle.profile_machine.specs.Run.{tock, stop, run_from, at_tick, opening}
 use Rattle.machine_kernel.specs.Jump.{jumped}
 
 -- a world of the machine, whether an instant or a tock comes next, the stop that is reached, and the owed lines
@@ -108,10 +108,3 @@ opened p script bound = record {
   stop = None;
   owed = at_tick 0 (opening p script).1;
 }
-
--- the lines of the run of a program with a script up to a bound, and why it ends
-unfoldable pub lines_of_run : Image → List (ℤ × Item) → ℕ → List (ℕ × Event)
-lines_of_run p script bound = (run p script bound).lines
-
-unfoldable pub stop_of_run : Image → List (ℤ × Item) → ℕ → Ended
-stop_of_run p script bound = (run p script bound).stop

@@ -1,7 +1,8 @@
 //! The opening of a run.
 ghost use Rattle.std.specs.Prelude.{◌≡◌, IfOk};
 ghost use Rattle.machine_kernel.specs.Kernel.{shown, future, stop_to_come};
-ghost use Rattle.machine_kernel.specs.Future.{opened, lines_of_run, stop_of_run};
+ghost use Rattle.machine_kernel.specs.Future.{opened};
+ghost use Rattle.profile_machine.specs.Run.{lines_of_run, stop_of_run};
 
 use crate::kernel::Kernel;
 use ann_base::{Moment, NoMemory};

@@ -191,3 +191,10 @@ run p script bound =
 -- the lines of the run of this program, script and bound
 abbrev pub run_of : Image → List (ℤ × Item) → ℕ → List (ℕ × Event)
 run_of p script bound = (run p script bound).lines
+
+-- the same, closed: clauses name it, and the reason why the run stops
+unfoldable pub lines_of_run : Image → List (ℤ × Item) → ℕ → List (ℕ × Event)
+lines_of_run p script bound = (run p script bound).lines
+
+unfoldable pub stop_of_run : Image → List (ℤ × Item) → ℕ → Ended
+stop_of_run p script bound = (run p script bound).stop

@@ -1,6 +1,7 @@
 use Rattle.std.proofs.Common.{◌++◌, ◌∙◌, [], sym, ap, arith}
 use Rattle.trace_text.specs.Text.{text_of}
-use Rattle.machine_kernel.specs.Future.{first_line, lines_of_run}
+use Rattle.machine_kernel.specs.Future.{first_line}
+use Rattle.profile_machine.specs.Run.{lines_of_run}
 use Rattle.machine_kernel.specs.Kernel.{shown, future, stop_to_come}
 use Rattle.commands.specs.Runs.{text_under}
 use Rattle.outside_bytes.proofs.PiecesWritten.{extended-nil, err-none, one_more_line, cut_line}

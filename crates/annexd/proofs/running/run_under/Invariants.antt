@@ -2,7 +2,7 @@ use Rattle.std.proofs.Common.{◌≡◌, ◌≤◌, ◌++◌, List, ℕ}
 use Rattle.ann_base.specs.Outside.{extended}
 use Rattle.trace_text.specs.Queue.{Line}
 use Rattle.trace_text.specs.Text.{ArePrintable, text_of}
-use Rattle.machine_kernel.specs.Future.{lines_of_run}
+use Rattle.profile_machine.specs.Run.{lines_of_run}
 use Rattle.machine_kernel.specs.Kernel.{future, stop_to_come, left_to_do}
 use Rattle.commands.specs.Runs.{text_under, stop_under}
 use Rattle.annexd.proofs.running.run_under.Given as goal

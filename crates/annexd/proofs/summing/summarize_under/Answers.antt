@@ -1,6 +1,6 @@
 use Rattle.std.proofs.Common.{◌∙◌, ap}
 use Rattle.ann_base.specs.Outside.{extended}
-use Rattle.machine_kernel.specs.Future.{lines_of_run}
+use Rattle.profile_machine.specs.Run.{lines_of_run}
 use Rattle.commands.specs.Runs.{summary_under}
 use Rattle.outside_bytes.proofs.PiecesWritten.{err-none}
 use Rattle.annexd.proofs.TalliedLines.{cut_text}

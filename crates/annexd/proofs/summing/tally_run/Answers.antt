@@ -1,5 +1,6 @@
 use Rattle.std.proofs.Common.{[], ◌++◌, ◌∙◌, ap}
-use Rattle.machine_kernel.specs.Future.{lines_of_run, written_of}
+use Rattle.machine_kernel.specs.Future.{written_of}
+use Rattle.profile_machine.specs.Run.{lines_of_run}
 use Rattle.machine_kernel.specs.Kernel.{shown, future, stop_to_come}
 use Rattle.annexd.proofs.TalliedLines.{one_more_tallied, all_tallied, none_to_come}
 use Rattle.annexd.proofs.summing.tally_run.Goals as goal

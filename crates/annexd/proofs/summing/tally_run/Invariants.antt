@@ -1,6 +1,6 @@
 use Rattle.std.proofs.Common.{◌≡◌, ◌++◌, List}
 use Rattle.trace_text.specs.Queue.{Line}
-use Rattle.machine_kernel.specs.Future.{lines_of_run}
+use Rattle.profile_machine.specs.Run.{lines_of_run}
 use Rattle.machine_kernel.specs.Kernel.{future, stop_to_come, left_to_do}
 use Rattle.load_runs.specs.Tallies.{Tallies}
 use Rattle.commands.specs.Runs.{stop_under}

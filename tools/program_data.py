@@ -10,7 +10,7 @@ the modules of the rows, writes nothing, and compares them with those that stand
 trace of each, and whether the whole file is the same; a law may be written by hand. A row is a folder with the files `source`,
 `script` (if it has one), `ticks` (the bound, if it matters) and `trace`.
 
-The image is that of the definitions (`judged` of ada_front, see definitions/interpreter.py), and so are the items of the
+The image is that of the definitions (`judged` of ada_verdicts, see definitions/interpreter.py), and so are the items of the
 script. The output is a file of definitions in antt: the program, its script, the bound, the trace that FILE holds, and the law
 that the machine's run is this trace. The same input gives the same output, byte by byte.
 

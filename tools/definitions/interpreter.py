@@ -30,7 +30,7 @@ def asked_of(words):
 
 def judged(source):
     """The image of a source, or its refusal: (image, None) or (None, refusal)."""
-    r = definition("ada_front.specs.Accepted", "judged")(tuple(source))
+    r = definition("ada_verdicts.specs.Accepted", "judged")(tuple(source))
     return (r.a[0], None) if r.n == "Ok" else (None, r.a[0])
 
 

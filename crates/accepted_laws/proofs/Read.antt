@@ -14,7 +14,7 @@ use Rattle.ada_tree.specs.Written.{lexemes_of}
 use Rattle.grammar_laws.proofs.Whole.{spelt_is_read}
 use Rattle.profile_machine.specs.declared.image.Image.{Image}
 use Rattle.source_laws.specs.Laws.{IsReadFrom}
-use Rattle.ada_front.specs.Accepted.{Accepted}
+use Rattle.ada_verdicts.specs.Accepted.{Accepted}
 
 -- ---- tokens that are those of a source are read from it
 

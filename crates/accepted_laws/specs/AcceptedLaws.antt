@@ -3,7 +3,7 @@ use Rattle.std.specs.Prelude.{ℕ, List, IsTrue}
 use Rattle.profile_machine.specs.declared.image.Image.{Image}
 use Rattle.name_laws.specs.Denoted.{denotes_by_position}
 use Rattle.ada_image.specs.NothingLost.{image_reads}
-use Rattle.ada_front.specs.Accepted.{Accepted}
+use Rattle.ada_verdicts.specs.Accepted.{Accepted}
 
 -- its image has the text of the tree that it spells, read from the scopes: nothing of it is lost
 abbrev pub NothingAcceptedIsLost : Type 0

@@ -10,8 +10,8 @@ use Rattle.ada_tree.specs.Written.{lexemes_of}
 use Rattle.ada_tree.specs.Spelling.{SpellsTokens}
 use Rattle.ada_tree.specs.Shape.{is_shaped}
 use Rattle.profile_machine.specs.declared.image.Image.{Image}
-use Rattle.ada_front.specs.declared.refusing.Refusal.{Refusal}
-use Rattle.ada_front.specs.Accepted.{Accepted, AcceptedTokens, AcceptedTree}
+use Rattle.ada_verdicts.specs.declared.refusals.Refusal.{Refusal}
+use Rattle.ada_verdicts.specs.Accepted.{Accepted, AcceptedTokens, AcceptedTree}
 
 -- what is accepted of the tree that tokens spell is accepted of the tokens
 pub tokens_accepted : (source : List ℕ) (tokens : List Token) (tree : Tree) (r : Result Image (OrMemory Refusal)) → SpellsTokens tree (lexemes_of source tokens) → is_shaped tree ≡ true →

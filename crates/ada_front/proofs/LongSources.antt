@@ -4,9 +4,9 @@ use Rattle.std.proofs.lemmas.Bool.{lt-ltb}
 use Rattle.ada_lex.specs.declared.lexing.TheConstants.{MAX_SOURCE}
 use Rattle.ada_lex.specs.Reading.{tokens_of}
 use Rattle.profile_machine.specs.declared.image.Image.{Image}
-use Rattle.ada_front.specs.declared.refusing.Code.TheVariants as code
-use Rattle.ada_front.specs.Refusals.{refused_at, first_place}
-use Rattle.ada_front.specs.Accepted.{Accepted, judged, LongSourcesAreRefused}
+use Rattle.ada_verdicts.specs.declared.refusals.Code.TheVariants as code
+use Rattle.ada_verdicts.specs.Refusals.{refused_at, first_place}
+use Rattle.ada_verdicts.specs.Accepted.{Accepted, judged, LongSourcesAreRefused}
 
 too_long : (source : List ℕ) (image : Image) → MAX_SOURCE < length source → Accepted source image → ⊥
 too_long source image long accepted = omega (arith, long, accepted.lexed.0)

@@ -9,15 +9,16 @@ ghost use Rattle.ada_legality.specs.Faults.{first_fault_of};
 ghost use Rattle.ada_image.specs.BuiltUnits.{unit_built};
 ghost use Rattle.ada_image.specs.ImageOfUnits.{program_of};
 ghost use Rattle.profile_machine.specs.declared.image.Image.{Image};
-ghost use Rattle.ada_front.specs.Accepted.{Accepted, AcceptedTokens, AcceptedTree, judged, by_grammar, by_names, by_rules, by_forms};
+ghost use Rattle.ada_verdicts.specs.Accepted.{Accepted, AcceptedTokens, AcceptedTree, judged, by_grammar, by_names, by_rules, by_forms};
 
-use crate::refusing::{Refusal, of_forms, of_grammar, of_names, of_rules, of_tokens};
+use crate::refusing::{of_forms, of_grammar, of_names, of_rules, of_tokens};
 use ada_legality::Fault;
 use ada_lex::{MAX_SOURCE, Token, lex};
 use ada_naming::names_of;
 use ada_parse::parse;
 use ada_regions::{NameFault, Names};
 use ada_tree::Unit;
+use ada_verdicts::Refusal;
 use ann_base::{NoMemory, OrMemory};
 use image_forms::unit_built;
 use image_programs::program_from;
@@ -26,7 +27,7 @@ use profile_machine::Image;
 use std::alloc::Global;
 
 /// The image of a source, or why it is refused.
-#[tactic(auto, unfolding(crate::specs::Accepted::judged))]
+#[tactic(auto, unfolding(ada_verdicts::specs::Accepted::judged))]
 pub fn accept(alloc: Global, source: &[u8]) -> Result<Image, OrMemory<Refusal>>
     // The answer is the stated one, unless memory ran out.
     ensures exact { Answers result (judged source.now) }

@@ -1,5 +1,5 @@
 //! What holds of every source.
-ghost use Rattle.ada_front.specs.Accepted.{LongSourcesAreRefused};
+ghost use Rattle.ada_verdicts.specs.Accepted.{LongSourcesAreRefused};
 
 /// A source of more than `MAX_SOURCE` bytes is refused for its length at its first byte, whatever stands in it, and is
 /// not accepted as any image.

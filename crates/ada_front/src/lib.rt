@@ -10,4 +10,3 @@ mod refusing;
 
 pub use accepting::accept;
 pub use laws::long_sources_are_refused;
-pub use refusing::{Code, Refusal};

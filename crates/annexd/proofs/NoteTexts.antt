@@ -1,7 +1,7 @@
 -- The note on a refused source, by the digits of its numbers.
 use Rattle.std.proofs.Common.{◌≡◌, ℕ, List, [], ◌∷◌, ◌++◌, ap, ◌∙◌, codes, decimal}
-use Rattle.ada_front.specs.declared.refusing.Refusal.{Refusal}
-use Rattle.ada_front.specs.Refusals.{letter_of, number_of}
+use Rattle.ada_verdicts.specs.declared.refusals.Refusal.{Refusal}
+use Rattle.ada_verdicts.specs.Refusals.{letter_of, number_of}
 use Rattle.commands.specs.Outcomes.{refusal_text}
 
 abbrev pub first_half : List ℕ → List ℕ → List ℕ

@@ -8,7 +8,7 @@ ghost use Rattle.sched_tests.specs.Reports.{table_note};
 ghost use Rattle.commands.specs.Outcomes.{Concludes, ConcludesWith, refusal_text, script_note};
 
 use crate::words::{write_labelled, write_words};
-use ada_front::Refusal;
+use ada_verdicts::Refusal;
 use ann_base::{Failed, Sink};
 use commands::Outcome;
 use event_script::ScriptFault;

@@ -2,7 +2,7 @@
 use Rattle.std.proofs.Common.{◌≡◌, ◌≢◌, ◌≤◌, ◌⊎◌, inl, inr, ℕ, true, false, List, Option, Some, None, refl, sym, subst, ◌∙◌, arith}
 use Rattle.trace_text.specs.declared.events.Ended.{Ended as Stop}
 use Rattle.trace_text.specs.declared.events.Ended.TheVariants as why
-use Rattle.ada_front.specs.declared.refusing.Refusal.{Refusal}
+use Rattle.ada_verdicts.specs.declared.refusals.Refusal.{Refusal}
 use Rattle.event_script.specs.declared.faults.ScriptFault.{ScriptFault}
 use Rattle.sched_tests.specs.declared.duties.TableFault.{TableFault}
 use Rattle.commands.specs.declared.outcomes.Outcome.{Outcome}

@@ -5,7 +5,7 @@ use Rattle.trace_text.specs.declared.events.Ended.{Ended as Stop}
 use Rattle.trace_text.specs.declared.events.Ended.TheVariants as why
 use Rattle.profile_machine.specs.declared.run_data.Item.{Item}
 use Rattle.profile_machine.specs.declared.image.Image.{Image}
-use Rattle.ada_front.specs.Accepted.{Accepted as IsAccepted}
+use Rattle.ada_verdicts.specs.Accepted.{Accepted as IsAccepted}
 use Rattle.commands.specs.declared.outcomes.Outcome.{Outcome}
 use Rattle.commands.specs.declared.outcomes.Outcome.TheVariants.{Ended, Accepted, Tested, Traced, WordsRefused, SourceRefused, ScriptRefused, TableRefused, TraceRefused, ReadFault, WriteFault, NoMemory}
 use Rattle.commands.specs.declared.requests.Work.{Work}

@@ -2,8 +2,8 @@
 use Rattle.std.proofs.Common.{◌≡◌, ◌≢◌, ◌≤◌, ◌⊎◌, inl, inr, ℕ, true, false, List, [], Option, Some, None, Err, refl, sym, subst, ◌∙◌, append-nil, arith, codes}
 use Rattle.outside_bytes.specs.Files.{Untold, Holds, file_in, told, WhereTold}
 use Rattle.profile_machine.specs.declared.image.Image.{Image}
-use Rattle.ada_front.specs.declared.refusing.Refusal.{Refusal}
-use Rattle.ada_front.specs.Accepted.{Accepted as IsAccepted}
+use Rattle.ada_verdicts.specs.declared.refusals.Refusal.{Refusal}
+use Rattle.ada_verdicts.specs.Accepted.{Accepted as IsAccepted}
 use Rattle.event_script.specs.declared.faults.ScriptFault.{ScriptFault}
 use Rattle.event_script.specs.Script.{script_of}
 use Rattle.sched_tests.specs.declared.duties.TableFault.{TableFault}

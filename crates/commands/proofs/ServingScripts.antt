@@ -9,8 +9,8 @@ use Rattle.outside_bytes.specs.Files.{told, WhereTold}
 use Rattle.ada_lex.specs.declared.lexing.TheConstants.{MAX_SOURCE}
 use Rattle.profile_machine.specs.declared.run_data.Item.{Item}
 use Rattle.profile_machine.specs.declared.image.Image.{Image}
-use Rattle.ada_front.specs.declared.refusing.Refusal.{Refusal}
-use Rattle.ada_front.specs.Accepted.{Accepted as IsAccepted, judged, LongSourcesAreRefused}
+use Rattle.ada_verdicts.specs.declared.refusals.Refusal.{Refusal}
+use Rattle.ada_verdicts.specs.Accepted.{Accepted as IsAccepted, judged, LongSourcesAreRefused}
 use Rattle.event_script.specs.declared.faults.TheConstants.{SCRIPT_BYTES}
 use Rattle.event_script.specs.Script.{script_of, CutScriptsAreReadAlike}
 use Rattle.commands.specs.declared.requests.Work.TheVariants as work

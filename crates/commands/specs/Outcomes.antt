@@ -2,8 +2,8 @@
 use Rattle.std.specs.Prelude.{◌≡◌, ◌⊎◌, ℕ, List, ◌++◌, ◌∷◌, [], if◌then◌else◌, Option, Some, None, codes, decimal}
 use Rattle.trace_text.specs.declared.events.Ended.{Ended as Stop}
 use Rattle.trace_text.specs.declared.events.Ended.TheVariants as why
-use Rattle.ada_front.specs.declared.refusing.Refusal.{Refusal}
-use Rattle.ada_front.specs.Refusals.{letter_of, number_of}
+use Rattle.ada_verdicts.specs.declared.refusals.Refusal.{Refusal}
+use Rattle.ada_verdicts.specs.Refusals.{letter_of, number_of}
 use Rattle.event_script.specs.declared.faults.ScriptFault.{ScriptFault}
 use Rattle.event_script.specs.Script.{kind_number}
 use Rattle.sched_tests.specs.Reports.{table_note}

@@ -8,8 +8,8 @@ use Rattle.trace_text.specs.Text.{ArePrintable}
 use Rattle.profile_machine.specs.declared.run_data.Item.{Item}
 use Rattle.profile_machine.specs.declared.image.Image.{Image}
 use Rattle.profile_machine.specs.Run.{lines_of_run}
-use Rattle.ada_front.specs.declared.refusing.Refusal.{Refusal}
-use Rattle.ada_front.specs.Accepted.{Accepted as IsAccepted, judged}
+use Rattle.ada_verdicts.specs.declared.refusals.Refusal.{Refusal}
+use Rattle.ada_verdicts.specs.Accepted.{Accepted as IsAccepted, judged}
 use Rattle.event_script.specs.declared.faults.ScriptFault.{ScriptFault}
 use Rattle.event_script.specs.Script.{script_of}
 use Rattle.sched_tests.specs.declared.duties.Duty.{Duty}

@@ -3,8 +3,8 @@ use Rattle.std.specs.Prelude.{◌≡◌, ◌≢◌, ◌≤◌, ◌⊎◌, ℕ, �
 use Rattle.outside_bytes.specs.Files.{told, Holds, WhereTold}
 use Rattle.profile_machine.specs.declared.run_data.Item.{Item}
 use Rattle.profile_machine.specs.declared.image.Image.{Image}
-use Rattle.ada_front.specs.declared.refusing.Refusal.{Refusal}
-use Rattle.ada_front.specs.Accepted.{Accepted as IsAccepted}
+use Rattle.ada_verdicts.specs.declared.refusals.Refusal.{Refusal}
+use Rattle.ada_verdicts.specs.Accepted.{Accepted as IsAccepted}
 use Rattle.event_script.specs.declared.faults.ScriptFault.{ScriptFault}
 use Rattle.event_script.specs.Script.{script_of}
 use Rattle.sched_tests.specs.declared.duties.Duty.{Duty}

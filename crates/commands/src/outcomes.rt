@@ -2,7 +2,7 @@
 ghost use Rattle.std.specs.Prelude.{◌≡◌, if◌then◌else◌};
 ghost use Rattle.commands.specs.Outcomes.{status_of, stop_status, without_items};
 
-use ada_front::Refusal;
+use ada_verdicts::Refusal;
 use event_script::ScriptFault;
 use sched_tests::TableFault;
 use trace_text::Ended as Stop;

@@ -1,5 +1,5 @@
 use Rattle.std.proofs.Common.{◌≡◌, ◌≤◌, ◌+◌, length}
-use Rattle.ada_front.specs.Refusals.{end_of, after_bytes}
+use Rattle.ada_verdicts.specs.Refusals.{end_of, after_bytes}
 use Rattle.ada_front.proofs.refusing.end_of.Given as goal
 
 -- the place after what was passed, from which the rest leads to the end; it is not far after the first

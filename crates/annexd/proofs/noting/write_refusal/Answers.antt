@@ -1,6 +1,6 @@
 use Rattle.std.proofs.Common.{◌∙◌, ap, subst, refl, OnOk, OnErr, ◌≡◌, decimal}
 use Rattle.ann_base.specs.Outside.{extended}
-use Rattle.ada_front.specs.Refusals.{letter_of, number_of}
+use Rattle.ada_verdicts.specs.Refusals.{letter_of, number_of}
 use Rattle.outside_bytes.specs.Pieces.{HoldsPrefix}
 use Rattle.outside_bytes.proofs.PiecesWritten.{err-first, err-second, ok-second}
 use Rattle.annexd.proofs.NoteTexts.{first_half, second_half, refusal-by}

@@ -12,9 +12,9 @@ use Rattle.ada_regions.specs.declared.faults.NameFault.{NameFault}
 use Rattle.ada_regions.specs.declared.faults.NameFault.TheVariants as named
 use Rattle.ada_legality.specs.declared.faults.Fault.{Fault}
 use Rattle.ada_legality.specs.Faults.{number_of_rule}
-use Rattle.ada_front.specs.declared.refusing.Code.{Code}
-use Rattle.ada_front.specs.declared.refusing.Code.TheVariants as code
-use Rattle.ada_front.specs.declared.refusing.Refusal.{Refusal}
+use Rattle.ada_verdicts.specs.declared.refusals.Code.{Code}
+use Rattle.ada_verdicts.specs.declared.refusals.Code.TheVariants as code
+use Rattle.ada_verdicts.specs.declared.refusals.Refusal.{Refusal}
 
 -- ---- codes as they are printed: 70 is F, 76 is L
 

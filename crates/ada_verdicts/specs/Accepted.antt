@@ -18,9 +18,9 @@ use Rattle.ada_legality.specs.Faults.{first_fault_of}
 use Rattle.ada_image.specs.BuiltUnits.{unit_built}
 use Rattle.ada_image.specs.ImageOfUnits.{program_of}
 use Rattle.profile_machine.specs.declared.image.Image.{Image}
-use Rattle.ada_front.specs.declared.refusing.Code.TheVariants as code
-use Rattle.ada_front.specs.declared.refusing.Refusal.{Refusal}
-use Rattle.ada_front.specs.Refusals.{refused_at, first_place, of_tokens, of_grammar, of_names, of_rules, of_forms}
+use Rattle.ada_verdicts.specs.declared.refusals.Code.TheVariants as code
+use Rattle.ada_verdicts.specs.declared.refusals.Refusal.{Refusal}
+use Rattle.ada_verdicts.specs.Refusals.{refused_at, first_place, of_tokens, of_grammar, of_names, of_rules, of_forms}
 
 -- The bytes are accepted as an image: their tokens spell a shaped tree, each of its names has one declaration, it breaks
 -- no rule, each of its forms is one that an image has, and the image is that of the tree.

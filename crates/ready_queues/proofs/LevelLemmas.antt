@@ -266,11 +266,3 @@ is_ready-kept u (x ∷ higher) (suc level) es h same = grind (arith, is_ready-ke
 
 pub is_ready-charged : {K : Type 0} (disciplines : List (Discipline K)) (u t : Slot) (level : ℕ) (lists : List (List (Entry K))) → level < length lists → is_ready u (charged_at disciplines level t lists) ≡ is_ready u lists
 is_ready-charged disciplines u t level lists h = is_ready-kept u lists level (rekeyed (discipline_at level disciplines).after_tick t (entries_at level lists)) h (holds-rekeyed u t (discipline_at level disciplines).after_tick (entries_at level lists))
-
-pub is_ready-empty : {K : Type 0} (u : Slot) (lists : List (List (Entry K))) → AreEmpty lists → is_ready u lists ≡ false
-is_ready-empty u [] e = refl
-is_ready-empty u (es ∷ higher) e = rw e.0 (is_ready-empty u higher e.1)
-
-pub AreEmpty-push : {X K : Type 0} (entries : X → List (Entry K)) (levels : List X) (level : X) → AreEmpty (map entries levels) → entries level ≡ [] → AreEmpty (map entries (levels ++ level ∷ []))
-AreEmpty-push entries [] level e h = (h, tt)
-AreEmpty-push entries (x ∷ xs) level e h = (e.0, AreEmpty-push entries xs level e.1 h)

@@ -1,0 +1,11 @@
+use Rattle.std.proofs.Common.{◌≡◌, List, [], ◌∷◌, None, refl, sym}
+use Rattle.std.specs.Prelude.{slice_get}
+use Rattle.task_masters.specs.Dependence.{dependents}
+use Rattle.library_tests.proofs.tests.task_masters.is_alone.Goals as goal
+
+empty : {X : Type 0} (xs : List X) → slice_get xs 0 ≡ None → xs ≡ []
+empty [] h = refl
+empty (x ∷ xs) h = cc
+
+pub returns-in-None : goal.returns-in-None
+returns-in-None c h = empty (dependents c.args.masters.now.tasks c.args.t) (sym c.in-None.ensures.at_place)

@@ -1,0 +1,23 @@
+//! One module for each crate whose calls are tested.
+mod ada_lex;
+mod ann_base;
+mod event_script;
+mod file_lines;
+mod level_policies;
+mod machine_frames;
+mod machine_operators;
+mod outside_bytes;
+mod profile_machine;
+mod ready_queues;
+mod run_report;
+mod sched_tests;
+mod shelves;
+mod task_levels;
+mod task_masters;
+mod time_events;
+mod trace_files;
+mod trace_laws;
+mod trace_lines;
+mod trace_reading;
+mod trace_text;
+mod world_tables;

@@ -1,0 +1,123 @@
+//! Sources with the tokens or the fault that the rules give them.
+use ada_lex::{
+    Delimiter, Kind, LexFault, Reserved, Token, decimals, delimiter_of, is_reserved, lex,
+    lower_case, reserved_word, same_word, spelling, text_value, whole_value,
+};
+use ann_base::{OrMemory, Place};
+use std::test::Fail;
+
+/// Code and place of the fault, code 0 where there is none.
+fn fault_of(found: Result<Vec<Token>, OrMemory<LexFault>>) -> (u8, u32, u32) {
+    match found {
+        Ok(_) => (0, 0, 0),
+        Err(OrMemory::Fault(LexFault::BadByte(place))) => (1, place.line, place.column),
+        Err(OrMemory::Fault(LexFault::BadNumber(place))) => (2, place.line, place.column),
+        Err(OrMemory::Fault(LexFault::OpenString(place))) => (3, place.line, place.column),
+        Err(OrMemory::Fault(LexFault::TooLong)) => (4, 1, 1),
+        Err(OrMemory::Memory) => (9, 0, 0),
+    }
+}
+
+#[test]
+fn faults(rt: HostRuntime) {
+    let rows: [(&[u8], (u8, u32, u32)); 26] = [
+        (b"", (0, 0, 0)),
+        (b"  A_1 -- any byte \xFF\n B", (0, 0, 0)),
+        (b"1..5 1.5 X.Y <= => /=", (0, 0, 0)),
+        (b"\"a\"\"b\" --", (0, 0, 0)),
+        (b"A\x0BB", (1, 1, 2)),
+        (b"A__B", (1, 1, 3)),
+        (b"\n A_ ;", (1, 2, 3)),
+        (b"A_", (1, 1, 2)),
+        (b"_A", (1, 1, 1)),
+        (b"A #", (1, 1, 3)),
+        (b"\"a\x7Fb\"", (1, 1, 3)),
+        (b"\"a\rb\"", (1, 1, 3)),
+        (b"X := 1__0", (2, 1, 6)),
+        (b"1_", (2, 1, 1)),
+        (b"1E5", (2, 1, 1)),
+        (b"16#F#", (2, 1, 1)),
+        (b"1.5x", (2, 1, 1)),
+        (b"1.000_001", (2, 1, 1)),
+        (b"340282366920938463463374607431768211456", (2, 1, 1)),
+        (b"340282366920938463463374607431768211455", (0, 0, 0)),
+        (b"000_000000000000000000000000000000000000001", (0, 0, 0)),
+        (b" \"abc", (3, 1, 2)),
+        (b"\"ab\x01c\n\"", (3, 1, 1)),
+        (b"\"a\"\"", (3, 1, 1)),
+        (b"\"a\r\n\"", (3, 1, 1)),
+        (
+            b"a123456789b123456789c123456789d123456789e123456789f123456789g123456789h1234567_9x",
+            (1, 1, 81),
+        ),
+    ];
+    for (source, want) in rows {
+        assert_eq!(rt; fault_of(lex(rt.alloc(), source)), want, "{source:?}");
+    }
+}
+
+#[test]
+fn tokens(rt: HostRuntime) -> Result<(), Fail> {
+    let source = b"if X_1 /= 12.50 then -- no\n\tPut (\"a\"\"b\");";
+    let found = lex(rt.alloc(), source)?;
+    let rows: [(Kind, u32, u32, u32, u32); 10] = [
+        (Kind::Word, 0, 2, 1, 1),
+        (Kind::Word, 3, 6, 1, 4),
+        (Kind::Delimiter, 7, 9, 1, 8),
+        (Kind::Number, 10, 15, 1, 11),
+        (Kind::Word, 16, 20, 1, 17),
+        (Kind::Word, 28, 31, 2, 2),
+        (Kind::Delimiter, 32, 33, 2, 6),
+        (Kind::Text, 33, 39, 2, 7),
+        (Kind::Delimiter, 39, 40, 2, 13),
+        (Kind::Delimiter, 40, 41, 2, 14),
+    ];
+    assert_eq!(rt; found.len(), 10);
+    for ((kind, first, end, line, column), token) in rows.into_iter().zip(found) {
+        let place = Place { line, column };
+        assert_eq!(rt;
+            token,
+            Token {
+                kind,
+                first,
+                end,
+                place
+            }
+        );
+    }
+    Ok(())
+}
+
+#[test]
+fn meanings(rt: HostRuntime) -> Result<(), Fail> {
+    assert_eq!(rt; reserved_word(b"BeGin"), Some(Reserved::Begin));
+    assert_eq!(rt; reserved_word(b"xor"), Some(Reserved::Xor));
+    assert_eq!(rt; reserved_word(b"First"), None);
+    assert!(rt; is_reserved(b"nULL"));
+    assert!(rt; !is_reserved(b"Integer"));
+    assert_eq!(rt; delimiter_of(b":="), Some(Delimiter::Becomes));
+    assert_eq!(rt; delimiter_of(b"|"), Some(Delimiter::Bar));
+    assert_eq!(rt; delimiter_of(b"-"), Some(Delimiter::Minus));
+    assert_eq!(rt; delimiter_of(b"--"), None);
+    assert!(rt; same_word(b"Put_Line", b"PUT_LINE"));
+    assert!(rt; !same_word(b"Put_Line", b"PutLine"));
+    assert_eq!(rt;
+        lower_case(rt.alloc(), b"Put_Line")?.as_slice(),
+        b"put_line".as_slice()
+    );
+    assert_eq!(rt; whole_value(b"1_000.25"), Some(1000));
+    assert_eq!(rt; decimals(b"1_000.25"), b"25".as_slice());
+    assert_eq!(rt; decimals(b"1_000"), b"".as_slice());
+    assert_eq!(rt;
+        text_value(rt.alloc(), b"\"a\"\"b\"")?.as_slice(),
+        b"a\"b".as_slice()
+    );
+    let token = Token {
+        kind: Kind::Word,
+        first: 1,
+        end: 3,
+        place: Place { line: 1, column: 2 },
+    };
+    assert_eq!(rt; spelling(b"xyz", token), b"yz".as_slice());
+    Ok(())
+}

@@ -1,0 +1,138 @@
+//! A task that opens and leaves constructs in a small world.
+use ann_base::{Raised, TaskNo};
+use machine_frames::{
+    Effect, frame_count, goes, has_room, in_protected, is_deferred, may_run, new_frame, new_task,
+    number_of, onward_of, open_if_ready, pass_on, pop, push, raises, set_state, set_ticks, task_at,
+    top_of, waiting_of,
+};
+use machine_operators::Program;
+use profile_machine::world::{Drawn, Mark, Part, State, Waiting, World};
+use profile_machine::{
+    Image, Leaving, MainProcedure, Policies, Queuing, ScopeNo, Sequence, Statement, StatementForm,
+    StatementNo,
+};
+use std::alloc::Global;
+use std::test::Fail;
+use trace_text::Who;
+use world_tables::List;
+
+// A program whose first statement is a sequence with handlers, which begins with the second.
+fn program_of(alloc: Global, statements: Sequence<Statement>) -> Program {
+    let image = Image {
+        declarations: Sequence::new(alloc),
+        expressions: Sequence::new(alloc),
+        statements,
+        scopes: Sequence::new(alloc),
+        subprograms: Sequence::new(alloc),
+        task_units: Sequence::new(alloc),
+        protected_units: Sequence::new(alloc),
+        entries: Sequence::new(alloc),
+        controlled_types: Sequence::new(alloc),
+        enumerations: Sequence::new(alloc),
+        policies: Policies {
+            dispatching: Sequence::new(alloc),
+            queuing: Queuing::Fifo,
+            longest_queue: None,
+            last_priority: 30,
+        },
+        environment: ScopeNo(0),
+        main: MainProcedure {
+            name: Sequence::new(alloc),
+            priority: 15,
+            scope: ScopeNo(0),
+        },
+    };
+    Program::of(alloc, image)
+}
+
+fn empty_world(alloc: Global) -> World {
+    World {
+        time: 0,
+        ran: None,
+        script: List::new(alloc),
+        ports: List::new(alloc),
+        masked: List::new(alloc),
+        kept_interrupts: List::new(alloc),
+        tasks: List::new(alloc),
+        agent: new_task(alloc, Who::Agent, 31, State::Made),
+        places: List::new(alloc),
+        quanta: List::new(alloc),
+        ended: None,
+        scopes: List::new(alloc),
+        objects: List::new(alloc),
+        calls: List::new(alloc),
+        appointments: List::new(alloc),
+        timers: List::new(alloc),
+        timers_set: List::new(alloc),
+        timers_due: List::new(alloc),
+        budgets: List::new(alloc),
+        budget_due: None,
+        registered: List::new(alloc),
+        releases: List::new(alloc),
+        serving: None,
+        drawn: Drawn {
+            tasks: 1,
+            objects: 0,
+            calls: 0,
+            regions: 0,
+            controlled: 0,
+            releases: 0,
+            scopes: 0,
+            events: 0,
+        },
+    }
+}
+
+#[test]
+fn constructs_of_a_task(rt: HostRuntime) -> Result<(), Fail> {
+    let alloc = rt.alloc();
+    let name = Who::Task(TaskNo(0));
+    let mut statements = Sequence::new(alloc);
+    statements.push(Statement {
+        form: StatementForm::Handled {
+            handlers: Sequence::new(alloc),
+            first: StatementNo(1),
+        },
+        signs: 0,
+        next: Some(StatementNo(2)),
+    })?;
+    let p = program_of(alloc, statements);
+    let mut effect = Effect {
+        world: empty_world(alloc),
+        said: List::new(alloc),
+    };
+    effect
+        .world
+        .tasks
+        .push_back(new_task(alloc, name, 15, State::Runnable))?;
+    push(
+        &mut effect.world,
+        name,
+        new_frame(Mark::InFinalize(7), Some(StatementNo(0))),
+    )?;
+    open_if_ready(&p, &mut effect, name)?;
+    assert_eq!(rt; frame_count(&effect.world, name), 2);
+    assert_eq!(rt; onward_of(&effect.world, name), Some(StatementNo(1)));
+    assert!(rt; has_room(&effect.world, name, 998, 65_536));
+    assert!(rt; !has_room(&effect.world, name, 999, 0));
+    assert!(rt; !has_room(&effect.world, name, 0, 65_537));
+    assert!(rt; is_deferred(&effect.world, name) && !in_protected(&effect.world, name));
+    raises(&mut effect, Part::Own, name, Raised::Storage)?;
+    assert_eq!(rt; effect.said.len(), 1);
+    assert_eq!(rt; onward_of(&effect.world, name), None);
+    assert_eq!(rt;
+        top_of(&effect.world, name).map(|frame| frame.left_as),
+        Some(Some(Leaving::Exception(Raised::Storage)))
+    );
+    pop(&mut effect.world, name);
+    assert_eq!(rt; onward_of(&effect.world, name), Some(StatementNo(2)));
+    goes(&mut effect, name, Some(StatementNo(3)));
+    pass_on(&p, &mut effect, name, Leaving::Exit(StatementNo(0)));
+    assert_eq!(rt; onward_of(&effect.world, name), Some(StatementNo(2)));
+    set_ticks(&mut effect.world, name, Some(4));
+    set_state(&mut effect.world, name, State::Blocked(Waiting::Moment));
+    assert!(rt; !may_run(&effect.world, name) && waiting_of(&effect.world, name).is_some());
+    assert!(rt; task_at(&effect.world, Who::Task(TaskNo(1))).is_none());
+    assert_eq!(rt; number_of(name), Some(TaskNo(0)));
+    Ok(())
+}

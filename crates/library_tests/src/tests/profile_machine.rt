@@ -1,0 +1,28 @@
+//! The lists of an image.
+use profile_machine::{
+    Actual, Actuals, ExprNo, SelectAlternative, SelectAlternatives, SelectKind, Sequence,
+};
+use std::alloc::AllocError;
+
+#[test]
+fn lists_take_what_is_pushed(rt: HostRuntime) -> Result<(), AllocError> {
+    let alloc = rt.alloc();
+    let mut sequence = Sequence::new(alloc);
+    let mut actuals = Actuals::new(alloc);
+    let mut alternatives = SelectAlternatives::new(alloc);
+    for number in 0..6 {
+        sequence.push(number)?;
+        actuals.push(Actual::In(ExprNo(number)))?;
+        alternatives.push(SelectAlternative {
+            guard: Some(ExprNo(number)),
+            kind: SelectKind::Terminate,
+        })?;
+    }
+    assert_eq!(rt; sequence.as_slice().last().copied(), Some(5));
+    assert_eq!(rt;
+        actuals.as_slice().last().copied(),
+        Some(Actual::In(ExprNo(5)))
+    );
+    assert!(rt; alternatives.as_slice().len() == 6);
+    Ok(())
+}

@@ -6,7 +6,7 @@ ghost use Rattle.profile_machine.specs.Declarations.{default_cells, set_defaults
 ghost use Rattle.profile_machine.specs.declared.declarations.Initial.TheVariants as initially;
 ghost use Rattle.profile_machine.specs.Values.{seen_by};
 ghost use Rattle.machine_controlled.specs.FirstValues.{first_value, written, first_of_component, first_values, all_written, value_set, components_set};
-ghost use Rattle.machine_statements.specs.Becomes.{Becomes};
+ghost use Rattle.machine_parameters.specs.Becomes.{Becomes};
 
 use ann_base::{NoMemory, OrMemory, Raised};
 use machine_operators::{Program, declaration_of, initial_cells, scope_of};

@@ -54,7 +54,7 @@ fn placed_anew(p: &Program, world: &mut World, call: &Call, level: Level) -> Res
         Queuing::Fifo => Ok(()),
         Queuing::Priority => {
             let place = place_of_entry(p, call.entry);
-            machine_calls::placed_anew(world, call.owner, place, call.number, level)
+            machine_queues::placed_anew(world, call.owner, place, call.number, level)
         }
     }
 }

@@ -1,4 +1,3 @@
-pub mod Becomes
 pub mod Parts
 pub mod Refused
 pub mod Texts

@@ -3,7 +3,7 @@ ghost use Rattle.std.specs.Prelude.{◌≡◌, OnOk};
 ghost use Rattle.profile_machine.specs.Statements.{assign, assign_array, array_copied};
 ghost use Rattle.profile_machine.specs.Values.{seen_by};
 ghost use Rattle.machine_frames.specs.Did.{Did};
-ghost use Rattle.machine_statements.specs.Becomes.{Becomes};
+ghost use Rattle.machine_parameters.specs.Becomes.{Becomes};
 ghost use Rattle.machine_statements.specs.Parts.{assigned};
 
 use crate::faults::refused;

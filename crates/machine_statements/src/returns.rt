@@ -4,7 +4,7 @@ ghost use Rattle.profile_machine.specs.Frames.{frames_of};
 ghost use Rattle.profile_machine.specs.Subprograms.{result_place, result_kept, return_result, return_value, call_that_returns, without_sending, drop_sending, return, cell_in, last_cell, copy_parameters, falls_through, store_result, end_subprogram};
 ghost use Rattle.profile_machine.specs.Values.{seen_by};
 ghost use Rattle.machine_frames.specs.Did.{Did};
-ghost use Rattle.machine_statements.specs.Becomes.{Becomes};
+ghost use Rattle.machine_parameters.specs.Becomes.{Becomes};
 
 use crate::faults::refused;
 use ann_base::{CallNo, NoMemory, OrMemory, Raised};

@@ -2,7 +2,7 @@ use Rattle.std.proofs.Common.{subst, sym}
 use Rattle.profile_machine.specs.declared.world.World.{World}
 use Rattle.profile_machine.specs.Operators.{Valued}
 use Rattle.profile_machine.specs.Values.{seen_by}
-use Rattle.machine_statements.specs.Becomes.{Becomes}
+use Rattle.machine_parameters.specs.Becomes.{Becomes}
 use Rattle.machine_controlled.proofs.FirstValueLemmas.{initialized_by}
 use Rattle.machine_controlled.proofs.initial_values.initialized.Goals as goal
 

@@ -1,0 +1,14 @@
+pub mod MarkFacts
+pub mod TopLemmas
+pub mod DepthLemmas
+pub mod FrameEdits
+pub mod DepthEdits
+pub mod TaskFacts
+pub mod TriggerLemmas
+pub mod FinalizeLemmas
+pub mod FineMoves
+pub mod Kept
+pub mod TaskMoves
+pub mod MarkMoves
+pub mod MarkRuns
+pub mod MarkWorlds

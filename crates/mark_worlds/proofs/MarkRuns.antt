@@ -1,0 +1,73 @@
+-- What is known of marks holds of every world that a run reaches: the opening has it, and instants and tocks keep it, since who acts
+-- waits for no entry call.
+use Rattle.std.proofs.Common.{◌≡◌, ℕ, ℤ, false, List, Option, Some, None, refl, sym, subst, arith}
+use Rattle.std.proofs.lemmas.Bool.{false≢true}
+use Rattle.trace_text.specs.declared.events.Event.{Event}
+use Rattle.trace_text.specs.declared.events.Who.TheVariants as who
+use Rattle.profile_machine.specs.declared.image.Image.{Image}
+use Rattle.profile_machine.specs.declared.run_data.Item.{Item}
+use Rattle.profile_machine.specs.declared.world.World.{World}
+use Rattle.profile_machine.specs.declared.world.tasks.Waiting.{Waiting}
+use Rattle.profile_machine.specs.declared.world.tasks.Waiting.TheVariants as waits_for
+use Rattle.profile_machine.specs.Tasks.{waiting_of}
+use Rattle.profile_machine.specs.Dispatching.{choose}
+use Rattle.profile_machine.specs.Instant.{instant}
+use Rattle.profile_machine.specs.Run.{opens, opening, blank_world, tock}
+use Rattle.machine_laws.specs.Reached.{Comes, opened, ticked, Reached, before, behind}
+use Rattle.leaving_laws.proofs.FineMoves.{waits}
+use Rattle.leaving_laws.proofs.WakingRuns.{comes-awake}
+use Rattle.exit_laws.specs.ExitLaws.{is_at_call, IsRunnerFree}
+use Rattle.mark_worlds.proofs.MarkFacts.{GoodMarks}
+use Rattle.mark_worlds.proofs.Kept.Combinators.{Leads, settles-leads}
+use Rattle.mark_worlds.proofs.Kept.Instant.{instant-leads}
+use Rattle.mark_worlds.proofs.Kept.Run.{tock-parts, before_tick-leads, opens-keeps}
+use Rattle.mark_worlds.proofs.MarkMoves.{moves, tock_moves}
+
+-- ---- who acts waits for no entry call
+
+awake-free : (waiting : Option Waiting) → waits waiting ≡ false → is_at_call waiting ≡ false
+awake-free None e = refl
+awake-free (Some waits_for.Activation) e = refl
+awake-free (Some waits_for.Moment) e = refl
+awake-free (Some (waits_for.Call c)) e = absurd (false≢true (sym e))
+awake-free (Some (waits_for.EndOfCall c)) e = absurd (false≢true (sym e))
+awake-free (Some (waits_for.Accept s)) e = refl
+awake-free (Some (waits_for.Select accepts delay terminate)) e = refl
+awake-free (Some (waits_for.Dependents r)) e = refl
+awake-free (Some waits_for.Release) e = refl
+
+runner-free : (p : Image) (script : List (ℤ × Item)) (bound : ℕ) (w : World) → Comes p script bound w → IsRunnerFree w
+runner-free p script bound w c n ran over = let h = comes-awake p script bound w c in awake-free (waiting_of w (who.Task n)) (h.awake (who.Task n) ran)
+
+-- ---- worlds
+
+-- at first nobody has a mark
+blank-good : (p : Image) (script : List (ℤ × Item)) → GoodMarks (blank_world p script)
+blank-good p script = record {
+  tasks_right = (record { struck = tt; finalizes = tt }, tt);
+  agent_right = record { struck = tt; finalizes = tt };
+  waits = ((λ c is. absurd (false≢true is)), tt);
+  numbers = (omega arith, tt);
+  triggers = λ t d is. absurd (false≢true is);
+  objects = tt;
+}
+
+opening-good : (p : Image) (script : List (ℤ × Item)) → GoodMarks (opening p script).0
+unfolding Leads
+opening-good p script = settles-leads moves.fine p (opens p) (opens-keeps moves p) (blank_world p script) (blank-good p script)
+
+instant-good : (p : Image) (w : World) → IsRunnerFree w → GoodMarks w → GoodMarks (instant p w).0
+instant-good p w free good = instant-leads moves p (record { puts = λ name number pieces text v x g is e. moves.fine.stays x g }) w good free
+
+tock-good : (p : Image) (w : World) → GoodMarks w → GoodMarks (tock p w).0
+unfolding Leads
+tock-good p w good =
+    subst (λ (t : World × List Event). GoodMarks t.0) (sym (tock-parts p w)) (before_tick-leads moves tock_moves p (choose w) w good)
+
+comes-good : (p : Image) (script : List (ℤ × Item)) (bound : ℕ) (w : World) → Comes p script bound w → GoodMarks w
+comes-good p script bound _ opened = opening-good p script
+comes-good p script bound _ (ticked w c e) = tock-good p (instant p w).0 (instant-good p w (runner-free p script bound w c) (comes-good p script bound w c))
+
+pub reached-good : (p : Image) (script : List (ℤ × Item)) (bound : ℕ) (w : World) → Reached p script bound w → GoodMarks w
+reached-good p script bound _ (before w c) = comes-good p script bound w c
+reached-good p script bound _ (behind w c) = instant-good p w (runner-free p script bound w c) (comes-good p script bound w c)

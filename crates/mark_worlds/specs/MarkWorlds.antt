@@ -1,0 +1,102 @@
+-- The marks of every world that a run reaches (7.6.1, 9.7.4, 9.8).
+use Rattle.std.specs.Prelude.{IsTrue, ℕ, ℤ, Bool, true, false, ◌&&◌, List, [], ◌∷◌, eqb, is_some}
+use Rattle.std.specs.List.{list_all}
+use Rattle.profile_machine.specs.declared.image.Image.{Image}
+use Rattle.profile_machine.specs.declared.run_data.Item.{Item}
+use Rattle.profile_machine.specs.declared.world.World.{World}
+use Rattle.profile_machine.specs.declared.world.marks.Frame.{Frame}
+use Rattle.profile_machine.specs.declared.world.marks.Mark.{Mark}
+use Rattle.profile_machine.specs.declared.world.marks.Mark.TheVariants.{Scope, Handled, InProtected, InAccept, Abortable, InInitialize, InFinalize, InAssign}
+use Rattle.profile_machine.specs.declared.world.tasks.Task.{Task}
+use Rattle.profile_machine.specs.Controlled.{registered_object}
+use Rattle.profile_machine.specs.WellFormed.{everybody, is_struck_rightly, finalizes_on, marks_are_right}
+use Rattle.machine_laws.specs.Reached.{Reached}
+
+-- ---- what is struck
+
+abbrev pub frames_are_struck_rightly : Task → List Frame → Bool
+frames_are_struck_rightly t [] = true
+frames_are_struck_rightly t (f ∷ fs) = is_struck_rightly t f fs && frames_are_struck_rightly t fs
+
+abbrev pub marks_are_struck_rightly : World → Bool
+marks_are_struck_rightly w = list_all (λ t. frames_are_struck_rightly t t.frames) (everybody w)
+
+-- a struck mark is the outermost one of an abnormal task, or an abortable part whose trigger has completed
+abbrev pub ReachedMarksAreStruckRightly : Type 0
+ReachedMarksAreStruckRightly = (p : Image) (script : List (ℤ × Item)) (bound : ℕ) (w : World) → Reached p script bound w → IsTrue (marks_are_struck_rightly w)
+
+-- ---- where a Finalize stands
+
+-- on the scope that is being left, whose object has been taken out of the register, or on the assignment to its object
+abbrev pub stands_on : World → ℕ → Mark → Bool
+stands_on w n (Scope m) = finalizes_on w n (Scope m)
+stands_on w n (Handled s) = false
+stands_on w n (InProtected m) = false
+stands_on w n (InAccept m) = false
+stands_on w n (Abortable m) = false
+stands_on w n (InInitialize l) = false
+stands_on w n (InFinalize o) = false
+stands_on w n (InAssign m) = eqb n m.target
+
+abbrev pub stands_above : World → ℕ → List Frame → Bool
+stands_above w n [] = false
+stands_above w n (f ∷ fs) = stands_on w n f.mark
+
+abbrev pub stands_rightly : World → Mark → List Frame → Bool
+stands_rightly w (Scope m) below = true
+stands_rightly w (Handled s) below = true
+stands_rightly w (InProtected m) below = true
+stands_rightly w (InAccept m) below = true
+stands_rightly w (Abortable m) below = true
+stands_rightly w (InInitialize l) below = true
+stands_rightly w (InFinalize n) below = stands_above w n below
+stands_rightly w (InAssign m) below = true
+
+abbrev pub frames_stand_rightly : World → List Frame → Bool
+frames_stand_rightly w [] = true
+frames_stand_rightly w (f ∷ fs) = stands_rightly w f.mark fs && frames_stand_rightly w fs
+
+abbrev pub finalizes_stand_rightly : World → Bool
+finalizes_stand_rightly w = list_all (λ t. frames_stand_rightly w t.frames) (everybody w)
+
+-- each Finalize stands where its end leads on
+abbrev pub ReachedFinalizesStandRightly : Type 0
+ReachedFinalizesStandRightly = (p : Image) (script : List (ℤ × Item)) (bound : ℕ) (w : World) → Reached p script bound w → IsTrue (finalizes_stand_rightly w)
+
+-- ---- the whole
+
+-- on an assignment its object is registered
+abbrev pub target_stays_on : World → ℕ → Mark → Bool
+target_stays_on w n (Scope m) = true
+target_stays_on w n (Handled s) = true
+target_stays_on w n (InProtected m) = true
+target_stays_on w n (InAccept m) = true
+target_stays_on w n (Abortable m) = true
+target_stays_on w n (InInitialize l) = true
+target_stays_on w n (InFinalize o) = true
+target_stays_on w n (InAssign m) = is_some (registered_object w n)
+
+abbrev pub target_stays_above : World → ℕ → List Frame → Bool
+target_stays_above w n [] = true
+target_stays_above w n (f ∷ fs) = target_stays_on w n f.mark
+
+abbrev pub target_stays : World → Mark → List Frame → Bool
+target_stays w (Scope m) below = true
+target_stays w (Handled s) below = true
+target_stays w (InProtected m) below = true
+target_stays w (InAccept m) below = true
+target_stays w (Abortable m) below = true
+target_stays w (InInitialize l) below = true
+target_stays w (InFinalize n) below = target_stays_above w n below
+target_stays w (InAssign m) below = true
+
+abbrev pub targets_of_frames_stay : World → List Frame → Bool
+targets_of_frames_stay w [] = true
+targets_of_frames_stay w (f ∷ fs) = target_stays w f.mark fs && targets_of_frames_stay w fs
+
+abbrev pub targets_stay : World → Bool
+targets_stay w = list_all (λ t. targets_of_frames_stay w t.frames) (everybody w)
+
+-- where the object of each Finalize of an assignment is registered, the marks of a reached world are right
+abbrev pub ReachedMarksAreRightWhereTargetsStay : Type 0
+ReachedMarksAreRightWhereTargetsStay = (p : Image) (script : List (ℤ × Item)) (bound : ℕ) (w : World) → Reached p script bound w → IsTrue (targets_stay w) → IsTrue (marks_are_right w)

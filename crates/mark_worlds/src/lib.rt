@@ -1,0 +1,26 @@
+//! Marks that are struck, and those of a Finalize, in the worlds that a run reaches: laws of the
+//! profile machine's definitions alone. Each is the contract of a function that does nothing.
+#![tactic(auto)]
+
+ghost use Rattle.mark_worlds.specs.MarkWorlds.{ReachedMarksAreStruckRightly, ReachedFinalizesStandRightly, ReachedMarksAreRightWhereTargetsStay};
+
+/// In every world that a run reaches a struck mark is the outermost one of an abnormal task, or an
+/// abortable part whose trigger has completed (ISO/IEC 8652:2012, 9.7.4, 9.8).
+#[tactic(auto, using(crate::proofs::MarkWorlds::reached_marks_are_struck_rightly))]
+pub fn reached_marks_are_struck_for_a_cause()
+    ensures { ReachedMarksAreStruckRightly }
+{}
+
+/// In every world that a run reaches a Finalize stands on the scope that is being left, whose object is
+/// no longer registered, or on the assignment to its object (ISO/IEC 8652:2012, 7.6, 7.6.1).
+#[tactic(auto, using(crate::proofs::MarkWorlds::reached_finalizes_stand_rightly))]
+pub fn reached_finalizes_stand_where_they_lead_on()
+    ensures { ReachedFinalizesStandRightly }
+{}
+
+/// Where moreover the object of each Finalize of an assignment is registered, the marks of a world that
+/// a run reaches are right.
+#[tactic(auto, using(crate::proofs::MarkWorlds::reached_marks_are_right_where_targets_stay))]
+pub fn reached_marks_are_right_where_targets_are_registered()
+    ensures { ReachedMarksAreRightWhereTargetsStay }
+{}

@@ -1,0 +1,17 @@
+pub mod Delays
+pub mod TaskLemmas
+pub mod CallLemmas
+pub mod PlacingLines
+pub mod DelayEdits
+pub mod FineMoves
+pub mod DelayMoves
+pub mod Kept
+pub mod Led
+pub mod ActingEnds
+pub mod DelaySteps
+pub mod DelayRuns
+pub mod DelayWorlds
+pub mod MomentOrder
+pub mod OrderWorlds
+pub mod DueAppointments
+pub mod AppointmentWorlds

@@ -1,0 +1,98 @@
+-- In every world that a run reaches appointments stand by moment: each is put behind those that are not later, and one that is
+-- dropped leaves the others in order.
+use Rattle.std.proofs.Common.{◌≡◌, ℕ, ℤ, true, List, Option, Some, None, sym, subst}
+use Rattle.std.specs.Prelude.{int_le}
+use Rattle.trace_text.specs.declared.events.Who.{Who}
+use Rattle.trace_text.specs.declared.events.Who.TheVariants as who
+use Rattle.profile_machine.specs.declared.image.Image.{Image}
+use Rattle.profile_machine.specs.declared.run_data.Item.{Item}
+use Rattle.profile_machine.specs.declared.world.World.{World}
+use Rattle.profile_machine.specs.declared.world.tasks.Task.{Task}
+use Rattle.profile_machine.specs.Dispatching.{choose}
+use Rattle.profile_machine.specs.Run.{opens, blank_world}
+use Rattle.profile_machine.specs.Tasks.{task_at, edit_task_found, edit_task}
+use Rattle.profile_machine.specs.WellFormed.{all_adjacent}
+use Rattle.machine_laws.proofs.FineMoves.{finely}
+use Rattle.machine_laws.proofs.Kept.Combinators.{Leads, settles-leads}
+use Rattle.machine_laws.proofs.Kept.Instant.{instant-leads}
+use Rattle.machine_laws.proofs.Kept.Run.{tock-parts, before_tick-leads, opens-keeps}
+use Rattle.machine_laws.proofs.Moves.{Moves, TockMoves}
+use Rattle.machine_laws.proofs.ReachedLemmas.{Lasts, reached-lasts}
+use Rattle.machine_laws.specs.Reached.{Reached}
+use Rattle.appointment_worlds.proofs.MomentOrder.{InOrder, InOrder-put, InOrder-without, InOrder-adjacent}
+
+abbrev Ordered : World → Type 0
+Ordered w = InOrder w.appointments
+
+-- both worlds have them in order, if the first has
+abbrev StaysOrdered : {X : Type 0} → World → List X → World → Type 0
+StaysOrdered before lines after = Ordered before → Ordered after
+
+edit_found-order : (name : Who) (f : Task → Task) (w : World) (found : Option Task) → Ordered w → Ordered (edit_task_found name f w found)
+edit_found-order name f w None h = h
+edit_found-order (who.Task n) f w (Some t) h = h
+edit_found-order who.Agent f w (Some t) h = h
+
+edit_task-order : (name : Who) (f : Task → Task) (w : World) → ((t : Task) → (f t).who ≡ t.who) → Ordered w → Ordered (edit_task name f w)
+edit_task-order name f w k h = edit_found-order name f w (task_at w name) h
+
+stays_ordered : Moves StaysOrdered StaysOrdered
+stays_ordered = record {
+  stays = λ w h. h;
+  goes_on = λ a b c p q h. q (p h);
+  says = λ part line w no_put h. h;
+  rests = λ w h. h;
+  leads_on = λ a b c p q h. q (p h);
+  settles = λ p a b xs k h. k h;
+  silently = λ a b k h. k h;
+  edits_task = edit_task-order;
+  adds_task = λ t w k h. h;
+  forgets_task = λ name w h. h;
+  sets_quantum = λ level ticks w h. h;
+  ends_environment = λ leaving w h. h;
+  begins_scope = λ p name scope b w h. h;
+  draws_region = λ w h. h;
+  edits_cells = λ id f w h. h;
+  ends_scope = λ id w h. h;
+  edits_call = λ c f w k h. h;
+  adds_call = λ c w h. h;
+  forgets_call = λ c w h. h;
+  edits_object = λ o f w k a h. h;
+  adds_object = λ p l u w h. h;
+  enters = λ name o mode w lets h. h;
+  exits = λ name o w h. h;
+  visits = λ name o mode xs w v lets others k h. k h;
+  finds_held = λ name o mode w found h. h;
+  appoints = λ due moment w later h. InOrder-put (record { due = due; moment = moment }) w.appointments h;
+  drops_appointment = λ test w h. InOrder-without (λ a. test a.due) w.appointments h;
+  registers = λ r l w h. h;
+  unregisters = λ n w h. h;
+  draws_event = λ w h. h;
+  adds_timer = λ t w h. h;
+  clears_timer = λ k w h. h;
+  sets_timer = λ k h value w g. g;
+  sets_timers_due = λ timers w h. h;
+  adds_budget = λ w h. h;
+  edits_budget = λ b f w h. h;
+  sets_budget_due = λ budget w h. h;
+  releases = λ h argument w g. g;
+  has_served = λ r w is h. h;
+  sets_port = λ n value w h. h;
+  masks = λ n flag w h. h;
+  keeps_interrupt = λ n flag w h. h;
+  cuts_script = λ x rest w is due h. h;
+}
+
+tocks_stay_ordered : TockMoves StaysOrdered
+tocks_stay_ordered = record { tells = λ event w k h. h; serves = λ r rest w k h. h }
+
+ordered-lasts : Lasts Ordered
+unfolding Leads
+ordered-lasts = record {
+  at_opening = λ p script. settles-leads (finely stays_ordered) p (opens p) (opens-keeps stays_ordered p) (blank_world p script) tt tt;
+  at_instant = λ p w h. instant-leads stays_ordered p (record { puts = λ name s pieces text v w good is e k. k }) w tt h;
+  at_tock = λ p w h. subst (λ a. Ordered a.0) (sym (tock-parts p w)) (before_tick-leads stays_ordered tocks_stay_ordered p (choose w) w tt h);
+}
+
+pub reached-ordered : (p : Image) (script : List (ℤ × Item)) (bound : ℕ) (w : World) → Reached p script bound w → all_adjacent (λ a b. int_le a.moment b.moment) w.appointments ≡ true
+reached-ordered p script bound w r = InOrder-adjacent w.appointments (reached-lasts ordered-lasts p script bound w r)

@@ -1,7 +1,7 @@
 use Rattle.std.proofs.Common.{◌≡◌, List, [], ◌∷◌, None, refl, sym}
 use Rattle.std.specs.Prelude.{slice_get}
 use Rattle.task_masters.specs.Dependence.{dependents}
-use Rattle.library_tests.proofs.tests.task_masters.is_alone.Goals as goal
+use Rattle.table_tests.proofs.tests.task_masters_calls.is_alone.Goals as goal
 
 empty : {X : Type 0} (xs : List X) → slice_get xs 0 ≡ None → xs ≡ []
 empty [] h = refl

@@ -2,7 +2,7 @@ use Rattle.std.proofs.Common.{◌≡◌, false, List, [], ◌∷◌, map, refl, 
 use Rattle.ann_base.specs.declared.identities.Slot.{Slot}
 use Rattle.level_policies.specs.Entries.{Entry}
 use Rattle.ready_queues.specs.Queues.{is_ready, AreEmpty}
-use Rattle.library_tests.proofs.tests.ready_queues.run.Goals as goal
+use Rattle.table_tests.proofs.tests.ready_queues_calls.run.Goals as goal
 
 -- where nobody stands nobody is ready
 is_ready-empty : {K : Type 0} (u : Slot) (lists : List (List (Entry K))) → AreEmpty lists → is_ready u lists ≡ false

@@ -1,7 +1,7 @@
 use Rattle.std.proofs.Common.{◌≡◌, ◌+◌, ap, ◌∙◌, List, length, length-append, [], ◌∷◌, ◌++◌, map}
 use Rattle.level_policies.specs.Entries.{Entry}
 use Rattle.ready_queues.specs.Queues.{AreEmpty}
-use Rattle.library_tests.proofs.tests.ready_queues.fresh.Goals as goal
+use Rattle.table_tests.proofs.tests.ready_queues_calls.fresh.Goals as goal
 
 -- one level more on which nobody stands
 AreEmpty-push : {X K : Type 0} (entries : X → List (Entry K)) (levels : List X) (level : X) → AreEmpty (map entries levels) → entries level ≡ [] → AreEmpty (map entries (levels ++ level ∷ []))

@@ -1,0 +1,275 @@
+-- The effect of an action: it leads from what holds at first to what holds behind it.
+use Rattle.ann_base.specs.declared.exceptions.Raised.{Raised}
+use Rattle.place_worlds.proofs.ActingMoves.{ActingMoves, Admitting, Either, Lasting, LastingOf}
+use Rattle.place_worlds.proofs.Kept.CallEnds.{end_top_abortable-keeps}
+use Rattle.place_worlds.proofs.Kept.Calls.{attempt_with-keeps, with_call-keeps}
+use Rattle.place_worlds.proofs.Kept.Controlled.{assign_controlled-keeps, end_in_assign-keeps, end_in_finalize-keeps, end_in_initialize-keeps, initialize-keeps}
+use Rattle.place_worlds.proofs.Kept.Declarations.{declare-keeps}
+use Rattle.place_worlds.proofs.Kept.EntryCalls.{asynchronous_select-leads, entry_call-leads, requeue-keeps}
+use Rattle.place_worlds.proofs.Kept.Frames.{edit_top-alters, goes-keeps, open_if_ready-keeps, pass_on-keeps, pop-alters, raises-keeps, weakly, with_room-keeps}
+use Rattle.place_worlds.proofs.Kept.Handlers.{add_member-keeps, add_to_budget-keeps, call_handler-leads, cancel_budget-keeps, cancel_event-keeps, cancel_timer-keeps, remove_member-keeps, replenish-keeps, set_budget-keeps, set_event-keeps, set_timer-keeps}
+use Rattle.place_worlds.proofs.Kept.Masters.{fits_part}
+use Rattle.place_worlds.proofs.Kept.Priorities.{delay_and_set_deadline-leads, delay_until-keeps, set_deadline_of-leads, set_priority-leads, set_quantum-keeps}
+use Rattle.place_worlds.proofs.Kept.Protected.{call_operation-leads, call_own_operation-keeps}
+use Rattle.place_worlds.proofs.Kept.Rendezvous.{accept-keeps, end_in_accept-keeps, goes_later, not_later, selective_accept-leads}
+use Rattle.place_worlds.proofs.Kept.Scopes.{drop_appointment-alters, open_scope-alters}
+use Rattle.place_worlds.proofs.Kept.Serving.{end_in_protected-keeps}
+use Rattle.place_worlds.proofs.Kept.Statements.{assign-keeps, assign_array-keeps, block_statement-keeps, case_statement-keeps, exit_statement-keeps, first_turn-keeps, for_bounds-keeps, if_statement-keeps, later_turn-keeps, null-keeps, put_line-keeps, raise_again-keeps, while_turn-keeps}
+use Rattle.place_worlds.proofs.Kept.Subprograms.{call_subprogram-keeps, return-keeps, return_value-keeps}
+use Rattle.place_worlds.proofs.Kept.Tasking.{abort_statement-keeps, activate-keeps, create-leads, end_own_activation-keeps, end_scope_mark-leads, take_terminates-leads, unwind_all-keeps}
+use Rattle.place_worlds.proofs.Kept.Tasks.{edit_task-alters}
+use Rattle.place_worlds.proofs.LevelMoves.{Fitting, Naming, Silences, Sleeping}
+use Rattle.ceiling_runs.proofs.Triples.{Alters, At, Ends, Keeps, Leads, State, With, changes-keeps, changes-leads, cond-keeps, from-leads, from_at, looks-keeps, looks-leads, looks-with, nothing-keeps, option-keeps, sees-keeps, then-keeps, then-leads, to-leads, unchanged-alters}
+use Rattle.profile_machine.specs.Act.{act, act_frame, act_statement, act_top, act_without, behind_handled, below, call, call_main, drop_trigger, end_abortable_by, end_handled, end_in_abortable, end_mark, end_top, handle_or_pass, handler_for, keeping, wait_for_trigger, waiting_mark}
+use Rattle.profile_machine.specs.Appointments.{is_trigger_of}
+use Rattle.profile_machine.specs.CallEnds.{edit_abortable}
+use Rattle.profile_machine.specs.Calls.{attempt_with, with_call}
+use Rattle.profile_machine.specs.Frames.{any_protected, frames_of, handlers_in, in_protected, leaving_of, open_if_ready, top_of, with_mark}
+use Rattle.profile_machine.specs.Handlers.{call_handler}
+use Rattle.profile_machine.specs.Instant.{effect}
+use Rattle.profile_machine.specs.Program.{form_of}
+use Rattle.profile_machine.specs.Statements.{relative_moment}
+use Rattle.profile_machine.specs.Steps.{Step, changes, looks, nothing, ◌▷◌}
+use Rattle.profile_machine.specs.Tasking.{take_terminates, unwind_all}
+use Rattle.profile_machine.specs.Tasks.{edit_task, edit_task_found, task_at, with_ticks}
+use Rattle.profile_machine.specs.Words.{first_of_list}
+use Rattle.profile_machine.specs.Values.{condition, moment}
+use Rattle.profile_machine.specs.declared.image.Image.{Image}
+use Rattle.profile_machine.specs.declared.numbers.StatementNo.{StatementNo}
+use Rattle.profile_machine.specs.declared.run_data.Leaving.{Leaving}
+use Rattle.profile_machine.specs.declared.run_data.Leaving.TheVariants as how
+use Rattle.profile_machine.specs.declared.statements.Actual.{Actual}
+use Rattle.profile_machine.specs.declared.statements.Callee.{Callee}
+use Rattle.profile_machine.specs.declared.statements.Callee.TheVariants as callee
+use Rattle.profile_machine.specs.declared.statements.Destination.{Destination}
+use Rattle.profile_machine.specs.declared.statements.StatementForm.{StatementForm}
+use Rattle.profile_machine.specs.declared.statements.StatementForm.TheVariants as form
+use Rattle.profile_machine.specs.declared.world.World.{World}
+use Rattle.profile_machine.specs.declared.world.appointments.Release.{Release}
+use Rattle.profile_machine.specs.declared.world.calls.Call.{Call}
+use Rattle.profile_machine.specs.declared.world.calls.CallKind.TheVariants as call_kind
+use Rattle.profile_machine.specs.declared.world.lines.Part.TheVariants.{Own}
+use Rattle.profile_machine.specs.declared.world.lines.Said.{Said}
+use Rattle.profile_machine.specs.declared.world.marks.AbortableMark.{AbortableMark}
+use Rattle.profile_machine.specs.declared.world.marks.Frame.{Frame}
+use Rattle.profile_machine.specs.declared.world.marks.Mark.{Mark}
+use Rattle.profile_machine.specs.declared.world.marks.Mark.TheVariants.{Abortable, Handled, InAccept, InAssign, InFinalize, InInitialize, InProtected, Scope}
+use Rattle.profile_machine.specs.declared.world.tasks.Waiting.TheVariants as waits_for
+use Rattle.profile_machine.specs.declared.world.tasks.Task.{Task}
+use Rattle.std.proofs.Common.{ap, inl, inr, refl, subst, sym, ◌∙◌, ◌≡◌, ◌⊎◌}
+use Rattle.std.specs.Prelude.{List, None, Option, Some, [], true, ℕ}
+use Rattle.trace_text.specs.declared.events.Who.{Who}
+use Rattle.trace_text.specs.declared.events.Who.TheVariants as who
+
+module _ {X : State} (quiet : Silences X) where
+  handle_or_pass-keeps : (p : Image) (name : Who) (e : Raised) (next : Option StatementNo) → Keeps X (handle_or_pass p name e next)
+  unfolding handle_or_pass
+  handle_or_pass-keeps p name e None = pass_on-keeps quiet p name (how.Exception e)
+  handle_or_pass-keeps p name e (Some first) = then-keeps _ _ (changes-keeps _ (edit_top-alters quiet name (λ f. with_mark (keeping e f.mark) f))) (goes-keeps quiet name (Some first))
+
+  behind_handled-keeps : (p : Image) (name : Who) (s : StatementNo) (leaving : Leaving) → Keeps X (behind_handled p name s leaving)
+  unfolding behind_handled
+  behind_handled-keeps p name s (how.Exception e) = handle_or_pass-keeps p name e (handler_for e (handlers_in (form_of p s)))
+  behind_handled-keeps p name s how.End = nothing-keeps
+  behind_handled-keeps p name s how.Return = pass_on-keeps quiet p name how.Return
+  behind_handled-keeps p name s (how.Exit loop) = pass_on-keeps quiet p name (how.Exit loop)
+  behind_handled-keeps p name s how.Abort = pass_on-keeps quiet p name how.Abort
+  behind_handled-keeps p name s how.Terminate = pass_on-keeps quiet p name how.Terminate
+
+  pub end_handled-keeps : (p : Image) (name : Who) (s : StatementNo) (leaving : Leaving) → Keeps X (end_handled p name s leaving)
+  unfolding end_handled
+  end_handled-keeps p name s leaving = then-keeps _ _ (changes-keeps _ (pop-alters quiet name)) (behind_handled-keeps p name s leaving)
+
+  pub end_top-keeps : (p : Image) (name : Who) → Keeps X (end_top p name)
+  unfolding end_top
+  end_top-keeps p name = looks-keeps _ (λ w. end_top_abortable-keeps quiet p Own name (frames_of w name))
+
+  pub drop_trigger-alters : (name : Who) (depth : ℕ) → Alters X (drop_trigger name depth)
+  drop_trigger-alters (who.Task t) depth = drop_appointment-alters quiet (is_trigger_of t depth)
+  drop_trigger-alters who.Agent depth = unchanged-alters
+
+  pub call_main-keeps : (p : Image) (name : Who) (s : StatementNo) → Keeps X (call_main p name s)
+  unfolding call_main
+  call_main-keeps p name s = search (with_room-keeps, goes-keeps, then-keeps, looks-keeps, changes-keeps, open_scope-alters)
+
+-- the agent has no marks, or is inside a protected action
+abbrev pub InsideOrNone : List Frame → Type 0
+InsideOrNone frames = (frames ≡ []) ⊎ (any_protected frames ≡ true)
+
+abbrev pub AgentInside : World → Type 0
+AgentInside w = InsideOrNone w.agent.frames
+
+inside_top : (frames : List Frame) (f : Frame) → first_of_list frames ≡ Some f → InsideOrNone frames → any_protected frames ≡ true
+inside_top frames f top (inr inside) = inside
+inside_top frames f top (inl none) = absurd (let never : None ≡ Some f = ap first_of_list (sym none) ∙ top in cc)
+
+inside_by : (name : Who) (v : World) (f : Frame) → name ≡ who.Agent → top_of v name ≡ Some f → AgentInside v → in_protected v name ≡ true
+inside_by (who.Task t) v f is top h = absurd cc
+inside_by who.Agent v f is top h = inside_top v.agent.frames f top h
+
+ticked_found : (name : Who) (w : World) (found : Option Task) → task_at w name ≡ found → (edit_task_found name (with_ticks None) w found).agent.frames ≡ w.agent.frames
+ticked_found name w None is = refl
+ticked_found (who.Task n) w (Some t) is = refl
+ticked_found who.Agent w (Some t) is = let one : w.agent ≡ t = cc in ap (λ (u : Task). u.frames) (sym one)
+
+agent-ticked : (name : Who) (w : World) → (edit_task name (with_ticks None) w).agent.frames ≡ w.agent.frames
+agent-ticked name w = ticked_found name w (task_at w name) refl
+
+either_ends : {X Y Z : State} (step : Step) (w : World) (said : List Said) → Leads X Z step → Keeps Y step → Either X Y w said → Ends (Either Z Y) (step w said)
+either_ends {X} {Y} {Z} step w said a b (inl h) = (to-leads {X = X} {Y = Z} {Z = Either Z Y} step a (λ v s k. inl k)).runs w said h
+either_ends {X} {Y} {Z} step w said a b (inr h) = (to-leads {X = Y} {Y = Y} {Z = Either Z Y} step b (λ v s k. inr k)).runs w said h
+
+either-leads : {X Y Z : State} (step : Step) → Leads X Z step → Keeps Y step → Leads (Either X Y) (Either Z Y) step
+either-leads step a b = record { runs = λ w said h. either_ends step w said a b h }
+
+module _ {p : Image} {actor : Who} {Fits Narrow : Fitting} {Sleeps : Sleeping} {May : Admitting} {Listed Unmade : World → Naming} {F I J L W Y D : State} {O V U : World → State} {N : Lasting} {E : LastingOf} (acting : ActingMoves p actor Fits Narrow Sleeps May Listed Unmade F I J L W Y D O V U N E) where
+  -- who acts goes on, comes to its select, or may have entered an object
+  at_first : (step : Step) → Keeps F step → Leads F (Either W J) step
+  at_first step kept = weakly acting.fresh (λ w said h. inl (not_later acting w said h)) step kept
+
+  without : (step : Step) → Leads F I step → Leads F (Either W J) step
+  without step a = to-leads step a (λ w said h. inl (goes_later acting w said h))
+
+  at_select : (step : Step) → Leads F W step → Leads F (Either W J) step
+  at_select step a = to-leads step a (λ w said h. inl h)
+
+  later_on : (step : Step) → Keeps I step → Leads F (Either W J) step
+  later_on step kept = without step (from-leads step acting.starts kept)
+
+  wide : (w : World) (said : List Said) → Either I J w said → Either W J w said
+  wide w said (inl h) = inl (goes_later acting w said h)
+  wide w said (inr h) = inr h
+
+  by_entry : (step : Step) → Leads F (Either I J) step → Leads F (Either W J) step
+  by_entry step a = to-leads step a wide
+
+  wait_for_trigger-keeps : (c : Call) (leaving : Leaving) → Keeps I (wait_for_trigger actor c leaving)
+  unfolding wait_for_trigger
+  wait_for_trigger-keeps c leaving = then-keeps _ _ (changes-keeps _ (edit_top-alters acting.later.base.quiet actor (λ f. with_mark (edit_abortable waiting_mark f.mark) (record f { left_as = Some leaving })))) (acting.later.blocks actor (waits_for.EndOfCall c.number))
+
+  end_abortable_by-keeps : (m : AbortableMark) (leaving : Leaving) → Keeps I (end_abortable_by p actor m leaving)
+  unfolding end_abortable_by
+  end_abortable_by-keeps m leaving =
+      option-keeps m.call (looks (λ w. changes (drop_trigger actor (below (frames_of w actor)))) ▷ end_top p actor) (λ c. with_call c (λ d. attempt_with p Own d (end_top p actor) (wait_for_trigger actor d leaving)))
+      (then-keeps _ _ (looks-keeps _ (λ w. changes-keeps _ (drop_trigger-alters acting.later.base.quiet actor (below (frames_of w actor))))) (end_top-keeps acting.later.base.quiet p actor))
+      (λ c. with_call-keeps acting.later.base.quiet c _ (λ d. attempt_with-keeps acting.later.base.quiet p Own d (end_top p actor) (wait_for_trigger actor d leaving) (end_top-keeps acting.later.base.quiet p actor) (wait_for_trigger-keeps d leaving)))
+
+  end_in_abortable-keeps : (m : AbortableMark) (leaving : Leaving) → Keeps I (end_in_abortable p actor m leaving)
+  unfolding end_in_abortable
+  end_in_abortable-keeps m leaving = cond-keeps m.triggered (end_top p actor) (end_abortable_by p actor m leaving) (end_top-keeps acting.later.base.quiet p actor) (end_abortable_by-keeps m leaving)
+
+  call-leads : (s : StatementNo) (callee : Callee) (actuals : List Actual) (to : Destination) → Leads F (Either W J) (call p actor s callee actuals to)
+  unfolding call
+  call-leads s (callee.Subprogram f) actuals to = at_first _ (call_subprogram-keeps acting.fresh p actor s f actuals to)
+  call-leads s (callee.Operation d f) actuals to = by_entry _ (call_operation-leads acting s d f actuals to)
+  call-leads s (callee.OwnOperation f) actuals to = at_first _ (call_own_operation-keeps acting.fresh p actor s f actuals to)
+
+  -- the agent acts inside a protected action
+  abbrev InsideIfAgent : World → Type 0
+  InsideIfAgent v = actor ≡ who.Agent → in_protected v actor ≡ true
+
+  without_at : (v : World) (step : Step) → Leads (At I v) I step → Leads (At F v) (Either W J) step
+  without_at v step a = to-leads step (from-leads step (λ w said h. (acting.starts w said h.0, h.1)) a) (λ w said h. inl (goes_later acting w said h))
+
+  act_statement-leads : (v : World) → InsideIfAgent v → (s : StatementNo) (form : StatementForm) → Leads (At F v) (Either W J) (act_statement p actor s form)
+  unfolding act_statement
+  act_statement-leads v inside s (form.Declare object) = from_at _ (later_on _ (declare-keeps acting.later.base.quiet p acting.makes actor s object))
+  act_statement-leads v inside s (form.Initialize object) = from_at _ (at_first _ (initialize-keeps acting.fresh p actor s object))
+  act_statement-leads v inside s (form.CreateTask object part) = from_at _ (without _ (create-leads acting s object part))
+  act_statement-leads v inside s (form.Activate part) = from_at _ (later_on _ (activate-keeps acting s part))
+  act_statement-leads v inside s form.EndActivation = from_at _ (later_on _ (end_own_activation-keeps acting s))
+  act_statement-leads v inside s form.CallMain = from_at _ (at_first _ (call_main-keeps acting.fresh p actor s))
+  act_statement-leads v inside s (form.Handled handlers first) = from_at _ (at_first _ nothing-keeps)
+  act_statement-leads v inside s form.Null = from_at _ (at_first _ (null-keeps acting.fresh p actor s))
+  act_statement-leads v inside s (form.Assign target e) = from_at _ (at_first _ (assign-keeps acting.fresh p actor s target e))
+  act_statement-leads v inside s (form.AssignArray target source) = from_at _ (at_first _ (assign_array-keeps acting.fresh p actor s target source))
+  act_statement-leads v inside s (form.AssignControlled target source) = from_at _ (at_first _ (assign_controlled-keeps acting.fresh p actor s target source))
+  act_statement-leads v inside s (form.If condition first otherwise) = from_at _ (at_first _ (if_statement-keeps acting.fresh p actor condition first otherwise))
+  act_statement-leads v inside s (form.Case selector alternatives) = from_at _ (at_first _ (case_statement-keeps acting.fresh p actor selector alternatives))
+  act_statement-leads v inside s (form.Loop body within) = from_at _ (at_first _ (goes-keeps acting.fresh actor (Some body)))
+  act_statement-leads v inside s (form.While condition body within) = from_at _ (at_first _ (while_turn-keeps acting.fresh p actor s condition body))
+  act_statement-leads v inside s (form.For parameter reverse low high turn within) = from_at _ (at_first _ (for_bounds-keeps acting.fresh p actor parameter reverse low high turn))
+  act_statement-leads v inside s (form.FirstTurn parameter reverse body) = from_at _ (at_first _ (first_turn-keeps acting.fresh p actor s parameter reverse body))
+  act_statement-leads v inside s (form.LaterTurn parameter reverse body) = from_at _ (at_first _ (later_turn-keeps acting.fresh p actor s parameter reverse body))
+  act_statement-leads v inside s (form.Exit condition of_loop) = from_at _ (at_first _ (exit_statement-keeps acting.fresh p actor s of_loop condition))
+  act_statement-leads v inside s (form.Block scope) = from_at _ (at_first _ (block_statement-keeps acting.fresh p actor s scope))
+  act_statement-leads v inside s form.Return = from_at _ (at_first _ (return-keeps acting.fresh actor))
+  act_statement-leads v inside s (form.ReturnValue function e) = from_at _ (at_first _ (return_value-keeps acting.fresh p actor function e))
+  act_statement-leads v inside s (form.Raise e) = from_at _ (at_first _ (raises-keeps acting.fresh Own actor e))
+  act_statement-leads v inside s (form.RaiseAgain scope) = from_at _ (at_first _ (raise_again-keeps acting.fresh p actor scope))
+  act_statement-leads v inside s (form.Delay e) = from_at _ (later_on _ (sees-keeps p actor _ (λ q. delay_until-keeps acting s (relative_moment q e))))
+  act_statement-leads v inside s (form.DelayUntil e) = from_at _ (later_on _ (sees-keeps p actor _ (λ q. delay_until-keeps acting s (moment q e))))
+  act_statement-leads v inside s (form.Call callee actuals to) = from_at _ (call-leads s callee actuals to)
+  act_statement-leads v inside s (form.PutLine pieces) = from_at _ (at_first _ (put_line-keeps acting.fresh p actor s pieces))
+  act_statement-leads v inside s (form.EntryCall entry owner actuals) = from_at _ (by_entry _ (entry_call-leads acting call_kind.Plain s))
+  act_statement-leads v inside s (form.ConditionalCall call otherwise) = from_at _ (by_entry _ (entry_call-leads acting call_kind.Conditional s))
+  act_statement-leads v inside s (form.TimedCall call delay) = from_at _ (by_entry _ (entry_call-leads acting call_kind.Timed s))
+  act_statement-leads v inside s (form.AsynchronousSelect trigger abortable) = from_at _ (by_entry _ (asynchronous_select-leads acting s trigger))
+  act_statement-leads v inside s (form.Accept entry scope) = from_at _ (later_on _ (accept-keeps acting s entry))
+  act_statement-leads v inside s (form.SelectiveAccept alternatives otherwise) = from_at _ (at_select _ (selective_accept-leads acting s alternatives otherwise))
+  act_statement-leads v inside s (form.Abort tasks) = from_at _ (later_on _ (abort_statement-keeps acting s tasks))
+  act_statement-leads v inside s (form.Requeue entry owner with_abort) = from_at _ (at_first _ (requeue-keeps acting.fresh p actor entry owner with_abort))
+  act_statement-leads v inside s (form.SetEvent event set handler) = from_at _ (later_on _ (set_event-keeps acting.later.base (acting.later.fits_own who.Agent) actor s event set handler))
+  act_statement-leads v inside s (form.CancelEvent event cancelled) = from_at _ (at_first _ (cancel_event-keeps acting.fresh p actor s event cancelled))
+  act_statement-leads v inside s (form.SetTimer timer set handler) = from_at _ (later_on _ (set_timer-keeps acting.later.base (acting.later.fits_own who.Agent) actor s timer set handler))
+  act_statement-leads v inside s (form.CancelTimer timer cancelled) = from_at _ (at_first _ (cancel_timer-keeps acting.fresh p actor s timer cancelled))
+  act_statement-leads v inside s (form.AddTask budget task) = from_at _ (at_first _ (add_member-keeps acting.fresh p actor s budget task))
+  act_statement-leads v inside s (form.RemoveTask budget task) = from_at _ (at_first _ (remove_member-keeps acting.fresh p actor s budget task))
+  act_statement-leads v inside s (form.Replenish budget to) = from_at _ (at_first _ (replenish-keeps acting.fresh p actor s budget to))
+  act_statement-leads v inside s (form.AddToBudget budget interval) = from_at _ (at_first _ (add_to_budget-keeps acting.fresh p actor s budget interval))
+  act_statement-leads v inside s (form.SetBudget budget handler) = from_at _ (at_first _ (set_budget-keeps acting.fresh p actor s budget handler))
+  act_statement-leads v inside s (form.CancelBudget budget cancelled) = from_at _ (at_first _ (cancel_budget-keeps acting.fresh p actor s budget cancelled))
+  act_statement-leads v inside s (form.SetPriority priority task) = from_at _ (without _ (set_priority-leads acting s priority task))
+  act_statement-leads v inside s (form.SetQuantum level quantum) = from_at _ (at_first _ (set_quantum-keeps acting.fresh p actor s level quantum))
+  act_statement-leads v inside s (form.SetDeadline deadline task) = from_at _ (without _ (set_deadline_of-leads acting s deadline task))
+  act_statement-leads v inside s (form.DelayUntilAndSetDeadline until offset) = without_at v _ (delay_and_set_deadline-leads acting v s until offset inside)
+
+  end_mark-leads : (f : Frame) (mark : Mark) → Leads F (Either W J) (end_mark p actor f mark)
+  unfolding end_mark
+  end_mark-leads f (Scope m) = at_select _ (end_scope_mark-leads acting m (leaving_of f))
+  end_mark-leads f (Handled s) = at_first _ (end_handled-keeps acting.fresh p actor s (leaving_of f))
+  end_mark-leads f (InProtected m) = later_on _ (end_in_protected-keeps acting m (leaving_of f))
+  end_mark-leads f (InAccept m) = later_on _ (end_in_accept-keeps acting m (leaving_of f))
+  end_mark-leads f (Abortable m) = later_on _ (end_in_abortable-keeps m (leaving_of f))
+  end_mark-leads f (InInitialize l) = at_first _ (end_in_initialize-keeps acting.fresh p actor l (leaving_of f))
+  end_mark-leads f (InFinalize o) = at_first _ (end_in_finalize-keeps acting.fresh p actor (leaving_of f))
+  end_mark-leads f (InAssign m) = at_first _ (end_in_assign-keeps acting.fresh p actor m f.left_as)
+
+  act_frame-leads : (v : World) → InsideIfAgent v → (f : Frame) (next : Option StatementNo) → Leads (At F v) (Either W J) (act_frame p actor f next)
+  unfolding act_frame
+  act_frame-leads v inside f (Some s) = act_statement-leads v inside s (form_of p s)
+  act_frame-leads v inside f None = from_at _ (end_mark-leads f f.mark)
+
+  -- the agent without a rest calls the handler of what it serves
+  act_without-leads : (name : Who) (serving : Option Release) → name ≡ actor → Leads F (Either W J) (act_without p name serving)
+  unfolding act_without
+  act_without-leads name None is = at_first nothing nothing-keeps
+  act_without-leads who.Agent (Some r) is = by_entry (call_handler p r) (call_handler-leads acting r is)
+  act_without-leads (who.Task t) (Some r) is = at_first nothing nothing-keeps
+
+  act_top-leads : (v : World) → AgentInside v → (found : Option Frame) → top_of v actor ≡ found → Leads (At F v) (Either W J) (act_top p actor found)
+  unfolding act_top
+  act_top-leads v inside None is = from_at _ (looks-leads _ (λ w. act_without-leads actor w.serving refl))
+  act_top-leads v inside (Some f) is = act_frame-leads v (λ agent. inside_by actor v f agent is inside) f f.onward
+
+  act-leads : Leads (With F AgentInside) (Either W J) (act p actor)
+  unfolding act
+  act-leads = looks-with _ (λ v said h. from-leads _ (λ w more k. (k.0.0, k.1)) (act_top-leads v h.1 (top_of v actor) refl))
+
+  -- all of the effect behind the action
+  behind_choice : Leads W Y (open_if_ready p actor ▷ take_terminates p actor ▷ unwind_all p actor)
+  behind_choice =
+      then-leads (open_if_ready p actor) _ (open_if_ready-keeps acting.choosing.quiet p actor)
+      (then-leads (take_terminates p actor) _ (take_terminates-leads acting.choosing) (unwind_all-keeps acting.over actor (fits_part acting.later)))
+
+  behind_entry : Keeps J (open_if_ready p actor ▷ take_terminates p actor ▷ unwind_all p actor)
+  behind_entry =
+      then-leads (open_if_ready p actor) _ (open_if_ready-keeps acting.entered.base.quiet p actor)
+      (then-leads (take_terminates p actor) _ (take_terminates-leads acting.inside) (unwind_all-keeps acting.entered.base actor (fits_part acting.entered)))
+
+  pub effect-leads : Leads (With F AgentInside) (Either Y J) (effect p actor)
+  unfolding effect
+  effect-leads =
+      then-leads (changes (edit_task actor (with_ticks None))) _
+      (changes-leads (edit_task actor (with_ticks None)) (λ w said h. ((edit_task-alters acting.fresh actor (with_ticks None) (λ t. refl)).turns w said h.0, subst InsideOrNone (sym (agent-ticked actor w)) h.1)))
+      (then-leads (act p actor) _ act-leads (either-leads _ behind_choice behind_entry))

@@ -1,0 +1,155 @@
+-- In every world that a run reaches the ready queues are as they should be: fact by fact.
+use Rattle.ceiling_places.proofs.BesideLemmas.{same-self}
+use Rattle.ceiling_runs.proofs.FoundLemmas.{by_test}
+use Rattle.machine_laws.specs.Reached.{Reached, before, behind}
+use Rattle.machine_laws.proofs.PlaceLemmas.{nobody_is_placed_twice, places_are_in_order}
+use Rattle.place_worlds.proofs.AgentPlaced.{agent-found}
+use Rattle.place_worlds.proofs.CorePoints.{IsAt, not-absent}
+use Rattle.place_worlds.proofs.Cores.{core}
+use Rattle.place_worlds.proofs.Kept.Waking.{who-is}
+use Rattle.place_worlds.proofs.LevelMoves.{EachTask}
+use Rattle.place_worlds.proofs.Puts.{Spot, spot_in}
+use Rattle.place_worlds.proofs.SoundWorlds.{IsAbsent, IsThere, all_there, each-on, is_agent}
+use Rattle.place_worlds.proofs.Standing.{runs_in}
+use Rattle.place_worlds.proofs.StandingRuns.{AllStand, comes-stands, instant-places}
+use Rattle.place_worlds.specs.PlaceWorlds.{ReachedAgentIsPlaced, ReachedOthersAreOut, ReachedPlacedAtActive, ReachedPlacedDiffer, ReachedPlacedInOrder}
+use Rattle.profile_machine.specs.Dispatching.{active, deadline_shown}
+use Rattle.profile_machine.specs.Tasks.{is_runnable, task_of}
+use Rattle.profile_machine.specs.WellFormed.{all_differ, is_at_active, is_placed}
+use Rattle.profile_machine.specs.Words.{same_moment, same_option, same_who}
+use Rattle.profile_machine.specs.declared.image.Image.{Image}
+use Rattle.profile_machine.specs.declared.run_data.Item.{Item}
+use Rattle.profile_machine.specs.declared.world.World.{World}
+use Rattle.profile_machine.specs.declared.world.tasks.Placed.{Placed}
+use Rattle.profile_machine.specs.declared.world.tasks.Task.{Task}
+use Rattle.std.proofs.Common.{[], ap, arith, cond, eq-eqb, inl, inr, refl, subst, sym, ◌++◌, ◌∙◌, ◌∷◌, ◌≡◌, ◌⊎◌}
+use Rattle.std.specs.List.{list_all, list_any}
+use Rattle.std.specs.Prelude.{Bool, List, None, Option, Some, eqb, false, int_le, not, true, ℕ, ℤ, ◌&&◌, ◌||◌}
+use Rattle.trace_text.specs.declared.events.Who.{Who}
+use Rattle.trace_text.specs.declared.events.Who.TheVariants as who
+
+pub reached_placed_differ : ReachedPlacedDiffer
+reached_placed_differ p script bound w r = nobody_is_placed_twice p script bound w r
+
+pub reached_placed_in_order : ReachedPlacedInOrder
+reached_placed_in_order p script bound w r = places_are_in_order p script bound w r
+
+pub reached_stand : (p : Image) (script : List (ℤ × Item)) (bound : ℕ) (w : World) → Reached p script bound w → AllStand p w.places w
+reached_stand p script bound _ (before w comes) = comes-stands p script bound w comes
+reached_stand p script bound _ (behind w comes) = instant-places p script bound w comes (comes-stands p script bound w comes)
+
+-- ---- who is not ready
+
+not-any : (n : Who) (places : List Placed) → spot_in n places ≡ None → list_any (λ x. same_who n x.who) places ≡ false
+not-any n [] out = refl
+not-any n (x ∷ xs) out =
+    by_test (same_who n x.who)
+    (λ same. absurd (let clash : Some (x.level, x.deadline) ≡ None = sym (ap (λ b. cond b (Some (x.level, x.deadline)) (spot_in n xs)) same) ∙ out in cc))
+    (λ apart. ap (λ b. b || list_any (λ y. same_who n y.who) xs) apart ∙ not-any n xs (sym (ap (λ b. cond b (Some (x.level, x.deadline)) (spot_in n xs)) apart) ∙ out))
+
+left_or : (a b : Bool) → a ≡ true → (a || b) ≡ true
+left_or a b e = ap (λ c. c || b) e
+
+right_or : (a b : Bool) → b ≡ true → (a || b) ≡ true
+right_or true b e = refl
+right_or false b e = e
+
+ready_or_out : (w : World) (t : Task) → (is_runnable t ≡ true) ⊎ (spot_in t.who w.places ≡ None) → (is_runnable t || not (is_placed w t)) ≡ true
+ready_or_out w t (inl runs) = left_or (is_runnable t) (not (is_placed w t)) runs
+ready_or_out w t (inr out) = right_or (is_runnable t) (not (is_placed w t)) (ap not (not-any t.who w.places out))
+
+there-shown : (w : World) (t : Task) (n : Who) → (is_agent n ≡ false → same_who n t.who ≡ true) → (runs_in (core t) ≡ true) ⊎ ((spot_in n w.places ≡ None) ⊎ IsAbsent n (core t)) → (is_runnable t ≡ true) ⊎ (spot_in n w.places ≡ None)
+there-shown w t n named (inl runs) = inl runs
+there-shown w t n named (inr (inl out)) = inr out
+there-shown w t n named (inr (inr absent)) = not-absent n t (λ u. u) named refl absent
+
+task-out : (p : Image) (w : World) (t : Task) → IsThere w t → AllStand p w.places w → (is_runnable t || not (is_placed w t)) ≡ true
+task-out p w t there h =
+    ready_or_out w t
+    (there-shown w t t.who (λ task. same-self t.who) (subst (λ u. (runs_in (core u) ≡ true) ⊎ ((spot_in t.who w.places ≡ None) ⊎ IsAbsent t.who (core u))) there.found (h.1 t.who).shown))
+
+agent-out : (p : Image) (w : World) → w.agent.who ≡ who.Agent → AllStand p w.places w → (is_runnable w.agent || not (is_placed w w.agent)) ≡ true
+agent-out p w is h =
+    ready_or_out w w.agent
+    (subst (λ n. (is_runnable w.agent ≡ true) ⊎ (spot_in n w.places ≡ None)) (sym is) (there-shown w w.agent who.Agent (λ task. absurd (let clash : true ≡ false = task in cc)) (h.1 who.Agent).shown))
+
+all-there : (P : Task → Bool) (ts : List Task) (last : Task) → EachTask (λ t. P t ≡ true) ts → P last ≡ true → list_all P (ts ++ last ∷ []) ≡ true
+all-there P [] last each is = ap (λ b. b && true) is
+all-there P (t ∷ ts) last each is = ap (λ b. b && list_all P (ts ++ last ∷ [])) each.0 ∙ all-there P ts last each.1 is
+
+-- ---- who is there, and where
+
+both-true : (a b : Bool) → (a && b) ≡ true → (a ≡ true) × (b ≡ true)
+both-true true b e = (refl, e)
+both-true false b e = absurd cc
+
+not-so : (b : Bool) → not b ≡ true → b ≡ false
+not-so true e = absurd cc
+not-so false e = refl
+
+or-none : (a b : Bool) → (a || b) ≡ false → (a ≡ false) × (b ≡ false)
+or-none true b e = absurd cc
+or-none false b e = (refl, e)
+
+not-there : (n : Who) (places : List Placed) → list_any (λ x. same_who n x.who) places ≡ false → spot_in n places ≡ None
+not-there n [] e = refl
+not-there n (x ∷ xs) e =
+    let none = or-none (same_who n x.who) (list_any (λ y. same_who n y.who) xs) e in
+    ap (λ b. cond b (Some (x.level, x.deadline)) (spot_in n xs)) none.0 ∙ not-there n xs none.1
+
+-- each entry is the one of its name
+later-spot : (n : Who) (x : Placed) (xs : List Placed) (spot : Spot) → list_any (λ y. same_who x.who y.who) xs ≡ false → spot_in n xs ≡ Some spot → spot_in n (x ∷ xs) ≡ Some spot
+later-spot n x xs spot apart found =
+    by_test (same_who n x.who)
+    (λ same. absurd (let clash : None ≡ Some spot = sym (not-there x.who xs apart) ∙ ap (λ m. spot_in m xs) (sym (who-is n x.who same)) ∙ found in cc))
+    (λ other. ap (λ b. cond b (Some (x.level, x.deadline)) (spot_in n xs)) other ∙ found)
+
+entries-hold : (P : Placed → Bool) (places : List Placed) → all_differ (λ x y. same_who x.who y.who) places ≡ true → ((x : Placed) → spot_in x.who places ≡ Some (x.level, x.deadline) → P x ≡ true) → list_all P places ≡ true
+entries-hold P [] differ h = refl
+entries-hold P (x ∷ xs) differ h =
+    let apart = both-true (not (list_any (λ y. same_who x.who y.who) xs)) (all_differ (λ y z. same_who y.who z.who) xs) differ in
+    ap (λ b. b && list_all P xs) (h x (ap (λ b. cond b (Some (x.level, x.deadline)) (spot_in x.who xs)) (same-self x.who)))
+    ∙ entries-hold P xs apart.1 (λ y found. h y (later-spot y.who x xs (y.level, y.deadline) (not-so (list_any (λ z. same_who x.who z.who) xs) apart.0) found))
+
+entry-stands : (p : Image) (w : World) (x : Placed) → AllStand p w.places w → spot_in x.who w.places ≡ Some (x.level, x.deadline)
+    → (x.level ≡ active p (task_of w x.who)) × (x.deadline ≡ deadline_shown p (task_of w x.who))
+entry-stands p w x h found = subst (λ place. IsAt p place (core (task_of w x.who))) found (h.1 x.who).at
+
+int_le-self : (a : ℤ) → int_le a a ≡ true
+int_le-self a = grind arith
+
+same_moment-self : (a : ℤ) → same_moment a a ≡ true
+same_moment-self a = ap (λ b. b && b) (int_le-self a)
+
+same-deadline : (a b : Option ℤ) → a ≡ b → same_option same_moment a b ≡ true
+same-deadline None b e = subst (λ c. same_option same_moment None c ≡ true) e refl
+same-deadline (Some a) b e = subst (λ c. same_option same_moment (Some a) c ≡ true) e (same_moment-self a)
+
+same-level : (a b : ℕ) → a ≡ b → eqb a b ≡ true
+same-level a b e = eq-eqb a b e
+
+pub reached_placed_at_active : ReachedPlacedAtActive
+reached_placed_at_active p script bound w r =
+    entries-hold (is_at_active p w) w.places (nobody_is_placed_twice p script bound w r) (λ x found.
+    let stands = entry-stands p w x (reached_stand p script bound w r) found in
+    ap (λ b. b && same_option same_moment x.deadline (deadline_shown p (task_of w x.who))) (same-level x.level (active p (task_of w x.who)) stands.0)
+    ∙ same-deadline x.deadline (deadline_shown p (task_of w x.who)) stands.1)
+
+pub reached_others_are_out : ReachedOthersAreOut
+reached_others_are_out p script bound w r =
+    let h = reached_stand p script bound w r in
+    all-there (λ t. is_runnable t || not (is_placed w t)) w.tasks w.agent (each-on (IsThere w) (λ t. (is_runnable t || not (is_placed w t)) ≡ true) w.tasks (λ t there. task-out p w t there h) (all_there w h.0))
+    (agent-out p w h.0.named h)
+
+-- ---- the agent
+
+as_ready : (placed runs : Bool) → placed ≡ runs → cond runs placed (not placed) ≡ true
+as_ready true true e = refl
+as_ready false false e = refl
+as_ready true false e = absurd cc
+as_ready false true e = absurd cc
+
+pub reached_agent_is_placed : ReachedAgentIsPlaced
+reached_agent_is_placed p script bound w r =
+    as_ready (is_placed w w.agent) (is_runnable w.agent)
+    (ap (λ n. list_any (λ x. same_who n x.who) w.places) (reached_stand p script bound w r).0.named ∙ agent-found p script bound w r)

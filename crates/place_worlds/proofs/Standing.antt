@@ -1,0 +1,327 @@
+-- Where an effect leaves somebody: at its active priority and with its deadline, if it stands somewhere; and nowhere where it is not
+-- ready.
+use Rattle.ceiling_places.proofs.ActingLemmas.{block-last}
+use Rattle.ceiling_places.proofs.BesideLemmas.{same-self}
+use Rattle.place_worlds.proofs.CorePoints.{Except, IsAt, Point, active_in, deadline_in, spot_for}
+use Rattle.place_worlds.proofs.SoundWorlds.{IsAbsent, is_agent, is_fresh}
+use Rattle.place_worlds.proofs.Puts.{MayBePlaced, Spot, place_by, spot_in, with_put}
+use Rattle.ceiling_runs.proofs.FoundLemmas.{by_test}
+use Rattle.place_worlds.proofs.Kept.Waking.{who-is}
+use Rattle.place_worlds.proofs.LevelMoves.{Fitting, is_blocked}
+use Rattle.place_worlds.proofs.Cores.{Core, core}
+use Rattle.profile_machine.specs.Dispatching.{active_of}
+use Rattle.profile_machine.specs.Masters.{part_of, waits_at_terminate}
+use Rattle.profile_machine.specs.Priorities.{placing_of}
+use Rattle.profile_machine.specs.Steps.{is_numbered_before, is_part_before}
+use Rattle.profile_machine.specs.Tasks.{is_made_state, is_runnable_state, nobody, task_of, waiting_in}
+use Rattle.profile_machine.specs.Program.{is_edf_level}
+use Rattle.profile_machine.specs.Words.{same_who, some_where}
+use Rattle.profile_machine.specs.declared.image.Image.{Image}
+use Rattle.profile_machine.specs.declared.world.World.{World}
+use Rattle.profile_machine.specs.declared.world.lines.Part.{Part}
+use Rattle.profile_machine.specs.declared.world.lines.Part.TheVariants.{OfOther, Own, TheBlock, TheCall, TheFinish, ThePlacing}
+use Rattle.profile_machine.specs.declared.world.tasks.Placed.{Placed}
+use Rattle.profile_machine.specs.declared.world.tasks.Task.{Task}
+use Rattle.profile_machine.specs.declared.world.tasks.State as tasks
+use Rattle.profile_machine.specs.declared.world.tasks.State.TheVariants.{Blocked, Made, Runnable}
+use Rattle.std.proofs.Common.{ap, arith, cond, inl, inr, ltb, refl, subst, sym, ◌∙◌, ◌≡◌, ◌⊎◌}
+use Rattle.std.specs.List.{list_any}
+use Rattle.std.specs.Prelude.{Bool, List, None, Option, Some, false, true, ℕ, ◌≤◌}
+use Rattle.trace_text.specs.declared.events.Who.{Who}
+use Rattle.trace_text.specs.declared.events.Who.TheVariants as who
+
+abbrev pub Last : Type 0
+Last = Option (Part × Option Spot)
+
+-- ---- one line more
+
+pub at-out : (p : Image) (place : Option Spot) (c : Core) → place ≡ None → IsAt p place c
+at-out p place c out = subst (λ q. IsAt p q c) (sym out) tt
+
+-- it stands there on where its level and its deadline are what they were
+at-moved : (p : Image) (s : Spot) (c e : Core) → active_in p e ≡ active_in p c → deadline_in p e ≡ deadline_in p c → (s.0 ≡ active_in p c) × (s.1 ≡ deadline_in p c) → (s.0 ≡ active_in p e) × (s.1 ≡ deadline_in p e)
+at-moved p s c e level deadline h = (h.0 ∙ sym level, h.1 ∙ sym deadline)
+
+pub at-still : (p : Image) (place : Option Spot) (c e : Core) → active_in p e ≡ active_in p c → deadline_in p e ≡ deadline_in p c → IsAt p place c → IsAt p place e
+at-still p None c e level deadline h = tt
+at-still p (Some s) c e level deadline h = at-moved p s c e level deadline h
+
+-- of a level and a deadline that are the same
+pub deadline-kept : (p : Image) (c e : Core) → active_in p e ≡ active_in p c → e.deadline ≡ c.deadline → deadline_in p e ≡ deadline_in p c
+deadline-kept p c e level deadline = ap (λ a. some_where (is_edf_level p a) e.deadline) level ∙ ap (some_where (is_edf_level p (active_in p c))) deadline
+
+late_if : (b : Bool) (limit part : Part) (last : Part × Option Spot) (place : Option Spot) → is_part_before limit part ≡ false → MayBePlaced limit (Some last) → MayBePlaced limit (cond b (Some last) (Some (part, place)))
+late_if true limit part last place fits late = late
+late_if false limit part last place fits late = inr fits
+
+at_if : (p : Image) (b : Bool) (part : Part) (last : Part × Option Spot) (c : Core) (shown : Option Spot) → (last.1 ≡ None) ⊎ (b ≡ false) → IsAt p (place_by (cond b (Some last) (Some (part, Some (spot_for p c)))) shown) c
+at_if p true part last c shown (inl out) = at-out p last.1 c out
+at_if p true part last c shown (inr e) = absurd cc
+at_if p false part last c shown late = (refl, refl)
+
+out_if : (b : Bool) (part : Part) (last : Part × Option Spot) (shown : Option Spot) → (last.1 ≡ None) ⊎ (b ≡ false) → place_by (cond b (Some last) (Some (part, None))) shown ≡ None
+out_if true part last shown (inl out) = out
+out_if true part last shown (inr e) = absurd cc
+out_if false part last shown late = refl
+
+pub put-late : (limit part : Part) (last : Last) (place : Option Spot) → is_part_before limit part ≡ false → MayBePlaced limit last → MayBePlaced limit (with_put last part (Some place))
+put-late limit part None place fits late = inr fits
+put-late limit part (Some last) place fits late = late_if (is_part_before part last.0) limit part last place fits late
+
+pub put-at : (p : Image) (part : Part) (last : Last) (c : Core) (shown : Option Spot) → MayBePlaced part last → IsAt p (place_by (with_put last part (Some (Some (spot_for p c)))) shown) c
+put-at p part None c shown late = (refl, refl)
+put-at p part (Some last) c shown late = at_if p (is_part_before part last.0) part last c shown late
+
+pub put-out : (part : Part) (last : Last) (shown : Option Spot) → MayBePlaced part last → place_by (with_put last part (Some None)) shown ≡ None
+put-out part None shown late = refl
+put-out part (Some last) shown late = out_if (is_part_before part last.0) part last shown late
+
+-- who stands nowhere may be placed
+pub out-late : (part : Part) (last : Last) (shown : Option Spot) → place_by last shown ≡ None → MayBePlaced part last
+out-late part None shown out = tt
+out-late part (Some last) shown out = inl out
+
+-- behind a block nothing is said
+pub block-put : (last : Last) → with_put last TheBlock (Some None) ≡ Some (TheBlock, None)
+block-put None = refl
+block-put (Some last) = ap (λ b. cond b (Some last) (Some (TheBlock, None))) (block-last last.0)
+
+pub blocked-put : (last : Last) (part : Part) (place : Option Spot) → last ≡ Some (TheBlock, None) → is_part_before part TheBlock ≡ true → with_put last part (Some place) ≡ last
+blocked-put last part place is before = subst (λ l. with_put l part (Some place) ≡ l) (sym is) (ap (λ b. cond b (Some (TheBlock, None)) (Some (part, place))) before)
+
+pub early-part : (part : Part) → is_part_before ThePlacing part ≡ false → is_part_before part TheBlock ≡ true
+early-part TheCall e = refl
+early-part TheFinish e = refl
+early-part Own e = refl
+early-part (OfOther name) e = refl
+early-part ThePlacing e = refl
+early-part TheBlock e = absurd cc
+
+-- ---- parts
+
+less_self : (n : ℕ) → ltb n n ≡ false
+less_self n = grind arith
+
+pub self-before : (name : Who) → is_numbered_before name name ≡ false
+self-before (who.Task t) = less_self t.0
+self-before who.Agent = refl
+
+part-self : (part : Part) → is_part_before part part ≡ false
+part-self TheCall = refl
+part-self TheFinish = refl
+part-self Own = refl
+part-self (OfOther name) = self-before name
+part-self ThePlacing = refl
+part-self TheBlock = refl
+
+pub apart-sym : (x y : Who) → same_who x y ≡ false → same_who y x ≡ false
+apart-sym x y apart = by_test (same_who y x) (λ same. absurd (let clash : false ≡ true = sym apart ∙ ap (same_who x) (who-is y x same) ∙ same-self x in cc)) (λ e. e)
+
+-- ---- states of a task
+
+-- a task of this name is among these
+abbrev pub is_among : Who → List Task → Bool
+is_among n = list_any (λ t. same_who n t.who)
+
+abbrev pub runs_in : Core → Bool
+runs_in c = is_runnable_state c.state
+
+abbrev pub sleeps_in : Core → Bool
+sleeps_in c = is_blocked c.state
+
+pub nobody-runs : {P : Type 0} → runs_in (core nobody) ≡ true → P
+nobody-runs e = absurd cc
+
+pub nobody-sleeps : {P : Type 0} → sleeps_in (core nobody) ≡ true → P
+nobody-sleeps e = absurd cc
+
+awake_state : {P : Type 0} (state : tasks.State) → is_runnable_state state ≡ true → is_blocked state ≡ true → P
+awake_state Made runs sleeps = absurd cc
+awake_state Runnable runs sleeps = absurd cc
+awake_state (Blocked waiting) runs sleeps = absurd cc
+
+pub awake : {P : Type 0} (c : Core) → runs_in c ≡ true → sleeps_in c ≡ true → P
+awake c runs sleeps = awake_state c.state runs sleeps
+
+module _ (p : Image) (s : List Placed) (a : Who) where
+  -- behind which no line places somebody
+  abbrev pub limit : Who → Part
+  limit name = placing_of a name
+
+  abbrev pub Fits : Fitting
+  Fits part name = is_part_before (limit name) part ≡ false
+
+  abbrev pub place : Who → Last → Option Spot
+  place n l = place_by l (spot_in n s)
+
+  abbrev pub Hidden : Who → Last → Type 0
+  Hidden n l = place n l ≡ None
+
+  abbrev pub IsShownRightly : Who → Core → Last → Type 0
+  IsShownRightly n c l = (runs_in c ≡ true) ⊎ (Hidden n l ⊎ IsAbsent n c)
+
+  pub record Good (d : ℕ) (n : Who) (c : Core) (l : Last) : Type 0 where
+    pub late : MayBePlaced (limit n) l
+    pub at : IsAt p (place n l) c
+    pub shown : IsShownRightly n c l
+    pub fresh : is_fresh d n ≡ true → Hidden n l
+
+  -- who acts runs, or it has blocked and nothing is shown of it any more
+  abbrev pub Acting : ℕ → Who → Core → Last → Type 0
+  Acting d n c l = (is_fresh d n ≡ false) × ((runs_in c ≡ true) ⊎ ((sleeps_in c ≡ true) × (l ≡ Some (TheBlock, None))))
+
+  -- ---- the modes of an effect
+
+  abbrev pub Later : Point
+  Later d n c l = Good d n c l × (same_who n a ≡ true → Acting d n c l)
+
+  abbrev pub First : Point
+  First d n c l = Good d n c l × (same_who n a ≡ true → (is_fresh d n ≡ false) × (runs_in c ≡ true) × (l ≡ None))
+
+  pub record Choosing (d : ℕ) (n : Who) (c : Core) (l : Last) : Type 0 where
+    pub late : MayBePlaced (limit n) l
+    pub at : IsAt p (place n l) c
+    pub shown : IsShownRightly n c l ⊎ ((same_who n a ≡ true) × (waits_at_terminate (waiting_in c.state) ≡ true))
+    pub fresh : is_fresh d n ≡ true → Hidden n l
+
+  abbrev pub Sized : ℕ → Point → Point
+  Sized drawn P d n c l = P d n c l × (d ≡ drawn)
+
+  -- who acts, where its active priority may have fallen since a world, and nothing else has changed; or nothing is shown of it any
+  -- more
+  pub record Owes (before : World) (d : ℕ) (n : Who) (c : Core) (l : Last) : Type 0 where
+    pub late : MayBePlaced (limit n) l
+    pub at : IsAt p (place n l) (core (task_of before a))
+    pub fallen : (l ≡ Some (TheBlock, None)) ⊎ ((active_in p c ≤ active_of p before a) × (c.deadline ≡ (task_of before a).deadline))
+    pub acting : Acting d n c l
+
+  abbrev pub Owing : World → Point
+  Owing before = Except Good a (Owes before)
+
+  -- nobody has blocked since a world, and the tasks of a list have only been made
+  abbrev pub Since : World → List Task → Point
+  Since v rest d n c l = Later d n c l × (d ≡ v.drawn.tasks) × (sleeps_in c ≡ true → is_blocked (task_of v n).state ≡ true) × (is_among n rest ≡ true → is_made_state c.state ≡ true)
+
+  -- a task that was made, seen from that world
+  pub record IsUnmade (v : World) (name : Who) : Type 0 where
+    pub other : same_who name a ≡ false
+    pub unblocked : is_blocked (task_of v name).state ≡ false
+    pub made : is_made_state (task_of v name).state ≡ true
+    pub drawn : is_fresh v.drawn.tasks name ≡ false
+    pub task : is_agent name ≡ false
+
+  abbrev pub Ending : World → List Task → Who → Point
+  Ending v rest name d n c l = Since v rest d n c l × (same_who n name ≡ true → Hidden n l) × IsUnmade v name
+
+  -- who acts has ended
+  pub record Dead (d : ℕ) (n : Who) (c : Core) (l : Last) : Type 0 where
+    pub late : MayBePlaced (limit n) l
+    pub runs : runs_in c ≡ true
+    pub fresh : is_fresh d n ≡ false
+    pub gone : Hidden n l ⊎ ((is_agent n ≡ true) × IsAt p (place n l) c)
+
+  abbrev pub Dying : Point
+  Dying = Except Good a Dead
+
+  -- somebody's base priority may have been set
+  pub record Bare (d : ℕ) (n : Who) (c : Core) (l : Last) : Type 0 where
+    pub late : MayBePlaced (limit n) l
+    pub shown : IsShownRightly n c l
+    pub fresh : is_fresh d n ≡ true → Hidden n l
+    pub absent : IsAbsent n c → IsAt p (place n l) c
+    pub acting : same_who n a ≡ true → Acting d n c l
+
+  abbrev pub Loose : Who → Point
+  Loose name = Except Later name Bare
+
+  -- its deadline may have been set, and only that
+  abbrev pub AtLevel : Option Spot → Core → Type 0
+  AtLevel None c = Unit {0}
+  AtLevel (Some x) c = (x.0 ≡ active_in p c) × (is_edf_level p (active_in p c) ≡ false → x.1 ≡ None)
+
+  abbrev pub Dated : Point
+  Dated d n c l = Bare d n c l × AtLevel (place n l) c
+
+  abbrev pub Undated : Who → Point
+  Undated name = Except Later name Dated
+
+  -- ---- parts in which lines place
+
+  pub limit-own : limit a ≡ ThePlacing
+  limit-own = ap (λ b. cond b ThePlacing (part_of a a)) (same-self a)
+
+  pub limit-other : (n : Who) → same_who n a ≡ false → limit n ≡ OfOther n
+  limit-other n apart =
+      ap (λ b. cond b ThePlacing (part_of a n)) (apart-sym n a apart) ∙ ap (λ b. cond b Own (OfOther n)) (apart-sym n a apart)
+
+  pub limit-actor : (n : Who) → same_who n a ≡ true → limit n ≡ ThePlacing
+  limit-actor n same = ap limit (who-is n a same) ∙ limit-own
+
+  pub fits_limit : (n : Who) → Fits (limit n) n
+  fits_limit n = part-self (limit n)
+
+  pub own_if : (b e : Bool) (n : Who) → is_part_before (cond b ThePlacing (cond e Own (OfOther n))) Own ≡ false
+  own_if true e n = refl
+  own_if false true n = refl
+  own_if false false n = refl
+
+  pub fits_own : (n : Who) → Fits Own n
+  fits_own n = own_if (same_who a n) (same_who a n) n
+
+  pub other_if : (b : Bool) (n : Who) → is_part_before (cond b ThePlacing (cond b Own (OfOther n))) (OfOther n) ≡ false
+  other_if true n = refl
+  other_if false n = self-before n
+
+  pub fits_other : (n : Who) → Fits (OfOther n) n
+  fits_other n = other_if (same_who a n) n
+
+  pub finish_if : (b e : Bool) (n : Who) → is_part_before (cond b ThePlacing (cond e Own (OfOther n))) TheFinish ≡ false
+  finish_if true e n = refl
+  finish_if false true n = refl
+  finish_if false false n = refl
+
+  pub fits_finish : (n : Who) → Fits TheFinish n
+  fits_finish n = finish_if (same_who a n) (same_who a n) n
+
+  -- a line that places who acts stands before its block
+  pub acts_early : (n : Who) (part : Part) → same_who n a ≡ true → Fits part n → is_part_before part TheBlock ≡ true
+  acts_early n part same fits = early-part part (subst (λ q. is_part_before q part ≡ false) (limit-actor n same) fits)
+
+  -- ---- somebody is placed
+
+  pub runs_or_absent : {A B C : Type 0} → A ⊎ C → A ⊎ (B ⊎ C)
+  runs_or_absent (inl h) = inl h
+  runs_or_absent (inr h) = inr (inr h)
+
+  pub placed-good : (d : ℕ) (n : Who) (c : Core) (l : Last) (part : Part) → Fits part n → is_fresh d n ≡ false → MayBePlaced (limit n) l → MayBePlaced part l → (runs_in c ≡ true) ⊎ IsAbsent n c → Good d n c (with_put l part (Some (Some (spot_for p c))))
+  placed-good d n c l part fits drawn late may runs = record {
+    late = put-late (limit n) part l (Some (spot_for p c)) fits late;
+    at = put-at p part l c (spot_in n s) may;
+    shown = runs_or_absent runs;
+    fresh = λ e. absurd (let clash : false ≡ true = sym drawn ∙ e in cc);
+  }
+
+  -- who sleeps is shown nowhere
+  pub asleep-hidden : (n : Who) (c : Core) (l : Last) → IsShownRightly n c l → sleeps_in c ≡ true → Hidden n l
+  asleep-hidden n c l (inl runs) sleeps = awake c runs sleeps
+  asleep-hidden n c l (inr (inl hidden)) sleeps = hidden
+  asleep-hidden n c l (inr (inr absent)) sleeps = nobody-sleeps (subst (λ e. sleeps_in e ≡ true) absent.1 sleeps)
+
+  -- so it may be woken in each part that fits
+  pub woken-good : (d : ℕ) (n : Who) (c e : Core) (l : Last) (part : Part) → Fits part n → is_fresh d n ≡ false → sleeps_in c ≡ true → runs_in e ≡ true → Good d n c l → Good d n e (with_put l part (Some (Some (spot_for p e))))
+  woken-good d n c e l part fits drawn sleeps runs h = placed-good d n e l part fits drawn h.late (out-late part l (spot_in n s) (asleep-hidden n c l h.shown sleeps)) (inl runs)
+
+  pub blocked-good : (d : ℕ) (n : Who) (c : Core) (l : Last) → l ≡ Some (TheBlock, None) → Good d n c l
+  blocked-good d n c l is = subst (Good d n c) (sym is) (record { late = inl refl; at = tt; shown = inr (inl refl); fresh = λ e. refl })
+
+  -- who acts is placed, where nothing hides it and where it has blocked
+  pub placed_by_acting : (d : ℕ) (n : Who) (c : Core) (l : Last) (part : Part) → same_who n a ≡ true → part ≡ ThePlacing → MayBePlaced (limit n) l → is_fresh d n ≡ false → (runs_in c ≡ true) ⊎ ((sleeps_in c ≡ true) × (l ≡ Some (TheBlock, None))) → Later d n c (with_put l part (Some (Some (spot_for p c))))
+  placed_by_acting d n c l part same is late drawn (inl runs) =
+      let fits : Fits part n = subst (λ q. is_part_before q part ≡ false) (sym (limit-actor n same)) (ap (is_part_before ThePlacing) is) in
+      (placed-good d n c l part fits drawn late (subst (λ q. MayBePlaced q l) (limit-actor n same ∙ sym is) late) (inl runs), λ e. (drawn, inl runs))
+  placed_by_acting d n c l part same is late drawn (inr sleeps) =
+      let still : with_put l part (Some (Some (spot_for p c))) ≡ l = blocked-put l part (Some (spot_for p c)) sleeps.1 (ap (λ q. is_part_before q TheBlock) is) in
+      subst (Later d n c) (sym still) (blocked-good d n c l sleeps.1, λ e. (drawn, inr sleeps))
+
+  pub acting-placed : (d : ℕ) (n : Who) (c : Core) (l : Last) (part : Part) → same_who n a ≡ true → part ≡ ThePlacing → MayBePlaced (limit n) l → Acting d n c l → Later d n c (with_put l part (Some (Some (spot_for p c))))
+  acting-placed d n c l part same is late acting = placed_by_acting d n c l part same is late acting.0 acting.1

@@ -1,5 +1,5 @@
 -- An item of a list that is edited at its place.
-use Rattle.std.proofs.Common.{◌≡◌, ℕ, zero, suc, List, [], ◌∷◌, Some, slice_set, refl, ap}
+use Rattle.std.proofs.Common.{◌≡◌, ℕ, zero, suc, List, [], ◌∷◌, Some, None, slice_set, refl, ap}
 use Rattle.std.specs.List.{slice_get}
 use Rattle.profile_machine.specs.Words.{edit_at}
 
@@ -7,3 +7,8 @@ pub set_found : {X : Type 0} (f : X → X) (xs : List X) (i : ℕ) (x : X) → s
 set_found f [] i x e = cc
 set_found f (y ∷ ys) zero x e = cc
 set_found f (y ∷ ys) (suc i) x e = ap (λ zs. y ∷ zs) (set_found f ys i x e)
+
+pub none_edited : {X : Type 0} (f : X → X) (xs : List X) (i : ℕ) → slice_get xs i ≡ None → edit_at i f xs ≡ xs
+none_edited f [] i e = refl
+none_edited f (y ∷ ys) zero e = cc
+none_edited f (y ∷ ys) (suc i) e = ap (λ zs. y ∷ zs) (none_edited f ys i e)

@@ -39,7 +39,7 @@ fn raised_by(amount: Moment, budget: Budget) -> Budget
     }
 }
 
-#[tactic(auto, using(machine_calls::proofs::EditLemmas::none_edited))]
+#[tactic(auto, using(crate::proofs::EditLemmas::none_edited))]
 fn load(budgets: &mut List<Budget>, b: u32, amount: Moment)
     ensures { budgets.new ≡ edit_at b (loaded amount) budgets.old }
 {
@@ -48,7 +48,7 @@ fn load(budgets: &mut List<Budget>, b: u32, amount: Moment)
     }
 }
 
-#[tactic(auto, using(machine_calls::proofs::EditLemmas::none_edited))]
+#[tactic(auto, using(crate::proofs::EditLemmas::none_edited))]
 fn raise_by(budgets: &mut List<Budget>, b: u32, amount: Moment)
     ensures { budgets.new ≡ edit_at b (raised_by amount) budgets.old }
 {
@@ -57,7 +57,7 @@ fn raise_by(budgets: &mut List<Budget>, b: u32, amount: Moment)
     }
 }
 
-#[tactic(auto, using(machine_calls::proofs::EditLemmas::none_edited))]
+#[tactic(auto, using(crate::proofs::EditLemmas::none_edited))]
 fn set_handler(budgets: &mut List<Budget>, b: u32, handler: Option<HandlerOf>)
     ensures { budgets.new ≡ edit_at b (with_handler handler) budgets.old }
 {

@@ -131,7 +131,7 @@ fn due_by_tick(world: &World, budget: Option<u32>) -> Option<u32>
     }
 }
 
-#[tactic(auto, using(machine_calls::proofs::EditLemmas::none_edited))]
+#[tactic(auto, using(crate::proofs::EditLemmas::none_edited))]
 fn charge_at(budgets: &mut List<Budget>, b: u32)
     ensures { budgets.new ≡ edit_at b charged_budget budgets.old }
 {

@@ -24,7 +24,7 @@ fn drop_number(numbers: &mut List<u32>, k: u32)
     numbers.retain(|number| k != *number);
 }
 
-#[tactic(auto, using(machine_calls::proofs::EditLemmas::none_edited))]
+#[tactic(auto, using(crate::proofs::EditLemmas::none_edited))]
 fn set_in(timers: &mut List<Timer>, k: u32, setting: Option<TimerSetting>)
     ensures { timers.new ≡ edit_at k (with_setting setting) timers.old }
 {

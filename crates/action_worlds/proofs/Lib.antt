@@ -1,0 +1,15 @@
+pub mod Natures
+pub mod Sound
+pub mod SoundEdits
+pub mod SoundMarks
+pub mod SoundLists
+pub mod SoundWorlds
+pub mod SoundActions
+pub mod FineMoves
+pub mod GoodMoves
+pub mod KnownMoves
+pub mod MadeTasks
+pub mod LonelyMoves
+pub mod Kept
+pub mod Steady
+pub mod ActionWorlds

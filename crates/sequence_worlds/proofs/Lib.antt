@@ -1,0 +1,14 @@
+pub mod FineMoves
+pub mod TaskEdits
+pub mod TaskNames
+pub mod Points
+pub mod Kept
+pub mod FineSteps
+pub mod Loosened
+pub mod Turned
+pub mod UnitFits
+pub mod Actors
+pub mod OwnCalls
+pub mod ActingRuns
+pub mod Effects
+pub mod SequenceWorlds

@@ -34,6 +34,11 @@ def judged(source):
     return (r.a[0], None) if r.n == "Ok" else (None, r.a[0])
 
 
+def sequences_fit(image):
+    """Whether sequences with handlers begin in an image where the law of them asks it."""
+    return definition("sequence_worlds.specs.SequenceWorlds", "sequences_fit")(image)
+
+
 def items_of(script):
     """The items of a script, or its fault: (items, None) or (None, fault)."""
     r = definition("event_script.specs.Script", "script_of")(tuple(script))
@@ -110,6 +115,8 @@ def perform(words, files, write, by_steps=True):
     image, refusal = judged(source)
     if refusal is not None:
         return refused(Con("SourceRefused", (refusal,)))
+    if not sequences_fit(image):
+        raise ValueError("the law of sequences with handlers does not speak of this image")
     items, ticks = (), None
     if asked.n == "ScriptAsked":
         script = files(bytes(asked.a[1]).decode("latin-1"))

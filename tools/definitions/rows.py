@@ -5,8 +5,8 @@
 
 Without names all rows of tools/rows, tools/law_rows and check/worked are computed, the lessons of examples, and the
 laws of the traces of examples and check/traces. What is written to standard output and standard error and the status are
-compared with what is stored. Rows whose stored run is longer than TICKS (12,000) or whose script has more items are left; each
-is named. The last line counts; the status is 1 where one is not the same. --steps takes each run step by step (see run.py), --verbose names each
+compared with what is stored, and each image is asked whether the law of sequences with handlers speaks of it. Rows whose
+stored run is longer than TICKS (12,000) or whose script has more items are left; each is named. The last line counts; the status is 1 where one is not the same. --steps takes each run step by step (see run.py), --verbose names each
 row before it is run.
 """
 import argparse

@@ -2,14 +2,14 @@
 -- may be struck, where a Finalize is opened, and which trigger is appointed. May is said of who acts, and Other of the others.
 use Rattle.std.proofs.Common.{◌≡◌, ℕ, ℤ, suc, Bool, true, false, ◌||◌, List, [], ◌∷◌, ◌++◌, Option, Some, None, refl}
 use Rattle.std.specs.Prelude.{int_le, pos}
-use Rattle.profile_machine.specs.WellFormed.{awaits_trigger, awaits_trigger_at, is_triggered}
+use Rattle.profile_machine.specs.WellFormed.{awaits_trigger, is_triggered}
 use Rattle.profile_machine.specs.declared.world.tasks.Waiting.TheVariants as waits_for
 use Rattle.profile_machine.specs.declared.world.appointments.Due.TheVariants as due_for
 use Rattle.profile_machine.specs.Unwinding.{struck_frame, strike_outermost}
 use Rattle.profile_machine.specs.CallEnds.{is_abortable_of, depth_of_abortable, edit_frame, edit_abortable_at, triggered_mark, waited_mark}
 use Rattle.profile_machine.specs.Tasking.{abnormal_task}
 use Rattle.exit_laws.proofs.FineMoves.{top_action}
-use Rattle.mark_worlds.proofs.MarkFacts.{GoodMarks, Calm, Ends, CanTrigger, Drawn, Marked, triggered_part, finalized_in, is_abortable, may_finalize, ends_call, is_a_trigger, nature}
+use Rattle.mark_worlds.proofs.MarkFacts.{GoodMarks, Calm, Ends, Begun, CanTrigger, Drawn, Marked, StandsAt, Unarmed, apart_in, triggered_part, is_abortable, may_finalize, ends_call, is_a_trigger, nature}
 use Rattle.ann_base.specs.declared.identities.CallNo.{CallNo}
 use Rattle.ann_base.specs.declared.identities.ObjectNo.{ObjectNo}
 use Rattle.ann_base.specs.declared.identities.RegionNo.{RegionNo}
@@ -31,6 +31,7 @@ use Rattle.profile_machine.specs.declared.world.marks.Frame.{Frame}
 use Rattle.profile_machine.specs.declared.world.marks.Mark.TheVariants.{Scope, InFinalize}
 use Rattle.profile_machine.specs.declared.world.marks.ProtectedMark.{ProtectedMark}
 use Rattle.profile_machine.specs.declared.world.marks.Purpose.{Purpose}
+use Rattle.profile_machine.specs.declared.world.marks.Purpose.TheVariants as opened_for
 use Rattle.profile_machine.specs.declared.world.tasks.Task.{Task}
 use Rattle.profile_machine.specs.declared.world.tasks.Waiting.{Waiting}
 use Rattle.profile_machine.specs.declared.world.tasks.State.TheVariants.{Runnable, Blocked}
@@ -61,7 +62,7 @@ use Rattle.profile_machine.specs.declared.world.marks.ScopeMark.{ScopeMark}
 use Rattle.profile_machine.specs.declared.world.appointments.Registered.{Registered}
 use Rattle.profile_machine.specs.Controlled.{top_region, registered_as, no_longer_registered, edit_top_scope, next_to_finalize, registered_at}
 use Rattle.profile_machine.specs.Declarations.{new_object, object_drawn, event_drawn, with_budget, with_timer}
-use Rattle.profile_machine.specs.Tasking.{add_task, end_environment, leaves_as, being_left_mark, left_so_frame}
+use Rattle.profile_machine.specs.Tasking.{is_task_scope, add_task, end_environment, leaves_as, being_left_mark, left_so_frame}
 use Rattle.profile_machine.specs.declared.world.appointments.Release.{Release}
 use Rattle.profile_machine.specs.Serving.{close_action, serves_nothing}
 use Rattle.profile_machine.specs.Handlers.{add_release, clear_timer, with_timer_set, edit_budget}
@@ -130,10 +131,11 @@ pub record FineMoves (G : GoodWorld) (May Other : Naming) (R : StepRelation) (Q 
   -- tasks: an edit of anybody that leaves alone who it is, its marks, its state and whether it is abnormal; one of the mark on top
   pub edits_task : (name : Who) (f : Task → Task) (w : World) → G w → ((t : Task) → (f t).who ≡ t.who) → ((t : Task) → (f t).frames ≡ t.frames) → ((t : Task) → (f t).state ≡ t.state) → ((t : Task) → (f t).abnormal ≡ t.abnormal) → R w [] (edit_task name f w)
   pub edits_top : (name : Who) (f : Frame → Frame) (w : World) → G w → ((x : Frame) → nature (f x).mark ≡ nature x.mark) → ((x : Frame) → (f x).struck ≡ x.struck) → R w [] (edit_top name f w)
-  -- what is good is known; who was drawn stays so, and who is abnormal too
+  -- what is good is known; who was drawn stays so, and who is abnormal, and for whom no trigger is appointed
   pub facts : (w : World) → G w → GoodMarks w
   pub still_drawn : (n : Who) (a b : World) {xs : List Said} → R a xs b → Drawn a n → Drawn b n
   pub still_marked : (n : TaskNo) (a b : World) {xs : List Said} → R a xs b → Marked a n → Marked b n
+  pub still_unarmed : (n : Who) (a b : World) {xs : List Said} → R a xs b → Unarmed n a → Unarmed n b
   -- a task becomes abnormal, and the outermost mark of one that is abnormal is struck
   pub aborts : (name : Who) (w : World) → G w → R w [] (edit_task name abnormal_task w)
   pub strikes : (n : TaskNo) (w : World) → G w → Marked w n → R w [] (strike_outermost (who.Task n) w)
@@ -143,9 +145,9 @@ pub record FineMoves (G : GoodWorld) (May Other : Naming) (R : StepRelation) (Q 
       → R w [] (edit_abortable_at (who.Task t) depth (waited_mark b) w)
   -- a mark is opened that is not struck, is no Finalize and awaits no trigger; a part that awaits one, by who is calm; a Finalize, where
   -- it may stand; and a mark ends for which no trigger is appointed
-  pub pushes_on : (name : Who) (onward : Option StatementNo) (f g : Frame) (w : World) → G w → May name → top_of w name ≡ Some g → f.struck ≡ false → finalized_in f.mark ≡ None → awaits_trigger f.mark ≡ false → is_triggered f.mark ≡ false → R w [] (push name f (gone_on name onward w))
-  pub opens_abortable : (name : Who) (f : Frame) (w : World) → G w → Other name → f.struck ≡ false → finalized_in f.mark ≡ None → awaits_trigger f.mark ≡ false → is_triggered f.mark ≡ false → R w [] (push name f w)
-  pub opens_part : (name : Who) (f : Frame) (w : World) → G w → Calm name w → f.struck ≡ false → finalized_in f.mark ≡ None → is_triggered f.mark ≡ false → R w [] (push name f w)
+  pub pushes_on : (name : Who) (onward : Option StatementNo) (f g : Frame) (w : World) → G w → May name → top_of w name ≡ Some g → f.struck ≡ false → apart_in f.mark ≡ None → awaits_trigger f.mark ≡ false → is_triggered f.mark ≡ false → R w [] (push name f (gone_on name onward w))
+  pub opens_abortable : (name : Who) (f : Frame) (w : World) → G w → Other name → f.struck ≡ false → apart_in f.mark ≡ None → awaits_trigger f.mark ≡ false → is_triggered f.mark ≡ false → R w [] (push name f w)
+  pub opens_part : (name : Who) (f : Frame) (w : World) → G w → Calm name w → f.struck ≡ false → apart_in f.mark ≡ None → is_triggered f.mark ≡ false → R w [] (push name f w)
   pub opens_finalize : (name : Who) (n : ℕ) (g : Frame) (w : World) → G w → top_of w name ≡ Some g → may_finalize w n g.mark ≡ true → R w [] (push name (new_frame (InFinalize n) None) w)
   pub pops : (name : Who) (f : Frame) (w : World) → G w → May name → top_of w name ≡ Some f → Ends name f w → R w [] (pop name w)
   -- a region begins to be left, and has been left when none of its objects is registered
@@ -161,7 +163,7 @@ pub record FineMoves (G : GoodWorld) (May Other : Naming) (R : StepRelation) (Q 
   pub says_blocked : (part : Part) (name : Who) (waiting : Waiting) (w : World) → G w → Other name → R w (record { part = part; line = said.Block name (word_of waiting) } ∷ []) w
   -- a new task has the next number and the region of its creator, which goes on first
   pub adds_task : (name : Who) (onward : Option StatementNo) (t : Task) (w : World) → G w → Other name → t.who ≡ who.Task (record { 0 = w.drawn.tasks }) → t.frames ≡ [] → t.master ≡ Some (top_region w name) → R w [] (add_task t (gone_on name onward w))
-  pub forgets_task : (name : Who) (w : World) → G w → R w [] (forget_task name w)
+  pub forgets_task : (name : Who) (w : World) → G w → Unarmed name w → R w [] (forget_task name w)
   pub sets_quantum : (level ticks : ℕ) (w : World) → G w → R w [] (record w { quanta = edit_at level (λ _. ticks) w.quanta })
   pub ends_environment : (leaving : Leaving) (w : World) → G w → R w [] (end_environment leaving w)
   -- scopes and their cells
@@ -182,9 +184,8 @@ pub record FineMoves (G : GoodWorld) (May Other : Naming) (R : StepRelation) (Q 
       → R w (own (said.Enter name o mode) ∷ xs) (push name (new_frame (new_protected_mark o mode call release) None) v)
   pub visits : (name : Who) (o : ObjectNo) (mode : Mode) (xs : List Said) (w v : World) → G w → LetsIn name o mode w → AreQuiet xs → R w [] v → R w (own (said.Enter name o mode) ∷ xs ++ own (said.Exit name o) ∷ []) v
   pub finds_held : (name : Who) (o : ObjectNo) (mode : Mode) (w : World) → G w → FindsHeld name o mode w → R w (own (said.Held name o mode) ∷ []) w
-  -- appointments: a trigger is set for a part that awaits it
+  -- appointments, but that of a trigger
   pub appoints : (due : Due) (moment : ℤ) (w : World) → G w → is_a_trigger due ≡ false → R w [] (appoint due moment w)
-  pub appoints_trigger : (t : TaskNo) (depth : ℕ) (moment : ℤ) (w : World) → G w → awaits_trigger_at depth (frames_of w (who.Task t)) ≡ true → R w [] (appoint (due_for.Trigger t depth) moment w)
   pub drops_appointment : (test : Due → Bool) (w : World) → G w → R w [] (drop_appointment test w)
   -- controlled objects: a new one has the next number; of a region that is being left the newest is finalized; and one that is
   -- registered is assigned to
@@ -207,11 +208,12 @@ pub record FineMoves (G : GoodWorld) (May Other : Naming) (R : StepRelation) (Q 
   pub keeps_interrupt : (n : ℕ) (flag : Bool) (w : World) → G w → R w [] (with_kept_interrupt n flag w)
   pub cuts_script : (x : ℤ × Item) (rest : List (ℤ × Item)) (w : World) → G w → w.script ≡ x ∷ rest → int_le x.0 (pos w.time) ≡ true → R w [] (with_script rest w)
 
--- Who acts opens marks; of who acts beside a protected action, or in an abortable part, it is known that it is another; and
+-- Who acts opens marks, and a task's own scope is opened where no trigger is appointed for it; of who acts beside a protected action, or in an abortable part, it is known that it is another; and
 -- who waits for dependents in a region of its own is another too.
 pub record Openings (G : GoodWorld) (May Other : Naming) (Owns : Who → RegionNo → Type 0) (R : StepRelation) : Type 0 where
-  pub pushes : (name : Who) (f : Frame) (w : World) → G w → May name → f.struck ≡ false → finalized_in f.mark ≡ None → awaits_trigger f.mark ≡ false → is_triggered f.mark ≡ false → R w [] (push name f w)
-  pub opens_scope : (p : Image) (name : Who) (scope : ScopeNo) (b : Beginning) (purpose : Purpose) (w : World) → G w → May name → R w [] (open_scope p name scope b purpose w)
+  pub pushes : (name : Who) (f : Frame) (w : World) → G w → May name → f.struck ≡ false → apart_in f.mark ≡ None → awaits_trigger f.mark ≡ false → is_triggered f.mark ≡ false → R w [] (push name f w)
+  pub opens_scope : (p : Image) (name : Who) (scope : ScopeNo) (b : Beginning) (purpose : Purpose) (w : World) → G w → May name → is_task_scope purpose ≡ false → R w [] (open_scope p name scope b purpose w)
+  pub opens_own_scope : (p : Image) (name : Who) (scope : ScopeNo) (b : Beginning) (w : World) → G w → Unarmed name w → R w [] (open_scope p name scope b opened_for.Task w)
   pub outside : (name : Who) (w : World) → G w → May name → in_protected w name ≡ false → Other name
   pub within_part : (name : Who) (f : Frame) (w : World) → G w → May name → top_of w name ≡ Some f → is_abortable f.mark ≡ true → Other name
   pub owned : (name : Who) (f : Frame) (r : RegionNo) (w : World) → G w → May name → top_of w name ≡ Some f → region_of_mark f.mark ≡ Some r → Owns name r
@@ -237,11 +239,17 @@ pub first_is_false : (a b : Bool) → (a || b) ≡ false → a ≡ false
 first_is_false true b e = e
 first_is_false false b e = refl
 
+-- a trigger is set for a part that awaits it, of who has begun; whatever leads to a good world moves to one
+pub record Arming (G : GoodWorld) (Q : MoveRelation) : Type 0 where
+  pub appoints_trigger : (t : TaskNo) (depth : ℕ) (moment : ℤ) (w : World) → G w → StandsAt depth (frames_of w (who.Task t)) → Begun (who.Task t) w → G (appoint (due_for.Trigger t depth) moment w)
+  pub settles_good : (p : Image) (a b : World) (xs : List Said) → G b → Q a (lines_of p xs) (placed_by (lines_of p xs) b)
+
 -- all of them together, with those of releases
 pub record RegionMoves (G : GoodWorld) (R : StepRelation) (Q : MoveRelation) : Type 0 where
   pub fine : FineMoves G Anybody Anybody R Q
   pub openings : Openings G Anybody Anybody AnyRegion R
   pub exits : Exits G Anybody R
+  pub arming : Arming G Q
   pub releases : (h : HandlerOf) (argument : Option ℕ) (w : World) → G w → R w (own (said.Release (suc w.drawn.releases) h) ∷ []) (add_release h argument w)
   pub has_served : (r : Release) (w : World) → G w → w.serving ≡ Some r → R w (own (said.Served r.number) ∷ []) (serves_nothing w)
 

@@ -17,6 +17,7 @@ pub mod Sending
 pub mod Serving
 pub mod Rendezvous
 pub mod EntryCalls
+pub mod Arming
 pub mod Controlled
 pub mod Declarations
 pub mod Tasking

@@ -3,6 +3,7 @@ pub mod TopLemmas
 pub mod DepthLemmas
 pub mod FrameEdits
 pub mod DepthEdits
+pub mod StandingLemmas
 pub mod TaskFacts
 pub mod TriggerLemmas
 pub mod FinalizeLemmas
@@ -12,3 +13,4 @@ pub mod TaskMoves
 pub mod MarkMoves
 pub mod MarkRuns
 pub mod MarkWorlds
+pub mod TriggerWorlds

@@ -1,6 +1,6 @@
 -- What is known of marks, waits and appointments in every world that a run reaches: each mark is struck for a cause, each trigger that
 -- is appointed names an abortable part that awaits it, and each Finalize stands on a scope that is being left or on its assignment.
-use Rattle.std.proofs.Common.{◌≡◌, ◌⊎◌, ℕ, ◌<◌, ◌≤◌, Bool, true, false, cond, eqb, ◌&&◌, ◌||◌, List, [], ◌∷◌, Option, Some, None, length}
+use Rattle.std.proofs.Common.{◌≡◌, ◌⊎◌, ℕ, ◌<◌, ◌≤◌, Bool, true, false, cond, eqb, ◌&&◌, ◌||◌, not, List, [], ◌∷◌, Option, Some, None, length}
 use Rattle.std.specs.Prelude.{◌-◌, leb, is_some, is_none, find}
 use Rattle.std.specs.List.{list_any}
 use Rattle.ann_base.specs.declared.identities.CallNo.{CallNo}
@@ -18,12 +18,13 @@ use Rattle.profile_machine.specs.declared.world.appointments.Due.{Due}
 use Rattle.profile_machine.specs.declared.world.appointments.Due.TheVariants as due_for
 use Rattle.profile_machine.specs.declared.world.appointments.Appointment.{Appointment}
 use Rattle.profile_machine.specs.declared.world.appointments.Registered.{Registered}
-use Rattle.profile_machine.specs.Words.{is_empty}
-use Rattle.profile_machine.specs.Tasks.{is_who, task_at, task_of, waiting_in}
+use Rattle.profile_machine.specs.Words.{same_who, is_empty}
+use Rattle.profile_machine.specs.Tasks.{is_who, is_made, task_at, task_of, waiting_in}
 use Rattle.profile_machine.specs.Frames.{frames_of}
 use Rattle.profile_machine.specs.Appointments.{is_trigger_of, is_appointed}
 use Rattle.profile_machine.specs.CallEnds.{is_abortable_of, waits_for_end}
 use Rattle.profile_machine.specs.Controlled.{is_number}
+use Rattle.profile_machine.specs.Tasking.{is_task_scope}
 use Rattle.profile_machine.specs.WellFormed.{awaits_trigger, awaits_trigger_at, is_triggered}
 use Rattle.exit_laws.proofs.TaskEdits.{one_of}
 use Rattle.exit_laws.proofs.Steady.{FreeIn}
@@ -60,12 +61,52 @@ is_abortable (InInitialize l) = false
 is_abortable (InFinalize o) = false
 is_abortable (InAssign m) = false
 
+-- a task's own scope
+abbrev pub is_own_scope : Mark → Bool
+is_own_scope (Scope m) = is_task_scope m.purpose
+is_own_scope (Handled s) = false
+is_own_scope (InProtected m) = false
+is_own_scope (InAccept m) = false
+is_own_scope (Abortable m) = false
+is_own_scope (InInitialize l) = false
+is_own_scope (InFinalize o) = false
+is_own_scope (InAssign m) = false
+
 pub record Nature : Type 0 where
   pub part : Option (Option CallNo × Bool)
   pub finalizes : Option ℕ
+  pub own_scope : Bool
 
 abbrev pub nature : Mark → Nature
-nature mark = record { part = part_in mark; finalizes = finalized_in mark }
+nature mark = record { part = part_in mark; finalizes = finalized_in mark; own_scope = is_own_scope mark }
+
+-- what only its own changes open: a Finalize, and a task's own scope
+abbrev pub own_scope_in : Bool → Option (Option ℕ)
+own_scope_in true = Some None
+own_scope_in false = None
+
+abbrev pub apart_in : Mark → Option (Option ℕ)
+apart_in (Scope m) = own_scope_in (is_task_scope m.purpose)
+apart_in (Handled s) = None
+apart_in (InProtected m) = None
+apart_in (InAccept m) = None
+apart_in (Abortable m) = None
+apart_in (InInitialize l) = None
+apart_in (InFinalize o) = Some (Some o)
+apart_in (InAssign m) = None
+
+-- ---- a part that awaits its trigger, above which no task's own scope stands
+
+abbrev pub own_scopes : List Frame → List Bool
+own_scopes [] = []
+own_scopes (f ∷ fs) = is_own_scope f.mark ∷ own_scopes fs
+
+abbrev pub is_clear_above : ℕ → List Bool → Bool
+is_clear_above depth [] = true
+is_clear_above depth (own ∷ rest) = cond (eqb (length rest) depth) true (not own && is_clear_above depth rest)
+
+abbrev pub StandsAt : ℕ → List Frame → Type 0
+StandsAt depth fs = (awaits_trigger_at depth fs ≡ true) × (is_clear_above depth (own_scopes fs) ≡ true)
 
 -- ---- who is calm: it waits for no entry call; what is appointed; and where a mark may end
 
@@ -74,6 +115,18 @@ Calm name w = FreeIn name (task_of w name).state
 
 abbrev pub NoTrigger : TaskNo → ℕ → World → Type 0
 NoTrigger t depth w = is_appointed (is_trigger_of t depth) w ≡ false
+
+-- no trigger at all
+abbrev pub Unarmed : Who → World → Type 0
+Unarmed (who.Task t) w = (depth : ℕ) → NoTrigger t depth w
+Unarmed who.Agent w = Unit {0}
+
+-- who is there has begun
+abbrev pub HasBegun : Who → Task → Type 0
+HasBegun name t = is_who name t ≡ true → is_made t ≡ false
+
+abbrev pub Begun : Who → World → Type 0
+Begun name w = HasBegun name (task_of w name)
 
 -- no trigger is appointed for the mark on top
 abbrev pub Unappointed : Who → World → Type 0
@@ -160,8 +213,9 @@ may_finalize w n mark = finalizes_here w.registered w.drawn.controlled n mark
 
 -- ---- what a trigger's appointment says of the task
 
-abbrev pub AwaitsAt : TaskNo → ℕ → Task → Type 0
-AwaitsAt t depth u = is_who (who.Task t) u ≡ true → awaits_trigger_at depth u.frames ≡ true
+-- the task is there, since nobody has no marks
+abbrev pub AwaitsAt : ℕ → Task → Type 0
+AwaitsAt depth u = StandsAt depth u.frames × (is_made u ≡ false)
 
 abbrev pub is_a_trigger : Due → Bool
 is_a_trigger (due_for.Event n handler) = false
@@ -196,6 +250,11 @@ abbrev pub AllTasks : (Task → Type 0) → List Task → Type 0
 AllTasks P [] = Unit {0}
 AllTasks P (t ∷ ts) = P t × AllTasks P ts
 
+-- no two tasks have one name
+abbrev pub Distinct : List Task → Type 0
+Distinct [] = Unit {0}
+Distinct (t ∷ ts) = AllTasks (λ u. same_who u.who t.who ≡ false) ts × Distinct ts
+
 abbrev pub AllDrawn : ℕ → List Registered → Type 0
 AllDrawn drawn [] = Unit {0}
 AllDrawn drawn (r ∷ rs) = (r.object ≤ drawn) × AllDrawn drawn rs
@@ -205,17 +264,19 @@ pub record GoodIn (tasks : List Task) (agent : Task) (appointments : List Appoin
   pub agent_right : RightMarks registered controlled agent
   pub waits : AllTasks WaitsOf tasks
   pub numbers : AllTasks (λ t. DrawnTo drawn t.who) tasks
-  pub triggers : (t : TaskNo) (depth : ℕ) → list_any (λ a. is_trigger_of t depth a.due) appointments ≡ true → (t.0 < drawn) × AwaitsAt t depth (one_of tasks agent (who.Task t))
+  pub triggers : (t : TaskNo) (depth : ℕ) → list_any (λ a. is_trigger_of t depth a.due) appointments ≡ true → (t.0 < drawn) × AwaitsAt depth (one_of tasks agent (who.Task t))
+  pub single : Distinct tasks
   pub objects : AllDrawn controlled registered
 
 abbrev pub GoodMarks : World → Type 0
 GoodMarks w = GoodIn w.tasks w.agent w.appointments w.registered w.drawn.tasks w.drawn.controlled
 
--- ---- what stays so from one world to another: who was drawn, and who is abnormal as long as it is there
+-- ---- what stays so from one world to another: who was drawn, who is abnormal as long as it is there, and for whom no trigger is set
 
-pub record StillIn (drawn : ℕ) (tasks : List Task) (agent : Task) (later : ℕ) (tasks_behind : List Task) (agent_behind : Task) : Type 0 where
+pub record StillIn (drawn : ℕ) (tasks : List Task) (agent : Task) (appointments : List Appointment) (later : ℕ) (tasks_behind : List Task) (agent_behind : Task) (appointments_behind : List Appointment) : Type 0 where
   pub more : drawn ≤ later
   pub marked : (n : TaskNo) → MarkedIn drawn tasks agent n → MarkedIn later tasks_behind agent_behind n
+  pub fewer : (n : TaskNo) (depth : ℕ) → list_any (λ a. is_trigger_of n depth a.due) appointments ≡ false → list_any (λ a. is_trigger_of n depth a.due) appointments_behind ≡ false
 
 abbrev pub Still : World → World → Type 0
-Still w v = StillIn w.drawn.tasks w.tasks w.agent v.drawn.tasks v.tasks v.agent
+Still w v = StillIn w.drawn.tasks w.tasks w.agent w.appointments v.drawn.tasks v.tasks v.agent v.appointments

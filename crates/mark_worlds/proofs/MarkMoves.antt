@@ -21,6 +21,7 @@ use Rattle.profile_machine.specs.declared.world.marks.Frame.{Frame}
 use Rattle.profile_machine.specs.declared.world.marks.Mark.{Mark}
 use Rattle.profile_machine.specs.declared.world.marks.Mark.TheVariants.{Scope, Handled, InProtected, InAccept, Abortable, InInitialize, InFinalize, InAssign}
 use Rattle.profile_machine.specs.declared.world.marks.Purpose.{Purpose}
+use Rattle.profile_machine.specs.declared.world.marks.Purpose.TheVariants as opened_for
 use Rattle.profile_machine.specs.declared.world.marks.ScopeMark.{ScopeMark}
 use Rattle.profile_machine.specs.declared.world.scopes.Beginning.{Beginning}
 use Rattle.profile_machine.specs.declared.world.scopes.Located.{Located}
@@ -33,17 +34,17 @@ use Rattle.profile_machine.specs.Scopes.{begin_scope, draw_region, open_scope, n
 use Rattle.profile_machine.specs.Appointments.{is_trigger_of, put_appointment, appoint, drop_appointment}
 use Rattle.profile_machine.specs.Protected.{new_protected_mark}
 use Rattle.profile_machine.specs.Controlled.{is_number, top_region, registered_as, no_longer_registered, edit_top_scope, edit_scope_mark}
-use Rattle.profile_machine.specs.Tasking.{add_task, being_left_mark, left_so_frame}
-use Rattle.profile_machine.specs.WellFormed.{awaits_trigger, awaits_trigger_at}
+use Rattle.profile_machine.specs.Tasking.{is_task_scope, add_task, being_left_mark, left_so_frame}
+use Rattle.profile_machine.specs.WellFormed.{awaits_trigger}
 use Rattle.machine_laws.proofs.Moves.{MoveRelation}
 use Rattle.machine_laws.proofs.FineMoves.{edit_task-drawn}
 use Rattle.exclusion_laws.proofs.ObjectLists.{by_test}
 use Rattle.exit_laws.proofs.FineMoves.{natures, action_first, action_in}
 use Rattle.exit_laws.proofs.TaskEdits.{one_of}
-use Rattle.mark_worlds.proofs.MarkFacts.{Calm, DrawnTo, AwaitsAt, AllDrawn, RightMarks, FinalizesRightly, below_finalizes, finalizes_here, is_a_trigger, nature, GoodMarks, Still}
+use Rattle.mark_worlds.proofs.MarkFacts.{Begun, Calm, DrawnTo, HasBegun, StandsAt, Unarmed, AwaitsAt, AllDrawn, own_scope_in, RightMarks, FinalizesRightly, below_finalizes, finalizes_here, is_a_trigger, nature, GoodMarks, Still}
 use Rattle.mark_worlds.proofs.FineMoves.{FineMoves, RegionMoves, TockMoves, Anybody, each-anybody, gone_on}
 use Rattle.mark_worlds.proofs.TaskFacts.{all-map, found-test, fewer-any, all-found}
-use Rattle.mark_worlds.proofs.TaskMoves.{LeadsTo, still-same, stays-good, leads-then, task-leads, abort-leads, runnable-leads, blocked-leads, waiting-leads, top-leads, push-leads, part-leads, finalize-leads, pop-leads, strike-leads, triggered-leads, waited-leads, added-leads, forgotten-leads}
+use Rattle.mark_worlds.proofs.TaskMoves.{LeadsTo, still-same, stays-good, leads-then, task-leads, abort-leads, runnable-leads, blocked-leads, waiting-leads, top-leads, push-leads, part-leads, finalize-leads, own_scope-leads, pop-leads, strike-leads, triggered-leads, waited-leads, added-leads, forgotten-leads}
 
 abbrev pub GoodBehind : MoveRelation
 GoodBehind w xs v = GoodMarks v
@@ -77,11 +78,16 @@ appoint-leads due moment w good other = (
     agent_right = good.agent_right;
     waits = good.waits;
     numbers = good.numbers;
+    single = good.single;
     triggers = λ t d is.
         good.triggers t d (sym (put-any (λ a. is_trigger_of t d a.due) (record { due = due; moment = moment }) w.appointments ∙ ap (λ b. b || list_any (λ (a : Appointment). is_trigger_of t d a.due) w.appointments) (is_other t d due other)) ∙ is);
     objects = good.objects;
   },
-  still-same w,
+  record {
+    more = omega arith;
+    marked = λ n h. h;
+    fewer = λ t d none. put-any (λ a. is_trigger_of t d a.due) (record { due = due; moment = moment }) w.appointments ∙ ap (λ b. b || list_any (λ (a : Appointment). is_trigger_of t d a.due) w.appointments) (is_other t d due other) ∙ none;
+  },
 )
 
 drop-leads : (test : Due → Bool) (w : World) → GoodMarks w → LeadsTo w [] (drop_appointment test w)
@@ -91,10 +97,17 @@ drop-leads test w good = (
     agent_right = good.agent_right;
     waits = good.waits;
     numbers = good.numbers;
+    single = good.single;
     triggers = λ t d is. good.triggers t d (fewer-any (λ (a : Appointment). is_trigger_of t d a.due) (λ a. test a.due) w.appointments is);
     objects = good.objects;
   },
-  still-same w,
+  record {
+    more = omega arith;
+    marked = λ n h. h;
+    fewer = λ t d none.
+        by_test (list_any (λ (a : Appointment). is_trigger_of t d a.due) (without (λ (a : Appointment). test a.due) w.appointments))
+        (λ e. absurd (false≢true (sym none ∙ fewer-any (λ (a : Appointment). is_trigger_of t d a.due) (λ a. test a.due) w.appointments e))) (λ e. e);
+  },
 )
 
 or-case : {P : Type 0} (a b : Bool) → (a ≡ true → P) → (b ≡ true → P) → (a || b) ≡ true → P
@@ -109,31 +122,30 @@ named-drawn : (w : World) (t : TaskNo) (u : Task) (name : Who) → u.who ≡ nam
 named-drawn w t u (who.Task k) is same low = subst (λ n. n < w.drawn.tasks) (sym (eqb-true t.0 k.0 same)) low
 named-drawn w t u who.Agent is same low = absurd low
 
-trigger-here : (w : World) (t : TaskNo) (depth : ℕ) (good : GoodMarks w) (found : Option Task) → found_task (who.Task t) w.tasks ≡ found → awaits_trigger_at depth (option_or_else found nobody).frames ≡ true → (t.0 < w.drawn.tasks) × AwaitsAt t depth (option_or_else found nobody)
-trigger-here w t depth good None e h = absurd (false≢true h)
-trigger-here w t depth good (Some u) e h =
-    (named-drawn w t u u.who refl (found-test (is_who (who.Task t)) u w.tasks e) (all-found (λ x. DrawnTo w.drawn.tasks x.who) (is_who (who.Task t)) u w.tasks good.numbers e), λ is. h)
+trigger-here : (w : World) (t : TaskNo) (depth : ℕ) (good : GoodMarks w) (found : Option Task) → found_task (who.Task t) w.tasks ≡ found → StandsAt depth (option_or_else found nobody).frames → HasBegun (who.Task t) (option_or_else found nobody) → (t.0 < w.drawn.tasks) × AwaitsAt depth (option_or_else found nobody)
+trigger-here w t depth good None e h begun = absurd (false≢true h.0)
+trigger-here w t depth good (Some u) e h begun =
+    let is = found-test (is_who (who.Task t)) u w.tasks e in
+    (named-drawn w t u u.who refl is (all-found (λ x. DrawnTo w.drawn.tasks x.who) (is_who (who.Task t)) u w.tasks good.numbers e), (h, begun is))
 
-trigger-leads : (t : TaskNo) (depth : ℕ) (moment : ℤ) (w : World) → GoodMarks w → awaits_trigger_at depth (frames_of w (who.Task t)) ≡ true → LeadsTo w [] (appoint (due_for.Trigger t depth) moment w)
-trigger-leads t depth moment w good awaits = (
-  record {
-    tasks_right = good.tasks_right;
-    agent_right = good.agent_right;
-    waits = good.waits;
-    numbers = good.numbers;
-    triggers = λ u d is.
-        or-case (is_trigger_of u d (due_for.Trigger t depth)) (list_any (λ (a : Appointment). is_trigger_of u d a.due) w.appointments)
-        (λ e. let both = and-both (eqb u.0 t.0) (eqb d depth) e in
-        let one : t ≡ u = ap (λ n. record { 0 = n }) (sym (eqb-true u.0 t.0 both.0)) in
-        let deep : depth ≡ d = sym (eqb-true d depth both.1) in
-        subst (λ x. (x.0 < w.drawn.tasks) × AwaitsAt x d (one_of w.tasks w.agent (who.Task x))) one
-        (subst (λ k. (t.0 < w.drawn.tasks) × AwaitsAt t k (one_of w.tasks w.agent (who.Task t))) deep (trigger-here w t depth good (found_task (who.Task t) w.tasks) refl awaits)))
-        (λ e. good.triggers u d e)
-        (sym (put-any (λ a. is_trigger_of u d a.due) (record { due = due_for.Trigger t depth; moment = moment }) w.appointments) ∙ is);
-    objects = good.objects;
-  },
-  still-same w,
-)
+trigger-good : (t : TaskNo) (depth : ℕ) (moment : ℤ) (w : World) → GoodMarks w → StandsAt depth (frames_of w (who.Task t)) → Begun (who.Task t) w → GoodMarks (appoint (due_for.Trigger t depth) moment w)
+trigger-good t depth moment w good awaits begun = record {
+  tasks_right = good.tasks_right;
+  agent_right = good.agent_right;
+  waits = good.waits;
+  numbers = good.numbers;
+  single = good.single;
+  triggers = λ u d is.
+      or-case (is_trigger_of u d (due_for.Trigger t depth)) (list_any (λ (a : Appointment). is_trigger_of u d a.due) w.appointments)
+      (λ e. let both = and-both (eqb u.0 t.0) (eqb d depth) e in
+      let one : t ≡ u = ap (λ n. record { 0 = n }) (sym (eqb-true u.0 t.0 both.0)) in
+      let deep : depth ≡ d = sym (eqb-true d depth both.1) in
+      subst (λ x. (x.0 < w.drawn.tasks) × AwaitsAt d (one_of w.tasks w.agent (who.Task x))) one
+      (subst (λ k. (t.0 < w.drawn.tasks) × AwaitsAt k (one_of w.tasks w.agent (who.Task t))) deep (trigger-here w t depth good (found_task (who.Task t) w.tasks) refl awaits begun)))
+      (λ e. good.triggers u d e)
+      (sym (put-any (λ a. is_trigger_of u d a.due) (record { due = due_for.Trigger t depth; moment = moment }) w.appointments) ∙ is);
+  objects = good.objects;
+}
 
 -- ---- the register
 
@@ -232,6 +244,7 @@ register-leads region l w good =
         agent_right = marks-here w.registered (r ∷ w.registered) c (suc c) here w.agent good.agent_right;
         waits = good.waits;
         numbers = good.numbers;
+        single = good.single;
         triggers = good.triggers;
         objects = (omega arith, later-objects c w.registered good.objects);
       },
@@ -248,6 +261,7 @@ unregister-leads o w good =
         agent_right = marks-here w.registered left c c here w.agent good.agent_right;
         waits = good.waits;
         numbers = good.numbers;
+        single = good.single;
         triggers = good.triggers;
         objects = left-objects c (is_number o) w.registered good.objects;
       },
@@ -256,15 +270,15 @@ unregister-leads o w good =
 
 -- ---- marks
 
-scope-nature : (f : ScopeMark → ScopeMark) (mark : Mark) → nature (edit_scope_mark f mark) ≡ nature mark
-scope-nature f (Scope m) = refl
-scope-nature f (Handled s) = refl
-scope-nature f (InProtected m) = refl
-scope-nature f (InAccept m) = refl
-scope-nature f (Abortable m) = refl
-scope-nature f (InInitialize l) = refl
-scope-nature f (InFinalize o) = refl
-scope-nature f (InAssign m) = refl
+scope-nature : (f : ScopeMark → ScopeMark) → ((m : ScopeMark) → (f m).purpose ≡ m.purpose) → (mark : Mark) → nature (edit_scope_mark f mark) ≡ nature mark
+scope-nature f same (Scope m) = ap (λ purpose. record { part = None; finalizes = None; own_scope = is_task_scope purpose }) (same m)
+scope-nature f same (Handled s) = refl
+scope-nature f same (InProtected m) = refl
+scope-nature f same (InAccept m) = refl
+scope-nature f same (Abortable m) = refl
+scope-nature f same (InInitialize l) = refl
+scope-nature f same (InFinalize o) = refl
+scope-nature f same (InAssign m) = refl
 
 gone-leads : (name : Who) (onward : Option StatementNo) (w : World) → GoodMarks w → LeadsTo w [] (gone_on name onward w)
 gone-leads name onward w good = top-leads name (goes_on onward) w good (λ x. refl) (λ x. refl)
@@ -272,20 +286,41 @@ gone-leads name onward w good = top-leads name (goes_on onward) w good (λ x. re
 leaving-leads : (name : Who) (leaving : Leaving) (w : World) → GoodMarks w → LeadsTo w [] (edit_top name (left_so_frame leaving) (edit_top_scope name being_left_mark w))
 leaving-leads name leaving w good =
     let v = edit_top_scope name being_left_mark w in
-    let first = top-leads name (λ x. with_mark (edit_scope_mark being_left_mark x.mark) x) w good (λ x. scope-nature being_left_mark x.mark) (λ x. refl) in
+    let first = top-leads name (λ x. with_mark (edit_scope_mark being_left_mark x.mark) x) w good (λ x. scope-nature being_left_mark (λ m. refl) x.mark) (λ x. refl) in
     leads-then w v (edit_top name (left_so_frame leaving) v) first (top-leads name (left_so_frame leaving) v first.0 (λ x. refl) (λ x. refl))
 
 region-leads : (kept : Bool) (w : World) → GoodMarks w → LeadsTo w [] (draw_region kept w)
 region-leads true w good = (good, still-same w)
 region-leads false w good = stays-good w good
 
-scope-leads : (p : Image) (name : Who) (scope : ScopeNo) (b : Beginning) (purpose : Purpose) (w : World) → GoodMarks w → LeadsTo w [] (open_scope p name scope b purpose w)
-scope-leads p name scope b purpose w good =
+scope-leads : (p : Image) (name : Who) (scope : ScopeNo) (b : Beginning) (purpose : Purpose) (w : World) → GoodMarks w → is_task_scope purpose ≡ false → LeadsTo w [] (open_scope p name scope b purpose w)
+scope-leads p name scope b purpose w good within =
     let begun = begin_scope p name scope b w in
     let drawn = draw_region (scope_of p scope).kept begun in
     let f = new_frame (new_scope_mark (next_id w) (region_of_next (scope_of p scope).kept w) purpose) (scope_of p scope).first in
     let first = region-leads (scope_of p scope).kept begun good in
-    leads-then w drawn (push name f drawn) first (push-leads name f drawn first.0 refl refl refl refl)
+    leads-then w drawn (push name f drawn) first (push-leads name f drawn first.0 refl (ap own_scope_in within) refl refl)
+
+region-unarmed : (name : Who) (kept : Bool) (w : World) → Unarmed name w → Unarmed name (draw_region kept w)
+region-unarmed (who.Task n) true w none = none
+region-unarmed (who.Task n) false w none = none
+region-unarmed who.Agent kept w none = tt
+
+begun-unarmed : (p : Image) (name other : Who) (scope : ScopeNo) (b : Beginning) (w : World) → Unarmed name w → Unarmed name (begin_scope p other scope b w)
+begun-unarmed p (who.Task n) other scope b w none = none
+begun-unarmed p who.Agent other scope b w none = tt
+
+own-leads : (p : Image) (name : Who) (scope : ScopeNo) (b : Beginning) (w : World) → GoodMarks w → Unarmed name w → LeadsTo w [] (open_scope p name scope b opened_for.Task w)
+own-leads p name scope b w good none =
+    let begun = begin_scope p name scope b w in
+    let drawn = draw_region (scope_of p scope).kept begun in
+    let f = new_frame (new_scope_mark (next_id w) (region_of_next (scope_of p scope).kept w) opened_for.Task) (scope_of p scope).first in
+    let first = region-leads (scope_of p scope).kept begun good in
+    leads-then w drawn (push name f drawn) first (own_scope-leads name f drawn first.0 (region-unarmed name (scope_of p scope).kept begun (begun-unarmed p name name scope b w none)) refl refl refl refl)
+
+still_unarmed : (name : Who) (w v : World) → Still w v → Unarmed name w → Unarmed name v
+still_unarmed (who.Task n) w v s none = λ d. s.fewer n d (none d)
+still_unarmed who.Agent w v s none = tt
 
 new-task-leads : (name : Who) (onward : Option StatementNo) (t : Task) (w : World) → GoodMarks w → t.who ≡ who.Task (record { 0 = w.drawn.tasks }) → t.frames ≡ [] → LeadsTo w [] (add_task t (gone_on name onward w))
 new-task-leads name onward t w good is none =
@@ -334,16 +369,17 @@ fine = record {
   facts = λ w g. g;
   still_drawn = λ n a b r d. more-drawn a b n r.1 d;
   still_marked = λ n a b r m. r.1.marked n m;
+  still_unarmed = λ n a b r none. still_unarmed n a b r.1 none;
   aborts = abort-leads;
   strikes = strike-leads;
   triggers = λ part t depth w g can. triggered-leads t depth w g can;
   has_waited = λ c t depth b w g calm found untriggered. waited-leads c t depth b w g calm found untriggered;
-  pushes_on = λ name onward f x w g may top plain no_final no_trigger untriggered.
+  pushes_on = λ name onward f x w g may top plain common no_trigger untriggered.
       let v = gone_on name onward w in
       let first = gone-leads name onward w g in
-      leads-then w v (push name f v) first (push-leads name f v first.0 plain no_final no_trigger untriggered);
-  opens_abortable = λ name f w g o plain no_final no_trigger untriggered. push-leads name f w g plain no_final no_trigger untriggered;
-  opens_part = λ name f w g calm plain no_final untriggered. part-leads name f w g calm plain no_final;
+      leads-then w v (push name f v) first (push-leads name f v first.0 plain common no_trigger untriggered);
+  opens_abortable = λ name f w g o plain common no_trigger untriggered. push-leads name f w g plain common no_trigger untriggered;
+  opens_part = λ name f w g calm plain common untriggered. part-leads name f w g calm plain common;
   opens_finalize = finalize-leads;
   pops = λ name f w g may top ends. pop-leads name f w g top ends;
   begins_leaving = λ name f m r leaving w g may top is region left. leaving-leads name leaving w g;
@@ -371,7 +407,6 @@ fine = record {
   visits = λ name o mode xs w v g lets quiet k. k;
   finds_held = λ name o mode w g finds. stays-good w g;
   appoints = appoint-leads;
-  appoints_trigger = trigger-leads;
   drops_appointment = drop-leads;
   registers = λ name l w g. register-leads (top_region w name) l w g;
   finalizes = λ name f m r x w g may top is region left next. unregister-leads x.object w g;
@@ -394,14 +429,16 @@ pub moves : RegionMoves GoodMarks LeadsTo GoodBehind
 moves = record {
   fine = fine;
   openings = record {
-    pushes = λ name f w g may plain no_final no_trigger untriggered. push-leads name f w g plain no_final no_trigger untriggered;
-    opens_scope = λ p name scope b purpose w g may. scope-leads p name scope b purpose w g;
+    pushes = λ name f w g may plain common no_trigger untriggered. push-leads name f w g plain common no_trigger untriggered;
+    opens_scope = λ p name scope b purpose w g may within. scope-leads p name scope b purpose w g within;
+    opens_own_scope = own-leads;
     outside = λ name w g may is. tt;
     within_part = λ name f w g may top is. tt;
     owned = λ name f r w g may top is. tt;
     awaits_dependents = λ name r w g may owns is. tt;
   };
   exits = record { exits = λ name m w g may top calm. exit-leads name m.object w (frames_of w name) g refl top calm };
+  arming = record { appoints_trigger = trigger-good; settles_good = λ p a b xs g. g };
   releases = λ h argument w g. (g, still-same w);
   has_served = λ r w g is. (g, still-same w);
 }

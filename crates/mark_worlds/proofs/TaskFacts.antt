@@ -8,12 +8,12 @@ use Rattle.trace_text.specs.declared.events.Who.{Who}
 use Rattle.trace_text.specs.declared.events.Who.TheVariants as who
 use Rattle.profile_machine.specs.declared.world.World.{World}
 use Rattle.profile_machine.specs.declared.world.tasks.Task.{Task}
-use Rattle.profile_machine.specs.Words.{without, set_where}
+use Rattle.profile_machine.specs.Words.{same_who, without, set_where}
 use Rattle.profile_machine.specs.Tasks.{nobody, is_who, edit_task}
 use Rattle.profile_machine.specs.Tasking.{abnormal_task}
 use Rattle.machine_laws.proofs.FineMoves.{edit_task-drawn}
-use Rattle.exit_laws.proofs.TaskEdits.{edited_to}
-use Rattle.mark_worlds.proofs.MarkFacts.{AllTasks, Drawn, DrawnTo, Marked, AbnormalAs}
+use Rattle.exit_laws.proofs.TaskEdits.{edited_to, same_who-path}
+use Rattle.mark_worlds.proofs.MarkFacts.{AllTasks, Distinct, Drawn, DrawnTo, Marked, AbnormalAs}
 use Rattle.mark_worlds.proofs.TopLemmas.{same_self}
 
 -- ---- what is found
@@ -104,6 +104,66 @@ all-added P x (t ∷ ts) k h = (h.0, all-added P x ts k h.1)
 pub all-map : (P R : Task → Type 0) (ts : List Task) → ((t : Task) → P t → R t) → AllTasks P ts → AllTasks R ts
 all-map P R [] k h = tt
 all-map P R (t ∷ ts) k h = (k t h.0, all-map P R ts k h.1)
+
+pub all-both : (P R S : Task → Type 0) (ts : List Task) → ((t : Task) → P t → R t → S t) → AllTasks P ts → AllTasks R ts → AllTasks S ts
+all-both P R S [] k g h = tt
+all-both P R S (t ∷ ts) k g h = (k t g.0 h.0, all-both P R S ts k g.1 h.1)
+
+kept-step : (P : Task → Type 0) (test : Task → Bool) (t : Task) (left : List Task) (b : Bool) → test t ≡ b → P t → AllTasks (λ u. (test u ≡ true) × P u) left → AllTasks (λ u. (test u ≡ true) × P u) (cond b (t ∷ left) left)
+kept-step P test t left true e h k = ((e, h), k)
+kept-step P test t left false e h k = k
+
+-- of those for which a test holds
+pub all-kept : (P : Task → Type 0) (test : Task → Bool) (ts : List Task) → AllTasks P ts → AllTasks (λ t. (test t ≡ true) × P t) (filter test ts)
+all-kept P test [] h = tt
+all-kept P test (t ∷ ts) h = kept-step P test t (filter test ts) (test t) refl h.0 (all-kept P test ts h.1)
+
+-- ---- names
+
+distinct_set-step : (b : Bool) (test : Task → Bool) (x y t : Task) (ts : List Task) → x.who ≡ y.who → (find test ts ≡ Some y → Distinct (set_where test x ts)) → Distinct (t ∷ ts) → cond b (Some t) (find test ts) ≡ Some y → Distinct (cond b (x ∷ ts) (t ∷ set_where test x ts))
+distinct_set-step true test x y t ts same onward h found =
+    let one : t ≡ y = cc in
+    let named : x.who ≡ t.who = same ∙ sym (ap (λ (u : Task). u.who) one) in
+    (subst (λ name. AllTasks (λ u. same_who u.who name ≡ false) ts) (sym named) h.0, h.1)
+distinct_set-step false test x y t ts same onward h found =
+    (all-set (λ u. same_who u.who t.who ≡ false) test x ts (ap (λ name. same_who name t.who) same ∙ all-found (λ u. same_who u.who t.who ≡ false) test y ts h.0 found) h.0, onward found)
+
+pub distinct-set : (test : Task → Bool) (x y : Task) (ts : List Task) → x.who ≡ y.who → Distinct ts → find test ts ≡ Some y → Distinct (set_where test x ts)
+distinct-set test x y [] same h found = tt
+distinct-set test x y (t ∷ ts) same h found = distinct_set-step (test t) test x y t ts same (λ k. distinct-set test x y ts same h.1 k) h found
+
+distinct_filter-step : (b : Bool) (t : Task) (left : List Task) → AllTasks (λ u. same_who u.who t.who ≡ false) left → Distinct left → Distinct (cond b (t ∷ left) left)
+distinct_filter-step true t left apart h = (apart, h)
+distinct_filter-step false t left apart h = h
+
+pub distinct-filter : (test : Task → Bool) (ts : List Task) → Distinct ts → Distinct (filter test ts)
+distinct-filter test [] h = tt
+distinct-filter test (t ∷ ts) h = distinct_filter-step (test t) t (filter test ts) (all-filter (λ u. same_who u.who t.who ≡ false) test ts h.0) (distinct-filter test ts h.1)
+
+pub distinct-added : (x : Task) (ts : List Task) → AllTasks (λ u. same_who x.who u.who ≡ false) ts → Distinct ts → Distinct (ts ++ x ∷ [])
+distinct-added x [] apart h = (tt, tt)
+distinct-added x (t ∷ ts) apart h = (all-added (λ u. same_who u.who t.who ≡ false) x ts apart.0 h.0, distinct-added x ts apart.1 h.1)
+
+-- each is the one that is found by its name
+pub distinct-found : (ts : List Task) → Distinct ts → AllTasks (λ t. find (is_who t.who) ts ≡ Some t) ts
+distinct-found [] h = tt
+distinct-found (t ∷ ts) h = (
+  ap (λ b. cond b (Some t) (find (is_who t.who) ts)) (same_self t.who),
+  all-both (λ u. same_who u.who t.who ≡ false) (λ u. find (is_who u.who) ts ≡ Some u) (λ u. find (is_who u.who) (t ∷ ts) ≡ Some u) ts
+      (λ u apart found. ap (λ b. cond b (Some t) (find (is_who u.who) ts)) apart ∙ found) h.0 (distinct-found ts h.1),
+)
+
+-- another is found where one is left out
+left_other-step : (a b : Who) (z : Task) (zs : List Task) (c : Bool) → same_who a b ≡ false → is_who b z ≡ c → find (is_who a) (without (is_who b) zs) ≡ find (is_who a) zs
+    → find (is_who a) (cond (not c) (z ∷ without (is_who b) zs) (without (is_who b) zs)) ≡ find (is_who a) (z ∷ zs)
+left_other-step a b z zs true apart is onward =
+    let named : b ≡ z.who = same_who-path b z.who is in
+    onward ∙ sym (ap (λ k. cond k (Some z) (find (is_who a) zs)) (ap (same_who a) (sym named) ∙ apart))
+left_other-step a b z zs false apart is onward = ap (λ o. cond (is_who a z) (Some z) o) onward
+
+pub left-other : (a b : Who) (ts : List Task) → same_who a b ≡ false → find (is_who a) (without (is_who b) ts) ≡ find (is_who a) ts
+left-other a b [] apart = refl
+left-other a b (z ∷ zs) apart = left_other-step a b z zs (is_who b z) apart refl (left-other a b zs apart)
 
 -- ---- a task that has become abnormal
 

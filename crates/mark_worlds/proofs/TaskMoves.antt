@@ -1,7 +1,7 @@
 -- Edits of a task, and tasks that come and go, keep what is known of marks.
-use Rattle.std.proofs.Common.{◌≡◌, ◌⊎◌, inl, inr, ℕ, suc, ◌<◌, Bool, true, false, cond, eqb, ◌&&◌, ◌||◌, List, [], ◌∷◌, Option, Some, None, refl, sym, ap, subst, ◌∙◌, length, arith, eq-eqb}
+use Rattle.std.proofs.Common.{◌≡◌, ◌⊎◌, inl, inr, ℕ, suc, ◌<◌, Bool, true, false, cond, eqb, ◌&&◌, ◌||◌, List, [], ◌∷◌, ◌++◌, Option, Some, None, refl, sym, ap, subst, ◌∙◌, length, arith, eq-eqb}
 use Rattle.std.proofs.lemmas.Bool.{eqb-true, false≢true}
-use Rattle.std.specs.Prelude.{◌-◌}
+use Rattle.std.specs.Prelude.{◌-◌, find}
 use Rattle.ann_base.specs.declared.identities.CallNo.{CallNo}
 use Rattle.ann_base.specs.declared.identities.TaskNo.{TaskNo}
 use Rattle.trace_text.specs.declared.events.Who.{Who}
@@ -15,7 +15,7 @@ use Rattle.profile_machine.specs.declared.world.tasks.State.TheVariants.{Runnabl
 use Rattle.profile_machine.specs.declared.world.tasks.Waiting.{Waiting}
 use Rattle.profile_machine.specs.declared.world.tasks.Waiting.TheVariants as waits_for
 use Rattle.profile_machine.specs.Words.{same_who, same_call, first_of_list, option_or_else}
-use Rattle.profile_machine.specs.Tasks.{nobody, is_who, task_at, task_of, found_task, edit_task_found, edit_task, with_state, with_frames, waiting_in}
+use Rattle.profile_machine.specs.Tasks.{nobody, is_who, is_made, is_made_state, task_at, task_of, found_task, edit_task_found, edit_task, with_state, with_frames, waiting_in}
 use Rattle.profile_machine.specs.Frames.{frames_of, top_of, new_frame, edit_first, edit_top, push, pop, without_first}
 use Rattle.profile_machine.specs.Appointments.{is_trigger_of, is_appointed}
 use Rattle.profile_machine.specs.Unwinding.{struck_frame, edit_last, strike_outermost}
@@ -28,22 +28,23 @@ use Rattle.exclusion_laws.proofs.ObjectLists.{by_test}
 use Rattle.exit_laws.specs.ExitLaws.{is_at_call}
 use Rattle.exit_laws.proofs.TaskEdits.{one_of, one_of-is, same_who-path, edited, edited_to, added, gone}
 use Rattle.exit_laws.proofs.Steady.{FreeIn}
-use Rattle.mark_worlds.proofs.MarkFacts.{Calm, NoTrigger, Unappointed, Ends, CanTrigger, DrawnTo, AbnormalAs, Marked, AwaitsAt, AllTasks, RightMarks, WaitsOf, StruckRightly, FinalizesRightly, WaitsRightly, below_finalizes, finalizes_here, may_finalize, finalized_in, ends_call, nature, frame_at, triggered_part, top_awaits, GoodIn, GoodMarks, StillIn, Still}
+use Rattle.mark_worlds.proofs.MarkFacts.{Calm, NoTrigger, Unarmed, Unappointed, Ends, CanTrigger, DrawnTo, AbnormalAs, Marked, AwaitsAt, AllTasks, RightMarks, Distinct, WaitsOf, StruckRightly, FinalizesRightly, WaitsRightly, below_finalizes, finalizes_here, may_finalize, finalized_in, apart_in, own_scopes, is_clear_above, StandsAt, ends_call, nature, frame_at, triggered_part, top_awaits, GoodIn, GoodMarks, StillIn, Still}
 use Rattle.mark_worlds.proofs.TopLemmas.{same_self}
-use Rattle.mark_worlds.proofs.DepthLemmas.{awaits-pushed, of_call-found, of_call-awaits, frame-awaits}
+use Rattle.mark_worlds.proofs.DepthLemmas.{of_call-found, of_call-awaits, frame-awaits}
 use Rattle.mark_worlds.proofs.FrameEdits.{first-struck, first-finalizes, first-waits, first-awaits, pushed-struck, pushed-finalizes, pushed-waits, popped-struck, popped-finalizes, last-struck, last-marks, depth-marks, same_marks-awaits, same_marks-waits, same_marks-finalizes}
 use Rattle.mark_worlds.proofs.DepthEdits.{edited_part, depth-finalizes, other-awaits, edited-frame, part-triggered, triggered-struck, depth-struck, triggered-top, triggered-part, waited-struck}
-use Rattle.mark_worlds.proofs.TaskFacts.{all-found, all-set, all-filter, all-added, all-map, found-test, no_name}
+use Rattle.mark_worlds.proofs.StandingLemmas.{apart-own, apart-finalized, first-own, last-own, depth-own, edited_part-own, stands-same, stands-pushed, clear-below}
+use Rattle.mark_worlds.proofs.TaskFacts.{all-found, all-set, all-filter, all-added, all-map, distinct-set, distinct-filter, distinct-added, left-other, found-test, no_name}
 
 -- the world behind is good, and what was drawn or abnormal stays so
 abbrev pub LeadsTo : StepRelation
 LeadsTo w xs v = GoodMarks v × Still w v
 
 pub still-same : (w : World) → Still w w
-still-same w = record { more = omega arith; marked = λ n h. h }
+still-same w = record { more = omega arith; marked = λ n h. h; fewer = λ n d h. h }
 
 pub still-then : (a b c : World) → Still a b → Still b c → Still a c
-still-then a b c h k = let low = h.more in let high = k.more in record { more = omega (arith, low, high); marked = λ n m. k.marked n (h.marked n m) }
+still-then a b c h k = let low = h.more in let high = k.more in record { more = omega (arith, low, high); marked = λ n m. k.marked n (h.marked n m); fewer = λ n d none. k.fewer n d (h.fewer n d none) }
 
 pub stays-good : (w : World) → GoodMarks w → LeadsTo w [] w
 stays-good w good = (good, still-same w)
@@ -63,7 +64,12 @@ edited_agent P name f w None e h g = h
 edited_agent P (who.Task k) f w (Some t) e h g = h
 edited_agent P who.Agent f w (Some t) e h g = let same : w.agent ≡ t = cc in g t refl (subst P same h)
 
-as_found : (name : Who) (f : Task → Task) (w : World) (found : Option Task) → let v = edit_task_found name f w found in GoodIn v.tasks v.agent w.appointments w.registered w.drawn.tasks w.drawn.controlled → StillIn w.drawn.tasks w.tasks w.agent w.drawn.tasks v.tasks v.agent → LeadsTo w [] v
+edited_single : (name : Who) (f : Task → Task) (w : World) (found : Option Task) → task_at w name ≡ found → ((t : Task) → (f t).who ≡ t.who) → Distinct w.tasks → Distinct (edit_task_found name f w found).tasks
+edited_single name f w None e named h = h
+edited_single (who.Task k) f w (Some t) e named h = distinct-set (is_who (who.Task k)) (f t) t w.tasks (named t) h e
+edited_single who.Agent f w (Some t) e named h = h
+
+as_found : (name : Who) (f : Task → Task) (w : World) (found : Option Task) → let v = edit_task_found name f w found in GoodIn v.tasks v.agent w.appointments w.registered w.drawn.tasks w.drawn.controlled → StillIn w.drawn.tasks w.tasks w.agent w.appointments w.drawn.tasks v.tasks v.agent w.appointments → LeadsTo w [] v
 as_found name f w None g s = (g, s)
 as_found (who.Task k) f w (Some t) g s = (g, s)
 as_found who.Agent f w (Some t) g s = (g, s)
@@ -73,7 +79,8 @@ pub record KeepsMarks (name : Who) (f : Task → Task) (w : World) : Type 0 wher
   pub named : (t : Task) → (f t).who ≡ t.who
   pub marks : (t : Task) → task_at w name ≡ Some t → RightMarks w.registered w.drawn.controlled t → RightMarks w.registered w.drawn.controlled (f t)
   pub waits : (k : TaskNo) → name ≡ who.Task k → (t : Task) → task_at w name ≡ Some t → WaitsOf t → WaitsOf (f t)
-  pub awaits : (n : TaskNo) (d : ℕ) → is_appointed (is_trigger_of n d) w ≡ true → same_who (who.Task n) name ≡ true → (t : Task) → t.frames ≡ frames_of w name → awaits_trigger_at d t.frames ≡ true → awaits_trigger_at d (f t).frames ≡ true
+  pub awaits : (n : TaskNo) (d : ℕ) → is_appointed (is_trigger_of n d) w ≡ true → same_who (who.Task n) name ≡ true → (t : Task) → t.frames ≡ frames_of w name → StandsAt d t.frames → StandsAt d (f t).frames
+  pub begun : (t : Task) → is_made t ≡ false → is_made (f t) ≡ false
   pub abnormal : (t : Task) → t.abnormal ≡ true → (f t).abnormal ≡ true
 
 module _ (name : Who) (f : Task → Task) (w : World) (keeps : KeepsMarks name f w) (good : GoodMarks w) where
@@ -92,16 +99,18 @@ module _ (name : Who) (f : Task → Task) (w : World) (keeps : KeepsMarks name f
     triggers = λ n d is.
         let k = good.triggers n d is in (
           k.0,
-          edited_to (λ t. (same_who (who.Task n) name ≡ true → t.frames ≡ frames_of w name) × AwaitsAt n d t) (AwaitsAt n d) (who.Task n) name f w keeps.named
-              (λ same t g e. keeps.awaits n d is same t (g.0 same) (g.1 (still-named n t e))) (λ apart t g. g.1) (λ g. g.1) (frames-known n, k.1),
+          edited_to (λ t. (same_who (who.Task n) name ≡ true → t.frames ≡ frames_of w name) × AwaitsAt d t) (AwaitsAt d) (who.Task n) name f w keeps.named
+              (λ same t g. (keeps.awaits n d is same t (g.0 same) g.1.0, keeps.begun t g.1.1)) (λ apart t g. g.1) (λ g. g.1) (frames-known n, k.1),
         );
+    single = edited_single name f w (task_at w name) refl keeps.named good.single;
     objects = good.objects;
   }
 
-  still : let v = edit_task name f w in StillIn w.drawn.tasks w.tasks w.agent w.drawn.tasks v.tasks v.agent
+  still : let v = edit_task name f w in StillIn w.drawn.tasks w.tasks w.agent w.appointments w.drawn.tasks v.tasks v.agent w.appointments
   still = record {
     more = omega arith;
     marked = λ n h. (h.0, edited (AbnormalAs n) (who.Task n) name f w keeps.named (λ same t g e. keeps.abnormal t (g (still-named n t e))) h.1);
+    fewer = λ n d h. h;
   }
 
   pub edit-leads : LeadsTo w [] (edit_task name f w)
@@ -123,7 +132,8 @@ task-leads name f w good named frames state abnormal = edit-leads name f w (reco
   named = named;
   marks = λ t e h. right-same w.registered w.drawn.controlled t (f t) (frames t) (abnormal t) h;
   waits = λ k is t e h. waits-same t (f t) (frames t) (state t) h;
-  awaits = λ n d is same t e h. ap (awaits_trigger_at d) (frames t) ∙ h;
+  awaits = λ n d is same t e h. subst (StandsAt d) (sym (frames t)) h;
+  begun = λ t e. ap is_made_state (state t) ∙ e;
   abnormal = λ t e. abnormal t ∙ e;
 }) good
 
@@ -143,6 +153,7 @@ abort-leads name w good = edit-leads name abnormal_task w (record {
   marks = λ t e h. record { struck = struck-abnormal t.abnormal t.frames h.struck; finalizes = h.finalizes };
   waits = λ k is t e h. h;
   awaits = λ n d is same t e h. h;
+  begun = λ t e. e;
   abnormal = λ t e. refl;
 }) good
 
@@ -157,6 +168,7 @@ runnable-leads name w good = edit-leads name (with_state Runnable) w (record {
   marks = λ t e h. record { struck = h.struck; finalizes = h.finalizes };
   waits = λ k is t e h. no_wait t.frames;
   awaits = λ n d is same t e h. h;
+  begun = λ t e. refl;
   abnormal = λ t e. e;
 }) good
 
@@ -170,6 +182,7 @@ blocked-leads name waiting w good no_end = edit-leads name (with_state (Blocked 
   marks = λ t e h. record { struck = h.struck; finalizes = h.finalizes };
   waits = λ k is t e h c at. absurd (not_at_end c waiting no_end at);
   awaits = λ n d is same t e h. h;
+  begun = λ t e. refl;
   abnormal = λ t e. e;
 }) good
 
@@ -193,6 +206,7 @@ waiting-leads name f c w good top no_trigger of_call untriggered = edit-leads na
   marks = λ t e h. record { struck = h.struck; finalizes = h.finalizes };
   waits = λ k is t e h d at. top-waits c d f t.frames (top-here w name t f e top) no_trigger of_call untriggered at;
   awaits = λ n d is same t e h. h;
+  begun = λ t e. refl;
   abnormal = λ t e. e;
 }) good
 
@@ -203,16 +217,18 @@ top-leads name f w good same alike = edit-leads name (λ t. with_frames (edit_fi
   named = λ t. refl;
   marks = λ t e h. record { struck = first-struck f same alike t.abnormal t.frames h.struck; finalizes = first-finalizes f same alike w.registered w.drawn.controlled t.frames h.finalizes };
   waits = λ k is t e h. first-waits f same alike (waiting_in t.state) t.frames h;
-  awaits = λ n d is one t e h. first-awaits f same alike d t.frames ∙ h;
+  awaits = λ n d is one t e h. stands-same d t.frames (edit_first f t.frames) (first-awaits f same alike d t.frames) (first-own f same t.frames) h;
+  begun = λ t e. e;
   abnormal = λ t e. e;
 }) good
 
-pub push-leads : (name : Who) (f : Frame) (w : World) → GoodMarks w → f.struck ≡ false → finalized_in f.mark ≡ None → awaits_trigger f.mark ≡ false → is_triggered f.mark ≡ false → LeadsTo w [] (push name f w)
-push-leads name f w good plain no_final no_trigger untriggered = edit-leads name (λ t. with_frames (f ∷ t.frames) t) w (record {
+pub push-leads : (name : Who) (f : Frame) (w : World) → GoodMarks w → f.struck ≡ false → apart_in f.mark ≡ None → awaits_trigger f.mark ≡ false → is_triggered f.mark ≡ false → LeadsTo w [] (push name f w)
+push-leads name f w good plain common no_trigger untriggered = edit-leads name (λ t. with_frames (f ∷ t.frames) t) w (record {
   named = λ t. refl;
-  marks = λ t e h. record { struck = pushed-struck f plain t.abnormal t.frames h.struck; finalizes = pushed-finalizes f no_final w.registered w.drawn.controlled t.frames h.finalizes };
+  marks = λ t e h. record { struck = pushed-struck f plain t.abnormal t.frames h.struck; finalizes = pushed-finalizes f (apart-finalized f.mark common) w.registered w.drawn.controlled t.frames h.finalizes };
   waits = λ k is t e h. pushed-waits f no_trigger untriggered (waiting_in t.state) t.frames h;
-  awaits = λ n d is same t e h. awaits-pushed d f t.frames h;
+  awaits = λ n d is same t e h. stands-pushed d f t.frames (apart-own f.mark common) h;
+  begun = λ t e. e;
   abnormal = λ t e. e;
 }) good
 
@@ -227,12 +243,28 @@ calm-waits name w k t fs calm is e c at =
     let none : is_at_call (waiting_in t.state) ≡ false = subst (λ n. FreeIn n t.state) is free in
     absurd (false≢true (sym none ∙ at_end-call c (waiting_in t.state) at))
 
-pub part-leads : (name : Who) (f : Frame) (w : World) → GoodMarks w → Calm name w → f.struck ≡ false → finalized_in f.mark ≡ None → LeadsTo w [] (push name f w)
-part-leads name f w good calm plain no_final = edit-leads name (λ t. with_frames (f ∷ t.frames) t) w (record {
+pub part-leads : (name : Who) (f : Frame) (w : World) → GoodMarks w → Calm name w → f.struck ≡ false → apart_in f.mark ≡ None → LeadsTo w [] (push name f w)
+part-leads name f w good calm plain common = edit-leads name (λ t. with_frames (f ∷ t.frames) t) w (record {
+  named = λ t. refl;
+  marks = λ t e h. record { struck = pushed-struck f plain t.abnormal t.frames h.struck; finalizes = pushed-finalizes f (apart-finalized f.mark common) w.registered w.drawn.controlled t.frames h.finalizes };
+  waits = λ k is t e h. calm-waits name w k t (f ∷ t.frames) calm is e;
+  awaits = λ n d is same t e h. stands-pushed d f t.frames (apart-own f.mark common) h;
+  begun = λ t e. e;
+  abnormal = λ t e. e;
+}) good
+
+-- a task's own scope is opened where no trigger is appointed for it
+armed-not : {P : Type 0} (n : TaskNo) (d : ℕ) (name : Who) (w : World) → Unarmed name w → same_who (who.Task n) name ≡ true → is_appointed (is_trigger_of n d) w ≡ true → P
+armed-not n d name w none same is =
+    let here : Unarmed (who.Task n) w = subst (λ x. Unarmed x w) (sym (same_who-path (who.Task n) name same)) none in absurd (false≢true (sym (here d) ∙ is))
+
+pub own_scope-leads : (name : Who) (f : Frame) (w : World) → GoodMarks w → Unarmed name w → f.struck ≡ false → finalized_in f.mark ≡ None → awaits_trigger f.mark ≡ false → is_triggered f.mark ≡ false → LeadsTo w [] (push name f w)
+own_scope-leads name f w good none plain no_final no_trigger untriggered = edit-leads name (λ t. with_frames (f ∷ t.frames) t) w (record {
   named = λ t. refl;
   marks = λ t e h. record { struck = pushed-struck f plain t.abnormal t.frames h.struck; finalizes = pushed-finalizes f no_final w.registered w.drawn.controlled t.frames h.finalizes };
-  waits = λ k is t e h. calm-waits name w k t (f ∷ t.frames) calm is e;
-  awaits = λ n d is same t e h. awaits-pushed d f t.frames h;
+  waits = λ k is t e h. pushed-waits f no_trigger untriggered (waiting_in t.state) t.frames h;
+  awaits = λ n d is same t e h. armed-not n d name w none same is;
+  begun = λ t e. e;
   abnormal = λ t e. e;
 }) good
 
@@ -248,23 +280,24 @@ finalize-leads name n g w good top here = edit-leads name (λ t. with_frames (ne
     finalizes = ((λ m same. let one : n ≡ m = cc in subst (λ k. below_finalizes w.registered w.drawn.controlled k t.frames ≡ true) one (below-top w.registered w.drawn.controlled n g t.frames (top-here w name t g e top) here)), h.finalizes);
   };
   waits = λ k is t e h. pushed-waits (new_frame (InFinalize n) None) refl refl (waiting_in t.state) t.frames h;
-  awaits = λ m d is same t e h. awaits-pushed d (new_frame (InFinalize n) None) t.frames h;
+  awaits = λ m d is same t e h. stands-pushed d (new_frame (InFinalize n) None) t.frames refl h;
+  begun = λ t e. e;
   abnormal = λ t e. e;
 }) good
 
-popped-step : (b : Bool) (d : ℕ) (x : Frame) (xs : List Frame) → eqb (length xs) d ≡ b → ((awaits_trigger x.mark ≡ false) ⊎ (eqb d (length xs) ≡ false)) → cond b (awaits_trigger x.mark) (awaits_trigger_at d xs) ≡ true → awaits_trigger_at d xs ≡ true
-popped-step true d x xs here (inl no_trigger) h = absurd (false≢true (sym no_trigger ∙ h))
-popped-step true d x xs here (inr apart) h = absurd (false≢true (sym apart ∙ eq-eqb d (length xs) (sym (eqb-true (length xs) d here))))
-popped-step false d x xs here ends h = h
+popped-step : (b : Bool) (d : ℕ) (x : Frame) (xs : List Frame) → eqb (length xs) d ≡ b → ((awaits_trigger x.mark ≡ false) ⊎ (eqb d (length xs) ≡ false)) → cond b (awaits_trigger x.mark) (awaits_trigger_at d xs) ≡ true → is_clear_above d (own_scopes (x ∷ xs)) ≡ true → StandsAt d xs
+popped-step true d x xs here (inl no_trigger) h clear = absurd (false≢true (sym no_trigger ∙ h))
+popped-step true d x xs here (inr apart) h clear = absurd (false≢true (sym apart ∙ eq-eqb d (length xs) (sym (eqb-true (length xs) d here))))
+popped-step false d x xs here ends h clear = (h, clear-below d x xs here clear)
 
 one-less : (n : ℕ) → suc n - 1 ≡ n
 one-less n = omega arith
 
-popped-awaits : (d : ℕ) (f : Frame) (fs : List Frame) → first_of_list fs ≡ Some f → ((awaits_trigger f.mark ≡ false) ⊎ (eqb d (length fs - 1) ≡ false)) → awaits_trigger_at d fs ≡ true → awaits_trigger_at d (without_first fs) ≡ true
+popped-awaits : (d : ℕ) (f : Frame) (fs : List Frame) → first_of_list fs ≡ Some f → ((awaits_trigger f.mark ≡ false) ⊎ (eqb d (length fs - 1) ≡ false)) → StandsAt d fs → StandsAt d (without_first fs)
 popped-awaits d f [] top ends h = cc
 popped-awaits d f (x ∷ xs) top ends h =
     let one : f ≡ x = cc in
-    popped-step (eqb (length xs) d) d x xs refl (subst (λ (y : Frame). (awaits_trigger y.mark ≡ false) ⊎ (eqb d (length xs) ≡ false)) one (subst (λ n. (awaits_trigger f.mark ≡ false) ⊎ (eqb d n ≡ false)) (one-less (length xs)) ends)) h
+    popped-step (eqb (length xs) d) d x xs refl (subst (λ (y : Frame). (awaits_trigger y.mark ≡ false) ⊎ (eqb d (length xs) ≡ false)) one (subst (λ n. (awaits_trigger f.mark ≡ false) ⊎ (eqb d n ≡ false)) (one-less (length xs)) ends)) h.0 h.1
 
 -- a trigger that is appointed names no mark that ends
 other_depth : (n : TaskNo) (d : ℕ) (name : Who) (w : World) → same_who (who.Task n) name ≡ true → is_appointed (is_trigger_of n d) w ≡ true → Unappointed name w → eqb d (length (frames_of w name) - 1) ≡ false
@@ -287,6 +320,7 @@ pop-leads name f w good top ends = edit-leads name (λ t. with_frames (without_f
   waits = λ k is t e h. calm-waits name w k t (without_first t.frames) ends.1 is e;
   awaits = λ n d is same t frames h.
       popped-awaits d f t.frames (ap first_of_list frames ∙ top) (subst (λ fs. (awaits_trigger f.mark ≡ false) ⊎ (eqb d (length fs - 1) ≡ false)) (sym frames) (ends-at n d name f w same is ends.0)) h;
+  begun = λ t e. e;
   abnormal = λ t e. e;
 }) good
 
@@ -302,7 +336,8 @@ strike-leads n w good marked = edit-leads (who.Task n) (λ t. with_frames (edit_
         finalizes = same_marks-finalizes w.registered w.drawn.controlled (edit_last struck_frame t.frames) t.frames (last-marks t.frames) h.finalizes;
       };
   waits = λ k is t e h. same_marks-waits (waiting_in t.state) (edit_last struck_frame t.frames) t.frames (last-marks t.frames) h;
-  awaits = λ m d is same t e h. same_marks-awaits d (edit_last struck_frame t.frames) t.frames (last-marks t.frames) ∙ h;
+  awaits = λ m d is same t e h. stands-same d t.frames (edit_last struck_frame t.frames) (same_marks-awaits d (edit_last struck_frame t.frames) t.frames (last-marks t.frames)) (last-own t.frames) h;
+  begun = λ t e. e;
   abnormal = λ t e. e;
 }) good
 
@@ -328,7 +363,8 @@ module _ (n : TaskNo) (depth : ℕ) (w : World) (good : GoodMarks w) where
         named = λ t. refl;
         marks = λ t e h. record { struck = triggered-struck depth t.abnormal t.frames h.struck; finalizes = depth-finalizes triggered_mark w.registered w.drawn.controlled depth t.frames h.finalizes };
         waits = λ k is t e h c at. let r = h c at in let m = can t e in (triggered-top depth t.frames r.0, triggered-part c depth m.frame t.frames (m.unawaited c at) m.found ∙ r.1);
-        awaits = λ m d is same t e h. other-awaits depth d (edited_part triggered_mark) t.frames (other_trigger n m d depth w same is may.unappointed) ∙ h;
+        awaits = λ m d is same t e h. stands-same d t.frames (edit_depth depth (edited_part triggered_mark) t.frames) (other-awaits depth d (edited_part triggered_mark) t.frames (other_trigger n m d depth w same is may.unappointed)) (edited_part-own depth triggered_mark t.frames) h;
+        begun = λ t e. e;
         abnormal = λ t e. e;
       }) good
 
@@ -341,7 +377,8 @@ module _ (n : TaskNo) (depth : ℕ) (w : World) (good : GoodMarks w) where
       finalizes = same_marks-finalizes w.registered w.drawn.controlled (edit_depth depth struck_frame t.frames) t.frames (depth-marks depth t.frames) h.finalizes;
     };
     waits = λ k is t e h. same_marks-waits (waiting_in t.state) (edit_depth depth struck_frame t.frames) t.frames (depth-marks depth t.frames) h;
-    awaits = λ m d is same t e h. same_marks-awaits d (edit_depth depth struck_frame t.frames) t.frames (depth-marks depth t.frames) ∙ h;
+    awaits = λ m d is same t e h. stands-same d t.frames (edit_depth depth struck_frame t.frames) (same_marks-awaits d (edit_depth depth struck_frame t.frames) t.frames (depth-marks depth t.frames)) (depth-own depth struck_frame (λ x. refl) t.frames) h;
+    begun = λ t e. e;
     abnormal = λ t e. e;
   }) good
 
@@ -388,8 +425,11 @@ waited-leads c n depth b w good calm found untriggered = edit-leads (who.Task n)
       };
   waits = λ k is t e h. calm-waits (who.Task n) w k t (edit_depth depth (edited_part (waited_mark b)) t.frames) calm is e;
   awaits = λ m d is same t frames h.
-      other-awaits depth d (edited_part (waited_mark b)) t.frames
-      (by_test (eqb d depth) (λ e. absurd (false≢true (sym (subst (λ k. awaits_trigger_at k t.frames ≡ false) (sym (eqb-true d depth e)) (call_no_trigger c depth t.frames (ap (depth_of_abortable c) frames ∙ found))) ∙ h))) (λ e. e)) ∙ h;
+      stands-same d t.frames (edit_depth depth (edited_part (waited_mark b)) t.frames)
+      (other-awaits depth d (edited_part (waited_mark b)) t.frames
+      (by_test (eqb d depth) (λ e. absurd (false≢true (sym (subst (λ k. awaits_trigger_at k t.frames ≡ false) (sym (eqb-true d depth e)) (call_no_trigger c depth t.frames (ap (depth_of_abortable c) frames ∙ found))) ∙ h.0))) (λ e. e)))
+      (edited_part-own depth (waited_mark b) t.frames) h;
+  begun = λ t e. e;
   abnormal = λ t e. e;
 }) good
 
@@ -403,6 +443,22 @@ new-name : {P : Type 0} (n : TaskNo) (t : Task) (drawn : ℕ) → t.who ≡ who.
 new-name n t drawn is low e =
     absurd (let same : n.0 ≡ drawn = eqb-true n.0 drawn (sym (ap (same_who (who.Task n)) is) ∙ e) in omega (arith, same, low))
 
+-- it is another than those that were drawn
+new-apart : (drawn : ℕ) (name : Who) → DrawnTo drawn name → same_who (who.Task (record { 0 = drawn })) name ≡ false
+new-apart drawn (who.Task n) low = by_test (eqb drawn n.0) (λ e. absurd (let same : drawn ≡ n.0 = eqb-true drawn n.0 e in omega (arith, same, low))) (λ e. e)
+new-apart drawn who.Agent low = refl
+
+found_added-step : (b : Bool) (test : Task → Bool) (z x : Task) (zs : List Task) → find test (zs ++ x ∷ []) ≡ find test zs → cond b (Some z) (find test (zs ++ x ∷ [])) ≡ cond b (Some z) (find test zs)
+found_added-step true test z x zs onward = refl
+found_added-step false test z x zs onward = onward
+
+found-added : (test : Task → Bool) (x : Task) (ts : List Task) → test x ≡ false → find test (ts ++ x ∷ []) ≡ find test ts
+found-added test x [] e = ap (λ b. cond b (Some x) None) e
+found-added test x (z ∷ zs) e = found_added-step (test z) test z x zs (found-added test x zs e)
+
+added-other : (n : TaskNo) (t : Task) (w : World) → t.who ≡ who.Task (record { 0 = w.drawn.tasks }) → n.0 < w.drawn.tasks → one_of (w.tasks ++ t ∷ []) w.agent (who.Task n) ≡ one_of w.tasks w.agent (who.Task n)
+added-other n t w is low = ap (λ o. option_or_else o nobody) (found-added (is_who (who.Task n)) t w.tasks (by_test (is_who (who.Task n) t) (λ e. new-name n t w.drawn.tasks is low e) (λ e. e)))
+
 pub added-leads : (t : Task) (w : World) → GoodMarks w → t.who ≡ who.Task (record { 0 = w.drawn.tasks }) → t.frames ≡ [] → LeadsTo w [] (add_task t w)
 added-leads t w good is none = (
   record {
@@ -413,27 +469,35 @@ added-leads t w good is none = (
     numbers = all-added (λ u. DrawnTo (suc w.drawn.tasks) u.who) t w.tasks (subst (DrawnTo (suc w.drawn.tasks)) (sym is) (omega arith))
         (all-map (λ u. DrawnTo w.drawn.tasks u.who) (λ u. DrawnTo (suc w.drawn.tasks) u.who) w.tasks (λ u low. later-drawn w.drawn.tasks u.who low) good.numbers);
     triggers = λ n d a. let k = good.triggers n d a in let low = k.0 in
-        (omega (arith, low), added (AwaitsAt n d) (who.Task n) t w.tasks w.agent (λ e. new-name n t w.drawn.tasks is low e) (λ e. no_name n e) k.1);
+        (omega (arith, low), subst (AwaitsAt d) (sym (added-other n t w is low)) k.1);
+    single = distinct-added t w.tasks (all-map (λ u. DrawnTo w.drawn.tasks u.who) (λ u. same_who t.who u.who ≡ false) w.tasks (λ u low. ap (λ name. same_who name u.who) is ∙ new-apart w.drawn.tasks u.who low) good.numbers) good.single;
     objects = good.objects;
   },
   record {
     more = omega arith;
     marked = λ n h. let low = h.0 in (omega (arith, low), added (AbnormalAs n) (who.Task n) t w.tasks w.agent (λ e. new-name n t w.drawn.tasks is low e) (λ e. no_name n e) h.1);
+    fewer = λ n d h. h;
   },
 )
 
-pub forgotten-leads : (name : Who) (w : World) → GoodMarks w → LeadsTo w [] (forget_task name w)
-forgotten-leads name w good = (
+-- one for whom no trigger is appointed goes
+pub forgotten-leads : (name : Who) (w : World) → GoodMarks w → Unarmed name w → LeadsTo w [] (forget_task name w)
+forgotten-leads name w good none = (
   record {
     tasks_right = all-filter (RightMarks w.registered w.drawn.controlled) _ w.tasks good.tasks_right;
     agent_right = good.agent_right;
     waits = all-filter WaitsOf _ w.tasks good.waits;
     numbers = all-filter (λ u. DrawnTo w.drawn.tasks u.who) _ w.tasks good.numbers;
-    triggers = λ n d a. let k = good.triggers n d a in (k.0, gone (AwaitsAt n d) (who.Task n) name w.tasks w.agent (λ e. no_name n e) k.1);
+    triggers = λ n d a.
+        let k = good.triggers n d a in
+        let apart : same_who (who.Task n) name ≡ false = by_test (same_who (who.Task n) name) (λ same. armed-not n d name w none same a) (λ e. e) in
+        (k.0, subst (AwaitsAt d) (sym (ap (λ o. option_or_else o nobody) (left-other (who.Task n) name w.tasks apart))) k.1);
+    single = distinct-filter _ w.tasks good.single;
     objects = good.objects;
   },
   record {
     more = omega arith;
     marked = λ n h. (h.0, gone (AbnormalAs n) (who.Task n) name w.tasks w.agent (λ e. no_name n e) h.1);
+    fewer = λ n d h. h;
   },
 )

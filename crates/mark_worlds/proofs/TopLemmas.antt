@@ -11,13 +11,13 @@ use Rattle.profile_machine.specs.declared.world.tasks.Task.{Task}
 use Rattle.profile_machine.specs.declared.world.tasks.State.TheVariants.{Runnable}
 use Rattle.profile_machine.specs.Words.{same_who, first_of_list}
 use Rattle.profile_machine.specs.Program.{is_robin_level, edf_low}
-use Rattle.profile_machine.specs.Tasks.{nobody, task_of, edit_task, with_state, with_frames}
+use Rattle.profile_machine.specs.Tasks.{nobody, is_made_state, task_of, edit_task, with_state, with_frames}
 use Rattle.profile_machine.specs.Dispatching.{active, level_kept_by, keep_level, granted, grant_quantum}
 use Rattle.profile_machine.specs.Frames.{frames_of, top_of, edit_first, edit_top, push}
 use Rattle.exit_laws.proofs.TaskEdits.{one_of-is, edited_to}
 use Rattle.exit_laws.proofs.Steady.{FreeIn}
 use Rattle.exit_laws.proofs.Kept.Dispatching.{full_quantum-who, full_quantum-frames, full_quantum-state}
-use Rattle.mark_worlds.proofs.MarkFacts.{Calm}
+use Rattle.mark_worlds.proofs.MarkFacts.{Calm, HasBegun, Begun}
 
 pub same_self : (a : Who) → same_who a a ≡ true
 same_self who.Agent = refl
@@ -70,6 +70,11 @@ free-nobody who.Agent = tt
 pub calm_edited : (name : Who) (f : Task → Task) (w : World) → ((t : Task) → (f t).who ≡ t.who) → ((t : Task) → (f t).state ≡ t.state) → Calm name w → Calm name (edit_task name f w)
 calm_edited name f w named same h =
     at_same (λ t. FreeIn name t.state) (λ t. FreeIn name t.state) name f w named (λ t g. subst (FreeIn name) (sym (same t)) g) (λ g. g) h
+
+-- who is there has begun, as before
+pub begun_edited : (name : Who) (f : Task → Task) (w : World) → ((t : Task) → (f t).who ≡ t.who) → ((t : Task) → (f t).state ≡ t.state) → Begun name w → Begun name (edit_task name f w)
+begun_edited name f w named same h =
+    at_same (HasBegun name) (HasBegun name) name f w named (λ t g is. ap is_made_state (same t) ∙ g (sym (ap (same_who name) (named t)) ∙ is)) (λ g. g) h
 
 pub calm_runnable : (name : Who) (w : World) → Calm name (edit_task name (with_state Runnable) w)
 calm_runnable name w =

@@ -24,7 +24,7 @@ use Rattle.profile_machine.specs.declared.world.lines.Said.{Said}
 use Rattle.profile_machine.specs.Words.{same_call, same_bool, is_the, first_of_list, option_or_else}
 use Rattle.profile_machine.specs.declared.world.lines.Line.TheVariants as line
 use Rattle.profile_machine.specs.Steps.{Step, says, changes, ◌▷◌}
-use Rattle.profile_machine.specs.Tasks.{nobody, is_who, task_at, task_of, found_task, edit_task, with_frames, waiting_in, waiting_of}
+use Rattle.profile_machine.specs.Tasks.{nobody, is_who, is_made, task_at, task_of, found_task, edit_task, with_frames, waiting_in, waiting_of}
 use Rattle.profile_machine.specs.Frames.{frames_of, top_of, with_mark}
 use Rattle.profile_machine.specs.Appointments.{is_trigger_of, is_timeout_of, is_appointed, is_an_event, drop_appointment, first_due}
 use Rattle.profile_machine.specs.Calls.{is_call, edit_call, edit_queue, unqueued, take_call, place_of_entry, is_cancellable, attempt_on}
@@ -36,10 +36,11 @@ use Rattle.std.specs.Prelude.{find, int_le, pos}
 use Rattle.exclusion_laws.proofs.ObjectLists.{by_test}
 use Rattle.exit_laws.proofs.TaskEdits.{one_of, one_of-is, edited}
 use Rattle.exit_laws.proofs.Steady.{FreeIn}
-use Rattle.mark_worlds.proofs.MarkFacts.{Calm, Unappointed, CanTrigger, GoodMarks, WaitsOf, top_awaits}
+use Rattle.mark_worlds.proofs.MarkFacts.{AllTasks, Calm, Unarmed, Unappointed, CanTrigger, GoodMarks, WaitsOf, is_own_scope, top_awaits}
+use Rattle.mark_worlds.proofs.StandingLemmas.{own_top-stands}
 use Rattle.mark_worlds.proofs.TopLemmas.{at_same, calm_edited}
 use Rattle.mark_worlds.proofs.DepthLemmas.{waited-top, of_call-found, of_call-awaits, of_call-part, awaits-found, awaits-part, awaits-uncalled, frame-awaits}
-use Rattle.mark_worlds.proofs.TaskFacts.{all-found, found-test, found-any, none-without}
+use Rattle.mark_worlds.proofs.TaskFacts.{all-found, all-map, distinct-found, found-test, found-any, none-without}
 use Rattle.mark_worlds.proofs.Kept.Combinators.{world_behind}
 
 -- ---- somebody
@@ -127,9 +128,23 @@ waited-calm name depth b v h = calm_edited name _ v (λ t. refl) (λ t. refl) h
 -- an appointed trigger is one of a part that awaits it
 appointed-awaits : (w : World) → GoodMarks w → (t : TaskNo) (depth : ℕ) (u : Task) → task_at w (who.Task t) ≡ Some u → is_appointed (is_trigger_of t depth) w ≡ true → awaits_trigger_at depth u.frames ≡ true
 appointed-awaits w good t depth u found is =
-    let awaits = (good.triggers t depth is).1 in
     let same : one_of w.tasks w.agent (who.Task t) ≡ u = ap (λ o. option_or_else o nobody) found in
-    subst (λ (x : Task). is_who (who.Task t) x ≡ true → awaits_trigger_at depth x.frames ≡ true) same awaits (found-test (is_who (who.Task t)) u w.tasks found)
+    subst (λ (x : Task). awaits_trigger_at depth x.frames ≡ true) same (good.triggers t depth is).1.0.0
+
+-- for who is only made no trigger is appointed
+made-case : (w : World) → GoodMarks w → (name : Who) (t : Task) → find (is_who name) w.tasks ≡ Some t → is_made t ≡ true → Unarmed name w
+made-case w good who.Agent t found made = tt
+made-case w good (who.Task n) t found made = λ d.
+    by_test (is_appointed (is_trigger_of n d) w) (λ e. absurd (false≢true (sym (good.triggers n d e).1.1 ∙ ap (λ o. is_made (option_or_else o nobody)) found ∙ made))) (λ e. e)
+
+pub made-unarmed : (w : World) → GoodMarks w → AllTasks (λ t. is_made t ≡ true → Unarmed t.who w) w.tasks
+made-unarmed w good = all-map (λ t. find (is_who t.who) w.tasks ≡ Some t) (λ t. is_made t ≡ true → Unarmed t.who w) w.tasks (λ t found made. made-case w good t.who t found made) (distinct-found w.tasks good.single)
+
+-- nor for whose own scope is on top
+pub own_scope-unarmed : (w : World) → GoodMarks w → (name : Who) (f : Frame) → top_of w name ≡ Some f → is_own_scope f.mark ≡ true → Unarmed name w
+own_scope-unarmed w good who.Agent f top own = tt
+own_scope-unarmed w good (who.Task n) f top own = λ d.
+    by_test (is_appointed (is_trigger_of n d) w) (λ e. absurd (own_top-stands d f (frames_of w (who.Task n)) top own (good.triggers n d e).1.0)) (λ e. e)
 
 -- a call has one number
 one_call : (c d : CallNo) (call : Option CallNo) → is_the same_call call c ≡ true → is_the same_call call d ≡ true → c.0 ≡ d.0

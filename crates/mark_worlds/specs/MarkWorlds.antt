@@ -1,4 +1,4 @@
--- The marks of every world that a run reaches (7.6.1, 9.7.4, 9.8).
+-- The marks of every world that a run reaches, and the triggers that are set for them (7.6.1, 9.7.4, 9.8).
 use Rattle.std.specs.Prelude.{IsTrue, ℕ, ℤ, Bool, true, false, ◌&&◌, List, [], ◌∷◌, eqb, is_some}
 use Rattle.std.specs.List.{list_all}
 use Rattle.profile_machine.specs.declared.image.Image.{Image}
@@ -8,8 +8,10 @@ use Rattle.profile_machine.specs.declared.world.marks.Frame.{Frame}
 use Rattle.profile_machine.specs.declared.world.marks.Mark.{Mark}
 use Rattle.profile_machine.specs.declared.world.marks.Mark.TheVariants.{Scope, Handled, InProtected, InAccept, Abortable, InInitialize, InFinalize, InAssign}
 use Rattle.profile_machine.specs.declared.world.tasks.Task.{Task}
+use Rattle.profile_machine.specs.declared.world.appointments.Due.{Due}
+use Rattle.profile_machine.specs.declared.world.appointments.Due.TheVariants as due_for
 use Rattle.profile_machine.specs.Controlled.{registered_object}
-use Rattle.profile_machine.specs.WellFormed.{everybody, is_struck_rightly, finalizes_on, marks_are_right}
+use Rattle.profile_machine.specs.WellFormed.{everybody, is_awaited, is_struck_rightly, finalizes_on, marks_are_right}
 use Rattle.machine_laws.specs.Reached.{Reached}
 
 -- ---- what is struck
@@ -100,3 +102,16 @@ targets_stay w = list_all (λ t. targets_of_frames_stay w t.frames) (everybody w
 -- where the object of each Finalize of an assignment is registered, the marks of a reached world are right
 abbrev pub ReachedMarksAreRightWhereTargetsStay : Type 0
 ReachedMarksAreRightWhereTargetsStay = (p : Image) (script : List (ℤ × Item)) (bound : ℕ) (w : World) → Reached p script bound w → IsTrue (targets_stay w) → IsTrue (marks_are_right w)
+
+-- ---- what triggers are set for
+
+-- a trigger that is appointed is awaited; of other appointments nothing is asked
+abbrev pub trigger_is_awaited : Image → World → Due → Bool
+trigger_is_awaited p w (due_for.Event n h) = true
+trigger_is_awaited p w (due_for.Delay t) = true
+trigger_is_awaited p w (due_for.Timeout c) = true
+trigger_is_awaited p w (due_for.Trigger t depth) = is_awaited p w (due_for.Trigger t depth)
+
+-- the task for which a trigger is appointed is there, and at its depth stands a part that awaits it
+abbrev pub ReachedTriggersAreAwaited : Type 0
+ReachedTriggersAreAwaited = (p : Image) (script : List (ℤ × Item)) (bound : ℕ) (w : World) → Reached p script bound w → IsTrue (list_all (λ a. trigger_is_awaited p w a.due) w.appointments)

@@ -1,8 +1,9 @@
-//! Marks that are struck, and those of a Finalize, in the worlds that a run reaches: laws of the
-//! profile machine's definitions alone. Each is the contract of a function that does nothing.
+//! Marks that are struck, those of a Finalize, and those that await a trigger, in the worlds that a
+//! run reaches: laws of the profile machine's definitions alone. Each is the contract of a function
+//! that does nothing.
 #![tactic(auto)]
 
-ghost use Rattle.mark_worlds.specs.MarkWorlds.{ReachedMarksAreStruckRightly, ReachedFinalizesStandRightly, ReachedMarksAreRightWhereTargetsStay};
+ghost use Rattle.mark_worlds.specs.MarkWorlds.{ReachedMarksAreStruckRightly, ReachedFinalizesStandRightly, ReachedMarksAreRightWhereTargetsStay, ReachedTriggersAreAwaited};
 
 /// In every world that a run reaches a struck mark is the outermost one of an abnormal task, or an
 /// abortable part whose trigger has completed (ISO/IEC 8652:2012, 9.7.4, 9.8).
@@ -23,4 +24,12 @@ pub fn reached_finalizes_stand_where_they_lead_on()
 #[tactic(auto, using(crate::proofs::MarkWorlds::reached_marks_are_right_where_targets_stay))]
 pub fn reached_marks_are_right_where_targets_are_registered()
     ensures { ReachedMarksAreRightWhereTargetsStay }
+{}
+
+/// In every world that a run reaches the task for which a trigger is appointed is there, and at the
+/// trigger's depth stands an abortable part of no call whose trigger has not completed
+/// (ISO/IEC 8652:2012, 9.7.4).
+#[tactic(auto, using(crate::proofs::TriggerWorlds::reached_triggers_are_awaited))]
+pub fn reached_triggers_are_awaited()
+    ensures { ReachedTriggersAreAwaited }
 {}

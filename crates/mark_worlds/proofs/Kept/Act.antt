@@ -34,11 +34,11 @@ use Rattle.profile_machine.specs.Act.{call_main, call, handle_or_pass, behind_ha
 use Rattle.machine_laws.proofs.Moves.{StepRelation, MoveRelation, Puts}
 use Rattle.profile_machine.specs.WellFormed.{awaits_trigger, is_triggered}
 use Rattle.exit_laws.proofs.FineMoves.{natures, action_in, action_first}
-use Rattle.mark_worlds.proofs.MarkFacts.{Ends, Calm, is_abortable, nature}
+use Rattle.mark_worlds.proofs.MarkFacts.{Ends, Begun, Calm, is_abortable, nature}
 use Rattle.mark_worlds.proofs.TopLemmas.{top_edited}
 use Rattle.mark_worlds.proofs.DepthLemmas.{of_call-awaits, triggered-awaits}
 use Rattle.mark_worlds.proofs.TriggerLemmas.{TopCalm, same_tops, attempt-top_calm, dropped-unappointed, dropped-calm, found-same_call}
-use Rattle.mark_worlds.proofs.FineMoves.{GoodWorld, Naming, FineMoves, Openings, RegionMoves}
+use Rattle.mark_worlds.proofs.FineMoves.{GoodWorld, Naming, FineMoves, Openings, Arming, RegionMoves}
 use Rattle.exit_laws.proofs.TaskEdits.{one_of-is}
 use Rattle.exit_laws.proofs.Steady.{FreeIn, Holding}
 use Rattle.profile_machine.specs.Words.{first_of_list, is_the, same_call}
@@ -56,7 +56,8 @@ use Rattle.mark_worlds.proofs.Kept.Protected.{call_operation-keeps, call_own_ope
 use Rattle.mark_worlds.proofs.Kept.Priorities.{set_priority-keeps, set_quantum-keeps, set_deadline_of-keeps, delay_and_set_deadline-keeps}
 use Rattle.mark_worlds.proofs.Kept.Serving.{end_in_protected-from}
 use Rattle.mark_worlds.proofs.Kept.Rendezvous.{accept-keeps, selective_accept-keeps, end_in_accept-from}
-use Rattle.mark_worlds.proofs.Kept.EntryCalls.{entry_call-keeps, asynchronous_select-from, requeue-keeps}
+use Rattle.mark_worlds.proofs.Kept.EntryCalls.{entry_call-keeps, requeue-keeps}
+use Rattle.mark_worlds.proofs.Kept.Arming.{Led, led-from, led_looks-from, asynchronous_select-from}
 use Rattle.mark_worlds.proofs.Kept.Controlled.{initialize-keeps, assign_controlled-keeps, end_in_initialize-from, end_in_finalize-from, end_in_assign-from}
 use Rattle.mark_worlds.proofs.Kept.Declarations.{declare-keeps}
 use Rattle.mark_worlds.proofs.Kept.Tasking.{create-keeps, activate-keeps, end_own_activation-keeps, abort_statement-keeps, end_scope_mark-from}
@@ -197,59 +198,59 @@ module _ {G : GoodWorld} {May Other : Naming} {Owns : Who → RegionNo → Type 
   call-keeps p name s (callee.Operation d f) actuals to may = search (call_operation-keeps)
   call-keeps p name s (callee.OwnOperation f) actuals to may = search (call_own_operation-keeps)
 
-module _ {G : GoodWorld} {May Other : Naming} {Owns : Who → RegionNo → Type 0} {R : StepRelation} {Q : MoveRelation} (moves : FineMoves G May Other R Q) (openings : Openings G May Other Owns R) (releasing : Releasing G R) where
-  pub act_statement-from : (p : Image) → Puts G R p → (name : Who) (s : StatementNo) (form : StatementForm) → May name → form_of p s ≡ form → (g : Frame) (w : World) → G w → Calm name w → top_of w name ≡ Some g → From R w (act_statement p name s form)
+module _ {G : GoodWorld} {May Other : Naming} {Owns : Who → RegionNo → Type 0} {R : StepRelation} {Q : MoveRelation} (moves : FineMoves G May Other R Q) (openings : Openings G May Other Owns R) (releasing : Releasing G R) (arming : Arming G Q) where
+  pub act_statement-from : (p : Image) → Puts G R p → (name : Who) (s : StatementNo) (form : StatementForm) → May name → form_of p s ≡ form → (g : Frame) (w : World) → G w → Calm name w → Begun name w → top_of w name ≡ Some g → From (Led G) w (act_statement p name s form)
   unfolding act_statement
-  act_statement-from p puts name s (form.Declare object) may is g w good calm top = keeps-from moves _ w good (search (declare-keeps))
-  act_statement-from p puts name s (form.Initialize object) may is g w good calm top = keeps-from moves _ w good (search (initialize-keeps))
-  act_statement-from p puts name s (form.CreateTask object part) may is g w good calm top = keeps-from moves _ w good (search (create-keeps))
-  act_statement-from p puts name s (form.Activate part) may is g w good calm top = keeps-from moves _ w good (search (activate-keeps))
-  act_statement-from p puts name s form.EndActivation may is g w good calm top = keeps-from moves _ w good (search (end_own_activation-keeps))
-  act_statement-from p puts name s form.CallMain may is g w good calm top = keeps-from moves _ w good (search (call_main-keeps))
-  act_statement-from p puts name s (form.Handled handlers first) may is g w good calm top = keeps-from moves _ w good (search (nothing-keeps))
-  act_statement-from p puts name s form.Null may is g w good calm top = keeps-from moves _ w good (search (null-keeps))
-  act_statement-from p puts name s (form.Assign target e) may is g w good calm top = keeps-from moves _ w good (search (assign-keeps))
-  act_statement-from p puts name s (form.AssignArray target source) may is g w good calm top = keeps-from moves _ w good (search (assign_array-keeps))
-  act_statement-from p puts name s (form.AssignControlled target source) may is g w good calm top = keeps-from moves _ w good (search (assign_controlled-keeps))
-  act_statement-from p puts name s (form.If condition first otherwise) may is g w good calm top = keeps-from moves _ w good (search (if_statement-keeps))
-  act_statement-from p puts name s (form.Case selector alternatives) may is g w good calm top = keeps-from moves _ w good (search (case_statement-keeps))
-  act_statement-from p puts name s (form.Loop body within) may is g w good calm top = keeps-from moves _ w good (search (goes-keeps))
-  act_statement-from p puts name s (form.While condition body within) may is g w good calm top = keeps-from moves _ w good (search (while_turn-keeps))
-  act_statement-from p puts name s (form.For parameter reverse low high turn within) may is g w good calm top = keeps-from moves _ w good (search (for_bounds-keeps))
-  act_statement-from p puts name s (form.FirstTurn parameter reverse body) may is g w good calm top = keeps-from moves _ w good (search (first_turn-keeps))
-  act_statement-from p puts name s (form.LaterTurn parameter reverse body) may is g w good calm top = keeps-from moves _ w good (search (later_turn-keeps))
-  act_statement-from p puts name s (form.Exit condition of_loop) may is g w good calm top = keeps-from moves _ w good (search (exit_statement-keeps))
-  act_statement-from p puts name s (form.Block scope) may is g w good calm top = keeps-from moves _ w good (search (block_statement-keeps))
-  act_statement-from p puts name s form.Return may is g w good calm top = keeps-from moves _ w good (search (return-keeps))
-  act_statement-from p puts name s (form.ReturnValue function e) may is g w good calm top = keeps-from moves _ w good (search (return_value-keeps))
-  act_statement-from p puts name s (form.Raise e) may is g w good calm top = keeps-from moves _ w good (search (raises-keeps))
-  act_statement-from p puts name s (form.RaiseAgain scope) may is g w good calm top = keeps-from moves _ w good (search (raise_again-keeps))
-  act_statement-from p puts name s (form.Delay e) may is g w good calm top = keeps-from moves _ w good (search (sees-keeps, delay_until-keeps))
-  act_statement-from p puts name s (form.DelayUntil e) may is g w good calm top = keeps-from moves _ w good (search (sees-keeps, delay_until-keeps))
-  act_statement-from p puts name s (form.Call callee actuals to) may is g w good calm top = keeps-from moves _ w good (search (call-keeps))
-  act_statement-from p puts name s (form.PutLine pieces) may is g w good calm top = keeps-from moves _ w good (put_line-keeps moves p puts name s pieces is)
-  act_statement-from p puts name s (form.EntryCall entry owner actuals) may is g w good calm top = keeps-from moves _ w good (search (entry_call-keeps))
-  act_statement-from p puts name s (form.ConditionalCall call otherwise) may is g w good calm top = keeps-from moves _ w good (search (entry_call-keeps))
-  act_statement-from p puts name s (form.TimedCall call delay) may is g w good calm top = keeps-from moves _ w good (search (entry_call-keeps))
-  act_statement-from p puts name s (form.AsynchronousSelect trigger abortable) may is g w good calm top = asynchronous_select-from moves openings p name s trigger g w good may calm top
-  act_statement-from p puts name s (form.Accept entry scope) may is g w good calm top = keeps-from moves _ w good (search (accept-keeps))
-  act_statement-from p puts name s (form.SelectiveAccept alternatives otherwise) may is g w good calm top = keeps-from moves _ w good (search (selective_accept-keeps))
-  act_statement-from p puts name s (form.Abort tasks) may is g w good calm top = keeps-from moves _ w good (search (abort_statement-keeps))
-  act_statement-from p puts name s (form.Requeue entry owner with_abort) may is g w good calm top = keeps-from moves _ w good (search (requeue-keeps))
-  act_statement-from p puts name s (form.SetEvent event set handler) may is g w good calm top = keeps-from moves _ w good (search (set_event-keeps))
-  act_statement-from p puts name s (form.CancelEvent event cancelled) may is g w good calm top = keeps-from moves _ w good (search (cancel_event-keeps))
-  act_statement-from p puts name s (form.SetTimer timer set handler) may is g w good calm top = keeps-from moves _ w good (search (set_timer-keeps))
-  act_statement-from p puts name s (form.CancelTimer timer cancelled) may is g w good calm top = keeps-from moves _ w good (search (cancel_timer-keeps))
-  act_statement-from p puts name s (form.AddTask budget task) may is g w good calm top = keeps-from moves _ w good (search (add_member-keeps))
-  act_statement-from p puts name s (form.RemoveTask budget task) may is g w good calm top = keeps-from moves _ w good (search (remove_member-keeps))
-  act_statement-from p puts name s (form.Replenish budget to) may is g w good calm top = keeps-from moves _ w good (search (replenish-keeps))
-  act_statement-from p puts name s (form.AddToBudget budget interval) may is g w good calm top = keeps-from moves _ w good (search (add_to_budget-keeps))
-  act_statement-from p puts name s (form.SetBudget budget handler) may is g w good calm top = keeps-from moves _ w good (search (set_budget-keeps))
-  act_statement-from p puts name s (form.CancelBudget budget cancelled) may is g w good calm top = keeps-from moves _ w good (search (cancel_budget-keeps))
-  act_statement-from p puts name s (form.SetPriority priority task) may is g w good calm top = keeps-from moves _ w good (search (set_priority-keeps))
-  act_statement-from p puts name s (form.SetQuantum level quantum) may is g w good calm top = keeps-from moves _ w good (search (set_quantum-keeps))
-  act_statement-from p puts name s (form.SetDeadline deadline task) may is g w good calm top = keeps-from moves _ w good (search (set_deadline_of-keeps))
-  act_statement-from p puts name s (form.DelayUntilAndSetDeadline until offset) may is g w good calm top = keeps-from moves _ w good (search (delay_and_set_deadline-keeps))
+  act_statement-from p puts name s (form.Declare object) may is g w good calm begun top = led-from moves _ w (keeps-from moves _ w good (search (declare-keeps)))
+  act_statement-from p puts name s (form.Initialize object) may is g w good calm begun top = led-from moves _ w (keeps-from moves _ w good (search (initialize-keeps)))
+  act_statement-from p puts name s (form.CreateTask object part) may is g w good calm begun top = led-from moves _ w (keeps-from moves _ w good (search (create-keeps)))
+  act_statement-from p puts name s (form.Activate part) may is g w good calm begun top = led-from moves _ w (keeps-from moves _ w good (search (activate-keeps)))
+  act_statement-from p puts name s form.EndActivation may is g w good calm begun top = led-from moves _ w (keeps-from moves _ w good (search (end_own_activation-keeps)))
+  act_statement-from p puts name s form.CallMain may is g w good calm begun top = led-from moves _ w (keeps-from moves _ w good (search (call_main-keeps)))
+  act_statement-from p puts name s (form.Handled handlers first) may is g w good calm begun top = led-from moves _ w (keeps-from moves _ w good (search (nothing-keeps)))
+  act_statement-from p puts name s form.Null may is g w good calm begun top = led-from moves _ w (keeps-from moves _ w good (search (null-keeps)))
+  act_statement-from p puts name s (form.Assign target e) may is g w good calm begun top = led-from moves _ w (keeps-from moves _ w good (search (assign-keeps)))
+  act_statement-from p puts name s (form.AssignArray target source) may is g w good calm begun top = led-from moves _ w (keeps-from moves _ w good (search (assign_array-keeps)))
+  act_statement-from p puts name s (form.AssignControlled target source) may is g w good calm begun top = led-from moves _ w (keeps-from moves _ w good (search (assign_controlled-keeps)))
+  act_statement-from p puts name s (form.If condition first otherwise) may is g w good calm begun top = led-from moves _ w (keeps-from moves _ w good (search (if_statement-keeps)))
+  act_statement-from p puts name s (form.Case selector alternatives) may is g w good calm begun top = led-from moves _ w (keeps-from moves _ w good (search (case_statement-keeps)))
+  act_statement-from p puts name s (form.Loop body within) may is g w good calm begun top = led-from moves _ w (keeps-from moves _ w good (search (goes-keeps)))
+  act_statement-from p puts name s (form.While condition body within) may is g w good calm begun top = led-from moves _ w (keeps-from moves _ w good (search (while_turn-keeps)))
+  act_statement-from p puts name s (form.For parameter reverse low high turn within) may is g w good calm begun top = led-from moves _ w (keeps-from moves _ w good (search (for_bounds-keeps)))
+  act_statement-from p puts name s (form.FirstTurn parameter reverse body) may is g w good calm begun top = led-from moves _ w (keeps-from moves _ w good (search (first_turn-keeps)))
+  act_statement-from p puts name s (form.LaterTurn parameter reverse body) may is g w good calm begun top = led-from moves _ w (keeps-from moves _ w good (search (later_turn-keeps)))
+  act_statement-from p puts name s (form.Exit condition of_loop) may is g w good calm begun top = led-from moves _ w (keeps-from moves _ w good (search (exit_statement-keeps)))
+  act_statement-from p puts name s (form.Block scope) may is g w good calm begun top = led-from moves _ w (keeps-from moves _ w good (search (block_statement-keeps)))
+  act_statement-from p puts name s form.Return may is g w good calm begun top = led-from moves _ w (keeps-from moves _ w good (search (return-keeps)))
+  act_statement-from p puts name s (form.ReturnValue function e) may is g w good calm begun top = led-from moves _ w (keeps-from moves _ w good (search (return_value-keeps)))
+  act_statement-from p puts name s (form.Raise e) may is g w good calm begun top = led-from moves _ w (keeps-from moves _ w good (search (raises-keeps)))
+  act_statement-from p puts name s (form.RaiseAgain scope) may is g w good calm begun top = led-from moves _ w (keeps-from moves _ w good (search (raise_again-keeps)))
+  act_statement-from p puts name s (form.Delay e) may is g w good calm begun top = led-from moves _ w (keeps-from moves _ w good (search (sees-keeps, delay_until-keeps)))
+  act_statement-from p puts name s (form.DelayUntil e) may is g w good calm begun top = led-from moves _ w (keeps-from moves _ w good (search (sees-keeps, delay_until-keeps)))
+  act_statement-from p puts name s (form.Call callee actuals to) may is g w good calm begun top = led-from moves _ w (keeps-from moves _ w good (search (call-keeps)))
+  act_statement-from p puts name s (form.PutLine pieces) may is g w good calm begun top = led-from moves _ w (keeps-from moves _ w good (put_line-keeps moves p puts name s pieces is))
+  act_statement-from p puts name s (form.EntryCall entry owner actuals) may is g w good calm begun top = led-from moves _ w (keeps-from moves _ w good (search (entry_call-keeps)))
+  act_statement-from p puts name s (form.ConditionalCall call otherwise) may is g w good calm begun top = led-from moves _ w (keeps-from moves _ w good (search (entry_call-keeps)))
+  act_statement-from p puts name s (form.TimedCall call delay) may is g w good calm begun top = led-from moves _ w (keeps-from moves _ w good (search (entry_call-keeps)))
+  act_statement-from p puts name s (form.AsynchronousSelect trigger abortable) may is g w good calm begun top = asynchronous_select-from moves arming openings p name s trigger g w good calm begun top
+  act_statement-from p puts name s (form.Accept entry scope) may is g w good calm begun top = led-from moves _ w (keeps-from moves _ w good (search (accept-keeps)))
+  act_statement-from p puts name s (form.SelectiveAccept alternatives otherwise) may is g w good calm begun top = led-from moves _ w (keeps-from moves _ w good (search (selective_accept-keeps)))
+  act_statement-from p puts name s (form.Abort tasks) may is g w good calm begun top = led-from moves _ w (keeps-from moves _ w good (search (abort_statement-keeps)))
+  act_statement-from p puts name s (form.Requeue entry owner with_abort) may is g w good calm begun top = led-from moves _ w (keeps-from moves _ w good (search (requeue-keeps)))
+  act_statement-from p puts name s (form.SetEvent event set handler) may is g w good calm begun top = led-from moves _ w (keeps-from moves _ w good (search (set_event-keeps)))
+  act_statement-from p puts name s (form.CancelEvent event cancelled) may is g w good calm begun top = led-from moves _ w (keeps-from moves _ w good (search (cancel_event-keeps)))
+  act_statement-from p puts name s (form.SetTimer timer set handler) may is g w good calm begun top = led-from moves _ w (keeps-from moves _ w good (search (set_timer-keeps)))
+  act_statement-from p puts name s (form.CancelTimer timer cancelled) may is g w good calm begun top = led-from moves _ w (keeps-from moves _ w good (search (cancel_timer-keeps)))
+  act_statement-from p puts name s (form.AddTask budget task) may is g w good calm begun top = led-from moves _ w (keeps-from moves _ w good (search (add_member-keeps)))
+  act_statement-from p puts name s (form.RemoveTask budget task) may is g w good calm begun top = led-from moves _ w (keeps-from moves _ w good (search (remove_member-keeps)))
+  act_statement-from p puts name s (form.Replenish budget to) may is g w good calm begun top = led-from moves _ w (keeps-from moves _ w good (search (replenish-keeps)))
+  act_statement-from p puts name s (form.AddToBudget budget interval) may is g w good calm begun top = led-from moves _ w (keeps-from moves _ w good (search (add_to_budget-keeps)))
+  act_statement-from p puts name s (form.SetBudget budget handler) may is g w good calm begun top = led-from moves _ w (keeps-from moves _ w good (search (set_budget-keeps)))
+  act_statement-from p puts name s (form.CancelBudget budget cancelled) may is g w good calm begun top = led-from moves _ w (keeps-from moves _ w good (search (cancel_budget-keeps)))
+  act_statement-from p puts name s (form.SetPriority priority task) may is g w good calm begun top = led-from moves _ w (keeps-from moves _ w good (search (set_priority-keeps)))
+  act_statement-from p puts name s (form.SetQuantum level quantum) may is g w good calm begun top = led-from moves _ w (keeps-from moves _ w good (search (set_quantum-keeps)))
+  act_statement-from p puts name s (form.SetDeadline deadline task) may is g w good calm begun top = led-from moves _ w (keeps-from moves _ w good (search (set_deadline_of-keeps)))
+  act_statement-from p puts name s (form.DelayUntilAndSetDeadline until offset) may is g w good calm begun top = led-from moves _ w (keeps-from moves _ w good (search (delay_and_set_deadline-keeps)))
 
   -- the end of the mark on top, but of a protected action, whose end is given
   pub end_mark-from : (p : Image) (name : Who) (f : Frame) (mark : Mark) (w : World) → G w → May name → TopCalm name f w → f.mark ≡ mark → ((m : ProtectedMark) → mark ≡ InProtected m → From R w (end_in_protected p name m (leaving_of f))) → From R w (end_mark p name f mark)
@@ -263,22 +264,22 @@ module _ {G : GoodWorld} {May Other : Naming} {Owns : Who → RegionNo → Type 
   end_mark-from p name f (InFinalize o) w good may at is action = end_in_finalize-from moves p name (leaving_of f) f w good may at.0 (inl (ap awaits_trigger is), at.1)
   end_mark-from p name f (InAssign m) w good may at is action = end_in_assign-from moves openings p name m f.left_as f w good may at.0 is (inl (ap awaits_trigger is), at.1)
 
-  pub act_frame-from : (p : Image) → Puts G R p → (name : Who) (f : Frame) (next : Option StatementNo) (w : World) → G w → May name → TopCalm name f w → ((m : ProtectedMark) → f.mark ≡ InProtected m → From R w (end_in_protected p name m (leaving_of f))) → From R w (act_frame p name f next)
+  pub act_frame-from : (p : Image) → Puts G R p → (name : Who) (f : Frame) (next : Option StatementNo) (w : World) → G w → May name → TopCalm name f w → Begun name w → ((m : ProtectedMark) → f.mark ≡ InProtected m → From R w (end_in_protected p name m (leaving_of f))) → From (Led G) w (act_frame p name f next)
   unfolding act_frame
-  act_frame-from p puts name f (Some s) w good may at action = act_statement-from p puts name s (form_of p s) may refl f w good at.1 at.0
-  act_frame-from p puts name f None w good may at action = end_mark-from p name f f.mark w good may at refl action
+  act_frame-from p puts name f (Some s) w good may at begun action = act_statement-from p puts name s (form_of p s) may refl f w good at.1 begun at.0
+  act_frame-from p puts name f None w good may at begun action = led-from moves _ w (end_mark-from p name f f.mark w good may at refl action)
 
-  pub act_top-from : (p : Image) → Puts G R p → (name : Who) (found : Option Frame) (w : World) → G w → May name → Calm name w → top_of w name ≡ found → From R w (act_without p name w.serving)
-      → ((f : Frame) (m : ProtectedMark) → top_of w name ≡ Some f → f.mark ≡ InProtected m → From R w (end_in_protected p name m (leaving_of f))) → From R w (act_top p name found)
+  pub act_top-from : (p : Image) → Puts G R p → (name : Who) (found : Option Frame) (w : World) → G w → May name → Calm name w → Begun name w → top_of w name ≡ found → From R w (act_without p name w.serving)
+      → ((f : Frame) (m : ProtectedMark) → top_of w name ≡ Some f → f.mark ≡ InProtected m → From R w (end_in_protected p name m (leaving_of f))) → From (Led G) w (act_top p name found)
   unfolding act_top
-  act_top-from p puts name None w good may calm is without action = looks_at-from moves (λ v. act_without p name v.serving) w without
-  act_top-from p puts name (Some f) w good may calm is without action = act_frame-from p puts name f f.onward w good may (is, calm) (λ m k. action f m is k)
+  act_top-from p puts name None w good may calm begun is without action = led-from moves _ w (looks_at-from moves (λ v. act_without p name v.serving) w without)
+  act_top-from p puts name (Some f) w good may calm begun is without action = act_frame-from p puts name f f.onward w good may (is, calm) begun (λ m k. action f m is k)
 
   -- an action of who is calm, but for the end of a protected action, and for who has no rest
-  pub act-from : (p : Image) → Puts G R p → (name : Who) (w : World) → G w → May name → Calm name w → From R w (act_without p name w.serving)
-      → ((f : Frame) (m : ProtectedMark) → top_of w name ≡ Some f → f.mark ≡ InProtected m → From R w (end_in_protected p name m (leaving_of f))) → From R w (act p name)
+  pub act-from : (p : Image) → Puts G R p → (name : Who) (w : World) → G w → May name → Calm name w → Begun name w → From R w (act_without p name w.serving)
+      → ((f : Frame) (m : ProtectedMark) → top_of w name ≡ Some f → f.mark ≡ InProtected m → From R w (end_in_protected p name m (leaving_of f))) → From (Led G) w (act p name)
   unfolding act
-  act-from p puts name w good may calm without action = looks_at-from moves (λ v. act_top p name (top_of v name)) w (act_top-from p puts name (top_of w name) w good may calm refl without action)
+  act-from p puts name w good may calm begun without action = led_looks-from moves (λ v. act_top p name (top_of v name)) w (act_top-from p puts name (top_of w name) w good may calm begun refl without action)
 
 -- ---- where anybody may be changed
 
@@ -294,9 +295,9 @@ module _ {G : GoodWorld} {R : StepRelation} {Q : MoveRelation} (moves : RegionMo
   on_top (g ∷ gs) f e = let is : g ≡ f = cc in ap (λ (x : Frame). action_in x.mark) is
 
   -- an action of somebody that waits for no entry call
-  pub free_act-from : (p : Image) → Puts G R p → (name : Who) (w : World) → G w → FreeIn name (task_of w name).state → From R w (act p name)
-  free_act-from p puts name w good free =
-      act-from moves.fine moves.openings (releasing moves) p puts name w good tt free
+  pub free_act-from : (p : Image) → Puts G R p → (name : Who) (w : World) → G w → FreeIn name (task_of w name).state → Begun name w → From (Led G) w (act p name)
+  free_act-from p puts name w good free begun =
+      act-from moves.fine moves.openings (releasing moves) moves.arming p puts name w good tt free begun
       (keeps-from moves.fine _ w good (act_without-keeps p name w.serving))
       (λ f m top is. end_in_protected-from moves p name m (leaving_of f) w good
       (subst (λ t. Holding name m.object t) (sym (one_of-is w name)) (on_top (frames_of w name) f top ∙ ap action_in is, free)))

@@ -13,6 +13,7 @@ use Rattle.profile_machine.specs.Operators.{Valued, ◌>>=◌}
 use Rattle.profile_machine.specs.Values.{Seen, seen_by}
 use Rattle.profile_machine.specs.Statements.{sees}
 use Rattle.machine_laws.proofs.Moves.{StepRelation, MoveRelation, lines_of}
+use Rattle.mark_worlds.proofs.MarkFacts.{AllTasks}
 use Rattle.mark_worlds.proofs.FineMoves.{GoodWorld, Naming, FineMoves, EachIs, is_apart}
 
 -- ---- what it is to keep a relation
@@ -194,6 +195,12 @@ module _ {G : GoodWorld} {May Other : Naming} {R : StepRelation} {Q : MoveRelati
       let more = said ++ record { part = part; line = line } ∷ [] in
       then-kept w (g (f w)) said more (h (g (f w)) more) (record { part = part; line = line } ∷ [], refl, a) (b (g (f w)) (moves.behind w (g (f w)) a) more)
 
+  pub changes_told_then-from : (f g : World → World) (part : Part) (line : Line) (h : Step) (w : World) → R w (record { part = part; line = line } ∷ []) (g (f w)) → From R (g (f w)) h → From R w (changes f ▷ changes g ▷ says part line ▷ h)
+  unfolding From Kept
+  changes_told_then-from f g part line h w a b said =
+      let more = said ++ record { part = part; line = line } ∷ [] in
+      then-kept w (g (f w)) said more (h (g (f w)) more) (record { part = part; line = line } ∷ [], refl, a) (b more)
+
   pub either-from : (b : Bool) (f g : Step) (w : World) → From R w f → From R w g → From R w (elim b as (λ _. Step) [ true ↦ f | false ↦ g ])
   either-from true f g w a b = a
   either-from false f g w a b = b
@@ -203,10 +210,6 @@ module _ {G : GoodWorld} {May Other : Naming} {R : StepRelation} {Q : MoveRelati
   unfolding From
   changes_then-from f g w a b said = then-kept w (f w) said said (g (f w) said) (silent-kept w (f w) said a) (b said)
 
-  pub cond-from : (b : Bool) (f g : Step) (w : World) → From R w f → From R w g → From R w (cond b f g)
-  cond-from true f g w a b = a
-  cond-from false f g w a b = b
-
   -- a step, and one behind it where something that stays so is known
   known-kept : (X : World → Type 0) → ((a b : World) (xs : List Said) → R a xs b → X a → X b) → (g : Step) (w : World) (said : List Said) (d : Done) → Kept R w said d → X w → ((v : World) → G v → X v → From R v g) → Kept R w said (goes_on_with g d)
   unfolding From Kept
@@ -215,6 +218,17 @@ module _ {G : GoodWorld} {May Other : Naming} {R : StepRelation} {Q : MoveRelati
   pub then_known-from : (X : World → Type 0) → ((a b : World) (xs : List Said) → R a xs b → X a → X b) → (f g : Step) (w : World) → X w → From R w f → ((v : World) → G v → X v → From R v g) → From R w (f ▷ g)
   unfolding From
   then_known-from X still f g w x a next said = known-kept X still g w said (f w said) (a said) x next
+
+  -- the same of each of some tasks, of which something that stays so is known
+  still_each : (X : Task → World → Type 0) → ((t : Task) (a b : World) (xs : List Said) → R a xs b → X t a → X t b) → (ts : List Task) (a b : World) (xs : List Said) → R a xs b → AllTasks (λ t. X t a) ts → AllTasks (λ t. X t b) ts
+  still_each X still [] a b xs r k = tt
+  still_each X still (t ∷ ts) a b xs r k = (still t a b xs r k.0, still_each X still ts a b xs r k.1)
+
+  pub for_each_known-from : (X : Task → World → Type 0) → ((t : Task) (a b : World) (xs : List Said) → R a xs b → X t a → X t b) → (f : Task → Step) → ((t : Task) (w : World) → G w → X t w → From R w (f t))
+      → (ts : List Task) (w : World) → G w → AllTasks (λ t. X t w) ts → From R w (for_each ts f)
+  for_each_known-from X still f each [] w good known = keeps-from nothing w good nothing-keeps
+  for_each_known-from X still f each (t ∷ ts) w good known =
+      then_known-from (λ v. AllTasks (λ u. X u v) ts) (still_each X still ts) (f t) (for_each ts f) w known.1 (each t w good known.0) (λ v good_v k. for_each_known-from X still f each ts v good_v k)
 
   -- ---- worlds that may be exceptions
 

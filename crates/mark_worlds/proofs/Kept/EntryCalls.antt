@@ -1,6 +1,6 @@
 -- Entry calls: each step keeps a relation that its parts keep.
-use Rattle.std.proofs.Common.{◌≡◌, refl, ap, ◌∙◌, append_assoc}
-use Rattle.std.specs.Prelude.{ℕ, suc, ℤ, pos, int_lt, Bool, true, false, List, [], ◌∷◌, ◌++◌, Option, Some, None, length}
+use Rattle.std.proofs.Common.{refl, ap, ◌∙◌, append_assoc}
+use Rattle.std.specs.Prelude.{ℕ, suc, Bool, true, false, List, [], ◌∷◌, ◌++◌, Option, Some, None}
 use Rattle.ann_base.specs.declared.identities.CallNo.{CallNo}
 use Rattle.ann_base.specs.declared.identities.ObjectNo.{ObjectNo}
 use Rattle.ann_base.specs.declared.identities.TaskNo.{TaskNo}
@@ -17,43 +17,33 @@ use Rattle.profile_machine.specs.declared.image.Image.{Image}
 use Rattle.profile_machine.specs.declared.numbers.EntryNo.{EntryNo}
 use Rattle.profile_machine.specs.declared.numbers.StatementNo.{StatementNo}
 use Rattle.profile_machine.specs.declared.statements.EntryOwner.{EntryOwner}
-use Rattle.profile_machine.specs.declared.statements.StatementForm.{StatementForm}
-use Rattle.profile_machine.specs.declared.statements.StatementForm.TheVariants as form
 use Rattle.profile_machine.specs.declared.world.World.{World}
 use Rattle.profile_machine.specs.declared.world.calls.Call.{Call}
 use Rattle.profile_machine.specs.declared.world.calls.CallKind.{CallKind}
-use Rattle.profile_machine.specs.declared.world.calls.CallKind.TheVariants as call_kind
 use Rattle.profile_machine.specs.declared.world.calls.Owner.{Owner}
 use Rattle.profile_machine.specs.declared.world.calls.Owner.TheVariants as owned_by
 use Rattle.profile_machine.specs.declared.world.lines.Part.{Part}
 use Rattle.profile_machine.specs.declared.world.lines.Part.TheVariants.{Own, TheCall}
-use Rattle.profile_machine.specs.Steps.{Step, goes_on_with, says, changes, looks, for_some, ◌▷◌, nothing}
-use Rattle.profile_machine.specs.Program.{next_of, form_of}
-use Rattle.profile_machine.specs.Frames.{top_of, new_frame, frames_of, edit_first, edit_top, goes_on, raise_if, given}
+use Rattle.profile_machine.specs.Steps.{Step, goes_on_with, says, changes, for_some, ◌▷◌, nothing}
+use Rattle.profile_machine.specs.Program.{next_of}
+use Rattle.profile_machine.specs.Frames.{edit_first, edit_top, goes_on}
 use Rattle.profile_machine.specs.Tasks.{with_frames}
 use Rattle.profile_machine.specs.Calls.{call_of, says_call, enqueued, enqueue, is_full}
 use Rattle.profile_machine.specs.Protected.{begin_action_on, is_barrier_open}
-use Rattle.profile_machine.specs.Sending.{open_abortable, new_abortable_mark, abortable_in, not_accepted}
-use Rattle.profile_machine.specs.EntryCalls.{numbered, marks_if_queued, add_call, make_call, end_at_once, call_gone, call_meets, call_queues, call_not_met, call_accepted_by, call_callable, call_task, call_runs, call_without_room, has_room_for_action, call_runs_if_room, call_passes, call_refused, call_closed, call_by_barrier, call_object, call_owner, call_named, entry_call, appoint_trigger, trigger_delay, async_delay, async_by_trigger, asynchronous_select, mark_sending, requeue, is_forbidden}
+use Rattle.profile_machine.specs.Sending.{not_accepted}
+use Rattle.profile_machine.specs.EntryCalls.{numbered, marks_if_queued, add_call, make_call, end_at_once, call_gone, call_meets, call_queues, call_not_met, call_accepted_by, call_callable, call_task, call_runs, call_without_room, has_room_for_action, call_runs_if_room, call_passes, call_refused, call_closed, call_by_barrier, call_object, call_owner, call_named, entry_call, mark_sending, requeue}
 use Rattle.machine_laws.proofs.Moves.{StepRelation, MoveRelation, LetsIn, own}
-use Rattle.profile_machine.specs.declared.world.marks.Frame.{Frame}
-use Rattle.profile_machine.specs.WellFormed.{awaits_trigger_at}
-use Rattle.mark_worlds.proofs.MarkFacts.{Calm}
-use Rattle.mark_worlds.proofs.TopLemmas.{frames_pushed, top_edited, calm_edited}
-use Rattle.mark_worlds.proofs.DepthLemmas.{awaits-top}
 use Rattle.mark_worlds.proofs.FineMoves.{GoodWorld, Naming, FineMoves, Openings}
 use Rattle.machine_laws.proofs.Kept.Entering.{LetsIn-same, edit_task-objects}
-use Rattle.mark_worlds.proofs.Kept.Combinators.{Keeps, Kept, From, changes-from, Alters, either-from, said_then-from, then-from, changes-keeps, keeps-from, looks-keeps, looks_at-from, nothing-keeps, sees-keeps, then-keeps, unchanged-alters, changes_then-from}
+use Rattle.mark_worlds.proofs.Kept.Combinators.{Keeps, Kept, From, Alters, either-from, said_then-from, then-from, changes-keeps, looks-keeps, looks_at-from, nothing-keeps, sees-keeps, then-keeps, unchanged-alters, changes_then-from}
 use Rattle.mark_worlds.proofs.Kept.Dispatching.{block-keeps}
-use Rattle.mark_worlds.proofs.Kept.Frames.{goes-keeps, leaves-keeps, raises-keeps, given-from, given-keeps, raise_if-from, raise_if-keeps, with_room-from, with_room-keeps, goes_then-from}
+use Rattle.mark_worlds.proofs.Kept.Frames.{goes-keeps, leaves-keeps, raises-keeps, given-keeps, raise_if-keeps, with_room-from, with_room-keeps, goes_then-from}
 use Rattle.mark_worlds.proofs.Kept.Calls.{edit_call-alters, forget_call-alters, says_call-keeps, enqueued-alters, enqueue-keeps}
 use Rattle.mark_worlds.proofs.Kept.CallEnds.{gone-keeps}
 use Rattle.mark_worlds.proofs.Kept.Protected.{where_let_inside-keeps, begin_action_on-from, serve_call-keeps}
 use Rattle.mark_worlds.proofs.Kept.Sending.{not_accepted-keeps}
 use Rattle.mark_worlds.proofs.Kept.Rendezvous.{meet-keeps}
 use Rattle.ann_base.specs.declared.identities.RegionNo.{RegionNo}
-use Rattle.profile_machine.specs.Rendezvous.{delay_moment}
-use Rattle.profile_machine.specs.Values.{seen_by}
 
 module _ {G : GoodWorld} {May Other : Naming} {R : StepRelation} {Q : MoveRelation} (moves : FineMoves G May Other R Q) where
   add_call-alters : (c : Call) → Alters G R (add_call c)
@@ -164,32 +154,6 @@ module _ {G : GoodWorld} {May Other : Naming} {R : StepRelation} {Q : MoveRelati
   unfolding call_refused
   call_refused-from o c w good h = then-from moves (says Own (line.Enter (who.Task c.caller) o Write) ▷ says Own (line.Exit (who.Task c.caller) o)) (end_at_once Own c exception.Program) w (told_refused-from o c w good h) (end_at_once-keeps Own c exception.Program)
 
-  -- the abortable part opens above the mark on top, and the moment is set for it
-  appoint_trigger-from : (p : Image) (name : Who) (s : StatementNo) (g : Frame) (m : ℤ) (w : World) → G (open_abortable p name s None w) → top_of w name ≡ Some g → From R (open_abortable p name s None w) (changes (appoint_trigger name (length (frames_of w name)) m))
-  appoint_trigger-from p (who.Task t) s g m w good top =
-      let v = open_abortable p (who.Task t) s None w in
-      let f = new_frame (new_abortable_mark s None) (abortable_in (form_of p s)) in
-      changes-from moves (appoint_trigger (who.Task t) (length (frames_of w (who.Task t))) m) v
-      (moves.appoints_trigger t (length (frames_of w (who.Task t))) m v good
-      (ap (awaits_trigger_at (length (frames_of w (who.Task t)))) (frames_pushed (who.Task t) f g w top) ∙ awaits-top f (frames_of w (who.Task t))))
-  appoint_trigger-from p who.Agent s g m w good top = keeps-from moves (changes (λ v. v)) (open_abortable p who.Agent s None w) good (changes-keeps moves (λ v. v) (unchanged-alters moves))
-
-  opens_until : (p : Image) (name : Who) (s : StatementNo) (m : ℤ) (g : Frame) (w : World) → G w → Calm name w → top_of w name ≡ Some g → From R w (looks (λ v. changes (open_abortable p name s None) ▷ changes (appoint_trigger name (length (frames_of v name)) m)))
-  opens_until p name s m g w good calm top =
-      let opened = moves.opens_part name (new_frame (new_abortable_mark s None) (abortable_in (form_of p s))) w good calm refl refl refl in
-      looks_at-from moves (λ v. changes (open_abortable p name s None) ▷ changes (appoint_trigger name (length (frames_of v name)) m)) w
-      (changes_then-from moves (open_abortable p name s None) _ w opened
-      (appoint_trigger-from p name s g m w (moves.behind w (open_abortable p name s None w) opened) top))
-
-  trigger_delay-from : (p : Image) (name : Who) (s trigger : StatementNo) (m : ℤ) (test : Bool) (g : Frame) (w : World) → G w → Calm name w → top_of w name ≡ Some g → From R w (trigger_delay p name s trigger m test)
-  unfolding trigger_delay
-  trigger_delay-from p name s trigger m false g w good calm top = keeps-from moves _ w good (search (goes-keeps))
-  trigger_delay-from p name s trigger m true g w good calm top =
-      with_room-from moves name 1 0 _ w good
-      (goes_then-from moves name (next_of p s) _ w good (λ good_onward.
-      opens_until p name s m (goes_on (next_of p s) g) (edit_top name (goes_on (next_of p s)) w) good_onward
-      (calm_edited name (λ t. with_frames (edit_first (goes_on (next_of p s)) t.frames) t) w (λ t. refl) (λ t. refl) calm) (top_edited name (goes_on (next_of p s)) g w top)))
-
   pub mark_sending-alters : (c : Option CallNo) (o : Owner) (e : EntryNo) (with_abort : Bool) → Alters G R (mark_sending c o e with_abort)
   mark_sending-alters None o e with_abort = search (unchanged-alters)
   mark_sending-alters (Some c) o e with_abort = search (edit_call-alters)
@@ -241,20 +205,3 @@ module _ {G : GoodWorld} {May Other : Naming} {Owns : Who → RegionNo → Type 
   unfolding entry_call
   entry_call-keeps p (who.Task t) kind s = search (looks-keeps, raise_if-keeps, call_named-keeps)
   entry_call-keeps p who.Agent kind s = search (raises-keeps)
-
-  async_delay-from : (p : Image) (name : Who) (s trigger : StatementNo) (g : Frame) (w : World) → G w → Calm name w → top_of w name ≡ Some g → From R w (async_delay p name s trigger)
-  unfolding async_delay
-  async_delay-from p name s trigger g w good calm top =
-      looks_at-from moves (λ v. raise_if name (is_forbidden v name call_kind.Triggering) exception.Program (given Own name (delay_moment (seen_by p v name) trigger) (λ m. trigger_delay p name s trigger m (int_lt (pos v.time) m)))) w
-      (raise_if-from moves name (is_forbidden w name call_kind.Triggering) exception.Program _ w good (λ allowed.
-      given-from moves Own name (delay_moment (seen_by p w name) trigger) _ w good (λ m.
-      trigger_delay-from moves p name s trigger m (int_lt (pos w.time) m) g w good calm top)))
-
-  async_by_trigger-from : (p : Image) (name : Who) (s trigger : StatementNo) (form : StatementForm) (g : Frame) (w : World) → G w → May name → Calm name w → top_of w name ≡ Some g → From R w (async_by_trigger p name s trigger form)
-  unfolding async_by_trigger
-  async_by_trigger-from p name s trigger (form.EntryCall entry owner actuals) g w good may calm top = keeps-from moves _ w good (entry_call-keeps p name call_kind.Triggering s)
-  async_by_trigger-from p name s trigger _ g w good may calm top = async_delay-from p name s trigger g w good calm top
-
-  pub asynchronous_select-from : (p : Image) (name : Who) (s trigger : StatementNo) (g : Frame) (w : World) → G w → May name → Calm name w → top_of w name ≡ Some g → From R w (asynchronous_select p name s trigger)
-  unfolding asynchronous_select
-  asynchronous_select-from p name s trigger g w good may calm top = async_by_trigger-from p name s trigger (form_of p trigger) g w good may calm top

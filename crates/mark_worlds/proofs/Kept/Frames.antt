@@ -21,7 +21,7 @@ use Rattle.profile_machine.specs.Frames.{top_of, new_frame, edit_top, goes, push
 use Rattle.profile_machine.specs.Operators.{Valued}
 use Rattle.machine_laws.proofs.Moves.{StepRelation, MoveRelation}
 use Rattle.profile_machine.specs.WellFormed.{awaits_trigger, is_triggered}
-use Rattle.mark_worlds.proofs.MarkFacts.{Ends, finalized_in}
+use Rattle.mark_worlds.proofs.MarkFacts.{Ends, apart_in}
 use Rattle.mark_worlds.proofs.FineMoves.{GoodWorld, Naming, FineMoves, Openings}
 use Rattle.mark_worlds.proofs.Kept.Combinators.{Keeps, Kept, From, Alters, Gives, branch-keeps, changes-keeps, either-from, keeps-from, looks-from, looks-keeps, looks_at-from, nothing-keeps, says-keeps, then-keeps, when-keeps, changes-from, changes_then-from}
 use Rattle.mark_worlds.proofs.Kept.Tasks.{edit_top-alters}
@@ -145,6 +145,6 @@ module _ {G : GoodWorld} {May Other : Naming} {R : StepRelation} {Q : MoveRelati
   -- ---- who acts opens a mark
 
   module _ {Owns : Who → RegionNo → Type 0} (openings : Openings G May Other Owns R) where
-    pub push-alters : (name : Who) (f : Frame) → May name → f.struck ≡ false → finalized_in f.mark ≡ None → awaits_trigger f.mark ≡ false → is_triggered f.mark ≡ false → Alters G R (push name f)
+    pub push-alters : (name : Who) (f : Frame) → May name → f.struck ≡ false → apart_in f.mark ≡ None → awaits_trigger f.mark ≡ false → is_triggered f.mark ≡ false → Alters G R (push name f)
     unfolding Alters
-    push-alters name f may plain no_finalize no_trigger untriggered w good = openings.pushes name f w good may plain no_finalize no_trigger untriggered
+    push-alters name f may plain common no_trigger untriggered w good = openings.pushes name f w good may plain common no_trigger untriggered

@@ -98,7 +98,7 @@ module _ {G : GoodWorld} {R : StepRelation} {Q : MoveRelation} (moves : RegionMo
   begin_handler-from p r w good h =
       then-from moves.fine (begin_action_on p who.Agent r.handler.object Write None (Some r.number)) _ w
       (begin_action_on-from moves.fine p who.Agent r.handler.object Write None (Some r.number) w good tt h)
-      (looks-keeps moves.fine _ (λ v. changes-keeps moves.fine _ (open_scope-alters moves.openings p who.Agent _ _ _ tt)))
+      (looks-keeps moves.fine _ (λ v. changes-keeps moves.fine _ (open_scope-alters moves.openings p who.Agent _ _ _ tt refl)))
 
   begin_handler_if_room-from : (p : Image) (r : Release) (w : World) → G w → LetsIn who.Agent r.handler.object Write w → From R w (begin_handler_if_room p r)
   unfolding begin_handler_if_room

@@ -30,7 +30,7 @@ use Rattle.mark_worlds.proofs.TriggerLemmas.{DueRightly, due_rightly}
 use Rattle.profile_machine.specs.Instant.{is_the_same_due, effect, is_over, effect_of_runner, finish_action, with_port, with_masked, with_kept_interrupt, interrupt_comes, deliver_kept_interrupt, script_item, with_script, take_item, items_due, script_items, take_delay, end_delay, time_out, come_due, take_due, all_due, appointments_due, events_due, moments_due, expire, expire_timer, no_timers_due, timers_due, run_out, no_budget_due, budgets_due, spend_quantum, quantum_spent, instant}
 use Rattle.machine_laws.proofs.Moves.{StepRelation, MoveRelation, Puts}
 use Rattle.mark_worlds.proofs.FineMoves.{GoodWorld, Naming, FineMoves, RegionMoves}
-use Rattle.mark_worlds.proofs.Kept.Combinators.{Keeps, From, Leads, Alters, changes-from, changes_then-from, settles-from, changes-keeps, for_each-keeps, for_some-keeps, keeps-from, looks-from, looks-keeps, nothing-keeps, says-keeps, settles-leads, then-from, then-keeps, then-leads, when-keeps}
+use Rattle.mark_worlds.proofs.Kept.Combinators.{Keeps, From, Leads, Alters, changes-from, changes_then-from, changes-keeps, for_each-keeps, for_some-keeps, keeps-from, looks-from, looks-keeps, nothing-keeps, says-keeps, settles-leads, then-from, then-keeps, then-leads, when-keeps}
 use Rattle.mark_worlds.proofs.Kept.Tasks.{edit_task-alters}
 use Rattle.mark_worlds.proofs.Kept.Dispatching.{to_tail-keeps, ready-keeps}
 use Rattle.mark_worlds.proofs.Kept.Frames.{goes-keeps, open_sequence-keeps, open_if_ready-keeps}
@@ -40,7 +40,10 @@ use Rattle.mark_worlds.proofs.Kept.Unwinding.{unwind-keeps}
 use Rattle.mark_worlds.proofs.Kept.CallEnds.{trigger_at-from, deliver-keeps}
 use Rattle.mark_worlds.proofs.Kept.Tasking.{take_terminates-keeps, unwind_all-keeps}
 use Rattle.mark_worlds.proofs.Kept.Handlers.{interrupt-keeps, clear_timer-alters, Releasing, releasing}
+use Rattle.mark_worlds.proofs.Kept.Arming.{Led, led_then-from, led_changes_then-from, settles_led-from}
 use Rattle.mark_worlds.proofs.Kept.Act.{free_act-from}
+use Rattle.mark_worlds.proofs.MarkFacts.{Begun}
+use Rattle.mark_worlds.proofs.TopLemmas.{begun_edited}
 use Rattle.profile_machine.specs.Values.{budget_of}
 use Rattle.profile_machine.specs.Handlers.{clear_timer}
 
@@ -180,6 +183,10 @@ module _ {G : GoodWorld} {May Other : Naming} {R : StepRelation} {Q : MoveRelati
   pub behind_action-leads : (p : Image) → Leads G Q (script_items p ▶ events_due p ▶ moments_due p ▶ timers_due p ▶ budgets_due p ▶ quantum_spent p)
   behind_action-leads p = search (then-leads, script_items-leads, events_due-leads, moments_due-leads, timers_due-leads, budgets_due-leads, quantum_spent-leads) depth 8
 
+-- whose action has ended has begun
+abbrev pub HasRunnerBegun : World → Type 0
+HasRunnerBegun w = (name : Who) → w.ran ≡ Some name → is_over (task_of w name).ticks_left ≡ true → Begun name w
+
 -- ---- where anybody may be changed
 
 module _ {G : GoodWorld} {R : StepRelation} {Q : MoveRelation} (moves : RegionMoves G R Q) where
@@ -190,31 +197,32 @@ module _ {G : GoodWorld} {R : StepRelation} {Q : MoveRelation} (moves : RegionMo
       (edited (λ t. FreeIn name t.state) name name (with_ticks None) w (λ t. refl) (λ same t h. h) (subst (λ (t : Task). FreeIn name t.state) (sym (one_of-is w name)) free))
 
   -- the effect of somebody that waits for no entry call
-  effect-from : (p : Image) → Puts G R p → (name : Who) (w : World) → G w → FreeIn name (task_of w name).state → From R w (effect p name)
+  effect-from : (p : Image) → Puts G R p → (name : Who) (w : World) → G w → FreeIn name (task_of w name).state → Begun name w → From (Led G) w (effect p name)
   unfolding effect Alters
-  effect-from p puts name w good free =
+  effect-from p puts name w good free begun =
       let v = edit_task name (with_ticks None) w in
       let edits = edit_task-alters moves.fine name (with_ticks None) (λ t. refl) (λ t. refl) (λ t. refl) (λ t. refl) w good in
-      changes_then-from moves.fine (edit_task name (with_ticks None)) _ w edits
-      (then-from moves.fine (act p name) _ v (free_act-from moves p puts name v (moves.fine.behind w v edits) (still-free name w free))
+      led_changes_then-from moves.fine (edit_task name (with_ticks None)) _ w
+      (led_then-from moves.fine (act p name) _ v
+      (free_act-from moves p puts name v (moves.fine.behind w v edits) (still-free name w free) (begun_edited name (with_ticks None) w (λ t. refl) (λ t. refl) begun))
       (then-keeps moves.fine _ _ (open_if_ready-keeps moves.fine p name tt)
       (then-keeps moves.fine _ _ (take_terminates-keeps moves.fine p name tt) (unwind_all-keeps moves.fine p name))))
 
   -- the one whose action ends waits for none
-  over-leads : (p : Image) → Puts G R p → (name : Who) (w : World) (test : Bool) → G w → (test ≡ true → FreeIn name (task_of w name).state) → let d = (elim test as (λ _. Move) [ true ↦ settles p (effect p name) | false ↦ rests ]) w in Q w d.1 d.0
-  over-leads p puts name w true good free = settles-from moves.fine p (effect p name) w (effect-from p puts name w good (free refl))
-  over-leads p puts name w false good free = moves.fine.rests w good
+  over-leads : (p : Image) → Puts G R p → (name : Who) (w : World) (test : Bool) → G w → (test ≡ true → FreeIn name (task_of w name).state) → (test ≡ true → Begun name w) → let d = (elim test as (λ _. Move) [ true ↦ settles p (effect p name) | false ↦ rests ]) w in Q w d.1 d.0
+  over-leads p puts name w true good free begun = settles_led-from moves.fine moves.arming p (effect p name) w (effect-from p puts name w good (free refl) (begun refl))
+  over-leads p puts name w false good free begun = moves.fine.rests w good
 
   runner-leads : (p : Image) → Puts G R p → (by : Option Who) (w : World) → G w → ((n : TaskNo) → by ≡ Some (who.Task n) → is_over (task_of w (who.Task n)).ticks_left ≡ true → is_at_call (waiting_of w (who.Task n)) ≡ false)
-      → let d = effect_of_runner p by w in Q w d.1 d.0
-  runner-leads p puts None w good free = moves.fine.rests w good
-  runner-leads p puts (Some (who.Task n)) w good free = over-leads p puts (who.Task n) w (is_over (task_of w (who.Task n)).ticks_left) good (free n refl)
-  runner-leads p puts (Some who.Agent) w good free = over-leads p puts who.Agent w (is_over w.agent.ticks_left) good (λ e. tt)
+      → ((name : Who) → by ≡ Some name → is_over (task_of w name).ticks_left ≡ true → Begun name w) → let d = effect_of_runner p by w in Q w d.1 d.0
+  runner-leads p puts None w good free begun = moves.fine.rests w good
+  runner-leads p puts (Some (who.Task n)) w good free begun = over-leads p puts (who.Task n) w (is_over (task_of w (who.Task n)).ticks_left) good (free n refl) (begun (who.Task n) refl)
+  runner-leads p puts (Some who.Agent) w good free begun = over-leads p puts who.Agent w (is_over w.agent.ticks_left) good (λ e. tt) (begun who.Agent refl)
 
-  pub instant-leads : (p : Image) → Puts G R p → (w : World) → G w → IsRunnerFree w → let d = instant p w in Q w d.1 d.0
+  pub instant-leads : (p : Image) → Puts G R p → (w : World) → G w → IsRunnerFree w → HasRunnerBegun w → let d = instant p w in Q w d.1 d.0
   unfolding Leads
-  instant-leads p puts w good free =
+  instant-leads p puts w good free begun =
       let rest : Move = script_items p ▶ events_due p ▶ moments_due p ▶ timers_due p ▶ budgets_due p ▶ quantum_spent p in
       let v = (finish_action p w).0 in
-      let first = runner-leads p puts w.ran w good free in
+      let first = runner-leads p puts w.ran w good free begun in
       moves.fine.leads_on w v (rest v).0 first (behind_action-leads moves.fine (releasing moves) p v (moves.fine.moved w v first))

@@ -12,15 +12,17 @@ use Rattle.profile_machine.specs.declared.world.World.{World}
 use Rattle.profile_machine.specs.declared.world.tasks.State.TheVariants.{Runnable}
 use Rattle.profile_machine.specs.declared.world.lines.Part.TheVariants.{OfOther}
 use Rattle.profile_machine.specs.Words.{same_who}
-use Rattle.profile_machine.specs.Steps.{changes, for_some}
-use Rattle.profile_machine.specs.Tasks.{edit_task, with_state, waiting_of}
+use Rattle.profile_machine.specs.Steps.{changes, for_some, ◌▷◌}
+use Rattle.profile_machine.specs.Tasks.{task_of, edit_task, with_state, waiting_of}
 use Rattle.profile_machine.specs.Dispatching.{ready}
 use Rattle.profile_machine.specs.Frames.{leaves}
 use Rattle.profile_machine.specs.Appointments.{drop_delay}
 use Rattle.profile_machine.specs.Masters.{part_of, has_dependents, has_activating, waits_for_activation, waits_for_dependents, gone_by_completion, wake_activator, end_group, end_activation_by, end_activation, complete_with, complete, wake_master, forget_task, terminate, leave_by_terminate}
 use Rattle.machine_laws.proofs.Moves.{StepRelation, MoveRelation}
+use Rattle.profile_machine.specs.declared.world.lines.Said.{Said}
+use Rattle.mark_worlds.proofs.MarkFacts.{Unarmed}
 use Rattle.mark_worlds.proofs.FineMoves.{GoodWorld, Naming, FineMoves, EachIs}
-use Rattle.mark_worlds.proofs.Kept.Combinators.{Keeps, Alters, changes-keeps, cond-keeps, for_each-keeps, for_some-keeps, keeps-from, looks-from, looks-keeps, nothing-keeps, then-keeps, when-keeps, when-keeps-if}
+use Rattle.mark_worlds.proofs.Kept.Combinators.{Keeps, From, changes-keeps, changes_then-from, cond-keeps, for_each-keeps, for_some-keeps, keeps-from, looks-from, looks-keeps, looks_at-from, then_known-from, nothing-keeps, then-keeps, when-keeps, when-keeps-if}
 use Rattle.mark_worlds.proofs.Kept.Tasks.{edit_task-alters}
 use Rattle.mark_worlds.proofs.Kept.Dispatching.{runnable-keeps, ready-keeps}
 use Rattle.mark_worlds.proofs.Kept.Frames.{leaves-keeps, raises-keeps, open_sequence-keeps}
@@ -87,13 +89,17 @@ module _ {G : GoodWorld} {May Other : Naming} {R : StepRelation} {Q : MoveRelati
       looks-from moves _ (λ w good. keeps-from moves _ w good
       (when-keeps moves (not (has_dependents w r)) _ (ready_master-keeps p actor w good (find (waits_for_dependents r) w.tasks) (λ t is. found-other Other (waits_for_dependents r) w.tasks t (moves.listed w good) is))))
 
-  pub forget_task-alters : (name : Who) → Alters G R (forget_task name)
-  unfolding Alters
-  forget_task-alters name w good = moves.forgets_task name w good
-
-  pub terminate-keeps : (p : Image) (actor name : Who) → Keeps G R (terminate p actor name)
+  -- it is forgotten where no trigger is appointed for it
+  pub terminate-from : (p : Image) (actor name : Who) (w : World) → G w → Unarmed name w → From R w (terminate p actor name)
   unfolding terminate
-  terminate-keeps p actor name = search (looks-keeps, complete-keeps, then-keeps, changes-keeps, drop_delay-alters, forget_task-alters, for_some-keeps, wake_master-keeps) depth 9
+  terminate-from p actor name w good none =
+      let still = λ (a b : World) (xs : List Said) (r : R a xs b). moves.still_unarmed name a b r in
+      looks_at-from moves (λ v. complete p actor name ▷ changes (drop_delay name) ▷ changes (forget_task name) ▷ for_some (task_of v name).master (wake_master p actor)) w
+      (then_known-from moves (Unarmed name) still (complete p actor name) _ w none (keeps-from moves (complete p actor name) w good (complete-keeps p actor name))
+      (λ v good_v none_v. then_known-from moves (Unarmed name) still (changes (drop_delay name)) _ v none_v (keeps-from moves (changes (drop_delay name)) v good_v (changes-keeps moves (drop_delay name) (drop_delay-alters moves name)))
+      (λ u good_u none_u. changes_then-from moves (forget_task name) _ u (moves.forgets_task name u good_u none_u)
+      (keeps-from moves _ (forget_task name u) (moves.behind u (forget_task name u) (moves.forgets_task name u good_u none_u))
+      (for_some-keeps moves (task_of w name).master (wake_master p actor) (λ r. wake_master-keeps p actor r))))))
 
   pub leave_by_terminate-keeps : (p : Image) (actor : Who) (t : Task) → Other t.who → Keeps G R (leave_by_terminate p actor t)
   unfolding leave_by_terminate

@@ -22,13 +22,13 @@ use Rattle.profile_machine.specs.Handlers.{charge}
 use Rattle.profile_machine.specs.Run.{opens, say, silently, says_run, with_serving, serve_if_free, serve, ticks_or, begin_action, one_tick_less, spend_tick, next_tick, says_idle, tock_of, tock, environment}
 use Rattle.machine_laws.proofs.Moves.{StepRelation, MoveRelation}
 use Rattle.machine_laws.specs.LineKinds.{is_of_tock}
-use Rattle.mark_worlds.proofs.Kept.Combinators.{Keeps, Leads, Alters, then-keeps, changes-keeps, says-keeps, then-leads, rests-leads, watches-leads}
+use Rattle.mark_worlds.proofs.Kept.Combinators.{From, Leads, Alters, changes_then-from, keeps-from, then-keeps, says-keeps, then-leads, rests-leads, watches-leads}
 use Rattle.mark_worlds.proofs.Kept.Dispatching.{to_tail-keeps}
 use Rattle.mark_worlds.proofs.Kept.Frames.{open_sequence-keeps}
-use Rattle.mark_worlds.proofs.Kept.Scopes.{open_scope-alters}
+use Rattle.mark_worlds.proofs.MarkFacts.{Unarmed}
 use Rattle.mark_worlds.proofs.Kept.Handlers.{charge-alters}
 use Rattle.mark_worlds.proofs.FineMoves.{GoodWorld, RegionMoves, TockMoves}
-use Rattle.profile_machine.specs.Scopes.{plainly}
+use Rattle.profile_machine.specs.Scopes.{open_scope, plainly}
 
 -- ---- a tock up to its tick
 
@@ -51,12 +51,15 @@ pub tock-parts : (p : Image) (w : World) → let before = before_tick p (choose 
 tock-parts p w = tock_of-parts p (choose w) w
 
 module _ {G : GoodWorld} {R : StepRelation} {Q : MoveRelation} (moves : RegionMoves G R Q) where
-  pub opens-keeps : (p : Image) → Keeps G R (opens p)
+  pub opens-from : (p : Image) (w : World) → G w → Unarmed environment w → From R w (opens p)
   unfolding opens
-  opens-keeps p =
-      then-keeps moves.fine _ _ (changes-keeps moves.fine _ (open_scope-alters moves.openings p environment p.environment (plainly None) opened_for.Task tt))
+  opens-from p w good none =
+      let v = open_scope p environment p.environment (plainly None) opened_for.Task w in
+      let first = moves.openings.opens_own_scope p environment p.environment (plainly None) w good none in
+      changes_then-from moves.fine (open_scope p environment p.environment (plainly None) opened_for.Task) _ w first
+      (keeps-from moves.fine _ v (moves.fine.behind w v first)
       (then-keeps moves.fine _ _ (says-keeps moves.fine Own (line_said.New (created.Task (record { 0 = 0 })) None p.main.priority) refl)
-      (then-keeps moves.fine _ _ (to_tail-keeps moves.fine p Own environment tt) (open_sequence-keeps moves.fine p Own environment tt)))
+      (then-keeps moves.fine _ _ (to_tail-keeps moves.fine p Own environment tt) (open_sequence-keeps moves.fine p Own environment tt))))
 
   begin_action-alters : (p : Image) (name : Who) → Alters G R (begin_action p name)
   unfolding Alters

@@ -1,5 +1,6 @@
 -- Scopes that begin and end, and their cells: each step keeps a relation that its parts keep.
-use Rattle.std.specs.Prelude.{ℕ, List}
+use Rattle.std.specs.Prelude.{ℕ, List, false}
+use Rattle.std.proofs.Common.{◌≡◌}
 use Rattle.ann_base.specs.declared.identities.RegionNo.{RegionNo}
 use Rattle.trace_text.specs.declared.events.Who.{Who}
 use Rattle.profile_machine.specs.declared.image.Image.{Image}
@@ -9,6 +10,7 @@ use Rattle.profile_machine.specs.declared.world.marks.Purpose.{Purpose}
 use Rattle.profile_machine.specs.declared.world.scopes.ScopeId.{ScopeId}
 use Rattle.profile_machine.specs.declared.world.scopes.Beginning.{Beginning}
 use Rattle.profile_machine.specs.Scopes.{edit_cells, write_cell, open_scope, end_scope}
+use Rattle.profile_machine.specs.Tasking.{is_task_scope}
 use Rattle.machine_laws.proofs.Moves.{StepRelation, MoveRelation}
 use Rattle.mark_worlds.proofs.FineMoves.{GoodWorld, Naming, FineMoves, Openings}
 use Rattle.mark_worlds.proofs.Kept.Combinators.{Alters}
@@ -26,6 +28,6 @@ module _ {G : GoodWorld} {May Other : Naming} {R : StepRelation} {Q : MoveRelati
   end_scope-alters id w good = moves.ends_scope id w good
 
 module _ {G : GoodWorld} {May Other : Naming} {Owns : Who → RegionNo → Type 0} {R : StepRelation} (openings : Openings G May Other Owns R) where
-  pub open_scope-alters : (p : Image) (name : Who) (scope : ScopeNo) (b : Beginning) (purpose : Purpose) → May name → Alters G R (open_scope p name scope b purpose)
+  pub open_scope-alters : (p : Image) (name : Who) (scope : ScopeNo) (b : Beginning) (purpose : Purpose) → May name → is_task_scope purpose ≡ false → Alters G R (open_scope p name scope b purpose)
   unfolding Alters
-  open_scope-alters p name scope b purpose may w good = openings.opens_scope p name scope b purpose w good may
+  open_scope-alters p name scope b purpose may within w good = openings.opens_scope p name scope b purpose w good may within

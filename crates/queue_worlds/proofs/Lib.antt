@@ -1,0 +1,16 @@
+pub mod NumberedLists
+pub mod TaskEdits
+pub mod ListLemmas
+pub mod Standing
+pub mod Calming
+pub mod Softening
+pub mod CallLists
+pub mod CallChanges
+pub mod Arrivals
+pub mod Chosen
+pub mod Serving
+pub mod Listed
+pub mod Moving
+pub mod Kept
+pub mod Numbers
+pub mod QueueWorlds

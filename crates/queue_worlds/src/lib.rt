@@ -1,0 +1,12 @@
+//! Entry queues in the worlds that a run reaches: laws of the profile machine's definitions alone.
+//! Each is the contract of a function that does nothing.
+#![tactic(auto)]
+
+ghost use Rattle.queue_worlds.specs.QueueWorlds.{ReachedQueuesAreRight};
+
+/// In every world that a run reaches an entry queue has calls of its own entry alone, which are there
+/// and have not begun (ISO/IEC 8652:2012, 9.5.3).
+#[tactic(auto, using(crate::proofs::QueueWorlds::reached_queues_are_right))]
+pub fn reached_worlds_queue_rightly()
+    ensures { ReachedQueuesAreRight }
+{}

@@ -32,7 +32,7 @@ use Rattle.queue_worlds.proofs.TaskEdits as tasks
 use Rattle.profile_machine.specs.Notation.{p, t}
 use Rattle.profile_machine.specs.WellFormed.{number_in}
 use Rattle.queue_worlds.proofs.Calming.{Softens, calm-from, came-same, softens-same, task_of-same}
-use Rattle.queue_worlds.proofs.ListLemmas.{Falls, Falls-without, Rises-behind, Rises-without}
+use Rattle.machine_laws.proofs.ListLemmas.{Falls, Falls-without, Rises-behind, Rises-without}
 use Rattle.queue_worlds.proofs.Standing.{Calm, Fall, Kind, Nature, Stands, Waited_in, ends_by, has_own, is_ending, is_named, is_task, natures, natures_of, object_key, served, served_in, some_nature, task_number, top_waits, waits_end}
 use Rattle.queue_worlds.proofs.TaskEdits.{added, gone}
 

@@ -25,7 +25,7 @@ use Rattle.queue_worlds.proofs.NumberedLists as numbered
 use Rattle.queue_worlds.proofs.TaskEdits as tasks
 use Rattle.profile_machine.specs.Notation.{agent, t}
 use Rattle.profile_machine.specs.WellFormed.{number_in}
-use Rattle.queue_worlds.proofs.ListLemmas.{Falls, Falls-edit_where, Rises, Rises-set_where}
+use Rattle.machine_laws.proofs.ListLemmas.{Falls, Falls-edit_where, Rises, Rises-set_where}
 use Rattle.queue_worlds.proofs.NumberedLists.{edited}
 use Rattle.queue_worlds.proofs.Standing.{Calm, Came, Ended, Fall, Idle, Kind, Own, Stands, Waited, awaits_at, ends_by, has_own, is_ending, is_named, is_task, natures, natures_of, object_key, served_in, some_nature, task_number, top_waits, waits_end}
 use Rattle.queue_worlds.proofs.TaskEdits.{edited_to, one_of, same_who-path}

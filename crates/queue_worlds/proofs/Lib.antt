@@ -1,6 +1,5 @@
 pub mod NumberedLists
 pub mod TaskEdits
-pub mod ListLemmas
 pub mod Standing
 pub mod Calming
 pub mod Softening

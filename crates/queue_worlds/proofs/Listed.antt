@@ -14,7 +14,7 @@ use Rattle.profile_machine.specs.declared.world.tasks.Task.{Task}
 use Rattle.profile_machine.specs.Words.{same_who, option_or_else}
 use Rattle.profile_machine.specs.Tasks.{is_who, is_made, is_made_state, nobody, task_of, waiting_in}
 use Rattle.profile_machine.specs.WellFormed.{number_in}
-use Rattle.queue_worlds.proofs.ListLemmas.{Rises}
+use Rattle.machine_laws.proofs.ListLemmas.{Rises}
 use Rattle.queue_worlds.proofs.Standing.{Awake, Good, is_named, is_task, task_number, waits_end}
 
 abbrev pub AllTasks : (Task → Type 0) → List Task → Type 0

@@ -21,7 +21,7 @@ use Rattle.profile_machine.specs.Calls.{is_call, call_of, edit_queue}
 use Rattle.profile_machine.specs.Notation.{p, t}
 use Rattle.queue_worlds.proofs.CallLists.{same-call}
 use Rattle.queue_worlds.proofs.Calming.{StandsAt, edit_task-calls, edit_task-drawn, edit_task-fall, edit_task-objects, found-appointments, named-edited, task-edited, task_of-same}
-use Rattle.queue_worlds.proofs.ListLemmas.{Falls-edit_where}
+use Rattle.machine_laws.proofs.ListLemmas.{Falls-edit_where}
 use Rattle.queue_worlds.proofs.Serving.{Beside, Marks, Services, call-was, good-by, low-is, marks-same, queue-comes, set-was}
 use Rattle.queue_worlds.proofs.Standing.{Awake, Calm, Good, Idle, Kind, Own, Stands, awaits_at, calm-awake, calm-good, calm-owns, ends_by, has_own, natures, object_key, one_if, rightly, served, served_in, some_nature}
 

@@ -20,7 +20,7 @@ use Rattle.profile_machine.specs.Values.{is_object, queue_at, queues_of}
 use Rattle.profile_machine.specs.WellFormed.{all_adjacent, is_queued_call, queue_is_right, queues_from, task_queues_are_right, queues_are_right}
 use Rattle.machine_laws.specs.NumberLaws.{calls_fall}
 use Rattle.queue_worlds.specs.QueueWorlds.{ReachedQueuesAreRight}
-use Rattle.queue_worlds.proofs.ListLemmas.{Falls, both}
+use Rattle.machine_laws.proofs.ListLemmas.{Falls, both}
 use Rattle.queue_worlds.proofs.Kept.Run.{reached-good}
 use Rattle.queue_worlds.proofs.Listed.{AllTasks, listed-each}
 use Rattle.queue_worlds.proofs.Numbers.{calls-fall}

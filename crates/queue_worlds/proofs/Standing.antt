@@ -27,7 +27,7 @@ use Rattle.profile_machine.specs.WellFormed.{same_owner}
 use Rattle.profile_machine.specs.declared.world.objects.Object.{Object}
 use Rattle.profile_machine.specs.Notation.{entry, p, t}
 use Rattle.profile_machine.specs.WellFormed.{number_in}
-use Rattle.queue_worlds.proofs.ListLemmas.{Falls, Rises}
+use Rattle.machine_laws.proofs.ListLemmas.{Falls, Rises}
 
 -- ---- in queues
 

@@ -154,17 +154,9 @@ pub branch-calms : {E : Kind} (b : Bool) (f g : Step) → Calms E f → Calms E 
 branch-calms true f g a b = a
 branch-calms false f g a b = b
 
-pub either-from : {E : Kind} (b : Bool) (f g : Step) (w : World) → From E w f → From E w g → From E w (elim b as (λ _. Step) [ true ↦ f | false ↦ g ])
-either-from true f g w a b = a
-either-from false f g w a b = b
-
 pub cond-keeps : {E : Kind} {name : Who} (b : Bool) (f g : Step) → Keeps E name f → Keeps E name g → Keeps E name (cond b f g)
 cond-keeps true f g a b = a
 cond-keeps false f g a b = b
-
-pub option-keeps : {E : Kind} {name : Who} {X : Type 0} (x : Option X) (f : Step) (g : X → Step) → Keeps E name f → ((y : X) → Keeps E name (g y)) → Keeps E name (elim x as (λ _. Step) [ None ↦ f | Some y ↦ g y ])
-option-keeps None f g a b = a
-option-keeps (Some y) f g a b = b y
 
 pub when-keeps : {E : Kind} {name : Who} (b : Bool) (step : Step) → Keeps E name step → Keeps E name (when b step)
 when-keeps true step a = a

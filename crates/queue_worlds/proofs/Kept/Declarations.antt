@@ -32,7 +32,7 @@ use Rattle.profile_machine.specs.Declarations.{default_cells, set_defaults, init
 use Rattle.profile_machine.specs.Values.{seen_by}
 use Rattle.queue_worlds.proofs.Arrivals.{adds_object-calm}
 use Rattle.queue_worlds.proofs.Calming.{same-calm}
-use Rattle.queue_worlds.proofs.Kept.Combinators.{Alters, Gives, Keeps, Quiets, bind-gives, changes-keeps, looks-from, looks-keeps, next-gives, ok-gives, quiets-alters, says-keeps, stays-calm, then-keeps}
+use Rattle.queue_worlds.proofs.Kept.Combinators.{Alters, Gives, Keeps, Quiets, bind-gives, changes-keeps, looks-from, looks-keeps, next-gives, ok-gives, says-keeps, stays-calm, then-keeps}
 use Rattle.queue_worlds.proofs.Kept.Frames.{edit_cells-quiets, given-from, given_world-from, goes-keeps, store-gives, write_cell-quiets}
 use Rattle.queue_worlds.proofs.Kept.Statements.{copy_cells-quiets}
 use Rattle.queue_worlds.proofs.Standing.{Calm, Kind, calm-then}
@@ -55,9 +55,6 @@ components_initialized-gives q own_cells l (c ∷ cs) w =
 
 pub set_thing-quiets : {E : Kind} (p : Image) (l : Located) (v : Value) → Quiets E (set_thing p l v)
 set_thing-quiets p l v = record { at = λ w. (write_cell-quiets l.within _ v).at w }
-
-pub set_thing-alters : {E : Kind} {name : Who} (p : Image) (l : Located) (v : Value) → Alters E name (set_thing p l v)
-set_thing-alters p l v = quiets-alters _ (set_thing-quiets p l v)
 
 object_declared-gives : {E : Kind} (q : Seen) (d : DeclNo) (i : Initial) → Gives E q.world (object_declared q d i)
 object_declared-gives q d i =

@@ -45,7 +45,7 @@ use Rattle.queue_worlds.proofs.Kept.CallEnds.{found-number, readied, readied-awa
 use Rattle.queue_worlds.proofs.Kept.Combinators.{From, Keeps, Quiets, branch-keeps, calms-from, changes-calms, changes-from, changes_then-from, keeps-from, looks_at-from, nothing-from, nothing-keeps, says-calms, then-after, then-calms, then-from, when-from, when-keeps, with_call-from, world_behind}
 use Rattle.queue_worlds.proofs.Kept.Frames.{goes-keeps, leaves-keeps, open_sequence-keeps, pass_on-keeps, raises-keeps}
 use Rattle.queue_worlds.proofs.Kept.Parts.{call_at, call_at-awaits, call_at-depth, edit_abortable_at-calm, edited-ending}
-use Rattle.queue_worlds.proofs.ListLemmas.{both}
+use Rattle.machine_laws.proofs.ListLemmas.{both}
 use Rattle.queue_worlds.proofs.Softening.{Unset, marks-calm, pop-calm}
 use Rattle.queue_worlds.proofs.Standing.{Awake, Calm, Ended, Good, Idle, Kind, Out, any_kind, awaits_at, awaits_part, calls_part, calm-awake, calm-ended, calm-good, calm-idle, calm-out, calm-then, ended-out, is_ending, nature, natures, part_of, waits_end}
 
@@ -461,10 +461,6 @@ deliver-from {E = E} p part c outcome w good may out idle awake loose =
     (λ v calm. unwind-from p part (who.Task d.caller) v loose (calm-good p w v good calm)))
 
 -- a call that is gone is in no queue
-pub gone-from : {E : Kind} (p : Image) (part : Part) (c : Call) (w : World) → From E w (gone p part c)
-unfolding gone
-gone-from p part c w = then-after _ _ w (changes-from (unqueued p c) w (unqueued-calm p c w)) (λ v calm. calms-from _ v (says-calms part (line.Gone c.caller c.number)))
-
 pub gone_then-from : {E : Kind} (p : Image) (part : Part) (c : Call) (g : Step) (w : World) → From E (unqueued p c w) g → From E w (gone p part c ▷ g)
 unfolding gone
 gone_then-from p part c g w k = record { leads = λ said. calm-then w (unqueued p c w) _ (unqueued-calm p c w) (k.leads _) }

@@ -286,23 +286,11 @@ lose_running-calms p name cause = looks-calms _ (λ w. then-calms _ _ (changes-c
 
 -- ---- the same of who is awake
 
-pub ready-keeps : {E : Kind} {name : Who} (p : Image) (part : Part) (someone : Who) → Keeps E name (ready p part someone)
-ready-keeps p part someone = any-keeps _ (ready-calms p part someone)
-
 pub block-keeps : {E : Kind} {name : Who} (part : Part) (someone : Who) (waiting : Waiting) → for_end waiting ≡ false → Keeps E name (block part someone waiting)
 block-keeps part someone waiting is = any-keeps _ (block-calms part someone waiting is)
 
 pub to_tail-keeps : {E : Kind} {name : Who} (p : Image) (part : Part) (someone : Who) → Keeps E name (to_tail p part someone)
 to_tail-keeps p part someone = any-keeps _ (to_tail-calms p part someone)
-
-pub to_head-keeps : {E : Kind} {name : Who} (p : Image) (part : Part) (someone : Who) → Keeps E name (to_head p part someone)
-to_head-keeps p part someone = any-keeps _ (to_head-calms p part someone)
-
-pub inherit_running-keeps : {E : Kind} {name : Who} (p : Image) (someone : Who) (cause : Cause) (level : ℕ) → Keeps E name (inherit_running p someone cause level)
-inherit_running-keeps p someone cause level = any-keeps _ (inherit_running-calms p someone cause level)
-
-pub edit_cells-alters : {E : Kind} {name : Who} (id : ScopeId) (f : List Value → List Value) → Alters E name (edit_cells id f)
-edit_cells-alters id f = quiets-alters _ (edit_cells-quiets id f)
 
 pub write_cell-alters : {E : Kind} {name : Who} (id : ScopeId) (place : ℕ) (value : Value) → Alters E name (write_cell id place value)
 write_cell-alters id place value = quiets-alters _ (write_cell-quiets id place value)
@@ -371,10 +359,6 @@ popped name f w steady good top free = pop-calm name w steady (unset-of name w f
 pub given-from : {E : Kind} {X : Type 0} (part : Part) (name : Who) (result : Result X Raised) (f : X → Step) (w : World) → ((x : X) → From E w (f x)) → From E w (given part name result f)
 given-from part name (Ok x) f w k = k x
 given-from part name (Err e) f w k = calms-from _ w (raises-calms part name e)
-
-pub given_as-from : {E : Kind} {X : Type 0} (part : Part) (name : Who) (result : Result X Raised) (f : X → Step) (w : World) → ((x : X) → result ≡ Ok x → From E w (f x)) → From E w (given part name result f)
-given_as-from part name (Ok x) f w k = k x refl
-given_as-from part name (Err e) f w k = calms-from _ w (raises-calms part name e)
 
 pub raise_if-from : {E : Kind} (name : Who) (test : Bool) (e : Raised) (step : Step) (w : World) → (test ≡ false → From E w step) → From E w (raise_if name test e step)
 raise_if-from name true e step w k = calms-from _ w (raises-calms Own name e)

@@ -42,7 +42,7 @@ use Rattle.profile_machine.specs.Steps.{for_some}
 use Rattle.profile_machine.specs.WellFormed.{is_right}
 use Rattle.queue_worlds.proofs.Calming.{same-calm}
 use Rattle.queue_worlds.proofs.Kept.Actions.{begin_action_on-keeps, end_release-calms, find_held-calms}
-use Rattle.queue_worlds.proofs.Kept.Combinators.{Alters, Calms, Keeps, any-keeps, branch-keeps, changes-calms, changes-keeps, for_some-calms, looks-calms, looks-from, looks-keeps, nothing-calms, nothing-keeps, says-calms, sees-keeps, stays-calm, then-calms, then-keeps, unchanged-alters}
+use Rattle.queue_worlds.proofs.Kept.Combinators.{Alters, Calms, Keeps, any-keeps, branch-keeps, changes-calms, changes-keeps, for_some-calms, looks-calms, looks-from, looks-keeps, nothing-calms, nothing-keeps, says-calms, sees-keeps, stays-calm, then-calms, then-keeps}
 use Rattle.queue_worlds.proofs.Kept.Frames.{appoint-keeps, becomes-from, drop_appointment-alters, edit_task-alters, edit_task-quiets, given-keeps, goes-keeps, open_scope-alters, raise_if-keeps, ready-calms, store-gives}
 use Rattle.queue_worlds.proofs.Standing.{Calm, Kind, calm-then}
 
@@ -165,10 +165,6 @@ set_budget-keeps p name s d named = search (sees-keeps, given-keeps, with_room_f
 pub cancel_budget-keeps : {E : Kind} (p : Image) (name : Who) (s : StatementNo) (d : DeclNo) (target : VariableName) → Keeps E name (cancel_budget p name s d target)
 unfolding cancel_budget
 cancel_budget-keeps p name s d target = search (sees-keeps, given-keeps, goes-keeps, then-keeps, changes-keeps, edit_budget-alters, answer-keeps) depth 9
-
-pub charge_budget-alters : {E : Kind} {name : Who} (n : Option ℕ) → Alters E name (charge_budget n)
-charge_budget-alters None = search (unchanged-alters)
-charge_budget-alters (Some b) = search (edit_budget-alters)
 
 -- ---- a tick is charged
 

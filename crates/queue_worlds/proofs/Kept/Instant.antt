@@ -45,7 +45,7 @@ use Rattle.queue_worlds.proofs.Kept.Handlers.{interrupt-calms, release-calms}
 use Rattle.queue_worlds.proofs.Kept.Onward.{Onward, calm-onward, calms-any, with_call-onward}
 use Rattle.queue_worlds.proofs.Kept.Parts.{call_at-awaits, edit_abortable_at-calm}
 use Rattle.queue_worlds.proofs.Kept.Sending.{no-steady}
-use Rattle.queue_worlds.proofs.ListLemmas.{both}
+use Rattle.machine_laws.proofs.ListLemmas.{both}
 use Rattle.queue_worlds.proofs.Standing.{Awake, Calm, Good, Idle, Kind, Out, Waited, any_kind, calm-good, calm-idle, is_named, quiet_kind, waits_end}
 
 -- ---- moves
@@ -154,10 +154,6 @@ time_out-onward p c w good idle = with_call-onward c _ w good (λ d is.
     (deliver-from p Own c call_ended.Cancelled v good_v refl out (calm-idle w v calm c idle) (no-steady v) (λ x. refl)))))
 
 -- a part that waits for its moment is triggered; a task that is there no more has none
-none-edited : (f : Task → Task) (t : TaskNo) (w : World) (found : Option Task) → found ≡ None → edit_task_found (who.Task t) f w found ≡ w
-none-edited f t w None e = refl
-none-edited f t w (Some u) e = cc
-
 trigger-calm : {E : Kind} (p : Image) (t : TaskNo) (depth : ℕ) (v : World) → E.steady (who.Task t) ≡ false → Good p v → Waited t depth v → is_appointed (is_trigger_of t depth) v ≡ false → Calm E v (edit_abortable_at (who.Task t) depth triggered_mark v)
 trigger-calm p t depth v free good (inl awaits) none =
     edit_abortable_at-calm triggered_mark (λ m. refl) (who.Task t) depth None v (call_at-awaits depth (frames_of v (who.Task t)) awaits) (λ c e. absurd (none-some c e))

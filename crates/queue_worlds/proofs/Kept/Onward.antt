@@ -1,5 +1,5 @@
 -- Steps that lead from good worlds to good ones: of who acts and is awake, and of anybody.
-use Rattle.std.proofs.Common.{◌≡◌, ℕ, Bool, true, false, cond, ◌<◌, ◌≤◌, ◌++◌, List, [], ◌∷◌, Option, Some, None, refl, arith}
+use Rattle.std.proofs.Common.{◌≡◌, ℕ, Bool, true, false, ◌<◌, ◌≤◌, ◌++◌, List, [], ◌∷◌, Option, Some, None, refl, arith}
 use Rattle.std.specs.Prelude.{Result, Ok, Err}
 use Rattle.ann_base.specs.declared.exceptions.Raised.{Raised}
 use Rattle.ann_base.specs.declared.exceptions.Raised.TheVariants as exception
@@ -141,21 +141,6 @@ sees-acts q someone f a = looks-acts (λ w. f (seen_by q w someone)) (λ w. a (s
 pub branch-acts : {p : Image} {name : Who} (b : Bool) (f g : Step) → Acts p name f → Acts p name g → Acts p name (elim b as (λ _. Step) [ true ↦ f | false ↦ g ])
 branch-acts true f g a b = a
 branch-acts false f g a b = b
-
-pub cond-acts : {p : Image} {name : Who} (b : Bool) (f g : Step) → Acts p name f → Acts p name g → Acts p name (cond b f g)
-cond-acts true f g a b = a
-cond-acts false f g a b = b
-
-pub nothing-acts : {p : Image} {name : Who} → Acts p name nothing
-nothing-acts = any-acts nothing nothing-any
-
-pub when-acts : {p : Image} {name : Who} (b : Bool) (f : Step) → Acts p name f → Acts p name (when b f)
-when-acts true f a = a
-when-acts false f a = nothing-acts
-
-pub for_some-acts : {p : Image} {name : Who} {X : Type 0} (x : Option X) (f : X → Step) → ((y : X) → Acts p name (f y)) → Acts p name (for_some x f)
-for_some-acts None f a = nothing-acts
-for_some-acts (Some x) f a = a x
 
 pub given-acts : {p : Image} {name : Who} {X : Type 0} (part : Part) (someone : Who) (result : Result X Raised) (f : X → Step) → ((x : X) → Acts p name (f x)) → Acts p name (given part someone result f)
 given-acts part someone (Ok x) f k = k x

@@ -43,9 +43,6 @@ abortable-call c (InInitialize l) e = cc
 abortable-call c (InFinalize o) e = cc
 abortable-call c (InAssign m) e = cc
 
-eqb-self : (n : ℕ) → eqb n n ≡ true
-eqb-self n = eq-eqb n n refl
-
 deeper : (c : CallNo) (depth : ℕ) (fs : List Frame) → depth_of_abortable c fs ≡ Some depth → depth < length fs
 deeper c depth [] e = cc
 deeper c depth (f ∷ fs) e = step (is_abortable_of c f.mark) e (λ k. deeper c depth fs k) where

@@ -33,16 +33,12 @@ use Rattle.profile_machine.specs.Sending.{open_abortable, new_abortable_mark, ab
 use Rattle.queue_worlds.proofs.CallChanges.{Directed, Edits, appoint-calm, edit_call-calm, unqueued-calm, unqueued-out}
 use Rattle.queue_worlds.proofs.CallLists.{same-call}
 use Rattle.queue_worlds.proofs.Kept.CallEnds.{attempt_with-from, found-directed, found-number, resume-from}
-use Rattle.queue_worlds.proofs.Kept.Combinators.{Alters, Calms, From, calms-from, changes-from, changes_then-from, from-calms, looks_at-from, nothing-from, said_then-from, says-calms, stays-calm, then-after, when-from, with_call-from, world_behind}
+use Rattle.queue_worlds.proofs.Kept.Combinators.{Alters, Calms, From, calms-from, changes-from, changes_then-from, from-calms, looks_at-from, nothing-from, said_then-from, stays-calm, then-after, when-from, with_call-from, world_behind}
 use Rattle.queue_worlds.proofs.Kept.Ends.{AllAwake, MayEnd, all_awake-on, deliver-from}
 use Rattle.queue_worlds.proofs.Kept.Frames.{block-calms, push-alters, ready-calms}
 use Rattle.queue_worlds.proofs.Kept.Onward.{Onward}
 use Rattle.queue_worlds.proofs.Moving.{Next, calm-next, next-then}
 use Rattle.queue_worlds.proofs.Standing.{Awake, Calm, Good, Idle, Kind, Out, any_kind, calm-awake, calm-good, calm-idle, quiet_kind, waits_end}
-
-pub says_call-calms : {E : Kind} (part : Part) (c : Call) → Calms E (says_call part c)
-unfolding says_call
-says_call-calms part c = says-calms part _
 
 pub open_abortable-alters : {E : Kind} (p : Image) (name : Who) (select : StatementNo) (c : CallNo) → Alters E name (open_abortable p name select (Some c))
 open_abortable-alters p name select c = push-alters name (new_frame (new_abortable_mark select (Some c)) (abortable_in (form_of p select))) (λ x. refl) (λ x. refl) (λ x. refl) refl

@@ -1,12 +1,12 @@
 //! What every world that a run reaches keeps of its lists.
 //!
-//! Of the test `is_well_formed` these parts are not proved of every reached world yet:
+//! Other parts of the test `is_well_formed` are laws of crates above:
 //!
-//! - who is ready, and nobody else, is in the ready queues, at the active priority and with the deadline (D.2.1);
-//! - the scopes in use are those of the marks, each run by whose mark it is (3.1);
+//! - who is in the ready queues, and where, of `place_worlds` (D.2.1);
+//! - the scopes in use are those of the marks, each run by whose mark it is, of `scope_worlds` (3.1);
 //! - open protected actions are marks of their holders, who are not blocked and have at least the ceiling as active
-//!   priority (9.5.1, D.3);
-//! - what stands in an entry queue is a call on that entry which has not begun (9.5.3).
+//!   priority, of `action_worlds` (9.5.1, D.3);
+//! - what stands in an entry queue is a call on that entry which has not begun, of `queue_worlds` (9.5.3).
 //!
 //! That no appointment is before now is a law of `time`.
 ghost use Rattle.machine_laws.specs.NumberLaws.{TasksAreNumbered, CallsAreNumbered, RegisteredAreNumbered, ScopesAreNumbered, ObjectsAreNumbered, ReleasesAreNumbered, AppointmentsAreInOrder};

@@ -2,9 +2,9 @@
 ghost use Rattle.std.specs.Prelude.{◌≡◌};
 
 use ada_image::NamesOf;
-use ada_occurrences::Occurrences;
 use ada_regions::{AdaType, Subtype};
 use ann_base::Place;
+use occurrence_lists::Occurrences;
 use std::marker::Model;
 use world_tables::List;
 

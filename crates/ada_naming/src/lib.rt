@@ -10,4 +10,4 @@ mod frames;
 mod naming;
 mod packages;
 
-pub use naming::{behind, last_priority_of, name_fault_of, names_of, nothing_known};
+pub use naming::{behind, name_fault_of, names_of, nothing_known};

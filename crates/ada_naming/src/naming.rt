@@ -1,11 +1,10 @@
 //! The table of a source, and the first of its names that has no declaration, two, or an unclear one.
 ghost use Rattle.std.specs.Prelude.{◌≡◌, IfOk, OnOk, map};
-ghost use Rattle.std.specs.List.{list_any};
 ghost use Rattle.ada_regions.specs.Occurrences.{a_subprogram};
 ghost use Rattle.ada_regions.specs.Declaring.{library_frame, declared};
 ghost use Rattle.ada_regions.specs.Regions.{ended, library_unit, withed};
-ghost use Rattle.ada_regions.specs.Numbered.{is_wide, last_priority_of, nothing_known, behind, behind_all, names_of, name_fault_of};
-ghost use Rattle.ada_occurrences.specs.Shown.{occurrence_shown};
+ghost use Rattle.ada_regions.specs.Numbered.{last_priority_of, nothing_known, behind, behind_all, names_of, name_fault_of};
+ghost use Rattle.occurrence_lists.specs.Shown.{occurrence_shown};
 
 use crate::beginnings::{
     begin_accept, begin_block, begin_context, begin_context_of, begin_entry_body,
@@ -23,11 +22,13 @@ use ada_declarations::{
     subprogram_declared, subtype_declared, task_declared,
 };
 use ada_entities::{enclosure_here, ended};
-use ada_occurrences::{Occurrence, occurrences_of};
+use ada_occurrences::occurrences_of;
+use ada_predefined::last_priority_of;
 use ada_regions::{Frame, NameFault, Names, NumberedScope};
-use ada_tree::{Identifier, Name, Pragma, SubprogramSpecification, Unit};
+use ada_tree::{Identifier, Name, SubprogramSpecification, Unit};
 use ada_visibility::{name_resolved, resolved};
 use ann_base::{NoMemory, Place};
+use occurrence_lists::Occurrence;
 use std::alloc::Global;
 use world_tables::{List, Table};
 
@@ -173,30 +174,6 @@ fn behind_all<'t>(
         behind(alloc, names, *occurrence)?;
     }
     Ok(())
-}
-
-fn is_wide(given: &Pragma) -> bool
-    ensures { result ≡ is_wide given.now }
-{
-    given.name.text.as_slice() == b"priority_range".as_slice()
-}
-
-fn any_is_wide(pragmas: &[Pragma]) -> bool
-    ensures { result ≡ list_any is_wide pragmas.now }
-{
-    for given in pragmas {
-        if is_wide(given) {
-            return true;
-        }
-    }
-    false
-}
-
-/// The last value of System.Priority under these pragmas.
-pub fn last_priority_of(pragmas: &[Pragma]) -> u8
-    ensures { result ≡ last_priority_of pragmas.now }
-{
-    if any_is_wide(pragmas) { 97 } else { 30 }
 }
 
 /// The region of Standard, in which library units stand (10.1).

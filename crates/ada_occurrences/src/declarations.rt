@@ -3,7 +3,6 @@ ghost use Rattle.std.specs.Prelude.{◌≡◌, ◌++◌, OnOk};
 ghost use Rattle.ada_regions.specs.Occurrences.{an_object, a_component, a_literal, an_exception, declares_all, if_there};
 ghost use Rattle.ada_regions.specs.NamesInDeclarations.{names_in_definition, names_in_profile, names_in_private, names_in_subprogram_body, names_in_entry_body};
 
-use crate::occurrences::{Occurrence, Occurrences};
 use crate::statements::{hide_all, tell_body, tell_parameters};
 use crate::telling::{Tell, TellSequence, tell_each};
 use ada_tree::{
@@ -13,6 +12,7 @@ use ada_tree::{
     TaskDeclaration, TaskDefinition, TypeDeclaration, TypeDefinition,
 };
 use ann_base::NoMemory;
+use occurrence_lists::{Occurrence, Occurrences};
 use sqlite_items::Items;
 
 /// Declares the objects of a declaration.

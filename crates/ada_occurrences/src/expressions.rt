@@ -1,10 +1,10 @@
 //! The names in expressions (ISO/IEC 8652:2012, clause 4).
 ghost use Rattle.std.specs.Prelude.{◌≡◌, ◌++◌, OnOk};
 
-use crate::occurrences::{Occurrence, Occurrences};
 use crate::telling::{Tell, tell_each};
 use ada_tree::{Addend, Argument, Expression, ExpressionForm, Multiplied, Operand};
 use ann_base::NoMemory;
+use occurrence_lists::{Occurrence, Occurrences};
 
 impl<E: Tell> Tell for Operand<E> {
     ghost use Rattle.ada_regions.specs.NamesInExpressions.{names_in_operand};

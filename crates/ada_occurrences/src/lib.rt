@@ -5,11 +5,9 @@
 mod declarations;
 mod expressions;
 mod labels;
-mod occurrences;
 mod selects;
 mod statements;
 mod telling;
 mod units;
 
-pub use occurrences::{Occurrence, Occurrences};
 pub use units::occurrences_of;

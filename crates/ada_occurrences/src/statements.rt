@@ -4,7 +4,6 @@ ghost use Rattle.ada_regions.specs.Occurrences.{hides_all, a_parameter, declares
 ghost use Rattle.std.specs.List.{flat_map};
 ghost use Rattle.ada_regions.specs.NamesInStatements.{names_in_parameter, names_in_parameters, names_in_statements, label_name};
 
-use crate::occurrences::{Occurrence, Occurrences};
 use crate::telling::{Tell, TellSequence, tell_each};
 use ada_tree::{
     Accept, AcceptBody, Assignment, Block, Call, Case, CaseAlternative, Choice, Constraint, Delay,
@@ -12,6 +11,7 @@ use ada_tree::{
     Name, OneOrMore, Parameter, Statement, SubtypeIndication,
 };
 use ann_base::{NoMemory, Place};
+use occurrence_lists::{Occurrence, Occurrences};
 use sqlite_items::Items;
 
 /// A name that is used.

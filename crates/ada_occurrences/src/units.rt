@@ -4,7 +4,6 @@ ghost use Rattle.ada_regions.specs.Occurrences.{in_all, if_there, one, within_re
 ghost use Rattle.ada_regions.specs.NamesInUnits.{clause_with, names_in_part, names_in_private_part, names_in_package_statements, names_in_package_declaration, names_in_package_body, names_in_main, names_in_unit};
 
 use crate::labels::{TellLabels, tell_labels_of_each};
-use crate::occurrences::{Occurrence, Occurrences};
 use crate::statements::tell_body;
 use crate::telling::{Tell, TellSequence, tell_each};
 use ada_tree::{
@@ -12,6 +11,7 @@ use ada_tree::{
     PackageBody, PackageDeclaration, Sequence, SequenceParts, Unit,
 };
 use ann_base::NoMemory;
+use occurrence_lists::{Occurrence, Occurrences};
 use sqlite_items::Items;
 use std::alloc::Global;
 

@@ -5,7 +5,7 @@ ghost use Rattle.ada_legality.specs.Units.{known_with, units_found};
 ghost use Rattle.legality.specs.Behind.{found_behind};
 
 use ada_legality::{Fault, Finding, InForce};
-use ada_occurrences::{Occurrences, occurrences_of};
+use ada_occurrences::occurrences_of;
 use ada_regions::{AdaType, Names};
 use ada_tree::Unit;
 use ann_base::NoMemory;
@@ -14,6 +14,7 @@ use legality_contexts::{indexes_of, known_with};
 use legality_pragmas::{deadline_ranges_of, in_force_by, pragmas_judged};
 use legality_sources::units_found;
 use legality_units::units_used;
+use occurrence_lists::Occurrences;
 use profile_machine::Sequence;
 use std::alloc::Global;
 use world_tables::List;

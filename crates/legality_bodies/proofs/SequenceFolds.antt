@@ -21,8 +21,8 @@ use Rattle.ada_legality.specs.Statements.{handled_judged, handler_found, stateme
 use Rattle.ada_legality.specs.declared.findings.BodyKind.TheVariants as completing
 use Rattle.ada_legality.specs.declared.standing.Around.TheVariants as around
 use Rattle.ada_legality.specs.declared.standing.Known.{Known}
-use Rattle.legality_bodies.proofs.Lists.{both, flat_of_map, map_of_map}
-use Rattle.legality_bodies.proofs.StatementFolds.{statement_of_map}
+use Rattle.legality_compounds.proofs.Lists.{both, flat_of_map, map_of_map}
+use Rattle.legality_compounds.proofs.StatementFolds.{statement_of_map}
 
 module _ (f : Sequence → Sight) where
   -- ---- declarations

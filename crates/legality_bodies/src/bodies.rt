@@ -2,7 +2,7 @@
 ghost use Rattle.std.specs.Prelude.{◌≡◌, ◌++◌, OnOk};
 ghost use Rattle.ada_legality.specs.Declarations.{entry_body_found, subprogram_body_found, task_body_found};
 
-use crate::judging::{Judge, judge_each};
+use crate::sequences::WithDeclarations;
 use ada_entities::entity_denoted;
 use ada_legality::{Around, BodyKind, Finding, IndicationUse, Known};
 use ada_regions::UnitKind;
@@ -10,6 +10,7 @@ use ada_tree::{
     Body, Declaration, EntryHead, Identifier, OperationBody, ProtectedBody, SubprogramSpecification,
 };
 use ann_base::NoMemory;
+use legality_compounds::{Judge, judge_each};
 use legality_declarations::{
     barrier_found, definition_found, entry_body_judged, object_found, protected_found, task_found,
     unit_body_judged, unit_here, use_found,
@@ -25,7 +26,7 @@ use world_tables::List;
 
 /// A subprogram's body.
 #[tactic(auto, unfolding(ada_legality::specs::Declarations::subprogram_body_found))]
-fn subprogram_body_found<Q: Judge>(
+fn subprogram_body_found<Q: Judge<WithDeclarations>>(
     alloc: Global,
     found: &mut List<Finding>,
     known: &Known<'_, '_>,
@@ -44,7 +45,7 @@ fn subprogram_body_found<Q: Judge>(
 
 /// An entry's body.
 #[tactic(auto, unfolding(ada_legality::specs::Declarations::entry_body_found))]
-fn entry_body_found<Q: Judge>(
+fn entry_body_found<Q: Judge<WithDeclarations>>(
     alloc: Global,
     found: &mut List<Finding>,
     known: &Known<'_, '_>,
@@ -63,7 +64,7 @@ fn entry_body_found<Q: Judge>(
 }
 
 /// A body in a protected body.
-impl<Q: Judge> Judge for OperationBody<Q> {
+impl<Q: Judge<WithDeclarations>> Judge<WithDeclarations> for OperationBody<Q> {
     ghost use Rattle.ada_legality.specs.Declarations.{operation_body_found};
 
     ghost judged = { operation_body_found Q.judged };
@@ -87,7 +88,7 @@ impl<Q: Judge> Judge for OperationBody<Q> {
 }
 
 /// A protected body.
-impl<Q: Judge> Judge for ProtectedBody<Q> {
+impl<Q: Judge<WithDeclarations>> Judge<WithDeclarations> for ProtectedBody<Q> {
     ghost use Rattle.ada_legality.specs.Declarations.{protected_body_found};
 
     ghost judged = { protected_body_found Q.judged };
@@ -109,7 +110,7 @@ impl<Q: Judge> Judge for ProtectedBody<Q> {
 
 /// A task's body.
 #[tactic(auto, unfolding(ada_legality::specs::Declarations::task_body_found))]
-fn task_body_found<Q: Judge>(
+fn task_body_found<Q: Judge<WithDeclarations>>(
     alloc: Global,
     found: &mut List<Finding>,
     known: &Known<'_, '_>,
@@ -124,7 +125,7 @@ fn task_body_found<Q: Judge>(
 }
 
 /// A declaration.
-impl<Q: Judge> Judge for Declaration<Q> {
+impl<Q: Judge<WithDeclarations>> Judge<WithDeclarations> for Declaration<Q> {
     ghost use Rattle.ada_legality.specs.Declarations.{declaration_found};
 
     ghost judged = { declaration_found Q.judged };

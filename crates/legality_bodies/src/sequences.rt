@@ -1,13 +1,17 @@
 //! Sequences of statements with their declarations and handlers (ISO/IEC 8652:2012, 3.11, 11.2).
-use crate::judging::{Judge, judge_all, judge_each};
 use ada_legality::{Finding, Known};
 use ada_tree::{Sequence, SequenceParts};
 use ann_base::NoMemory;
+use legality_compounds::{Judge, judge_all, judge_each};
 use legality_handlers::handled_judged;
 use std::alloc::Global;
 use world_tables::List;
 
-impl<Q: Judge> Judge for SequenceParts<Q> {
+/// Names how sequences are judged here: with the declarations and bodies in them.
+#[derive(Drop)]
+pub struct WithDeclarations {}
+
+impl<Q: Judge<WithDeclarations>> Judge<WithDeclarations> for SequenceParts<Q> {
     ghost use Rattle.ada_legality.specs.Declarations.{parts_found};
 
     ghost judged = { parts_found Q.judged };
@@ -26,7 +30,7 @@ impl<Q: Judge> Judge for SequenceParts<Q> {
     }
 }
 
-impl Judge for Sequence {
+impl Judge<WithDeclarations> for Sequence {
     ghost use Rattle.ada_legality.specs.Declarations.{sequence_found};
 
     ghost judged = { sequence_found };

@@ -5,7 +5,7 @@ ghost use Rattle.legality_choices.specs.OneByOne.{others_behind, others_here, ot
 
 use ada_legality::{ChoicePart, Finding, Rule, Span};
 use ann_base::{NoMemory, Place};
-use legality_pragmas::meet;
+use legality_numbers::meet;
 use legality_types::broken_if;
 use std::alloc::Global;
 use world_tables::List;

@@ -4,7 +4,7 @@ ghost use Rattle.ada_legality.specs.Choices.{whole_range_of, range_typed};
 
 use ada_legality::{Span, Typed};
 use ada_regions::{AdaType, Names};
-use legality_pragmas::{ends_of, span};
+use legality_numbers::{ends_of, span};
 
 /// The last position of an enumeration type.
 fn last_literal(names: &Names<'_>, enumeration: usize) -> i128

@@ -5,7 +5,7 @@ ghost use Rattle.ada_legality.specs.Words.{truth_number, number_of_value, same_n
 use profile_machine::Value;
 
 /// The place of a truth in the order of Boolean.
-pub fn truth_number(truth: bool) -> i128
+pub(crate) fn truth_number(truth: bool) -> i128
     ensures { result ≡ truth_number truth }
 {
     if truth { 1 } else { 0 }

@@ -9,7 +9,6 @@ ghost use Rattle.ada_tree.specs.declared.expressions.ExpressionForm.TheVariants 
 ghost use Rattle.legality_pragmas.specs.Arguments.{signed_number};
 ghost use Rattle.ada_legality.specs.Pragmas.{end_of_range, integer_behind, integer_named, integer_names, lone_word, number_in, number_of_form, plain_word, whole_literal, word_in};
 
-use crate::ranges::ends_of;
 use ada_lex::{decimals, whole_value};
 use ada_predefined::item_in;
 use ada_regions::{PredefinedUnit, Subtype};
@@ -18,6 +17,7 @@ use ada_tree::{
     Argument, Attribute, AttributeDesignator, Expression, ExpressionForm, Identifier, Name, Sign,
 };
 use ann_base::NoMemory;
+use legality_numbers::ends_of;
 use profile_machine::Constraint;
 
 /// The word that a name without a point is.

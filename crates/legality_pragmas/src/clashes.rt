@@ -9,11 +9,11 @@ ghost use Rattle.legality_pragmas.specs.Judging.{judged_along, pragma_judged};
 
 use crate::arguments::number_in;
 use crate::profile::is_pragma_of_profile;
-use crate::ranges::{meet, span};
 use ada_legality::{Finding, Rule, Span};
-use ada_naming::last_priority_of;
+use ada_predefined::last_priority_of;
 use ada_tree::Pragma;
 use ann_base::NoMemory;
+use legality_numbers::{meet, span};
 use legality_types::broken_if;
 use world_tables::List;
 

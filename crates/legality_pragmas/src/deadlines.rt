@@ -7,7 +7,7 @@ ghost use Rattle.legality_pragmas.specs.Deadlines.{deadlines_of, told};
 
 use crate::profile::is_pragma_of_profile;
 use ada_legality::DeadlineRange;
-use ada_naming::last_priority_of;
+use ada_predefined::last_priority_of;
 use ada_tree::Pragma;
 use ann_base::{NoMemory, Place};
 use image_policies::policies_of;

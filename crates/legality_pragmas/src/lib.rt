@@ -9,10 +9,8 @@ mod deadlines;
 mod in_force;
 mod policies;
 mod profile;
-mod ranges;
 mod restrictions;
 
 pub use clashes::pragmas_judged;
 pub use deadlines::deadline_ranges_of;
 pub use in_force::in_force_by;
-pub use ranges::{ends_of, meet, span};

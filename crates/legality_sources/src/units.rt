@@ -11,8 +11,8 @@ use ada_tree::{
     Unit,
 };
 use ann_base::{NoMemory, Place};
-use legality_bodies::{Judge, judge_each, judge_if};
 use legality_choices::{place_of_priority, stated_value};
+use legality_compounds::{Judge, judge_each, judge_if};
 use legality_contexts::context_found;
 use legality_entities::with_around;
 use legality_parts::aspects_found;

@@ -11,7 +11,7 @@ use std::alloc::Global;
 use world_tables::List;
 
 /// A statement.
-impl<Q: Judge> Judge for Statement<Q> {
+impl<W, Q: Judge<W>> Judge<W> for Statement<Q> {
     ghost use Rattle.ada_legality.specs.Statements.{statement_found};
 
     ghost judged = { statement_found Q.judged };

@@ -2,8 +2,8 @@
 ghost use Rattle.std.specs.Prelude.{◌≡◌};
 ghost use Rattle.ada_legality.specs.Choices.{ends_of, meet, meet_in, span};
 
+use crate::numbers::truth_number;
 use ada_legality::Span;
-use legality_numbers::truth_number;
 use profile_machine::Constraint;
 
 /// Whether two ranges have a value in common.

@@ -38,7 +38,7 @@ use Rattle.ada_legality.specs.Statements.{accept_found, asynchronous_select_foun
 use Rattle.ada_legality.specs.declared.parts.AlternativePart.{AlternativePart}
 use Rattle.ada_legality.specs.declared.rules.Rule.TheVariants as rule
 use Rattle.ada_legality.specs.declared.standing.Known.{Known}
-use Rattle.legality_bodies.proofs.Lists.{flat_of_map, map_of_map}
+use Rattle.legality_compounds.proofs.Lists.{flat_of_map, map_of_map}
 
 module _ (f : Sequence → Sight) where
   -- ---- conditional statements

@@ -8,7 +8,7 @@ use std::alloc::Global;
 use world_tables::List;
 
 /// A handler.
-impl<Q: Judge> Judge for Handler<Q> {
+impl<W, Q: Judge<W>> Judge<W> for Handler<Q> {
     ghost use Rattle.ada_legality.specs.Statements.{handler_found};
 
     ghost judged = { handler_found Q.judged };

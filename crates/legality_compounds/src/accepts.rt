@@ -16,7 +16,7 @@ use std::alloc::Global;
 use world_tables::List;
 
 /// What an accept statement does.
-fn accept_body_found<Q: Judge>(
+fn accept_body_found<W, Q: Judge<W>>(
     alloc: Global,
     found: &mut List<Finding>,
     known: &Known<'_, '_>,
@@ -30,7 +30,7 @@ fn accept_body_found<Q: Judge>(
 }
 
 /// The same, where it does something.
-fn accept_body_if<Q: Judge>(
+fn accept_body_if<W, Q: Judge<W>>(
     alloc: Global,
     found: &mut List<Finding>,
     known: &Known<'_, '_>,
@@ -46,7 +46,7 @@ fn accept_body_if<Q: Judge>(
 }
 
 /// An accept statement.
-impl<Q: Judge> Judge for Accept<Q> {
+impl<W, Q: Judge<W>> Judge<W> for Accept<Q> {
     ghost use Rattle.ada_legality.specs.Statements.{accept_found};
 
     ghost judged = { accept_found Q.judged };

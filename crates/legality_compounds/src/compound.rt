@@ -20,7 +20,7 @@ use std::alloc::Global;
 use world_tables::List;
 
 /// A further condition.
-impl<Q: Judge> Judge for Elsif<Q> {
+impl<W, Q: Judge<W>> Judge<W> for Elsif<Q> {
     ghost use Rattle.ada_legality.specs.Statements.{elsif_found};
 
     ghost judged = { elsif_found Q.judged };
@@ -37,7 +37,7 @@ impl<Q: Judge> Judge for Elsif<Q> {
 }
 
 /// An if statement.
-impl<Q: Judge> Judge for If<Q> {
+impl<W, Q: Judge<W>> Judge<W> for If<Q> {
     ghost use Rattle.ada_legality.specs.Statements.{if_found};
 
     ghost judged = { if_found Q.judged };
@@ -57,7 +57,7 @@ impl<Q: Judge> Judge for If<Q> {
 }
 
 /// The statements of an alternative of a case.
-impl<Q: Judge> Judge for CaseAlternative<Q> {
+impl<W, Q: Judge<W>> Judge<W> for CaseAlternative<Q> {
     ghost use Rattle.ada_legality.specs.Statements.{case_alternative_found};
 
     ghost judged = { case_alternative_found Q.judged };
@@ -87,7 +87,7 @@ fn add_further<'t, Q>(
 
 /// All choices of a case.
 #[tactic(auto, unfolding(ada_legality::specs::Statements::choices_of_case))]
-fn choices_of_case<'t, Q: Judge>(
+fn choices_of_case<'t, W, Q: Judge<W>>(
     alloc: Global,
     statement: &'t Case<Q>,
 ) -> Result<Sequence<ChoiceOf<'t>>, NoMemory>
@@ -100,7 +100,7 @@ fn choices_of_case<'t, Q: Judge>(
 }
 
 /// A case.
-impl<Q: Judge> Judge for Case<Q> {
+impl<W, Q: Judge<W>> Judge<W> for Case<Q> {
     ghost use Rattle.ada_legality.specs.Statements.{case_found};
 
     ghost judged = { case_found Q.judged };
@@ -153,7 +153,7 @@ fn entity_of_label(known: &Known<'_, '_>, label: &Option<Label>) -> Option<u32>
 }
 
 /// A loop.
-impl<Q: Judge> Judge for Loop<Q> {
+impl<W, Q: Judge<W>> Judge<W> for Loop<Q> {
     ghost use Rattle.ada_legality.specs.Statements.{loop_found};
 
     ghost judged = { loop_found Q.judged };

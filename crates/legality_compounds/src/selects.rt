@@ -1,8 +1,9 @@
 //! Select statements (ISO/IEC 8652:2012, 9.7, D.7).
 ghost use Rattle.std.specs.Prelude.{◌≡◌, ◌++◌, IfOk, OnOk, map};
 ghost use Rattle.ada_regions.specs.Words.{all_of};
+ghost use Rattle.ada_legality.specs.CallStatements.{found_if};
 ghost use Rattle.ada_legality.specs.Places.{place_of_alternative, place_of_alternative_in};
-ghost use Rattle.ada_legality.specs.SimpleStatements.{alternative_part, kind_of_alternative, kind_of_delay};
+ghost use Rattle.ada_legality.specs.SimpleStatements.{alternative_part, guard_found, kind_of_alternative, kind_of_delay};
 ghost use Rattle.ada_legality.specs.Statements.{select_form_found, selective_accept_found};
 
 use crate::judging::{Judge, judge_all, judge_if};
@@ -20,24 +21,23 @@ use profile_machine::Sequence;
 use std::alloc::Global;
 use world_tables::List;
 
-/// A guard.
-impl Judge for Guard {
-    ghost use Rattle.ada_legality.specs.SimpleStatements.{guard_found};
-
-    ghost judged = { guard_found };
-
-    fn judge(
-        &self,
-        alloc: Global,
-        found: &mut List<Finding>,
-        known: &Known<'_, '_>,
-    ) -> Result<(), NoMemory> {
-        guard_found(alloc, found, known, self)
+/// The guard of an alternative, where it has one.
+fn guard_if(
+    alloc: Global,
+    found: &mut List<Finding>,
+    known: &Known<'_, '_>,
+    guard: &Option<Guard>,
+) -> Result<(), NoMemory>
+    ensures { OnOk result (found.new ≡ found.old ++ found_if guard_found guard.now known.now) }
+{
+    match guard {
+        None => Ok(()),
+        Some(guard) => guard_found(alloc, found, known, guard),
     }
 }
 
 /// An alternative behind its guard.
-impl<Q: Judge> Judge for Alternative<Q> {
+impl<W, Q: Judge<W>> Judge<W> for Alternative<Q> {
     ghost use Rattle.ada_legality.specs.Statements.{alternative_found};
 
     ghost judged = { alternative_found Q.judged };
@@ -63,7 +63,7 @@ impl<Q: Judge> Judge for Alternative<Q> {
 }
 
 /// An alternative of a selective accept.
-impl<Q: Judge> Judge for SelectAlternative<Q> {
+impl<W, Q: Judge<W>> Judge<W> for SelectAlternative<Q> {
     ghost use Rattle.ada_legality.specs.Statements.{select_alternative_found};
 
     ghost judged = { select_alternative_found Q.judged };
@@ -74,7 +74,7 @@ impl<Q: Judge> Judge for SelectAlternative<Q> {
         found: &mut List<Finding>,
         known: &Known<'_, '_>,
     ) -> Result<(), NoMemory> {
-        judge_if(alloc, found, known, &self.guard)?;
+        guard_if(alloc, found, known, &self.guard)?;
         self.alternative.judge(alloc, found, known)
     }
 }
@@ -149,7 +149,7 @@ fn alternative_parts<Q>(
 
 /// A selective accept.
 #[tactic(auto, unfolding(ada_legality::specs::Statements::selective_accept_found))]
-fn selective_accept_found<Q: Judge>(
+fn selective_accept_found<W, Q: Judge<W>>(
     alloc: Global,
     found: &mut List<Finding>,
     known: &Known<'_, '_>,
@@ -166,7 +166,7 @@ fn selective_accept_found<Q: Judge>(
 }
 
 /// A timed call.
-impl<Q: Judge> Judge for TimedEntryCall<Q> {
+impl<W, Q: Judge<W>> Judge<W> for TimedEntryCall<Q> {
     ghost use Rattle.ada_legality.specs.Statements.{timed_call_found};
 
     ghost judged = { timed_call_found Q.judged };
@@ -186,7 +186,7 @@ impl<Q: Judge> Judge for TimedEntryCall<Q> {
 }
 
 /// A conditional call.
-impl<Q: Judge> Judge for ConditionalEntryCall<Q> {
+impl<W, Q: Judge<W>> Judge<W> for ConditionalEntryCall<Q> {
     ghost use Rattle.ada_legality.specs.Statements.{conditional_call_found};
 
     ghost judged = { conditional_call_found Q.judged };
@@ -205,7 +205,7 @@ impl<Q: Judge> Judge for ConditionalEntryCall<Q> {
 }
 
 /// An asynchronous select.
-impl<Q: Judge> Judge for AsynchronousSelect<Q> {
+impl<W, Q: Judge<W>> Judge<W> for AsynchronousSelect<Q> {
     ghost use Rattle.ada_legality.specs.Statements.{asynchronous_select_found};
 
     ghost judged = { asynchronous_select_found Q.judged };
@@ -225,7 +225,7 @@ impl<Q: Judge> Judge for AsynchronousSelect<Q> {
 }
 
 /// The form of a select statement.
-fn select_form_found<Q: Judge>(
+fn select_form_found<W, Q: Judge<W>>(
     alloc: Global,
     found: &mut List<Finding>,
     known: &Known<'_, '_>,
@@ -245,7 +245,7 @@ fn select_form_found<Q: Judge>(
 }
 
 /// A select statement.
-impl<Q: Judge> Judge for SelectStatement<Q> {
+impl<W, Q: Judge<W>> Judge<W> for SelectStatement<Q> {
     ghost use Rattle.ada_legality.specs.Statements.{select_found};
 
     ghost judged = { select_found Q.judged };

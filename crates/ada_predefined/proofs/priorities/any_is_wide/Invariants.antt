@@ -1,7 +1,7 @@
 use Rattle.std.proofs.Common.{◌≡◌, drop}
 use Rattle.std.specs.List.{list_any}
 use Rattle.ada_regions.specs.Numbered.{is_wide}
-use Rattle.ada_naming.proofs.naming.any_is_wide.Given as goal
+use Rattle.ada_predefined.proofs.priorities.any_is_wide.Given as goal
 
 -- the pragmas that are to come give what all of them give
 abbrev pub invariant-loop-given : goal.invariant-loop-given

@@ -1,7 +1,7 @@
 //! The occurrences of names in a tree, as a list.
 ghost use Rattle.std.specs.Prelude.{◌≡◌, ◌++◌, ◌∷◌, [], None, Some, map, OnOk};
 ghost use Rattle.ada_regions.specs.Occurrences.{a_block, a_component, a_derived_type, a_label, a_literal, a_loop, a_loop_parameter, a_parameter, a_profile, a_protected, a_record, a_subprogram, a_subtype, a_task, a_unit, an_accept, an_array, an_entry, an_enumeration, an_exception, an_object, begins, completes, declares, declares_unit, ends, entry_body, further_context, heads, hides, is_called, main_body, mentions, mentions_entry, mentions_simply, package_body, package_region, private_from_here, protected_body, subprogram_body, task_body, the_context, the_context_of, the_main_procedure, the_package, use_package, with_unit};
-ghost use Rattle.ada_occurrences.specs.Shown.{occurrence_shown};
+ghost use Rattle.occurrence_lists.specs.Shown.{occurrence_shown};
 
 use ada_tree::{
     Aspect, Component, Expression, Identifier, Name, ObjectDeclaration, OneOrMore, Parameter,
@@ -221,7 +221,7 @@ pub struct Occurrences<'t> {
 impl<'t> Model for Occurrences<'t> {
     ghost use Rattle.std.specs.Prelude.{List, map};
     ghost use Rattle.ada_regions.specs.Occurrences.{Occurrence};
-    ghost use Rattle.ada_occurrences.specs.Shown.{occurrence_shown};
+    ghost use Rattle.occurrence_lists.specs.Shown.{occurrence_shown};
     ghost use Rattle.ada_tree.specs.contracts.expressions.Expression as e;
     ghost use Rattle.std.specs.Coded.{codes};
 
@@ -234,7 +234,7 @@ impl<'t> Model for Occurrences<'t> {
 
 impl<'t> Occurrences<'t> {
     /// None yet.
-    pub(crate) fn new(alloc: Global) -> Self
+    pub fn new(alloc: Global) -> Self
         ensures { result ≡ [] }
     {
         Occurrences {
@@ -243,7 +243,7 @@ impl<'t> Occurrences<'t> {
     }
 
     /// One more at the end.
-    pub(crate) fn push(&mut self, occurrence: Occurrence<'t>) -> Result<(), NoMemory>
+    pub fn push(&mut self, occurrence: Occurrence<'t>) -> Result<(), NoMemory>
         ensures { OnOk result (self.new ≡ self.old ++ occurrence_shown occurrence.entry ∷ []) }
     {
         self.items.push(occurrence)?;

@@ -9,8 +9,8 @@ use ann_base::NoMemory;
 use std::alloc::Global;
 use world_tables::List;
 
-/// What is judged where something is known.
-pub trait Judge {
+/// What is judged where something is known. A crate that judges sequences of statements names itself by a type `W` of its own.
+pub trait Judge<W> {
     ghost use Rattle.std.specs.Prelude.{◌≡◌, ◌++◌, OnOk};
     ghost use Rattle.ada_legality.specs.Declarations.{Sight};
 
@@ -27,7 +27,7 @@ pub trait Judge {
 }
 
 /// What is there.
-pub fn judge_if<T: Judge>(
+pub fn judge_if<W, T: Judge<W>>(
     alloc: Global,
     found: &mut List<Finding>,
     known: &Known<'_, '_>,
@@ -42,7 +42,7 @@ pub fn judge_if<T: Judge>(
 }
 
 /// Items one behind another.
-pub fn judge_each<T: Judge>(
+pub fn judge_each<W, T: Judge<W>>(
     alloc: Global,
     found: &mut List<Finding>,
     known: &Known<'_, '_>,
@@ -57,7 +57,7 @@ pub fn judge_each<T: Judge>(
 }
 
 /// All items of a list.
-pub fn judge_all<T: Judge>(
+pub fn judge_all<W, T: Judge<W>>(
     alloc: Global,
     found: &mut List<Finding>,
     known: &Known<'_, '_>,

@@ -1,6 +1,6 @@
 use Rattle.std.proofs.Common.{◌≡◌, ◌++◌, drop, map}
 use Rattle.ada_legality.specs.SimpleStatements.{alternative_part}
-use Rattle.legality_bodies.proofs.selects.alternative_parts.Given as goal
+use Rattle.legality_compounds.proofs.selects.alternative_parts.Given as goal
 
 -- the parts so far, and those to come, are all of them
 abbrev pub invariant-loop-alternative : goal.invariant-loop-alternative

@@ -1,6 +1,6 @@
 use Rattle.std.proofs.Common.{◌≡◌, ◌++◌, drop}
 use Rattle.ada_legality.specs.CallStatements.{all_found}
-use Rattle.legality_bodies.proofs.judging.judge_each.Given as goal
+use Rattle.legality_compounds.proofs.judging.judge_each.Given as goal
 
 -- what is found by now, and what the items to come give, is all
 abbrev pub invariant-loop-item : goal.invariant-loop-item

@@ -1,7 +1,7 @@
 use Rattle.std.proofs.Common.{◌≡◌, ◌++◌, drop}
 use Rattle.std.specs.List.{flat_map}
 use Rattle.ada_regions.specs.Words.{all_of}
-use Rattle.legality_bodies.proofs.compound.add_further.Given as goal
+use Rattle.legality_compounds.proofs.compound.add_further.Given as goal
 
 -- the choices so far, and those to come, are all of them
 abbrev pub invariant-loop-alternative : goal.invariant-loop-alternative

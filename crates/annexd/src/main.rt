@@ -1,24 +1,15 @@
 //! annexd: the timed run of an Ada program, as an exact trace.
 #![tactic(auto)]
 
-mod noting;
-mod performing;
-mod reporting;
-mod running;
-mod scripting;
-mod summing;
-mod testing;
 #[cfg(test)]
 mod tests;
-mod tracing;
 mod whole;
-mod words;
 
 use ann_base::{HostShelf, HostSink};
 use commands::Outcome;
-use noting::conclude;
 use std::process::ExitCode;
 use std::{env, io};
+use table_commands::conclude;
 use whole::top;
 
 /// Passes the words behind the program's name to `top`, with the host's files and streams. Words that are not UTF-8 are

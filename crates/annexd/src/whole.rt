@@ -9,8 +9,6 @@ ghost use Rattle.commands.specs.Outside.{shelf_of, sink_of};
 ghost use Rattle.commands.specs.Performed.{IsUnread};
 ghost use Rattle.commands.specs.Statuses.{Headline, HeadlineUnder, LoadTold, AcceptanceTold, TableTold, BeyondTold, TraceTold, LawsTold, ReportTold, DoneTold, LawTold, NotAccepted, NotAcceptedUnder, LoadNotAccepted, NoScript, ScriptRefusalTold, RefusalTold, BreachTold, TraceRefusalTold, FailureTold, TableRefusalTold, PrefixTold, NoteTried, IsStatus};
 
-use crate::noting::conclude;
-use crate::performing::perform;
 use ann_base::{Shelf, Sink};
 use ceiling_places::runs_keep_the_law_of_ceilings;
 use exit_laws::runs_keep_exclusion;
@@ -18,7 +16,9 @@ use handler_laws::runs_keep_handlers;
 use leaving_laws::runs_leave_rightly;
 use machine_laws::dispatching::runs_dispatch;
 use policy_laws::deadlines_are_below_interrupts;
+use run_commands::perform;
 use std::alloc::Global;
+use table_commands::conclude;
 use tick_lines::{
     runs_are_in_tick_order, runs_are_rightly_stuck, runs_release_in_order, runs_switch,
 };

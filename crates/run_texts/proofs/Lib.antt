@@ -1,0 +1,3 @@
+pub mod LaterFaults
+pub mod PrintableLines
+pub mod TalliedLines

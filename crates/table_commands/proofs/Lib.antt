@@ -1,0 +1,3 @@
+pub mod NoteTexts
+pub mod ResponseLines
+pub mod WordTexts

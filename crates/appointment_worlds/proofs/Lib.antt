@@ -11,7 +11,4 @@ pub mod ActingEnds
 pub mod DelaySteps
 pub mod DelayRuns
 pub mod DelayWorlds
-pub mod MomentOrder
-pub mod OrderWorlds
-pub mod DueAppointments
 pub mod AppointmentWorlds

@@ -46,14 +46,15 @@ use Rattle.profile_machine.specs.Steps.{Step, Done, done, goes_on_with, says, ch
 use Rattle.profile_machine.specs.Tasks.{task_of, edit_task, with_frames, with_state, with_ticks, waiting_in, waiting_of}
 use Rattle.profile_machine.specs.Dispatching.{active, deadline_shown, level_kept_by, keep_level, granted, grant_quantum, says_ready, to_tail, ready}
 use Rattle.profile_machine.specs.Frames.{frames_of, top_of, edit_first, edit_top, goes_on, goes, push, pop, without_first, new_frame, left_so, leaving_of, with_mark, leaves, raises, has_room, open_handled, open_at, open_sequence, onward_of, exit_loop, stands_in, pass_on}
-use Rattle.profile_machine.specs.Appointments.{drop_delay}
+use Rattle.profile_machine.specs.Appointments.{drop_delay, appoint}
 use Rattle.profile_machine.specs.Operators.{Valued, ◌>>=◌, checked}
 use Rattle.profile_machine.specs.Program.{declaration_of}
 use Rattle.profile_machine.specs.Scopes.{write_cell}
 use Rattle.profile_machine.specs.Calls.{edit_call, forget_call, with_call, says_call, edit_queue, take_call, put_call, place_of_entry, enqueued, enqueue, unqueued, is_cancellable, attempt_on, attempt, call_of}
 use Rattle.profile_machine.specs.Unwinding.{struck_frame, may_unwind, leave_by_abort, stop_waiting, wake_and_leave, unwind_blocked, unwind_in, unwind}
 use Rattle.profile_machine.specs.CallEnds.{onward_when_done, onward_when_cancelled, go_by_outcome, resume, store, or_stored, copy_back, with_results, edit_depth, edit_frame, edit_abortable, edit_abortable_at, triggered_mark, trigger_at, trigger_outcome, forget_trigger, run_triggered, ended_by_itself, behind_abortable, end_abortable, end_abortable_in, end_top_abortable, waited_mark, is_cancelled, end_wait, waits_for_call, waits_for_end, abortable_depth, end_for_abortable, end_for_caller, end_for, end_with, with_outcome, end_call, deliver}
-use Rattle.profile_machine.specs.Sending.{open_abortable, appoint_timeout, send_on, sent_call, is_to_be_cancelled, cancel_sent, is_triggering, may_begin_abortable, begin_abortable, timeout_again, sent_not_begun_by, sent_not_begun}
+use Rattle.profile_machine.specs.declared.world.appointments.Due.TheVariants as due_for
+use Rattle.profile_machine.specs.Sending.{open_abortable, appoint_timeout, send_on, sent_call, is_to_be_cancelled, cancel_sent, is_triggering, may_begin_abortable, begin_abortable, timeout_again, sent_not_begun_by, sent_not_begun, may_time_out}
 use Rattle.profile_machine.specs.Protected.{edit_top_protected, begin_call, begun_call}
 use Rattle.profile_machine.specs.Serving.{settle_sent}
 use Rattle.exclusion_laws.proofs.ObjectLists.{by_test}
@@ -159,14 +160,17 @@ module _ (me : Who) (o : ObjectNo) where
   unfolding Spares
   unqueued-spares p c w h = edit_queue-spares c.owner (place_of_entry p c.entry) (take_call c.number) w h
 
-  appoint_timeout-spares : (c : CallNo) (moment : Option ℤ) → Spares me o (appoint_timeout c moment)
+  appoint_timeout-spares : (p : Image) (c : CallNo) (moment : Option ℤ) → Spares me o (appoint_timeout p c moment)
   unfolding Spares
-  appoint_timeout-spares c None w h = h
-  appoint_timeout-spares c (Some moment) w h = h
+  appoint_timeout-spares p c None w h = h
+  appoint_timeout-spares p c (Some moment) w h = timed (may_time_out p w (call_of w c)) where
+    timed : (may : Bool) → Holds me o (cond may (appoint (due_for.Timeout c) moment w) w)
+    timed true = h
+    timed false = h
 
-  unless_firm-spares : (firm : Bool) (c : Call) → Spares me o (cond firm (λ v. v) (appoint_timeout c.number c.moment))
-  unless_firm-spares true c = unchanged-spares
-  unless_firm-spares false c = appoint_timeout-spares c.number c.moment
+  unless_firm-spares : (p : Image) (firm : Bool) (c : Call) → Spares me o (cond firm (λ v. v) (appoint_timeout p c.number c.moment))
+  unless_firm-spares p true c = unchanged-spares
+  unless_firm-spares p false c = appoint_timeout-spares p c.number c.moment
 
   drop_delay-spares : (name : Who) → Spares me o (drop_delay name)
   unfolding Spares
@@ -507,7 +511,7 @@ module _ (me : Who) (o : ObjectNo) where
   sent_not_begun_by-steady : (p : Image) (c : Call) (test : Bool) → Steady me o (sent_not_begun_by p c test)
   unfolding sent_not_begun_by
   sent_not_begun_by-steady p c true = cancel_sent-steady p c
-  sent_not_begun_by-steady p c false = then-steady (changes (timeout_again c)) _ (changes-steady _ (unless_firm-spares c.firm c)) (begin_abortable-steady p c.number)
+  sent_not_begun_by-steady p c false = then-steady (changes (timeout_again p c)) _ (changes-steady _ (unless_firm-spares p c.firm c)) (begin_abortable-steady p c.number)
 
   sent_not_begun-steady : (p : Image) (c : CallNo) → Steady me o (sent_not_begun p c)
   unfolding sent_not_begun

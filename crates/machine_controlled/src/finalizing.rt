@@ -1,7 +1,8 @@
 //! Finalize of the objects of a region that is being left (ISO/IEC 8652:2012, 7.6.1).
 ghost use Rattle.std.specs.Prelude.{◌≡◌, OnOk, find, option_copied};
+ghost use Rattle.std.specs.List.{list_any};
 ghost use Rattle.profile_machine.specs.Cost.{of_region};
-ghost use Rattle.profile_machine.specs.Controlled.{open_finalize, finalize_by, finalize, next_to_finalize, is_assign_mark, is_assignment, behind_finalize, end_in_finalize};
+ghost use Rattle.profile_machine.specs.Controlled.{open_finalize, finalize_by, finalize_now, assigns_to, is_assigning_to, is_being_assigned, finalize, next_to_finalize, is_assign_mark, is_assignment, behind_finalize, end_in_finalize};
 ghost use Rattle.profile_machine.specs.Frames.{top_of};
 ghost use Rattle.machine_frames.specs.Did.{Did};
 
@@ -12,7 +13,7 @@ use ann_base::{NoMemory, RegionNo};
 use machine_costs::of_region;
 use machine_frames::{Effect, new_frame, pass_on, pop, push, says, top_of};
 use machine_operators::Program;
-use profile_machine::world::{Line, Located, Mark, Part, Registered, World};
+use profile_machine::world::{Line, Located, Mark, Part, Registered, Task, World};
 use profile_machine::{Leaving, SubprogramNo};
 use std::alloc::Global;
 use trace_text::Who;
@@ -69,7 +70,66 @@ fn finalize_by(
     }
 }
 
-/// A registered object is finalized. It is registered no longer.
+// A registered object is finalized. It is registered no longer.
+#[tactic(auto, unfolding(profile_machine::specs::Controlled::finalize_now))]
+fn finalize_now(
+    alloc: Global,
+    p: &Program,
+    effect: &mut Effect,
+    name: Who,
+    registered: Registered,
+) -> Result<(), NoMemory>
+    ensures { OnOk result (Did (finalize_now p.now name registered) effect.old effect.new) }
+{
+    let line = Line::Final {
+        who: name,
+        object: registered.object,
+    };
+    says(effect, Part::Own, line)?;
+    no_longer_registered(registered.object, &mut effect.world);
+    let operation = finalize_of(p, registered.located);
+    finalize_by(alloc, p, effect, name, registered, operation)
+}
+
+// Whether this is the mark of an assignment to the object with this number.
+fn assigns_to(number: u32, mark: &Mark) -> bool
+    ensures { result ≡ assigns_to number mark.now }
+{
+    match mark {
+        Mark::InAssign(assign) => number == assign.target,
+        Mark::Scope(_)
+        | Mark::Handled(_)
+        | Mark::InProtected(_)
+        | Mark::InAccept(_)
+        | Mark::Abortable(_)
+        | Mark::InInitialize(_)
+        | Mark::InFinalize(_) => false,
+    }
+}
+
+fn is_assigning_to(number: u32, task: &Task) -> bool
+    ensures { result ≡ is_assigning_to number task.now }
+{
+    task.frames
+        .iter()
+        .any(|frame| assigns_to(number, &frame.mark))
+}
+
+fn is_some_task_assigning_to(world: &World, number: u32) -> bool
+    ensures { result ≡ list_any (is_assigning_to number) world.now.tasks }
+{
+    world.tasks.iter().any(|task| is_assigning_to(number, task))
+}
+
+// Whether somebody's assignment to the object with this number is under way.
+fn is_being_assigned(world: &World, number: u32) -> bool
+    ensures { result ≡ is_being_assigned world.now number }
+{
+    is_some_task_assigning_to(world, number) || is_assigning_to(number, &world.agent)
+}
+
+/// A registered object is finalized, and is registered no longer; but not while an assignment to it
+/// is under way.
 #[tactic(auto, unfolding(profile_machine::specs::Controlled::finalize))]
 pub fn finalize(
     alloc: Global,
@@ -80,14 +140,11 @@ pub fn finalize(
 ) -> Result<(), NoMemory>
     ensures { OnOk result (Did (finalize p.now name registered) effect.old effect.new) }
 {
-    let line = Line::Final {
-        who: name,
-        object: registered.object,
-    };
-    says(effect, Part::Own, line)?;
-    no_longer_registered(registered.object, &mut effect.world);
-    let operation = finalize_of(p, registered.located);
-    finalize_by(alloc, p, effect, name, registered, operation)
+    if is_being_assigned(&effect.world, registered.object) {
+        Ok(())
+    } else {
+        finalize_now(alloc, p, effect, name, registered)
+    }
 }
 
 fn newest_in(registered: &List<Registered>, region: RegionNo) -> Option<&Registered>

@@ -10,9 +10,10 @@ ghost use Rattle.machine_parameters.specs.Becomes.{Becomes};
 
 use ann_base::{NoMemory, OrMemory, Raised};
 use machine_operators::{Program, declaration_of, initial_cells, scope_of};
-use machine_parameters::{checked_for, copy_cells, put_cells};
+use machine_parameters::{checked_for, copy_cells};
 use machine_values::{
-    Seen, component_at, object_cell, or_raised, scope_in_use, scope_mut, seen_by, value, write_cell,
+    Seen, component_at, object_cell, or_raised, put_cells, scope_in_use, scope_mut, seen_by, value,
+    write_cell,
 };
 use profile_machine::world::{Located, Variable, World};
 use profile_machine::{DeclNo, DeclarationKind, ExprNo, Initial, Value};

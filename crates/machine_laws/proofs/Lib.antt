@@ -6,10 +6,10 @@ pub mod Kept
 pub mod TimeLemmas
 pub mod LineLemmas
 mod AppointmentLemmas
-mod DueLemmas
+pub mod DueLemmas
 mod ItemLemmas
 pub mod ReachedLemmas
-mod NumberLemmas
+pub mod NumberLemmas
 pub mod RunLemmas
 mod IdleLemmas
 mod RepresentationLemmas

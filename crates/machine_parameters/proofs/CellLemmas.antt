@@ -1,10 +1,9 @@
--- Cells that are copied, and cells that are put.
-use Rattle.std.proofs.Common.{◌≡◌, ℕ, zero, suc, ◌+◌, ◌≤◌, ◌<◌, List, [], ◌∷◌, ◌++◌, Some, None, take, drop, length, get_or, slice_set, refl, sym, ap, ◌∙◌, arith, length-drop}
+-- Cells that are copied.
+use Rattle.std.proofs.Common.{◌≡◌, ℕ, zero, suc, ◌+◌, ◌≤◌, ◌<◌, List, [], ◌∷◌, ◌++◌, Some, None, take, drop, length, get_or, refl, sym, ap, ◌∙◌, arith, length-drop}
 use Rattle.std.specs.List.{slice_get}
 use Rattle.std.proofs.lemmas.List.{take_more, take_all, get_or-drop}
 use Rattle.std.proofs.lemmas.Option.{slice_get_within, get_or_from_slice_get}
 use Rattle.profile_machine.specs.declared.values.Value.{Value}
-use Rattle.profile_machine.specs.Statements.{put_cells}
 
 pub take_found : (xs : List Value) (place i : ℕ) (v : Value) → slice_get xs (place + i) ≡ Some v → take (i + 1) (drop place xs) ≡ take i (drop place xs) ++ v ∷ []
 take_found xs place i v e =
@@ -23,14 +22,3 @@ take_none xs place i n e l =
     take_all i (drop place xs) (omega (arith, length-drop place xs)) ∙ sym (take_all n (drop place xs) (omega (arith, length-drop place xs)))
 
 pub ruleset copied_laws = (take_found, take_none)
-
-set_past : (cells : List Value) (place : ℕ) (v : Value) → length cells ≤ place → slice_set cells place v ≡ cells
-set_past [] place v l = refl
-set_past (x ∷ xs) zero v l = absurd (omega arith)
-set_past (x ∷ xs) (suc place) v l = ap (λ ys. x ∷ ys) (set_past xs place v (omega arith))
-
-pub put_past : (place : ℕ) (values cells : List Value) → length cells ≤ place → put_cells place values cells ≡ cells
-put_past place [] cells l = refl
-put_past place (v ∷ vs) cells l = ap (λ z. put_cells (suc place) vs z) (set_past cells place v l) ∙ put_past (suc place) vs cells (omega arith)
-
-pub ruleset put_laws = (put_past)

@@ -1,12 +1,12 @@
 //! The cells of arrays: they are read, put and copied (ISO/IEC 8652:2012, 3.6, 5.2).
-ghost use Rattle.std.specs.Prelude.{◌≡◌, IfOk, OnOk, take, drop, slice_set};
+ghost use Rattle.std.specs.Prelude.{◌≡◌, IfOk, OnOk, take, drop};
 ghost use Rattle.profile_machine.specs.Operators.{checked};
 ghost use Rattle.profile_machine.specs.Program.{declaration_of};
-ghost use Rattle.profile_machine.specs.Statements.{cells_from, copy_cells, put_cells};
+ghost use Rattle.profile_machine.specs.Statements.{cells_from, copy_cells};
 
 use ann_base::{NoMemory, Raised};
 use machine_operators::{Program, checked, declaration_of};
-use machine_values::{scope_in_use, scope_mut};
+use machine_values::{put_cells, scope_in_use, scope_mut};
 use profile_machine::Value;
 use profile_machine::world::{Variable, World};
 use std::alloc::Global;
@@ -52,30 +52,6 @@ pub fn cells_from(
     match scope_in_use(world, v.within) {
         Some(scope) => copied_from(alloc, &scope.cells, v.place, count),
         None => Ok(List::new(alloc)),
-    }
-}
-
-#[tactic(auto, using(machine_values::proofs::CellLemmas::none_set))]
-fn set_cell(cells: &mut List<Value>, place: usize, value: Value)
-    ensures { cells.new ≡ slice_set cells.old place value }
-{
-    if let Some(cell) = cells.get_mut(place) {
-        *cell = value;
-    }
-}
-
-/// The cells from this place on get these values; what would stand behind the last cell is dropped.
-#[tactic(auto, using(crate::proofs::CellLemmas::put_laws))]
-pub fn put_cells(cells: &mut List<Value>, place: u32, values: &List<Value>)
-    ensures { cells.new ≡ put_cells place values.now cells.old }
-{
-    let mut at = place as usize;
-    for value in values.iter() {
-        if cells.len() <= at {
-            return;
-        }
-        set_cell(cells, at, *value);
-        at += 1;
     }
 }
 

@@ -7,6 +7,6 @@ mod arrays;
 mod bodies;
 mod parameters;
 
-pub use arrays::{cells_from, checked_for, copy_cells, put_cells};
+pub use arrays::{cells_from, checked_for, copy_cells};
 pub use bodies::begin_body;
 pub use parameters::{handed, result_to};

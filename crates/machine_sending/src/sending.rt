@@ -139,13 +139,13 @@ pub fn begin_abortable(p: &Program, effect: &mut Effect, c: CallNo) -> Result<()
 }
 
 // Queued on: a timed call has its time-out again for its first moment.
-fn timeout_again(world: &mut World, c: &Call) -> Result<(), NoMemory>
-    ensures { OnOk result (world.new ≡ timeout_again c.now world.old) }
+fn timeout_again(p: &Program, world: &mut World, c: &Call) -> Result<(), NoMemory>
+    ensures { OnOk result (world.new ≡ timeout_again p.now c.now world.old) }
 {
     if c.firm {
         Ok(())
     } else {
-        appoint_timeout(world, c.number, c.moment)
+        appoint_timeout(p, world, c.number, c.moment)
     }
 }
 
@@ -161,7 +161,7 @@ fn sent_not_begun_by(
     if is_to_be_cancelled {
         cancel_sent(p, effect, c)
     } else {
-        timeout_again(&mut effect.world, c)?;
+        timeout_again(p, &mut effect.world, c)?;
         begin_abortable(p, effect, c.number)
     }
 }

@@ -1,17 +1,18 @@
 //! Abortable parts, and calls that are not accepted at once (ISO/IEC 8652:2012, 9.7.2, 9.7.3,
 //! 9.7.4).
 ghost use Rattle.std.specs.Prelude.{◌≡◌, OnOk};
-ghost use Rattle.profile_machine.specs.Sending.{abortable_in, new_abortable_mark, open_abortable, is_not_future, cancel_at_once, appoint_timeout, wait_for_call, wait_or_cancel, is_triggering, not_accepted};
+ghost use Rattle.profile_machine.specs.Sending.{abortable_in, new_abortable_mark, open_abortable, is_not_future, cancel_at_once, stands_in_queue, still_serves, may_time_out, appoint_timeout, wait_for_call, wait_or_cancel, is_triggering, not_accepted};
+ghost use Rattle.profile_machine.specs.Calls.{call_of};
 ghost use Rattle.machine_frames.specs.Did.{Did};
 
 use ann_base::{CallNo, Moment, NoMemory};
 use machine_calls::resume;
 use machine_dispatching::{appoint, block};
-use machine_frames::{Effect, new_frame, push};
+use machine_frames::{Effect, new_frame, push, task_at};
 use machine_operators::{Program, form_of};
-use machine_queues::{attempt_on, is_cancellable};
+use machine_queues::{attempt_on, call_of, is_cancellable, place_of_entry, queue_of};
 use profile_machine::world::{
-    AbortableMark, Call, CallKind, Due, Mark, Outcome, Part, Waiting, World,
+    AbortableMark, Call, CallKind, Due, Mark, Outcome, Owner, Part, Waiting, World,
 };
 use profile_machine::{StatementForm, StatementNo};
 use trace_text::Who;
@@ -77,17 +78,54 @@ fn cancel_at_once(p: &Program, effect: &mut Effect, part: Part, c: &Call) -> Res
     }
 }
 
-// A call has its time-out for this moment, if there is one.
+// Whether a call stands in the queue of its entry.
+fn stands_in_queue(p: &Program, world: &World, c: &Call) -> bool
+    ensures { result ≡ stands_in_queue p.now world.now c.now }
+{
+    match queue_of(world, c.owner, place_of_entry(p, c.entry)) {
+        Some(queue) => queue.iter().any(|queued| c.number.0 == queued.0),
+        None => false,
+    }
+}
+
+// Whether somebody serves the queues of an owner: a task that is completed does not.
+fn still_serves(world: &World, owner: Owner) -> bool
+    ensures { result ≡ still_serves world.now owner }
+{
+    match owner {
+        Owner::Task(t) => match task_at(world, Who::Task(t)) {
+            Some(task) => !task.completed,
+            None => true,
+        },
+        Owner::Object(_) => true,
+    }
+}
+
+// Whether a call may have a time-out: it is there, stands in a queue that is still served, and is not
+// firm.
+fn may_time_out(p: &Program, world: &World, c: CallNo) -> bool
+    ensures { result ≡ may_time_out p.now world.now (call_of world.now c) }
+{
+    match call_of(world, c) {
+        Some(call) => {
+            stands_in_queue(p, world, call) && !call.firm && still_serves(world, call.owner)
+        }
+        None => false,
+    }
+}
+
+// A call that may have a time-out has it for this moment, if there is one.
 pub(crate) fn appoint_timeout(
+    p: &Program,
     world: &mut World,
     c: CallNo,
     moment: Option<Moment>,
 ) -> Result<(), NoMemory>
-    ensures { OnOk result (world.new ≡ appoint_timeout c moment world.old) }
+    ensures { OnOk result (world.new ≡ appoint_timeout p.now c moment world.old) }
 {
     match moment {
-        Some(moment) => appoint(world, Due::Timeout(c), moment),
-        None => Ok(()),
+        Some(moment) if may_time_out(p, world, c) => appoint(world, Due::Timeout(c), moment),
+        Some(_) | None => Ok(()),
     }
 }
 
@@ -117,7 +155,7 @@ fn wait_or_cancel(
     if has_come {
         cancel_at_once(p, effect, part, c)
     } else {
-        appoint_timeout(&mut effect.world, c.number, c.moment)?;
+        appoint_timeout(p, &mut effect.world, c.number, c.moment)?;
         wait_for_call(effect, c)
     }
 }

@@ -4,7 +4,7 @@ ghost use Rattle.std.specs.Prelude.{◌≡◌, filter, map, IfOk, OnOk};
 ghost use Rattle.profile_machine.specs.Masters.{may_terminate, leave_by_terminate};
 ghost use Rattle.profile_machine.specs.Steps.{for_each, looks};
 ghost use Rattle.profile_machine.specs.Tasks.{waiting_of};
-ghost use Rattle.profile_machine.specs.Tasking.{unwind_one, block_at_terminate, take_terminates, unwind_all};
+ghost use Rattle.profile_machine.specs.Tasking.{unwind_by, unwind_one, block_at_terminate, take_terminates, unwind_all};
 ghost use Rattle.profile_machine.specs.Unwinding.{any_struck};
 ghost use Rattle.machine_frames.specs.Did.{Did};
 ghost use Rattle.machine_tasking.specs.KeptTasks.{kept_of, task_kept, tasks_kept};
@@ -12,8 +12,8 @@ ghost use Rattle.machine_tasking.specs.KeptTasks.{kept_of, task_kept, tasks_kept
 use crate::kept::{Kept, kept_of};
 use ann_base::NoMemory;
 use machine_calls::{any_struck, unwind};
-use machine_dispatching::{part_of, says_waits, word_of};
-use machine_frames::{Effect, waiting_of};
+use machine_dispatching::{says_waits, word_of};
+use machine_frames::{Effect, may_run, same_who, waiting_of};
 use machine_masters::{leave_by_terminate, may_terminate, waits_at_terminate};
 use machine_operators::Program;
 use profile_machine::world::{Part, Task, World};
@@ -91,11 +91,25 @@ pub fn take_terminates(
     block_at_terminate(effect, actor)
 }
 
+// Who acts is unwound where it is ready; where it has blocked in this effect it waits on.
+#[tactic(auto, unfolding(profile_machine::specs::Tasking::unwind_by))]
+fn unwind_by(p: &Program, effect: &mut Effect, name: Who, acts: bool) -> Result<(), NoMemory>
+    ensures { OnOk result (Did (unwind_by p.now name acts) effect.old effect.new) }
+{
+    if !acts {
+        unwind(p, effect, Part::OfOther(name), name)
+    } else if may_run(&effect.world, name) {
+        unwind(p, effect, Part::Own, name)
+    } else {
+        Ok(())
+    }
+}
+
 #[tactic(auto, unfolding(profile_machine::specs::Tasking::unwind_one))]
 fn unwind_one(p: &Program, effect: &mut Effect, actor: Who, task: Kept) -> Result<(), NoMemory>
     ensures { OnOk result (Did (unwind_one p.now actor (task_kept task)) effect.old effect.new) }
 {
-    unwind(p, effect, part_of(actor, task.who), task.who)
+    unwind_by(p, effect, task.who, same_who(actor, task.who))
 }
 
 /// Each of these tasks is unwound where its struck construct may be left.

@@ -24,8 +24,8 @@ pub use openings::{
     region_of_next,
 };
 pub use scopes::{
-    first_id, home, id_in, innermost, is_of_unit, read_cell, same_id, scope_in_use, scope_mut,
-    works_on_unit, write_cell,
+    first_id, home, id_in, innermost, is_of_unit, put_cells, read_cell, same_id, scope_in_use,
+    scope_mut, works_on_unit, write_cell,
 };
 pub use seen::{Seen, seen_by};
 pub use tasks::{count_of_entry, live_task, moment_at};

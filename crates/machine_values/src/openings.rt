@@ -1,11 +1,11 @@
 //! How a scope begins, and how it ends (ISO/IEC 8652:2012, 3.1, 7.6.1).
-ghost use Rattle.std.specs.Prelude.{◌≡◌, ◌+◌, ◌^◌, ◌≤◌, ◌++◌, drop, length, IfOk, OnOk, OnErr};
+ghost use Rattle.std.specs.Prelude.{◌≡◌, ◌+◌, ◌^◌, ◌≤◌, IfOk, OnOk, OnErr};
 ghost use Rattle.std.specs.List.{list_all};
 ghost use Rattle.profile_machine.specs.Program.{initial_cells};
-ghost use Rattle.profile_machine.specs.Scopes.{plainly, next_id, scope_drawn, begin_scope, region_drawn, draw_region, region_of_next, new_scope_mark, open_scope, is_id, is_library, goes_with, end_scope};
+ghost use Rattle.profile_machine.specs.Scopes.{plainly, put_cells, next_id, scope_drawn, begin_scope, region_drawn, draw_region, region_of_next, new_scope_mark, open_scope, is_id, is_library, goes_with, end_scope};
 ghost use Rattle.profile_machine.specs.Words.{is_empty, without};
 
-use crate::scopes::same_id;
+use crate::scopes::{put_cells, same_id};
 use ann_base::{CallNo, NoMemory, RegionNo};
 use machine_frames::{new_frame, push};
 use machine_operators::{Program, initial_cells, scope_of};
@@ -62,38 +62,24 @@ fn region_drawn(drawn: &mut Drawn) -> Result<(), NoMemory>
     Ok(())
 }
 
-fn push_all(list: &mut List<Value>, values: &[Value]) -> Result<(), NoMemory>
-    ensures { OnOk result (list.new ≡ list.old ++ values.now) }
+fn listed(alloc: Global, values: &[Value]) -> Result<List<Value>, NoMemory>
+    ensures { IfOk result (λ list. list ≡ values.now) }
 {
+    let mut list = List::new(alloc);
     for value in values {
         list.push_back(*value)?;
     }
-    Ok(())
-}
-
-// The cells from this place on.
-fn tail(cells: &[Value], place: usize) -> &[Value]
-    ensures { result.now ≡ drop place cells.now }
-{
-    if place < cells.len() {
-        cells.split_at(place).1
-    } else {
-        &[]
-    }
+    Ok(list)
 }
 
 // The cells of a scope as it begins, with its parameters in the first of them.
-fn begun_cells(
-    alloc: Global,
-    mut values: List<Value>,
-    scope: &Scope,
-) -> Result<List<Value>, NoMemory>
-    ensures { IfOk result (λ cells. cells ≡ values ++ drop (length values) (initial_cells scope.now)) }
+fn begun_cells(alloc: Global, values: &List<Value>, scope: &Scope) -> Result<List<Value>, NoMemory>
+    ensures { IfOk result (λ cells. cells ≡ put_cells 0 values.now (initial_cells scope.now)) }
 {
     let initial = initial_cells(alloc, scope)?;
-    let given = values.len();
-    push_all(&mut values, tail(initial.as_slice(), given))?;
-    Ok(values)
+    let mut cells = listed(alloc, initial.as_slice())?;
+    put_cells(&mut cells, 0, values);
+    Ok(cells)
 }
 
 /// The scope is in use, with its cells as they begin and its parameters in the first of them.
@@ -109,7 +95,7 @@ pub fn begin_scope(
 ) -> Result<(), NoMemory>
     ensures { OnOk result (world.new ≡ begin_scope p.now name scope b world.old) }
 {
-    let cells = begun_cells(alloc, b.values, scope_of(p, scope))?;
+    let cells = begun_cells(alloc, &b.values, scope_of(p, scope))?;
     let begun = ScopeInUse {
         id: next_id(world),
         scope,

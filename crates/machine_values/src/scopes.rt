@@ -3,7 +3,7 @@ ghost use Rattle.std.specs.Prelude.{◌≡◌, pos, suc, slice_set, Some, find, 
 ghost use Rattle.std.specs.List.{position_from};
 ghost use Rattle.std.specs.Option.{option_copied_mut};
 ghost use Rattle.std.specs.Borrow.{sem};
-ghost use Rattle.profile_machine.specs.Scopes.{is_id, scope_in_use, id_in, first_id, innermost, outwards, first_outwards, home, read_cell, write_cell};
+ghost use Rattle.profile_machine.specs.Scopes.{is_id, scope_in_use, id_in, first_id, innermost, outwards, first_outwards, home, read_cell, write_cell, put_cells};
 ghost use Rattle.profile_machine.specs.Values.{object_of, is_of_unit, works_on_unit};
 ghost use Rattle.profile_machine.specs.Words.{same_id};
 ghost use Rattle.profile_machine.specs.declared.values.Value.TheVariants.{Whole};
@@ -195,10 +195,10 @@ pub fn scope_mut(scopes: &mut List<ScopeInUse>, id: ScopeId) -> Option<&mut Scop
 }
 
 #[tactic(auto, using(crate::proofs::CellLemmas::none_set))]
-fn set_cell(cells: &mut List<Value>, place: u32, value: Value)
+fn set_cell(cells: &mut List<Value>, place: usize, value: Value)
     ensures { cells.new ≡ slice_set cells.old place value }
 {
-    if let Some(cell) = cells.get_mut(place as usize) {
+    if let Some(cell) = cells.get_mut(place) {
         *cell = value;
     }
 }
@@ -208,6 +208,21 @@ pub fn write_cell(world: &mut World, id: ScopeId, place: u32, value: Value)
     ensures { world.new ≡ write_cell id place value world.old }
 {
     if let Some(scope) = scope_mut(&mut world.scopes, id) {
-        set_cell(&mut scope.cells, place, value);
+        set_cell(&mut scope.cells, place as usize, value);
+    }
+}
+
+/// The cells from this place on get these values; what would stand behind the last cell is dropped.
+#[tactic(auto, using(crate::proofs::CellLemmas::put_laws))]
+pub fn put_cells(cells: &mut List<Value>, place: u32, values: &List<Value>)
+    ensures { cells.new ≡ put_cells place values.now cells.old }
+{
+    let mut at = place as usize;
+    for value in values.iter() {
+        if cells.len() <= at {
+            return;
+        }
+        set_cell(cells, at, *value);
+        at += 1;
     }
 }

@@ -1,6 +1,6 @@
 -- Where a Finalize may be opened: on the scope that is being left, whose object has been taken out of the register, and on the
 -- assignment to its object.
-use Rattle.std.proofs.Common.{◌≡◌, ℕ, ◌≤◌, Bool, true, false, cond, eqb, ◌&&◌, List, [], ◌∷◌, Option, Some, sym, ap, subst, eq-eqb, arith}
+use Rattle.std.proofs.Common.{◌≡◌, ℕ, ◌≤◌, Bool, true, false, cond, eqb, ◌&&◌, List, [], ◌∷◌, Option, Some, sym, ap, subst, ◌∙◌, eq-eqb, arith}
 use Rattle.std.proofs.lemmas.Bool.{eqb-true}
 use Rattle.std.specs.Prelude.{find, is_some, is_none, leb}
 use Rattle.ann_base.specs.declared.identities.RegionNo.{RegionNo}
@@ -22,8 +22,11 @@ pub unregistered-top : (name : Who) (n : ℕ) (f : Frame) (w : World) → top_of
 unregistered-top (who.Task t) n f w e = e
 unregistered-top who.Agent n f w e = e
 
-pub found-number : (n : ℕ) (x : Registered) (rs : List Registered) → find (is_number n) rs ≡ Some x → eqb x.object n ≡ true
-found-number n x rs e = eq-eqb x.object n (sym (eqb-true n x.object (found-test (is_number n) x rs e)))
+-- what is found by its number is registered under it
+pub target-registered : (n : ℕ) (x : Registered) (rs : List Registered) → find (is_number n) rs ≡ Some x → (eqb x.object n && is_some (find (is_number x.object) rs)) ≡ true
+target-registered n x rs e =
+    let same : n ≡ x.object = eqb-true n x.object (found-test (is_number n) x rs e) in
+    ap (λ b. b && is_some (find (is_number x.object) rs)) (eq-eqb x.object n (sym same)) ∙ ap is_some (ap (λ k. find (is_number k) rs) (sym same) ∙ e)
 
 drawn-step : (drawn : ℕ) (b : Bool) (r x : Registered) (rest : Option Registered) → r.object ≤ drawn → (rest ≡ Some x → x.object ≤ drawn) → cond b (Some r) rest ≡ Some x → x.object ≤ drawn
 drawn-step drawn true r x rest low onward e = let same : r ≡ x = cc in subst (λ (y : Registered). y.object ≤ drawn) same low

@@ -60,7 +60,7 @@ use Rattle.profile_machine.specs.Protected.{open_action, new_protected_mark}
 use Rattle.profile_machine.specs.EntryCalls.{add_call}
 use Rattle.profile_machine.specs.declared.world.marks.ScopeMark.{ScopeMark}
 use Rattle.profile_machine.specs.declared.world.appointments.Registered.{Registered}
-use Rattle.profile_machine.specs.Controlled.{top_region, registered_as, no_longer_registered, edit_top_scope, next_to_finalize, registered_at}
+use Rattle.profile_machine.specs.Controlled.{top_region, registered_as, no_longer_registered, edit_top_scope, next_to_finalize, is_being_assigned, registered_at}
 use Rattle.profile_machine.specs.Declarations.{new_object, object_drawn, event_drawn, with_budget, with_timer}
 use Rattle.profile_machine.specs.Tasking.{is_task_scope, add_task, end_environment, leaves_as, being_left_mark, left_so_frame}
 use Rattle.profile_machine.specs.declared.world.appointments.Release.{Release}
@@ -187,10 +187,10 @@ pub record FineMoves (G : GoodWorld) (May Other : Naming) (R : StepRelation) (Q 
   -- appointments, but that of a trigger
   pub appoints : (due : Due) (moment : ℤ) (w : World) → G w → is_a_trigger due ≡ false → R w [] (appoint due moment w)
   pub drops_appointment : (test : Due → Bool) (w : World) → G w → R w [] (drop_appointment test w)
-  -- controlled objects: a new one has the next number; of a region that is being left the newest is finalized; and one that is
-  -- registered is assigned to
+  -- controlled objects: a new one has the next number; of a region that is being left the newest is finalized, while nobody assigns
+  -- to it; and one that is registered is assigned to
   pub registers : (name : Who) (l : Located) (w : World) → G w → R w (own (said.Init name (suc w.drawn.controlled) (top_region w name) l.declared) ∷ []) (registered_as (suc w.drawn.controlled) (top_region w name) l w)
-  pub finalizes : (name : Who) (f : Frame) (m : ScopeMark) (r : RegionNo) (x : Registered) (w : World) → G w → May name → top_of w name ≡ Some f → f.mark ≡ Scope m → m.region ≡ Some r → m.being_left ≡ true → next_to_finalize w r ≡ Some x
+  pub finalizes : (name : Who) (f : Frame) (m : ScopeMark) (r : RegionNo) (x : Registered) (w : World) → G w → May name → top_of w name ≡ Some f → f.mark ≡ Scope m → m.region ≡ Some r → m.being_left ≡ true → next_to_finalize w r ≡ Some x → is_being_assigned w x.object ≡ false
       → R w (own (said.Final name x.object) ∷ []) (no_longer_registered x.object w)
   pub replaces : (name : Who) (l : Located) (x : Registered) (w : World) → G w → registered_at w l ≡ Some x → R w (own (said.Replace name x.object) ∷ []) w
   -- events, timers and budgets

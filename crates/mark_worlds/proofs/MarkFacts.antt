@@ -1,5 +1,6 @@
 -- What is known of marks, waits and appointments in every world that a run reaches: each mark is struck for a cause, each trigger that
--- is appointed names an abortable part that awaits it, and each Finalize stands on a scope that is being left or on its assignment.
+-- is appointed names an abortable part that awaits it, and each Finalize stands on a scope that is being left or on its assignment, whose
+-- target stays registered.
 use Rattle.std.proofs.Common.{◌≡◌, ◌⊎◌, ℕ, ◌<◌, ◌≤◌, Bool, true, false, cond, eqb, ◌&&◌, ◌||◌, not, List, [], ◌∷◌, Option, Some, None, length}
 use Rattle.std.specs.Prelude.{◌-◌, leb, is_some, is_none, find}
 use Rattle.std.specs.List.{list_any}
@@ -197,7 +198,8 @@ Marked w n = MarkedIn w.drawn.tasks w.tasks w.agent n
 
 -- ---- the objects of Finalize marks
 
--- the mark below one of this object: a scope that is being left, or the assignment to it
+-- the mark below one of this object: a scope that is being left, where it is no longer registered, or the assignment to it, where
+-- it still is
 abbrev pub finalizes_here : List Registered → ℕ → ℕ → Mark → Bool
 finalizes_here registered drawn n (Scope m) = m.being_left && is_some m.region && is_none (find (is_number n) registered) && leb n drawn
 finalizes_here registered drawn n (Handled s) = false
@@ -206,7 +208,7 @@ finalizes_here registered drawn n (InAccept m) = false
 finalizes_here registered drawn n (Abortable m) = false
 finalizes_here registered drawn n (InInitialize l) = false
 finalizes_here registered drawn n (InFinalize o) = false
-finalizes_here registered drawn n (InAssign m) = eqb n m.target
+finalizes_here registered drawn n (InAssign m) = eqb n m.target && is_some (find (is_number n) registered)
 
 abbrev pub may_finalize : World → ℕ → Mark → Bool
 may_finalize w n mark = finalizes_here w.registered w.drawn.controlled n mark

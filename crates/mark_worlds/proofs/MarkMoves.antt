@@ -1,5 +1,5 @@
 -- Each change that steps are made of keeps what is known of marks.
-use Rattle.std.proofs.Common.{◌≡◌, inl, ℕ, suc, ◌<◌, ◌≤◌, Bool, true, false, cond, not, eqb, ◌&&◌, ◌||◌, List, [], ◌∷◌, Option, Some, None, refl, sym, ap, subst, ◌∙◌, arith}
+use Rattle.std.proofs.Common.{◌≡◌, inl, ℕ, suc, ◌<◌, ◌≤◌, Bool, true, false, cond, not, eqb, ◌&&◌, ◌||◌, List, [], ◌∷◌, Option, Some, None, refl, sym, ap, subst, ◌∙◌, arith, eq-eqb}
 use Rattle.std.proofs.lemmas.Bool.{eqb-true, false≢true}
 use Rattle.std.specs.Prelude.{find, is_some, is_none, leb, ℤ, int_lt}
 use Rattle.std.specs.List.{list_any}
@@ -33,7 +33,7 @@ use Rattle.profile_machine.specs.Frames.{frames_of, new_frame, edit_first, edit_
 use Rattle.profile_machine.specs.Scopes.{begin_scope, draw_region, open_scope, next_id, region_of_next, new_scope_mark}
 use Rattle.profile_machine.specs.Appointments.{is_trigger_of, put_appointment, appoint, drop_appointment}
 use Rattle.profile_machine.specs.Protected.{new_protected_mark}
-use Rattle.profile_machine.specs.Controlled.{is_number, top_region, registered_as, no_longer_registered, edit_top_scope, edit_scope_mark}
+use Rattle.profile_machine.specs.Controlled.{is_number, assigns_to, is_assigning_to, is_being_assigned, top_region, registered_as, no_longer_registered, edit_top_scope, edit_scope_mark}
 use Rattle.profile_machine.specs.Tasking.{is_task_scope, add_task, being_left_mark, left_so_frame}
 use Rattle.profile_machine.specs.WellFormed.{awaits_trigger}
 use Rattle.machine_laws.proofs.Moves.{MoveRelation}
@@ -41,9 +41,9 @@ use Rattle.machine_laws.proofs.FineMoves.{edit_task-drawn}
 use Rattle.exclusion_laws.proofs.ObjectLists.{by_test}
 use Rattle.exit_laws.proofs.FineMoves.{natures, action_first, action_in}
 use Rattle.exit_laws.proofs.TaskEdits.{one_of}
-use Rattle.mark_worlds.proofs.MarkFacts.{Begun, Calm, DrawnTo, HasBegun, StandsAt, Unarmed, AwaitsAt, AllDrawn, own_scope_in, RightMarks, FinalizesRightly, below_finalizes, finalizes_here, is_a_trigger, nature, GoodMarks, Still}
+use Rattle.mark_worlds.proofs.MarkFacts.{Begun, Calm, DrawnTo, HasBegun, StandsAt, Unarmed, AwaitsAt, AllTasks, AllDrawn, own_scope_in, RightMarks, FinalizesRightly, below_finalizes, finalizes_here, is_a_trigger, nature, GoodMarks, Still}
 use Rattle.mark_worlds.proofs.FineMoves.{FineMoves, RegionMoves, TockMoves, Anybody, each-anybody, gone_on}
-use Rattle.mark_worlds.proofs.TaskFacts.{all-map, found-test, fewer-any, all-found}
+use Rattle.mark_worlds.proofs.TaskFacts.{all-map, all-both, found-test, fewer-any, all-found}
 use Rattle.mark_worlds.proofs.TaskMoves.{LeadsTo, still-same, stays-good, leads-then, task-leads, abort-leads, runnable-leads, blocked-leads, waiting-leads, top-leads, push-leads, part-leads, finalize-leads, own_scope-leads, pop-leads, strike-leads, triggered-leads, waited-leads, added-leads, forgotten-leads}
 
 abbrev pub GoodBehind : MoveRelation
@@ -169,6 +169,22 @@ higher n drawn e = grind (arith, e)
 not_next : (n drawn : ℕ) → leb n drawn ≡ true → eqb n (suc drawn) ≡ false
 not_next n drawn e = by_test (eqb n (suc drawn)) (λ k. let same : n ≡ suc drawn = eqb-true n (suc drawn) k in grind (arith, same, e)) (λ k. k)
 
+and-more : (a b c : Bool) → (b ≡ true → c ≡ true) → (a && b) ≡ true → (a && c) ≡ true
+and-more true b c k h = k h
+and-more false b c k h = h
+
+some-more : (b : Bool) (r : Registered) (rest : Option Registered) → is_some rest ≡ true → is_some (cond b (Some r) rest) ≡ true
+some-more true r rest h = refl
+some-more false r rest h = h
+
+first-none : (a b : Bool) → (a || b) ≡ false → a ≡ false
+first-none true b e = e
+first-none false b e = refl
+
+second-none : (a b : Bool) → (a || b) ≡ false → b ≡ false
+second-none true b e = absurd (false≢true (sym e))
+second-none false b e = e
+
 module _ (registered : List Registered) (drawn : ℕ) where
   registered-here : (r : Registered) → r.object ≡ suc drawn → (n : ℕ) (mark : Mark) → finalizes_here registered drawn n mark ≡ true → finalizes_here (r ∷ registered) (suc drawn) n mark ≡ true
   registered-here r is n (Scope m) h =
@@ -181,20 +197,22 @@ module _ (registered : List Registered) (drawn : ℕ) where
   registered-here r is n (Abortable m) h = h
   registered-here r is n (InInitialize l) h = h
   registered-here r is n (InFinalize o) h = h
-  registered-here r is n (InAssign m) h = h
+  registered-here r is n (InAssign m) h = and-more (eqb n m.target) (is_some (find (is_number n) registered)) (is_some (find (is_number n) (r ∷ registered))) (some-more (eqb n r.object) r (find (is_number n) registered)) h
 
--- from what holds of each mark, what holds of marks
-module _ (registered behind : List Registered) (drawn later : ℕ) (here : (n : ℕ) (mark : Mark) → finalizes_here registered drawn n mark ≡ true → finalizes_here behind later n mark ≡ true) where
-  below-here : (n : ℕ) (fs : List Frame) → below_finalizes registered drawn n fs ≡ true → below_finalizes behind later n fs ≡ true
-  below-here n [] h = h
-  below-here n (f ∷ fs) h = here n f.mark h
+-- what stays so of each mark that is not left out stays so of marks of which none is left out
+module _ (registered behind : List Registered) (drawn later : ℕ) (out : Mark → Bool) (here : (n : ℕ) (mark : Mark) → out mark ≡ false → finalizes_here registered drawn n mark ≡ true → finalizes_here behind later n mark ≡ true) where
+  below-here : (n : ℕ) (fs : List Frame) → list_any (λ f. out f.mark) fs ≡ false → below_finalizes registered drawn n fs ≡ true → below_finalizes behind later n fs ≡ true
+  below-here n [] none h = h
+  below-here n (f ∷ fs) none h = here n f.mark (first-none (out f.mark) (list_any (λ (x : Frame). out x.mark) fs) none) h
 
-  finalizes-here : (fs : List Frame) → FinalizesRightly registered drawn fs → FinalizesRightly behind later fs
-  finalizes-here [] h = tt
-  finalizes-here (f ∷ fs) h = ((λ n e. below-here n fs (h.0 n e)), finalizes-here fs h.1)
+  finalizes-here : (fs : List Frame) → list_any (λ f. out f.mark) fs ≡ false → FinalizesRightly registered drawn fs → FinalizesRightly behind later fs
+  finalizes-here [] none h = tt
+  finalizes-here (f ∷ fs) none h =
+      let rest = second-none (out f.mark) (list_any (λ (x : Frame). out x.mark) fs) none in
+      ((λ n e. below-here n fs rest (h.0 n e)), finalizes-here fs rest h.1)
 
-  marks-here : (t : Task) → RightMarks registered drawn t → RightMarks behind later t
-  marks-here t h = record { struck = h.struck; finalizes = finalizes-here t.frames h.finalizes }
+  marks-here : (t : Task) → list_any (λ f. out f.mark) t.frames ≡ false → RightMarks registered drawn t → RightMarks behind later t
+  marks-here t none h = record { struck = h.struck; finalizes = finalizes-here t.frames none h.finalizes }
 
 none_left-step : (b c : Bool) (q : Registered → Bool) (y : Registered) (ys left : List Registered) → q y ≡ c → (find q ys ≡ None → find q left ≡ None) → cond c (Some y) (find q ys) ≡ None → find q (cond b (y ∷ left) left) ≡ None
 none_left-step b true q y ys left e onward h = cc
@@ -209,18 +227,36 @@ none-is : (o : Option Registered) → is_none o ≡ true → o ≡ None
 none-is None e = refl
 none-is (Some r) e = absurd (false≢true e)
 
-unregistered-here : (registered : List Registered) (drawn o : ℕ) (n : ℕ) (mark : Mark) → finalizes_here registered drawn n mark ≡ true → finalizes_here (without (is_number o) registered) drawn n mark ≡ true
-unregistered-here registered drawn o n (Scope m) h =
+-- another than the one that is taken out is found as before
+some_left-step : (b c : Bool) (o n : ℕ) (y : Registered) (ys left : List Registered) → is_number o y ≡ b → is_number n y ≡ c → eqb o n ≡ false → (is_some (find (is_number n) ys) ≡ true → is_some (find (is_number n) left) ≡ true)
+    → is_some (cond c (Some y) (find (is_number n) ys)) ≡ true → is_some (find (is_number n) (cond (not b) (y ∷ left) left)) ≡ true
+some_left-step true true o n y ys left gone is apart onward h = absurd (let one : o ≡ n = eqb-true o y.object gone ∙ sym (eqb-true n y.object is) in false≢true (sym apart ∙ eq-eqb o n one))
+some_left-step true false o n y ys left gone is apart onward h = onward h
+some_left-step false true o n y ys left gone is apart onward h = ap (λ k. is_some (cond k (Some y) (find (is_number n) left))) is
+some_left-step false false o n y ys left gone is apart onward h = ap (λ k. is_some (cond k (Some y) (find (is_number n) left))) is ∙ onward h
+
+some-left : (o n : ℕ) (xs : List Registered) → eqb o n ≡ false → is_some (find (is_number n) xs) ≡ true → is_some (find (is_number n) (without (is_number o) xs)) ≡ true
+some-left o n [] apart h = h
+some-left o n (y ∷ ys) apart h = some_left-step (is_number o y) (is_number n y) o n y ys (without (is_number o) ys) refl refl apart (λ k. some-left o n ys apart k) h
+
+other-target : (o n target : ℕ) → eqb o target ≡ false → eqb n target ≡ true → eqb o n ≡ false
+other-target o n target apart same = ap (eqb o) (eqb-true n target same) ∙ apart
+
+-- a mark that does not assign to the object that is taken out
+unregistered-here : (registered : List Registered) (drawn o : ℕ) (n : ℕ) (mark : Mark) → assigns_to o mark ≡ false → finalizes_here registered drawn n mark ≡ true → finalizes_here (without (is_number o) registered) drawn n mark ≡ true
+unregistered-here registered drawn o n (Scope m) apart h =
     let k = four m.being_left (is_some m.region) (is_none (find (is_number n) registered)) (leb n drawn) h in
     all_four m.being_left (is_some m.region) (is_none (find (is_number n) (without (is_number o) registered))) (leb n drawn) k.0 k.1
     (ap is_none (none-left (is_number n) (is_number o) registered (none-is (find (is_number n) registered) k.2))) k.3
-unregistered-here registered drawn o n (Handled s) h = h
-unregistered-here registered drawn o n (InProtected m) h = h
-unregistered-here registered drawn o n (InAccept m) h = h
-unregistered-here registered drawn o n (Abortable m) h = h
-unregistered-here registered drawn o n (InInitialize l) h = h
-unregistered-here registered drawn o n (InFinalize k) h = h
-unregistered-here registered drawn o n (InAssign m) h = h
+unregistered-here registered drawn o n (Handled s) apart h = h
+unregistered-here registered drawn o n (InProtected m) apart h = h
+unregistered-here registered drawn o n (InAccept m) apart h = h
+unregistered-here registered drawn o n (Abortable m) apart h = h
+unregistered-here registered drawn o n (InInitialize l) apart h = h
+unregistered-here registered drawn o n (InFinalize k) apart h = h
+unregistered-here registered drawn o n (InAssign m) apart h =
+    let k = and-both (eqb n m.target) (is_some (find (is_number n) registered)) h in
+    ap (λ b. b && is_some (find (is_number n) (without (is_number o) registered))) k.0 ∙ some-left o n registered (other-target o n m.target apart k.0) k.1
 
 later-objects : (drawn : ℕ) (rs : List Registered) → AllDrawn drawn rs → AllDrawn (suc drawn) rs
 later-objects drawn [] h = tt
@@ -234,14 +270,21 @@ left-objects : (drawn : ℕ) (test : Registered → Bool) (rs : List Registered)
 left-objects drawn test [] h = tt
 left-objects drawn test (r ∷ rs) h = left-objects-step drawn (not (test r)) r (without test rs) h.0 (left-objects drawn test rs h.1)
 
+abbrev no_mark : Mark → Bool
+no_mark mark = false
+
+no_mark-any : (fs : List Frame) → list_any (λ f. no_mark f.mark) fs ≡ false
+no_mark-any [] = refl
+no_mark-any (f ∷ fs) = no_mark-any fs
+
 register-leads : (region : RegionNo) (l : Located) (w : World) → GoodMarks w → LeadsTo w [] (registered_as (suc w.drawn.controlled) region l w)
 register-leads region l w good =
     let c = w.drawn.controlled in
     let r : Registered = record { object = suc c; region = region; located = l } in
-    let here = registered-here w.registered c r refl in (
+    let here : (n : ℕ) (mark : Mark) → no_mark mark ≡ false → finalizes_here w.registered c n mark ≡ true → finalizes_here (r ∷ w.registered) (suc c) n mark ≡ true = λ n mark none. registered-here w.registered c r refl n mark in (
       record {
-        tasks_right = all-map (RightMarks w.registered c) (RightMarks (r ∷ w.registered) (suc c)) w.tasks (λ t h. marks-here w.registered (r ∷ w.registered) c (suc c) here t h) good.tasks_right;
-        agent_right = marks-here w.registered (r ∷ w.registered) c (suc c) here w.agent good.agent_right;
+        tasks_right = all-map (RightMarks w.registered c) (RightMarks (r ∷ w.registered) (suc c)) w.tasks (λ t h. marks-here w.registered (r ∷ w.registered) c (suc c) no_mark here t (no_mark-any t.frames) h) good.tasks_right;
+        agent_right = marks-here w.registered (r ∷ w.registered) c (suc c) no_mark here w.agent (no_mark-any w.agent.frames) good.agent_right;
         waits = good.waits;
         numbers = good.numbers;
         single = good.single;
@@ -251,14 +294,21 @@ register-leads region l w good =
       still-same w,
     )
 
-unregister-leads : (o : ℕ) (w : World) → GoodMarks w → LeadsTo w [] (no_longer_registered o w)
-unregister-leads o w good =
+-- nobody assigns to an object
+none_assigns : (o : ℕ) (ts : List Task) → list_any (is_assigning_to o) ts ≡ false → AllTasks (λ t. is_assigning_to o t ≡ false) ts
+none_assigns o [] none = tt
+none_assigns o (t ∷ ts) none = (first-none (is_assigning_to o t) (list_any (is_assigning_to o) ts) none, none_assigns o ts (second-none (is_assigning_to o t) (list_any (is_assigning_to o) ts) none))
+
+unregister-leads : (o : ℕ) (w : World) → GoodMarks w → is_being_assigned w o ≡ false → LeadsTo w [] (no_longer_registered o w)
+unregister-leads o w good free =
     let c = w.drawn.controlled in
     let left = without (is_number o) w.registered in
-    let here = unregistered-here w.registered c o in (
+    let here = unregistered-here w.registered c o in
+    let tasks = list_any (is_assigning_to o) w.tasks in
+    let agent = is_assigning_to o w.agent in (
       record {
-        tasks_right = all-map (RightMarks w.registered c) (RightMarks left c) w.tasks (λ t h. marks-here w.registered left c c here t h) good.tasks_right;
-        agent_right = marks-here w.registered left c c here w.agent good.agent_right;
+        tasks_right = all-both (λ t. is_assigning_to o t ≡ false) (RightMarks w.registered c) (RightMarks left c) w.tasks (λ t none h. marks-here w.registered left c c (assigns_to o) here t none h) (none_assigns o w.tasks (first-none tasks agent free)) good.tasks_right;
+        agent_right = marks-here w.registered left c c (assigns_to o) here w.agent (second-none tasks agent free) good.agent_right;
         waits = good.waits;
         numbers = good.numbers;
         single = good.single;
@@ -409,7 +459,7 @@ fine = record {
   appoints = appoint-leads;
   drops_appointment = drop-leads;
   registers = λ name l w g. register-leads (top_region w name) l w g;
-  finalizes = λ name f m r x w g may top is region left next. unregister-leads x.object w g;
+  finalizes = λ name f m r x w g may top is region left next free. unregister-leads x.object w g free;
   replaces = λ name l x w g found. stays-good w g;
   draws_event = λ w g. (g, still-same w);
   adds_timer = λ t w g. (g, still-same w);

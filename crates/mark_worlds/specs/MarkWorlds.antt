@@ -1,5 +1,5 @@
 -- The marks of every world that a run reaches, and the triggers that are set for them (7.6.1, 9.7.4, 9.8).
-use Rattle.std.specs.Prelude.{IsTrue, ℕ, ℤ, Bool, true, false, ◌&&◌, List, [], ◌∷◌, eqb, is_some}
+use Rattle.std.specs.Prelude.{IsTrue, ℕ, ℤ, Bool, true, false, ◌&&◌, List, [], ◌∷◌, eqb}
 use Rattle.std.specs.List.{list_all}
 use Rattle.profile_machine.specs.declared.image.Image.{Image}
 use Rattle.profile_machine.specs.declared.run_data.Item.{Item}
@@ -10,7 +10,6 @@ use Rattle.profile_machine.specs.declared.world.marks.Mark.TheVariants.{Scope, H
 use Rattle.profile_machine.specs.declared.world.tasks.Task.{Task}
 use Rattle.profile_machine.specs.declared.world.appointments.Due.{Due}
 use Rattle.profile_machine.specs.declared.world.appointments.Due.TheVariants as due_for
-use Rattle.profile_machine.specs.Controlled.{registered_object}
 use Rattle.profile_machine.specs.WellFormed.{everybody, is_awaited, is_struck_rightly, finalizes_on, marks_are_right}
 use Rattle.machine_laws.specs.Reached.{Reached}
 
@@ -67,41 +66,10 @@ ReachedFinalizesStandRightly = (p : Image) (script : List (ℤ × Item)) (bound 
 
 -- ---- the whole
 
--- on an assignment its object is registered
-abbrev pub target_stays_on : World → ℕ → Mark → Bool
-target_stays_on w n (Scope m) = true
-target_stays_on w n (Handled s) = true
-target_stays_on w n (InProtected m) = true
-target_stays_on w n (InAccept m) = true
-target_stays_on w n (Abortable m) = true
-target_stays_on w n (InInitialize l) = true
-target_stays_on w n (InFinalize o) = true
-target_stays_on w n (InAssign m) = is_some (registered_object w n)
-
-abbrev pub target_stays_above : World → ℕ → List Frame → Bool
-target_stays_above w n [] = true
-target_stays_above w n (f ∷ fs) = target_stays_on w n f.mark
-
-abbrev pub target_stays : World → Mark → List Frame → Bool
-target_stays w (Scope m) below = true
-target_stays w (Handled s) below = true
-target_stays w (InProtected m) below = true
-target_stays w (InAccept m) below = true
-target_stays w (Abortable m) below = true
-target_stays w (InInitialize l) below = true
-target_stays w (InFinalize n) below = target_stays_above w n below
-target_stays w (InAssign m) below = true
-
-abbrev pub targets_of_frames_stay : World → List Frame → Bool
-targets_of_frames_stay w [] = true
-targets_of_frames_stay w (f ∷ fs) = target_stays w f.mark fs && targets_of_frames_stay w fs
-
-abbrev pub targets_stay : World → Bool
-targets_stay w = list_all (λ t. targets_of_frames_stay w t.frames) (everybody w)
-
--- where the object of each Finalize of an assignment is registered, the marks of a reached world are right
-abbrev pub ReachedMarksAreRightWhereTargetsStay : Type 0
-ReachedMarksAreRightWhereTargetsStay = (p : Image) (script : List (ℤ × Item)) (bound : ℕ) (w : World) → Reached p script bound w → IsTrue (targets_stay w) → IsTrue (marks_are_right w)
+-- each mark is struck for a cause, and each Finalize stands where its end leads on: on the scope that is being left, or on the
+-- assignment to its object, which is registered
+abbrev pub ReachedMarksAreRight : Type 0
+ReachedMarksAreRight = (p : Image) (script : List (ℤ × Item)) (bound : ℕ) (w : World) → Reached p script bound w → IsTrue (marks_are_right w)
 
 -- ---- what triggers are set for
 

@@ -3,7 +3,7 @@
 //! that does nothing.
 #![tactic(auto)]
 
-ghost use Rattle.mark_worlds.specs.MarkWorlds.{ReachedMarksAreStruckRightly, ReachedFinalizesStandRightly, ReachedMarksAreRightWhereTargetsStay, ReachedTriggersAreAwaited};
+ghost use Rattle.mark_worlds.specs.MarkWorlds.{ReachedMarksAreStruckRightly, ReachedFinalizesStandRightly, ReachedMarksAreRight, ReachedTriggersAreAwaited};
 
 /// In every world that a run reaches a struck mark is the outermost one of an abnormal task, or an
 /// abortable part whose trigger has completed (ISO/IEC 8652:2012, 9.7.4, 9.8).
@@ -19,11 +19,12 @@ pub fn reached_finalizes_stand_where_they_lead_on()
     ensures { ReachedFinalizesStandRightly }
 {}
 
-/// Where moreover the object of each Finalize of an assignment is registered, the marks of a world that
-/// a run reaches are right.
-#[tactic(auto, using(crate::proofs::MarkWorlds::reached_marks_are_right_where_targets_stay))]
-pub fn reached_marks_are_right_where_targets_are_registered()
-    ensures { ReachedMarksAreRightWhereTargetsStay }
+/// In every world that a run reaches the marks are right: each that is struck is so for a cause, and
+/// each Finalize stands on the scope that is being left, whose object is no longer registered, or on
+/// the assignment to its object, which still is (ISO/IEC 8652:2012, 7.6, 7.6.1, 9.7.4, 9.8).
+#[tactic(auto, using(crate::proofs::MarkWorlds::reached_marks_are_right))]
+pub fn reached_marks_are_right()
+    ensures { ReachedMarksAreRight }
 {}
 
 /// In every world that a run reaches the task for which a trigger is appointed is there, and at the

@@ -1,7 +1,9 @@
 -- What of a task decides at which level and with which deadline it is placed, and what of an object decides who is let in; and
--- changes that touch none of these, and let no task wait for a moment that waited for none.
+-- changes that touch none of these, let no task wait for a moment that waited for none, and leave who made a call.
+use Rattle.ann_base.specs.declared.identities.CallNo.{CallNo}
 use Rattle.ann_base.specs.declared.identities.ObjectNo.{ObjectNo}
 use Rattle.ann_base.specs.declared.identities.TaskNo.{TaskNo}
+use Rattle.appointment_worlds.proofs.Delays.{Caller}
 use Rattle.profile_machine.specs.Appointments.{is_delay_of}
 use Rattle.profile_machine.specs.declared.world.World.{World}
 use Rattle.profile_machine.specs.declared.world.objects.Object.{Object}
@@ -32,11 +34,11 @@ ceiling_in x = (x.number, x.ceiling)
 abbrev pub is_delayed : TaskNo → World → Bool
 is_delayed t w = list_any (λ a. is_delay_of t a.due) w.appointments
 
--- the second world has the tasks, the agent and the objects of the first, and no moment for a task more
+-- the second world has the tasks, the agent and the objects of the first, no moment for a task more, and for each call its caller
 pub record Same (a b : World) : Type 0 where
   pub tasks : map core b.tasks ≡ map core a.tasks
   pub agent : core b.agent ≡ core a.agent
   pub objects : map ceiling_in b.objects ≡ map ceiling_in a.objects
   pub drawn_tasks : b.drawn.tasks ≡ a.drawn.tasks
-  pub drawn_objects : b.drawn.objects ≡ a.drawn.objects
+  pub callers : (c : CallNo) (name : Who) → Caller c name a → Caller c name b
   pub delays : (t : TaskNo) → is_delayed t b ≡ true → is_delayed t a ≡ true

@@ -3,8 +3,9 @@ use Rattle.ceiling_places.proofs.BesideLemmas.{same-self}
 use Rattle.place_worlds.proofs.ActiveLemmas.{edit-part, active-falls, inherit-rises, lose-falls}
 use Rattle.place_worlds.proofs.CorePoints.{Holds, IsAt, Knowing, Places, Point, Readies, Turns, active_in, at_active, core-plain, holds-also, holds-edit, holds-knowing, holds-of, holds-sound, holds_quiet, keeps_says, not-absent, ready-holds, spot_for, state-kept, to_head-holds, to_tail-holds}
 use Rattle.place_worlds.proofs.SoundWorlds.{IsAbsent, Sound, Unactivated, is_agent, is_fresh, known, sound-edit, unactivated_without}
-use Rattle.place_worlds.proofs.Standing.{Acting, AtLevel, Bare, Choosing, Dying, Ending, First, Fits, Good, IsShownRightly, IsUnmade, Last, Later, Loose, Owes, Owing, Since, Undated, acting-placed, acts_early, asleep-hidden, at-out, at-still, awake, blocked-put, deadline-kept, fits_limit, limit, limit-actor, nobody-runs, nobody-sleeps, place, placed-good, runs_in, sleeps_in, woken-good}
-use Rattle.place_worlds.proofs.Puts.{Spot, last_put, with_put}
+use Rattle.place_worlds.proofs.Standing.{Acting, AtLevel, Bare, Choosing, Dying, Ending, First, Fits, Gone, Good, IsCalm, IsShown, IsShownRightly, IsUnmade, Last, Later, Loose, Owes, Owing, Resting, Since, Undated, acting-placed, apart-sym, asleep-hidden, at-out, at-still, awake, deadline-kept, fits_limit, limit, limit-actor, nobody-runs, nobody-sleeps, place, placed-good, runs_in, shown-free, sleeps_in, woken-good}
+use Rattle.place_worlds.proofs.Puts.{Spot, last_put, spot_in, with_put}
+use Rattle.place_worlds.proofs.ActingMoves.{OfOthers}
 use Rattle.place_worlds.proofs.CoreLemmas.{core-same}
 use Rattle.ceiling_runs.proofs.FoundLemmas.{by_test}
 use Rattle.place_worlds.proofs.Kept.Priorities.{reprioritize_own-keeps, says_deadline-keeps}
@@ -16,19 +17,19 @@ use Rattle.place_worlds.proofs.Cores.{Core, Same, core}
 use Rattle.profile_machine.specs.Dispatching.{active_of, ready, to_head, to_tail}
 use Rattle.profile_machine.specs.Frames.{in_protected}
 use Rattle.profile_machine.specs.Inheritance.{falls, inherit, inherit_running, lose, lose_running, rises, same_cause}
-use Rattle.profile_machine.specs.Masters.{part_of}
+use Rattle.profile_machine.specs.Masters.{part_of, waits_at_terminate}
 use Rattle.profile_machine.specs.Priorities.{defer_base, defer_deadline, is_runnable_at_edf, placing_of, replace_in, reprioritize_own, says_base, says_deadline, set_base, set_deadline, set_deferred, set_or_defer_base, set_or_defer_deadline, take_base, take_deadline}
 use Rattle.profile_machine.specs.Program.{has_edf, is_edf_level}
 use Rattle.profile_machine.specs.Scopes.{end_scope}
 use Rattle.profile_machine.specs.Steps.{Step, changes, when}
 use Rattle.profile_machine.specs.Tasking.{fall_from}
-use Rattle.profile_machine.specs.Tasks.{edit_task, is_made_state, is_runnable_state, nobody, task_of}
+use Rattle.profile_machine.specs.Tasks.{edit_task, is_made_state, is_runnable_state, nobody, task_of, waiting_in}
 use Rattle.profile_machine.specs.Words.{same_who, some_where, without}
 use Rattle.profile_machine.specs.declared.image.Image.{Image}
 use Rattle.profile_machine.specs.declared.world.World.{World}
 use Rattle.profile_machine.specs.declared.world.lines.Line.TheVariants as line
 use Rattle.profile_machine.specs.declared.world.lines.Part.{Part}
-use Rattle.profile_machine.specs.declared.world.lines.Part.TheVariants.{TheBlock, ThePlacing}
+use Rattle.profile_machine.specs.declared.world.lines.Part.TheVariants.{ThePlacing}
 use Rattle.profile_machine.specs.declared.world.lines.Said.{Said}
 use Rattle.profile_machine.specs.declared.world.tasks.Cause.{Cause}
 use Rattle.profile_machine.specs.declared.world.tasks.Cause.TheVariants as inherited_by
@@ -137,15 +138,24 @@ module _ (p : Image) (s : List Placed) (a : Who) where
   shown-kept n t e l named same (inr (inl hidden)) = inr (inl hidden)
   shown-kept n t e l named same (inr (inr absent)) = not-absent n t (λ u. u) named refl absent
 
-  pub good-kept : (d : ℕ) (n : Who) (t : Task) (e : Core) (l : Last) → Named n t → e.state ≡ t.state → IsAt p (place p s a n l) e → Good p s a d n (core t) l → Good p s a d n e l
-  good-kept d n t e l named same at h = record { late = h.late; at = at; shown = shown-kept n t e l named same h.shown; fresh = h.fresh }
+  pub ready-kept : (n : Who) (c e : Core) (l : Last) → e.state ≡ c.state → (runs_in c ≡ true → IsShown p s a n l) → runs_in e ≡ true → IsShown p s a n l
+  ready-kept n c e l same ready runs = ready (ap is_runnable_state (sym same) ∙ runs)
 
-  pub runs_or_blocked : (c e : Core) (l : Last) → e.state ≡ c.state → (runs_in c ≡ true) ⊎ ((sleeps_in c ≡ true) × (l ≡ Some (TheBlock, None))) → (runs_in e ≡ true) ⊎ ((sleeps_in e ≡ true) × (l ≡ Some (TheBlock, None)))
-  runs_or_blocked c e l same (inl runs) = inl (ap is_runnable_state same ∙ runs)
-  runs_or_blocked c e l same (inr sleeps) = inr (ap is_blocked same ∙ sleeps.0, sleeps.1)
+  pub calm-kept : (n : Who) (c e : Core) (l : Last) → e.state ≡ c.state → IsCalm p s a n c l → IsCalm p s a n e l
+  calm-kept n c e l same calm apart = ((calm apart).0, λ sleeps. (calm apart).1 (ap is_blocked (sym same) ∙ sleeps))
+
+  pub good-kept : (d : ℕ) (n : Who) (t : Task) (e : Core) (l : Last) → Named n t → e.state ≡ t.state → IsAt p (place p s a n l) e → Good p s a d n (core t) l → Good p s a d n e l
+  good-kept d n t e l named same at h = record {
+    late = h.late;
+    at = at;
+    shown = shown-kept n t e l named same h.shown;
+    fresh = h.fresh;
+    ready = ready-kept n (core t) e l same h.ready;
+    calm = calm-kept n (core t) e l same h.calm;
+  }
 
   pub acting-kept : (d : ℕ) (n : Who) (c e : Core) (l : Last) → e.state ≡ c.state → Acting p s a d n c l → Acting p s a d n e l
-  acting-kept d n c e l same h = (h.0, runs_or_blocked c e l same h.1)
+  acting-kept d n c e l same h = (h.0, ap is_runnable_state same ∙ h.1)
 
   pub later-kept : (d : ℕ) (n : Who) (t : Task) (e : Core) (l : Last) → Named n t → e.state ≡ t.state → IsAt p (place p s a n l) e → Later p s a d n (core t) l → Later p s a d n e l
   later-kept d n t e l named same at h = (good-kept d n t e l named same at h.0, λ is. acting-kept d n (core t) e l same (h.1 is))
@@ -155,9 +165,8 @@ module _ (p : Image) (s : List Placed) (a : Who) where
   asleep-at n c e l shown sleeps = at-out p (place p s a n l) e (asleep-hidden p s a n c l shown sleeps)
 
   -- somebody who is absent neither runs nor sleeps
-  pub nobody-acts : {P : Type 0} (l : Last) → (runs_in (core nobody) ≡ true) ⊎ ((sleeps_in (core nobody) ≡ true) × (l ≡ Some (TheBlock, None))) → P
-  nobody-acts l (inl runs) = nobody-runs runs
-  nobody-acts l (inr sleeps) = nobody-sleeps sleeps.0
+  pub nobody-acts : {P : Type 0} (l : Last) → runs_in (core nobody) ≡ true → P
+  nobody-acts l runs = nobody-runs runs
 
   -- ---- each mode is kept by who wakes
 
@@ -171,34 +180,36 @@ module _ (p : Image) (s : List Placed) (a : Who) where
       let e : Core = core (record t { inherited = i ∷ t.inherited }) in
       later-kept d n t e l named refl (asleep-at n (core t) e l h.0.shown sleeps) h
 
-  pub good-wakes : (part : Part) (d : ℕ) (n : Who) (c e : Core) (l : Last) → Fits p s a part n → is_fresh d n ≡ false → sleeps_in c ≡ true → runs_in e ≡ true → Good p s a d n c l → Good p s a d n e (with_put l part (Some (Some (spot_for p e))))
-  good-wakes part d n c e l fits drawn sleeps runs h = woken-good p s a d n c e l part fits drawn sleeps runs h
+  pub good-wakes : (part : Part) (d : ℕ) (n : Who) (c e : Core) (l : Last) → Fits p s a part n → same_who n a ≡ false → is_fresh d n ≡ false → sleeps_in c ≡ true → runs_in e ≡ true → Good p s a d n c l → Good p s a d n e (with_put l part (Some (Some (spot_for p e))))
+  good-wakes part d n c e l fits apart drawn sleeps runs h = woken-good p s a d n c e l part fits apart drawn sleeps runs h
+
+  -- who acts runs, so who wakes is another
+  other-wakes : (d : ℕ) (n : Who) (c : Core) (l : Last) → sleeps_in c ≡ true → (same_who n a ≡ true → Acting p s a d n c l) → same_who n a ≡ false
+  other-wakes d n c l sleeps acting = by_test (same_who n a) (λ same. awake c (acting same).1 sleeps) (λ apart. apart)
 
   pub later-wakes : (part : Part) (d : ℕ) (n : Who) (c e : Core) (l : Last) → Fits p s a part n → is_fresh d n ≡ false → sleeps_in c ≡ true → runs_in e ≡ true → Later p s a d n c l → Later p s a d n e (with_put l part (Some (Some (spot_for p e))))
-  later-wakes part d n c e l fits drawn sleeps runs h = (good-wakes part d n c e l fits drawn sleeps runs h.0, λ is. (drawn, inl runs))
+  later-wakes part d n c e l fits drawn sleeps runs h = (good-wakes part d n c e l fits (other-wakes d n c l sleeps h.1) drawn sleeps runs h.0, λ is. (drawn, runs))
 
-  pub good_wakeful : Wakeful p (Fits p s a) (Good p s a)
-  good_wakeful = record { rises = good-rises; wakes = good-wakes }
+  pub good_wakeful : Wakeful p (OfOthers a (Fits p s a)) (Good p s a)
+  good_wakeful = record { rises = good-rises; wakes = λ part d n c e l fits drawn sleeps runs h. good-wakes part d n c e l fits.0 (apart-sym a n fits.1) drawn sleeps runs h }
+
+  pub gone_wakeful : Wakeful p (Fits p s a) (Gone p s a)
+  gone_wakeful = record {
+    rises = λ d n t l i named sleeps h. (good-rises d n t l i named sleeps h.0, h.1);
+    wakes = λ part d n c e l fits drawn sleeps runs h.
+        let apart : same_who n a ≡ false = by_test (same_who n a) (λ same. clash_of (sleeps_in c) sleeps (h.1 same)) (λ other. other) in
+        (good-wakes part d n c e l fits apart drawn sleeps runs h.0, λ same. clash_of (same_who n a) same apart);
+  }
 
   pub later_wakeful : Wakeful p (Fits p s a) (Later p s a)
   later_wakeful = record { rises = later-rises; wakes = later-wakes }
 
-  pub owed-wakes : (before : World) (part : Part) (d : ℕ) (n : Who) (c e : Core) (l : Last) → Fits p s a part n → is_fresh d n ≡ false → same_who n a ≡ true → sleeps_in c ≡ true → runs_in e ≡ true → (runs_in c ≡ true) ⊎ ((sleeps_in c ≡ true) × (l ≡ Some (TheBlock, None))) → Owes p s a before d n c l → Owes p s a before d n e (with_put l part (Some (Some (spot_for p e))))
-  owed-wakes before part d n c e l fits drawn same sleeps runs (inl runs_before) h = awake c runs_before sleeps
-  owed-wakes before part d n c e l fits drawn same sleeps runs (inr hides) h =
-      let still : with_put l part (Some (Some (spot_for p e))) ≡ l = blocked-put l part (Some (spot_for p e)) hides.1 (acts_early p s a n part same fits) in
-      subst (Owes p s a before d n e) (sym still) (record { late = h.late; at = h.at; fallen = inl hides.1; acting = (drawn, inl runs) })
-
-  pub owed-rises : (before : World) (d : ℕ) (n : Who) (t : Task) (l : Last) (i : Inherited) → sleeps_in (core t) ≡ true → (runs_in (core t) ≡ true) ⊎ ((sleeps_in (core t) ≡ true) × (l ≡ Some (TheBlock, None))) → Owes p s a before d n (core t) l → Owes p s a before d n (core (record t { inherited = i ∷ t.inherited })) l
-  owed-rises before d n t l i sleeps (inl runs) o = awake (core t) runs sleeps
-  owed-rises before d n t l i sleeps (inr hides) o = record { late = o.late; at = o.at; fallen = inl hides.1; acting = acting-kept d n (core t) (core (record t { inherited = i ∷ t.inherited })) l refl o.acting }
-
   pub owing_wakeful : (before : World) → Wakeful p (Fits p s a) (Owing p s a before)
   owing_wakeful before = record {
-    rises = λ d n t l i named sleeps h. ((λ apart. good-rises d n t l i named sleeps (h.0 apart)), (λ same. owed-rises before d n t l i sleeps (h.1 same).acting.1 (h.1 same)));
+    rises = λ d n t l i named sleeps h. ((λ apart. good-rises d n t l i named sleeps (h.0 apart)), (λ same. awake (core t) (h.1 same).acting.1 sleeps));
     wakes = λ part d n c e l fits drawn sleeps runs h. (
-      (λ apart. good-wakes part d n c e l fits drawn sleeps runs (h.0 apart)),
-      (λ same. owed-wakes before part d n c e l fits drawn same sleeps runs (h.1 same).acting.1 (h.1 same)),
+      (λ apart. good-wakes part d n c e l fits apart drawn sleeps runs (h.0 apart)),
+      (λ same. awake c (h.1 same).acting.1 sleeps),
     );
   }
 
@@ -227,7 +238,7 @@ module _ (p : Image) (s : List Placed) (a : Who) where
   dying_wakeful = record {
     rises = λ d n t l i named sleeps h. ((λ apart. good-rises d n t l i named sleeps (h.0 apart)), (λ same. awake (core t) (h.1 same).runs sleeps));
     wakes = λ part d n c e l fits drawn sleeps runs h. (
-      (λ apart. good-wakes part d n c e l fits drawn sleeps runs (h.0 apart)),
+      (λ apart. good-wakes part d n c e l fits apart drawn sleeps runs (h.0 apart)),
       (λ same. awake c (h.1 same).runs sleeps),
     );
   }
@@ -235,16 +246,37 @@ module _ (p : Image) (s : List Placed) (a : Who) where
   -- ---- modes that lead to others
 
   pub starts_later : (w : World) (said : List Said) → Holds (First p s a) w said → Holds (Later p s a) w said
-  starts_later w said h = holds-also (First p s a) (Later p s a) (λ d n c l k. (k.0, λ same. ((k.1 same).0, inl (k.1 same).1))) w said h
+  starts_later w said h = holds-also (First p s a) (Later p s a) (λ d n c l k. (k.0, λ same. ((k.1 same).0, (k.1 same).1))) w said h
 
-  pub ceases_good : (w : World) (said : List Said) → Holds (Later p s a) w said → Holds (Good p s a) w said
-  ceases_good w said h = holds-also (Later p s a) (Good p s a) (λ d n c l k. k.0) w said h
+  running_rests : (state : tasks.State) → is_runnable_state state ≡ true → waits_at_terminate (waiting_in state) ≡ false
+  running_rests Made runs = absurd cc
+  running_rests Runnable runs = refl
+  running_rests (Blocked waiting) runs = absurd cc
 
-  pub good-choosing : (d : ℕ) (n : Who) (c : Core) (l : Last) → Good p s a d n c l → Choosing p s a d n c l
-  good-choosing d n c l h = record { late = h.late; at = h.at; shown = inl h.shown; fresh = h.fresh }
+  pub ceases_resting : (w : World) (said : List Said) → Holds (Later p s a) w said → Holds (Resting p s a) w said
+  ceases_resting w said h = holds-also (Later p s a) (Resting p s a) (λ d n c l k. (k.0, λ same. running_rests c.state (k.1 same).1)) w said h
 
-  pub rests_choosing : (w : World) (said : List Said) → Holds (Good p s a) w said → Holds (Choosing p s a) w said
-  rests_choosing w said h = holds-also (Good p s a) (Choosing p s a) good-choosing w said h
+  awake_rests : (state : tasks.State) → is_blocked state ≡ false → waits_at_terminate (waiting_in state) ≡ false
+  awake_rests Made idle = refl
+  awake_rests Runnable idle = refl
+  awake_rests (Blocked waiting) idle = absurd cc
+
+  pub ended_resting : (w : World) (said : List Said) → Holds (Gone p s a) w said → Holds (Resting p s a) w said
+  ended_resting w said h = holds-also (Gone p s a) (Resting p s a) (λ d n c l k. (k.0, λ same. awake_rests c.state (k.1 same))) w said h
+
+  pub good-choosing : (d : ℕ) (n : Who) (c : Core) (l : Last) → (same_who n a ≡ true → waits_at_terminate (waiting_in c.state) ≡ false) → Good p s a d n c l → Choosing p s a d n c l
+  good-choosing d n c l rests h = record {
+    late = h.late;
+    at = h.at;
+    shown = inl h.shown;
+    fresh = h.fresh;
+    ready = h.ready;
+    calm = h.calm;
+    waits = λ same waits. clash_of (waits_at_terminate (waiting_in c.state)) waits (rests same);
+  }
+
+  pub rests_choosing : (w : World) (said : List Said) → Holds (Resting p s a) w said → Holds (Choosing p s a) w said
+  rests_choosing w said h = holds-also (Resting p s a) (Choosing p s a) (λ d n c l k. good-choosing d n c l k.1 k.0) w said h
 
   -- ---- who is edited or placed is somebody, and others are as they were
 
@@ -265,11 +297,11 @@ module _ (p : Image) (s : List Placed) (a : Who) where
   pub actor_places : Places (Loose p s a a) (Later p s a) a ThePlacing (at_active p)
   actor_places = record {
     others = λ d n c l apart h. h.0 apart;
-    own = λ d c l h. let b = h.1 (same-self a) in acting-placed p s a d a c l ThePlacing (same-self a) refl b.late (b.acting (same-self a));
+    own = λ d c l h. let b = h.1 (same-self a) in acting-placed p s a d a c l ThePlacing (same-self a) refl b.late (b.ready (b.acting (same-self a)).1) (b.acting (same-self a));
   }
 
   pub later-bare : (d : ℕ) (n : Who) (c : Core) (l : Last) → Later p s a d n c l → Bare p s a d n c l
-  later-bare d n c l h = record { late = h.0.late; shown = h.0.shown; fresh = h.0.fresh; absent = λ e. h.0.at; acting = h.1 }
+  later-bare d n c l h = record { late = h.0.late; shown = h.0.shown; fresh = h.0.fresh; absent = λ e. h.0.at; acting = h.1; ready = h.0.ready; calm = h.0.calm }
 
   pub loosened : (name : Who) (w : World) (said : List Said) → Holds (Later p s a) w said → Holds (Loose p s a name) w said
   loosened name w said h = holds-also (Later p s a) (Loose p s a name) (λ d n c l k. ((λ apart. k), (λ same. later-bare d n c l k))) w said h
@@ -290,6 +322,8 @@ module _ (p : Image) (s : List Placed) (a : Who) where
         fresh = h.0.fresh;
         absent = λ absent. not-absent name t f is (named t) absent;
         acting = λ acts. acting-kept d name (core t) (core (f t)) l (same t) (h.1 acts);
+        ready = ready-kept name (core t) (core (f t)) l (same t) h.0.ready;
+        calm = calm-kept name (core t) (core (f t)) l (same t) h.0.calm;
       }),
     );
     missed = λ d l task h. ((λ apart. self_apart name apart), (λ self. later-bare d name (core nobody) l h));
@@ -300,7 +334,7 @@ module _ (p : Image) (s : List Placed) (a : Who) where
       holds-edit (Later p s a) (Loose p s a name) name f w said named (sound-edit name f w named frees (holds-sound (Later p s a) w said h)) (loose_turns name f named same) h
 
   pub tight : (d : ℕ) (n : Who) (c : Core) (l : Last) → Bare p s a d n c l → IsAt p (place p s a n l) c → Later p s a d n c l
-  tight d n c l b at = (record { late = b.late; at = at; shown = b.shown; fresh = b.fresh }, b.acting)
+  tight d n c l b at = (record { late = b.late; at = at; shown = b.shown; fresh = b.fresh; ready = b.ready; calm = b.calm }, b.acting)
 
   pub tightened : (name : Who) (w : World) (said : List Said) → Holds (Loose p s a name) w said → IsAt p (place p s a name (last_put name said)) (core (task_of w name)) → Holds (Later p s a) w said
   unfolding Holds
@@ -334,7 +368,7 @@ module _ (p : Image) (s : List Placed) (a : Who) where
     own = λ d c l h.
         let b = h.0.1 (same-self name) in
         let k = h.1 (same-self name) in
-        (placed-good p s a d name c l (limit p s a name) (fits_limit p s a name) k.1 b.late b.late (inl k.0), λ acts. (k.1, inl k.0));
+        (placed-good p s a d name c l (limit p s a name) (fits_limit p s a name) k.1 b.late (shown-free (limit p s a name) l (spot_in name s) b.late (b.ready k.0)) (inl k.0) (λ apart. (b.calm apart).0), λ acts. (k.1, k.0));
   }
 
   pub runs-drawn : (name : Who) (w : World) → runs_in (core (task_of w name)) ≡ true → IsAbsent name (core (task_of w name)) ⊎ (is_fresh w.drawn.tasks name ≡ false) → is_fresh w.drawn.tasks name ≡ false
@@ -402,6 +436,8 @@ module _ (p : Image) (s : List Placed) (a : Who) where
           fresh = h.0.fresh;
           absent = λ absent. not-absent name t (λ u. record u { deadline = deadline }) is refl absent;
           acting = λ acts. acting-kept d name (core t) (core (record t { deadline = deadline })) l refl (h.1 acts);
+          ready = h.0.ready;
+          calm = h.0.calm;
         },
         at_level (place p s a name l) (core t) (core (record t { deadline = deadline })) refl h.0.at,
       )),
@@ -543,15 +579,15 @@ module _ (p : Image) (s : List Placed) (a : Who) where
       (λ same. record {
         late = (h.1 n).0.late;
         at = subst (λ m. IsAt p (place p s a n (last_put n said)) (core (task_of w m))) (who-is n a same) (h.1 n).0.at;
-        fallen = inr (subst (λ m. (active_of p w n ≤ active_of p w m) × ((task_of w n).deadline ≡ (task_of w m).deadline)) (who-is n a same) (le_refl (active_of p w n), refl));
+        fallen = subst (λ m. (active_of p w n ≤ active_of p w m) × ((task_of w n).deadline ≡ (task_of w m).deadline)) (who-is n a same) (le_refl (active_of p w n), refl);
         acting = (h.1 n).1 same;
+        ready = (h.1 n).0.ready ((h.1 n).1 same).1;
       }),
     ),
   )
 
-  owed-fallen : (before : World) (t : Task) (l : Last) (test : Inherited → Bool) → (l ≡ Some (TheBlock, None)) ⊎ ((active_in p (core t) ≤ active_of p before a) × (t.deadline ≡ (task_of before a).deadline)) → (l ≡ Some (TheBlock, None)) ⊎ ((active_in p (core (record t { inherited = without test t.inherited })) ≤ active_of p before a) × (t.deadline ≡ (task_of before a).deadline))
-  owed-fallen before t l test (inl hides) = inl hides
-  owed-fallen before t l test (inr fell) = inr (le_trans (active-falls p (core t) test) fell.0, fell.1)
+  owed-fallen : (before : World) (t : Task) (test : Inherited → Bool) → (active_in p (core t) ≤ active_of p before a) × (t.deadline ≡ (task_of before a).deadline) → (active_in p (core (record t { inherited = without test t.inherited })) ≤ active_of p before a) × (t.deadline ≡ (task_of before a).deadline)
+  owed-fallen before t test fell = (le_trans (active-falls p (core t) test) fell.0, fell.1)
 
   pub owed_loses : (before w : World) (said : List Said) → Holds (Owing p s a before) w said → Holds (Owing p s a before) (lose a inherited_by.Activation w) said
   owed_loses before w said h =
@@ -559,32 +595,29 @@ module _ (p : Image) (s : List Placed) (a : Who) where
       holds-edit (Owing p s a before) (Owing p s a before) a f w said (λ t. refl) (sound-edit a f w (λ t. refl) (λ t k. unactivated_without (λ i. same_cause inherited_by.Activation i.cause) t.inherited k) (holds-sound (Owing p s a before) w said h))
       (keeps_turns (Owing p s a before) a f (λ d t l named k. (
         (λ apart. self_apart a apart),
-        (λ same. let o = k.1 same in record { late = o.late; at = o.at; fallen = owed-fallen before t l (λ i. same_cause inherited_by.Activation i.cause) o.fallen; acting = acting-kept d a (core t) (core (f t)) l refl o.acting }),
+        (λ same. let o = k.1 same in record { late = o.late; at = o.at; fallen = owed-fallen before t (λ i. same_cause inherited_by.Activation i.cause) o.fallen; acting = acting-kept d a (core t) (core (f t)) l refl o.acting; ready = o.ready }),
       ))) h
 
   pub paid_places : (before : World) → Places (Owing p s a before) (Later p s a) a ThePlacing (at_active p)
   paid_places before = record {
     others = λ d n c l apart h. (h.0 apart, λ same. clash_of (same_who n a) same apart);
-    own = λ d c l h. let o = h.1 (same-self a) in acting-placed p s a d a c l ThePlacing (same-self a) refl o.late o.acting;
+    own = λ d c l h. let o = h.1 (same-self a) in acting-placed p s a d a c l ThePlacing (same-self a) refl o.late o.ready o.acting;
   }
 
-  pub acting-shown : (n : Who) (c : Core) (l : Last) → (runs_in c ≡ true) ⊎ ((sleeps_in c ≡ true) × (l ≡ Some (TheBlock, None))) → IsShownRightly p s a n c l
-  acting-shown n c l (inl runs) = inl runs
-  acting-shown n c l (inr sleeps) = inr (inl (ap (place p s a n) sleeps.1))
-
-  pub owed-at : (before : World) (n : Who) (c : Core) (l : Last) → active_of p before a ≤ active_in p c → (l ≡ Some (TheBlock, None)) ⊎ ((active_in p c ≤ active_of p before a) × (c.deadline ≡ (task_of before a).deadline)) → IsAt p (place p s a n l) (core (task_of before a)) → IsAt p (place p s a n l) c
-  owed-at before n c l up (inl hides) h = at-out p (place p s a n l) c (ap (place p s a n) hides)
-  owed-at before n c l up (inr fell) h =
+  pub owed-at : (before : World) (n : Who) (c : Core) (l : Last) → active_of p before a ≤ active_in p c → (active_in p c ≤ active_of p before a) × (c.deadline ≡ (task_of before a).deadline) → IsAt p (place p s a n l) (core (task_of before a)) → IsAt p (place p s a n l) c
+  owed-at before n c l up fell h =
       let level : active_in p c ≡ active_of p before a = le_antisymm fell.0 up in
       at-still p (place p s a n l) (core (task_of before a)) c level (deadline-kept p (core (task_of before a)) c level fell.1) h
 
-  pub owed-later : (before : World) (d : ℕ) (n : Who) (c : Core) (l : Last) → Owes p s a before d n c l → active_of p before a ≤ active_in p c → Later p s a d n c l
-  owed-later before d n c l o up = (
+  pub owed-later : (before : World) (d : ℕ) (n : Who) (c : Core) (l : Last) → same_who n a ≡ true → Owes p s a before d n c l → active_of p before a ≤ active_in p c → Later p s a d n c l
+  owed-later before d n c l is o up = (
     record {
       late = o.late;
       at = owed-at before n c l up o.fallen o.at;
-      shown = acting-shown n c l o.acting.1;
+      shown = inl o.acting.1;
       fresh = λ e. clash_of (is_fresh d n) e o.acting.0;
+      ready = λ runs. o.ready;
+      calm = λ apart. clash_of (same_who n a) is apart;
     },
     λ same. o.acting,
   )
@@ -594,7 +627,7 @@ module _ (p : Image) (s : List Placed) (a : Who) where
   not_fallen before w said up h = (
     h.0,
     λ n. by_test (same_who n a)
-        (λ same. owed-later before w.drawn.tasks n (core (task_of w n)) (last_put n said) ((h.1 n).1 same) (subst (λ m. active_of p before a ≤ active_of p w m) (sym (who-is n a same)) up))
+        (λ same. owed-later before w.drawn.tasks n (core (task_of w n)) (last_put n said) same ((h.1 n).1 same) (subst (λ m. active_of p before a ≤ active_of p w m) (sym (who-is n a same)) up))
         (λ apart. ((h.1 n).0 apart, λ same. clash_of (same_who n a) same apart)),
   )
 

@@ -1,6 +1,5 @@
 pub mod ActingMoves
 pub mod ActiveLemmas
-pub mod AgentPlaced
 pub mod CoreLemmas
 pub mod CorePoints
 pub mod Cores
@@ -9,6 +8,7 @@ pub mod EffectKeeps
 pub mod EffectMoves
 pub mod Kept
 pub mod LevelMoves
+pub mod Owning
 pub mod PartOrder
 pub mod PlaceWorlds
 pub mod PutLemmas

@@ -1,9 +1,8 @@
--- In every world that a run reaches the ready queues are as they should be: fact by fact.
+-- In every world that a run reaches the ready queues are as they should be.
 use Rattle.ceiling_places.proofs.BesideLemmas.{same-self}
 use Rattle.ceiling_runs.proofs.FoundLemmas.{by_test}
 use Rattle.machine_laws.specs.Reached.{Reached, before, behind}
 use Rattle.machine_laws.proofs.PlaceLemmas.{nobody_is_placed_twice, places_are_in_order}
-use Rattle.place_worlds.proofs.AgentPlaced.{agent-found}
 use Rattle.place_worlds.proofs.CorePoints.{IsAt, not-absent}
 use Rattle.place_worlds.proofs.Cores.{core}
 use Rattle.place_worlds.proofs.Kept.Waking.{who-is}
@@ -12,10 +11,11 @@ use Rattle.place_worlds.proofs.Puts.{Spot, spot_in}
 use Rattle.place_worlds.proofs.SoundWorlds.{IsAbsent, IsThere, all_there, each-on, is_agent}
 use Rattle.place_worlds.proofs.Standing.{runs_in}
 use Rattle.place_worlds.proofs.StandingRuns.{AllStand, comes-stands, instant-places}
-use Rattle.place_worlds.specs.PlaceWorlds.{ReachedAgentIsPlaced, ReachedOthersAreOut, ReachedPlacedAtActive, ReachedPlacedDiffer, ReachedPlacedInOrder}
+use Rattle.place_worlds.specs.PlaceWorlds.{ReachedPlacesAreRight}
 use Rattle.profile_machine.specs.Dispatching.{active, deadline_shown}
+use Rattle.profile_machine.specs.Steps.{is_above}
 use Rattle.profile_machine.specs.Tasks.{is_runnable, task_of}
-use Rattle.profile_machine.specs.WellFormed.{all_differ, is_at_active, is_placed}
+use Rattle.profile_machine.specs.WellFormed.{all_adjacent, all_differ, is_at_active, is_placed, ready_are_placed}
 use Rattle.profile_machine.specs.Words.{same_moment, same_option, same_who}
 use Rattle.profile_machine.specs.declared.image.Image.{Image}
 use Rattle.profile_machine.specs.declared.run_data.Item.{Item}
@@ -24,21 +24,15 @@ use Rattle.profile_machine.specs.declared.world.tasks.Placed.{Placed}
 use Rattle.profile_machine.specs.declared.world.tasks.Task.{Task}
 use Rattle.std.proofs.Common.{[], ap, arith, cond, eq-eqb, inl, inr, refl, subst, sym, ◌++◌, ◌∙◌, ◌∷◌, ◌≡◌, ◌⊎◌}
 use Rattle.std.specs.List.{list_all, list_any}
-use Rattle.std.specs.Prelude.{Bool, List, None, Option, Some, eqb, false, int_le, not, true, ℕ, ℤ, ◌&&◌, ◌||◌}
+use Rattle.std.specs.Prelude.{Bool, List, None, Option, Some, eqb, false, int_le, is_some, not, true, ℕ, ℤ, ◌&&◌, ◌||◌}
 use Rattle.trace_text.specs.declared.events.Who.{Who}
 use Rattle.trace_text.specs.declared.events.Who.TheVariants as who
-
-pub reached_placed_differ : ReachedPlacedDiffer
-reached_placed_differ p script bound w r = nobody_is_placed_twice p script bound w r
-
-pub reached_placed_in_order : ReachedPlacedInOrder
-reached_placed_in_order p script bound w r = places_are_in_order p script bound w r
 
 pub reached_stand : (p : Image) (script : List (ℤ × Item)) (bound : ℕ) (w : World) → Reached p script bound w → AllStand p w.places w
 reached_stand p script bound _ (before w comes) = comes-stands p script bound w comes
 reached_stand p script bound _ (behind w comes) = instant-places p script bound w comes (comes-stands p script bound w comes)
 
--- ---- who is not ready
+-- ---- who is ready, and who is not
 
 not-any : (n : Who) (places : List Placed) → spot_in n places ≡ None → list_any (λ x. same_who n x.who) places ≡ false
 not-any n [] out = refl
@@ -47,37 +41,46 @@ not-any n (x ∷ xs) out =
     (λ same. absurd (let clash : Some (x.level, x.deadline) ≡ None = sym (ap (λ b. cond b (Some (x.level, x.deadline)) (spot_in n xs)) same) ∙ out in cc))
     (λ apart. ap (λ b. b || list_any (λ y. same_who n y.who) xs) apart ∙ not-any n xs (sym (ap (λ b. cond b (Some (x.level, x.deadline)) (spot_in n xs)) apart) ∙ out))
 
-left_or : (a b : Bool) → a ≡ true → (a || b) ≡ true
-left_or a b e = ap (λ c. c || b) e
+any_if : (b : Bool) (spot : Spot) (rest : Option Spot) (others : Bool) → is_some (cond b (Some spot) rest) ≡ true → (is_some rest ≡ true → others ≡ true) → (b || others) ≡ true
+any_if true spot rest others shown onward = refl
+any_if false spot rest others shown onward = onward shown
 
-right_or : (a b : Bool) → b ≡ true → (a || b) ≡ true
-right_or true b e = refl
-right_or false b e = e
+-- who stands somewhere is there
+any-shown : (n : Who) (places : List Placed) → is_some (spot_in n places) ≡ true → list_any (λ x. same_who n x.who) places ≡ true
+any-shown n [] shown = absurd cc
+any-shown n (x ∷ xs) shown = any_if (same_who n x.who) (x.level, x.deadline) (spot_in n xs) (list_any (λ y. same_who n y.who) xs) shown (any-shown n xs)
 
-ready_or_out : (w : World) (t : Task) → (is_runnable t ≡ true) ⊎ (spot_in t.who w.places ≡ None) → (is_runnable t || not (is_placed w t)) ≡ true
-ready_or_out w t (inl runs) = left_or (is_runnable t) (not (is_placed w t)) runs
-ready_or_out w t (inr out) = right_or (is_runnable t) (not (is_placed w t)) (ap not (not-any t.who w.places out))
+placed_if : (runs placed : Bool) → (runs ≡ true → placed ≡ true) → (runs ≡ false → placed ≡ false) → cond runs placed (not placed) ≡ true
+placed_if true placed in_place out = in_place refl
+placed_if false placed in_place out = ap not (out refl)
+
+unready_out : (w : World) (t : Task) → is_runnable t ≡ false → (is_runnable t ≡ true) ⊎ (spot_in t.who w.places ≡ None) → is_placed w t ≡ false
+unready_out w t idle (inl runs) = absurd (let clash : true ≡ false = sym runs ∙ idle in cc)
+unready_out w t idle (inr out) = not-any t.who w.places out
+
+ready_there : (w : World) (t : Task) → (is_runnable t ≡ true → is_some (spot_in t.who w.places) ≡ true) → (is_runnable t ≡ true) ⊎ (spot_in t.who w.places ≡ None) → cond (is_runnable t) (is_placed w t) (not (is_placed w t)) ≡ true
+ready_there w t ready shown = placed_if (is_runnable t) (is_placed w t) (λ runs. any-shown t.who w.places (ready runs)) (λ idle. unready_out w t idle shown)
 
 there-shown : (w : World) (t : Task) (n : Who) → (is_agent n ≡ false → same_who n t.who ≡ true) → (runs_in (core t) ≡ true) ⊎ ((spot_in n w.places ≡ None) ⊎ IsAbsent n (core t)) → (is_runnable t ≡ true) ⊎ (spot_in n w.places ≡ None)
 there-shown w t n named (inl runs) = inl runs
 there-shown w t n named (inr (inl out)) = inr out
 there-shown w t n named (inr (inr absent)) = not-absent n t (λ u. u) named refl absent
 
-task-out : (p : Image) (w : World) (t : Task) → IsThere w t → AllStand p w.places w → (is_runnable t || not (is_placed w t)) ≡ true
-task-out p w t there h =
-    ready_or_out w t
+task-there : (p : Image) (w : World) (t : Task) → IsThere w t → AllStand p w.places w → cond (is_runnable t) (is_placed w t) (not (is_placed w t)) ≡ true
+task-there p w t there h =
+    ready_there w t (λ runs. (h.1 t.who).ready (ap is_runnable there.found ∙ runs))
     (there-shown w t t.who (λ task. same-self t.who) (subst (λ u. (runs_in (core u) ≡ true) ⊎ ((spot_in t.who w.places ≡ None) ⊎ IsAbsent t.who (core u))) there.found (h.1 t.who).shown))
 
-agent-out : (p : Image) (w : World) → w.agent.who ≡ who.Agent → AllStand p w.places w → (is_runnable w.agent || not (is_placed w w.agent)) ≡ true
-agent-out p w is h =
-    ready_or_out w w.agent
+agent-there : (p : Image) (w : World) → w.agent.who ≡ who.Agent → AllStand p w.places w → cond (is_runnable w.agent) (is_placed w w.agent) (not (is_placed w w.agent)) ≡ true
+agent-there p w is h =
+    ready_there w w.agent (λ runs. ap (λ n. is_some (spot_in n w.places)) is ∙ (h.1 who.Agent).ready runs)
     (subst (λ n. (is_runnable w.agent ≡ true) ⊎ (spot_in n w.places ≡ None)) (sym is) (there-shown w w.agent who.Agent (λ task. absurd (let clash : true ≡ false = task in cc)) (h.1 who.Agent).shown))
 
 all-there : (P : Task → Bool) (ts : List Task) (last : Task) → EachTask (λ t. P t ≡ true) ts → P last ≡ true → list_all P (ts ++ last ∷ []) ≡ true
 all-there P [] last each is = ap (λ b. b && true) is
 all-there P (t ∷ ts) last each is = ap (λ b. b && list_all P (ts ++ last ∷ [])) each.0 ∙ all-there P ts last each.1 is
 
--- ---- who is there, and where
+-- ---- where who is there stands
 
 both-true : (a b : Bool) → (a && b) ≡ true → (a ≡ true) × (b ≡ true)
 both-true true b e = (refl, e)
@@ -128,28 +131,28 @@ same-deadline (Some a) b e = subst (λ c. same_option same_moment (Some a) c ≡
 same-level : (a b : ℕ) → a ≡ b → eqb a b ≡ true
 same-level a b e = eq-eqb a b e
 
-pub reached_placed_at_active : ReachedPlacedAtActive
-reached_placed_at_active p script bound w r =
-    entries-hold (is_at_active p w) w.places (nobody_is_placed_twice p script bound w r) (λ x found.
-    let stands = entry-stands p w x (reached_stand p script bound w r) found in
+placed-at-active : (p : Image) (w : World) → all_differ (λ x y. same_who x.who y.who) w.places ≡ true → AllStand p w.places w → list_all (is_at_active p w) w.places ≡ true
+placed-at-active p w differ h =
+    entries-hold (is_at_active p w) w.places differ (λ x found.
+    let stands = entry-stands p w x h found in
     ap (λ b. b && same_option same_moment x.deadline (deadline_shown p (task_of w x.who))) (same-level x.level (active p (task_of w x.who)) stands.0)
     ∙ same-deadline x.deadline (deadline_shown p (task_of w x.who)) stands.1)
 
-pub reached_others_are_out : ReachedOthersAreOut
-reached_others_are_out p script bound w r =
+ready-placed : (p : Image) (w : World) → AllStand p w.places w → ready_are_placed w ≡ true
+ready-placed p w h =
+    all-there (λ t. cond (is_runnable t) (is_placed w t) (not (is_placed w t))) w.tasks w.agent
+    (each-on (IsThere w) (λ t. cond (is_runnable t) (is_placed w t) (not (is_placed w t)) ≡ true) w.tasks (λ t there. task-there p w t there h) (all_there w h.0)) (agent-there p w h.0.named h)
+
+all_four : (a b c d : Bool) → a ≡ true → b ≡ true → c ≡ true → d ≡ true → (a && b && c && d) ≡ true
+all_four true true true true e f g h = refl
+all_four true true true false e f g h = h
+all_four true true false d e f g h = g
+all_four true false c d e f g h = f
+all_four false b c d e f g h = e
+
+pub reached_places_are_right : ReachedPlacesAreRight
+reached_places_are_right p script bound w r =
     let h = reached_stand p script bound w r in
-    all-there (λ t. is_runnable t || not (is_placed w t)) w.tasks w.agent (each-on (IsThere w) (λ t. (is_runnable t || not (is_placed w t)) ≡ true) w.tasks (λ t there. task-out p w t there h) (all_there w h.0))
-    (agent-out p w h.0.named h)
-
--- ---- the agent
-
-as_ready : (placed runs : Bool) → placed ≡ runs → cond runs placed (not placed) ≡ true
-as_ready true true e = refl
-as_ready false false e = refl
-as_ready true false e = absurd cc
-as_ready false true e = absurd cc
-
-pub reached_agent_is_placed : ReachedAgentIsPlaced
-reached_agent_is_placed p script bound w r =
-    as_ready (is_placed w w.agent) (is_runnable w.agent)
-    (ap (λ n. list_any (λ x. same_who n x.who) w.places) (reached_stand p script bound w r).0.named ∙ agent-found p script bound w r)
+    let differ = nobody_is_placed_twice p script bound w r in
+    all_four (ready_are_placed w) (all_differ (λ x y. same_who x.who y.who) w.places) (all_adjacent (λ x y. not (is_above y x)) w.places) (list_all (is_at_active p w) w.places) (ready-placed p w h) differ (places_are_in_order p script bound w r)
+    (placed-at-active p w differ h)

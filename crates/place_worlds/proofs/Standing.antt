@@ -1,5 +1,4 @@
--- Where an effect leaves somebody: at its active priority and with its deadline, if it stands somewhere; and nowhere where it is not
--- ready.
+-- Where an effect leaves somebody: at its active priority and with its deadline, where it is ready; and nowhere where it is not.
 use Rattle.ceiling_places.proofs.ActingLemmas.{block-last}
 use Rattle.ceiling_places.proofs.BesideLemmas.{same-self}
 use Rattle.place_worlds.proofs.CorePoints.{Except, IsAt, Point, active_in, deadline_in, spot_for}
@@ -13,7 +12,7 @@ use Rattle.profile_machine.specs.Dispatching.{active_of}
 use Rattle.profile_machine.specs.Masters.{part_of, waits_at_terminate}
 use Rattle.profile_machine.specs.Priorities.{placing_of}
 use Rattle.profile_machine.specs.Steps.{is_numbered_before, is_part_before}
-use Rattle.profile_machine.specs.Tasks.{is_made_state, is_runnable_state, nobody, task_of, waiting_in}
+use Rattle.profile_machine.specs.Tasks.{is_made_state, is_runnable_state, nobody, task_of, waiting_in, waiting_of}
 use Rattle.profile_machine.specs.Program.{is_edf_level}
 use Rattle.profile_machine.specs.Words.{same_who, some_where}
 use Rattle.profile_machine.specs.declared.image.Image.{Image}
@@ -26,7 +25,7 @@ use Rattle.profile_machine.specs.declared.world.tasks.State as tasks
 use Rattle.profile_machine.specs.declared.world.tasks.State.TheVariants.{Blocked, Made, Runnable}
 use Rattle.std.proofs.Common.{ap, arith, cond, inl, inr, ltb, refl, subst, sym, ◌∙◌, ◌≡◌, ◌⊎◌}
 use Rattle.std.specs.List.{list_any}
-use Rattle.std.specs.Prelude.{Bool, List, None, Option, Some, false, true, ℕ, ◌≤◌}
+use Rattle.std.specs.Prelude.{Bool, List, None, Option, Some, false, is_some, true, ℕ, ◌≤◌}
 use Rattle.trace_text.specs.declared.events.Who.{Who}
 use Rattle.trace_text.specs.declared.events.Who.TheVariants as who
 
@@ -49,6 +48,43 @@ at-still p (Some s) c e level deadline h = at-moved p s c e level deadline h
 -- of a level and a deadline that are the same
 pub deadline-kept : (p : Image) (c e : Core) → active_in p e ≡ active_in p c → e.deadline ≡ c.deadline → deadline_in p e ≡ deadline_in p c
 deadline-kept p c e level deadline = ap (λ a. some_where (is_edf_level p a) e.deadline) level ∙ ap (some_where (is_edf_level p (active_in p c))) deadline
+
+-- a line of this part is not hidden
+abbrev pub FreeFor : Part → Last → Type 0
+FreeFor part None = Unit {0}
+FreeFor part (Some last) = is_part_before part last.0 ≡ false
+
+pub free-may : (part : Part) (last : Last) → FreeFor part last → MayBePlaced part last
+free-may part None free = tt
+free-may part (Some last) free = inr free
+
+pub none-free : (part : Part) (last : Last) → last ≡ None → FreeFor part last
+none-free part last is = subst (FreeFor part) (sym is) tt
+
+free_if : (b : Bool) (limit part : Part) (last : Part × Option Spot) (place : Option Spot) → is_part_before limit part ≡ false → is_part_before limit last.0 ≡ false → FreeFor limit (cond b (Some last) (Some (part, place)))
+free_if true limit part last place fits free = free
+free_if false limit part last place fits free = fits
+
+pub put-free : (limit part : Part) (last : Last) (place : Option Spot) → is_part_before limit part ≡ false → FreeFor limit last → FreeFor limit (with_put last part (Some place))
+put-free limit part None place fits free = fits
+put-free limit part (Some last) place fits free = free_if (is_part_before part last.0) limit part last place fits free
+
+shown_if : (b : Bool) (part : Part) (last : Part × Option Spot) (spot : Spot) (shown : Option Spot) → b ≡ false → is_some (place_by (cond b (Some last) (Some (part, Some spot))) shown) ≡ true
+shown_if true part last spot shown e = absurd cc
+shown_if false part last spot shown e = refl
+
+pub put-shown : (part : Part) (last : Last) (spot : Spot) (shown : Option Spot) → FreeFor part last → is_some (place_by (with_put last part (Some (Some spot))) shown) ≡ true
+put-shown part None spot shown free = refl
+put-shown part (Some last) spot shown free = shown_if (is_part_before part last.0) part last spot shown free
+
+shown_free : (part : Part) (last : Part × Option Spot) → (last.1 ≡ None) ⊎ (is_part_before part last.0 ≡ false) → is_some last.1 ≡ true → is_part_before part last.0 ≡ false
+shown_free part last (inl out) shown = absurd (let clash : false ≡ true = sym (ap is_some out) ∙ shown in cc)
+shown_free part last (inr free) shown = free
+
+-- who is shown may be placed again
+pub shown-free : (part : Part) (last : Last) (before : Option Spot) → MayBePlaced part last → is_some (place_by last before) ≡ true → FreeFor part last
+shown-free part None before late shown = tt
+shown-free part (Some last) before late shown = shown_free part last late shown
 
 late_if : (b : Bool) (limit part : Part) (last : Part × Option Spot) (place : Option Spot) → is_part_before limit part ≡ false → MayBePlaced limit (Some last) → MayBePlaced limit (cond b (Some last) (Some (part, place)))
 late_if true limit part last place fits late = late
@@ -76,26 +112,10 @@ pub put-out : (part : Part) (last : Last) (shown : Option Spot) → MayBePlaced 
 put-out part None shown late = refl
 put-out part (Some last) shown late = out_if (is_part_before part last.0) part last shown late
 
--- who stands nowhere may be placed
-pub out-late : (part : Part) (last : Last) (shown : Option Spot) → place_by last shown ≡ None → MayBePlaced part last
-out-late part None shown out = tt
-out-late part (Some last) shown out = inl out
-
 -- behind a block nothing is said
 pub block-put : (last : Last) → with_put last TheBlock (Some None) ≡ Some (TheBlock, None)
 block-put None = refl
 block-put (Some last) = ap (λ b. cond b (Some last) (Some (TheBlock, None))) (block-last last.0)
-
-pub blocked-put : (last : Last) (part : Part) (place : Option Spot) → last ≡ Some (TheBlock, None) → is_part_before part TheBlock ≡ true → with_put last part (Some place) ≡ last
-blocked-put last part place is before = subst (λ l. with_put l part (Some place) ≡ l) (sym is) (ap (λ b. cond b (Some (TheBlock, None)) (Some (part, place))) before)
-
-pub early-part : (part : Part) → is_part_before ThePlacing part ≡ false → is_part_before part TheBlock ≡ true
-early-part TheCall e = refl
-early-part TheFinish e = refl
-early-part Own e = refl
-early-part (OfOther name) e = refl
-early-part ThePlacing e = refl
-early-part TheBlock e = absurd cc
 
 -- ---- parts
 
@@ -160,15 +180,26 @@ module _ (p : Image) (s : List Placed) (a : Who) where
   abbrev pub IsShownRightly : Who → Core → Last → Type 0
   IsShownRightly n c l = (runs_in c ≡ true) ⊎ (Hidden n l ⊎ IsAbsent n c)
 
+  -- it stands somewhere
+  abbrev pub IsShown : Who → Last → Type 0
+  IsShown n l = is_some (place n l) ≡ true
+
+  -- no line has hidden what is said of another, and nothing was said of another who sleeps
+  abbrev pub IsCalm : Who → Core → Last → Type 0
+  IsCalm n c l = same_who n a ≡ false → FreeFor (limit n) l × (sleeps_in c ≡ true → l ≡ None)
+
+  -- whoever runs stands somewhere
   pub record Good (d : ℕ) (n : Who) (c : Core) (l : Last) : Type 0 where
     pub late : MayBePlaced (limit n) l
     pub at : IsAt p (place n l) c
     pub shown : IsShownRightly n c l
     pub fresh : is_fresh d n ≡ true → Hidden n l
+    pub ready : runs_in c ≡ true → IsShown n l
+    pub calm : IsCalm n c l
 
-  -- who acts runs, or it has blocked and nothing is shown of it any more
+  -- who acts runs
   abbrev pub Acting : ℕ → Who → Core → Last → Type 0
-  Acting d n c l = (is_fresh d n ≡ false) × ((runs_in c ≡ true) ⊎ ((sleeps_in c ≡ true) × (l ≡ Some (TheBlock, None))))
+  Acting d n c l = (is_fresh d n ≡ false) × (runs_in c ≡ true)
 
   -- ---- the modes of an effect
 
@@ -178,22 +209,30 @@ module _ (p : Image) (s : List Placed) (a : Who) where
   abbrev pub First : Point
   First d n c l = Good d n c l × (same_who n a ≡ true → (is_fresh d n ≡ false) × (runs_in c ≡ true) × (l ≡ None))
 
+  -- who acts does not wait at an open terminate alternative
+  abbrev pub Resting : Point
+  Resting d n c l = Good d n c l × (same_who n a ≡ true → waits_at_terminate (waiting_in c.state) ≡ false)
+
+  -- or it waits there and has not said so
   pub record Choosing (d : ℕ) (n : Who) (c : Core) (l : Last) : Type 0 where
     pub late : MayBePlaced (limit n) l
     pub at : IsAt p (place n l) c
     pub shown : IsShownRightly n c l ⊎ ((same_who n a ≡ true) × (waits_at_terminate (waiting_in c.state) ≡ true))
     pub fresh : is_fresh d n ≡ true → Hidden n l
+    pub ready : runs_in c ≡ true → IsShown n l
+    pub calm : IsCalm n c l
+    pub waits : same_who n a ≡ true → waits_at_terminate (waiting_in c.state) ≡ true → IsShown n l
 
-  abbrev pub Sized : ℕ → Point → Point
-  Sized drawn P d n c l = P d n c l × (d ≡ drawn)
+  abbrev pub ChoosingSince : World → Point
+  ChoosingSince v d n c l = Choosing d n c l × (d ≡ v.drawn.tasks) × (same_who n a ≡ true → waits_at_terminate (waiting_of v a) ≡ true → IsShown n l)
 
-  -- who acts, where its active priority may have fallen since a world, and nothing else has changed; or nothing is shown of it any
-  -- more
+  -- who acts, where its active priority may have fallen since a world, and nothing else has changed
   pub record Owes (before : World) (d : ℕ) (n : Who) (c : Core) (l : Last) : Type 0 where
     pub late : MayBePlaced (limit n) l
     pub at : IsAt p (place n l) (core (task_of before a))
-    pub fallen : (l ≡ Some (TheBlock, None)) ⊎ ((active_in p c ≤ active_of p before a) × (c.deadline ≡ (task_of before a).deadline))
+    pub fallen : (active_in p c ≤ active_of p before a) × (c.deadline ≡ (task_of before a).deadline)
     pub acting : Acting d n c l
+    pub ready : IsShown n l
 
   abbrev pub Owing : World → Point
   Owing before = Except Good a (Owes before)
@@ -218,10 +257,15 @@ module _ (p : Image) (s : List Placed) (a : Who) where
     pub late : MayBePlaced (limit n) l
     pub runs : runs_in c ≡ true
     pub fresh : is_fresh d n ≡ false
-    pub gone : Hidden n l ⊎ ((is_agent n ≡ true) × IsAt p (place n l) c)
+    pub task : is_agent n ≡ false → Hidden n l
+    pub agent : is_agent n ≡ true → IsAt p (place n l) c × IsShown n l
 
   abbrev pub Dying : Point
   Dying = Except Good a Dead
+
+  -- it is there no more, or is the agent and runs
+  abbrev pub Gone : Point
+  Gone d n c l = Good d n c l × (same_who n a ≡ true → sleeps_in c ≡ false)
 
   -- somebody's base priority may have been set
   pub record Bare (d : ℕ) (n : Who) (c : Core) (l : Last) : Type 0 where
@@ -230,6 +274,8 @@ module _ (p : Image) (s : List Placed) (a : Who) where
     pub fresh : is_fresh d n ≡ true → Hidden n l
     pub absent : IsAbsent n c → IsAt p (place n l) c
     pub acting : same_who n a ≡ true → Acting d n c l
+    pub ready : runs_in c ≡ true → IsShown n l
+    pub calm : IsCalm n c l
 
   abbrev pub Loose : Who → Point
   Loose name = Except Later name Bare
@@ -283,22 +329,24 @@ module _ (p : Image) (s : List Placed) (a : Who) where
   pub fits_finish : (n : Who) → Fits TheFinish n
   fits_finish n = finish_if (same_who a n) (same_who a n) n
 
-  -- a line that places who acts stands before its block
-  pub acts_early : (n : Who) (part : Part) → same_who n a ≡ true → Fits part n → is_part_before part TheBlock ≡ true
-  acts_early n part same fits = early-part part (subst (λ q. is_part_before q part ≡ false) (limit-actor n same) fits)
-
   -- ---- somebody is placed
 
   pub runs_or_absent : {A B C : Type 0} → A ⊎ C → A ⊎ (B ⊎ C)
   runs_or_absent (inl h) = inl h
   runs_or_absent (inr h) = inr (inr h)
 
-  pub placed-good : (d : ℕ) (n : Who) (c : Core) (l : Last) (part : Part) → Fits part n → is_fresh d n ≡ false → MayBePlaced (limit n) l → MayBePlaced part l → (runs_in c ≡ true) ⊎ IsAbsent n c → Good d n c (with_put l part (Some (Some (spot_for p c))))
-  placed-good d n c l part fits drawn late may runs = record {
+  pub begun_awake : {P : Type 0} (name : Who) (c : Core) → (runs_in c ≡ true) ⊎ IsAbsent name c → sleeps_in c ≡ true → P
+  begun_awake name c (inl runs) sleeps = awake c runs sleeps
+  begun_awake name c (inr absent) sleeps = nobody-sleeps (subst (λ e. sleeps_in e ≡ true) absent.1 sleeps)
+
+  pub placed-good : (d : ℕ) (n : Who) (c : Core) (l : Last) (part : Part) → Fits part n → is_fresh d n ≡ false → MayBePlaced (limit n) l → FreeFor part l → (runs_in c ≡ true) ⊎ IsAbsent n c → (same_who n a ≡ false → FreeFor (limit n) l) → Good d n c (with_put l part (Some (Some (spot_for p c))))
+  placed-good d n c l part fits drawn late free runs others = record {
     late = put-late (limit n) part l (Some (spot_for p c)) fits late;
-    at = put-at p part l c (spot_in n s) may;
+    at = put-at p part l c (spot_in n s) (free-may part l free);
     shown = runs_or_absent runs;
     fresh = λ e. absurd (let clash : false ≡ true = sym drawn ∙ e in cc);
+    ready = λ e. put-shown part l (spot_for p c) (spot_in n s) free;
+    calm = λ apart. (put-free (limit n) part l (Some (spot_for p c)) fits (others apart), λ sleeps. begun_awake n c runs sleeps);
   }
 
   -- who sleeps is shown nowhere
@@ -307,21 +355,21 @@ module _ (p : Image) (s : List Placed) (a : Who) where
   asleep-hidden n c l (inr (inl hidden)) sleeps = hidden
   asleep-hidden n c l (inr (inr absent)) sleeps = nobody-sleeps (subst (λ e. sleeps_in e ≡ true) absent.1 sleeps)
 
-  -- so it may be woken in each part that fits
-  pub woken-good : (d : ℕ) (n : Who) (c e : Core) (l : Last) (part : Part) → Fits part n → is_fresh d n ≡ false → sleeps_in c ≡ true → runs_in e ≡ true → Good d n c l → Good d n e (with_put l part (Some (Some (spot_for p e))))
-  woken-good d n c e l part fits drawn sleeps runs h = placed-good d n e l part fits drawn h.late (out-late part l (spot_in n s) (asleep-hidden n c l h.shown sleeps)) (inl runs)
+  -- another who sleeps may be woken in each part that fits
+  pub woken-good : (d : ℕ) (n : Who) (c e : Core) (l : Last) (part : Part) → Fits part n → same_who n a ≡ false → is_fresh d n ≡ false → sleeps_in c ≡ true → runs_in e ≡ true → Good d n c l → Good d n e (with_put l part (Some (Some (spot_for p e))))
+  woken-good d n c e l part fits apart drawn sleeps runs h =
+      let silent : l ≡ None = (h.calm apart).1 sleeps in
+      placed-good d n e l part fits drawn h.late (none-free part l silent) (inl runs) (λ other. none-free (limit n) l silent)
 
-  pub blocked-good : (d : ℕ) (n : Who) (c : Core) (l : Last) → l ≡ Some (TheBlock, None) → Good d n c l
-  blocked-good d n c l is = subst (Good d n c) (sym is) (record { late = inl refl; at = tt; shown = inr (inl refl); fresh = λ e. refl })
+  -- who acts has blocked
+  pub blocked-good : (d : ℕ) (n : Who) (c : Core) (l : Last) → same_who n a ≡ true → sleeps_in c ≡ true → l ≡ Some (TheBlock, None) → Good d n c l
+  blocked-good d n c l same sleeps is =
+      subst (Good d n c) (sym is)
+      (record { late = inl refl; at = tt; shown = inr (inl refl); fresh = λ e. refl; ready = λ runs. awake c runs sleeps; calm = λ apart. absurd (let clash : true ≡ false = sym same ∙ apart in cc) })
 
-  -- who acts is placed, where nothing hides it and where it has blocked
-  pub placed_by_acting : (d : ℕ) (n : Who) (c : Core) (l : Last) (part : Part) → same_who n a ≡ true → part ≡ ThePlacing → MayBePlaced (limit n) l → is_fresh d n ≡ false → (runs_in c ≡ true) ⊎ ((sleeps_in c ≡ true) × (l ≡ Some (TheBlock, None))) → Later d n c (with_put l part (Some (Some (spot_for p c))))
-  placed_by_acting d n c l part same is late drawn (inl runs) =
+  -- who acts is placed
+  pub acting-placed : (d : ℕ) (n : Who) (c : Core) (l : Last) (part : Part) → same_who n a ≡ true → part ≡ ThePlacing → MayBePlaced (limit n) l → IsShown n l → Acting d n c l → Later d n c (with_put l part (Some (Some (spot_for p c))))
+  acting-placed d n c l part same is late shown acting =
       let fits : Fits part n = subst (λ q. is_part_before q part ≡ false) (sym (limit-actor n same)) (ap (is_part_before ThePlacing) is) in
-      (placed-good d n c l part fits drawn late (subst (λ q. MayBePlaced q l) (limit-actor n same ∙ sym is) late) (inl runs), λ e. (drawn, inl runs))
-  placed_by_acting d n c l part same is late drawn (inr sleeps) =
-      let still : with_put l part (Some (Some (spot_for p c))) ≡ l = blocked-put l part (Some (spot_for p c)) sleeps.1 (ap (λ q. is_part_before q TheBlock) is) in
-      subst (Later d n c) (sym still) (blocked-good d n c l sleeps.1, λ e. (drawn, inr sleeps))
-
-  pub acting-placed : (d : ℕ) (n : Who) (c : Core) (l : Last) (part : Part) → same_who n a ≡ true → part ≡ ThePlacing → MayBePlaced (limit n) l → Acting d n c l → Later d n c (with_put l part (Some (Some (spot_for p c))))
-  acting-placed d n c l part same is late acting = placed_by_acting d n c l part same is late acting.0 acting.1
+      let free : FreeFor part l = subst (λ q. FreeFor q l) (limit-actor n same ∙ sym is) (shown-free (limit n) l (spot_in n s) late shown) in
+      (placed-good d n c l part fits acting.0 late free (inl acting.1) (λ apart. absurd (let clash : true ≡ false = sym same ∙ apart in cc)), λ e. acting)

@@ -1,22 +1,27 @@
--- Before each instant of every run, and behind it, everybody who is in the ready queues stands there at its active priority and with
--- its deadline, and who is not ready is not there.
+-- Before each instant of every run, and behind it, whoever is ready is in the ready queues, at its active priority and with its
+-- deadline, and nobody else is there.
 use Rattle.ann_base.specs.declared.identities.TaskNo.{TaskNo}
 use Rattle.ceiling_places.proofs.BesideLemmas.{same-self}
-use Rattle.place_worlds.proofs.CorePoints.{Holds, IsAt, Knowing, Places, Point, Readies, at_active, core-plain, holds-also, holds-knowing, holds-sound, holds_quiet, keeps_says, not-absent, ready-holds, spot_for, to_tail-holds}
+use Rattle.place_worlds.proofs.CorePoints.{Except, Holds, IsAt, Knowing, Places, Point, Readies, at_active, core-plain, holds-also, holds-knowing, holds-sound, holds_quiet, keeps_says, not-absent, ready-holds, spot_for, to_tail-holds}
 use Rattle.place_worlds.proofs.EffectKeeps.{begun_runs, effect_moves}
-use Rattle.place_worlds.proofs.EffectMoves.{Sleeping_in, Wakeful, base_moves, ceases_good, good-rises, good-wakes, runs-drawn}
+use Rattle.place_worlds.proofs.EffectMoves.{Sleeping_in, Wakeful, base_moves, good-rises, runs-drawn}
 use Rattle.place_worlds.proofs.SoundWorlds.{IsAbsent, Sound, is_fresh, known, sound-plain, sound-same}
-use Rattle.place_worlds.proofs.Standing.{First, Fits, Good, Last, Later, fits_own, limit, place, placed-good, runs_in}
+use Rattle.place_worlds.proofs.Standing.{First, Fits, FreeFor, Good, Last, fits_own, limit, nobody-runs, none-free, place, placed-good, runs_in}
 use Rattle.place_worlds.proofs.Puts.{MayBePlaced, Spot, last_put, spot_in, with_put}
 use Rattle.place_worlds.proofs.SpotLemmas.{spot-in_order}
-use Rattle.place_worlds.proofs.ActingMoves.{Either}
 use Rattle.place_worlds.proofs.CoreLemmas.{core-same}
 use Rattle.ceiling_runs.proofs.FoundLemmas.{by_test}
-use Rattle.handler_laws.proofs.AgentMarks.{Standing, rooted-inside}
-use Rattle.handler_laws.proofs.Attending.{Marked}
-use Rattle.place_worlds.proofs.AgentPlaced.{comes-attends}
-use Rattle.machine_laws.proofs.FineMoves.{natures}
-use Rattle.place_worlds.proofs.Kept.Act.{AgentInside, InsideOrNone, effect-leads}
+use Rattle.ann_base.specs.declared.identities.CallNo.{CallNo}
+use Rattle.appointment_worlds.proofs.DelayRuns.{reached-good}
+use Rattle.appointment_worlds.proofs.Delays as own
+use Rattle.appointment_worlds.proofs.Delays.{CallerIn, OwnIn}
+use Rattle.handler_laws.proofs.AgentMarks.{Standing, has_top, rooted-inside}
+use Rattle.handler_laws.proofs.AgentWorlds.{MarksFree, marks-free}
+use Rattle.handler_laws.proofs.Attending.{Attending, Marked}
+use Rattle.handler_laws.proofs.AgentInstants.{instant-attended, opening-attended}
+use Rattle.handler_laws.proofs.AgentTocks.{tock-ticked}
+use Rattle.machine_laws.proofs.FineMoves.{natures, release_in}
+use Rattle.place_worlds.proofs.Kept.Act.{AgentInside, InsideOrNone, MayAct, effect-leads}
 use Rattle.place_worlds.proofs.Kept.Frames.{open_sequence-keeps}
 use Rattle.place_worlds.proofs.Kept.Instant.{Appointing, OtherMoves}
 use Rattle.place_worlds.proofs.Kept.Scopes.{open_scope-alters}
@@ -30,14 +35,15 @@ use Rattle.machine_laws.proofs.Kept.Run.{tock-parts}
 use Rattle.machine_laws.proofs.Moves.{lines_of}
 use Rattle.machine_laws.proofs.PlaceLemmas.{instants_place_by_lines, openings_place_by_lines, tocks_place_nobody}
 use Rattle.machine_laws.proofs.TimeLemmas.{opening-runner}
-use Rattle.machine_laws.specs.Reached.{Comes, opened, ticked}
+use Rattle.machine_laws.specs.Reached.{Comes, before, opened, ticked}
 use Rattle.profile_machine.specs.Dispatching.{head_of, ready, to_tail}
 use Rattle.profile_machine.specs.Instant.{budgets_due, effect, effect_of_runner, events_due, finish_action, instant, is_over, moments_due, quantum_spent, script_items, timers_due}
-use Rattle.profile_machine.specs.Run.{blank_world, environment, opening, opens, tock}
+use Rattle.profile_machine.specs.Run.{blank_world, environment, environment_task, opening, opens, tock}
 use Rattle.profile_machine.specs.Scopes.{open_scope, plainly}
 use Rattle.profile_machine.specs.Steps.{Move, changes, is_part_before, placed_by, places_after, places_after_all, rests, says, settles, ◌▶◌}
 use Rattle.profile_machine.specs.Tasks.{is_runnable, nobody, task_at, task_of}
-use Rattle.profile_machine.specs.Words.{option_or_else, same_who}
+use Rattle.profile_machine.specs.Frames.{frames_of}
+use Rattle.profile_machine.specs.Words.{first_of_list, option_or_else, same_who}
 use Rattle.profile_machine.specs.declared.image.Image.{Image}
 use Rattle.profile_machine.specs.declared.run_data.Item.{Item}
 use Rattle.profile_machine.specs.declared.world.World.{World}
@@ -47,11 +53,14 @@ use Rattle.profile_machine.specs.declared.world.lines.Part.TheVariants.{Own}
 use Rattle.profile_machine.specs.declared.world.lines.Said.{Said}
 use Rattle.profile_machine.specs.declared.world.marks.Purpose.TheVariants as opened_for
 use Rattle.profile_machine.specs.declared.world.appointments.Release.{Release}
+use Rattle.profile_machine.specs.declared.world.calls.Call.{Call}
 use Rattle.profile_machine.specs.declared.world.marks.Frame.{Frame}
+use Rattle.profile_machine.specs.declared.world.marks.Mark.TheVariants.{InProtected}
+use Rattle.profile_machine.specs.declared.world.marks.ProtectedMark.{ProtectedMark}
 use Rattle.profile_machine.specs.declared.world.tasks.Placed.{Placed}
 use Rattle.profile_machine.specs.declared.world.tasks.Task.{Task}
 use Rattle.std.proofs.Common.{ap, cond, inl, inr, le_refl, refl, subst, sym, ◌++◌, ◌∙◌, ◌∷◌, ◌≡◌, ◌⊎◌}
-use Rattle.std.specs.Prelude.{Bool, List, None, Option, Some, [], false, true, ℕ, ℤ}
+use Rattle.std.specs.Prelude.{Bool, List, None, Option, Some, [], false, is_some, true, ℕ, ℤ}
 use Rattle.tick_lines.proofs.LineByLine.{Follow, seen_behind}
 use Rattle.trace_text.specs.declared.events.Created.TheVariants as created
 use Rattle.trace_text.specs.declared.events.Event.{Event}
@@ -64,6 +73,7 @@ pub record Stands (p : Image) (places : List Placed) (d : ℕ) (n : Who) (c : Co
   pub at : IsAt p (spot_in n places) c
   pub shown : (runs_in c ≡ true) ⊎ ((spot_in n places ≡ None) ⊎ IsAbsent n c)
   pub fresh : is_fresh d n ≡ true → spot_in n places ≡ None
+  pub ready : runs_in c ≡ true → is_some (spot_in n places) ≡ true
 
 abbrev pub AllStand : Image → List Placed → World → Type 0
 AllStand p places w = Sound w × ((n : Who) → Stands p places w.drawn.tasks n (core (task_of w n)))
@@ -97,6 +107,7 @@ module _ (p : Image) where
     at = subst (λ q. IsAt p q c) (sym is) h.at;
     shown = subst (λ q. (runs_in c ≡ true) ⊎ ((q ≡ None) ⊎ IsAbsent n c)) (sym is) h.shown;
     fresh = λ e. is ∙ h.fresh e;
+    ready = λ runs. ap is_some is ∙ h.ready runs;
   }
 
   -- an effect is over
@@ -117,7 +128,7 @@ module _ (p : Image) where
   -- ---- the effect of who acts
 
   good-first : (sight : List Placed) (a n : Who) (d : ℕ) (c : Core) → Stands p sight d n c → Good p sight a d n c None
-  good-first sight a n d c h = record { late = tt; at = h.at; shown = h.shown; fresh = h.fresh }
+  good-first sight a n d c h = record { late = tt; at = h.at; shown = h.shown; fresh = h.fresh; ready = h.ready; calm = λ apart. (tt, λ sleeps. refl) }
 
   acts_first : (sight : List Placed) (a : Who) (w : World) → is_fresh w.drawn.tasks a ≡ false → runs_in (core (task_of w a)) ≡ true → AllStand p sight w → Holds (First p sight a) w []
   unfolding Holds
@@ -129,14 +140,10 @@ module _ (p : Image) where
     ),
   )
 
-  either_over : (sight : List Placed) (a : Who) → Settles placed_behind any_event (AllStand p) p sight (Either (Holds (Good p sight a)) (Holds (Later p sight a)))
-  either_over sight a v xs (inl h) = over sight a v xs h
-  either_over sight a v xs (inr h) = over sight a v xs (ceases_good p sight a v xs h)
-
-  effect-stands : (sight : List Placed) (a : Who) (w : World) → AgentInside w → is_fresh w.drawn.tasks a ≡ false → runs_in (core (task_of w a)) ≡ true → AllStand p sight w → let behind = settles p (effect p a) w in AllStand p (places_after_all behind.1 sight) behind.0
-  effect-stands sight a w inside drawn runs h =
+  effect-stands : (sight : List Placed) (a : Who) (w : World) → MayAct a w → is_fresh w.drawn.tasks a ≡ false → runs_in (core (task_of w a)) ≡ true → AllStand p sight w → let behind = settles p (effect p a) w in AllStand p (places_after_all behind.1 sight) behind.0
+  effect-stands sight a w may drawn runs h =
       subst (λ s. AllStand p s (settles p (effect p a) w).0) (seen-placed sight (settles p (effect p a) w).1)
-      (settles_onward placed_behind any_event (AllStand p) p sight (With (Holds (First p sight a)) AgentInside) (Either (Holds (Good p sight a)) (Holds (Later p sight a))) (effect p a) w (either_over sight a) (effect-leads (effect_moves p sight a)) (acts_first sight a w drawn runs h, inside)).shows
+      (settles_onward placed_behind any_event (AllStand p) p sight (With (Holds (First p sight a)) (MayAct a)) (Holds (Good p sight a)) (effect p a) w (over sight a) (effect-leads (effect_moves p sight a)) (acts_first sight a w drawn runs h, may)).shows
 
   -- who acts stands there, so it is ready
   shown-drawn : (sight : List Placed) (n : Who) (d : ℕ) (spot : Spot) (c : Core) → spot_in n sight ≡ Some spot → Stands p sight d n c → is_fresh d n ≡ false
@@ -158,9 +165,9 @@ module _ (p : Image) where
   Beside : List Placed → Point
   Beside sight d n c l = Good p sight who.Agent d n c l × OwnPut l
 
-  own-may : (l : Last) → OwnPut l → MayBePlaced Own l
-  own-may None own = tt
-  own-may (Some last) own = inr (ap (is_part_before Own) own)
+  own-free : (l : Last) → OwnPut l → FreeFor Own l
+  own-free None own = tt
+  own-free (Some last) own = ap (is_part_before Own) own
 
   own_if : (b : Bool) (last : Part × Option Spot) (q : Option Spot) → last.0 ≡ Own → OwnPut (cond b (Some last) (Some (Own, q)))
   own_if true last q own = own
@@ -177,7 +184,10 @@ module _ (p : Image) where
   unfolding Beside
   beside_wakeful sight = record {
     rises = λ d n t l i named sleeps h. (good-rises p sight who.Agent d n t l i named sleeps h.0, h.1);
-    wakes = λ part d n c e l is drawn sleeps runs h. (good-wakes p sight who.Agent part d n c e l (beside_fits sight part n is) drawn sleeps runs h.0, own-put l part (Some (spot_for p e)) is h.1);
+    wakes = λ part d n c e l is drawn sleeps runs h. (
+      placed-good p sight who.Agent d n e l part (beside_fits sight part n is) drawn h.0.late (subst (λ q. FreeFor q l) (sym is) (own-free l h.1)) (inl runs) (λ apart. (h.0.calm apart).0),
+      own-put l part (Some (spot_for p e)) is h.1,
+    );
   }
 
   IsDrawn : Appointing
@@ -186,6 +196,7 @@ module _ (p : Image) where
   record Coming (sight : List Placed) (n : Who) (d : ℕ) (c : Core) (l : Last) : Type 0 where
     late : MayBePlaced (limit p sight who.Agent n) l
     own : OwnPut l
+    free : same_who n who.Agent ≡ false → FreeFor (limit p sight who.Agent n) l
     drawn : is_fresh d n ≡ false
     runs : (runs_in c ≡ true) ⊎ IsAbsent n c
 
@@ -198,10 +209,10 @@ module _ (p : Image) where
   coming sight n = record {
     between = Coming sight n;
     others = λ d m c l apart h. h.0;
-    own = λ d t l h. record { late = h.0.0.late; own = h.0.1; drawn = h.1 (same-self n); runs = inl refl };
-    missed = λ d l task h. record { late = h.0.0.late; own = h.0.1; drawn = h.1 (same-self n); runs = inr (task, refl) };
-    keeps = λ d t l level named h. record { late = h.late; own = h.own; drawn = h.drawn; runs = begun_runs p sight who.Agent n t level named h.runs };
-    places = λ d c l h. (placed-good p sight who.Agent d n c l Own (fits_own p sight who.Agent n) h.drawn h.late (own-may l h.own) h.runs, own-put l Own (Some (spot_for p c)) refl h.own);
+    own = λ d t l h. record { late = h.0.0.late; own = h.0.1; free = λ apart. (h.0.0.calm apart).0; drawn = h.1 (same-self n); runs = inl refl };
+    missed = λ d l task h. record { late = h.0.0.late; own = h.0.1; free = λ apart. (h.0.0.calm apart).0; drawn = h.1 (same-self n); runs = inr (task, refl) };
+    keeps = λ d t l level named h. record { late = h.late; own = h.own; free = h.free; drawn = h.drawn; runs = begun_runs p sight who.Agent n t level named h.runs };
+    places = λ d c l h. (placed-good p sight who.Agent d n c l Own (fits_own p sight who.Agent n) h.drawn h.late (own-free l h.own) h.runs h.free, own-put l Own (Some (spot_for p c)) refl h.own);
   }
 
   awaited_readies : (sight : List Placed) (t : TaskNo) → Leads (With (Holds (Beside sight)) (λ w. IsDrawn w t)) (Holds (Beside sight)) (ready p Own (who.Task t))
@@ -220,7 +231,7 @@ module _ (p : Image) where
     others = λ d m c l apart h. h.0;
     own = λ d c l h.
         let k = h.1 (same-self n) in
-        (placed-good p sight who.Agent d n c l Own (fits_own p sight who.Agent n) k.1 h.0.0.late (own-may l h.0.1) (inl k.0), own-put l Own (Some (spot_for p c)) refl h.0.1);
+        (placed-good p sight who.Agent d n c l Own (fits_own p sight who.Agent n) k.1 h.0.0.late (own-free l h.0.1) (inl k.0) (λ apart. (h.0.0.calm apart).0), own-put l Own (Some (spot_for p c)) refl h.0.1);
   }
 
   is_running : (sight : List Placed) (n : Who) (w : World) (said : List Said) → runs_in (core (task_of w n)) ≡ true → Holds (Beside sight) w said → Holds (Running sight n) w said
@@ -257,24 +268,47 @@ module _ (p : Image) where
   blank-sound : (script : List (ℤ × Item)) → Sound (blank_world p script)
   blank-sound script = record { names = (le_refl 0, le_refl 1); named = refl; agent = tt; delays = λ t e. absurd cc }
 
-  nobody-shown : (script : List (ℤ × Item)) → Holds (Beside []) (blank_world p script) []
-  unfolding Holds Beside
-  nobody-shown script = (blank-sound script, λ n. (record { late = tt; at = tt; shown = inr (inl refl); fresh = λ e. refl }, tt))
+  -- nobody stands anywhere, and only the environment task runs
+  Opening : Point
+  Opening = Except (Beside []) environment (λ d n c l. (l ≡ None) × (runs_in c ≡ true) × (is_fresh d environment ≡ false))
 
-  opening_starts : (script : List (ℤ × Item)) → Holds (Running [] environment) (blank_world p script) []
-  opening_starts script = is_running [] environment (blank_world p script) [] refl (nobody-shown script)
+  blank-idle : {P : Type 0} (script : List (ℤ × Item)) (n : Who) → same_who n environment ≡ false → runs_in (core (task_of (blank_world p script) n)) ≡ true → P
+  blank-idle script (who.Task k) apart runs =
+      nobody-runs (sym (ap (λ b. runs_in (core (option_or_else (cond b (Some (environment_task p)) None) nobody))) apart) ∙ runs)
+  blank-idle script who.Agent apart runs = absurd (let clash : false ≡ true = runs in cc)
 
-  opens-stands : Leads (Holds (Running [] environment)) (Holds (Beside [])) (opens p)
+  opening_starts : (script : List (ℤ × Item)) → Holds Opening (blank_world p script) []
+  unfolding Holds Opening Beside
+  opening_starts script = (
+    blank-sound script,
+    λ n. (
+      (λ apart. (record { late = tt; at = tt; shown = inr (inl refl); fresh = λ e. refl; ready = λ runs. blank-idle script n apart runs; calm = λ other. (tt, λ sleeps. refl) }, tt)),
+      (λ same. (refl, ap (λ m. runs_in (core (task_of (blank_world p script) m))) (who-is n environment same), refl)),
+    ),
+  )
+
+  opening_places : Places Opening (Beside []) environment Own (at_active p)
+  unfolding Opening Beside
+  opening_places = record {
+    others = λ d n c l apart h. h.0 apart;
+    own = λ d c l h.
+        let k = h.1 (same-self environment) in (
+          placed-good p [] who.Agent d environment c l Own (fits_own p [] who.Agent environment) k.2 (subst (MayBePlaced (limit p [] who.Agent environment)) (sym k.0) tt) (none-free Own l k.0) (inl k.1) (λ apart. none-free (limit p [] who.Agent environment) l k.0),
+          own-put l Own (Some (spot_for p c)) refl (subst OwnPut (sym k.0) tt),
+        );
+  }
+
+  opens-stands : Leads (Holds Opening) (Holds (Beside [])) (opens p)
   unfolding opens
   opens-stands =
-      then-leads (changes (open_scope p environment p.environment (plainly None) opened_for.Task)) _ (changes-keeps _ (open_scope-alters (holds_quiet (Running [] environment)) p environment p.environment (plainly None) opened_for.Task))
-      (then-leads (says Own (line.New (created.Task (record { 0 = 0 })) None p.main.priority)) _ (keeps_says (Running [] environment) Own (line.New (created.Task (record { 0 = 0 })) None p.main.priority) (λ n. refl))
-      (then-leads (to_tail p Own environment) _ (to_tail-holds p (Running [] environment) (Beside []) environment Own (running_places [] environment)) (open_sequence-keeps (holds_quiet (Beside [])) p Own environment)))
+      then-leads (changes (open_scope p environment p.environment (plainly None) opened_for.Task)) _ (changes-keeps _ (open_scope-alters (holds_quiet Opening) p environment p.environment (plainly None) opened_for.Task))
+      (then-leads (says Own (line.New (created.Task (record { 0 = 0 })) None p.main.priority)) _ (keeps_says Opening Own (line.New (created.Task (record { 0 = 0 })) None p.main.priority) (λ n. refl))
+      (then-leads (to_tail p Own environment) _ (to_tail-holds p Opening (Beside []) environment Own opening_places) (open_sequence-keeps (holds_quiet (Beside [])) p Own environment)))
 
   opening-stands : (script : List (ℤ × Item)) → AllStand p (places_after_all (opening p script).1 []) (opening p script).0
   opening-stands script =
       subst (λ s. AllStand p s (opening p script).0) (seen-placed [] (opening p script).1)
-      (settles_onward placed_behind any_event (AllStand p) p [] (Holds (Running [] environment)) (Holds (Beside [])) (opens p) (blank_world p script)
+      (settles_onward placed_behind any_event (AllStand p) p [] (Holds Opening) (Holds (Beside [])) (opens p) (blank_world p script)
       (λ v xs h. over [] who.Agent v xs (beside_good [] v xs h)) opens-stands (opening_starts script)).shows
 
   -- ---- a tock
@@ -284,6 +318,7 @@ module _ (p : Image) where
     at = subst (λ q. IsAt p q c) (sym shown) (subst (IsAt p (spot_in n sight)) (sym same) h.at);
     shown = subst (λ q. (runs_in c ≡ true) ⊎ ((q ≡ None) ⊎ IsAbsent n c)) (sym shown) (subst (λ x. (runs_in x ≡ true) ⊎ ((spot_in n sight ≡ None) ⊎ IsAbsent n x)) (sym same) h.shown);
     fresh = λ f. shown ∙ h.fresh (ap (λ x. is_fresh x n) (sym drawn) ∙ f);
+    ready = λ runs. ap is_some shown ∙ h.ready (ap runs_in (sym same) ∙ runs);
   }
 
   tock-stands : (w : World) → AllStand p w.places w → AllStand p (tock p w).0.places (tock p w).0
@@ -304,19 +339,19 @@ module _ (p : Image) where
   effect_if-stands sight w name true h acts = acts refl
   effect_if-stands sight w name false h acts = h
 
-  effect_of-stands : (sight : List Placed) (w : World) (ran : Option Who) → AgentInside w → w.ran ≡ ran → AllStand p sight w → ((name : Who) → w.ran ≡ Some name → (spot : Spot) × (spot_in name sight ≡ Some spot)) → Behind sight (effect_of_runner p ran w)
-  effect_of-stands sight w None inside is h acts = h
-  effect_of-stands sight w (Some name) inside is h acts =
+  effect_of-stands : (sight : List Placed) (w : World) (ran : Option Who) → ((name : Who) → MayAct name w) → w.ran ≡ ran → AllStand p sight w → ((name : Who) → w.ran ≡ Some name → (spot : Spot) × (spot_in name sight ≡ Some spot)) → Behind sight (effect_of_runner p ran w)
+  effect_of-stands sight w None may is h acts = h
+  effect_of-stands sight w (Some name) may is h acts =
       effect_if-stands sight w name (is_over (task_of w name).ticks_left) h (λ ends.
       let stands = acts name is in
-      effect-stands sight name w inside (shown-drawn sight name w.drawn.tasks stands.0 (core (task_of w name)) stands.1 (h.1 name)) (shown-runs sight name w stands.0 stands.1 ends (h.1 name).shown) h)
+      effect-stands sight name w (may name) (shown-drawn sight name w.drawn.tasks stands.0 (core (task_of w name)) stands.1 (h.1 name)) (shown-runs sight name w stands.0 stands.1 ends (h.1 name).shown) h)
 
-  instant-stands : (sight : List Placed) (w : World) → AgentInside w → AllStand p sight w → ((name : Who) → w.ran ≡ Some name → (spot : Spot) × (spot_in name sight ≡ Some spot)) → Behind sight (instant p w)
-  instant-stands sight w inside h acts =
+  instant-stands : (sight : List Placed) (w : World) → ((name : Who) → MayAct name w) → AllStand p sight w → ((name : Who) → w.ran ≡ Some name → (spot : Spot) × (spot_in name sight ≡ Some spot)) → Behind sight (instant p w)
+  instant-stands sight w may h acts =
       let first = finish_action p w in
       let later = (script_items p ▶ events_due p ▶ moments_due p ▶ timers_due p ▶ budgets_due p ▶ quantum_spent p) first.0 in
       subst (λ s. AllStand p s later.0) (seen-placed (places_after_all first.1 sight) later.1 ∙ sym (places-append sight first.1 later.1))
-      (behind_onward placed_behind any_event (AllStand p) beside (places_after_all first.1 sight) first.0 (effect_of-stands sight w w.ran inside refl h acts)).shows
+      (behind_onward placed_behind any_event (AllStand p) beside (places_after_all first.1 sight) first.0 (effect_of-stands sight w w.ran may refl h acts)).shows
 
 -- ---- a run
 
@@ -332,7 +367,11 @@ head-spot name (x ∷ xs) e =
     let one : x.who ≡ name = cc in
     ((x.level, x.deadline), ap (λ b. cond b (Some (x.level, x.deadline)) (spot_in name xs)) (ap (same_who name) one ∙ same-self name))
 
--- the agent acts inside a protected action
+-- the agent acts where it attends to a release, so inside a protected action
+comes-attends : (p : Image) (script : List (ℤ × Item)) (bound : ℕ) (w : World) → Comes p script bound w → Attending w
+comes-attends p script bound _ opened = (opening-attended p script).attending
+comes-attends p script bound _ (ticked w comes going) = (tock-ticked p (instant p w).0 (instant-attended p w (comes-attends p script bound w comes)).attending).attending
+
 standing-inside : (frames : List Frame) → Standing (natures frames) → InsideOrNone frames
 standing-inside [] h = inl refl
 standing-inside (f ∷ fs) h = inr (rooted-inside (f ∷ fs) h)
@@ -348,10 +387,32 @@ marked-inside (Some r) frames h = standing-inside frames h
 comes-inside : (p : Image) (script : List (ℤ × Item)) (bound : ℕ) (w : World) → Comes p script bound w → AgentInside w
 comes-inside p script bound w comes = marked-inside w.serving w.agent.frames (comes-attends p script bound w comes).marks
 
+-- who entered with a call of its own made it, and no release ends with an action of a task
+own_top : (calls : List Call) (last : ℕ) (name : Who) (frames : List Frame) (f : Frame) (m : ProtectedMark) (c : CallNo) → first_of_list frames ≡ Some f → f.mark ≡ InProtected m → m.own_call ≡ Some c → OwnIn calls last name (own.natures frames) → CallerIn calls last c name
+own_top calls last name frames f m c top mark e h =
+    let found = has_top frames f top in
+    (subst (λ fs. OwnIn calls last name (own.natures fs)) found.1 h).0 c (ap own.nature mark ∙ e)
+
+no_release : (w : World) (name : Who) (f : Frame) (m : ProtectedMark) (r : ℕ) → Attending w → first_of_list (frames_of w name) ≡ Some f → f.mark ≡ InProtected m → m.release ≡ Some r → who.Agent ≡ name
+no_release w who.Agent f m r h top mark e = refl
+no_release w (who.Task n) f m r h top mark e =
+    let found = has_top (frames_of w (who.Task n)) f top in
+    let free : MarksFree h.colour w.drawn.regions (natures (f ∷ found.0)) = subst (λ fs. MarksFree h.colour w.drawn.regions (natures fs)) found.1 (marks-free h.colour w (who.Task n) tt h.apart) in
+    absurd (let clash : None ≡ Some r = sym free.0 ∙ ap release_in mark ∙ e in cc)
+
+comes-may : (p : Image) (script : List (ℤ × Item)) (bound : ℕ) (w : World) → Comes p script bound w → (name : Who) → MayAct name w
+comes-may p script bound w comes name = record {
+  inside = comes-inside p script bound w comes;
+  tops = λ f m top mark. (
+    (λ c e. own_top w.calls w.drawn.calls name (frames_of w name) f m c top mark e ((reached-good p script bound w (before w comes)).owned name)),
+    (λ r e. no_release w name f m r (comes-attends p script bound w comes) top mark e),
+  );
+}
+
 pub instant-places : (p : Image) (script : List (ℤ × Item)) (bound : ℕ) (w : World) → Comes p script bound w → AllStand p w.places w → AllStand p (instant p w).0.places (instant p w).0
 instant-places p script bound w comes h =
     subst (λ places. AllStand p places (instant p w).0) (sym (instants_place_by_lines p w))
-    (instant-stands p w.places w (comes-inside p script bound w comes) h (λ name ran. head-spot name w.places (runner-first p script bound w name comes ran)))
+    (instant-stands p w.places w (comes-may p script bound w comes) h (λ name ran. head-spot name w.places (runner-first p script bound w name comes ran)))
 
 pub comes-stands : (p : Image) (script : List (ℤ × Item)) (bound : ℕ) (w : World) → Comes p script bound w → AllStand p w.places w
 comes-stands p script bound _ opened = subst (λ places. AllStand p places (opening p script).0) (sym (openings_place_by_lines p script)) (opening-stands p script)

@@ -2,6 +2,7 @@
 use Rattle.ann_base.specs.declared.identities.TaskNo.{TaskNo}
 use Rattle.place_worlds.proofs.SameLemmas.{edit_task-same, same_self, same_then}
 use Rattle.place_worlds.proofs.Cores.{Same, ceiling_in, core}
+use Rattle.appointment_worlds.proofs.Delays.{CallerIn}
 use Rattle.machine_laws.proofs.Kept.Run.{before_tick, tock-parts}
 use Rattle.profile_machine.specs.Appointments.{is_delay_of}
 use Rattle.profile_machine.specs.Cost.{cost}
@@ -13,7 +14,9 @@ use Rattle.profile_machine.specs.Steps.{rests}
 use Rattle.profile_machine.specs.Tasks.{edit_task, task_of, with_ticks}
 use Rattle.profile_machine.specs.Words.{same_option, same_who}
 use Rattle.profile_machine.specs.declared.image.Image.{Image}
+use Rattle.profile_machine.specs.declared.world.Drawn.{Drawn}
 use Rattle.profile_machine.specs.declared.world.World.{World}
+use Rattle.profile_machine.specs.declared.world.calls.Call.{Call}
 use Rattle.profile_machine.specs.declared.world.appointments.Release.{Release}
 use Rattle.profile_machine.specs.declared.world.marks.Frame.{Frame}
 use Rattle.profile_machine.specs.declared.world.tasks.Task.{Task}
@@ -29,8 +32,11 @@ spent-core : (b : Bool) (n : ℕ) (t : Task) → core (cond b (record t { quantu
 spent-core true n t = refl
 spent-core false n t = refl
 
-plain_same : (a b : World) → b.tasks ≡ a.tasks → b.agent ≡ a.agent → b.objects ≡ a.objects → b.drawn ≡ a.drawn → b.appointments ≡ a.appointments → Same a b
-plain_same a b tasks agent objects drawn appointments = record { tasks = ap (map core) tasks; agent = ap core agent; objects = ap (map ceiling_in) objects; drawn_tasks = ap (λ d. d.tasks) drawn; drawn_objects = ap (λ d. d.objects) drawn; delays = λ t e. ap (λ xs. list_any (λ a. is_delay_of t a.due) xs) (sym appointments) ∙ e }
+abbrev calls_and_drawn : World → List Call × Drawn
+calls_and_drawn w = (w.calls, w.drawn)
+
+plain_same : (a b : World) → b.tasks ≡ a.tasks → b.agent ≡ a.agent → b.objects ≡ a.objects → calls_and_drawn b ≡ calls_and_drawn a → b.appointments ≡ a.appointments → Same a b
+plain_same a b tasks agent objects drawn appointments = record { tasks = ap (map core) tasks; agent = ap core agent; objects = ap (map ceiling_in) objects; drawn_tasks = ap (λ q. q.1.tasks) drawn; callers = λ c n k. subst (λ q. CallerIn q.0 q.1.calls c n) (sym drawn) k; delays = λ t e. ap (λ xs. list_any (λ a. is_delay_of t a.due) xs) (sym appointments) ∙ e }
 
 clock-same : (t : TaskNo) (w : World) → Same w (charge_clock t w)
 clock-same t w =

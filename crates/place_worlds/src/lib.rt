@@ -1,28 +1,12 @@
-//! Who stands in the ready queues in the worlds that a run reaches: laws of the profile machine's
-//! definitions alone. Each is the contract of a function that does nothing.
+//! Who stands in the ready queues in the worlds that a run reaches: a law of the profile machine's
+//! definitions alone. It is the contract of a function that does nothing.
 #![tactic(auto)]
 
-ghost use Rattle.place_worlds.specs.PlaceWorlds.{ReachedAgentIsPlaced, ReachedOthersAreOut, ReachedPlacedAtActive, ReachedPlacedDiffer, ReachedPlacedInOrder};
+ghost use Rattle.place_worlds.specs.PlaceWorlds.{ReachedPlacesAreRight};
 
-/// In every world that a run reaches nobody is in the ready queues twice, and they stand in their order
-/// (ISO/IEC 8652:2012, D.2.1, D.2.6).
-#[tactic(auto, using(crate::proofs::PlaceWorlds::reached_placed_differ, crate::proofs::PlaceWorlds::reached_placed_in_order))]
-pub fn reached_worlds_place_each_once_and_in_order()
-    ensures once { ReachedPlacedDiffer }
-    ensures in_order { ReachedPlacedInOrder }
-{}
-
-/// In every world that a run reaches nobody is in the ready queues who is not ready, and the agent of handlers is there wherever
-/// it is ready (D.2.1).
-#[tactic(auto, using(crate::proofs::PlaceWorlds::reached_others_are_out, crate::proofs::PlaceWorlds::reached_agent_is_placed))]
-pub fn reached_worlds_place_nobody_else()
-    ensures others { ReachedOthersAreOut }
-    ensures agent { ReachedAgentIsPlaced }
-{}
-
-/// In every world that a run reaches who is in the ready queues stands there at its active priority and with its deadline
-/// (D.2.1, D.2.6).
-#[tactic(auto, using(crate::proofs::PlaceWorlds::reached_placed_at_active))]
-pub fn reached_worlds_place_at_active_priorities()
-    ensures { ReachedPlacedAtActive }
+/// In every world that a run reaches the ready queues hold whoever is ready and nobody else, each once, in order, at its active
+/// priority and with its deadline (ISO/IEC 8652:2012, D.2.1, D.2.6).
+#[tactic(auto, using(crate::proofs::PlaceWorlds::reached_places_are_right))]
+pub fn reached_worlds_place_who_is_ready()
+    ensures { ReachedPlacesAreRight }
 {}

@@ -1,5 +1,6 @@
 -- Controlled objects: Initialize, Finalize, assignment (7.6, 7.6.1).
-use Rattle.std.specs.Prelude.{ℕ, suc, ◌+◌, ◌-◌, Bool, true, false, cond, ◌&&◌, [], ◌∷◌, Option, Some, None, eqb, find, option_and_then}
+use Rattle.std.specs.Prelude.{ℕ, suc, ◌+◌, ◌-◌, Bool, true, false, cond, not, ◌&&◌, ◌||◌, [], ◌∷◌, Option, Some, None, eqb, find, option_and_then}
+use Rattle.std.specs.List.{list_any}
 use Rattle.ann_base.specs.declared.identities.RegionNo.{RegionNo}
 use Rattle.ann_base.specs.declared.exceptions.Raised.TheVariants as exception
 use Rattle.profile_machine.specs.declared.world.lines.Line.TheVariants as line
@@ -15,6 +16,7 @@ use Rattle.profile_machine.specs.declared.run_data.Leaving.{Leaving}
 use Rattle.profile_machine.specs.declared.run_data.Leaving.TheVariants as how
 use Rattle.profile_machine.specs.declared.values.Value.TheVariants.{Thing}
 use Rattle.profile_machine.specs.declared.world.World.{World}
+use Rattle.profile_machine.specs.declared.world.tasks.Task.{Task}
 use Rattle.profile_machine.specs.declared.world.scopes.Located.{Located}
 use Rattle.profile_machine.specs.declared.world.scopes.Variable.{Variable}
 use Rattle.profile_machine.specs.declared.world.appointments.Registered.{Registered}
@@ -31,14 +33,14 @@ use Rattle.profile_machine.specs.declared.world.marks.Mark.TheVariants.{Scope, H
 use Rattle.profile_machine.specs.Words.{same_id, without}
 use Rattle.profile_machine.specs.Program.{declaration_of, next_of, scope_of, marks_of, subprogram_of, controlled_of, no_controlled}
 use Rattle.profile_machine.specs.declared.world.lines.Part.TheVariants.{Own}
-use Rattle.profile_machine.specs.Steps.{Step, says, changes, looks, nothing, ◌▷◌}
+use Rattle.profile_machine.specs.Steps.{Step, says, changes, looks, when, nothing, ◌▷◌}
 use Rattle.profile_machine.specs.Frames.{top_of, edit_top, push, pop, new_frame, goes, leaves, raises, given, with_room, has_room, with_mark, pass_on}
 use Rattle.profile_machine.specs.declared.world.scopes.Beginning.{Beginning}
-use Rattle.profile_machine.specs.Scopes.{home, read_cell, write_cell, open_scope, edit_cells, innermost}
+use Rattle.profile_machine.specs.Scopes.{home, read_cell, write_cell, open_scope, edit_cells, innermost, put_cells}
 use Rattle.profile_machine.specs.Values.{located, controlled_cells}
 use Rattle.profile_machine.specs.Cost.{of_region}
 use Rattle.profile_machine.specs.Masters.{region_of_mark}
-use Rattle.profile_machine.specs.Statements.{sees, cells_from, put_cells}
+use Rattle.profile_machine.specs.Statements.{sees, cells_from}
 
 -- ---- the operations of an object's type
 
@@ -153,9 +155,30 @@ finalize_by p name r (Some f) =
 abbrev pub no_longer_registered : ℕ → World → World
 no_longer_registered n w = record w { registered = without (is_number n) w.registered }
 
-unfoldable pub finalize : Image → Who → Registered → Step
-finalize p name r =
+unfoldable pub finalize_now : Image → Who → Registered → Step
+finalize_now p name r =
     says Own (line.Final name r.object) ▷ changes (no_longer_registered r.object) ▷ finalize_by p name r (type_of p r.located).finalize
+
+-- the target of an assignment that is under way stays registered: its scope is left no further before the assignment has
+-- ended. No source is known whose assignments outlast the wait for dependents (own).
+abbrev pub assigns_to : ℕ → Mark → Bool
+assigns_to n (InAssign m) = eqb n m.target
+assigns_to n (Scope m) = false
+assigns_to n (Handled s) = false
+assigns_to n (InProtected m) = false
+assigns_to n (InAccept m) = false
+assigns_to n (Abortable m) = false
+assigns_to n (InInitialize l) = false
+assigns_to n (InFinalize o) = false
+
+abbrev pub is_assigning_to : ℕ → Task → Bool
+is_assigning_to n t = list_any (λ f. assigns_to n f.mark) t.frames
+
+abbrev pub is_being_assigned : World → ℕ → Bool
+is_being_assigned w n = list_any (is_assigning_to n) w.tasks || is_assigning_to n w.agent
+
+unfoldable pub finalize : Image → Who → Registered → Step
+finalize p name r = looks (λ w. when (not (is_being_assigned w r.object)) (finalize_now p name r))
 
 -- the one of the region with the greatest number
 abbrev pub next_to_finalize : World → RegionNo → Option Registered

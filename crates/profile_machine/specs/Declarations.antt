@@ -27,10 +27,10 @@ use Rattle.profile_machine.specs.Program.{declaration_of, next_of, scope_of, pro
 use Rattle.profile_machine.specs.declared.world.lines.Part.TheVariants.{Own}
 use Rattle.profile_machine.specs.Steps.{Step, says, changes, looks, ◌▷◌}
 use Rattle.profile_machine.specs.Frames.{goes, given}
-use Rattle.profile_machine.specs.Scopes.{write_cell, edit_cells, scope_in_use}
+use Rattle.profile_machine.specs.Scopes.{write_cell, edit_cells, scope_in_use, put_cells}
 use Rattle.profile_machine.specs.Operators.{Valued, ◌>>=◌, unless}
 use Rattle.profile_machine.specs.Values.{Seen, value, object_cell, home_of, component_at, protected_cells, controlled_cells, no_budget, first_cell, task_in}
-use Rattle.profile_machine.specs.Statements.{sees, copy_cells, put_cells}
+use Rattle.profile_machine.specs.Statements.{sees, copy_cells}
 use Rattle.profile_machine.specs.CallEnds.{store}
 
 -- ---- initial values

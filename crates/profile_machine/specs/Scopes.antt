@@ -1,5 +1,5 @@
 -- Scopes in use: where a name's cells are, how a scope begins and ends (3.1, 7.6.1, 8.2).
-use Rattle.std.specs.Prelude.{ℕ, suc, zero, pos, Bool, true, false, not, ◌&&◌, List, [], ◌∷◌, ◌++◌, Option, Some, None, eqb, length, find, drop, option_map, slice_index_or, slice_set}
+use Rattle.std.specs.Prelude.{ℕ, suc, zero, pos, Bool, true, false, not, ◌&&◌, List, [], ◌∷◌, ◌++◌, Option, Some, None, eqb, length, find, option_map, slice_index_or, slice_set}
 use Rattle.std.specs.List.{list_all}
 use Rattle.ann_base.specs.declared.identities.RegionNo.{RegionNo}
 use Rattle.trace_text.specs.declared.events.Who.{Who}
@@ -84,6 +84,11 @@ edit_cells id f w = record w { scopes = edit_where (is_id id) (with_cells f) w.s
 abbrev pub write_cell : ScopeId → ℕ → Value → World → World
 write_cell id place value = edit_cells id (λ cells. slice_set cells place value)
 
+-- the cells from this place on get these values; what would stand behind the last cell is dropped
+abbrev pub put_cells : ℕ → List Value → List Value → List Value
+put_cells place [] cells = cells
+put_cells place (v ∷ vs) cells = put_cells (suc place) vs (slice_set cells place v)
+
 -- ---- a scope begins
 
 abbrev pub plainly : Option ScopeId → Beginning
@@ -95,10 +100,11 @@ next_id w = scope_id w.drawn.scopes
 abbrev pub scope_drawn : Drawn → Drawn
 scope_drawn d = record d { scopes = suc d.scopes }
 
--- the scope is in use, with its cells as they begin and its parameters in the first of them
+-- the scope is in use, with its cells as they begin and its parameters in the first of them: as many cells as the text
+-- says, so a parameter beyond the last one is not kept
 abbrev pub begin_scope : Image → Who → ScopeNo → Beginning → World → World
 begin_scope p name scope b w =
-    let new : ScopeInUse = record { id = next_id w; scope = scope; outer = b.outer; owner = name; object = b.object; subject = b.subject; cells = b.values ++ drop (length b.values) (initial_cells (scope_of p scope)) } in
+    let new : ScopeInUse = record { id = next_id w; scope = scope; outer = b.outer; owner = name; object = b.object; subject = b.subject; cells = put_cells 0 b.values (initial_cells (scope_of p scope)) } in
     record w { scopes = new ∷ w.scopes; drawn = scope_drawn w.drawn }
 
 -- a kept scope draws its region

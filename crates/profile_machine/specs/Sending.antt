@@ -1,5 +1,6 @@
 -- Calls that are sent on, abortable parts that begin, and calls that are not accepted at once (9.5.4, 9.7).
 use Rattle.std.specs.Prelude.{ℕ, ℤ, pos, int_le, Bool, true, false, cond, not, ◌&&◌, ◌||◌, Option, Some, None, is_none}
+use Rattle.std.specs.List.{list_any}
 use Rattle.ann_base.specs.declared.identities.CallNo.{CallNo}
 use Rattle.profile_machine.specs.declared.world.lines.Line.TheVariants as line
 use Rattle.trace_text.specs.declared.events.Who.{Who}
@@ -12,21 +13,24 @@ use Rattle.profile_machine.specs.declared.world.World.{World}
 use Rattle.profile_machine.specs.declared.world.marks.Mark.{Mark}
 use Rattle.profile_machine.specs.declared.world.calls.Call.{Call}
 use Rattle.profile_machine.specs.declared.world.calls.CallKind.{CallKind}
+use Rattle.profile_machine.specs.declared.world.calls.Owner.{Owner}
+use Rattle.profile_machine.specs.declared.world.calls.Owner.TheVariants as owned_by
 use Rattle.profile_machine.specs.declared.world.calls.Sending.{Sending}
 use Rattle.profile_machine.specs.declared.world.calls.CallKind.TheVariants as call_kind
 use Rattle.profile_machine.specs.declared.world.appointments.Due.TheVariants as due_for
 use Rattle.profile_machine.specs.declared.world.calls.Outcome.TheVariants as call_ended
 use Rattle.profile_machine.specs.declared.world.tasks.Waiting.TheVariants as waits_for
 use Rattle.profile_machine.specs.declared.world.marks.Mark.TheVariants.{Abortable}
+use Rattle.profile_machine.specs.Words.{same_call}
 use Rattle.profile_machine.specs.Program.{form_of}
 use Rattle.profile_machine.specs.declared.world.lines.Part.{Part}
 use Rattle.profile_machine.specs.declared.world.lines.Part.TheVariants.{TheFinish, TheBlock}
 use Rattle.profile_machine.specs.Steps.{Step, says, changes, looks, when, nothing, ◌▷◌}
-use Rattle.profile_machine.specs.Tasks.{waiting_of}
+use Rattle.profile_machine.specs.Tasks.{task_of, waiting_of}
 use Rattle.profile_machine.specs.Dispatching.{ready, block}
 use Rattle.profile_machine.specs.Frames.{push, new_frame, has_room}
 use Rattle.profile_machine.specs.Appointments.{appoint}
-use Rattle.profile_machine.specs.Calls.{edit_call, with_call, unqueued, says_call, attempt_with}
+use Rattle.profile_machine.specs.Calls.{call_of, queue_of, place_of_entry, edit_call, with_call, unqueued, says_call, attempt_with}
 use Rattle.profile_machine.specs.CallEnds.{deliver, resume, waits_for_call, abortable_depth}
 
 -- ---- abortable parts (9.7.4)
@@ -51,16 +55,30 @@ is_not_future now (Some moment) = int_le moment (pos now)
 unfoldable pub cancel_at_once : Image → Part → Call → Step
 cancel_at_once p part c = attempt_with p part c (resume p part c call_ended.Cancelled) nothing
 
-abbrev pub appoint_timeout : CallNo → Option ℤ → World → World
-appoint_timeout c None = λ w. w
-appoint_timeout c (Some moment) = appoint (due_for.Timeout c) moment
+-- a time-out's call stands in its queue, is still served and is not firm, so it may be cancelled
+abbrev pub stands_in_queue : Image → World → Call → Bool
+stands_in_queue p w c = list_any (same_call c.number) (queue_of w c.owner (place_of_entry p c.entry))
+
+-- an object serves the calls in its queues, and so does a task that is not completed
+abbrev pub still_serves : World → Owner → Bool
+still_serves w (owned_by.Task t) = not (task_of w (who.Task t)).completed
+still_serves w (owned_by.Object o) = true
+
+abbrev pub may_time_out : Image → World → Option Call → Bool
+may_time_out p w None = false
+may_time_out p w (Some c) = stands_in_queue p w c && not c.firm && still_serves w c.owner
+
+-- another call has no time-out: of one that is not firm no source is known (own)
+abbrev pub appoint_timeout : Image → CallNo → Option ℤ → World → World
+appoint_timeout p c None w = w
+appoint_timeout p c (Some moment) w = cond (may_time_out p w (call_of w c)) (appoint (due_for.Timeout c) moment w) w
 
 unfoldable pub wait_for_call : Call → Step
 wait_for_call c = block TheBlock (who.Task c.caller) (waits_for.Call c.number)
 
 unfoldable pub wait_or_cancel : Image → Part → Call → Bool → Step
 wait_or_cancel p part c true = cancel_at_once p part c
-wait_or_cancel p part c false = changes (appoint_timeout c.number c.moment) ▷ wait_for_call c
+wait_or_cancel p part c false = changes (appoint_timeout p c.number c.moment) ▷ wait_for_call c
 
 unfoldable pub not_accepted : Image → Part → Call → CallKind → Step
 not_accepted p part c call_kind.Plain = wait_for_call c
@@ -111,12 +129,12 @@ begin_abortable p c =
     (changes (open_abortable p (who.Task d.caller) d.statement (Some d.number)) ▷ ready p TheFinish (who.Task d.caller))))
 
 -- queued on: a timed call has its time-out again for its first moment
-abbrev pub timeout_again : Call → World → World
-timeout_again c = cond c.firm (λ w. w) (appoint_timeout c.number c.moment)
+abbrev pub timeout_again : Image → Call → World → World
+timeout_again p c = cond c.firm (λ w. w) (appoint_timeout p c.number c.moment)
 
 unfoldable pub sent_not_begun_by : Image → Call → Bool → Step
 sent_not_begun_by p c true = cancel_sent p c
-sent_not_begun_by p c false = changes (timeout_again c) ▷ begin_abortable p c.number
+sent_not_begun_by p c false = changes (timeout_again p c) ▷ begin_abortable p c.number
 
 unfoldable pub sent_not_begun : Image → CallNo → Step
 sent_not_begun p c = with_call c (λ d. looks (λ w. sent_not_begun_by p d (is_to_be_cancelled w.time d)))

@@ -1,5 +1,5 @@
 -- Simple and compound statements (clauses 5, 6.5, 9.6, 11.3, A.10.7).
-use Rattle.std.specs.Prelude.{ℕ, suc, ◌+◌, ◌-◌, ℤ, pos, negsuc, ◌+ℤ◌, int_lt, Bool, true, false, cond, not, ◌&&◌, List, [], ◌∷◌, ◌++◌, Option, Some, None, Ok, Err, take, drop, slice_set}
+use Rattle.std.specs.Prelude.{ℕ, ◌+◌, ◌-◌, ℤ, pos, negsuc, ◌+ℤ◌, int_lt, Bool, true, false, cond, not, ◌&&◌, List, [], ◌∷◌, ◌++◌, Option, Some, None, Ok, Err, take, drop}
 use Rattle.ann_base.specs.declared.exceptions.Raised.{Raised}
 use Rattle.ann_base.specs.declared.exceptions.Raised.TheVariants as exception
 use Rattle.profile_machine.specs.declared.world.lines.Line.TheVariants as line
@@ -35,7 +35,7 @@ use Rattle.profile_machine.specs.declared.world.lines.Part.TheVariants.{Own, The
 use Rattle.profile_machine.specs.Steps.{Step, says, changes, looks, nothing, ◌▷◌}
 use Rattle.profile_machine.specs.Dispatching.{block, to_tail}
 use Rattle.profile_machine.specs.Frames.{frames_of, goes, raises, given, raise_if, with_room, exit_loop, in_protected}
-use Rattle.profile_machine.specs.Scopes.{home, write_cell, edit_cells, cells_of, scope_in_use, open_scope, plainly, innermost}
+use Rattle.profile_machine.specs.Scopes.{home, write_cell, edit_cells, put_cells, cells_of, scope_in_use, open_scope, plainly, innermost}
 use Rattle.profile_machine.specs.Operators.{Valued, ◌>>=◌, same_value, is_less, held_moment, text_of_whole, text_of_truth, text_of_literal}
 use Rattle.profile_machine.specs.Values.{Seen, seen_by, value, variable, condition, moment, object_cell, home_of, or_misfit, read}
 use Rattle.profile_machine.specs.Appointments.{appoint}
@@ -62,11 +62,6 @@ assign p name s target e =
 -- the cells of a whole array
 abbrev pub cells_from : World → Variable → ℕ → List Value
 cells_from w v count = take count (drop v.place (cells_of (scope_in_use w v.within)))
-
--- the cells from this place on get these values
-abbrev pub put_cells : ℕ → List Value → List Value → List Value
-put_cells place [] cells = cells
-put_cells place (v ∷ vs) cells = put_cells (suc place) vs (slice_set cells place v)
 
 abbrev pub copy_cells : Image → Variable → Variable → World → World
 copy_cells p target source w =

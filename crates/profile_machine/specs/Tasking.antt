@@ -40,7 +40,7 @@ use Rattle.profile_machine.specs.Program.{declaration_of, next_of, scope_of, tas
 use Rattle.profile_machine.specs.declared.world.lines.Part.{Part}
 use Rattle.profile_machine.specs.declared.world.lines.Part.TheVariants.{Own, OfOther, ThePlacing, TheBlock}
 use Rattle.profile_machine.specs.Steps.{Step, says, changes, looks, when, nothing, for_some, for_each, ◌▷◌}
-use Rattle.profile_machine.specs.Tasks.{task_of, edit_task, new_task, is_made, waiting_of}
+use Rattle.profile_machine.specs.Tasks.{task_of, edit_task, new_task, is_made, is_runnable, waiting_of}
 use Rattle.profile_machine.specs.Dispatching.{active_of, ready, block, to_head, says_block}
 use Rattle.profile_machine.specs.Frames.{frames_of, edit_top, pop, goes, raises, given, raise_if, has_room, pass_on, in_protected, is_deferred}
 use Rattle.profile_machine.specs.Scopes.{home, open_scope, plainly, end_scope, cells_of, scope_in_use}
@@ -48,7 +48,7 @@ use Rattle.profile_machine.specs.Operators.{Valued, ◌>>=◌, held_moment}
 use Rattle.profile_machine.specs.Values.{Seen, moment, thing, task_in}
 use Rattle.profile_machine.specs.Inheritance.{inherit, falls}
 use Rattle.profile_machine.specs.Unwinding.{strike_outermost, unwind, any_struck}
-use Rattle.profile_machine.specs.Masters.{part_of, region_of_mark, depends_on_task, has_dependents, complete, terminate, end_activation, may_terminate, leave_by_terminate, waits_at_terminate, has_activating}
+use Rattle.profile_machine.specs.Masters.{region_of_mark, depends_on_task, has_dependents, complete, terminate, end_activation, may_terminate, leave_by_terminate, waits_at_terminate, has_activating}
 use Rattle.profile_machine.specs.Controlled.{top_region, region_or_none, next_to_finalize, finalize, edit_top_scope}
 use Rattle.profile_machine.specs.Declarations.{set_thing, no_calls}
 use Rattle.profile_machine.specs.Subprograms.{end_subprogram}
@@ -329,8 +329,13 @@ unfoldable pub abort_one : Image → Who → world.Task → Step
 abort_one p actor t =
     says_abort actor t.who ▷ cond (is_made t) (end_made p actor t) (changes (strike_outermost t.who))
 
+-- who acts is unwound where it is ready; where it has blocked in this effect it waits on, and a later effect unwinds it
+unfoldable pub unwind_by : Image → Who → Bool → Step
+unwind_by p name false = unwind p (OfOther name) name
+unwind_by p name true = looks (λ w. when (is_runnable (task_of w name)) (unwind p Own name))
+
 unfoldable pub unwind_one : Image → Who → world.Task → Step
-unwind_one p actor t = unwind p (part_of actor t.who) t.who
+unwind_one p actor t = unwind_by p t.who (same_who actor t.who)
 
 unfoldable pub abort_all : Image → Who → List world.Task → Step
 abort_all p actor tasks =

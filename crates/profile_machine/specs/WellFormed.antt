@@ -25,17 +25,18 @@ use Rattle.profile_machine.specs.declared.world.appointments.Due.TheVariants as 
 use Rattle.profile_machine.specs.declared.world.calls.Owner.TheVariants as owned_by
 use Rattle.profile_machine.specs.declared.world.tasks.Waiting.TheVariants as waits_for
 use Rattle.profile_machine.specs.declared.world.marks.Mark.TheVariants.{Scope, Handled, InProtected, InAccept, Abortable, InInitialize, InFinalize, InAssign}
-use Rattle.profile_machine.specs.Words.{same_who, same_call, same_object, same_moment, same_option, has, is_empty}
+use Rattle.profile_machine.specs.Words.{same_who, same_object, same_moment, same_option, is_empty}
 use Rattle.profile_machine.specs.Program.{form_of, scope_of, opens_handled}
 use Rattle.profile_machine.specs.Steps.{is_above}
 use Rattle.profile_machine.specs.Tasks.{task_of, is_runnable, waiting_of}
 use Rattle.profile_machine.specs.Dispatching.{active, deadline_shown}
 use Rattle.profile_machine.specs.Frames.{frames_of, onward_of}
 use Rattle.profile_machine.specs.Scopes.{id_in, scope_in_use}
-use Rattle.profile_machine.specs.Calls.{call_of, queue_of, place_of_entry}
+use Rattle.profile_machine.specs.Calls.{call_of, place_of_entry}
 use Rattle.profile_machine.specs.Priorities.{is_queued}
 use Rattle.profile_machine.specs.Controlled.{registered_object}
 use Rattle.profile_machine.specs.Protected.{has_open}
+use Rattle.profile_machine.specs.Sending.{may_time_out}
 use Rattle.profile_machine.specs.Instant.{instant}
 use Rattle.profile_machine.specs.Run.{opening, stop, tock}
 
@@ -186,14 +187,6 @@ waits_for_delay (Some (waits_for.Accept s)) = false
 waits_for_delay (Some (waits_for.Select accepts delay terminate)) = is_some delay
 waits_for_delay (Some (waits_for.Dependents r)) = false
 waits_for_delay (Some waits_for.Release) = false
-
--- a time-out's call stands in its queue and is not firm, so it may be cancelled
-abbrev pub stands_in_queue : Image → World → Call → Bool
-stands_in_queue p w c = has same_call (queue_of w c.owner (place_of_entry p c.entry)) c.number
-
-abbrev pub may_time_out : Image → World → Option Call → Bool
-may_time_out p w None = false
-may_time_out p w (Some c) = stands_in_queue p w c && not c.firm
 
 -- a trigger's depth names an open abortable part that a delay triggers and that has not been triggered, so one that
 -- stands there later is not struck

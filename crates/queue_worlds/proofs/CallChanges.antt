@@ -1,5 +1,5 @@
 -- Calm changes of calls, queues and appointments: calls are edited and forgotten, taken out of their queues, and time-outs are set.
-use Rattle.std.proofs.Common.{◌≡◌, ℕ, ℤ, ◌<◌, Bool, true, false, cond, not, ◌&&◌, ◌||◌, ◌⊎◌, inl, inr, eqb, List, [], ◌∷◌, Option, Some, None, refl, sym, ap, subst, ◌∙◌, arith, option_map}
+use Rattle.std.proofs.Common.{◌≡◌, ℕ, suc, ℤ, ◌<◌, Bool, true, false, cond, not, ◌&&◌, ◌||◌, ◌⊎◌, inl, inr, eqb, List, [], ◌∷◌, Option, Some, None, refl, sym, ap, subst, ◌∙◌, arith, option_map}
 use Rattle.std.specs.Prelude.{find, is_some, is_none, int_lt}
 use Rattle.std.specs.List.{list_any}
 use Rattle.std.proofs.lemmas.Bool.{and_parts, eqb-true, eq-eqb, true≢false}
@@ -17,19 +17,20 @@ use Rattle.profile_machine.specs.declared.world.calls.Owner.TheVariants as owned
 use Rattle.profile_machine.specs.declared.world.objects.Object.{Object}
 use Rattle.profile_machine.specs.declared.world.tasks.Task.{Task}
 use Rattle.profile_machine.specs.Words.{same_call, has, without, edit_where, edit_found, set_where, edit_at}
-use Rattle.profile_machine.specs.Tasks.{task_of}
+use Rattle.profile_machine.specs.Tasks.{task_at, task_of, edit_task}
 use Rattle.profile_machine.specs.Appointments.{is_appointed, is_timeout_of, is_trigger_of, put_appointment, appoint, drop_appointment}
 use Rattle.profile_machine.specs.Values.{is_object, queue_at, queues_of}
-use Rattle.profile_machine.specs.Calls.{is_call, call_of, edit_call, forget_call, queue_of, edit_queue, place_of_entry, take_call, unqueued}
+use Rattle.profile_machine.specs.Calls.{is_call, call_of, edit_call, edit_object, forget_call, queue_of, edit_queue, place_of_entry, take_call, unqueued}
 use Rattle.profile_machine.specs.Priorities.{is_queued}
 use Rattle.profile_machine.specs.WellFormed.{same_owner}
+use Rattle.machine_laws.proofs.ListLemmas.{Falls-edit_where}
 use Rattle.queue_worlds.proofs.NumberedLists as numbered
 use Rattle.queue_worlds.proofs.TaskEdits as tasks
-use Rattle.queue_worlds.proofs.CallLists.{call_number, gone-at, same-call, taken-at}
-use Rattle.queue_worlds.proofs.Calming.{Softens, calm-from, came-same, edit_object-calm, edit_task-calm, softens-same, task_of-same}
+use Rattle.queue_worlds.proofs.CallLists.{call_number, gone-at, left-at, same-call, taken-at}
+use Rattle.queue_worlds.proofs.Calming.{Softens, StandsAt, appointed-same, calm-from, came-same, edit_task-calls, edit_task-drawn, edit_task-fall, edit_task-objects, found-appointments, named-edited, softens-same, task-edited, task_of-same, there-same, unfirm-same}
 use Rattle.queue_worlds.proofs.NumberedLists.{by, edited-same, left-found, other-found}
 use Rattle.queue_worlds.proofs.Softening.{softens-plain}
-use Rattle.queue_worlds.proofs.Standing.{Calm, Came, Good, Idle, Kind, Out, Stands, Waited, any_kind, calm-then, object_key, served}
+use Rattle.queue_worlds.proofs.Standing.{Awaited, Calm, Came, GoodBut, Idle, Kind, Open, Out, Stands, Unfirm, Waited, any_kind, none_late, object_key, served}
 use Rattle.queue_worlds.proofs.TaskEdits.{edited_to}
 
 by_test : {P : Type 0} (b : Bool) → (b ≡ true → P) → (b ≡ false → P) → P
@@ -85,11 +86,13 @@ served-calls w ds who.Agent c = refl
 pub idle-calls : (w : World) (ds : List Call) (c : CallNo) → Idle c w → Idle c (record w { calls = ds })
 idle-calls w ds c idle a = served-calls w ds a c ∙ idle a
 
-calls-calm : {E : Kind} (w : World) (ds : List Call) → ((c : CallNo) (y : Call) → find (is_call c) ds ≡ Some y → Came E w (record w { calls = ds }) c y) → ((c : CallNo) → ((o : Owner) × (k : ℕ) × Stands w o k c) ⊎ (E.stay c ≡ true) → is_some (call_of w c) ≡ true → is_some (find (is_call c) ds) ≡ true) → Calm E w (record w { calls = ds })
-calls-calm {E = E} w ds came there =
+calls-calm : {E : Kind} (w : World) (ds : List Call) → ((c : CallNo) (y : Call) → find (is_call c) ds ≡ Some y → Came E w (record w { calls = ds }) c y) → ((c : CallNo) → ((o : Owner) × (k : ℕ) × Stands w o k c) ⊎ (E.stay c ≡ true) → is_some (call_of w c) ≡ true → is_some (find (is_call c) ds) ≡ true)
+    → ((o : Owner) (k : ℕ) (c : CallNo) → Stands w o k c → Unfirm c w → Unfirm c (record w { calls = ds })) → Calm E w (record w { calls = ds })
+calls-calm {E = E} w ds came there unfirm =
     let v = record w { calls = ds } in
-    calm-from w v (λ me. subst (Softens _ me w (task_of w me)) (sym (task_of-same w v refl refl me)) (softens-same me w (task_of w me))) (λ o k c h. h) refl refl (λ h. h) (λ h. h)
-    came (λ c h e. there c (at-before c h) e) (λ c h. inl h) (λ t depth h. inl h) where
+    calm-from w v (λ me. subst (Softens _ none_late me w (task_of w me)) (sym (task_of-same w v refl refl me)) (softens-same me w (task_of w me))) (λ o k c h. h) refl refl (λ h. h) (λ h. h)
+    came (λ c h e. there c (at-before c h) e) (λ c h. inl h) (λ t depth h. inl h)
+    record { gone = λ c is h. true≢false (sym is); objects = λ fall o k c h. inl h; unfirm = unfirm; set = λ c h. inl h } where
       at-before : (c : CallNo) → ((o : Owner) × (k : ℕ) × Stands (record w { calls = ds }) o k c) ⊎ (E.stay c ≡ true) → ((o : Owner) × (k : ℕ) × Stands w o k c) ⊎ (E.stay c ≡ true)
       at-before c (inl h) = inl (h.0, h.1, stands-calls w ds h.0 h.1 c h.2)
       at-before c (inr h) = inr h
@@ -98,6 +101,7 @@ calls-calm {E = E} w ds came there =
 -- not served
 pub record Edits (E : Kind) (w : World) (c : CallNo) (x y : Call) : Type 0 where
   pub directed : ((y.owner ≡ x.owner) × (y.entry ≡ x.entry)) ⊎ Out c w
+  pub firm : (y.firm ≡ x.firm) ⊎ Out c w
   pub caller : y.caller ≡ x.caller
   pub outcome : is_none x.outcome ≡ false → is_none y.outcome ≡ false
   pub steady : ((y.begun ≡ x.begun) × (y.outcome ≡ x.outcome)) ⊎ ((E.may c ≡ true) × Out c w × Idle c w)
@@ -164,8 +168,20 @@ module _ {E : Kind} (c : CallNo) (f : Call → Call) (w : World) (number : (d : 
       subst (λ n. is_some (call_of (edit_call c f w) n) ≡ true) (sym one) (subst (λ found. is_some found ≡ true) (sym (edited_call-same c f w number)) (some-found (call_of w c) f (subst (λ n. is_some (call_of w n) ≡ true) one h))))
       (λ apart. subst (λ found. is_some found ≡ true) (sym (edited_call-other x c f w number apart)) h)
 
+  edited-firm : (o : Owner) (k : ℕ) (x : Call) → Stands w o k c → ((f x).firm ≡ x.firm) ⊎ Out c w → x.firm ≡ false → (f x).firm ≡ false
+  edited-firm o k x h (inl same) e = same ∙ e
+  edited-firm o k x h (inr out) e = absurd (out o k h)
+
+  edited-unfirm : (o : Owner) (k : ℕ) (x : CallNo) → Stands w o k x → Unfirm x w → Unfirm x (edit_call c f w)
+  edited-unfirm o k x h unfirm d e =
+      by_test (same_call x c)
+      (λ is. let one : x ≡ c = same-call x c is in
+      let was = mapped-some (call_of w c) f d (sym (edited_call-same c f w number) ∙ subst (λ n. call_of (edit_call c f w) n ≡ Some d) one e) in
+      subst (λ (y : Call). y.firm ≡ false) was.2 (edited-firm o k was.0 (subst (λ n. Stands w o k n) one h) (edits was.0).firm (unfirm was.0 (subst (λ n. call_of w n ≡ Some was.0) (sym one) was.1))))
+      (λ apart. unfirm d (sym (edited_call-other x c f w number apart) ∙ e))
+
   pub edit_call-calm : Calm E w (edit_call c f w)
-  edit_call-calm = calls-calm w (edit_where (is_call c) f w.calls) came-call (λ x h e. still-there x e)
+  edit_call-calm = calls-calm w (edit_where (is_call c) f w.calls) came-call (λ x h e. still-there x e) edited-unfirm
 
 -- ---- a call is forgotten that stands in no queue
 
@@ -186,7 +202,8 @@ forget_call-calm {E = E} c w free out =
     calls-calm w (without (is_call c) w.calls) (λ x y e. forgot-came c w x y e)
     (λ x h e. by_test (same_call x c)
     (λ is. absurd (not-here x (same-call x c is) h))
-    (λ apart. subst (λ found. is_some found ≡ true) (sym (numbered.other-found call_number x.0 c.0 w.calls apart)) e)) where
+    (λ apart. subst (λ found. is_some found ≡ true) (sym (numbered.other-found call_number x.0 c.0 w.calls apart)) e))
+    (λ o k x h unfirm d e. unfirm d (numbered.left-found call_number x.0 c.0 w.calls d e)) where
       not-here : (x : CallNo) → x ≡ c → ((o : Owner) × (k : ℕ) × Stands w o k x) ⊎ (E.stay x ≡ true) → ⊥
       not-here x one (inl h) = out h.0 h.1 (subst (λ n. Stands w h.0 h.1 n) one h.2)
       not-here x one (inr h) = true≢false (sym h ∙ subst (λ n. E.stay n ≡ false) (sym one) free)
@@ -233,19 +250,27 @@ none-appointed out (z ∷ zs) = none-step_of out (out z) z (without out zs) refl
 pub dropped-none : (out : Due → Bool) (w : World) → is_appointed out (drop_appointment out w) ≡ false
 dropped-none out w = none-appointed (λ a. out a.due) w.appointments
 
-appointments-calm : {E : Kind} (w : World) (xs : List Appointment) → ((c : CallNo) → list_any (λ a. is_timeout_of c a.due) xs ≡ true → (is_appointed (is_timeout_of c) w ≡ true) ⊎ Idle c w) → ((t : TaskNo) (depth : ℕ) → list_any (λ a. is_trigger_of t depth a.due) xs ≡ true → (is_appointed (is_trigger_of t depth) w ≡ true) ⊎ ((t.0 < w.drawn.tasks) × Waited t depth w))
+appointments-calm : {E : Kind} (w : World) (xs : List Appointment) → ((c : CallNo) → list_any (λ a. is_timeout_of c a.due) xs ≡ true → (is_appointed (is_timeout_of c) w ≡ true) ⊎ (Idle c w × Awaited c w)) → ((t : TaskNo) (depth : ℕ) → list_any (λ a. is_trigger_of t depth a.due) xs ≡ true → (is_appointed (is_trigger_of t depth) w ≡ true) ⊎ ((t.0 < w.drawn.tasks) × Waited t depth w))
     → Calm E w (record w { appointments = xs })
 appointments-calm w xs timed set =
     let v = record w { appointments = xs } in
-    calm-from w v (λ me. subst (Softens _ me w (task_of w me)) (sym (task_of-same w v refl refl me)) (softens-same me w (task_of w me))) (λ o k c h. h) refl refl (λ h. h) (λ h. h)
-    (λ c y e. came-same w v c y refl e) (λ c h e. e) (λ c h. idle_or c (timed c h)) set where
+    calm-from w v (λ me. subst (Softens _ none_late me w (task_of w me)) (sym (task_of-same w v refl refl me)) (softens-same me w (task_of w me))) (λ o k c h. h) refl refl (λ h. h) (λ h. h)
+    (λ c y e. came-same w v c y refl e) (λ c h e. e) (λ c h. idle_or c (timed c h)) set
+    record { gone = λ c is h. true≢false (sym is); objects = λ fall o k c h. inl h; unfirm = λ o k c h. unfirm-same w v c refl; set = λ c h. awaited_or c (timed c h) } where
       same_served : (a : Who) (c : CallNo) → served c (record w { appointments = xs }) a ≡ served c w a
       same_served (who.Task t) c = refl
       same_served who.Agent c = refl
 
-      idle_or : (c : CallNo) → (is_appointed (is_timeout_of c) w ≡ true) ⊎ Idle c w → (is_appointed (is_timeout_of c) w ≡ true) ⊎ Idle c (record w { appointments = xs })
+      idle_or : (c : CallNo) → (is_appointed (is_timeout_of c) w ≡ true) ⊎ (Idle c w × Awaited c w) → (is_appointed (is_timeout_of c) w ≡ true) ⊎ Idle c (record w { appointments = xs })
       idle_or c (inl h) = inl h
-      idle_or c (inr idle) = inr (λ a. same_served a c ∙ idle a)
+      idle_or c (inr new) = inr (λ a. same_served a c ∙ new.0 a)
+
+      awaited_or : (c : CallNo) → (is_appointed (is_timeout_of c) w ≡ true) ⊎ (Idle c w × Awaited c w) → (is_appointed (is_timeout_of c) w ≡ true) ⊎ Awaited c (record w { appointments = xs })
+      awaited_or c (inl h) = inl h
+      awaited_or c (inr new) = inr (by_owner new.1.owner new.1.place new.1.stands new.1.opens new.1.unfirm) where
+        by_owner : (o : Owner) (k : ℕ) → Stands w o k c → Open w o → Unfirm c w → Awaited c (record w { appointments = xs })
+        by_owner (owned_by.Task n) k here open_ unfirm = record { owner = owned_by.Task n; place = k; stands = here; opens = open_; unfirm = unfirm }
+        by_owner (owned_by.Object o) k here open_ unfirm = record { owner = owned_by.Object o; place = k; stands = here; opens = tt; unfirm = unfirm }
 
 pub drop_appointment-calm : {E : Kind} (out : Due → Bool) (w : World) → Calm E w (drop_appointment out w)
 drop_appointment-calm out w = appointments-calm w (without (λ a. out a.due) w.appointments) (λ c h. inl (dropped-appointed (is_timeout_of c) out w h)) (λ t depth h. inl (dropped-appointed (is_trigger_of t depth) out w h))
@@ -283,27 +308,60 @@ either : {A B C : Type 0} → A ⊎ B → (A → C) → (B → C) → C
 either (inl a) f g = f a
 either (inr b) f g = g b
 
--- a time-out is set of a call that nobody serves, and a trigger for who waits for it
-pub appoint-calm : {E : Kind} (due : Due) (moment : ℤ) (w : World) → ((c : CallNo) → is_timeout_of c due ≡ true → Idle c w) → ((t : TaskNo) (depth : ℕ) → is_trigger_of t depth due ≡ true → (t.0 < w.drawn.tasks) × Waited t depth w) → Calm E w (appoint due moment w)
+-- a time-out is set of a call that nobody serves and that may time out, and a trigger for who waits for it
+pub appoint-calm : {E : Kind} (due : Due) (moment : ℤ) (w : World) → ((c : CallNo) → is_timeout_of c due ≡ true → Idle c w × Awaited c w) → ((t : TaskNo) (depth : ℕ) → is_trigger_of t depth due ≡ true → (t.0 < w.drawn.tasks) × Waited t depth w) → Calm E w (appoint due moment w)
 appoint-calm due moment w timed set =
     let new : Appointment = record { due = due; moment = moment } in
     appointments-calm w (put_appointment new w.appointments)
     (λ c h. either (put-any (λ a. is_timeout_of c a.due) new w.appointments h) (λ e. inr (timed c e)) inl)
     (λ t depth h. either (put-any (λ a. is_trigger_of t depth a.due) new w.appointments h) (λ e. inr (set t depth e)) inl)
 
--- ---- a call is taken out of a queue
+-- ---- a call is taken out of a queue, and its time-out is dropped
 
-pub take-calm : {E : Kind} (owner : Owner) (place : ℕ) (c : CallNo) (w : World) → Calm E w (edit_queue owner place (take_call c) w)
-take-calm (owned_by.Task t) place c w =
+dropped-same : (out : CallNo) (w : World) (x : CallNo) → same_call out x ≡ true → is_appointed (is_timeout_of x) (drop_appointment (is_timeout_of out) w) ≡ true → ⊥
+dropped-same out w x is h = true≢false (sym (subst (λ n. is_appointed (is_timeout_of n) (drop_appointment (is_timeout_of out) w) ≡ true) (sym (same-call out x is)) h) ∙ dropped-none (is_timeout_of out) w)
+
+taken-calm : {E : Kind} (owner : Owner) (place : ℕ) (c : CallNo) (w : World) → Calm E w (drop_appointment (is_timeout_of c) (edit_queue owner place (take_call c) w))
+taken-calm {E = E} (owned_by.Task t) place c w =
     let name = who.Task t in
     let f : Task → Task = λ u. record u { queues = edit_at place (take_call c) u.queues } in
-    edit_task-calm name f w (λ u. refl) (softens-plain name w (task_of w name) (f (task_of w name)) refl refl refl (λ k x h. taken-at (task_of w name).queues place k c x h))
-take-calm (owned_by.Object o) place c w = edit_object-calm o (λ u. record u { queues = edit_at place (take_call c) u.queues }) w (λ u. refl) (λ u k x h. taken-at u.queues place k c x h)
+    let taken = edit_task name f w in
+    let v = drop_appointment (is_timeout_of c) taken in
+    let appointments = found-appointments name f w (task_at w name) in
+    let soft : Softens E (same_call c) name w (task_of w name) (f (task_of w name)) = softens-plain name w (task_of w name) (f (task_of w name)) refl refl refl (λ k x h. taken-at (task_of w name).queues place k c x h) (λ k x h. left-at (task_of w name).queues place k c x h) refl in
+    calm-from w v (λ me. subst (Softens E (same_call c) me w (task_of w me)) (sym (task_of-same taken v refl refl me)) (task-edited name f w (λ u. refl) (λ one x y. Softens E (same_call c) one w x y) (λ one. softens-same one w (task_of w one)) soft me))
+    (λ o k x h. subst (λ xs. StandsAt xs o k x) (edit_task-objects name f w) h)
+    (ap (λ d. d.calls) (edit_task-drawn name f w)) (ap (λ d. d.tasks) (edit_task-drawn name f w)) (λ h. edit_task-fall name f w (λ u. refl) h) (λ h. named-edited name f w (task_at w name) refl (λ u. refl) h)
+    (λ x y e. came-same w v x y (edit_task-calls name f w) e) (λ x h e. there-same w v x (edit_task-calls name f w) e)
+    (λ x h. inl (appointed-same (is_timeout_of x) w taken appointments (dropped-appointed (is_timeout_of x) (is_timeout_of c) taken h)))
+    (λ n depth h. inl (appointed-same (is_trigger_of n depth) w taken appointments (dropped-appointed (is_trigger_of n depth) (is_timeout_of c) taken h)))
+    record {
+      gone = λ x is h. dropped-same c taken x is h;
+      objects = λ fall o k x h. inl (subst (λ xs. StandsAt xs o k x) (sym (edit_task-objects name f w)) h);
+      unfirm = λ o k x h. unfirm-same w v x (edit_task-calls name f w);
+      set = λ x h. inl (appointed-same (is_timeout_of x) w taken appointments (dropped-appointed (is_timeout_of x) (is_timeout_of c) taken h));
+    }
+taken-calm {E = E} (owned_by.Object q) place c w =
+    let f : Object → Object = λ u. record u { queues = edit_at place (take_call c) u.queues } in
+    let taken = edit_object q f w in
+    let v = drop_appointment (is_timeout_of c) taken in
+    calm-from w v (λ me. subst (Softens E (same_call c) me w (task_of w me)) (sym (task_of-same w v refl refl me)) (softens-same me w (task_of w me)))
+    (λ o k x h. numbered.edited object_key o.0 q.0 f (λ u. refl) (λ y. has same_call (queue_at (queues_of y) k) x ≡ true → StandsAt w.objects o k x) w.objects (λ e. e)
+    (λ u is e. subst (λ y. has same_call (queue_at (queues_of y) k) x ≡ true) (sym is) (taken-at u.queues place k c x e)) h)
+    refl refl (λ h. (Falls-edit_where object_key (is_object q) f (λ u. refl) (suc w.drawn.objects) w.objects h.0, h.1)) (λ h. h)
+    (λ x y e. came-same w v x y refl e) (λ x h e. e)
+    (λ x h. inl (dropped-appointed (is_timeout_of x) (is_timeout_of c) taken h))
+    (λ n depth h. inl (dropped-appointed (is_trigger_of n depth) (is_timeout_of c) taken h))
+    record {
+      gone = λ x is h. dropped-same c taken x is h;
+      objects = λ fall o k x h. numbered.edited object_key o.0 q.0 f (λ u. refl) (λ y. (has same_call (queue_at (queues_of y) k) x ≡ true) ⊎ (same_call c x ≡ true)) w.objects (inl h)
+          (λ u is. left-at u.queues place k c x (subst (λ y. has same_call (queue_at (queues_of y) k) x ≡ true) is h));
+      unfirm = λ o k x h. unfirm-same w v x refl;
+      set = λ x h. inl (dropped-appointed (is_timeout_of x) (is_timeout_of c) taken h);
+    }
 
 pub unqueued-calm : {E : Kind} (p : Image) (c : Call) (w : World) → Calm E w (unqueued p c w)
-unqueued-calm p c w =
-    let taken = edit_queue c.owner (place_of_entry p c.entry) (take_call c.number) w in
-    calm-then w taken (unqueued p c w) (take-calm c.owner (place_of_entry p c.entry) c.number w) (drop_appointment-calm (is_timeout_of c.number) taken)
+unqueued-calm p c w = taken-calm c.owner (place_of_entry p c.entry) c.number w
 
 -- no time-out of it is set
 pub unqueued-timed : (p : Image) (c : Call) (w : World) → is_appointed (is_timeout_of c.number) (unqueued p c w) ≡ false
@@ -351,7 +409,7 @@ pub out-directed : (c : Call) (w : World) → Out c.number w → Directed c w
 out-directed c w out o k h d e = absurd (out o k h)
 
 -- where a call stands
-pub stands-where : (p : Image) (w : World) (o : Owner) (k : ℕ) (c : Call) → Good p w → Directed c w → Stands w o k c.number → (o ≡ c.owner) × (k ≡ place_of_entry p c.entry)
+pub stands-where : {late : CallNo → Bool} (p : Image) (w : World) (o : Owner) (k : ℕ) (c : Call) → GoodBut p late w → Directed c w → Stands w o k c.number → (o ≡ c.owner) × (k ≡ place_of_entry p c.entry)
 stands-where p w o k c good directed h = by_call (call_of w c.number) refl (good.there o k c.number h) where
   by_call : (found : Option Call) → call_of w c.number ≡ found → is_some found ≡ true → (o ≡ c.owner) × (k ≡ place_of_entry p c.entry)
   by_call None e f = cc
@@ -361,11 +419,11 @@ stands-where p w o k c good directed h = by_call (call_of w c.number) refl (good
       let as_said = directed o k h d e in
       (same-owner o d.owner owner ∙ as_said.0, sym (eqb-true (place_of_entry p d.entry) k parts.1) ∙ ap (place_of_entry p) as_said.1)
 
-pub unqueued-out : (p : Image) (c : Call) (w : World) → Good p w → Directed c w → Out c.number (unqueued p c w)
+pub unqueued-out : {late : CallNo → Bool} (p : Image) (c : Call) (w : World) → GoodBut p late w → Directed c w → Out c.number (unqueued p c w)
 unqueued-out p c w good directed o k h =
     let taken = edit_queue c.owner (place_of_entry p c.entry) (take_call c.number) w in
     let left = dropped-stands (is_timeout_of c.number) taken o k c.number h in
-    let before : Calm any_kind w taken = take-calm c.owner (place_of_entry p c.entry) c.number w in
-    let where_it_stands = stands-where p w o k c good directed (before.queues o k c.number left) in
+    let calm : Calm any_kind w (unqueued p c w) = unqueued-calm p c w in
+    let where_it_stands = stands-where p w o k c good directed (calm.queues o k c.number h) in
     let here : Stands taken c.owner (place_of_entry p c.entry) c.number = subst (λ q. Stands taken q (place_of_entry p c.entry) c.number) where_it_stands.0 (subst (λ n. Stands taken o n c.number) where_it_stands.1 left) in
     true≢false (sym here ∙ taken-out c.owner (place_of_entry p c.entry) c.number w)

@@ -1,7 +1,7 @@
 -- Numbers of calls, and the queues in which they stand.
-use Rattle.std.proofs.Common.{◌≡◌, ℕ, zero, suc, Bool, true, false, cond, not, ◌||◌, List, [], ◌∷◌, refl, sym, ap, subst, ◌∙◌}
+use Rattle.std.proofs.Common.{◌≡◌, ℕ, zero, suc, Bool, true, false, cond, not, ◌||◌, ◌⊎◌, inl, inr, List, [], ◌∷◌, refl, sym, ap, subst, ◌∙◌}
 use Rattle.std.specs.List.{list_any}
-use Rattle.std.proofs.lemmas.Bool.{eqb-true, eq-eqb, or_right, true≢false}
+use Rattle.std.proofs.lemmas.Bool.{eqb-true, eq-eqb, or_left, or_right, true≢false}
 use Rattle.ann_base.specs.declared.identities.CallNo.{CallNo}
 use Rattle.profile_machine.specs.declared.world.calls.Call.{Call}
 use Rattle.profile_machine.specs.Words.{edit_at, has, same_call}
@@ -44,6 +44,31 @@ has-step false x c left queue h onward = or_right (same_call x c) (has same_call
 taken-has : (out : CallNo) (queue : List CallNo) (c : CallNo) → has same_call (take_call out queue) c ≡ true → has same_call queue c ≡ true
 taken-has out [] c h = h
 taken-has out (x ∷ queue) c h = has-step (not (same_call out x)) x c (take_call out queue) queue h (taken-has out queue c)
+
+-- another stays
+left-step : (b d : Bool) (out x c : CallNo) (left : List CallNo) → same_call out x ≡ b → same_call x c ≡ d → (d ≡ false → (has same_call left c ≡ true) ⊎ (same_call out c ≡ true)) → (has same_call (cond (not b) (x ∷ left) left) c ≡ true) ⊎ (same_call out c ≡ true)
+left-step true true out x c left is here onward = inr (subst (λ n. same_call out n ≡ true) (same-call x c here) is)
+left-step true false out x c left is here onward = onward refl
+left-step false true out x c left is here onward = inl (or_left (same_call x c) (has same_call left c) here)
+left-step false false out x c left is here onward = later (onward refl) where
+  later : (has same_call left c ≡ true) ⊎ (same_call out c ≡ true) → (has same_call (x ∷ left) c ≡ true) ⊎ (same_call out c ≡ true)
+  later (inl h) = inl (or_right (same_call x c) (has same_call left c) h)
+  later (inr h) = inr h
+
+rest-has : (a b : Bool) → (a || b) ≡ true → a ≡ false → b ≡ true
+rest-has true b h e = absurd (true≢false e)
+rest-has false b h e = h
+
+pub left-has : (out : CallNo) (queue : List CallNo) (c : CallNo) → has same_call queue c ≡ true → (has same_call (take_call out queue) c ≡ true) ⊎ (same_call out c ≡ true)
+left-has out [] c h = inl h
+left-has out (x ∷ queue) c h = left-step (same_call out x) (same_call x c) out x c (take_call out queue) refl refl (λ apart. left-has out queue c (rest-has (same_call x c) (has same_call queue c) h apart))
+
+pub left-at : (queues : List (List CallNo)) (place k : ℕ) (out c : CallNo) → has same_call (queue_at queues k) c ≡ true → (has same_call (queue_at (edit_at place (take_call out) queues) k) c ≡ true) ⊎ (same_call out c ≡ true)
+left-at [] place k out c h = inl h
+left-at (queue ∷ queues) zero zero out c h = left-has out queue c h
+left-at (queue ∷ queues) zero (suc k) out c h = inl h
+left-at (queue ∷ queues) (suc place) zero out c h = inl h
+left-at (queue ∷ queues) (suc place) (suc k) out c h = left-at queues place k out c h
 
 pub taken-at : (queues : List (List CallNo)) (place k : ℕ) (out c : CallNo) → has same_call (queue_at (edit_at place (take_call out) queues) k) c ≡ true → has same_call (queue_at queues k) c ≡ true
 taken-at [] place k out c h = h

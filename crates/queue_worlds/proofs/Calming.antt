@@ -2,7 +2,7 @@
 use Rattle.std.proofs.Common.{◌≡◌, ℕ, suc, ◌≤◌, ◌<◌, Bool, true, false, cond, ◌&&◌, ◌⊎◌, inl, inr, List, [], ◌∷◌, Option, Some, None, refl, sym, ap, subst, ◌∙◌, arith}
 use Rattle.std.specs.Prelude.{find, is_some}
 use Rattle.std.specs.List.{list_all, list_any}
-use Rattle.std.proofs.lemmas.Bool.{and_parts}
+use Rattle.std.proofs.lemmas.Bool.{and_parts, true≢false}
 use Rattle.ann_base.specs.declared.identities.CallNo.{CallNo}
 use Rattle.ann_base.specs.declared.identities.ObjectNo.{ObjectNo}
 use Rattle.ann_base.specs.declared.identities.TaskNo.{TaskNo}
@@ -27,7 +27,7 @@ use Rattle.profile_machine.specs.Notation.{agent, t}
 use Rattle.profile_machine.specs.WellFormed.{number_in}
 use Rattle.machine_laws.proofs.ListLemmas.{Falls, Falls-edit_where, Rises, Rises-set_where}
 use Rattle.queue_worlds.proofs.NumberedLists.{edited}
-use Rattle.queue_worlds.proofs.Standing.{Calm, Came, Ended, Fall, Idle, Kind, Own, Stands, Waited, awaits_at, ends_by, has_own, is_ending, is_named, is_task, natures, natures_of, object_key, served_in, some_nature, task_number, top_waits, waits_end}
+use Rattle.queue_worlds.proofs.Standing.{Awaited, Calm, Came, Ended, Fall, Idle, Kind, Open, Own, Stands, Unfirm, Waited, awaits_at, ends_by, has_own, is_ending, is_named, is_task, natures, natures_of, none_late, object_key, served_in, some_nature, task_number, top_waits, waits_end}
 use Rattle.queue_worlds.proofs.TaskEdits.{edited_to, one_of, same_who-path}
 
 abbrev pub call_number : Call → ℕ
@@ -112,9 +112,12 @@ named-edited who.Agent f w (Some t) e who_is all = all
 
 -- ---- a task that becomes calmer
 
-pub record Softens (E : Kind) (me : Who) (w : World) (t u : Task) : Type 0 where
+-- some of whose calls may leave its queues
+pub record Softens (E : Kind) (late : CallNo → Bool) (me : Who) (w : World) (t u : Task) : Type 0 where
   pub named : u.who ≡ t.who
   pub queues : (k : ℕ) (c : CallNo) → has same_call (queue_at u.queues k) c ≡ true → has same_call (queue_at t.queues k) c ≡ true
+  pub stays : (k : ℕ) (c : CallNo) → has same_call (queue_at t.queues k) c ≡ true → (has same_call (queue_at u.queues k) c ≡ true) ⊎ (late c ≡ true)
+  pub completed : u.completed ≡ t.completed
   pub fewer : (c : CallNo) → served_in c (natures u.frames) ≤ served_in c (natures t.frames)
   pub owns : (c : CallNo) → some_nature (has_own c) (natures u.frames) ≡ true → (some_nature (has_own c) (natures t.frames) ≡ true) ⊎ Own me c w
   pub ended : (c : CallNo) → some_nature (ends_by c) (natures u.frames) ≡ true → (some_nature (ends_by c) (natures t.frames) ≡ true) ⊎ Ended c w
@@ -122,10 +125,12 @@ pub record Softens (E : Kind) (me : Who) (w : World) (t u : Task) : Type 0 where
   pub ends : (c : CallNo) → waiting_in u.state ≡ waits_end c → (waiting_in t.state ≡ waits_end c) × ((d : Call) → call_of w c ≡ Some d → is_ending c t.frames ≡ true → is_ending c u.frames ≡ true)
   pub tops : E.steady me ≡ true → top_waits (natures t.frames) ≡ false → top_waits (natures u.frames) ≡ false
 
-pub softens-same : {E : Kind} (me : Who) (w : World) (t : Task) → Softens E me w t t
+pub softens-same : {E : Kind} {late : CallNo → Bool} (me : Who) (w : World) (t : Task) → Softens E late me w t t
 softens-same me w t = record {
   named = refl;
   queues = λ k c h. h;
+  stays = λ k c h. inl h;
+  completed = refl;
   fewer = λ c. omega arith;
   owns = λ c h. inl h;
   ended = λ c h. inl h;
@@ -151,7 +156,28 @@ came-same w v c y same e = record {
 abbrev pub StandsAt : List Object → ObjectNo → ℕ → CallNo → Type 0
 StandsAt objects o k c = has same_call (queue_at (queues_of (find (is_object o) objects)) k) c ≡ true
 
-module _ {E : Kind} (w v : World) (soft : (me : Who) → Softens E me w (task_of w me) (task_of v me)) (objects : (o : ObjectNo) (k : ℕ) (c : CallNo) → StandsAt v.objects o k c → StandsAt w.objects o k c) where
+-- what is known of time-outs: the calls that leave their queues have none
+pub record Waits (late : CallNo → Bool) (w v : World) : Type 0 where
+  pub gone : (c : CallNo) → late c ≡ true → is_appointed (is_timeout_of c) v ≡ true → ⊥
+  pub objects : Fall w → (o : ObjectNo) (k : ℕ) (c : CallNo) → StandsAt w.objects o k c → StandsAt v.objects o k c ⊎ (late c ≡ true)
+  pub unfirm : (o : Owner) (k : ℕ) (c : CallNo) → Stands w o k c → Unfirm c w → Unfirm c v
+  pub set : (c : CallNo) → is_appointed (is_timeout_of c) v ≡ true → (is_appointed (is_timeout_of c) w ≡ true) ⊎ Awaited c v
+
+pub unfirm-same : (w v : World) (c : CallNo) → v.calls ≡ w.calls → Unfirm c w → Unfirm c v
+unfirm-same w v c same h d e = h d (ap (λ ds. find (is_call c) ds) (sym same) ∙ e)
+
+pub appointed-same : (test : Due → Bool) (w v : World) → v.appointments ≡ w.appointments → is_appointed test v ≡ true → is_appointed test w ≡ true
+appointed-same test w v same h = ap (λ ds. list_any (λ (a : Appointment). test a.due) ds) (sym same) ∙ h
+
+pub waits-same : (w v : World) → v.objects ≡ w.objects → v.calls ≡ w.calls → v.appointments ≡ w.appointments → Waits none_late w v
+waits-same w v objects calls appointments = record {
+  gone = λ c is h. true≢false (sym is);
+  objects = λ fall o k c h. inl (subst (λ xs. StandsAt xs o k c) (sym objects) h);
+  unfirm = λ o k c h. unfirm-same w v c calls;
+  set = λ c h. inl (appointed-same (is_timeout_of c) w v appointments h);
+}
+
+module _ {E : Kind} {late : CallNo → Bool} (w v : World) (soft : (me : Who) → Softens E late me w (task_of w me) (task_of v me)) (objects : (o : ObjectNo) (k : ℕ) (c : CallNo) → StandsAt v.objects o k c → StandsAt w.objects o k c) where
   stood : (o : Owner) (k : ℕ) (c : CallNo) → Stands v o k c → Stands w o k c
   stood (owned_by.Task t) k c h = (soft (who.Task t)).queues k c h
   stood (owned_by.Object o) k c h = objects o k c h
@@ -160,11 +186,37 @@ module _ {E : Kind} (w v : World) (soft : (me : Who) → Softens E me w (task_of
   waited t depth set (inl h) = inl ((soft (who.Task t)).awaits t depth refl set h)
   waited t depth set (inr h) = inr (ap is_task (soft (who.Task t)).named ∙ h)
 
+  opened : (o : Owner) (k : ℕ) (c : CallNo) → Stands v o k c → Open v o → Open w o
+  opened (owned_by.Task t) k c h open_ = sym (soft (who.Task t)).completed ∙ open_
+  opened (owned_by.Object o) k c h open_ = tt
+
+  -- a call that has its time-out stands where it stood
+  awaited : (c : CallNo) → Waits late w v → Fall w → is_appointed (is_timeout_of c) v ≡ true → Awaited c w → Awaited c v
+  awaited c waits fall h was = by_owner was.owner was.place was.stands was.opens where
+    unfirm : Unfirm c v
+    unfirm = waits.unfirm was.owner was.place c was.stands was.unfirm
+
+    in_task : (n : TaskNo) (k : ℕ) → (task_of w (who.Task n)).completed ≡ false → (has same_call (queue_at (task_of v (who.Task n)).queues k) c ≡ true) ⊎ (late c ≡ true) → Awaited c v
+    in_task n k is (inl here) = record { owner = owned_by.Task n; place = k; stands = here; opens = (soft (who.Task n)).completed ∙ is; unfirm = unfirm }
+    in_task n k is (inr out) = absurd (waits.gone c out h)
+
+    in_object : (o : ObjectNo) (k : ℕ) → StandsAt v.objects o k c ⊎ (late c ≡ true) → Awaited c v
+    in_object o k (inl here) = record { owner = owned_by.Object o; place = k; stands = here; opens = tt; unfirm = unfirm }
+    in_object o k (inr out) = absurd (waits.gone c out h)
+
+    by_owner : (o : Owner) (k : ℕ) → Stands w o k c → Open w o → Awaited c v
+    by_owner (owned_by.Task n) k here is = in_task n k is ((soft (who.Task n)).stays k c here)
+    by_owner (owned_by.Object o) k here is = in_object o k (waits.objects fall o k c here)
+
+  timeouts : (c : CallNo) → Waits late w v → Fall w → is_appointed (is_timeout_of c) v ≡ true → (is_appointed (is_timeout_of c) w ≡ true) ⊎ Awaited c v → ((is_appointed (is_timeout_of c) w ≡ true) × (Awaited c w → Awaited c v)) ⊎ Awaited c v
+  timeouts c waits fall h (inl was) = inl (was, awaited c waits fall h)
+  timeouts c waits fall h (inr awaits) = inr awaits
+
   pub calm-from : v.drawn.calls ≡ w.drawn.calls → v.drawn.tasks ≡ w.drawn.tasks → (Fall w → Fall v) → (list_all is_named w.tasks ≡ true → list_all is_named v.tasks ≡ true)
       → ((c : CallNo) (y : Call) → call_of v c ≡ Some y → Came E w v c y) → ((c : CallNo) → ((o : Owner) × (k : ℕ) × Stands v o k c) ⊎ (E.stay c ≡ true) → is_some (call_of w c) ≡ true → is_some (call_of v c) ≡ true)
       → ((c : CallNo) → is_appointed (is_timeout_of c) v ≡ true → (is_appointed (is_timeout_of c) w ≡ true) ⊎ Idle c v)
-      → ((t : TaskNo) (depth : ℕ) → is_appointed (is_trigger_of t depth) v ≡ true → (is_appointed (is_trigger_of t depth) w ≡ true) ⊎ ((t.0 < v.drawn.tasks) × Waited t depth v)) → Calm E w v
-  calm-from drawn drawn_tasks fall all_named calls there timed set = record {
+      → ((t : TaskNo) (depth : ℕ) → is_appointed (is_trigger_of t depth) v ≡ true → (is_appointed (is_trigger_of t depth) w ≡ true) ⊎ ((t.0 < v.drawn.tasks) × Waited t depth v)) → Waits late w v → Calm E w v
+  calm-from drawn drawn_tasks fall all_named calls there timed set waits = record {
     drawn = drawn;
     tasks = subst (λ n. w.drawn.tasks ≤ n) (sym drawn_tasks) (omega arith);
     queues = stood;
@@ -174,6 +226,8 @@ module _ {E : Kind} (w v : World) (soft : (me : Who) → Softens E me w (task_of
     calls = calls;
     fewer = λ a c. (soft a).fewer c;
     timed = timed;
+    timeouts = λ fall_then c h. timeouts c waits fall_then h (waits.set c h);
+    opened = opened;
     objects = fall;
     named = all_named;
     present = λ t h. inl (ap is_task (sym (soft (who.Task t)).named) ∙ h);
@@ -196,18 +250,16 @@ module _ {E : Kind} (w v : World) (soft : (me : Who) → Softens E me w (task_of
     has_ended c (inl h) = inl h
     has_ended c (inr end) = inr (subst (λ n. c.0 ≤ n) (sym drawn) end.0, λ d e. let x = calls c d e in x.outcome (end.1 x.before x.found))
 
-there-same : (w v : World) (c : CallNo) → v.calls ≡ w.calls → is_some (call_of w c) ≡ true → is_some (call_of v c) ≡ true
+pub there-same : (w v : World) (c : CallNo) → v.calls ≡ w.calls → is_some (call_of w c) ≡ true → is_some (call_of v c) ≡ true
 there-same w v c same e = ap (λ ds. is_some (find (is_call c) ds)) same ∙ e
-
-appointed-same : (test : Due → Bool) (w v : World) → v.appointments ≡ w.appointments → is_appointed test v ≡ true → is_appointed test w ≡ true
-appointed-same test w v same h = ap (λ ds. list_any (λ (a : Appointment). test a.due) ds) (sym same) ∙ h
 
 -- nothing of it is changed
 pub same-calm : {E : Kind} (w v : World) → v.tasks ≡ w.tasks → v.agent ≡ w.agent → v.objects ≡ w.objects → v.calls ≡ w.calls → v.drawn.calls ≡ w.drawn.calls → v.drawn.tasks ≡ w.drawn.tasks → v.appointments ≡ w.appointments → v.drawn.objects ≡ w.drawn.objects → Calm E w v
 same-calm {E = E} w v same_tasks agent objects calls drawn drawn_tasks appointments drawn_objects =
-    calm-from w v (λ me. subst (Softens E me w (task_of w me)) (sym (task_of-same w v same_tasks agent me)) (softens-same me w (task_of w me))) (λ o k c h. subst (λ xs. StandsAt xs o k c) objects h)
+    calm-from w v (λ me. subst (Softens E none_late me w (task_of w me)) (sym (task_of-same w v same_tasks agent me)) (softens-same me w (task_of w me))) (λ o k c h. subst (λ xs. StandsAt xs o k c) objects h)
     drawn drawn_tasks (λ h. (subst (λ n. Falls object_key (suc n) v.objects) (sym drawn_objects) (subst (λ xs. Falls object_key (suc w.drawn.objects) xs) (sym objects) h.0), subst (λ n. Rises task_number 0 n v.tasks) (sym drawn_tasks) (subst (λ ts. Rises task_number 0 w.drawn.tasks ts) (sym same_tasks) h.1))) (λ h. ap (list_all is_named) same_tasks ∙ h) (λ c y e. came-same w v c y calls e) (λ c h e. there-same w v c calls e)
     (λ c h. inl (appointed-same (is_timeout_of c) w v appointments h)) (λ t depth h. inl (appointed-same (is_trigger_of t depth) w v appointments h))
+    (waits-same w v objects calls appointments)
 
 pub found-appointments : (name : Who) (f : Task → Task) (w : World) (found : Option Task) → (edit_task_found name f w found).appointments ≡ w.appointments
 found-appointments name f w None = refl
@@ -227,20 +279,29 @@ edit_task-fall name f w who_is h =
     )
 
 -- somebody is edited
-pub edit_task-calm : {E : Kind} (name : Who) (f : Task → Task) (w : World) → ((t : Task) → (f t).who ≡ t.who) → Softens E name w (task_of w name) (f (task_of w name)) → Calm E w (edit_task name f w)
+pub edit_task-calm : {E : Kind} (name : Who) (f : Task → Task) (w : World) → ((t : Task) → (f t).who ≡ t.who) → Softens E none_late name w (task_of w name) (f (task_of w name)) → Calm E w (edit_task name f w)
 edit_task-calm {E = E} name f w who_is soft =
     let v = edit_task name f w in
-    calm-from w v (task-edited name f w who_is (λ me t u. Softens E me w t u) (λ me. softens-same me w (task_of w me)) soft) (λ o k c h. subst (λ xs. StandsAt xs o k c) (edit_task-objects name f w) h)
+    calm-from w v (task-edited name f w who_is (λ me t u. Softens E none_late me w t u) (λ me. softens-same me w (task_of w me)) soft) (λ o k c h. subst (λ xs. StandsAt xs o k c) (edit_task-objects name f w) h)
     (ap (λ d. d.calls) (edit_task-drawn name f w)) (ap (λ d. d.tasks) (edit_task-drawn name f w)) (λ h. edit_task-fall name f w who_is h) (λ h. named-edited name f w (task_at w name) refl who_is h)
     (λ c y e. came-same w v c y (edit_task-calls name f w) e) (λ c h e. there-same w v c (edit_task-calls name f w) e)
     (λ c h. inl (appointed-same (is_timeout_of c) w v (found-appointments name f w (task_at w name)) h)) (λ t depth h. inl (appointed-same (is_trigger_of t depth) w v (found-appointments name f w (task_at w name)) h))
+    (waits-same w v (edit_task-objects name f w) (edit_task-calls name f w) (found-appointments name f w (task_at w name)))
 
--- an object is edited into whose queues none comes
+-- an object is edited into whose queues none comes, and out of which none goes
 pub edit_object-calm : {E : Kind} (o : ObjectNo) (f : Object → Object) (w : World) → ((x : Object) → (f x).number ≡ x.number)
-    → ((x : Object) (k : ℕ) (c : CallNo) → has same_call (queue_at (f x).queues k) c ≡ true → has same_call (queue_at x.queues k) c ≡ true) → Calm E w (edit_object o f w)
-edit_object-calm {E = E} o f w number queues =
+    → ((x : Object) (k : ℕ) (c : CallNo) → has same_call (queue_at (f x).queues k) c ≡ true → has same_call (queue_at x.queues k) c ≡ true)
+    → ((x : Object) (k : ℕ) (c : CallNo) → has same_call (queue_at x.queues k) c ≡ true → has same_call (queue_at (f x).queues k) c ≡ true) → Calm E w (edit_object o f w)
+edit_object-calm {E = E} o f w number queues stays =
     let v = edit_object o f w in
-    calm-from w v (λ me. subst (Softens E me w (task_of w me)) (sym (task_of-same w v refl refl me)) (softens-same me w (task_of w me)))
+    calm-from w v (λ me. subst (Softens E none_late me w (task_of w me)) (sym (task_of-same w v refl refl me)) (softens-same me w (task_of w me)))
     (λ q k c h. numbered.edited object_key q.0 o.0 f (λ x. ap (λ n. n.0) (number x)) (λ y. has same_call (queue_at (queues_of y) k) c ≡ true → StandsAt w.objects q k c) w.objects (λ e. e)
     (λ x is e. subst (λ y. has same_call (queue_at (queues_of y) k) c ≡ true) (sym is) (queues x k c e)) h)
     refl refl (λ h. (Falls-edit_where object_key (is_object o) f (λ x. ap (λ n. n.0) (number x)) (suc w.drawn.objects) w.objects h.0, h.1)) (λ h. h) (λ c y e. came-same w v c y refl e) (λ c h e. e) (λ c h. inl h) (λ t depth h. inl h)
+    record {
+      gone = λ c is h. true≢false (sym is);
+      objects = λ fall q k c h. inl (numbered.edited object_key q.0 o.0 f (λ x. ap (λ n. n.0) (number x)) (λ y. has same_call (queue_at (queues_of y) k) c ≡ true) w.objects h
+          (λ x is. stays x k c (subst (λ y. has same_call (queue_at (queues_of y) k) c ≡ true) is h)));
+      unfirm = λ q k c h. unfirm-same w v c refl;
+      set = λ c h. inl h;
+    }

@@ -22,8 +22,8 @@ use Rattle.profile_machine.specs.Notation.{p, t}
 use Rattle.queue_worlds.proofs.CallLists.{same-call}
 use Rattle.queue_worlds.proofs.Calming.{StandsAt, edit_task-calls, edit_task-drawn, edit_task-fall, edit_task-objects, found-appointments, named-edited, task-edited, task_of-same}
 use Rattle.machine_laws.proofs.ListLemmas.{Falls-edit_where}
-use Rattle.queue_worlds.proofs.Serving.{Beside, Marks, Services, call-was, good-by, low-is, marks-same, queue-comes, set-was}
-use Rattle.queue_worlds.proofs.Standing.{Awake, Calm, Good, Idle, Kind, Own, Stands, awaits_at, calm-awake, calm-good, calm-owns, ends_by, has_own, natures, object_key, one_if, rightly, served, served_in, some_nature}
+use Rattle.queue_worlds.proofs.Serving.{Beside, Marks, Services, call-was, good-by, low-is, marks-same, queue-comes, set-was, awaited-on, queue-open, queue-stays}
+use Rattle.queue_worlds.proofs.Standing.{Awake, Calm, Good, Idle, Kind, Own, Stands, awaits_at, calm-awake, calm-good, calm-owns, ends_by, has_own, natures, object_key, one_if, rightly, served, served_in, some_nature, Open}
 
 -- ---- what leads on: the world behind is good, who was awake is awake, and calls are those of their callers
 
@@ -55,7 +55,7 @@ beside-next p w v beside good = record {
 
 -- ---- a call is queued
 
-queue-beside : (owner : Owner) (place : ℕ) (f : List CallNo → List CallNo) (w : World) → Beside w (edit_queue owner place f w)
+pub queue-beside : (owner : Owner) (place : ℕ) (f : List CallNo → List CallNo) (w : World) → Beside w (edit_queue owner place f w)
 queue-beside (owned_by.Task t) place f w =
     let name = who.Task t in
     let g : Task → Task = λ u. record u { queues = edit_at place f u.queues } in
@@ -91,7 +91,7 @@ queue-agent (owned_by.Task t) place f w k c h =
 queue-agent (owned_by.Object o) place f w k c h = h
 
 -- who serves in the same way keeps services
-services-same : (p : Image) (w v : World) → Good p w → Beside w v → ((me : Who) → frames_of v me ≡ frames_of w me) → Services v
+pub services-same : (p : Image) (w v : World) → Good p w → Beside w v → ((me : Who) → frames_of v me ≡ frames_of w me) → Services v
 services-same p w v good beside frames = record {
   serving = λ a c h. low-is w v beside c.0 (good.serving a c (was a c h));
   begun = λ a c d h e. good.begun a c d (was a c h) (call-was w v beside c d e);
@@ -106,8 +106,8 @@ services-same p w v good beside frames = record {
   was a c h = subst (λ n. 0 < n) (same a c) h
 
 pub queued-next : (p : Image) (owner : Owner) (place : ℕ) (f : List CallNo → List CallNo) (c : CallNo) (d : Call) (w : World) → ((q : List CallNo) (x : CallNo) → has same_call (f q) x ≡ true → (same_call c x ≡ true) ⊎ (has same_call q x ≡ true))
-    → Good p w → call_of w c ≡ Some d → rightly p owner place d ≡ true → Next p w (edit_queue owner place f w)
-queued-next p owner place f c d w comes good is right =
+    → ((q : List CallNo) (x : CallNo) → has same_call q x ≡ true → has same_call (f q) x ≡ true) → Good p w → call_of w c ≡ Some d → rightly p owner place d ≡ true → Next p w (edit_queue owner place f w)
+queued-next p owner place f c d w comes stays good is right =
     let v = edit_queue owner place f w in
     let beside = queue-beside owner place f w in
     beside-next p w v beside (good-by w v beside p good
@@ -117,7 +117,8 @@ queued-next p owner place f c d w comes good is right =
       right = λ o k x y h e. by_way_right o k x y (queue-comes owner place f c comes w o k x h) (call-was w v beside x y e);
       agent = λ k x h. good.agent k x (queue-agent owner place f w k x h);
     }
-    (services-same p w v good beside (queue-frames owner place f w))) where
+    (services-same p w v good beside (queue-frames owner place f w))
+    (awaited-on w v beside p good (queue-stays owner place f stays w) (queue-open owner place f w))) where
       by_way_low : {o : Owner} {k : ℕ} (x : CallNo) → ((same_call c x ≡ true) × (o ≡ owner) × (k ≡ place)) ⊎ Stands w o k x → x.0 ≤ (edit_queue owner place f w).drawn.calls
       by_way_low x (inl e) = low-is w (edit_queue owner place f w) (queue-beside owner place f w) x.0 (subst (λ n. n.0 ≤ w.drawn.calls) (same-call c x e.0) (good.known c d is))
       by_way_low {o = o} {k = k} x (inr h) = low-is w (edit_queue owner place f w) (queue-beside owner place f w) x.0 (good.within o k x h)
@@ -177,6 +178,14 @@ module _ (p : Image) (name : Who) (f : List Frame → List Frame) (c : CallNo) (
   serves-stands (owned_by.Task t) k x h = subst (λ qs. has same_call (queue_at qs k) x ≡ true) (serves-queues (who.Task t)) h
   serves-stands (owned_by.Object o) k x h = subst (λ xs. StandsAt xs o k x) (edit_task-objects name (λ t. with_frames (f t.frames) t) w) h
 
+  stood-serves : (o : Owner) (k : ℕ) (x : CallNo) → Stands w o k x → Stands servant o k x
+  stood-serves (owned_by.Task t) k x h = subst (λ qs. has same_call (queue_at qs k) x ≡ true) (sym (serves-queues (who.Task t))) h
+  stood-serves (owned_by.Object o) k x h = subst (λ xs. StandsAt xs o k x) (sym (edit_task-objects name (λ t. with_frames (f t.frames) t) w)) h
+
+  open-serves : (o : Owner) → Open w o → Open servant o
+  open-serves (owned_by.Task t) is = task-edited name (λ t. with_frames (f t.frames) t) w (λ t. refl) (λ m a b. b.completed ≡ a.completed) (λ m. refl) refl (who.Task t) ∙ is
+  open-serves (owned_by.Object o) is = tt
+
   -- served as before, or by this one alone
   serves-few : (x : CallNo) (a : Who) → (served x servant a ≤ served x w a) ⊎ ((a ≡ name) × (served x servant a ≤ one_if (same_call c x) + served x w a))
   serves-few x = task-edited name (λ t. with_frames (f t.frames) t) w (λ t. refl) (λ m a b. (served_in x (natures b.frames) ≤ served_in x (natures a.frames)) ⊎ ((m ≡ name) × (served_in x (natures b.frames) ≤ one_if (same_call c x) + served_in x (natures a.frames))))
@@ -233,4 +242,4 @@ module _ (p : Image) (name : Who) (f : List Frame → List Frame) (c : CallNo) (
         there = λ o k x h. ap (λ ds. is_some (find (is_call x) ds)) serves-beside.calls ∙ good.there o k x (serves-stands o k x h);
         right = λ o k x d h e. good.right o k x d (serves-stands o k x h) (call-was w servant serves-beside x d e);
         agent = λ k x h. good.agent k x (subst (λ qs. has same_call (queue_at qs k) x ≡ true) (serves-queues who.Agent) h);
-      } serves-services)
+      } serves-services (awaited-on w servant serves-beside p good stood-serves open-serves))

@@ -1,30 +1,38 @@
--- In every world that a run reaches the entry queues are right.
-use Rattle.std.proofs.Common.{◌≡◌, ℕ, suc, ◌+◌, ◌<◌, Bool, true, false, cond, ◌&&◌, eqb, ltb, List, [], ◌∷◌, Option, Some, None, refl, sym, subst, ap, ◌∙◌, arith}
+-- In every world that a run reaches the entry queues are right, and the call of each time-out may time out.
+use Rattle.std.proofs.Common.{◌≡◌, ℕ, suc, ◌+◌, ◌<◌, Bool, true, false, cond, not, ◌&&◌, ◌||◌, ◌⊎◌, inl, inr, eqb, ltb, List, [], ◌∷◌, Option, Some, None, refl, sym, subst, ap, ◌∙◌, arith}
 use Rattle.std.specs.Prelude.{find, is_some}
-use Rattle.std.specs.List.{list_all}
+use Rattle.std.specs.List.{list_all, list_any}
 use Rattle.std.proofs.lemmas.Bool.{eqb-true, eq-eqb, or_left, or_right, true≢false}
 use Rattle.ann_base.specs.declared.identities.CallNo.{CallNo}
 use Rattle.trace_text.specs.declared.events.Who.{Who}
 use Rattle.trace_text.specs.declared.events.Who.TheVariants as who
 use Rattle.profile_machine.specs.declared.image.Image.{Image}
 use Rattle.profile_machine.specs.declared.world.World.{World}
+use Rattle.profile_machine.specs.declared.world.appointments.Appointment.{Appointment}
+use Rattle.profile_machine.specs.declared.world.appointments.Due.{Due}
+use Rattle.profile_machine.specs.declared.world.appointments.Due.TheVariants as due_for
 use Rattle.profile_machine.specs.declared.world.calls.Call.{Call}
 use Rattle.profile_machine.specs.declared.world.calls.Owner.{Owner}
 use Rattle.profile_machine.specs.declared.world.calls.Owner.TheVariants as owned_by
 use Rattle.profile_machine.specs.declared.world.objects.Object.{Object}
 use Rattle.profile_machine.specs.declared.world.tasks.Task.{Task}
 use Rattle.profile_machine.specs.Words.{same_call, has}
-use Rattle.profile_machine.specs.Calls.{call_of}
+use Rattle.profile_machine.specs.Calls.{call_of, place_of_entry, queue_of}
+use Rattle.profile_machine.specs.Appointments.{is_appointed, is_timeout_of}
+use Rattle.profile_machine.specs.Sending.{may_time_out, stands_in_queue, still_serves}
 use Rattle.profile_machine.specs.Tasks.{task_of}
 use Rattle.profile_machine.specs.Values.{is_object, queue_at, queues_of}
 use Rattle.profile_machine.specs.WellFormed.{all_adjacent, is_queued_call, queue_is_right, queues_from, task_queues_are_right, queues_are_right}
 use Rattle.machine_laws.specs.NumberLaws.{calls_fall}
-use Rattle.queue_worlds.specs.QueueWorlds.{ReachedQueuesAreRight}
+use Rattle.queue_worlds.specs.QueueWorlds.{ReachedQueuesAreRight, ReachedTimeoutsAreAwaited, is_timeout_awaited}
 use Rattle.machine_laws.proofs.ListLemmas.{Falls, both}
+use Rattle.queue_worlds.proofs.CallChanges.{stands-where}
+use Rattle.queue_worlds.proofs.CallLists.{same-call}
+use Rattle.queue_worlds.proofs.Kept.CallEnds.{found-directed, found-number}
 use Rattle.queue_worlds.proofs.Kept.Run.{reached-good}
 use Rattle.queue_worlds.proofs.Listed.{AllTasks, listed-each}
 use Rattle.queue_worlds.proofs.Numbers.{calls-fall}
-use Rattle.queue_worlds.proofs.Standing.{Good, Stands, is_named, is_task, object_key}
+use Rattle.queue_worlds.proofs.Standing.{Awaited, Good, Open, Stands, is_named, is_task, none_late, object_key}
 
 -- ---- a queue in which each call stands rightly
 
@@ -41,7 +49,7 @@ each-right p w o k (c ∷ cs) good stands =
     (each-right p w o k cs good (λ x h. stands x (or_right (same_call c x) (has same_call cs x) h)))
 
 -- those of an owner, from a place on
-all-from : (p : Image) (w : World) (o : Owner) (place : ℕ) (queues : List (List CallNo)) → Good p w → ((k : ℕ) (c : CallNo) → has same_call (queue_at queues k) c ≡ true → Stands w o (place + k) c) → queues_from p w o place queues ≡ true
+pub all-from : (p : Image) (w : World) (o : Owner) (place : ℕ) (queues : List (List CallNo)) → Good p w → ((k : ℕ) (c : CallNo) → has same_call (queue_at queues k) c ≡ true → Stands w o (place + k) c) → queues_from p w o place queues ≡ true
 all-from p w o place [] good stands = refl
 all-from p w o place (queue ∷ queues) good stands =
     both (queue_is_right p w o place queue) (queues_from p w o (suc place) queues)
@@ -107,3 +115,46 @@ good-right p w good fall =
 
 pub reached_queues_are_right : ReachedQueuesAreRight
 reached_queues_are_right p script bound w reached = good-right p w (reached-good p script bound w reached) (calls-fall p script bound w reached)
+
+-- ---- time-outs
+
+has-any : (c : CallNo) (queue : List CallNo) → has same_call queue c ≡ true → list_any (same_call c) queue ≡ true
+has-any c [] h = h
+has-any c (x ∷ xs) h = step (same_call x c) refl h (has-any c xs) where
+  step : (b : Bool) → same_call x c ≡ b → (b || has same_call xs c) ≡ true → (has same_call xs c ≡ true → list_any (same_call c) xs ≡ true) → (same_call c x || list_any (same_call c) xs) ≡ true
+  step true is k onward = or_left (same_call c x) (list_any (same_call c) xs) (subst (λ n. same_call c n ≡ true) (sym (same-call x c is)) (eq-eqb c.0 c.0 refl))
+  step false is k onward = or_right (same_call c x) (list_any (same_call c) xs) (onward k)
+
+open-serves : (w : World) (o : Owner) → Open w o → still_serves w o ≡ true
+open-serves w (owned_by.Task t) is = ap not is
+open-serves w (owned_by.Object o) is = refl
+
+awaited-may : (p : Image) (w : World) (c : CallNo) → Good p w → Awaited c w → (found : Option Call) → call_of w c ≡ found → may_time_out p w found ≡ true
+awaited-may p w c good a None e = absurd (true≢false (sym (good.there a.owner a.place c a.stands) ∙ ap is_some e))
+awaited-may p w c good a (Some d) e =
+    let number = found-number c w d e in
+    let place = stands-where p w a.owner a.place d good (found-directed d.number w d (subst (λ n. call_of w n ≡ Some d) (sym number) e)) (subst (λ n. Stands w a.owner a.place n) (sym number) a.stands) in
+    let queue = queue_of w d.owner (place_of_entry p d.entry) in
+    let here : has same_call queue c ≡ true = subst (λ o. Stands w o (place_of_entry p d.entry) c) place.0 (subst (λ k. Stands w a.owner k c) place.1 a.stands) in
+    both (stands_in_queue p w d && not d.firm) (still_serves w d.owner)
+    (both (stands_in_queue p w d) (not d.firm) (subst (λ n. list_any (same_call n) queue ≡ true) (sym number) (has-any c queue here)) (ap not (a.unfirm d e)))
+    (open-serves w d.owner (subst (Open w) place.0 a.opens))
+
+due-awaited : (p : Image) (w : World) (due : Due) → Good p w → ((c : CallNo) → is_timeout_of c due ≡ true → is_appointed (is_timeout_of c) w ≡ true) → is_timeout_awaited p w due ≡ true
+due-awaited p w (due_for.Event n h) good set = refl
+due-awaited p w (due_for.Delay t) good set = refl
+due-awaited p w (due_for.Timeout c) good set = by_way (good.awaited c (set c (eq-eqb c.0 c.0 refl))) where
+  by_way : Awaited c w ⊎ (none_late c ≡ true) → may_time_out p w (call_of w c) ≡ true
+  by_way (inl a) = awaited-may p w c good a (call_of w c) refl
+  by_way (inr e) = absurd (true≢false (sym e))
+due-awaited p w (due_for.Trigger t depth) good set = refl
+
+all-awaited : (p : Image) (w : World) (appointments : List Appointment) → Good p w → ((c : CallNo) → list_any (λ a. is_timeout_of c a.due) appointments ≡ true → is_appointed (is_timeout_of c) w ≡ true) → list_all (λ a. is_timeout_awaited p w a.due) appointments ≡ true
+all-awaited p w [] good set = refl
+all-awaited p w (a ∷ rest) good set =
+    both (is_timeout_awaited p w a.due) (list_all (λ x. is_timeout_awaited p w x.due) rest)
+    (due-awaited p w a.due good (λ c h. set c (or_left (is_timeout_of c a.due) (list_any (λ x. is_timeout_of c x.due) rest) h)))
+    (all-awaited p w rest good (λ c h. set c (or_right (is_timeout_of c a.due) (list_any (λ x. is_timeout_of c x.due) rest) h)))
+
+pub reached_timeouts_are_awaited : ReachedTimeoutsAreAwaited
+reached_timeouts_are_awaited p script bound w reached = all-awaited p w w.appointments (reached-good p script bound w reached) (λ c h. h)

@@ -2,7 +2,7 @@
 use Rattle.std.proofs.Common.{◌≡◌, ℕ, zero, suc, Bool, true, false, cond, not, ◌||◌, ◌⊎◌, inl, inr, ◌<◌, ◌≤◌, ◌++◌, eqb, ltb, List, [], ◌∷◌, Option, Some, None, refl, sym, subst, ap, ◌∙◌, option_map}
 use Rattle.std.specs.Prelude.{is_none, is_some, find}
 use Rattle.std.specs.List.{list_all, list_any}
-use Rattle.std.proofs.lemmas.Bool.{eqb-true}
+use Rattle.std.proofs.lemmas.Bool.{eqb-true, eq-eqb, true≢false}
 use Rattle.ann_base.specs.declared.identities.CallNo.{CallNo}
 use Rattle.ann_base.specs.declared.identities.TaskNo.{TaskNo}
 use Rattle.trace_text.specs.declared.events.Who.{Who}
@@ -23,10 +23,11 @@ use Rattle.profile_machine.specs.Appointments.{is_appointed, is_timeout_of, is_t
 use Rattle.profile_machine.specs.Values.{is_object, queue_at, queues_of}
 use Rattle.profile_machine.specs.Calls.{is_call, call_of, edit_object, edit_queue, put_by_priority, put_call, take_call, priority_of}
 use Rattle.queue_worlds.proofs.NumberedLists as numbered
+use Rattle.queue_worlds.proofs.CallLists.{left-has, same-call}
 use Rattle.queue_worlds.proofs.CallChanges.{edited-other}
 use Rattle.queue_worlds.proofs.Calming.{StandsAt, edit_task-objects, task-edited}
 use Rattle.queue_worlds.proofs.NumberedLists.{edited-same}
-use Rattle.queue_worlds.proofs.Standing.{Fall, Good, Idle, Stands, Waited, awaits_at, ends_by, has_own, is_ending, is_named, is_task, natures, object_key, rightly, served, some_nature, waits_end}
+use Rattle.queue_worlds.proofs.Standing.{Awaited, Fall, GoodBut, Idle, Open, Stands, Waited, awaits_at, ends_by, has_own, is_ending, is_named, is_task, natures, object_key, rightly, served, some_nature, waits_end}
 
 -- ---- what stays so of somebody but for queues and services
 
@@ -81,8 +82,15 @@ module _ (w v : World) (beside : Beside w v) where
   pub set-was : (test : Due → Bool) → is_appointed test v ≡ true → is_appointed test w ≡ true
   set-was test h = ap (λ xs. list_any (λ a. test a.due) xs) (sym beside.appointments) ∙ h
 
-  pub good-by : (p : Image) → Good p w → Queues p v → Services v → Good p v
-  good-by p good queues serves = record {
+  -- a call that has its time-out stands where it stood
+  pub awaited-on : {late : CallNo → Bool} (p : Image) → GoodBut p late w → ((o : Owner) (k : ℕ) (x : CallNo) → Stands w o k x → Stands v o k x) → ((o : Owner) → Open w o → Open v o) → (c : CallNo) → is_appointed (is_timeout_of c) v ≡ true → Awaited c v ⊎ (late c ≡ true)
+  awaited-on {late = late} p good stays opens c h = by_way (good.awaited c (set-was (is_timeout_of c) h)) where
+    by_way : Awaited c w ⊎ (late c ≡ true) → Awaited c v ⊎ (late c ≡ true)
+    by_way (inl a) = inl (record { owner = a.owner; place = a.place; stands = stays a.owner a.place c a.stands; opens = opens a.owner a.opens; unfirm = λ d e. a.unfirm d (call-was c d e) })
+    by_way (inr e) = inr e
+
+  pub good-by : {late then_late : CallNo → Bool} (p : Image) → GoodBut p late w → Queues p v → Services v → ((c : CallNo) → is_appointed (is_timeout_of c) v ≡ true → Awaited c v ⊎ (then_late c ≡ true)) → GoodBut p then_late v
+  good-by p good queues serves awaited = record {
     known = λ c d e. low-is c.0 (good.known c d (call-was c d e));
     within = queues.within;
     there = queues.there;
@@ -93,6 +101,7 @@ module _ (w v : World) (beside : Beside w v) where
     once = serves.once;
     alone = serves.alone;
     timed = serves.timed;
+    awaited = awaited;
     objects = beside.objects good.objects;
     named = beside.named good.named;
     present = λ t h. subst (λ d. t.0 < d.tasks) (sym beside.drawn) (good.present t (ap is_task (sym (beside.marks (who.Task t)).named) ∙ h));
@@ -162,6 +171,69 @@ put_anew-comes w c priority q x h = later (put-comes queuing.Priority w c priori
   later : Comes c (take_call c q) x → Comes c q x
   later (inl e) = inl e
   later (inr e) = inr (taken-stood c q x e)
+
+-- what stood there stands there, and so does the new one
+last-stays : (c : CallNo) (q : List CallNo) (x : CallNo) → has same_call q x ≡ true → has same_call (q ++ c ∷ []) x ≡ true
+last-stays c [] x h = absurd (true≢false (sym h))
+last-stays c (y ∷ ys) x h = step (same_call y x) h (last-stays c ys x) where
+  step : (b : Bool) → (b || has same_call ys x) ≡ true → (has same_call ys x ≡ true → has same_call (ys ++ c ∷ []) x ≡ true) → (b || has same_call (ys ++ c ∷ []) x) ≡ true
+  step true k onward = refl
+  step false k onward = onward k
+
+last-new : (c : CallNo) (q : List CallNo) → has same_call (q ++ c ∷ []) c ≡ true
+last-new c [] = or-left (same_call c c) false (eq-eqb c.0 c.0 refl)
+last-new c (y ∷ ys) = or-right (same_call y c) (has same_call (ys ++ c ∷ []) c) (last-new c ys)
+
+among-stays : (w : World) (c : CallNo) (priority : ℕ) (q : List CallNo) (x : CallNo) → has same_call q x ≡ true → has same_call (put_by_priority w c priority q) x ≡ true
+among-stays w c priority [] x h = absurd (true≢false (sym h))
+among-stays w c priority (y ∷ ys) x h = step (ltb (priority_of w y) priority) (or-parts (same_call y x) (has same_call ys x) h) (among-stays w c priority ys x) where
+  step : (b : Bool) → (same_call y x ≡ true) ⊎ (has same_call ys x ≡ true) → (has same_call ys x ≡ true → has same_call (put_by_priority w c priority ys) x ≡ true) → has same_call (cond b (c ∷ y ∷ ys) (y ∷ put_by_priority w c priority ys)) x ≡ true
+  step true k onward = or-right (same_call c x) (has same_call (y ∷ ys) x) h
+  step false (inl k) onward = or-left (same_call y x) (has same_call (put_by_priority w c priority ys) x) k
+  step false (inr k) onward = or-right (same_call y x) (has same_call (put_by_priority w c priority ys) x) (onward k)
+
+among-new : (w : World) (c : CallNo) (priority : ℕ) (q : List CallNo) → has same_call (put_by_priority w c priority q) c ≡ true
+among-new w c priority [] = or-left (same_call c c) false (eq-eqb c.0 c.0 refl)
+among-new w c priority (y ∷ ys) = step (ltb (priority_of w y) priority) (among-new w c priority ys) where
+  step : (b : Bool) → has same_call (put_by_priority w c priority ys) c ≡ true → has same_call (cond b (c ∷ y ∷ ys) (y ∷ put_by_priority w c priority ys)) c ≡ true
+  step true k = or-left (same_call c c) (has same_call (y ∷ ys) c) (eq-eqb c.0 c.0 refl)
+  step false k = or-right (same_call y c) (has same_call (put_by_priority w c priority ys) c) k
+
+pub put-stays : (queuing : Queuing) (w : World) (c : CallNo) (priority : ℕ) (q : List CallNo) (x : CallNo) → has same_call q x ≡ true → has same_call (put_call queuing w c priority q) x ≡ true
+put-stays queuing.Fifo w c priority q x h = last-stays c q x h
+put-stays queuing.Priority w c priority q x h = among-stays w c priority q x h
+
+pub put_anew-stays : (w : World) (c : CallNo) (priority : ℕ) (q : List CallNo) (x : CallNo) → has same_call q x ≡ true → has same_call (put_call queuing.Priority w c priority (take_call c q)) x ≡ true
+put_anew-stays w c priority q x h = by_way (left-has c q x h) where
+  by_way : (has same_call (take_call c q) x ≡ true) ⊎ (same_call c x ≡ true) → has same_call (put_by_priority w c priority (take_call c q)) x ≡ true
+  by_way (inl k) = among-stays w c priority (take_call c q) x k
+  by_way (inr k) = subst (λ n. has same_call (put_by_priority w c priority (take_call c q)) n ≡ true) (same-call c x k) (among-new w c priority (take_call c q))
+
+edited-stays : (f : List CallNo → List CallNo) → ((q : List CallNo) (x : CallNo) → has same_call q x ≡ true → has same_call (f q) x ≡ true) → (queues : List (List CallNo)) (place k : ℕ) (x : CallNo)
+    → has same_call (queue_at queues k) x ≡ true → has same_call (queue_at (edit_at place f queues) k) x ≡ true
+edited-stays f stays [] place k x h = h
+edited-stays f stays (q ∷ qs) zero zero x h = stays q x h
+edited-stays f stays (q ∷ qs) zero (suc k) x h = h
+edited-stays f stays (q ∷ qs) (suc place) zero x h = h
+edited-stays f stays (q ∷ qs) (suc place) (suc k) x h = edited-stays f stays qs place k x h
+
+-- who stood in a queue stands there when a queue is edited in which all stay
+pub queue-stays : (owner : Owner) (place : ℕ) (f : List CallNo → List CallNo) → ((q : List CallNo) (x : CallNo) → has same_call q x ≡ true → has same_call (f q) x ≡ true) → (w : World) (o : Owner) (k : ℕ) (x : CallNo)
+    → Stands w o k x → Stands (edit_queue owner place f w) o k x
+queue-stays (owned_by.Task t) place f stays w (owned_by.Task n) k x h =
+    task-edited (who.Task t) (λ u. record u { queues = edit_at place f u.queues }) w (λ u. refl) (λ me a b. has same_call (queue_at a.queues k) x ≡ true → has same_call (queue_at b.queues k) x ≡ true)
+    (λ me e. e) (λ e. edited-stays f stays (task_of w (who.Task t)).queues place k x e) (who.Task n) h
+queue-stays (owned_by.Task t) place f stays w (owned_by.Object o) k x h = subst (λ xs. StandsAt xs o k x) (sym (edit_task-objects (who.Task t) _ w)) h
+queue-stays (owned_by.Object q) place f stays w (owned_by.Task n) k x h = h
+queue-stays (owned_by.Object q) place f stays w (owned_by.Object o) k x h =
+    numbered.edited object_key o.0 q.0 (λ (u : Object). record u { queues = edit_at place f u.queues }) (λ u. refl) (λ y. has same_call (queue_at (queues_of y) k) x ≡ true) w.objects h
+    (λ u is. edited-stays f stays u.queues place k x (subst (λ y. has same_call (queue_at (queues_of y) k) x ≡ true) is h))
+
+pub queue-open : (owner : Owner) (place : ℕ) (f : List CallNo → List CallNo) (w : World) (o : Owner) → Open w o → Open (edit_queue owner place f w) o
+queue-open (owned_by.Task t) place f w (owned_by.Task n) is = task-edited (who.Task t) (λ u. record u { queues = edit_at place f u.queues }) w (λ u. refl) (λ me a b. b.completed ≡ a.completed) (λ me. refl) refl (who.Task n) ∙ is
+queue-open (owned_by.Task t) place f w (owned_by.Object o) is = tt
+queue-open (owned_by.Object q) place f w (owned_by.Task n) is = is
+queue-open (owned_by.Object q) place f w (owned_by.Object o) is = tt
 
 -- in a list of queues that is edited at a place
 edited-comes : (f : List CallNo → List CallNo) (c : CallNo) → ((q : List CallNo) (x : CallNo) → has same_call (f q) x ≡ true → Comes c q x) → (queues : List (List CallNo)) (place k : ℕ) (x : CallNo)

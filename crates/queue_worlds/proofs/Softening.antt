@@ -21,10 +21,13 @@ use Rattle.queue_worlds.proofs.Standing.{Awake, Calm, Kind, Nature, Own, awaits_
 
 -- ---- neither marks nor state
 
-pub softens-plain : {E : Kind} (me : Who) (w : World) (t u : Task) → u.who ≡ t.who → u.frames ≡ t.frames → u.state ≡ t.state → ((k : ℕ) (c : CallNo) → has same_call (queue_at u.queues k) c ≡ true → has same_call (queue_at t.queues k) c ≡ true) → Softens E me w t u
-softens-plain me w t u named frames state queues = record {
+pub softens-plain : {E : Kind} {late : CallNo → Bool} (me : Who) (w : World) (t u : Task) → u.who ≡ t.who → u.frames ≡ t.frames → u.state ≡ t.state → ((k : ℕ) (c : CallNo) → has same_call (queue_at u.queues k) c ≡ true → has same_call (queue_at t.queues k) c ≡ true)
+    → ((k : ℕ) (c : CallNo) → has same_call (queue_at t.queues k) c ≡ true → (has same_call (queue_at u.queues k) c ≡ true) ⊎ (late c ≡ true)) → u.completed ≡ t.completed → Softens E late me w t u
+softens-plain me w t u named frames state queues stays completed = record {
   named = named;
   queues = queues;
+  stays = stays;
+  completed = completed;
   fewer = λ c. subst (λ fs. served_in c (natures fs) ≤ served_in c (natures t.frames)) (sym frames) (omega arith);
   owns = λ c h. inl (subst (λ fs. some_nature (has_own c) (natures fs) ≡ true) frames h);
   ended = λ c h. inl (subst (λ fs. some_nature (ends_by c) (natures fs) ≡ true) frames h);
@@ -33,10 +36,11 @@ softens-plain me w t u named frames state queues = record {
   tops = λ is h. subst (λ fs. top_waits (natures fs) ≡ false) (sym frames) h;
 }
 
-pub plain-calm : {E : Kind} (name : Who) (f : Task → Task) (w : World) → ((t : Task) → (f t).who ≡ t.who) → ((t : Task) → (f t).frames ≡ t.frames) → ((t : Task) → (f t).state ≡ t.state) → ((t : Task) → (f t).queues ≡ t.queues) → Calm E w (edit_task name f w)
-plain-calm name f w named frames state queues =
+pub plain-calm : {E : Kind} (name : Who) (f : Task → Task) (w : World) → ((t : Task) → (f t).who ≡ t.who) → ((t : Task) → (f t).frames ≡ t.frames) → ((t : Task) → (f t).state ≡ t.state) → ((t : Task) → (f t).queues ≡ t.queues) → ((t : Task) → (f t).completed ≡ t.completed) → Calm E w (edit_task name f w)
+plain-calm name f w named frames state queues completed =
     let t = task_of w name in
-    edit_task-calm name f w named (softens-plain name w t (f t) (named t) (frames t) (state t) (λ k c h. subst (λ qs. has same_call (queue_at qs k) c ≡ true) (queues t) h))
+    edit_task-calm name f w named (softens-plain name w t (f t) (named t) (frames t) (state t) (λ k c h. subst (λ qs. has same_call (queue_at qs k) c ≡ true) (queues t) h)
+    (λ k c h. inl (subst (λ qs. has same_call (queue_at qs k) c ≡ true) (sym (queues t)) h)) (completed t))
 
 -- ---- a state in which nobody waits for the end of a call
 
@@ -46,6 +50,8 @@ state-calm name state w none =
     record {
       named = refl;
       queues = λ k c h. h;
+      stays = λ k c h. inl h;
+      completed = refl;
       fewer = λ c. omega arith;
       owns = λ c h. inl h;
       ended = λ c h. inl h;
@@ -63,6 +69,8 @@ marks-calm name f w same ending =
     record {
       named = refl;
       queues = λ k c h. h;
+      stays = λ k c h. inl h;
+      completed = refl;
       fewer = λ c. subst (λ ns. served_in c ns ≤ served_in c (natures fs)) (sym (same fs)) (omega arith);
       owns = λ c h. inl (subst (λ ns. some_nature (has_own c) ns ≡ true) (same fs) h);
       ended = λ c h. inl (subst (λ ns. some_nature (ends_by c) ns ≡ true) (same fs) h);
@@ -80,6 +88,8 @@ awake-calm name f w same awake =
     record {
       named = refl;
       queues = λ k c h. h;
+      stays = λ k c h. inl h;
+      completed = refl;
       fewer = λ c. subst (λ ns. served_in c ns ≤ served_in c (natures fs)) (sym (same fs)) (omega arith);
       owns = λ c h. inl (subst (λ ns. some_nature (has_own c) ns ≡ true) (same fs) h);
       ended = λ c h. inl (subst (λ ns. some_nature (ends_by c) ns ≡ true) (same fs) h);
@@ -127,6 +137,8 @@ push-calm name f w opens awake =
     record {
       named = refl;
       queues = λ k c h. h;
+      stays = λ k c h. inl h;
+      completed = refl;
       fewer = λ c. none-before (is_the same_call (nature f.mark).service c) (served_in c (natures fs)) (opens.serves c);
       owns = λ c h. own_or c (or-second (has_own c (nature f.mark)) (some_nature (has_own c) (natures fs)) h);
       ended = λ c h. inl (rest-true (ends_by c (nature f.mark)) (some_nature (ends_by c) (natures fs)) (opens.begun c) h);
@@ -185,6 +197,8 @@ pop-calm name w free unset none =
     record {
       named = refl;
       queues = λ k c h. h;
+      stays = λ k c h. inl h;
+      completed = refl;
       fewer = λ c. served-below c fs;
       owns = λ c h. inl (some-below (has_own c) fs h);
       ended = λ c h. inl (some-below (ends_by c) fs h);

@@ -10,6 +10,7 @@ use Rattle.profile_machine.specs.declared.image.Image.{Image}
 use Rattle.profile_machine.specs.declared.world.World.{World}
 use Rattle.profile_machine.specs.declared.world.calls.Call.{Call}
 use Rattle.profile_machine.specs.declared.world.calls.Owner.{Owner}
+use Rattle.profile_machine.specs.declared.world.calls.Owner.TheVariants as owned_by
 use Rattle.profile_machine.specs.declared.world.marks.Frame.{Frame}
 use Rattle.profile_machine.specs.declared.world.marks.Mark.{Mark}
 use Rattle.profile_machine.specs.declared.world.marks.Mark.TheVariants.{Scope, Handled, InProtected, InAccept, Abortable, InInitialize, InFinalize, InAssign}
@@ -89,6 +90,29 @@ natures_of w name = natures (frames_of w name)
 abbrev pub some_nature : (Nature → Bool) → List Nature → Bool
 some_nature test [] = false
 some_nature test (n ∷ ns) = test n || some_nature test ns
+
+-- ---- calls that may time out
+
+-- an object serves the calls in its queues, and so does a task that is not completed
+abbrev pub Open : World → Owner → Type 0
+Open w (owned_by.Task t) = (task_of w (who.Task t)).completed ≡ false
+Open w (owned_by.Object o) = Unit {0}
+
+-- the call, where it is there, may be cancelled
+abbrev pub Unfirm : CallNo → World → Type 0
+Unfirm c w = (d : Call) → call_of w c ≡ Some d → d.firm ≡ false
+
+-- the call stands in a queue that is served, and may be cancelled
+pub record Awaited (c : CallNo) (w : World) : Type 0 where
+  pub owner : Owner
+  pub place : ℕ
+  pub stands : Stands w owner place c
+  pub opens : Open w owner
+  pub unfirm : Unfirm c w
+
+-- no call keeps a time-out that it is to lose
+abbrev pub none_late : CallNo → Bool
+none_late c = false
 
 -- ---- calls that are served
 
@@ -207,7 +231,8 @@ top_waits (n ∷ ns) = awaits_part n.part
 abbrev pub rightly : Image → Owner → ℕ → Call → Bool
 rightly p o k d = is_queued d && same_owner o d.owner && eqb (place_of_entry p d.entry) k
 
-pub record Good (p : Image) (w : World) : Type 0 where
+-- but for the time-outs of some calls, which are to be dropped
+pub record GoodBut (p : Image) (late : CallNo → Bool) (w : World) : Type 0 where
   -- a number that stands in a queue is that of a call that is there and is queued there
   pub known : (c : CallNo) (d : Call) → call_of w c ≡ Some d → c.0 ≤ w.drawn.calls
   pub within : (o : Owner) (k : ℕ) (c : CallNo) → Stands w o k c → c.0 ≤ w.drawn.calls
@@ -220,6 +245,8 @@ pub record Good (p : Image) (w : World) : Type 0 where
   pub once : (a : Who) (c : CallNo) → served c w a ≤ 1
   pub alone : (a b : Who) (c : CallNo) → 0 < served c w a → 0 < served c w b → a ≡ b
   pub timed : (c : CallNo) → is_appointed (is_timeout_of c) w ≡ true → Idle c w
+  -- a time-out is set for a call that may time out
+  pub awaited : (c : CallNo) → is_appointed (is_timeout_of c) w ≡ true → Awaited c w ⊎ (late c ≡ true)
   -- objects fall in number; tasks have the names of tasks, which were drawn
   pub objects : Fall w
   pub named : list_all is_named w.tasks ≡ true
@@ -232,6 +259,9 @@ pub record Good (p : Image) (w : World) : Type 0 where
   -- who waits for the end of a call has come to the end of its abortable part
   pub waits : (a : Who) (c : CallNo) → waiting_of w a ≡ waits_end c → c.0 ≤ w.drawn.calls
   pub ends : (a : Who) (c : CallNo) (d : Call) → waiting_of w a ≡ waits_end c → call_of w c ≡ Some d → is_ending c (frames_of w a) ≡ true
+
+abbrev pub Good : Image → World → Type 0
+Good p w = GoodBut p none_late w
 
 -- A call that is there was there before, and is directed as it was. Only of those that may end, begins or ends one; and none that
 -- stands in a queue, or is served.
@@ -255,6 +285,8 @@ pub record Calm (E : Kind) (w v : World) : Type 0 where
   pub calls : (c : CallNo) (y : Call) → call_of v c ≡ Some y → Came E w v c y
   pub fewer : (a : Who) (c : CallNo) → served c v a ≤ served c w a
   pub timed : (c : CallNo) → is_appointed (is_timeout_of c) v ≡ true → (is_appointed (is_timeout_of c) w ≡ true) ⊎ Idle c v
+  pub timeouts : Fall w → (c : CallNo) → is_appointed (is_timeout_of c) v ≡ true → ((is_appointed (is_timeout_of c) w ≡ true) × (Awaited c w → Awaited c v)) ⊎ Awaited c v
+  pub opened : (o : Owner) (k : ℕ) (c : CallNo) → Stands v o k c → Open v o → Open w o
   pub objects : Fall w → Fall v
   pub named : list_all is_named w.tasks ≡ true → list_all is_named v.tasks ≡ true
   pub present : (t : TaskNo) → is_named (task_of v (who.Task t)) ≡ true → (is_named (task_of w (who.Task t)) ≡ true) ⊎ (t.0 < v.drawn.tasks)
@@ -325,6 +357,8 @@ calm-then a b c f g = record {
       };
   fewer = λ n x. let one : served x b n ≤ served x a n = f.fewer n x in let two : served x c n ≤ served x b n = g.fewer n x in omega (arith, one, two);
   timed = λ x h. either (g.timed x h) (λ i. either (f.timed x i) inl (λ idle. inr (calm-idle b c g x idle))) inr;
+  timeouts = λ fall x h. either (g.timeouts (f.objects fall) x h) (λ later. either (f.timeouts fall x later.0) (λ first. inl (first.0, λ a. later.1 (first.1 a))) (λ a. inr (later.1 a))) inr;
+  opened = λ o k x h i. f.opened o k x (g.queues o k x h) (g.opened o k x h i);
   objects = λ h. g.objects (f.objects h);
   named = λ h. g.named (f.named h);
   present = λ t h. either (g.present t h) (λ i. either (f.present t i) inl (λ low. inr (let two : b.drawn.tasks ≤ c.drawn.tasks = g.tasks in omega (arith, low, two)))) inr;
@@ -344,7 +378,7 @@ calm-then a b c f g = record {
   tops = λ n is h. g.tops n is (f.tops n is h);
 }
 
-pub calm-good : {E : Kind} (p : Image) (w v : World) → Good p w → Calm E w v → Good p v
+pub calm-good : {E : Kind} {late : CallNo → Bool} (p : Image) (w v : World) → GoodBut p late w → Calm E w v → GoodBut p late v
 calm-good p w v g calm = record {
   known = λ c d e. let x = calm.calls c d e in subst (λ n. c.0 ≤ n) (sym calm.drawn) (g.known c x.before x.found);
   within = λ o k c h. subst (λ n. c.0 ≤ n) (sym calm.drawn) (g.within o k c (calm.queues o k c h));
@@ -359,6 +393,7 @@ calm-good p w v g calm = record {
   once = λ a c. let few : served c v a ≤ served c w a = calm.fewer a c in let one : served c w a ≤ 1 = g.once a c in omega (arith, few, one);
   alone = λ a b c h i. g.alone a b c (more w v calm a c h) (more w v calm b c i);
   timed = λ c h. either (calm.timed c h) (λ i. calm-idle w v calm c (g.timed c i)) (λ idle. idle);
+  awaited = λ c h. either (calm.timeouts g.objects c h) (λ was. either (g.awaited c was.0) (λ a. inl (was.1 a)) inr) inl;
   objects = calm.objects g.objects;
   named = calm.named g.named;
   present = λ t h. either (calm.present t h) (λ i. let low : t.0 < w.drawn.tasks = g.present t i in let grown : w.drawn.tasks ≤ v.drawn.tasks = calm.tasks in omega (arith, low, grown)) (λ low. low);
@@ -373,6 +408,30 @@ calm-good p w v g calm = record {
   ends = λ a c d h e. let first = calm.ends a c h in let x = calm.calls c d e in first.1 d e (g.ends a c x.before first.0 x.found);
 }
 
+-- fewer time-outs are to be dropped
+pub fewer-late : {late then_late : CallNo → Bool} (p : Image) (w : World) → GoodBut p late w → ((c : CallNo) → is_appointed (is_timeout_of c) w ≡ true → late c ≡ true → then_late c ≡ true) → GoodBut p then_late w
+fewer-late p w g fewer = record {
+  known = g.known;
+  within = g.within;
+  there = g.there;
+  right = g.right;
+  agent = g.agent;
+  serving = g.serving;
+  begun = g.begun;
+  once = g.once;
+  alone = g.alone;
+  timed = g.timed;
+  awaited = λ c h. either (g.awaited c h) inl (λ e. inr (fewer c h e));
+  objects = g.objects;
+  named = g.named;
+  present = g.present;
+  owns = g.owns;
+  ended = g.ended;
+  triggers = g.triggers;
+  waits = g.waits;
+  ends = g.ends;
+}
+
 -- ---- what is known of a call in a good world
 
 rightly-queued : (a b c : Bool) → (a && b && c) ≡ true → a ≡ false → ⊥
@@ -380,7 +439,7 @@ rightly-queued true b c e f = cc
 rightly-queued false b c e f = cc
 
 -- a call that is queued no more stands in no queue
-pub unqueued-out : (p : Image) (w : World) (c : CallNo) (d : Call) → Good p w → call_of w c ≡ Some d → is_queued d ≡ false → Out c w
+pub unqueued-out : {late : CallNo → Bool} (p : Image) (w : World) (c : CallNo) (d : Call) → GoodBut p late w → call_of w c ≡ Some d → is_queued d ≡ false → Out c w
 unqueued-out p w c d g e f o k h = rightly-queued (is_queued d) (same_owner o d.owner) (eqb (place_of_entry p d.entry) k) (g.right o k c d h e) f
 
 positive : (n : ℕ) → (0 < n → ⊥) → n ≡ 0
@@ -392,14 +451,14 @@ begun-queued true b e f = cc
 begun-queued false b e f = cc
 
 -- a call that is queued is served by nobody
-pub queued-idle : (p : Image) (w : World) (c : CallNo) (d : Call) → Good p w → call_of w c ≡ Some d → is_queued d ≡ true → Idle c w
+pub queued-idle : {late : CallNo → Bool} (p : Image) (w : World) (c : CallNo) (d : Call) → GoodBut p late w → call_of w c ≡ Some d → is_queued d ≡ true → Idle c w
 queued-idle p w c d g e f a = positive (served c w a) (λ h. begun-queued d.begun (is_none d.outcome) (g.begun a c d h e).0 f)
 
 -- a number that was not drawn stands in no queue, and nobody serves it
-pub fresh-out : (p : Image) (w : World) (c : CallNo) → Good p w → w.drawn.calls < c.0 → Out c w
+pub fresh-out : {late : CallNo → Bool} (p : Image) (w : World) (c : CallNo) → GoodBut p late w → w.drawn.calls < c.0 → Out c w
 fresh-out p w c g h o k s = let low : c.0 ≤ w.drawn.calls = g.within o k c s in omega (arith, low, h)
 
-pub fresh-idle : (p : Image) (w : World) (c : CallNo) → Good p w → w.drawn.calls < c.0 → Idle c w
+pub fresh-idle : {late : CallNo → Bool} (p : Image) (w : World) (c : CallNo) → GoodBut p late w → w.drawn.calls < c.0 → Idle c w
 fresh-idle p w c g h a = positive (served c w a) (λ s. let low : c.0 ≤ w.drawn.calls = g.serving a c s in omega (arith, low, h))
 
 -- a call that has ended stands in no queue
@@ -407,7 +466,7 @@ ended-queued : (a b : Bool) → b ≡ false → (not a && b) ≡ false
 ended-queued true b e = refl
 ended-queued false b e = e
 
-pub ended-out : (p : Image) (w : World) (c : CallNo) → Good p w → Ended c w → Out c w
+pub ended-out : {late : CallNo → Bool} (p : Image) (w : World) (c : CallNo) → GoodBut p late w → Ended c w → Out c w
 ended-out p w c g end o k h = by_call (call_of w c) refl (g.there o k c h) where
   by_call : (found : Option Call) → call_of w c ≡ found → is_some found ≡ true → ⊥
   by_call None e f = cc

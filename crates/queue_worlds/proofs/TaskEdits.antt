@@ -120,6 +120,16 @@ pub added : (P : Task → Type 0) (me : Who) (x : Task) (ts : List Task) (agent 
 added P (who.Task n) x ts agent new blank h = added-among P n x ts new blank h
 added P who.Agent x ts agent new blank h = h
 
+-- who was there is as before
+kept-among : (P : Task → Type 0) (n : TaskNo) (x : Task) (ts : List Task) → (P nobody → ⊥) → seen P (find (is_who (who.Task n)) ts) → seen P (find (is_who (who.Task n)) (ts ++ x ∷ []))
+kept-among P n x [] blank h = absurd (blank h)
+kept-among P n x (t ∷ ts) blank h =
+    tail-step P (is_who (who.Task n) t) t (find (is_who (who.Task n)) ts) (find (is_who (who.Task n)) (ts ++ x ∷ [])) (λ g. kept-among P n x ts blank g) h
+
+pub still : (P : Task → Type 0) (me : Who) (x : Task) (ts : List Task) (agent : Task) → (P nobody → ⊥) → P (one_of ts agent me) → P (one_of (ts ++ x ∷ []) agent me)
+still P (who.Task n) x ts agent blank h = kept-among P n x ts blank h
+still P who.Agent x ts agent blank h = h
+
 none-step : (n : Who) (z : Task) (rest : List Task) (b : Bool) → is_who n z ≡ b → find (is_who n) rest ≡ None → find (is_who n) (cond (not b) (z ∷ rest) rest) ≡ None
 none-step n z rest true is e = e
 none-step n z rest false is e = ap (λ c. cond c (Some z) (find (is_who n) rest)) is ∙ e
@@ -141,12 +151,17 @@ others-left : (P : Task → Type 0) (m n : Who) (ts : List Task) → same_who m 
 others-left P m n [] e h = h
 others-left P m n (z ∷ zs) e h = others-step P m n z zs (without (is_who n) zs) (is_who n z) refl e (λ g. others-left P m n zs e g) h
 
-left-where : (P : Task → Type 0) (m n : Who) (ts : List Task) (b : Bool) → same_who m n ≡ b → P nobody → seen P (find (is_who m) ts) → seen P (find (is_who m) (without (is_who n) ts))
+left-where : (P : Task → Type 0) (m n : Who) (ts : List Task) (b : Bool) → same_who m n ≡ b → (same_who m n ≡ true → P nobody) → seen P (find (is_who m) ts) → seen P (find (is_who m) (without (is_who n) ts))
 left-where P m n ts true e blank h =
     let is : m ≡ n = same_who-path m n e in
-    subst (λ x. seen P (find (is_who x) (without (is_who n) ts))) (sym is) (subst (seen P) (sym (none-left n ts)) blank)
+    subst (λ x. seen P (find (is_who x) (without (is_who n) ts))) (sym is) (subst (seen P) (sym (none-left n ts)) (blank e))
 left-where P m n ts false e blank h = others-left P m n ts e h
 
 pub gone : (P : Task → Type 0) (me n : Who) (ts : List Task) (agent : Task) → P nobody → P (one_of ts agent me) → P (one_of (without (is_who n) ts) agent me)
-gone P (who.Task k) n ts agent blank h = left-where P (who.Task k) n ts (same_who (who.Task k) n) refl blank h
+gone P (who.Task k) n ts agent blank h = left-where P (who.Task k) n ts (same_who (who.Task k) n) refl (λ same. blank) h
 gone P who.Agent n ts agent blank h = h
+
+-- another is as before
+pub left : (P : Task → Type 0) (me n : Who) (ts : List Task) (agent : Task) → (same_who me n ≡ true → P nobody) → P (one_of ts agent me) → P (one_of (without (is_who n) ts) agent me)
+left P (who.Task k) n ts agent blank h = left-where P (who.Task k) n ts (same_who (who.Task k) n) refl blank h
+left P who.Agent n ts agent blank h = h

@@ -48,12 +48,13 @@ use Rattle.profile_machine.specs.Tasks.{task_at, task_of, edit_task_found, edit_
 use Rattle.profile_machine.specs.Dispatching.{keep_level, grant_quantum, says_ready, to_tail, ready}
 use Rattle.profile_machine.specs.Frames.{frames_of, top_of, goes, leaves, leaving_of, raises, has_room, open_handled, open_at, onward_of, open_sequence, stands_in, exit_loop, pass_on}
 use Rattle.profile_machine.specs.Scopes.{write_cell}
-use Rattle.profile_machine.specs.Appointments.{drop_delay}
+use Rattle.profile_machine.specs.Appointments.{drop_delay, appoint}
 use Rattle.profile_machine.specs.Values.{is_object, queue_at, queues_of}
 use Rattle.profile_machine.specs.Calls.{is_call, call_of, edit_call, forget_call, with_call, edit_object, edit_queue, take_call, place_of_entry, unqueued, is_cancellable, attempt_on, attempt_with}
 use Rattle.profile_machine.specs.Unwinding.{may_unwind, leave_by_abort, stop_waiting, wake_and_leave, unwind_blocked, unwind_in, unwind}
 use Rattle.profile_machine.specs.CallEnds.{go_by_outcome, onward_when_done, onward_when_cancelled, resume, store, or_stored, copy_back, with_results, abortable_depth, trigger_at, trigger_outcome, forget_trigger, run_triggered, ended_by_itself, behind_abortable, end_abortable, end_abortable_in, end_top_abortable, end_wait, waits_for_call, waits_for_end, end_for_abortable, end_for_caller, end_for, with_outcome, end_with, end_call, deliver}
-use Rattle.profile_machine.specs.Sending.{appoint_timeout, cancel_sent, may_begin_abortable, begin_abortable, is_to_be_cancelled, sent_not_begun_by, sent_not_begun}
+use Rattle.profile_machine.specs.declared.world.appointments.Due.TheVariants as due_for
+use Rattle.profile_machine.specs.Sending.{appoint_timeout, cancel_sent, may_begin_abortable, begin_abortable, is_to_be_cancelled, sent_not_begun_by, sent_not_begun, may_time_out}
 use Rattle.machine_laws.proofs.Kept.Combinators.{world_behind}
 use Rattle.world_laws.proofs.NumberedLists.{edited, left-found}
 use Rattle.world_laws.proofs.CallLists.{call_number, counted, counted-edited, counted-without, taken-at}
@@ -143,9 +144,16 @@ module _ (o : ObjectNo) where
   drop_delay-reduces (who.Task t) = same-reduces _ (λ w. refl) (λ w. refl)
   drop_delay-reduces who.Agent = same-reduces _ (λ w. refl) (λ w. refl)
 
-  appoint_timeout-reduces : (c : CallNo) (moment : Option ℤ) → Reduces o (appoint_timeout c moment)
-  appoint_timeout-reduces c None = same-reduces _ (λ w. refl) (λ w. refl)
-  appoint_timeout-reduces c (Some moment) = same-reduces _ (λ w. refl) (λ w. refl)
+  appoint_timeout-reduces : (p : Image) (c : CallNo) (moment : Option ℤ) → Reduces o (appoint_timeout p c moment)
+  appoint_timeout-reduces p c None = same-reduces _ (λ w. refl) (λ w. refl)
+  appoint_timeout-reduces p c (Some moment) = same-reduces _ (λ w. calls w (may_time_out p w (call_of w c))) (λ w. objects w (may_time_out p w (call_of w c))) where
+    calls : (w : World) (may : Bool) → (cond may (appoint (due_for.Timeout c) moment w) w).calls ≡ w.calls
+    calls w true = refl
+    calls w false = refl
+
+    objects : (w : World) (may : Bool) → (cond may (appoint (due_for.Timeout c) moment w) w).objects ≡ w.objects
+    objects w true = refl
+    objects w false = refl
 
   -- an edit that leaves alone the number of a call and where it is directed
   pub edit_call-reduces : (c : CallNo) (f : Call → Call) → ((d : Call) → (f d).number ≡ d.number) → ((d : Call) → directed (f d) ≡ directed d) → Reduces o (edit_call c f)
@@ -449,14 +457,14 @@ module _ (o : ObjectNo) where
   begin_abortable-lessens p c =
       with_call-lessens c _ (λ d. looks-lessens _ (λ w. when-lessens (may_begin_abortable w d) _ (then-lessens _ _ (edits-lessens (who.Task d.caller) _) (ready-lessens p TheFinish (who.Task d.caller)))))
 
-  timeout_again-reduces : (firm : Bool) (c : Call) → Reduces o (cond firm (λ w. w) (appoint_timeout c.number c.moment))
-  timeout_again-reduces true c = same-reduces _ (λ w. refl) (λ w. refl)
-  timeout_again-reduces false c = appoint_timeout-reduces c.number c.moment
+  timeout_again-reduces : (p : Image) (firm : Bool) (c : Call) → Reduces o (cond firm (λ w. w) (appoint_timeout p c.number c.moment))
+  timeout_again-reduces p true c = same-reduces _ (λ w. refl) (λ w. refl)
+  timeout_again-reduces p false c = appoint_timeout-reduces p c.number c.moment
 
   sent_not_begun_by-lessens : (p : Image) (c : Call) (cancelled : Bool) → Lessens o (sent_not_begun_by p c cancelled)
   unfolding sent_not_begun_by
   sent_not_begun_by-lessens p c true = cancel_sent-lessens p c
-  sent_not_begun_by-lessens p c false = then-lessens _ _ (changes-lessens _ (timeout_again-reduces c.firm c)) (begin_abortable-lessens p c.number)
+  sent_not_begun_by-lessens p c false = then-lessens _ _ (changes-lessens _ (timeout_again-reduces p c.firm c)) (begin_abortable-lessens p c.number)
 
   pub sent_not_begun-lessens : (p : Image) (c : CallNo) → Lessens o (sent_not_begun p c)
   unfolding sent_not_begun

@@ -28,9 +28,10 @@ use Rattle.profile_machine.specs.Tasks.{task_of, with_ticks}
 use Rattle.profile_machine.specs.Dispatching.{choose, block}
 use Rattle.profile_machine.specs.Frames.{has_room, new_frame, push, leaving_of}
 use Rattle.profile_machine.specs.Scopes.{plainly}
-use Rattle.profile_machine.specs.Protected.{entering, begin_action_on, new_protected_mark}
+use Rattle.profile_machine.specs.declared.world.marks.ResultTo.TheVariants as bound_for
+use Rattle.profile_machine.specs.Protected.{entering, begin_action_on, new_protected_mark, body_of_object}
 use Rattle.profile_machine.specs.Serving.{serves_nothing, is_served_now, serve_ends, end_release}
-use Rattle.profile_machine.specs.Handlers.{add_release, says_release, wake_agent, release, scope_size_of, begin_handler, begin_handler_if_room, enter_handler, call_handler, charge}
+use Rattle.profile_machine.specs.Handlers.{add_release, says_release, wake_agent, release, scope_size_of, begin_handler, begin_handler_if_room, enter_handler, call_handler, charge, argument_values}
 use Rattle.profile_machine.specs.Act.{act_without, act}
 use Rattle.profile_machine.specs.Cost.{cost}
 use Rattle.profile_machine.specs.Instant.{effect, is_over, effect_of_runner, finish_action, instant}
@@ -118,7 +119,7 @@ module _ {G : GoodWorld} (fact : KeepsFact G) where
   begin_handler-from p r w good h =
       then-from fact.moves (begin_action_on p who.Agent r.handler.object Write None (Some r.number)) _ w
       (begin_action_on-from fact.moves p who.Agent r.handler.object Write None (Some r.number) w good tt (λ v is. fact.pushes who.Agent (new_frame (new_protected_mark r.handler.object Write None (Some r.number)) None) v is refl) h)
-      (looks-keeps fact.moves _ (λ v. changes-keeps fact.moves _ (open_scope-alters fact.openings p who.Agent _ _ _ tt)))
+      (looks-keeps fact.moves _ (λ v. changes-keeps fact.moves _ (open_scope-alters fact.openings p who.Agent (subprogram_of p r.handler.procedure).scope (body_of_object p v (subprogram_of p r.handler.procedure).scope r.handler.object None (argument_values r.argument)) (opened_for.Subprogram [] bound_for.Nowhere) tt)))
 
   begin_handler_if_room-from : (p : Image) (r : Release) (w : World) → G w → LetsIn who.Agent r.handler.object Write w → From (Behind G) w (begin_handler_if_room p r)
   unfolding begin_handler_if_room

@@ -17,12 +17,13 @@ use Rattle.profile_machine.specs.declared.world.marks.AssignStep.{AssignStep}
 use Rattle.profile_machine.specs.declared.world.marks.AssignStep.TheVariants as assigning
 use Rattle.profile_machine.specs.declared.world.lines.Part.TheVariants.{Own}
 use Rattle.profile_machine.specs.Steps.{changes, looks}
-use Rattle.profile_machine.specs.Statements.{cells_from, put_cells}
-use Rattle.profile_machine.specs.Controlled.{open_operation, registered_as, register, initialize_by, initialize, end_in_initialize, edit_top_scope, finalize_has_raised, open_finalize, has_room_to_finalize, finalize_by, no_longer_registered, finalize, behind_finalize, end_in_finalize, begin_assignment, assign_registered, assign_located, assign_controlled, edit_top_assign, leave_without_room, finalize_target_by, has_room_to_adjust, adjust_by, copy_components_of, copy_object, do_step, step_with, end_in_assign, edit_scope_mark, edit_assign, registered_object, registers, is_assignment, registered_at, same_located}
+use Rattle.profile_machine.specs.Statements.{cells_from}
+use Rattle.profile_machine.specs.Scopes.{put_cells}
+use Rattle.profile_machine.specs.Controlled.{open_operation, registered_as, register, initialize_by, initialize, end_in_initialize, edit_top_scope, finalize_has_raised, open_finalize, has_room_to_finalize, finalize_by, no_longer_registered, finalize_now, finalize, behind_finalize, end_in_finalize, begin_assignment, assign_registered, assign_located, assign_controlled, edit_top_assign, leave_without_room, finalize_target_by, has_room_to_adjust, adjust_by, copy_components_of, copy_object, do_step, step_with, end_in_assign, edit_scope_mark, edit_assign, registered_object, registers, is_assignment, registered_at, same_located}
 use Rattle.action_worlds.proofs.FineMoves.{FineMoves}
 use Rattle.action_worlds.proofs.Sound.{GoodWorld, Naming}
 use Rattle.action_worlds.proofs.Natures.{nature}
-use Rattle.action_worlds.proofs.Kept.Combinators.{Keeps, Alters, branch-keeps, changes-from, changes-keeps, cond-keeps, looks-keeps, nothing-keeps, sees-keeps, then-keeps, From, changes_then-from, keeps-from, looks_at-from, says-keeps}
+use Rattle.action_worlds.proofs.Kept.Combinators.{Keeps, Alters, branch-keeps, changes-from, changes-keeps, cond-keeps, looks-keeps, nothing-keeps, sees-keeps, then-keeps, From, changes_then-from, keeps-from, looks_at-from, says-keeps, when-keeps}
 use Rattle.action_worlds.proofs.Kept.Frames.{edit_top-alters, goes-keeps, push-alters, leaves-keeps, raises-keeps, pass_on-keeps, given-keeps, with_room-keeps, popped}
 use Rattle.action_worlds.proofs.Kept.Scopes.{write_cell-alters, opens-alters}
 use Rattle.std.proofs.Common.{◌≡◌, refl}
@@ -130,9 +131,13 @@ module _ {G : GoodWorld} {F : Naming} (moves : FineMoves G F) where
   unfolding Alters
   no_longer_registered-alters n w good = moves.unregisters n w good
 
+  finalize_now-keeps : (p : Image) (name : Who) (x : Registered) → Keeps G (finalize_now p name x)
+  unfolding finalize_now
+  finalize_now-keeps p name x = search (says-keeps, then-keeps, changes-keeps, no_longer_registered-alters, finalize_by-keeps)
+
   pub finalize-keeps : (p : Image) (name : Who) (x : Registered) → Keeps G (finalize p name x)
   unfolding finalize
-  finalize-keeps p name x = search (says-keeps, then-keeps, changes-keeps, no_longer_registered-alters, finalize_by-keeps)
+  finalize-keeps p name x = search (looks-keeps, when-keeps, finalize_now-keeps)
 
   begin_assignment-keeps : (p : Image) (name : Who) (s : StatementNo) (target source : ℕ) → Keeps G (begin_assignment p name s target source)
   unfolding begin_assignment

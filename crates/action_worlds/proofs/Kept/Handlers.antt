@@ -32,10 +32,12 @@ use Rattle.profile_machine.specs.Frames.{has_room}
 use Rattle.profile_machine.specs.Values.{Seen}
 use Rattle.profile_machine.specs.CallEnds.{store}
 use Rattle.trace_text.specs.declared.events.Mode.TheVariants.{Write}
-use Rattle.profile_machine.specs.Protected.{entering, begin_action_on}
+use Rattle.profile_machine.specs.Protected.{entering, begin_action_on, body_of_object}
 use Rattle.profile_machine.specs.Serving.{end_release}
-use Rattle.profile_machine.specs.Handlers.{add_release, says_release, wake_agent, release, with_room_for_release, scope_size_of, begin_handler, begin_handler_if_room, enter_handler, call_handler, interrupt, setting_of, answer, cancel_event_setting, appoint_event, event_set_to, set_event, cancel_event, clear_timer, with_timer_set, timer_set_beyond, timer_set_to, set_timer, cancel_timer, edit_budget, change_member, add_member, remove_member, fill_budget, replenish, add_to_budget, set_budget, cancel_budget, clock_risen, due_by_tick, charge_budget, timers_reached, quantum_spent_by, charge_clock, charge_group, charge_task, charge, handler_attached}
-use Rattle.std.proofs.Common.{◌≡◌, refl}
+use Rattle.profile_machine.specs.declared.world.marks.Purpose.TheVariants as opened_for
+use Rattle.profile_machine.specs.declared.world.marks.ResultTo.TheVariants as bound_for
+use Rattle.profile_machine.specs.Handlers.{add_release, says_release, wake_agent, release, with_room_for_release, scope_size_of, begin_handler, begin_handler_if_room, enter_handler, call_handler, interrupt, setting_of, answer, cancel_event_setting, appoint_event, event_set_to, set_event, cancel_event, clear_timer, with_timer_set, timer_set_beyond, timer_set_to, set_timer, cancel_timer, edit_budget, change_member, add_member, remove_member, fill_budget, replenish, add_to_budget, set_budget, cancel_budget, clock_risen, due_by_tick, charge_budget, timers_reached, quantum_spent_by, charge_clock, charge_group, charge_task, charge, handler_attached, argument_values}
+use Rattle.std.proofs.Common.{◌≡◌, refl, []}
 use Rattle.machine_laws.proofs.Moves.{LetsIn}
 use Rattle.action_worlds.proofs.FineMoves.{FineMoves}
 use Rattle.action_worlds.proofs.Sound.{GoodWorld, Naming, Free, Good}
@@ -243,7 +245,7 @@ unfolding begin_handler
 begin_handler-from p r w good awake free lets =
     then-from beside (begin_action_on p who.Agent r.handler.object Write None (Some r.number)) _ w
     (begin_action_on-from p who.Agent r.handler.object Write None (Some r.number) w good awake lets (λ e. free) refl tt)
-    (looks-keeps beside _ (λ v. changes-keeps beside _ (opens-alters beside p who.Agent _ _ _ refl)))
+    (looks-keeps beside _ (λ v. changes-keeps beside _ (opens-alters beside p who.Agent (subprogram_of p r.handler.procedure).scope (body_of_object p v (subprogram_of p r.handler.procedure).scope r.handler.object None (argument_values r.argument)) (opened_for.Subprogram [] bound_for.Nowhere) refl)))
 
 served_at_once-from : (n : ℕ) (w : World) → Good Nobody w → Free who.Agent w → From (Good Nobody) w (end_release n)
 served_at_once-from n w good free = only-from who.Agent (end_release n) w free good (end_release-keeps (good_moves (Only who.Agent)) n refl)

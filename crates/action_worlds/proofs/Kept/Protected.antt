@@ -32,7 +32,8 @@ use Rattle.profile_machine.specs.Values.{object_of, object_number, seen_by}
 use Rattle.profile_machine.specs.Inheritance.{inherit_running, rises, inherit}
 use Rattle.profile_machine.specs.Steps.{Step, goes_on_with, says, changes, ◌▷◌, when}
 use Rattle.std.proofs.Common.{◌≡◌, refl, Bool, true, is_some}
-use Rattle.profile_machine.specs.Protected.{entering, ceiling_of, new_protected_mark, mode_of, find_held, enter_or, where_let_inside, open_action, begin_action_on, begin_operation, call_operation_of, call_operation, begin_own_operation, call_own_operation, edit_top_protected, begin_call, body_opens, has_room_for_body, serve_call, edit_protected, has_object_open}
+use Rattle.profile_machine.specs.declared.world.marks.Purpose.TheVariants as opened_for
+use Rattle.profile_machine.specs.Protected.{entering, ceiling_of, new_protected_mark, mode_of, find_held, enter_or, where_let_inside, open_action, begin_action_on, begin_operation, call_operation_of, call_operation, begin_own_operation, call_own_operation, edit_top_protected, begin_call, body_opens, has_room_for_body, serve_call, edit_protected, has_object_open, body_of_object}
 use Rattle.machine_laws.proofs.Moves.{LetsIn}
 use Rattle.action_worlds.proofs.FineMoves.{FineMoves}
 use Rattle.action_worlds.proofs.Sound.{GoodWorld, Naming, Free, Good, ReleaseSound, OwnSound}
@@ -134,7 +135,7 @@ begin_operation-from p name s f o h to w good awake lets =
     goes_then-from beside name (next_of p s) _ w good (λ good_onward.
     then-from beside (begin_action_on p name o (mode_of (subprogram_of p f)) None None) _ onward
     (begin_action_on-from p name o (mode_of (subprogram_of p f)) None None onward good_onward ready still (λ e. absurd (false≢true e)) tt tt)
-    (looks-keeps beside _ (λ v. changes-keeps beside _ (opens-alters beside p name _ _ _ refl))))
+    (looks-keeps beside _ (λ v. changes-keeps beside _ (opens-alters beside p name (subprogram_of p f).scope (body_of_object p v (subprogram_of p f).scope o h.subject h.values) (opened_for.Subprogram h.back to) refl))))
 
 call_operation_of-from : (p : Image) (name : Who) (s : StatementNo) (f : SubprogramNo) (actuals : List Actual) (to : Destination) (o : ObjectNo) (w : World) → Good Nobody w → Awake name w → From (Good Nobody) w (call_operation_of p name s f actuals to o)
 unfolding call_operation_of

@@ -12,7 +12,9 @@ use Rattle.profile_machine.specs.declared.world.calls.CallKind.TheVariants as ca
 use Rattle.profile_machine.specs.declared.world.appointments.Due.TheVariants as due_for
 use Rattle.profile_machine.specs.declared.world.lines.Part.{Part}
 use Rattle.profile_machine.specs.Steps.{changes, ◌▷◌}
-use Rattle.profile_machine.specs.Sending.{open_abortable, is_not_future, is_to_be_cancelled, cancel_at_once, appoint_timeout, wait_for_call, wait_or_cancel, not_accepted, send_on, cancel_sent, begin_abortable, timeout_again, sent_not_begun_by, sent_not_begun, new_abortable_mark, abortable_in, may_begin_abortable, is_triggering}
+use Rattle.profile_machine.specs.Calls.{call_of}
+use Rattle.profile_machine.specs.Appointments.{appoint}
+use Rattle.profile_machine.specs.Sending.{open_abortable, is_not_future, is_to_be_cancelled, cancel_at_once, appoint_timeout, wait_for_call, wait_or_cancel, not_accepted, send_on, cancel_sent, begin_abortable, timeout_again, sent_not_begun_by, sent_not_begun, new_abortable_mark, abortable_in, may_begin_abortable, is_triggering, may_time_out}
 use Rattle.action_worlds.proofs.FineMoves.{FineMoves}
 use Rattle.action_worlds.proofs.Sound.{GoodWorld, Naming, Good}
 use Rattle.action_worlds.proofs.GoodMoves.{Nobody, good_moves, free-waiting}
@@ -40,10 +42,13 @@ module _ {G : GoodWorld} {F : Naming} (moves : FineMoves G F) where
   unfolding cancel_at_once
   cancel_at_once-keeps p part c = search (attempt_with-keeps, resume-keeps, nothing-keeps)
 
-  appoint_timeout-alters : (c : CallNo) (moment : Option ℤ) → Alters G (appoint_timeout c moment)
+  appoint_timeout-alters : (p : Image) (c : CallNo) (moment : Option ℤ) → Alters G (appoint_timeout p c moment)
   unfolding Alters
-  appoint_timeout-alters c None w good = good
-  appoint_timeout-alters c (Some moment) w good = moves.appoints (due_for.Timeout c) moment w good
+  appoint_timeout-alters p c None w good = good
+  appoint_timeout-alters p c (Some moment) w good = timed (may_time_out p w (call_of w c)) where
+    timed : (may : Bool) → G (cond may (appoint (due_for.Timeout c) moment w) w)
+    timed true = moves.appoints (due_for.Timeout c) moment w good
+    timed false = good
 
   pub wait_for_call-keeps : (c : Call) → F (who.Task c.caller) → Keeps G (wait_for_call c)
   unfolding wait_for_call
@@ -52,7 +57,7 @@ module _ {G : GoodWorld} {F : Naming} (moves : FineMoves G F) where
   wait_or_cancel-keeps : (p : Image) (part : Part) (c : Call) (test : Bool) → F (who.Task c.caller) → Keeps G (wait_or_cancel p part c test)
   unfolding wait_or_cancel
   wait_or_cancel-keeps p part c true free = cancel_at_once-keeps p part c
-  wait_or_cancel-keeps p part c false free = then-keeps moves (changes (appoint_timeout c.number c.moment)) (wait_for_call c) (changes-keeps moves _ (appoint_timeout-alters c.number c.moment)) (wait_for_call-keeps c free)
+  wait_or_cancel-keeps p part c false free = then-keeps moves (changes (appoint_timeout p c.number c.moment)) (wait_for_call c) (changes-keeps moves _ (appoint_timeout-alters p c.number c.moment)) (wait_for_call-keeps c free)
 
   pub not_accepted-keeps : (p : Image) (part : Part) (c : Call) (kind : CallKind) → F (who.Task c.caller) → Keeps G (not_accepted p part c kind)
   unfolding not_accepted
@@ -69,10 +74,10 @@ module _ {G : GoodWorld} {F : Naming} (moves : FineMoves G F) where
   unfolding cancel_sent
   cancel_sent-keeps p c = search (changes-keeps, unqueued-alters, then-keeps, says-keeps, deliver-keeps) depth 6
 
-  unless_firm-alters : (firm : Bool) (c : Call) → Alters G (cond firm (λ v. v) (appoint_timeout c.number c.moment))
+  unless_firm-alters : (p : Image) (firm : Bool) (c : Call) → Alters G (cond firm (λ v. v) (appoint_timeout p c.number c.moment))
   unfolding Alters
-  unless_firm-alters true c w good = good
-  unless_firm-alters false c w good = appoint_timeout-alters c.number c.moment w good
+  unless_firm-alters p true c w good = good
+  unless_firm-alters p false c w good = appoint_timeout-alters p c.number c.moment w good
 
   begins_part-keeps : (p : Image) (d : Call) → F (who.Task d.caller) → Keeps G (changes (open_abortable p (who.Task d.caller) d.statement (Some d.number)) ▷ ready p TheFinish (who.Task d.caller))
   begins_part-keeps p d free =
@@ -108,7 +113,7 @@ unfolding sent_not_begun_by
 sent_not_begun_by-keeps p c true = cancel_sent-keeps (good_moves Nobody) p c
 sent_not_begun_by-keeps p c false =
     let beside = good_moves Nobody in
-    then-keeps beside (changes (timeout_again c)) (begin_abortable p c.number) (changes-keeps beside _ (unless_firm-alters beside c.firm c)) (begin_abortable-keeps p c.number)
+    then-keeps beside (changes (timeout_again p c)) (begin_abortable p c.number) (changes-keeps beside _ (unless_firm-alters beside p c.firm c)) (begin_abortable-keeps p c.number)
 
 pub sent_not_begun-keeps : (p : Image) (c : CallNo) → Keeps (Good Nobody) (sent_not_begun p c)
 unfolding sent_not_begun

@@ -28,7 +28,7 @@ use Rattle.profile_machine.specs.Frames.{has_room, pass_on, in_protected, is_def
 use Rattle.profile_machine.specs.Scopes.{home, end_scope, cells_of, scope_in_use, open_scope, plainly}
 use Rattle.profile_machine.specs.Controlled.{next_to_finalize, finalize, top_region, edit_top_scope}
 use Rattle.profile_machine.specs.Declarations.{set_thing}
-use Rattle.profile_machine.specs.Tasking.{unit_of_declaration, optional_span, created_task, add_task, says_created, create_task, create, fall_from, unit_of_task, begin_task, says_done, fail_to_begin, activate_one, await_group, activate_group, activate, end_own_activation, end_made, complete_if_task, wait_for_dependents, leave_region, end_environment, end_task, is_normal, end_body, behind_scope, says_left, end_of_scope, go_on_leaving, end_scope_mark_of, end_scope_mark, says_abort, abort_one, unwind_one, abort_all, abort_statement, block_at_terminate, take_terminates, unwind_all, no_failure, is_to_activate, top_region_of_scope, is_to_abort, left_by, abnormal_task, named_tasks, raises_behind, is_made_in, leaves_as, being_left_mark, left_so_frame, is_task_scope, activated_task}
+use Rattle.profile_machine.specs.Tasking.{unit_of_declaration, optional_span, created_task, add_task, says_created, create_task, create, fall_from, unit_of_task, begin_task, says_done, fail_to_begin, activate_one, await_group, activate_group, activate, end_own_activation, end_made, complete_if_task, wait_for_dependents, leave_region, end_environment, end_task, is_normal, end_body, behind_scope, says_left, end_of_scope, go_on_leaving, end_scope_mark_of, end_scope_mark, says_abort, abort_one, unwind_by, unwind_one, abort_all, abort_statement, block_at_terminate, take_terminates, unwind_all, no_failure, is_to_activate, top_region_of_scope, is_to_abort, left_by, abnormal_task, named_tasks, raises_behind, is_made_in, leaves_as, being_left_mark, left_so_frame, is_task_scope, activated_task}
 use Rattle.std.proofs.Common.{◌≡◌, refl, sym, ap, ◌∙◌, subst, ◌⊎◌, inl, inr}
 use Rattle.profile_machine.specs.Values.{seen_by}
 use Rattle.action_worlds.proofs.FineMoves.{FineMoves}
@@ -161,9 +161,14 @@ module _ {G : GoodWorld} {F : Naming} (moves : FineMoves G F) where
   unfolding abort_one
   abort_one-keeps p actor t free = abort_one_if-keeps p actor t (is_made t) free
 
+  unwind_by-keeps : (p : Image) (name : Who) (acts : Bool) → Keeps G (unwind_by p name acts)
+  unfolding unwind_by
+  unwind_by-keeps p name false = search (unwind-keeps)
+  unwind_by-keeps p name true = search (looks-keeps, when-keeps, unwind-keeps)
+
   pub unwind_one-keeps : (p : Image) (actor : Who) (t : world.Task) → Keeps G (unwind_one p actor t)
   unfolding unwind_one
-  unwind_one-keeps p actor t = search (unwind-keeps)
+  unwind_one-keeps p actor t = search (unwind_by-keeps)
 
   for_member-keeps : (ts : List world.Task) (f : world.Task → Step) → ((t : world.Task) → Member t ts → Keeps G (f t)) → Keeps G (for_each ts f)
   for_member-keeps [] f a = nothing-keeps moves

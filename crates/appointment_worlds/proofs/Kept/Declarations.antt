@@ -26,7 +26,8 @@ use Rattle.profile_machine.specs.Declarations.{default_cells, set_defaults, init
 use Rattle.profile_machine.specs.Frames.{goes}
 use Rattle.profile_machine.specs.Operators.{◌>>=◌, unless}
 use Rattle.profile_machine.specs.Program.{declaration_of, next_of, protected_unit_of, controlled_of}
-use Rattle.profile_machine.specs.Statements.{copy_cells, put_cells}
+use Rattle.profile_machine.specs.Statements.{copy_cells}
+use Rattle.profile_machine.specs.Scopes.{put_cells}
 use Rattle.profile_machine.specs.Steps.{changes, ◌▷◌}
 use Rattle.profile_machine.specs.Values.{Seen, value, object_cell, component_at, protected_cells, controlled_cells, seen_by}
 use Rattle.machine_laws.proofs.Moves.{StepRelation, MoveRelation}

@@ -1,5 +1,5 @@
 -- Calls that are sent on, and abortable parts that begin: each step keeps a relation that its parts keep.
-use Rattle.std.proofs.Common.{◌≡◌, ℤ, Bool, true, false, cond, not, ◌&&◌, Option, Some, None, refl}
+use Rattle.std.proofs.Common.{◌≡◌, ℤ, Bool, true, false, cond, not, ◌&&◌, Option, Some, None, refl, []}
 use Rattle.std.specs.Prelude.{is_none}
 use Rattle.ann_base.specs.declared.identities.CallNo.{CallNo}
 use Rattle.trace_text.specs.declared.events.Who.{Who}
@@ -19,7 +19,9 @@ use Rattle.profile_machine.specs.CallEnds.{waits_for_call, abortable_depth}
 use Rattle.profile_machine.specs.Dispatching.{ready}
 use Rattle.profile_machine.specs.Frames.{has_room, new_frame}
 use Rattle.profile_machine.specs.Program.{form_of}
-use Rattle.profile_machine.specs.Sending.{may_begin_abortable, is_triggering, open_abortable, is_not_future, is_to_be_cancelled, cancel_at_once, appoint_timeout, wait_for_call, wait_or_cancel, not_accepted, send_on, cancel_sent, begin_abortable, timeout_again, sent_not_begun_by, sent_not_begun, new_abortable_mark, abortable_in}
+use Rattle.profile_machine.specs.Calls.{call_of}
+use Rattle.profile_machine.specs.Appointments.{appoint}
+use Rattle.profile_machine.specs.Sending.{may_begin_abortable, is_triggering, open_abortable, is_not_future, is_to_be_cancelled, cancel_at_once, appoint_timeout, wait_for_call, wait_or_cancel, not_accepted, send_on, cancel_sent, begin_abortable, timeout_again, sent_not_begun_by, sent_not_begun, new_abortable_mark, abortable_in, may_time_out}
 use Rattle.profile_machine.specs.Steps.{◌▷◌, when, nothing, changes}
 use Rattle.profile_machine.specs.Tasks.{waiting_of}
 use Rattle.machine_laws.proofs.Moves.{StepRelation, MoveRelation}
@@ -47,9 +49,13 @@ module _ {G : GoodWorld} {May : Naming} {R : StepRelation} {Q : MoveRelation} (m
   unfolding cancel_at_once
   cancel_at_once-keeps p part c = search (attempt_with-keeps, resume-keeps, nothing-keeps)
 
-  appoint_timeout-alters : (c : CallNo) (moment : Option ℤ) → Alters G R (appoint_timeout c moment)
-  appoint_timeout-alters c None = unchanged-alters moves
-  appoint_timeout-alters c (Some moment) = appoint-alters moves (due_for.Timeout c) moment (λ t. refl)
+  appoint_timeout-alters : (p : Image) (c : CallNo) (moment : Option ℤ) → Alters G R (appoint_timeout p c moment)
+  unfolding Alters
+  appoint_timeout-alters p c None w good = moves.stays w good
+  appoint_timeout-alters p c (Some moment) w good = timed (may_time_out p w (call_of w c)) where
+    timed : (may : Bool) → R w [] (cond may (appoint (due_for.Timeout c) moment w) w)
+    timed true = moves.appoints (due_for.Timeout c) moment w good (λ t. refl)
+    timed false = moves.stays w good
 
   pub wait_for_call-keeps : (c : Call) → May (who.Task c.caller) → Keeps G R (wait_for_call c)
   unfolding wait_for_call
@@ -58,7 +64,7 @@ module _ {G : GoodWorld} {May : Naming} {R : StepRelation} {Q : MoveRelation} (m
   wait_or_cancel-keeps : (p : Image) (part : Part) (c : Call) (test : Bool) → May (who.Task c.caller) → Keeps G R (wait_or_cancel p part c test)
   unfolding wait_or_cancel
   wait_or_cancel-keeps p part c true may = cancel_at_once-keeps p part c
-  wait_or_cancel-keeps p part c false may = then-keeps moves _ _ (changes-keeps moves _ (appoint_timeout-alters c.number c.moment)) (wait_for_call-keeps c may)
+  wait_or_cancel-keeps p part c false may = then-keeps moves _ _ (changes-keeps moves _ (appoint_timeout-alters p c.number c.moment)) (wait_for_call-keeps c may)
 
   pub not_accepted-keeps : (p : Image) (part : Part) (c : Call) (kind : CallKind) → May (who.Task c.caller) → Keeps G R (not_accepted p part c kind)
   unfolding not_accepted
@@ -89,16 +95,16 @@ module _ {G : GoodWorld} {May : Naming} {R : StepRelation} {Q : MoveRelation} (m
   unfolding begin_abortable
   begin_abortable-keeps p c = with_call-keeps moves c _ (λ d. looks-from moves _ (λ w good. opens_where p d w (may_begin_abortable w d) good refl))
 
-  timeout_again-alters : (c : Call) → Alters G R (timeout_again c)
-  timeout_again-alters c = unless_firm c.firm where
-    unless_firm : (firm : Bool) → Alters G R (cond firm (λ v. v) (appoint_timeout c.number c.moment))
+  timeout_again-alters : (p : Image) (c : Call) → Alters G R (timeout_again p c)
+  timeout_again-alters p c = unless_firm c.firm where
+    unless_firm : (firm : Bool) → Alters G R (cond firm (λ v. v) (appoint_timeout p c.number c.moment))
     unless_firm true = unchanged-alters moves
-    unless_firm false = appoint_timeout-alters c.number c.moment
+    unless_firm false = appoint_timeout-alters p c.number c.moment
 
   sent_not_begun_by-keeps : (p : Image) (c : Call) (test : Bool) → Keeps G R (sent_not_begun_by p c test)
   unfolding sent_not_begun_by
   sent_not_begun_by-keeps p c true = cancel_sent-keeps p c
-  sent_not_begun_by-keeps p c false = then-keeps moves _ _ (changes-keeps moves _ (timeout_again-alters c)) (begin_abortable-keeps p c.number)
+  sent_not_begun_by-keeps p c false = then-keeps moves _ _ (changes-keeps moves _ (timeout_again-alters p c)) (begin_abortable-keeps p c.number)
 
   pub sent_not_begun-keeps : (p : Image) (c : CallNo) → Keeps G R (sent_not_begun p c)
   unfolding sent_not_begun

@@ -38,7 +38,7 @@ use Rattle.profile_machine.specs.Masters.{has_dependents, may_terminate, leave_b
 use Rattle.profile_machine.specs.Program.{declaration_of, next_of, scope_of, task_unit_of}
 use Rattle.profile_machine.specs.Scopes.{plainly, open_scope, home, cells_of, scope_in_use}
 use Rattle.profile_machine.specs.Steps.{nothing, Step, changes, looks, for_some, ◌▷◌, for_each}
-use Rattle.profile_machine.specs.Tasking.{activated_task, unit_of_declaration, optional_span, created_task, add_task, says_created, create_task, create, fall_from, unit_of_task, begin_task, says_done, fail_to_begin, activate_one, await_group, activate_group, activate, end_own_activation, end_made, complete_if_task, wait_for_dependents, leave_region, end_environment, end_task, is_normal, end_body, behind_scope, says_left, end_of_scope, go_on_leaving, end_scope_mark_of, end_scope_mark, says_abort, abort_one, unwind_one, abort_all, abort_statement, unwind_all, no_failure, is_to_activate, top_region_of_scope, is_to_abort, left_by, abnormal_task, named_tasks}
+use Rattle.profile_machine.specs.Tasking.{activated_task, unit_of_declaration, optional_span, created_task, add_task, says_created, create_task, create, fall_from, unit_of_task, begin_task, says_done, fail_to_begin, activate_one, await_group, activate_group, activate, end_own_activation, end_made, complete_if_task, wait_for_dependents, leave_region, end_environment, end_task, is_normal, end_body, behind_scope, says_left, end_of_scope, go_on_leaving, end_scope_mark_of, end_scope_mark, says_abort, abort_one, unwind_by, unwind_one, abort_all, abort_statement, unwind_all, no_failure, is_to_activate, top_region_of_scope, is_to_abort, left_by, abnormal_task, named_tasks}
 use Rattle.profile_machine.specs.Tasks.{with_frames, waiting_in, task_at, is_made_state, is_made, edit_task_found, edit_task, task_of}
 use Rattle.profile_machine.specs.Unwinding.{any_struck}
 use Rattle.profile_machine.specs.Values.{seen_by}
@@ -164,9 +164,14 @@ module _ {G : GoodWorld} {May : Naming} {R : StepRelation} {Q : MoveRelation} (m
   unfolding abort_one
   abort_one-keeps p actor t = search (says_abort-keeps, then-keeps, cond-keeps, end_made-keeps, changes-keeps, strike_outermost-alters)
 
+  unwind_by-keeps : (p : Image) (name : Who) (acts : Bool) → Keeps G R (unwind_by p name acts)
+  unfolding unwind_by
+  unwind_by-keeps p name false = search (unwind-keeps)
+  unwind_by-keeps p name true = search (looks-keeps, when-keeps, unwind-keeps)
+
   pub unwind_one-keeps : (p : Image) (actor : Who) (t : world.Task) → Keeps G R (unwind_one p actor t)
   unfolding unwind_one
-  unwind_one-keeps p actor t = search (unwind-keeps)
+  unwind_one-keeps p actor t = search (unwind_by-keeps)
 
   pub abort_all-keeps : (p : Image) (actor : Who) (tasks : List world.Task) → Keeps G R (abort_all p actor tasks)
   unfolding abort_all

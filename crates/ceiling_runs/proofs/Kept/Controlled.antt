@@ -5,8 +5,8 @@ use Rattle.ceiling_runs.proofs.Kept.Frames.{edit_top-alters, given-keeps, goes-k
 use Rattle.ceiling_runs.proofs.Kept.Scopes.{open_scope-alters, write_cell-alters}
 use Rattle.ceiling_runs.proofs.Kept.Tasks.{plain-alters, says-keeps}
 use Rattle.ceiling_runs.proofs.LevelMoves.{Silences}
-use Rattle.ceiling_runs.proofs.Triples.{Alters, Keeps, State, branch-keeps, changes-keeps, cond-keeps, looks-keeps, nothing-keeps, sees-keeps, then-keeps}
-use Rattle.profile_machine.specs.Controlled.{adjust_by, assign_controlled, assign_located, assign_registered, begin_assignment, behind_finalize, copy_object, do_step, edit_assign, edit_scope_mark, edit_top_assign, edit_top_scope, end_in_assign, end_in_finalize, end_in_initialize, finalize, finalize_by, finalize_has_raised, finalize_target_by, first_place, has_room_to_adjust, has_room_to_finalize, initialize, initialize_by, is_assignment, leave_without_room, no_longer_registered, open_finalize, open_operation, register, registered_as, registered_object, registers, step_with, top_region}
+use Rattle.ceiling_runs.proofs.Triples.{Alters, Keeps, State, branch-keeps, changes-keeps, cond-keeps, looks-keeps, nothing-keeps, sees-keeps, then-keeps, when-keeps}
+use Rattle.profile_machine.specs.Controlled.{adjust_by, assign_controlled, assign_located, assign_registered, begin_assignment, behind_finalize, copy_object, do_step, edit_assign, edit_scope_mark, edit_top_assign, edit_top_scope, end_in_assign, end_in_finalize, end_in_initialize, finalize_now, finalize, finalize_by, finalize_has_raised, finalize_target_by, first_place, has_room_to_adjust, has_room_to_finalize, initialize, initialize_by, is_assignment, leave_without_room, no_longer_registered, open_finalize, open_operation, register, registered_as, registered_object, registers, step_with, top_region}
 use Rattle.profile_machine.specs.Frames.{pass_on, top_of, with_mark}
 use Rattle.profile_machine.specs.Steps.{changes}
 use Rattle.profile_machine.specs.declared.image.Image.{Image}
@@ -95,9 +95,13 @@ module _ {X : State} (quiet : Silences X) where
   finalize_by-keeps p name r None = nothing-keeps
   finalize_by-keeps p name r (Some f) = looks-keeps _ (λ w. branch-keeps (has_room_to_finalize p w name f) (open_finalize p name r.object r.located f) (changes (edit_top_scope name finalize_has_raised)) (open_finalize-keeps p name r.object r.located f) (changes-keeps _ (edit_top_scope-alters name finalize_has_raised)))
 
+  finalize_now-keeps : (p : Image) (name : Who) (r : Registered) → Keeps X (finalize_now p name r)
+  unfolding finalize_now
+  finalize_now-keeps p name r = search (says-keeps, then-keeps, changes-keeps, no_longer_registered-alters, finalize_by-keeps) depth 6
+
   pub finalize-keeps : (p : Image) (name : Who) (r : Registered) → Keeps X (finalize p name r)
   unfolding finalize
-  finalize-keeps p name r = search (says-keeps, then-keeps, changes-keeps, no_longer_registered-alters, finalize_by-keeps) depth 6
+  finalize-keeps p name r = search (looks-keeps, when-keeps, finalize_now-keeps)
 
   pub begin_assignment-keeps : (p : Image) (name : Who) (s : StatementNo) (target source : ℕ) → Keeps X (begin_assignment p name s target source)
   unfolding begin_assignment

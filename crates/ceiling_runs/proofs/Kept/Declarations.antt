@@ -12,7 +12,8 @@ use Rattle.profile_machine.specs.Declarations.{budget_declared, components_initi
 use Rattle.profile_machine.specs.Frames.{goes}
 use Rattle.profile_machine.specs.Operators.{unless, ◌>>=◌}
 use Rattle.profile_machine.specs.Program.{controlled_of, declaration_of, next_of, protected_unit_of}
-use Rattle.profile_machine.specs.Statements.{copy_cells, put_cells}
+use Rattle.profile_machine.specs.Statements.{copy_cells}
+use Rattle.profile_machine.specs.Scopes.{put_cells}
 use Rattle.profile_machine.specs.Steps.{changes, ◌▷◌}
 use Rattle.profile_machine.specs.Values.{Seen, component_at, controlled_cells, object_cell, protected_cells, seen_by, value}
 use Rattle.profile_machine.specs.declared.declarations.DeclarationKind.{DeclarationKind}

@@ -10,8 +10,8 @@ use Rattle.profile_machine.specs.Appointments.{appoint, drop_appointment, drop_d
 use Rattle.profile_machine.specs.Frames.{new_frame}
 use Rattle.profile_machine.specs.Notation.{scope}
 use Rattle.profile_machine.specs.Program.{declaration_of, scope_of}
-use Rattle.profile_machine.specs.Scopes.{begin_scope, draw_region, edit_cells, end_scope, new_scope_mark, next_id, open_scope, region_of_next, write_cell}
-use Rattle.profile_machine.specs.Statements.{cells_from, copy_cells, put, put_cells}
+use Rattle.profile_machine.specs.Scopes.{begin_scope, draw_region, edit_cells, end_scope, new_scope_mark, next_id, open_scope, region_of_next, write_cell, put_cells}
+use Rattle.profile_machine.specs.Statements.{cells_from, copy_cells, put}
 use Rattle.profile_machine.specs.Values.{moment, value}
 use Rattle.profile_machine.specs.Words.{without}
 use Rattle.profile_machine.specs.declared.image.Image.{Image}

@@ -14,7 +14,9 @@ use Rattle.profile_machine.specs.CallEnds.{abortable_depth, resume, waits_for_ca
 use Rattle.profile_machine.specs.Dispatching.{ready}
 use Rattle.profile_machine.specs.Frames.{has_room, new_frame}
 use Rattle.profile_machine.specs.Program.{form_of}
-use Rattle.profile_machine.specs.Sending.{abortable_in, appoint_timeout, begin_abortable, cancel_at_once, cancel_sent, is_not_future, is_to_be_cancelled, is_triggering, may_begin_abortable, new_abortable_mark, not_accepted, open_abortable, send_on, sent_call, sent_not_begun, sent_not_begun_by, timeout_again, wait_for_call, wait_or_cancel}
+use Rattle.profile_machine.specs.Calls.{call_of}
+use Rattle.profile_machine.specs.Appointments.{appoint}
+use Rattle.profile_machine.specs.Sending.{abortable_in, appoint_timeout, begin_abortable, cancel_at_once, cancel_sent, is_not_future, is_to_be_cancelled, is_triggering, may_begin_abortable, new_abortable_mark, not_accepted, open_abortable, send_on, sent_call, sent_not_begun, sent_not_begun_by, timeout_again, wait_for_call, wait_or_cancel, may_time_out}
 use Rattle.profile_machine.specs.Steps.{changes, nothing, when, ◌▷◌}
 use Rattle.profile_machine.specs.Tasks.{task_of, waiting_of}
 use Rattle.profile_machine.specs.Values.{moment}
@@ -28,10 +30,11 @@ use Rattle.profile_machine.specs.declared.world.calls.CallKind.TheVariants as ca
 use Rattle.profile_machine.specs.declared.world.calls.Outcome.TheVariants as call_ended
 use Rattle.profile_machine.specs.declared.world.calls.Sending.{Sending}
 use Rattle.profile_machine.specs.declared.world.lines.Line.TheVariants as line
+use Rattle.profile_machine.specs.declared.world.lines.Said.{Said}
 use Rattle.profile_machine.specs.declared.world.lines.Part.{Part}
 use Rattle.profile_machine.specs.declared.world.lines.Part.TheVariants.{TheFinish}
 use Rattle.profile_machine.specs.declared.world.tasks.Waiting.TheVariants as waits_for
-use Rattle.std.proofs.Common.{Bool, None, Option, Some, cond, false, not, refl, true, ℤ, ◌&&◌, ◌≡◌}
+use Rattle.std.proofs.Common.{Bool, None, Option, Some, cond, false, not, refl, true, ℤ, ◌&&◌, ◌≡◌, List}
 use Rattle.std.specs.Prelude.{is_none}
 use Rattle.trace_text.specs.declared.events.Who.{Who}
 use Rattle.trace_text.specs.declared.events.Who.TheVariants as who
@@ -52,16 +55,19 @@ module _ {X : State} (quiet : Silences X) where
   unfolding cancel_at_once
   cancel_at_once-keeps p part c = attempt_with-keeps quiet p part c (resume p part c call_ended.Cancelled) nothing (resume-keeps quiet p part c call_ended.Cancelled) nothing-keeps
 
-  pub appoint_timeout-alters : (c : CallNo) (moment : Option ℤ) → Alters X (appoint_timeout c moment)
-  appoint_timeout-alters c None = unchanged-alters
-  appoint_timeout-alters c (Some moment) = appoint-alters quiet (due_for.Timeout c) moment (λ t. refl)
+  pub appoint_timeout-alters : (p : Image) (c : CallNo) (moment : Option ℤ) → Alters X (appoint_timeout p c moment)
+  appoint_timeout-alters p c None = unchanged-alters
+  appoint_timeout-alters p c (Some moment) = record { turns = λ w said h. timed w said h (may_time_out p w (call_of w c)) } where
+    timed : (w : World) (said : List Said) → X w said → (may : Bool) → X (cond may (appoint (due_for.Timeout c) moment w) w) said
+    timed w said h true = (appoint-alters quiet (due_for.Timeout c) moment (λ t. refl)).turns w said h
+    timed w said h false = h
 
-  timeout_if-alters : (firm : Bool) (c : Call) → Alters X (cond firm (λ w. w) (appoint_timeout c.number c.moment))
-  timeout_if-alters true c = unchanged-alters
-  timeout_if-alters false c = appoint_timeout-alters c.number c.moment
+  timeout_if-alters : (p : Image) (firm : Bool) (c : Call) → Alters X (cond firm (λ w. w) (appoint_timeout p c.number c.moment))
+  timeout_if-alters p true c = unchanged-alters
+  timeout_if-alters p false c = appoint_timeout-alters p c.number c.moment
 
-  pub timeout_again-alters : (c : Call) → Alters X (timeout_again c)
-  timeout_again-alters c = timeout_if-alters c.firm c
+  pub timeout_again-alters : (p : Image) (c : Call) → Alters X (timeout_again p c)
+  timeout_again-alters p c = timeout_if-alters p c.firm c
 
   pub send_on-keeps : (c : CallNo) (s : Sending) → Keeps X (send_on c s)
   unfolding send_on
@@ -75,7 +81,7 @@ module _ {p : Image} {actor : Who} {Fits : Fitting} {Sleeps : Sleeping} {X : Sta
   wait_or_cancel-keeps : (part : Part) (c : Call) (test : Bool) → Keeps X (wait_or_cancel p part c test)
   unfolding wait_or_cancel
   wait_or_cancel-keeps part c true = cancel_at_once-keeps later.base.quiet p part c
-  wait_or_cancel-keeps part c false = then-keeps _ _ (changes-keeps _ (appoint_timeout-alters later.base.quiet c.number c.moment)) (wait_for_call-keeps c)
+  wait_or_cancel-keeps part c false = then-keeps _ _ (changes-keeps _ (appoint_timeout-alters later.base.quiet p c.number c.moment)) (wait_for_call-keeps c)
 
   pub not_accepted-keeps : (part : Part) (c : Call) (kind : CallKind) → Keeps X (not_accepted p part c kind)
   unfolding not_accepted
@@ -108,7 +114,7 @@ module _ {p : Image} {actor : Who} {Fits Narrow : Fitting} {Sleeps : Sleeping} {
   sent_not_begun_by-keeps : (c : Call) (test : Bool) → Keeps I (sent_not_begun_by p c test)
   unfolding sent_not_begun_by
   sent_not_begun_by-keeps c true = cancel_sent-keeps c
-  sent_not_begun_by-keeps c false = then-keeps _ _ (changes-keeps _ (timeout_again-alters acting.later.base.quiet c)) (begin_abortable-keeps c.number)
+  sent_not_begun_by-keeps c false = then-keeps _ _ (changes-keeps _ (timeout_again-alters acting.later.base.quiet p c)) (begin_abortable-keeps c.number)
 
   pub sent_not_begun-keeps : (c : CallNo) → Keeps I (sent_not_begun p c)
   unfolding sent_not_begun

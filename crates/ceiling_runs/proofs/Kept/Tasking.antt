@@ -22,11 +22,11 @@ use Rattle.profile_machine.specs.Scopes.{cells_of, end_scope, home, plainly, sco
 use Rattle.profile_machine.specs.Serving.{end_body_of_entry}
 use Rattle.profile_machine.specs.Steps.{Step, changes, for_each, looks, says, when}
 use Rattle.profile_machine.specs.Subprograms.{end_subprogram}
-use Rattle.profile_machine.specs.Tasking.{abnormal_task, abort_all, abort_one, abort_statement, activate, activate_group, activate_one, activated_task, await_group, begin_task, behind_scope, being_left_mark, block_at_terminate, complete_if_task, create, create_task, created_task, end_body, end_environment, end_made, end_of_scope, end_own_activation, end_scope_mark, end_scope_mark_of, end_task, fail_to_begin, fails_by, fall_from, go_on_leaving, group_fails, is_environment, is_made_in, is_normal, is_task_scope, is_to_abort, is_to_activate, leave_region, leaves_as, left_by, left_so_frame, named_tasks, no_failure, optional_span, raises_behind, says_abort, says_done, says_left, take_terminates, top_region_of_scope, unit_of_declaration, unit_of_task, unwind_all, unwind_one, wait_for_dependents}
-use Rattle.profile_machine.specs.Tasks.{edit_task, is_made, task_of, waiting_of}
+use Rattle.profile_machine.specs.Tasking.{abnormal_task, abort_all, abort_one, abort_statement, activate, activate_group, activate_one, activated_task, await_group, begin_task, behind_scope, being_left_mark, block_at_terminate, complete_if_task, create, create_task, created_task, end_body, end_environment, end_made, end_of_scope, end_own_activation, end_scope_mark, end_scope_mark_of, end_task, fail_to_begin, fails_by, fall_from, go_on_leaving, group_fails, is_environment, is_made_in, is_normal, is_task_scope, is_to_abort, is_to_activate, leave_region, leaves_as, left_by, left_so_frame, named_tasks, no_failure, optional_span, raises_behind, says_abort, says_done, says_left, take_terminates, top_region_of_scope, unit_of_declaration, unit_of_task, unwind_all, unwind_by, unwind_one, wait_for_dependents}
+use Rattle.profile_machine.specs.Tasks.{edit_task, is_made, is_runnable, task_of, waiting_of}
 use Rattle.profile_machine.specs.Unwinding.{any_struck, strike_outermost}
 use Rattle.profile_machine.specs.Values.{seen_by}
-use Rattle.profile_machine.specs.Words.{is_the, same_region}
+use Rattle.profile_machine.specs.Words.{is_the, same_region, same_who}
 use Rattle.profile_machine.specs.declared.image.Image.{Image}
 use Rattle.profile_machine.specs.declared.numbers.DeclNo.{DeclNo}
 use Rattle.profile_machine.specs.declared.numbers.StatementNo.{StatementNo}
@@ -73,9 +73,14 @@ module _ {X : State} (quiet : Silences X) where
   end_environment-alters leaving = plain-alters quiet (end_environment leaving) (λ w. refl) (λ w. refl) (λ w. refl) (λ w. refl) (λ w. refl) (λ w t e. e)
 
 module _ {p : Image} {Fits : Fitting} {Sleeps : Sleeping} {X : State} (moves : BaseMoves p Fits Sleeps X) (actor : Who) (fits : (name : Who) → Fits (part_of actor name) name) where
+  unwind_by-keeps : (name : Who) (acts : Bool) → Fits (cond acts Own (OfOther name)) name → Keeps X (unwind_by p name acts)
+  unfolding unwind_by
+  unwind_by-keeps name false fit = unwind-keeps moves (OfOther name) name fit
+  unwind_by-keeps name true fit = looks-keeps _ (λ w. when-keeps (is_runnable (task_of w name)) _ (unwind-keeps moves Own name fit))
+
   unwind_one-keeps : (t : world.Task) → Keeps X (unwind_one p actor t)
   unfolding unwind_one
-  unwind_one-keeps t = unwind-keeps moves (part_of actor t.who) t.who (fits t.who)
+  unwind_one-keeps t = unwind_by-keeps t.who (same_who actor t.who) (fits t.who)
 
   pub unwind_each-keeps : (tasks : List world.Task) → Keeps X (for_each tasks (unwind_one p actor))
   unwind_each-keeps tasks = for_each-keeps tasks (unwind_one p actor) unwind_one-keeps

@@ -18,16 +18,16 @@ use Rattle.profile_machine.specs.declared.world.marks.AssignMark.{AssignMark}
 use Rattle.profile_machine.specs.declared.world.marks.AssignStep.{AssignStep}
 use Rattle.profile_machine.specs.declared.world.marks.AssignStep.TheVariants as assigning
 use Rattle.profile_machine.specs.declared.world.lines.Part.TheVariants.{Own}
-use Rattle.profile_machine.specs.Steps.{says, changes, ◌▷◌, looks}
-use Rattle.profile_machine.specs.Scopes.{write_cell}
-use Rattle.profile_machine.specs.Statements.{cells_from, put_cells}
-use Rattle.profile_machine.specs.Controlled.{first_place, open_operation, top_region, registered_as, register, initialize_by, initialize, end_in_initialize, edit_top_scope, finalize_has_raised, open_finalize, has_room_to_finalize, finalize_by, no_longer_registered, finalize, behind_finalize, end_in_finalize, begin_assignment, assign_registered, assign_located, assign_controlled, edit_top_assign, leave_without_room, finalize_target_by, has_room_to_adjust, adjust_by, copy_components_of, copy_object, do_step, step_with, end_in_assign, edit_scope_mark, edit_assign, registered_object, registers, is_assignment, registered_at, is_located, same_located, new_assign_mark, next_to_finalize, type_of}
+use Rattle.profile_machine.specs.Steps.{says, changes, ◌▷◌, looks, when, nothing}
+use Rattle.profile_machine.specs.Scopes.{write_cell, put_cells}
+use Rattle.profile_machine.specs.Statements.{cells_from}
+use Rattle.profile_machine.specs.Controlled.{first_place, open_operation, top_region, registered_as, register, initialize_by, initialize, end_in_initialize, edit_top_scope, finalize_has_raised, open_finalize, has_room_to_finalize, finalize_by, no_longer_registered, is_being_assigned, finalize_now, finalize, behind_finalize, end_in_finalize, begin_assignment, assign_registered, assign_located, assign_controlled, edit_top_assign, leave_without_room, finalize_target_by, has_room_to_adjust, adjust_by, copy_components_of, copy_object, do_step, step_with, end_in_assign, edit_scope_mark, edit_assign, registered_object, registers, is_assignment, registered_at, is_located, same_located, new_assign_mark, next_to_finalize, type_of}
 use Rattle.machine_laws.proofs.Moves.{StepRelation, MoveRelation, own}
 use Rattle.exit_laws.proofs.FineMoves.{GoodWorld, Naming, FineMoves, Openings, nature}
 use Rattle.exit_laws.proofs.Kept.Combinators.{Keeps, Kept, Alters, told_change-from, said_then-from, branch-keeps, changes-from, changes-keeps, cond-keeps, looks-from, looks-keeps, nothing-keeps, sees-keeps, then-keeps, From, changes_then-from, keeps-from, looks_at-from}
 use Rattle.exit_laws.proofs.Kept.Frames.{edit_top-alters, goes-keeps, push-alters, leaves-keeps, raises-keeps, pass_on-keeps, given-keeps, with_room-keeps, with_room-from, goes_then-from, popped}
 use Rattle.exit_laws.proofs.Kept.Scopes.{write_cell-alters, open_scope-alters}
-use Rattle.std.proofs.Common.{◌≡◌, refl, ap, ◌∙◌, [], ◌∷◌}
+use Rattle.std.proofs.Common.{◌≡◌, refl, ap, ◌∙◌, [], ◌∷◌, not}
 use Rattle.std.specs.Prelude.{find}
 use Rattle.profile_machine.specs.declared.world.tasks.Task.{Task}
 use Rattle.trace_text.specs.declared.events.Who.TheVariants as who
@@ -148,12 +148,20 @@ module _ {G : GoodWorld} {May Other : Naming} {Owns : Who → RegionNo → Type 
   finalize_by-keeps p name r (Some f) may = looks-keeps moves _ (λ w. branch-keeps moves (has_room_to_finalize p w name f) (open_finalize p name r.object r.located f) (changes (edit_top_scope name finalize_has_raised)) (search (open_finalize-keeps)) (search (changes-keeps, edit_top_scope-alters)))
 
   -- the newest object of a region that is being left
+  finalize_now-from : (p : Image) (name : Who) (f : Frame) (m : ScopeMark) (r : RegionNo) (x : Registered) (w : World) → G w → May name → top_of w name ≡ Some f → f.mark ≡ Scope m → m.region ≡ Some r → m.being_left ≡ true → next_to_finalize w r ≡ Some x
+      → From R w (finalize_now p name x)
+  unfolding finalize_now
+  finalize_now-from p name f m r x w good may top is region left next =
+      told_change-from moves Own (line.Final name x.object) (no_longer_registered x.object) (finalize_by p name x (type_of p x.located).finalize) w
+      (moves.finalizes name f m r x w good may top is region left next) (finalize_by-keeps p name x (type_of p x.located).finalize may)
+
   pub finalize-from : (p : Image) (name : Who) (f : Frame) (m : ScopeMark) (r : RegionNo) (x : Registered) (w : World) → G w → May name → top_of w name ≡ Some f → f.mark ≡ Scope m → m.region ≡ Some r → m.being_left ≡ true → next_to_finalize w r ≡ Some x
       → From R w (finalize p name x)
   unfolding finalize
-  finalize-from p name f m r x w good may top is region left next =
-      told_change-from moves Own (line.Final name x.object) (no_longer_registered x.object) (finalize_by p name x (type_of p x.located).finalize) w
-      (moves.finalizes name f m r x w good may top is region left next) (finalize_by-keeps p name x (type_of p x.located).finalize may)
+  finalize-from p name f m r x w good may top is region left next = looks_at-from moves (λ v. when (not (is_being_assigned v x.object)) (finalize_now p name x)) w (free-from (not (is_being_assigned w x.object))) where
+    free-from : (free : Bool) → From R w (when free (finalize_now p name x))
+    free-from true = finalize_now-from p name f m r x w good may top is region left next
+    free-from false = keeps-from moves nothing w good (nothing-keeps moves)
 
   -- an object that is registered is assigned to
   begin_assignment-from : (p : Image) (name : Who) (s : StatementNo) (l : Located) (x : Registered) (source : ℕ) (w : World) → G w → May name → registered_at w l ≡ Some x → From R w (begin_assignment p name s x.object source)

@@ -15,10 +15,10 @@ use Rattle.profile_machine.specs.declared.world.marks.AssignStep.{AssignStep}
 use Rattle.profile_machine.specs.declared.world.marks.AssignStep.TheVariants as assigning
 use Rattle.profile_machine.specs.declared.world.lines.Part.TheVariants.{Own}
 use Rattle.profile_machine.specs.Steps.{changes}
-use Rattle.profile_machine.specs.Controlled.{open_operation, initialize_by, initialize, edit_top_scope, finalize_has_raised, open_finalize, has_room_to_finalize, finalize_by, no_longer_registered, finalize, begin_assignment, assign_registered, assign_located, assign_controlled, leave_without_room, finalize_target_by, has_room_to_adjust, adjust_by, do_step, step_with, end_in_assign, registered_object}
+use Rattle.profile_machine.specs.Controlled.{open_operation, initialize_by, initialize, edit_top_scope, finalize_has_raised, open_finalize, has_room_to_finalize, finalize_by, no_longer_registered, finalize_now, finalize, begin_assignment, assign_registered, assign_located, assign_controlled, leave_without_room, finalize_target_by, has_room_to_adjust, adjust_by, do_step, step_with, end_in_assign, registered_object}
 use Rattle.machine_laws.proofs.Moves.{StepRelation, MoveRelation}
 use Rattle.machine_laws.proofs.FineMoves.{GoodWorld, Naming, FineMoves}
-use Rattle.machine_laws.proofs.Kept.Combinators.{Keeps, Alters, branch-keeps, changes-from, changes-keeps, cond-keeps, looks-keeps, nothing-keeps, says-keeps, sees-keeps, then-keeps, From, changes_then-from, keeps-from, looks_at-from}
+use Rattle.machine_laws.proofs.Kept.Combinators.{Keeps, Alters, branch-keeps, changes-from, changes-keeps, cond-keeps, looks-keeps, nothing-keeps, says-keeps, sees-keeps, then-keeps, From, changes_then-from, keeps-from, looks_at-from, when-keeps}
 use Rattle.machine_laws.proofs.Kept.Frames.{goes-keeps, raises-keeps, given-keeps, with_room-keeps, popped}
 use Rattle.handler_laws.proofs.OwnSteps.OwnOpenings.{OwnOpenings, push-alters, open_scope-alters}
 use Rattle.std.proofs.Common.{◌≡◌, []}
@@ -54,9 +54,13 @@ module _ {G : GoodWorld} {May Other : Naming} {R : StepRelation} {Q : MoveRelati
   finalize_by-keeps p name r None may = search (nothing-keeps)
   finalize_by-keeps p name r (Some f) may = looks-keeps moves _ (λ w. branch-keeps moves (has_room_to_finalize p w name f) (open_finalize p name r.object r.located f) (changes (edit_top_scope name finalize_has_raised)) (search (open_finalize-keeps)) (search (changes-keeps, edit_top_scope-alters)))
 
+  finalize_now-keeps : (p : Image) (name : Who) (r : Registered) → May name → Keeps G R (finalize_now p name r)
+  unfolding finalize_now
+  finalize_now-keeps p name r may = search (says-keeps, then-keeps, changes-keeps, no_longer_registered-alters, finalize_by-keeps) depth 6
+
   pub finalize-keeps : (p : Image) (name : Who) (r : Registered) → May name → Keeps G R (finalize p name r)
   unfolding finalize
-  finalize-keeps p name r may = search (says-keeps, then-keeps, changes-keeps, no_longer_registered-alters, finalize_by-keeps) depth 6
+  finalize-keeps p name r may = search (looks-keeps, when-keeps, finalize_now-keeps)
 
   pub begin_assignment-keeps : (p : Image) (name : Who) (s : StatementNo) (target source : ℕ) → May name → Keeps G R (begin_assignment p name s target source)
   unfolding begin_assignment

@@ -28,7 +28,8 @@ use Rattle.profile_machine.specs.Dispatching.{block}
 use Rattle.profile_machine.specs.Operators.{Valued, ◌>>=◌}
 use Rattle.profile_machine.specs.Values.{Seen, seen_by, value, variable, object_cell}
 use Rattle.profile_machine.specs.CallEnds.{store}
-use Rattle.profile_machine.specs.Statements.{null, assign, cells_from, put_cells, copy_cells, array_copied, assign_array, if_statement, go_to_alternative, case_statement, while_turn, loop_cell, put, first_bound, last_bound, bounds_set, for_bounds, first_turn, advance, later_turn, exit_where, exit_statement, block_statement, raise_again, wait_until, delay_to, delay_until, text_of_pieces, put_line}
+use Rattle.profile_machine.specs.Statements.{null, assign, cells_from, copy_cells, array_copied, assign_array, if_statement, go_to_alternative, case_statement, while_turn, loop_cell, put, first_bound, last_bound, bounds_set, for_bounds, first_turn, advance, later_turn, exit_where, exit_statement, block_statement, raise_again, wait_until, delay_to, delay_until, text_of_pieces, put_line}
+use Rattle.profile_machine.specs.Scopes.{put_cells}
 use Rattle.machine_laws.proofs.Moves.{StepRelation, MoveRelation, Puts}
 use Rattle.leaving_laws.proofs.FineMoves.{GoodWorld, Naming, FineMoves}
 use Rattle.leaving_laws.proofs.Kept.Combinators.{Keeps, From, Alters, Gives, bind-gives, changes-keeps, keeps-from, looks-from, looks-keeps, nothing-keeps, ok-gives, said-keeps, sees-keeps, then-from, then-keeps}

@@ -26,7 +26,7 @@ use Rattle.profile_machine.specs.Steps.{Step, changes, looks, for_some, ◌▷�
 use Rattle.profile_machine.specs.Frames.{has_room, pass_on, in_protected, is_deferred, edit_top, goes_on, goes}
 use Rattle.profile_machine.specs.Scopes.{home, end_scope}
 use Rattle.profile_machine.specs.Declarations.{set_thing}
-use Rattle.profile_machine.specs.Tasking.{unit_of_declaration, optional_span, created_task, add_task, says_created, create_task, create, fall_from, unit_of_task, begin_task, says_done, fail_to_begin, activate_one, await_group, activate_group, activate, end_own_activation, end_made, complete_if_task, wait_for_dependents, end_environment, end_task, is_normal, end_body, behind_scope, says_abort, abort_one, unwind_one, abort_all, abort_statement, unwind_all, is_to_abort, named_tasks, is_made_in}
+use Rattle.profile_machine.specs.Tasking.{unit_of_declaration, optional_span, created_task, add_task, says_created, create_task, create, fall_from, unit_of_task, begin_task, says_done, fail_to_begin, activate_one, await_group, activate_group, activate, end_own_activation, end_made, complete_if_task, wait_for_dependents, end_environment, end_task, is_normal, end_body, behind_scope, says_abort, abort_one, unwind_by, unwind_one, abort_all, abort_statement, unwind_all, is_to_abort, named_tasks, is_made_in}
 use Rattle.std.proofs.Common.{◌≡◌, refl, sym, ap, ◌∙◌}
 use Rattle.profile_machine.specs.Values.{seen_by}
 use Rattle.profile_machine.specs.Tasks.{waiting_in, edit_task_found, task_at, with_frames}
@@ -158,9 +158,14 @@ module _ {G : GoodWorld} {May Acts Pushes : Naming} {Stops : Type 0} {R : StepRe
   unfolding abort_one
   abort_one-keeps p actor t stops = search (says_abort-keeps, then-keeps, cond-keeps, end_made-keeps, changes-keeps, strike_outermost-alters)
 
+  unwind_by-keeps : (p : Image) (name : Who) (acts : Bool) → Keeps G R (unwind_by p name acts)
+  unfolding unwind_by
+  unwind_by-keeps p name false = search (unwind-keeps)
+  unwind_by-keeps p name true = search (looks-keeps, when-keeps, unwind-keeps)
+
   pub unwind_one-keeps : (p : Image) (actor : Who) (t : world.Task) → Keeps G R (unwind_one p actor t)
   unfolding unwind_one
-  unwind_one-keeps p actor t = search (unwind-keeps)
+  unwind_one-keeps p actor t = search (unwind_by-keeps)
 
   pub abort_all-keeps : (p : Image) (actor : Who) (tasks : List world.Task) → Stops → Keeps G R (abort_all p actor tasks)
   unfolding abort_all

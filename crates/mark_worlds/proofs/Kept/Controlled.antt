@@ -18,21 +18,21 @@ use Rattle.profile_machine.specs.declared.world.marks.AssignMark.{AssignMark}
 use Rattle.profile_machine.specs.declared.world.marks.AssignStep.{AssignStep}
 use Rattle.profile_machine.specs.declared.world.marks.AssignStep.TheVariants as assigning
 use Rattle.profile_machine.specs.declared.world.lines.Part.TheVariants.{Own}
-use Rattle.profile_machine.specs.Steps.{Step, nothing, says, changes, ◌▷◌, looks}
-use Rattle.profile_machine.specs.Scopes.{write_cell}
-use Rattle.profile_machine.specs.Statements.{cells_from, put_cells}
-use Rattle.profile_machine.specs.Controlled.{type_of, at_step, first_place, open_operation, top_region, registered_as, register, initialize_by, initialize, end_in_initialize, edit_top_scope, finalize_has_raised, open_finalize, has_room_to_finalize, finalize_by, no_longer_registered, finalize, behind_finalize, end_in_finalize, begin_assignment, assign_registered, assign_located, assign_controlled, edit_top_assign, leave_without_room, finalize_target_by, has_room_to_adjust, adjust_by, copy_components_of, copy_object, do_step, step_with, end_in_assign, edit_scope_mark, edit_assign, registered_object, registers, is_assignment, registered_at, is_located, same_located, new_assign_mark, next_to_finalize, type_of}
+use Rattle.profile_machine.specs.Steps.{Step, nothing, says, changes, ◌▷◌, looks, when}
+use Rattle.profile_machine.specs.Scopes.{write_cell, put_cells}
+use Rattle.profile_machine.specs.Statements.{cells_from}
+use Rattle.profile_machine.specs.Controlled.{type_of, at_step, first_place, open_operation, top_region, registered_as, register, initialize_by, initialize, end_in_initialize, edit_top_scope, finalize_has_raised, open_finalize, has_room_to_finalize, finalize_by, no_longer_registered, is_being_assigned, finalize_now, finalize, behind_finalize, end_in_finalize, begin_assignment, assign_registered, assign_located, assign_controlled, edit_top_assign, leave_without_room, finalize_target_by, has_room_to_adjust, adjust_by, copy_components_of, copy_object, do_step, step_with, end_in_assign, edit_scope_mark, edit_assign, registered_object, registers, is_assignment, registered_at, is_located, same_located, new_assign_mark, next_to_finalize, is_number}
 use Rattle.machine_laws.proofs.Moves.{StepRelation, MoveRelation, own}
 use Rattle.mark_worlds.proofs.MarkFacts.{Ends, may_finalize, nature}
 use Rattle.mark_worlds.proofs.TopLemmas.{top_edited}
-use Rattle.mark_worlds.proofs.FinalizeLemmas.{unregistered-top, leaving-may_finalize, found-number}
+use Rattle.mark_worlds.proofs.FinalizeLemmas.{unregistered-top, leaving-may_finalize, target-registered}
 use Rattle.mark_worlds.proofs.FineMoves.{GoodWorld, Naming, FineMoves, Openings}
 use Rattle.mark_worlds.proofs.Kept.Combinators.{Keeps, Kept, Alters, told_then-from, either-from, said_then-from, branch-keeps, changes-from, changes-keeps, cond-keeps, looks-from, looks-keeps, nothing-keeps, sees-keeps, then-keeps, From, changes_then-from, keeps-from, looks_at-from}
 use Rattle.mark_worlds.proofs.Kept.Frames.{goes-keeps, push-alters, leaves-keeps, raises-keeps, pass_on-keeps, given-keeps, with_room-keeps, with_room-from, goes_then-from, popped}
 use Rattle.mark_worlds.proofs.Kept.Tasks.{edit_top-alters}
 use Rattle.mark_worlds.proofs.Kept.Scopes.{write_cell-alters, open_scope-alters}
-use Rattle.std.proofs.Common.{◌≡◌, refl, sym, subst, eqb, ap, ◌∙◌, [], ◌∷◌}
-use Rattle.std.specs.Prelude.{find}
+use Rattle.std.proofs.Common.{◌≡◌, refl, sym, subst, eqb, ap, ◌∙◌, [], ◌∷◌, not}
+use Rattle.std.specs.Prelude.{find, is_some, ◌&&◌}
 use Rattle.profile_machine.specs.declared.world.tasks.Task.{Task}
 use Rattle.trace_text.specs.declared.events.Who.TheVariants as who
 use Rattle.profile_machine.specs.Program.{next_of}
@@ -162,15 +162,23 @@ module _ {G : GoodWorld} {May Other : Naming} {Owns : Who → RegionNo → Type 
       (either-from moves (has_room_to_finalize p w name f) (open_finalize p name r.object r.located f) (changes (edit_top_scope name finalize_has_raised)) w
       (open_finalize-from p name r.object r.located f g w good may top here) (keeps-from moves (changes (edit_top_scope name finalize_has_raised)) w good (raised_finalize-keeps name)))
 
-  -- the newest object of a region that is being left
+  -- the newest object of a region that is being left, to which nobody assigns
+  finalize_now-from : (p : Image) (name : Who) (f : Frame) (m : ScopeMark) (r : RegionNo) (x : Registered) (w : World) → G w → May name → top_of w name ≡ Some f → f.mark ≡ Scope m → m.region ≡ Some r → m.being_left ≡ true → next_to_finalize w r ≡ Some x
+      → is_being_assigned w x.object ≡ false → From R w (finalize_now p name x)
+  unfolding finalize_now
+  finalize_now-from p name f m r x w good may top is region left next free =
+      let v = no_longer_registered x.object w in
+      let gone = moves.finalizes name f m r x w good may top is region left next free in
+      told_then-from moves Own (line.Final name x.object) (no_longer_registered x.object) (finalize_by p name x (type_of p x.located).finalize) w gone
+      (finalize_by-from p name x (type_of p x.located).finalize f v (moves.behind w v gone) may (unregistered-top name x.object f w top) (leaving-may_finalize w f m r x (moves.facts w good) is region left next))
+
   pub finalize-from : (p : Image) (name : Who) (f : Frame) (m : ScopeMark) (r : RegionNo) (x : Registered) (w : World) → G w → May name → top_of w name ≡ Some f → f.mark ≡ Scope m → m.region ≡ Some r → m.being_left ≡ true → next_to_finalize w r ≡ Some x
       → From R w (finalize p name x)
   unfolding finalize
-  finalize-from p name f m r x w good may top is region left next =
-      let v = no_longer_registered x.object w in
-      let gone = moves.finalizes name f m r x w good may top is region left next in
-      told_then-from moves Own (line.Final name x.object) (no_longer_registered x.object) (finalize_by p name x (type_of p x.located).finalize) w gone
-      (finalize_by-from p name x (type_of p x.located).finalize f v (moves.behind w v gone) may (unregistered-top name x.object f w top) (leaving-may_finalize w f m r x (moves.facts w good) is region left next))
+  finalize-from p name f m r x w good may top is region left next = looks_at-from moves (λ v. when (not (is_being_assigned v x.object)) (finalize_now p name x)) w (unless-from (is_being_assigned w x.object) refl) where
+    unless-from : (assigned : Bool) → is_being_assigned w x.object ≡ assigned → From R w (when (not assigned) (finalize_now p name x))
+    unless-from true is_assigned = keeps-from moves nothing w good (nothing-keeps moves)
+    unless-from false free = finalize_now-from p name f m r x w good may top is region left next free
 
   -- an object that is registered is assigned to
   begin_assignment-from : (p : Image) (name : Who) (s : StatementNo) (l : Located) (x : Registered) (source : ℕ) (w : World) → G w → May name → registered_at w l ≡ Some x → From R w (begin_assignment p name s x.object source)
@@ -212,27 +220,28 @@ module _ {G : GoodWorld} {May Other : Naming} {Owns : Who → RegionNo → Type 
   adjust_by-keeps p name r None may = search (nothing-keeps)
   adjust_by-keeps p name r (Some f) may = looks-keeps moves _ (λ w. branch-keeps moves (has_room_to_adjust p w name f) (open_operation p name f r.located) (leave_without_room name) (search (open_operation-keeps)) (search (leave_without_room-keeps)))
 
-  -- the target is finalized, whose number is the assignment's
-  finalize_target-from : (p : Image) (name : Who) (m : AssignMark) (f : Frame) (target : Registered) (w : World) → G w → May name → top_of w name ≡ Some f → f.mark ≡ InAssign m → eqb target.object m.target ≡ true
+  -- the target is finalized, whose number is the assignment's, and which is registered
+  finalize_target-from : (p : Image) (name : Who) (m : AssignMark) (f : Frame) (target : Registered) (w : World) → G w → May name → top_of w name ≡ Some f → f.mark ≡ InAssign m → registered_object w m.target ≡ Some target
       → From R w (changes (edit_top_assign name (at_step assigning.CopyComponents)) ▷ finalize_target_by p name target (type_of p target.located).finalize)
   unfolding Alters
-  finalize_target-from p name m f target w good may top is same =
+  finalize_target-from p name m f target w good may top is found =
       let v = edit_top_assign name (at_step assigning.CopyComponents) w in
       let g = with_mark (edit_assign (at_step assigning.CopyComponents) f.mark) f in
       let edits = edit_top_assign-alters moves name (at_step assigning.CopyComponents) w good in
       changes_then-from moves (edit_top_assign name (at_step assigning.CopyComponents)) (finalize_target_by p name target (type_of p target.located).finalize) w edits
       (finalize_target_by-from p name target (type_of p target.located).finalize g v (moves.behind w v edits) may
       (top_edited name (λ x. with_mark (edit_assign (at_step assigning.CopyComponents) x.mark) x) f w top)
-      (subst (λ k. may_finalize v target.object (edit_assign (at_step assigning.CopyComponents) k) ≡ true) (sym is) same))
+      (subst (λ k. may_finalize v target.object (edit_assign (at_step assigning.CopyComponents) k) ≡ true) (sym is)
+      (subst (λ rs. (eqb target.object m.target && is_some (find (is_number target.object) rs)) ≡ true) (sym (edit_task-registered name (λ t. with_frames (edit_first (λ x. with_mark (edit_assign (at_step assigning.CopyComponents) x.mark) x) t.frames) t) w)) (target-registered m.target target w.registered found))))
 
-  do_step-from : (p : Image) (name : Who) (step : AssignStep) (m : AssignMark) (f : Frame) (target source : Registered) (w : World) → G w → May name → top_of w name ≡ Some f → f.mark ≡ InAssign m → eqb target.object m.target ≡ true → R w [] (pop name w) → From R w (do_step p name step target source)
-  do_step-from p name assigning.FinalizeTarget m f target source w good may top is same out = finalize_target-from p name m f target w good may top is same
-  do_step-from p name assigning.CopyComponents m f target source w good may top is same out = keeps-from moves _ w good (search (changes-keeps, edit_top_assign-alters, then-keeps, copy_object-alters))
-  do_step-from p name assigning.AdjustTarget m f target source w good may top is same out = keeps-from moves _ w good (search (changes-keeps, edit_top_assign-alters, then-keeps, adjust_by-keeps))
-  do_step-from p name assigning.Assigned m f target source w good may top is same out = changes-from moves (pop name) w out
+  do_step-from : (p : Image) (name : Who) (step : AssignStep) (m : AssignMark) (f : Frame) (target source : Registered) (w : World) → G w → May name → top_of w name ≡ Some f → f.mark ≡ InAssign m → registered_object w m.target ≡ Some target → R w [] (pop name w) → From R w (do_step p name step target source)
+  do_step-from p name assigning.FinalizeTarget m f target source w good may top is found out = finalize_target-from p name m f target w good may top is found
+  do_step-from p name assigning.CopyComponents m f target source w good may top is found out = keeps-from moves _ w good (search (changes-keeps, edit_top_assign-alters, then-keeps, copy_object-alters))
+  do_step-from p name assigning.AdjustTarget m f target source w good may top is found out = keeps-from moves _ w good (search (changes-keeps, edit_top_assign-alters, then-keeps, adjust_by-keeps))
+  do_step-from p name assigning.Assigned m f target source w good may top is found out = changes-from moves (pop name) w out
 
   step_with-from : (p : Image) (name : Who) (step : AssignStep) (m : AssignMark) (f : Frame) (target source : Option Registered) (w : World) → G w → May name → top_of w name ≡ Some f → f.mark ≡ InAssign m → registered_object w m.target ≡ target → R w [] (pop name w) → From R w (step_with p name step target source)
-  step_with-from p name step m f (Some target) (Some source) w good may top is found out = do_step-from p name step m f target source w good may top is (found-number m.target target w.registered found) out
+  step_with-from p name step m f (Some target) (Some source) w good may top is found out = do_step-from p name step m f target source w good may top is found out
   step_with-from p name step m f (Some target) None w good may top is found out = changes-from moves (pop name) w out
   step_with-from p name step m f None source w good may top is found out = changes-from moves (pop name) w out
 

@@ -32,9 +32,11 @@ use Rattle.profile_machine.specs.Frames.{has_room}
 use Rattle.profile_machine.specs.Values.{Seen}
 use Rattle.profile_machine.specs.CallEnds.{store}
 use Rattle.trace_text.specs.declared.events.Mode.TheVariants.{Write}
-use Rattle.profile_machine.specs.Protected.{entering, begin_action_on}
+use Rattle.profile_machine.specs.Protected.{entering, begin_action_on, body_of_object}
 use Rattle.profile_machine.specs.Serving.{end_release}
-use Rattle.profile_machine.specs.Handlers.{add_release, says_release, wake_agent, release, with_room_for_release, scope_size_of, begin_handler, begin_handler_if_room, enter_handler, call_handler, interrupt, setting_of, answer, cancel_event_setting, appoint_event, event_set_to, set_event, cancel_event, clear_timer, with_timer_set, timer_set_beyond, timer_set_to, set_timer, cancel_timer, edit_budget, change_member, add_member, remove_member, fill_budget, replenish, add_to_budget, set_budget, cancel_budget, clock_risen, due_by_tick, charge_budget, timers_reached, quantum_spent_by, charge_clock, charge_group, charge_task, charge, handler_attached}
+use Rattle.profile_machine.specs.declared.world.marks.Purpose.TheVariants as opened_for
+use Rattle.profile_machine.specs.declared.world.marks.ResultTo.TheVariants as bound_for
+use Rattle.profile_machine.specs.Handlers.{add_release, says_release, wake_agent, release, with_room_for_release, scope_size_of, begin_handler, begin_handler_if_room, enter_handler, call_handler, interrupt, setting_of, answer, cancel_event_setting, appoint_event, event_set_to, set_event, cancel_event, clear_timer, with_timer_set, timer_set_beyond, timer_set_to, set_timer, cancel_timer, edit_budget, change_member, add_member, remove_member, fill_budget, replenish, add_to_budget, set_budget, cancel_budget, clock_risen, due_by_tick, charge_budget, timers_reached, quantum_spent_by, charge_clock, charge_group, charge_task, charge, handler_attached, argument_values}
 use Rattle.std.proofs.Common.{◌≡◌, refl}
 use Rattle.std.specs.Prelude.{Bool}
 use Rattle.machine_laws.proofs.Moves.{StepRelation, MoveRelation, LetsIn}
@@ -98,7 +100,7 @@ module _ {G : GoodWorld} {R : StepRelation} {Q : MoveRelation} (moves : RegionMo
   begin_handler-from p r w good h =
       then-from moves.fine (begin_action_on p who.Agent r.handler.object Write None (Some r.number)) _ w
       (begin_action_on-from moves.fine p who.Agent r.handler.object Write None (Some r.number) w good tt h)
-      (looks-keeps moves.fine _ (λ v. changes-keeps moves.fine _ (open_scope-alters moves.openings p who.Agent _ _ _ tt refl)))
+      (looks-keeps moves.fine _ (λ v. changes-keeps moves.fine _ (open_scope-alters moves.openings p who.Agent (subprogram_of p r.handler.procedure).scope (body_of_object p v (subprogram_of p r.handler.procedure).scope r.handler.object None (argument_values r.argument)) (opened_for.Subprogram [] bound_for.Nowhere) tt refl)))
 
   begin_handler_if_room-from : (p : Image) (r : Release) (w : World) → G w → LetsIn who.Agent r.handler.object Write w → From R w (begin_handler_if_room p r)
   unfolding begin_handler_if_room

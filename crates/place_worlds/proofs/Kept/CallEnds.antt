@@ -152,7 +152,7 @@ module _ {p : Image} {Fits : Fitting} {Sleeps : Sleeping} {X : State} (moves : B
 
   pub end_with-keeps : (part : Part) (c : Call) (outcome : Outcome) → Fits part (who.Task c.caller) → Keeps X (end_with p part c outcome)
   unfolding end_with
-  end_with-keeps part c outcome fits = then-keeps _ _ (changes-keeps _ (edit_call-alters moves.quiet c.number (with_outcome outcome))) (looks-keeps _ (λ w. end_for-keeps part c outcome (abortable_depth w c) fits))
+  end_with-keeps part c outcome fits = then-keeps _ _ (changes-keeps _ (edit_call-alters moves.quiet c.number (with_outcome outcome) (λ d. refl) (λ d. refl))) (looks-keeps _ (λ w. end_for-keeps part c outcome (abortable_depth w c) fits))
 
   pub end_call-keeps : (part : Part) (c : Call) (outcome : Outcome) → Fits part (who.Task c.caller) → Keeps X (end_call p part c outcome)
   unfolding end_call

@@ -12,7 +12,8 @@ use Rattle.profile_machine.specs.Declarations.{budget_declared, components_initi
 use Rattle.profile_machine.specs.Frames.{goes}
 use Rattle.profile_machine.specs.Operators.{unless, ◌>>=◌}
 use Rattle.profile_machine.specs.Program.{controlled_of, declaration_of, next_of, protected_unit_of}
-use Rattle.profile_machine.specs.Statements.{copy_cells, put_cells}
+use Rattle.profile_machine.specs.Statements.{copy_cells}
+use Rattle.profile_machine.specs.Scopes.{put_cells}
 use Rattle.profile_machine.specs.Steps.{changes, ◌▷◌}
 use Rattle.profile_machine.specs.Values.{Seen, component_at, controlled_cells, object_cell, protected_cells, seen_by, value}
 use Rattle.profile_machine.specs.declared.declarations.DeclarationKind.{DeclarationKind}
@@ -73,17 +74,17 @@ thing_declared-gives q d v next a =
     ok-gives q.world (set_thing q.program l v next) (same_then q.world next (set_thing q.program l v next) a (set_thing-same q.program l v next)))
 
 event_declared-gives : (q : Seen) (d : DeclNo) → Gives q.world (event_declared q d)
-event_declared-gives q d = thing_declared-gives q d (Thing q.world.drawn.events) (record q.world { drawn = event_drawn q.world.drawn }) (record { tasks = refl; agent = refl; objects = refl; drawn_tasks = refl; drawn_objects = refl; delays = λ t e. e })
+event_declared-gives q d = thing_declared-gives q d (Thing q.world.drawn.events) (record q.world { drawn = event_drawn q.world.drawn }) (record { tasks = refl; agent = refl; objects = refl; drawn_tasks = refl; callers = λ c n k. k; delays = λ t e. e })
 
 budget_declared-gives : (q : Seen) (d : DeclNo) → Gives q.world (budget_declared q d)
-budget_declared-gives q d = thing_declared-gives q d (Thing (length q.world.budgets)) (with_budget q.world) (record { tasks = refl; agent = refl; objects = refl; drawn_tasks = refl; drawn_objects = refl; delays = λ t e. e })
+budget_declared-gives q d = thing_declared-gives q d (Thing (length q.world.budgets)) (with_budget q.world) (record { tasks = refl; agent = refl; objects = refl; drawn_tasks = refl; callers = λ c n k. k; delays = λ t e. e })
 
 timer_declared-gives : (q : Seen) (d task : DeclNo) → Gives q.world (timer_declared q d task)
 timer_declared-gives q d task =
     let number = Thing (length q.world.timers) in
     bind-gives (timed_task q task) (λ t. unless (not (leb 256 (length q.world.timers))) exception.TimerResource t >>= λ u. located_here q d >>= λ l. Ok (set_thing q.program l number (with_timer u q.world))) q.world (λ t.
     bind-gives (unless (not (leb 256 (length q.world.timers))) exception.TimerResource t) (λ u. located_here q d >>= λ l. Ok (set_thing q.program l number (with_timer u q.world))) q.world (λ u.
-    thing_declared-gives q d number (with_timer u q.world) (record { tasks = refl; agent = refl; objects = refl; drawn_tasks = refl; drawn_objects = refl; delays = λ t e. e })))
+    thing_declared-gives q d number (with_timer u q.world) (record { tasks = refl; agent = refl; objects = refl; drawn_tasks = refl; callers = λ c n k. k; delays = λ t e. e })))
 
 declared-gives : (q : Seen) (d : DeclNo) (kind : DeclarationKind) → Gives q.world (declared q d kind)
 declared-gives q d (kind.Object i) = object_declared-gives q d i

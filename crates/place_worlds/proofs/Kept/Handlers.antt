@@ -1,11 +1,11 @@
 -- Events, timers, budgets, interrupts and releases: each step keeps what its parts keep.
 use Rattle.ann_base.specs.declared.exceptions.Raised.TheVariants as exception
 use Rattle.ann_base.specs.declared.identities.ObjectNo.{ObjectNo}
-use Rattle.place_worlds.proofs.ActingMoves.{ActingMoves, Admitting, Either, Lasting, LastingOf}
+use Rattle.place_worlds.proofs.ActingMoves.{ActingMoves, Admitting, Lasting, LastingOf}
 use Rattle.place_worlds.proofs.Kept.Frames.{becomes-keeps, given-keeps, goes-keeps, raise_if-keeps}
-use Rattle.place_worlds.proofs.Kept.Protected.{Admitted, admitted_starts, begin_action_on-leads, find_held-keeps, goes_without, has_entered}
+use Rattle.place_worlds.proofs.Kept.Protected.{Admitted, admitted_starts, begin_action_on-leads, find_held-keeps, has_entered}
 use Rattle.place_worlds.proofs.Kept.Scopes.{appoint-alters, drop_appointment-alters, open_scope-alters}
-use Rattle.place_worlds.proofs.Kept.Serving.{end_release-keeps}
+use Rattle.place_worlds.proofs.Kept.Serving.{end_release-leads}
 use Rattle.place_worlds.proofs.Kept.Statements.{store-gives}
 use Rattle.place_worlds.proofs.Kept.Tasks.{edit_task-alters, plain-alters, says-keeps}
 use Rattle.place_worlds.proofs.Kept.Waking.{ready-at}
@@ -43,7 +43,6 @@ use Rattle.profile_machine.specs.declared.world.scopes.Variable.{Variable}
 use Rattle.profile_machine.specs.declared.world.tasks.State as tasks
 use Rattle.profile_machine.specs.declared.world.tasks.State.TheVariants.{Blocked, Made, Runnable}
 use Rattle.profile_machine.specs.declared.world.tasks.Task as world
-use Rattle.profile_machine.specs.declared.world.tasks.Waiting.TheVariants as waits_for
 use Rattle.std.proofs.Common.{ap, refl, subst, sym, ◌≡◌}
 use Rattle.std.specs.Prelude.{Bool, None, Option, Some, [], false, int_lt, not, pos, true, ℕ, ℤ, ◌&&◌, ◌+◌}
 use Rattle.trace_text.specs.declared.events.Mode.TheVariants.{Write}
@@ -172,35 +171,35 @@ module _ {p : Image} {Fits : Fitting} {Sleeps : Sleeping} {X : State} (moves : B
 
 -- ---- the agent calls the handler of the release that it serves
 
-module _ {p : Image} {actor : Who} {Fits Narrow : Fitting} {Sleeps : Sleeping} {May : Admitting} {Listed Unmade : World → Naming} {F I J L W Y D : State} {O V U : World → State} {N : Lasting} {E : LastingOf} (acting : ActingMoves p actor Fits Narrow Sleeps May Listed Unmade F I J L W Y D O V U N E) where
-  begin_handler-leads : (r : Release) → who.Agent ≡ actor → Leads (Admitted acting r.handler.object) J (begin_handler p r)
+module _ {p : Image} {actor : Who} {Fits : Fitting} {Sleeps : Sleeping} {May : Admitting} {Listed Unmade : World → Naming} {F I L W Y B D Z : State} {O V : World → State} {N : Lasting} {E : LastingOf} (acting : ActingMoves p actor Fits Sleeps May Listed Unmade F I L W Y B D Z O V N E) where
+  begin_handler-leads : (r : Release) → who.Agent ≡ actor → Leads (Admitted acting r.handler.object) I (begin_handler p r)
   unfolding begin_handler
   begin_handler-leads r is =
       then-leads (begin_action_on p who.Agent r.handler.object Write None (Some r.number)) _
-      (subst (λ n. Leads (Admitted acting r.handler.object) J (begin_action_on p n r.handler.object Write None (Some r.number))) (sym is) (begin_action_on-leads acting r.handler.object Write None (Some r.number)))
-      (looks-keeps _ (λ w. changes-keeps _ (open_scope-alters acting.entered.base.quiet p who.Agent (subprogram_of p r.handler.procedure).scope (body_of_object p w (subprogram_of p r.handler.procedure).scope r.handler.object None (argument_values r.argument)) (opened_for.Subprogram [] bound_for.Nowhere))))
+      (subst (λ n. Leads (Admitted acting r.handler.object) I (begin_action_on p n r.handler.object Write None (Some r.number))) (sym is) (begin_action_on-leads acting r.handler.object Write None (Some r.number)))
+      (looks-keeps _ (λ w. changes-keeps _ (open_scope-alters acting.later.base.quiet p who.Agent (subprogram_of p r.handler.procedure).scope (body_of_object p w (subprogram_of p r.handler.procedure).scope r.handler.object None (argument_values r.argument)) (opened_for.Subprogram [] bound_for.Nowhere))))
 
-  release_ends : (n : ℕ) → Keeps I (end_release n)
-  release_ends n = end_release-keeps acting.later.base.quiet (acting.later.blocks who.Agent waits_for.Release) n
+  release_ends : (n : ℕ) → who.Agent ≡ actor → Leads I Y (end_release n)
+  release_ends n is = end_release-leads acting n is
 
-  begin_handler_if_room-leads : (r : Release) → who.Agent ≡ actor → Leads (Admitted acting r.handler.object) (Either I J) (begin_handler_if_room p r)
+  begin_handler_if_room-leads : (r : Release) → who.Agent ≡ actor → Leads (Admitted acting r.handler.object) Y (begin_handler_if_room p r)
   unfolding begin_handler_if_room
   begin_handler_if_room-leads r is =
       looks-leads _ (λ w. branch-leads (has_room w who.Agent (1 + marks_of p (subprogram_of p r.handler.procedure).scope) (scope_size_of p r.handler.procedure)) (begin_handler p r) (end_release r.number)
-      (has_entered acting (begin_handler p r) (begin_handler-leads r is)) (goes_without acting (end_release r.number) (from-leads (end_release r.number) (admitted_starts acting r.handler.object) (release_ends r.number))))
+      (has_entered acting (begin_handler p r) (begin_handler-leads r is)) (from-leads (end_release r.number) (admitted_starts acting r.handler.object) (release_ends r.number is)))
 
   held_as : (o : ObjectNo) (name : Who) → name ≡ actor → Keeps I (find_held p name o Write)
   held_as o name is = subst (λ n. Keeps I (find_held p n o Write)) (sym is) (find_held-keeps acting o Write)
 
-  enter_handler-at : (v : World) (r : Release) (is : Entering) → who.Agent ≡ actor → entering p v who.Agent r.handler.object Write ≡ is → Leads (At F v) (Either I J) (enter_handler p r is)
+  enter_handler-at : (v : World) (r : Release) (is : Entering) → who.Agent ≡ actor → entering p v who.Agent r.handler.object Write ≡ is → Leads (At F v) Y (enter_handler p r is)
   unfolding enter_handler
-  enter_handler-at v r entering_is.SameObject by e = goes_without acting (end_release r.number) (from-leads (end_release r.number) (λ w said h. acting.starts w said h.0) (release_ends r.number))
-  enter_handler-at v r entering_is.AboveCeiling by e = goes_without acting (end_release r.number) (from-leads (end_release r.number) (λ w said h. acting.starts w said h.0) (release_ends r.number))
-  enter_handler-at v r entering_is.Held by e = goes_without acting (find_held p who.Agent r.handler.object Write) (from-leads (find_held p who.Agent r.handler.object Write) (λ w said h. acting.starts w said h.0) (held_as r.handler.object who.Agent by))
+  enter_handler-at v r entering_is.SameObject by e = from-leads (end_release r.number) (λ w said h. acting.starts w said h.0) (release_ends r.number by)
+  enter_handler-at v r entering_is.AboveCeiling by e = from-leads (end_release r.number) (λ w said h. acting.starts w said h.0) (release_ends r.number by)
+  enter_handler-at v r entering_is.Held by e = has_entered acting (find_held p who.Agent r.handler.object Write) (from-leads (find_held p who.Agent r.handler.object Write) (λ w said h. acting.starts w said h.0) (held_as r.handler.object who.Agent by))
   enter_handler-at v r entering_is.Inside by e =
       let inside : entering p v actor r.handler.object Write ≡ entering_is.Inside = subst (λ n. entering p v n r.handler.object Write ≡ entering_is.Inside) by e in
       from-leads (begin_handler_if_room p r) (λ w said h. (h.0, subst (λ u. May u r.handler.object) (sym h.1) (acting.may v r.handler.object Write inside))) (begin_handler_if_room-leads r by)
 
-  pub call_handler-leads : (r : Release) → who.Agent ≡ actor → Leads F (Either I J) (call_handler p r)
+  pub call_handler-leads : (r : Release) → who.Agent ≡ actor → Leads F Y (call_handler p r)
   unfolding call_handler
   call_handler-leads r by = looks-with _ (λ v said h. enter_handler-at v r (entering p v who.Agent r.handler.object Write) by refl)

@@ -12,7 +12,7 @@ use Rattle.ceiling_runs.proofs.Triples.{At, Keeps, Leads, State, With, changes-k
 use Rattle.profile_machine.specs.Appointments.{drop_delay}
 use Rattle.profile_machine.specs.Dispatching.{ready}
 use Rattle.profile_machine.specs.Inheritance.{lose}
-use Rattle.profile_machine.specs.Masters.{complete, complete_with, completed_task, end_activation, end_activation_by, end_group, forget_task, gone_by_completion, has_activating, has_dependents, has_failed, leave_by_terminate, not_activating, part_of, queued_calls, terminate, waits_for_activation, waits_for_dependents, waits_in, wake_activator, wake_master, with_failure}
+use Rattle.profile_machine.specs.Masters.{complete, complete_with, completed_task, end_activation, end_activation_by, end_group, forget_task, gone_by_completion, has_activating, has_dependents, has_failed, leave_by_terminate, not_activating, part_of, queued_calls, terminate, waits_at_terminate, waits_for_activation, waits_for_dependents, waits_in, wake_activator, wake_master, with_failure}
 use Rattle.profile_machine.specs.Steps.{changes, for_some, nothing}
 use Rattle.profile_machine.specs.Tasks.{edit_task, task_of, waiting_of, with_state}
 use Rattle.profile_machine.specs.Words.{same_who}
@@ -88,15 +88,15 @@ module _ {p : Image} {actor : Who} {Fits : Fitting} {Sleeps : Sleeping} {X : Sta
 
 -- who waits at a terminate alternative leaves its select
 module _ {p : Image} {actor : Who} {Listed : World → Naming} {W Y : State} {V : World → State} (choosing : SelectMoves p actor Listed W Y V) where
-  leaves_or_ready : (v : World) (name : Who) (b : Bool) → same_who actor name ≡ b → Listed v name → Keeps (V v) (cond b (changes (edit_task name (with_state Runnable))) (ready p (OfOther name) name))
-  leaves_or_ready v name true is listed = subst (λ n. Keeps (V v) (changes (edit_task n (with_state Runnable)))) (who-is actor name is) (choosing.runs_on v)
-  leaves_or_ready v name false is listed = choosing.begins v name is listed
+  leaves_or_ready : (v : World) (name : Who) (b : Bool) → same_who actor name ≡ b → Listed v name → (same_who actor name ≡ true → waits_at_terminate (waiting_of v actor) ≡ true) → Keeps (V v) (cond b (changes (edit_task name (with_state Runnable))) (ready p (OfOther name) name))
+  leaves_or_ready v name true is listed waits = subst (λ n. Keeps (V v) (changes (edit_task n (with_state Runnable)))) (who-is actor name is) (choosing.runs_on v (waits is))
+  leaves_or_ready v name false is listed waits = choosing.begins v name is listed
 
-  pub leave_by_terminate-keeps : (v : World) (t : Task) → Listed v t.who → Keeps (V v) (leave_by_terminate p actor t)
+  pub leave_by_terminate-keeps : (v : World) (t : Task) → Listed v t.who → (same_who actor t.who ≡ true → waits_at_terminate (waiting_of v actor) ≡ true) → Keeps (V v) (leave_by_terminate p actor t)
   unfolding leave_by_terminate
-  leave_by_terminate-keeps v t listed =
+  leave_by_terminate-keeps v t listed waits =
       then-keeps _ _ (changes-keeps _ (drop_delay-alters (choosing.looking v) t.who))
-      (then-keeps _ _ (leaves_or_ready v t.who (same_who actor t.who) refl listed) (leaves-keeps (choosing.looking v) t.who how.Terminate))
+      (then-keeps _ _ (leaves_or_ready v t.who (same_who actor t.who) refl listed waits) (leaves-keeps (choosing.looking v) t.who how.Terminate))
 
 -- ---- a task is no longer there
 

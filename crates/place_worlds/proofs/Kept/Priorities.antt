@@ -3,12 +3,12 @@ use Rattle.ann_base.specs.declared.exceptions.Raised.TheVariants as exception
 use Rattle.ann_base.specs.declared.identities.TaskNo.{TaskNo}
 use Rattle.place_worlds.proofs.ActingMoves.{ActingMoves, Admitting, Lasting, LastingOf}
 use Rattle.place_worlds.proofs.Kept.Calls.{edit_call-alters, edit_queue-alters, with_call-keeps}
-use Rattle.place_worlds.proofs.Kept.Frames.{given-keeps, given-through, goes-keeps, raise_if-keeps, raise_if-through, raises-keeps, weakly}
+use Rattle.place_worlds.proofs.Kept.Frames.{given-keeps, given-through, goes-keeps, raise_if-through, raises-keeps, weakly}
 use Rattle.place_worlds.proofs.Kept.Tasks.{plain-alters, says-keeps}
 use Rattle.place_worlds.proofs.Kept.Waking.{each-any, found-each, who-is}
 use Rattle.place_worlds.proofs.LevelMoves.{Fitting, Naming, Silences, Sleeping}
 use Rattle.ceiling_runs.proofs.FoundLemmas.{by_test}
-use Rattle.ceiling_runs.proofs.Triples.{Alters, At, Keeps, Leads, State, changes-keeps, for_some-keeps, looks-keeps, looks-leads, nothing-keeps, sees-keeps, sees-leads, then-keeps, then-leads, unchanged-alters, when-keeps}
+use Rattle.ceiling_runs.proofs.Triples.{Alters, At, Keeps, Leads, State, changes-keeps, for_some-keeps, looks-keeps, looks-leads, nothing-keeps, nothing-leads, sees-keeps, sees-leads, then-keeps, then-leads, to-leads, unchanged-alters, when-keeps}
 use Rattle.profile_machine.specs.Calls.{place_of_entry, put_call, take_call}
 use Rattle.profile_machine.specs.Dispatching.{active_of, block, to_tail}
 use Rattle.profile_machine.specs.Frames.{given, goes, in_protected, raise_if}
@@ -63,13 +63,13 @@ module _ {X : State} (quiet : Silences X) where
 
   reprioritize-keeps : (p : Image) (level : ℕ) (c : Call) → Keeps X (reprioritize p level c)
   unfolding reprioritize
-  reprioritize-keeps p level c = when-keeps (is_queued c) _ (then-keeps _ _ (changes-keeps _ (edit_call-alters quiet c.number (with_priority level))) (changes-keeps _ (placed_anew-alters p.policies.queuing p c level)))
+  reprioritize-keeps p level c = when-keeps (is_queued c) _ (then-keeps _ _ (changes-keeps _ (edit_call-alters quiet c.number (with_priority level) (λ d. refl) (λ d. refl))) (changes-keeps _ (placed_anew-alters p.policies.queuing p c level)))
 
   pub reprioritize_own-keeps : (p : Image) (name : Who) (waiting : Waiting) → Keeps X (reprioritize_own p name waiting)
   unfolding reprioritize_own
   reprioritize_own-keeps p name waiting = looks-keeps _ (λ w. for_some-keeps (call_waited_for waiting) _ (λ c. with_call-keeps quiet c _ (reprioritize-keeps p (active_of p w name))))
 
-module _ {p : Image} {actor : Who} {Fits Narrow : Fitting} {Sleeps : Sleeping} {May : Admitting} {Listed Unmade : World → Naming} {F I J L W Y D : State} {O V U : World → State} {N : Lasting} {E : LastingOf} (acting : ActingMoves p actor Fits Narrow Sleeps May Listed Unmade F I J L W Y D O V U N E) where
+module _ {p : Image} {actor : Who} {Fits : Fitting} {Sleeps : Sleeping} {May : Admitting} {Listed Unmade : World → Naming} {F I L W Y B D Z : State} {O V : World → State} {N : Lasting} {E : LastingOf} (acting : ActingMoves p actor Fits Sleeps May Listed Unmade F I L W Y B D Z O V N E) where
   -- who was found by the name of a task is one
   base_of_named : (t : TaskNo) (name : Who) (level : ℕ) → same_who (who.Task t) name ≡ true → Leads F I (set_or_defer_base p actor name level)
   base_of_named t (who.Task n) level is = acting.sets_base n level
@@ -101,53 +101,54 @@ module _ {p : Image} {actor : Who} {Fits Narrow : Fitting} {Sleeps : Sleeping} {
 
   -- ---- delays
 
-  wait_until-keeps : (name : Who) (until : ℤ) (future : Bool) → name ≡ actor → Keeps I (wait_until p name until future)
+  wait_until-leads : (name : Who) (until : ℤ) (future : Bool) → name ≡ actor → Leads I Y (wait_until p name until future)
   unfolding wait_until
-  wait_until-keeps (who.Task t) until true is = then-keeps _ _ (changes-keeps _ (acting.appoints t until is)) (acting.later.blocks (who.Task t) waits_for.Moment)
-  wait_until-keeps (who.Task t) until false is = subst (λ n. Keeps I (to_tail p ThePlacing n)) (sym is) acting.tails
-  wait_until-keeps who.Agent until future is = nothing-keeps
+  wait_until-leads (who.Task t) until true is =
+      then-leads _ _ (changes-keeps _ (acting.appoints t until is)) (subst (λ n. Leads I Y (block TheBlock n waits_for.Moment)) (sym is) (acting.blocks waits_for.Moment refl))
+  wait_until-leads (who.Task t) until false is = subst (λ n. Leads I Y (to_tail p ThePlacing n)) (sym is) (to-leads _ acting.tails acting.ceases)
+  wait_until-leads who.Agent until future is = nothing-leads acting.ceases
 
-  pub delay_to-keeps : (until : ℤ) → Keeps I (delay_to p actor until)
+  pub delay_to-leads : (until : ℤ) → Leads I Y (delay_to p actor until)
   unfolding delay_to
-  delay_to-keeps until = looks-keeps _ (λ w. wait_until-keeps actor until (int_lt (pos w.time) until) refl)
+  delay_to-leads until = looks-leads _ (λ w. wait_until-leads actor until (int_lt (pos w.time) until) refl)
 
-  pub delay_until-keeps : (s : StatementNo) (until : Valued ℤ) → Keeps I (delay_until p actor s until)
+  pub delay_until-leads : (s : StatementNo) (until : Valued ℤ) → Leads I Y (delay_until p actor s until)
   unfolding delay_until
-  delay_until-keeps s until =
-      looks-keeps _ (λ w. raise_if-keeps acting.later.base.quiet actor (in_protected w actor) exception.Program _ (given-keeps acting.later.base.quiet Own actor until _ (λ m.
-      then-keeps _ _ (goes-keeps acting.later.base.quiet actor (next_of p s)) (delay_to-keeps m))))
+  delay_until-leads s until =
+      looks-leads _ (λ w. raise_if-through acting.later.base.quiet (λ v k h. h) acting.ceases actor (in_protected w actor) exception.Program _ (given-through acting.later.base.quiet (λ v k h. h) acting.ceases Own actor until _ (λ m.
+      then-leads _ _ (goes-keeps acting.later.base.quiet actor (next_of p s)) (delay_to-leads m))))
 
   -- a task that has been given a deadline waits, or goes to the tail
-  wait_dated-leads : (name : Who) (until : ℤ) (future : Bool) → name ≡ actor → same_who name who.Agent ≡ false → Leads L I (wait_until p name until future)
+  wait_dated-leads : (name : Who) (until : ℤ) (future : Bool) → name ≡ actor → same_who name who.Agent ≡ false → Leads L Y (wait_until p name until future)
   unfolding wait_until
   wait_dated-leads (who.Task t) until true is task =
       then-leads (changes (appoint (due_for.Delay t) until)) _ (changes-keeps _ (acting.dated_appoints t until is))
-      (subst (λ n. Leads L I (block TheBlock n waits_for.Moment)) (sym is) (acting.dated_blocks waits_for.Moment))
-  wait_dated-leads (who.Task t) until false is task = subst (λ n. Leads L I (to_tail p ThePlacing n)) (sym is) acting.dated_tails
+      (subst (λ n. Leads L Y (block TheBlock n waits_for.Moment)) (sym is) (acting.dated_blocks waits_for.Moment refl))
+  wait_dated-leads (who.Task t) until false is task = subst (λ n. Leads L Y (to_tail p ThePlacing n)) (sym is) (to-leads _ acting.dated_tails acting.ceases)
   wait_dated-leads who.Agent until future is task = absurd cc
 
-  delay_with_deadline-keeps : (s : StatementNo) (until offset : ℤ) → same_who actor who.Agent ≡ false → Keeps I (delay_with_deadline p actor s until offset)
+  delay_with_deadline-leads : (s : StatementNo) (until offset : ℤ) → same_who actor who.Agent ≡ false → Leads I Y (delay_with_deadline p actor s until offset)
   unfolding delay_with_deadline delay_to
-  delay_with_deadline-keeps s until offset task =
-      then-keeps (goes actor (next_of p s)) _ (goes-keeps acting.later.base.quiet actor (next_of p s))
+  delay_with_deadline-leads s until offset task =
+      then-leads (goes actor (next_of p s)) _ (goes-keeps acting.later.base.quiet actor (next_of p s))
       (then-leads (changes (edit_task actor (λ t. record t { deadline = held_moment (until +ℤ offset) }))) _ (acting.dates (held_moment (until +ℤ offset)))
       (then-leads (says_deadline Own actor (held_moment (until +ℤ offset))) _ (says_deadline-keeps acting.dating Own actor (held_moment (until +ℤ offset)))
       (looks-leads _ (λ w. wait_dated-leads actor until (int_lt (pos w.time) until) refl task))))
 
   -- the agent is inside a protected action, so an exception is raised
-  raises_inside : (inside : Bool) (step : Step) → inside ≡ true → Keeps I (raise_if actor inside exception.Program step)
-  raises_inside true step is = raises-keeps acting.later.base.quiet Own actor exception.Program
+  raises_inside : (inside : Bool) (step : Step) → inside ≡ true → Leads I Y (raise_if actor inside exception.Program step)
+  raises_inside true step is = to-leads _ (raises-keeps acting.later.base.quiet Own actor exception.Program) acting.ceases
   raises_inside false step is = absurd cc
 
   dated_seen : (s : StatementNo) (until offset : ExprNo) (q : Seen) → (actor ≡ who.Agent → in_protected q.world actor ≡ true)
-      → Keeps I (raise_if actor (in_protected q.world actor) exception.Program (given Own actor (moment q until) (λ m. given Own actor (moment q offset) (λ o. delay_with_deadline p actor s m o))))
+      → Leads I Y (raise_if actor (in_protected q.world actor) exception.Program (given Own actor (moment q until) (λ m. given Own actor (moment q offset) (λ o. delay_with_deadline p actor s m o))))
   dated_seen s until offset q inside =
       by_test (same_who actor who.Agent)
       (λ agent. raises_inside (in_protected q.world actor) _ (inside (who-is actor who.Agent agent)))
-      (λ task. raise_if-keeps acting.later.base.quiet actor (in_protected q.world actor) exception.Program _
-      (given-keeps acting.later.base.quiet Own actor (moment q until) _ (λ m. given-keeps acting.later.base.quiet Own actor (moment q offset) _ (λ o. delay_with_deadline-keeps s m o task))))
+      (λ task. raise_if-through acting.later.base.quiet (λ v k h. h) acting.ceases actor (in_protected q.world actor) exception.Program _
+      (given-through acting.later.base.quiet (λ v k h. h) acting.ceases Own actor (moment q until) _ (λ m. given-through acting.later.base.quiet (λ v k h. h) acting.ceases Own actor (moment q offset) _ (λ o. delay_with_deadline-leads s m o task))))
 
-  pub delay_and_set_deadline-leads : (v : World) (s : StatementNo) (until offset : ExprNo) → (actor ≡ who.Agent → in_protected v actor ≡ true) → Leads (At I v) I (delay_and_set_deadline p actor s until offset)
+  pub delay_and_set_deadline-leads : (v : World) (s : StatementNo) (until offset : ExprNo) → (actor ≡ who.Agent → in_protected v actor ≡ true) → Leads (At I v) Y (delay_and_set_deadline p actor s until offset)
   unfolding delay_and_set_deadline
   delay_and_set_deadline-leads v s until offset inside = record {
     runs = λ w said h. (dated_seen s until offset (seen_by p w actor) (λ is. ap (λ u. in_protected u actor) h.1 ∙ inside is)).runs w said h.0;

@@ -4,8 +4,8 @@ use Rattle.ann_base.specs.declared.identities.CallNo.{CallNo}
 use Rattle.ann_base.specs.declared.identities.TaskNo.{TaskNo}
 use Rattle.place_worlds.proofs.ActingMoves.{ActingMoves, Admitting, Lasting, LastingOf}
 use Rattle.place_worlds.proofs.Kept.CallEnds.{deliver-keeps, gone-keeps}
-use Rattle.place_worlds.proofs.Kept.Calls.{edit_call-alters, enqueue-keeps, with_call-keeps}
-use Rattle.place_worlds.proofs.Kept.Frames.{given-through, goes-keeps, open_sequence-keeps, pass_on-keeps, pop-alters, push-alters, raise_if-keeps, raise_if-through, raises-keeps, weakly}
+use Rattle.place_worlds.proofs.Kept.Calls.{edit_call-alters, enqueue-keeps, keeps_sending-caller, keeps_sending-number, with_call-keeps}
+use Rattle.place_worlds.proofs.Kept.Frames.{given-through, goes-keeps, open_sequence-keeps, pass_on-keeps, pop-alters, push-alters, raise_if-through, raises-keeps, weakly}
 use Rattle.place_worlds.proofs.Kept.Protected.{begin_call-keeps}
 use Rattle.place_worlds.proofs.Kept.Scopes.{begin_scope-alters, drop_delay-alters, end_scope-alters}
 use Rattle.place_worlds.proofs.Kept.Sending.{begin_abortable-keeps, send_on-keeps, sent_not_begun-keeps}
@@ -15,7 +15,7 @@ use Rattle.place_worlds.proofs.LevelMoves.{BaseMoves, Fitting, Naming, Silences,
 use Rattle.ceiling_runs.proofs.Triples.{Alters, At, Keeps, Leads, State, With, branch-leads, changes-keeps, for_some-keeps, from-leads, from_at, looks-keeps, looks-leads, looks-with, nothing-keeps, sees-leads, then-keeps, then-leads, to-leads, unchanged-alters}
 use Rattle.profile_machine.specs.Appointments.{drop_delay}
 use Rattle.profile_machine.specs.CallEnds.{deliver}
-use Rattle.profile_machine.specs.Calls.{enqueue, next_call, parameters_of, place_of_entry}
+use Rattle.profile_machine.specs.Calls.{enqueue, formals_count, next_call, parameters_of, place_of_entry}
 use Rattle.profile_machine.specs.Dispatching.{block, ready}
 use Rattle.profile_machine.specs.Frames.{goes, in_protected, new_frame, open_sequence}
 use Rattle.profile_machine.specs.Inheritance.{inherit}
@@ -24,6 +24,7 @@ use Rattle.profile_machine.specs.Program.{form_of, next_of, scope_of}
 use Rattle.profile_machine.specs.Rendezvous.{accept, accept_call, accept_chosen, accept_for, accept_or_wait, accept_scope, accept_with_room, appoint_delay, arrive, arrive_at, begin_accept, behind_accept, end_in_accept, finish_accept, finish_rendezvous, finish_without_room, finished_call, first_accept, gone_sent, has_room_for_accept, has_terminate, is_callable, is_closed, least_delay, meet, meet_sent, meet_with_room, meet_without_room, open_accept, open_accepts, open_alternatives, open_delays, own_queue, queues_of_accepts, select_by_call, select_delay, select_open, select_otherwise, select_wait, selective_accept, wait_at_select}
 use Rattle.profile_machine.specs.Scopes.{begin_scope, cells_of, innermost, next_id, plainly, scope_in_use}
 use Rattle.profile_machine.specs.Sending.{begin_abortable, sent_not_begun}
+use Rattle.profile_machine.specs.Serving.{with_values}
 use Rattle.profile_machine.specs.Steps.{Step, changes}
 use Rattle.profile_machine.specs.Tasks.{task_of, waiting_of}
 use Rattle.profile_machine.specs.declared.image.Image.{Image}
@@ -89,12 +90,12 @@ module _ {p : Image} {Fits : Fitting} {Sleeps : Sleeping} {X : State} (moves : B
   asleep_heir : (name : Who) (c : CallNo) (level : ℕ) → Alters (Asleep moves name) (inherit name (inherited_by.Rendezvous c) level)
   asleep_heir name c level = record { turns = λ w said h. (moves.inherits name (inherited_by.Rendezvous c) level w said refl h.1 h.0, moves.sleeps_heir name (inherited_by.Rendezvous c) level w name h.1) }
 
-  pub meet_with_room-leads : (part : Part) (name : Who) (s : StatementNo) (c : Call) (then_ : Step) → Fits part name → Keeps X then_ → Leads (With X (λ w. Sleeps w name)) X (meet_with_room p part name s c then_)
+  pub meet_with_room-leads : {Y : State} (part : Part) (name : Who) (s : StatementNo) (c : Call) (then_ : Step) → Fits part name → Leads X Y then_ → Leads (With X (λ w. Sleeps w name)) Y (meet_with_room p part name s c then_)
   meet_with_room-leads part name s c then_ fits kept =
       then-leads (begin_accept p part name s c) _ (begin_accept-keeps (asleep_quiet moves name) p part name s c)
       (then-leads (changes (open_accept p name s c)) _ (changes-keeps _ (open_accept-alters (asleep_quiet moves name) p name s c))
       (then-leads (changes (inherit name (inherited_by.Rendezvous c.number) c.priority)) _ (changes-keeps _ (asleep_heir name c.number c.priority))
-      (then-leads (ready p part name) _ (moves.wakes part name fits) (then-keeps (open_sequence p part name) then_ (open_sequence-keeps moves.quiet p part name) kept))))
+      (then-leads (ready p part name) _ (moves.wakes part name fits) (then-leads (open_sequence p part name) then_ (open_sequence-keeps moves.quiet p part name) kept))))
 
   pub meet_without_room-leads : (part : Part) (name : Who) (s : StatementNo) (c : Call) (otherwise : Step) → Fits part name → Keeps (With X (λ w. Sleeps w name)) otherwise → Leads (With X (λ w. Sleeps w name)) X (meet_without_room p part name s c otherwise)
   meet_without_room-leads part name s c otherwise fits kept =
@@ -102,7 +103,7 @@ module _ {p : Image} {Fits : Fitting} {Sleeps : Sleeping} {X : State} (moves : B
       (then-leads (finish_without_room TheFinish name c) _ (finish_without_room-keeps (asleep_quiet moves name) TheFinish name c)
       (then-leads otherwise _ kept (then-leads (ready p part name) _ (moves.wakes part name fits) (raises-keeps moves.quiet part name exception.Storage))))
 
-  pub meet-leads : (part : Part) (name : Who) (s : StatementNo) (c : Call) (then_ otherwise : Step) → Fits part name → Keeps X then_ → Leads (With X (λ w. Sleeps w name)) X (meet_without_room p part name s c otherwise) → Leads (With X (λ w. Sleeps w name)) X (meet p part name s c then_ otherwise)
+  pub meet-leads : {Y : State} (part : Part) (name : Who) (s : StatementNo) (c : Call) (then_ otherwise : Step) → Fits part name → Leads X Y then_ → Leads (With X (λ w. Sleeps w name)) Y (meet_without_room p part name s c otherwise) → Leads (With X (λ w. Sleeps w name)) Y (meet p part name s c then_ otherwise)
   meet-leads part name s c then_ otherwise fits kept also_kept =
       then-leads (changes (drop_delay name)) _ (changes-keeps _ (drop_delay-alters (asleep_quiet moves name) name))
       (looks-leads _ (λ w. branch-leads (has_room_for_accept p w name s) (meet_with_room p part name s c then_) (meet_without_room p part name s c otherwise) (meet_with_room-leads part name s c then_ fits kept) also_kept))
@@ -113,7 +114,7 @@ module _ {p : Image} {Fits : Fitting} {Sleeps : Sleeping} {X : State} (moves : B
 
 -- ---- by who acts
 
-module _ {p : Image} {actor : Who} {Fits Narrow : Fitting} {Sleeps : Sleeping} {May : Admitting} {Listed Unmade : World → Naming} {F I J L W Y D : State} {O V U : World → State} {N : Lasting} {E : LastingOf} (acting : ActingMoves p actor Fits Narrow Sleeps May Listed Unmade F I J L W Y D O V U N E) where
+module _ {p : Image} {actor : Who} {Fits : Fitting} {Sleeps : Sleeping} {May : Admitting} {Listed Unmade : World → Naming} {F I L W Y B D Z : State} {O V : World → State} {N : Lasting} {E : LastingOf} (acting : ActingMoves p actor Fits Sleeps May Listed Unmade F I L W Y B D Z O V N E) where
   accept_with_room-keeps : (s : StatementNo) (c : Call) (test : Bool) → Keeps I (accept_with_room p actor s c test)
   unfolding accept_with_room
   accept_with_room-keeps s c true = then-keeps _ _ (changes-keeps _ (open_accept-alters acting.later.base.quiet p actor s c)) (acting.later.inherits_running (inherited_by.Rendezvous c.number) c.priority refl)
@@ -125,14 +126,14 @@ module _ {p : Image} {actor : Who} {Fits Narrow : Fitting} {Sleeps : Sleeping} {
   unfolding accept_call
   accept_call-keeps s c = with_call-keeps acting.later.base.quiet c _ (λ d. then-keeps _ _ (begin_accept-keeps acting.later.base.quiet p Own actor s d) (looks-keeps _ (λ w. accept_with_room-keeps s d (has_room_for_accept p w actor s))))
 
-  accept_or_wait-keeps : (s : StatementNo) (c : Option CallNo) → Keeps I (accept_or_wait p actor s c)
+  accept_or_wait-leads : (s : StatementNo) (c : Option CallNo) → Leads I Y (accept_or_wait p actor s c)
   unfolding accept_or_wait
-  accept_or_wait-keeps s (Some c) = accept_call-keeps s c
-  accept_or_wait-keeps s None = then-keeps _ _ (goes-keeps acting.later.base.quiet actor (next_of p s)) (acting.later.blocks actor (waits_for.Accept s))
+  accept_or_wait-leads s (Some c) = to-leads _ (accept_call-keeps s c) acting.ceases
+  accept_or_wait-leads s None = then-leads _ _ (goes-keeps acting.later.base.quiet actor (next_of p s)) (acting.blocks (waits_for.Accept s) refl)
 
-  pub accept-keeps : (s : StatementNo) (e : EntryNo) → Keeps I (accept p actor s e)
+  pub accept-leads : (s : StatementNo) (e : EntryNo) → Leads I Y (accept p actor s e)
   unfolding accept
-  accept-keeps s e = looks-keeps _ (λ w. raise_if-keeps acting.later.base.quiet actor (in_protected w actor) exception.Program _ (accept_or_wait-keeps s (next_call p w (own_queue w actor (place_of_entry p e) ∷ []))))
+  accept-leads s e = looks-leads _ (λ w. raise_if-through acting.later.base.quiet (λ v k h. h) acting.ceases actor (in_protected w actor) exception.Program _ (accept_or_wait-leads s (next_call p w (own_queue w actor (place_of_entry p e) ∷ []))))
 
   accept_chosen-keeps : (accepts : List StatementNo) (c : CallNo) → Keeps I (accept_chosen p actor accepts c)
   unfolding accept_chosen
@@ -149,7 +150,7 @@ module _ {p : Image} {actor : Who} {Fits Narrow : Fitting} {Sleeps : Sleeping} {
   unfolding wait_at_select
   wait_at_select-leads accepts delay true = acting.waits_at_select accepts delay
   wait_at_select-leads accepts delay false =
-      to-leads (block TheBlock actor (waits_for.Select accepts delay false)) (from-leads (block TheBlock actor (waits_for.Select accepts delay false)) acting.starts (acting.later.blocks actor (waits_for.Select accepts delay false))) goes_later
+      to-leads (block TheBlock actor (waits_for.Select accepts delay false)) (from-leads (block TheBlock actor (waits_for.Select accepts delay false)) acting.starts (acting.blocks (waits_for.Select accepts delay false) refl)) acting.rests
 
   appoint_delay-alters : (name : Who) (m : ℤ) → name ≡ actor → Alters F (appoint_delay name m)
   appoint_delay-alters (who.Task t) m is = acting.appoints_first t m is
@@ -204,8 +205,8 @@ module _ {p : Image} {actor : Who} {Fits Narrow : Fitting} {Sleeps : Sleeping} {
   unfolding meet_sent
   meet_sent-at v t c (Some s) is =
       asleep_at acting.later.base (who.Task t) v _ (accepting_sleeps acting.later.base v c.entry (who.Task t) s is)
-      (meet-leads acting.later.base TheFinish (who.Task t) s c (begin_abortable p c.number) (deliver p TheFinish c.number (call_ended.ToRaise exception.Storage)) (acting.fits_finish (who.Task t)) (begin_abortable-keeps acting c.number) (acting.meets_late t s c))
-  meet_sent-at v t c None is = from_at _ (then-keeps (enqueue p c.number) (sent_not_begun p c.number) (enqueue-keeps acting.later.base.quiet p c.number) (sent_not_begun-keeps acting c.number))
+      (meet-leads acting.later.base TheFinish (who.Task t) s c (begin_abortable p c.number) (deliver p TheFinish c.number (call_ended.ToRaise exception.Storage)) (acting.fits_finish (who.Task t)) (begin_abortable-keeps acting.later.base acting.fits_finish c.number) (acting.meets_late t s c))
+  meet_sent-at v t c None is = from_at _ (then-keeps (enqueue p c.number) (sent_not_begun p c.number) (enqueue-keeps acting.later.base.quiet p c.number) (sent_not_begun-keeps acting.later.base acting.fits_finish c.number))
 
   arrive_at-keeps : (t : TaskNo) (c : Call) (test : Bool) → Keeps I (arrive_at p t c test)
   unfolding arrive_at
@@ -238,5 +239,5 @@ module _ {p : Image} {actor : Who} {Fits Narrow : Fitting} {Sleeps : Sleeping} {
   end_in_accept-keeps m leaving =
       then-keeps _ _ (looks-keeps _ (λ w. then-keeps _ _ (changes-keeps _ (pop-alters acting.later.base.quiet actor))
       (then-keeps _ _ (changes-keeps _ (end_scope-alters acting.later.base.quiet m.within))
-      (then-keeps _ _ (changes-keeps _ (edit_call-alters acting.later.base.quiet m.call (finished_call p (cells_of (scope_in_use w m.within)) leaving))) (with_call-keeps acting.later.base.quiet m.call _ (λ c. finish_rendezvous-keeps c leaving))))))
+      (then-keeps _ _ (changes-keeps _ (edit_call-alters acting.later.base.quiet m.call (finished_call p (cells_of (scope_in_use w m.within)) leaving) (λ d. keeps_sending-number leaving (with_values (cells_of (scope_in_use w m.within)) (formals_count p d) d)) (λ d. keeps_sending-caller leaving (with_values (cells_of (scope_in_use w m.within)) (formals_count p d) d)))) (with_call-keeps acting.later.base.quiet m.call _ (λ c. finish_rendezvous-keeps c leaving))))))
       (then-keeps _ _ (acting.loses (inherited_by.Rendezvous m.call)) (behind_accept-keeps acting.later.base.quiet p actor leaving))

@@ -10,8 +10,8 @@ use Rattle.profile_machine.specs.Appointments.{appoint, drop_appointment, drop_d
 use Rattle.profile_machine.specs.Frames.{new_frame}
 use Rattle.profile_machine.specs.Notation.{scope}
 use Rattle.profile_machine.specs.Program.{declaration_of, scope_of}
-use Rattle.profile_machine.specs.Scopes.{begin_scope, draw_region, edit_cells, end_scope, new_scope_mark, next_id, open_scope, region_of_next, write_cell}
-use Rattle.profile_machine.specs.Statements.{cells_from, copy_cells, put, put_cells}
+use Rattle.profile_machine.specs.Scopes.{begin_scope, draw_region, edit_cells, end_scope, new_scope_mark, next_id, open_scope, region_of_next, write_cell, put_cells}
+use Rattle.profile_machine.specs.Statements.{cells_from, copy_cells, put}
 use Rattle.profile_machine.specs.Values.{moment, value}
 use Rattle.profile_machine.specs.Words.{without}
 use Rattle.profile_machine.specs.declared.image.Image.{Image}
@@ -61,10 +61,10 @@ without-any test drops [] e = e
 without-any test drops (a ∷ rest) e = fewer-step test a rest (without drops rest) (drops a) e (without-any test drops rest)
 
 pub dropped-same : (test : Due → Bool) (w : World) → Same w (drop_appointment test w)
-dropped-same test w = record { tasks = refl; agent = refl; objects = refl; drawn_tasks = refl; drawn_objects = refl; delays = λ t e. without-any (λ a. is_delay_of t a.due) (λ a. test a.due) w.appointments e }
+dropped-same test w = record { tasks = refl; agent = refl; objects = refl; drawn_tasks = refl; callers = λ c n k. k; delays = λ t e. without-any (λ a. is_delay_of t a.due) (λ a. test a.due) w.appointments e }
 
 pub draw_region-same : (kept : Bool) (w : World) → Same w (draw_region kept w)
-draw_region-same true w = record { tasks = refl; agent = refl; objects = refl; drawn_tasks = refl; drawn_objects = refl; delays = λ t e. e }
+draw_region-same true w = record { tasks = refl; agent = refl; objects = refl; drawn_tasks = refl; callers = λ c n k. k; delays = λ t e. e }
 draw_region-same false w = same_self w
 
 module _ {X : State} (quiet : Silences X) where
@@ -103,7 +103,7 @@ module _ {X : State} (quiet : Silences X) where
   drop_delay-alters who.Agent = unchanged-alters
 
 pub cells-same : (id : ScopeId) (f : List Value → List Value) (w : World) → Same w (edit_cells id f w)
-cells-same id f w = record { tasks = refl; agent = refl; objects = refl; drawn_tasks = refl; drawn_objects = refl; delays = λ t e. e }
+cells-same id f w = record { tasks = refl; agent = refl; objects = refl; drawn_tasks = refl; callers = λ c n k. k; delays = λ t e. e }
 
 pub put-same : (v : Variable) (x : Value) (w : World) → Same w (put v x w)
 put-same v x w = cells-same v.within (λ cells. slice_set cells v.place x) w

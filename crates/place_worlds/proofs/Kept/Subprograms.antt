@@ -13,7 +13,7 @@ use Rattle.profile_machine.specs.Program.{subprogram_of}
 use Rattle.profile_machine.specs.Scopes.{home, write_cell}
 use Rattle.profile_machine.specs.Statements.{becomes}
 use Rattle.profile_machine.specs.Steps.{Step}
-use Rattle.profile_machine.specs.Subprograms.{begin_body, call_subprogram, cell_in, copy_parameters, drop_sending, end_subprogram, handed, handing, last_cell, result_kept, result_place, result_to, return, return_result, return_value, store_result}
+use Rattle.profile_machine.specs.Subprograms.{begin_body, call_subprogram, cell_in, copy_parameters, drop_sending, end_subprogram, handed, handing, last_cell, result_kept, result_place, result_to, return, return_result, return_value, store_result, without_sending}
 use Rattle.profile_machine.specs.Values.{Seen, or_misfit, seen_by}
 use Rattle.profile_machine.specs.declared.image.Image.{Image}
 use Rattle.profile_machine.specs.declared.numbers.ExprNo.{ExprNo}
@@ -32,6 +32,7 @@ use Rattle.profile_machine.specs.declared.world.marks.ResultTo.{ResultTo}
 use Rattle.profile_machine.specs.declared.world.marks.ResultTo.TheVariants as bound_for
 use Rattle.profile_machine.specs.declared.world.scopes.Beginning.{Beginning}
 use Rattle.profile_machine.specs.declared.world.scopes.Handed.{Handed}
+use Rattle.std.proofs.Common.{refl}
 use Rattle.std.specs.Prelude.{List, None, Ok, Option, Some, [], slice_set, ◌∷◌}
 use Rattle.trace_text.specs.declared.events.Who.{Who}
 
@@ -64,7 +65,7 @@ module _ {X : State} (quiet : Silences X) where
 
   pub drop_sending-alters : (c : Option CallNo) → Alters X (drop_sending c)
   drop_sending-alters None = unchanged-alters
-  drop_sending-alters (Some c) = edit_call-alters quiet c _
+  drop_sending-alters (Some c) = edit_call-alters quiet c without_sending (λ d. refl) (λ d. refl)
 
   pub return-keeps : (name : Who) → Keeps X (return name)
   unfolding return

@@ -131,7 +131,7 @@ second-false false = refl
 awake-going : (p : Image) (name : Who) (f : Frame) (s : StatementNo) (w : World) → Good p w → top_of w name ≡ Some f → f.onward ≡ Some s → Awake name w
 awake-going p name f s w good top is = awake-by p name f w good top (λ c. ap (λ x. is_none x && calls_part c (part_of f.mark)) is)
 
-awake-plain : (p : Image) (name : Who) (f : Frame) (w : World) → Good p w → top_of w name ≡ Some f → part_of f.mark ≡ None → Awake name w
+pub awake-plain : (p : Image) (name : Who) (f : Frame) (w : World) → Good p w → top_of w name ≡ Some f → part_of f.mark ≡ None → Awake name w
 awake-plain p name f w good top free = awake-by p name f w good top (λ c. ap (λ x. is_none f.onward && calls_part c x) free ∙ second-false (is_none f.onward))
 
 -- ---- the end of a sequence with handlers
@@ -435,7 +435,7 @@ open_if_ready-holds p name w good = looks_at-holds (λ v. when (is_runnable (tas
 pub effect-holds : (p : Image) (name : Who) (w : World) → Good p w → Holds p w (effect p name)
 unfolding effect
 effect-holds p name w good =
-    then-holds _ _ w (any-holds _ w good (calms-any _ (changes-calms _ (edit_task-quiets name (with_ticks None) (λ t. refl) (λ t. refl) (λ t. refl) (λ t. refl)))))
+    then-holds _ _ w (any-holds _ w good (calms-any _ (changes-calms _ (edit_task-quiets name (with_ticks None) (λ t. refl) (λ t. refl) (λ t. refl) (λ t. refl) (λ t. refl)))))
     (λ v good_v. then-holds _ _ v (act-holds p name v good_v)
     (λ u good_u. then-holds _ _ u (open_if_ready-holds p name u good_u)
     (λ x good_x. then-holds _ _ x (any-holds _ x good_x (calms-any _ (take_terminates-calms p name)))

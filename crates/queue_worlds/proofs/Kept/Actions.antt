@@ -107,10 +107,10 @@ use Rattle.queue_worlds.proofs.TaskEdits.{edited_to, gone, same_who-path}
 -- ---- an object is entered
 
 open_action-quiets : {E : Kind} (name : Who) (o : ObjectNo) (mode : Mode) → Quiets E (open_action name o mode)
-open_action-quiets name o mode = record { at = λ w. edit_object-calm o (λ x. record x { actions = record { who = name; mode = mode } ∷ x.actions }) w (λ x. refl) (λ x k c h. h) }
+open_action-quiets name o mode = record { at = λ w. edit_object-calm o (λ x. record x { actions = record { who = name; mode = mode } ∷ x.actions }) w (λ x. refl) (λ x k c h. h) (λ x k c h. h) }
 
 close_action-quiets : {E : Kind} (name : Who) (o : ObjectNo) → Quiets E (close_action name o)
-close_action-quiets name o = record { at = λ w. edit_object-calm o (λ x. record x { actions = without (is_action_of name) x.actions }) w (λ x. refl) (λ x k c h. h) }
+close_action-quiets name o = record { at = λ w. edit_object-calm o (λ x. record x { actions = without (is_action_of name) x.actions }) w (λ x. refl) (λ x k c h. h) (λ x k c h. h) }
 
 pub find_held-calms : {E : Kind} (p : Image) (name : Who) (o : ObjectNo) (mode : Mode) → Calms E (find_held p name o mode)
 unfolding find_held
@@ -144,7 +144,7 @@ begin_operation-keeps : {E : Kind} (p : Image) (name : Who) (s : StatementNo) (f
 unfolding begin_operation
 begin_operation-keeps p name s f o h to =
     then-keeps _ _ (goes-keeps name (next_of p s)) (then-keeps _ _ (begin_action_on-keeps p name o (mode_of (subprogram_of p f)) None)
-    (looks-keeps _ (λ w. changes-keeps _ (open_scope-alters p name (subprogram_of p f).scope _ _))))
+    (looks-keeps _ (λ w. changes-keeps _ (open_scope-alters p name (subprogram_of p f).scope (body_of_object p w (subprogram_of p f).scope o h.subject h.values) (opened_for.Subprogram h.back to)))))
 
 pub call_operation_of-acts : {q : Image} (p : Image) (name : Who) (s : StatementNo) (f : SubprogramNo) (actuals : List Actual) (to : Destination) (o : ObjectNo) → Acts q name (call_operation_of p name s f actuals to o)
 unfolding call_operation_of
@@ -477,6 +477,8 @@ module _ (g : ProtectedMark → ProtectedMark) (none : (m : ProtectedMark) → (
       record {
         named = refl;
         queues = λ k c h. h;
+        stays = λ k c h. inl h;
+        completed = refl;
         fewer = λ c. first-few c fs;
         owns = λ c h. inl (sym (first-owns c fs) ∙ h);
         ended = λ c h. inl (sym (first-ends c fs) ∙ h);

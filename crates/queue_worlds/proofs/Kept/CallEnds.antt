@@ -47,7 +47,7 @@ use Rattle.queue_worlds.proofs.TaskEdits.{edited_to}
 -- ---- cancellation is attempted
 
 pub attempted-same : Same (λ d. record d { attempted = true })
-attempted-same = record { number = λ d. refl; owner = λ d. refl; entry = λ d. refl; caller = λ d. refl; begun = λ d. refl; outcome = λ d. refl }
+attempted-same = record { number = λ d. refl; owner = λ d. refl; entry = λ d. refl; caller = λ d. refl; begun = λ d. refl; outcome = λ d. refl; firm = λ d. refl }
 
 same-record : (c : Call) (w : World) → call_of w c.number ≡ Some c → Directed c w
 same-record c w is o k h d e = let one : d ≡ c = some-one d c (sym e ∙ is) in (ap (λ (x : Call). x.owner) one, ap (λ (x : Call). x.entry) one) where
@@ -80,11 +80,11 @@ wake_and_leave-calms : {E : Kind} (p : Image) (part : Part) (name : Who) → Cal
 unfolding wake_and_leave stop_waiting leave_by_abort
 wake_and_leave-calms p part name =
     then-calms _ _ (then-calms _ _ (changes-calms _ (drop_delay-quiets name)) (ready-calms p part name))
-    (then-calms _ _ (changes-calms _ (edit_task-quiets name (with_ticks None) (λ t. refl) (λ t. refl) (λ t. refl) (λ t. refl))) (leaves-calms name how.Abort))
+    (then-calms _ _ (changes-calms _ (edit_task-quiets name (with_ticks None) (λ t. refl) (λ t. refl) (λ t. refl) (λ t. refl) (λ t. refl))) (leaves-calms name how.Abort))
 
 leave_by_abort-calms : {E : Kind} (name : Who) → Calms E (leave_by_abort name)
 unfolding leave_by_abort
-leave_by_abort-calms name = then-calms _ _ (changes-calms _ (edit_task-quiets name (with_ticks None) (λ t. refl) (λ t. refl) (λ t. refl) (λ t. refl))) (leaves-calms name how.Abort)
+leave_by_abort-calms name = then-calms _ _ (changes-calms _ (edit_task-quiets name (with_ticks None) (λ t. refl) (λ t. refl) (λ t. refl) (λ t. refl) (λ t. refl))) (leaves-calms name how.Abort)
 
 unwind_blocked-from : {E : Kind} (p : Image) (part : Part) (name : Who) (waiting : Waiting) (w : World) → ((x : CallNo) → E.stay x ≡ false) → Good p w → From E w (unwind_blocked p part name waiting)
 unfolding unwind_blocked

@@ -19,9 +19,9 @@ use Rattle.profile_machine.specs.declared.world.marks.AssignStep.{AssignStep}
 use Rattle.profile_machine.specs.declared.world.marks.AssignStep.TheVariants as assigning
 use Rattle.profile_machine.specs.declared.world.lines.Part.TheVariants.{Own}
 use Rattle.profile_machine.specs.Steps.{says, changes, ◌▷◌, looks}
-use Rattle.profile_machine.specs.Scopes.{write_cell}
-use Rattle.profile_machine.specs.Statements.{cells_from, put_cells}
-use Rattle.profile_machine.specs.Controlled.{first_place, open_operation, top_region, registered_as, register, initialize_by, initialize, end_in_initialize, edit_top_scope, finalize_has_raised, open_finalize, has_room_to_finalize, finalize_by, no_longer_registered, finalize, behind_finalize, end_in_finalize, begin_assignment, assign_registered, assign_located, assign_controlled, edit_top_assign, leave_without_room, finalize_target_by, has_room_to_adjust, adjust_by, copy_components_of, copy_object, do_step, step_with, end_in_assign, edit_scope_mark, edit_assign, registered_object, registers, is_assignment}
+use Rattle.profile_machine.specs.Scopes.{write_cell, put_cells}
+use Rattle.profile_machine.specs.Statements.{cells_from}
+use Rattle.profile_machine.specs.Controlled.{first_place, open_operation, top_region, registered_as, register, initialize_by, initialize, end_in_initialize, edit_top_scope, finalize_has_raised, open_finalize, has_room_to_finalize, finalize_by, no_longer_registered, finalize_now, finalize, behind_finalize, end_in_finalize, begin_assignment, assign_registered, assign_located, assign_controlled, edit_top_assign, leave_without_room, finalize_target_by, has_room_to_adjust, adjust_by, copy_components_of, copy_object, do_step, step_with, end_in_assign, edit_scope_mark, edit_assign, registered_object, registers, is_assignment}
 use Rattle.std.proofs.Common.{◌≡◌, refl}
 use Rattle.profile_machine.specs.declared.world.World.{World}
 use Rattle.profile_machine.specs.declared.world.marks.Frame.{Frame}
@@ -29,7 +29,7 @@ use Rattle.profile_machine.specs.declared.world.marks.Mark.{Mark}
 use Rattle.profile_machine.specs.declared.world.marks.Mark.TheVariants.{Scope, Handled, InProtected, InAccept, Abortable, InInitialize, InFinalize, InAssign}
 use Rattle.profile_machine.specs.Frames.{top_of, pop, with_mark, pass_on}
 use Rattle.queue_worlds.proofs.Calming.{same-calm}
-use Rattle.queue_worlds.proofs.Kept.Combinators.{Alters, From, Keeps, branch-keeps, changes-from, changes-keeps, changes_then-from, cond-keeps, keeps-from, looks-keeps, looks_at-from, nothing-keeps, says-keeps, sees-keeps, then-keeps}
+use Rattle.queue_worlds.proofs.Kept.Combinators.{Alters, From, Keeps, branch-keeps, changes-from, changes-keeps, changes_then-from, cond-keeps, keeps-from, looks-keeps, looks_at-from, nothing-keeps, says-keeps, sees-keeps, then-keeps, when-keeps}
 use Rattle.queue_worlds.proofs.Kept.Frames.{edit_cells-quiets, edit_top-alters, given-keeps, goes-keeps, leaves-keeps, open_scope-alters, pass_on-keeps, popped, push-alters, raises-keeps, with_room-keeps, write_cell-alters}
 use Rattle.queue_worlds.proofs.Standing.{Awake, Calm, Kind, calm-awake, nature, part_of, quiet_kind}
 
@@ -124,9 +124,13 @@ unfolding finalize_by
 finalize_by-keeps p name r None = search (nothing-keeps)
 finalize_by-keeps p name r (Some f) = looks-keeps _ (λ w. branch-keeps (has_room_to_finalize p w name f) (open_finalize p name r.object r.located f) (changes (edit_top_scope name finalize_has_raised)) (search (open_finalize-keeps)) (search (changes-keeps, edit_top_scope-alters)))
 
+finalize_now-keeps : {E : Kind} (p : Image) (name : Who) (r : Registered) → Keeps E name (finalize_now p name r)
+unfolding finalize_now
+finalize_now-keeps p name r = search (says-keeps, then-keeps, changes-keeps, no_longer_registered-alters, finalize_by-keeps) depth 6
+
 pub finalize-keeps : {E : Kind} (p : Image) (name : Who) (r : Registered) → Keeps E name (finalize p name r)
 unfolding finalize
-finalize-keeps p name r = search (says-keeps, then-keeps, changes-keeps, no_longer_registered-alters, finalize_by-keeps) depth 6
+finalize-keeps p name r = search (looks-keeps, when-keeps, finalize_now-keeps)
 
 pub begin_assignment-keeps : {E : Kind} (p : Image) (name : Who) (s : StatementNo) (target source : ℕ) → Keeps E name (begin_assignment p name s target source)
 unfolding begin_assignment

@@ -1,5 +1,5 @@
 -- Abortable parts on top end with their calls forgotten, and calls end (9.7.4).
-use Rattle.std.proofs.Common.{◌≡◌, ℕ, Bool, true, false, cond, not, inl, inr, ◌≤◌, eqb, length, ◌++◌, List, [], ◌∷◌, Option, Some, None, refl, sym, subst, ap, ◌∙◌, option_map}
+use Rattle.std.proofs.Common.{◌≡◌, ℕ, Bool, true, false, cond, not, inl, inr, ◌≤◌, eqb, length, List, [], ◌∷◌, Option, Some, None, refl, sym, subst, ap, ◌∙◌, option_map}
 use Rattle.std.specs.Prelude.{Ok, Err, is_none, find}
 use Rattle.std.proofs.lemmas.Bool.{and_parts, eq-eqb, true≢false}
 use Rattle.ann_base.specs.declared.identities.CallNo.{CallNo}
@@ -47,7 +47,7 @@ use Rattle.queue_worlds.proofs.Kept.Frames.{goes-keeps, leaves-keeps, open_seque
 use Rattle.queue_worlds.proofs.Kept.Parts.{call_at, call_at-awaits, call_at-depth, edit_abortable_at-calm, edited-ending}
 use Rattle.machine_laws.proofs.ListLemmas.{both}
 use Rattle.queue_worlds.proofs.Softening.{Unset, marks-calm, pop-calm}
-use Rattle.queue_worlds.proofs.Standing.{Awake, Calm, Ended, Good, Idle, Kind, Out, any_kind, awaits_at, awaits_part, calls_part, calm-awake, calm-ended, calm-good, calm-idle, calm-out, calm-then, ended-out, is_ending, nature, natures, part_of, waits_end}
+use Rattle.queue_worlds.proofs.Standing.{Awake, Calm, Ended, Good, Idle, Kind, Out, any_kind, awaits_at, awaits_part, calls_part, calm-awake, calm-ended, calm-good, calm-idle, calm-out, calm-then, ended-out, is_ending, nature, natures, part_of, waits_end, GoodBut}
 
 -- ---- a part is triggered
 
@@ -116,7 +116,7 @@ ending-call c fs f below m is mark h =
 some-none : {X : Type 0} (x : X) → None ≡ Some x → ⊥
 some-none x e = cc
 
-module _ (p : Image) (name : Who) (f : Frame) (below : List Frame) (m : AbortableMark) (w : World) (good : Good p w) (top : frames_of w name ≡ f ∷ below) (mark : f.mark ≡ Abortable m) (unset : Unset name w (frames_of w name)) where
+module _ {late : CallNo → Bool} (p : Image) (name : Who) (f : Frame) (below : List Frame) (m : AbortableMark) (w : World) (good : GoodBut p late w) (top : frames_of w name ≡ f ∷ below) (mark : f.mark ≡ Abortable m) (unset : Unset name w (frames_of w name)) where
   -- of a delay nobody waits for a call
   ends-none : m.call ≡ None → (c : CallNo) (d : Call) → waiting_of w name ≡ waits_end c → call_of w c ≡ Some d → ⊥
   ends-none none c d is e = some-none c (sym none ∙ ending-call c (frames_of w name) f below m top mark (good.ends name c d is e))
@@ -165,13 +165,13 @@ unfolding behind_abortable
 behind_abortable-keeps p part name m outcome = when-keeps m.triggered _ (run_triggered-keeps p part name m.select outcome)
 
 -- what is said of the part on top, if one is there
-pub record EndsWell (E : Kind) (p : Image) (name : Who) (w : World) : Type 0 where
-  pub good : Good p w
+pub record EndsWell (E : Kind) (late : CallNo → Bool) (p : Image) (name : Who) (w : World) : Type 0 where
+  pub good : GoodBut p late w
   pub unset : Unset name w (frames_of w name)
   pub out : (f : Frame) (below : List Frame) (m : AbortableMark) (c : CallNo) → frames_of w name ≡ f ∷ below → f.mark ≡ Abortable m → m.call ≡ Some c → Out c w
   pub stays : (f : Frame) (below : List Frame) (m : AbortableMark) (c : CallNo) → frames_of w name ≡ f ∷ below → f.mark ≡ Abortable m → m.call ≡ Some c → E.stay c ≡ false
 
-end_abortable-from : {E : Kind} (p : Image) (part : Part) (name : Who) (m : AbortableMark) (f : Frame) (below : List Frame) (w : World) → E.steady name ≡ false → EndsWell E p name w → frames_of w name ≡ f ∷ below → f.mark ≡ Abortable m → From E w (end_abortable p part name m f below)
+end_abortable-from : {E : Kind} {late : CallNo → Bool} (p : Image) (part : Part) (name : Who) (m : AbortableMark) (f : Frame) (below : List Frame) (w : World) → E.steady name ≡ false → EndsWell E late p name w → frames_of w name ≡ f ∷ below → f.mark ≡ Abortable m → From E w (end_abortable p part name m f below)
 unfolding end_abortable
 end_abortable-from p part name m f below w free ends top mark =
     let v = forget_trigger m.call (pop name w) in
@@ -184,17 +184,17 @@ end_abortable-from p part name m f below w free ends top mark =
             (branch-keeps (ended_by_itself f below) (behind_abortable p part name m (trigger_outcome w m.call)) (pass_on p name (leaving_of f)) (behind_abortable-keeps p part name m (trigger_outcome w m.call)) (pass_on-keeps p name (leaving_of f)))).leads said);
       }
 
-end_abortable_in-from : {E : Kind} (p : Image) (part : Part) (name : Who) (f : Frame) (below : List Frame) (mark : Mark) (w : World) → E.steady name ≡ false → EndsWell E p name w → frames_of w name ≡ f ∷ below → f.mark ≡ mark → From E w (end_abortable_in p part name f below mark)
+end_abortable_in-from : {E : Kind} {late : CallNo → Bool} (p : Image) (part : Part) (name : Who) (f : Frame) (below : List Frame) (mark : Mark) (w : World) → E.steady name ≡ false → EndsWell E late p name w → frames_of w name ≡ f ∷ below → f.mark ≡ mark → From E w (end_abortable_in p part name f below mark)
 unfolding end_abortable_in
 end_abortable_in-from p part name f below (Abortable m) w free ends top is = end_abortable-from p part name m f below w free ends top is
 end_abortable_in-from p part name f below _ w free ends top is = nothing-from w
 
-end_top_abortable-from : {E : Kind} (p : Image) (part : Part) (name : Who) (frames : List Frame) (w : World) → E.steady name ≡ false → EndsWell E p name w → frames_of w name ≡ frames → From E w (end_top_abortable p part name frames)
+end_top_abortable-from : {E : Kind} {late : CallNo → Bool} (p : Image) (part : Part) (name : Who) (frames : List Frame) (w : World) → E.steady name ≡ false → EndsWell E late p name w → frames_of w name ≡ frames → From E w (end_top_abortable p part name frames)
 unfolding end_top_abortable
 end_top_abortable-from p part name [] w free ends is = nothing-from w
 end_top_abortable-from p part name (f ∷ below) w free ends is = end_abortable_in-from p part name f below f.mark w free ends is refl
 
-pub end_found-from : {E : Kind} (p : Image) (part : Part) (name : Who) (w : World) → E.steady name ≡ false → EndsWell E p name w → From E w (looks (λ v. end_top_abortable p part name (frames_of v name)))
+pub end_found-from : {E : Kind} {late : CallNo → Bool} (p : Image) (part : Part) (name : Who) (w : World) → E.steady name ≡ false → EndsWell E late p name w → From E w (looks (λ v. end_top_abortable p part name (frames_of v name)))
 end_found-from p part name w free ends = looks_at-from (λ v. end_top_abortable p part name (frames_of v name)) w (end_top_abortable-from p part name (frames_of w name) w free ends refl)
 
 -- ---- steps behind which the caller waits for the end of the call no more
@@ -222,12 +222,6 @@ changes_then-leaves c f g w a b = record { leads = λ said. (calm-then w (f w) (
 
 on-from : {E : Kind} (c : Call) (w v u : World) → Calm E w v → Unwaited c v → Calm E v u → Calm E w u × Unwaited c u
 on-from c w v u a un b = (calm-then w v u a b, unwaited-on c v u b un)
-
-pub gone_then-leaves : {E : Kind} (p : Image) (part : Part) (c : Call) (g : Step) (w : World) → Leaves E c (unqueued p c w) g → Leaves E c w (gone p part c ▷ g)
-unfolding gone
-gone_then-leaves p part c g w k = record { leads = λ said. by_pair (k.leads (said ++ record { part = part; line = line.Gone c.caller c.number } ∷ [])) } where
-  by_pair : {E : Kind} {v : World} → Calm E (unqueued p c w) v × Unwaited c v → Calm E w v × Unwaited c v
-  by_pair {v = v} x = (calm-then w (unqueued p c w) v (unqueued-calm p c w) x.0, x.1)
 
 ready_then-leaves : {E : Kind} (p : Image) (part : Part) (c : Call) (g : Step) (w : World) → From E (readied p (who.Task c.caller) w) g → Leaves E c w (ready p part (who.Task c.caller) ▷ g)
 unfolding ready to_tail says_ready
@@ -266,7 +260,7 @@ waits-this c (Some (waits_for.Select accepts delay terminate)) e = cc
 waits-this c (Some (waits_for.Dependents r)) e = cc
 waits-this c (Some waits_for.Release) e = cc
 
-module _ (p : Image) (part : Part) (c : Call) (depth : ℕ) (outcome : Outcome) (w : World) (good : Good p w) (end : Ended c.number w) (at : call_at depth (frames_of w (who.Task c.caller)) ≡ Some (Some c.number)) (ending : is_ending c.number (frames_of w (who.Task c.caller)) ≡ true) where
+module _ {late : CallNo → Bool} (p : Image) (part : Part) (c : Call) (depth : ℕ) (outcome : Outcome) (w : World) (good : GoodBut p late w) (end : Ended c.number w) (at : call_at depth (frames_of w (who.Task c.caller)) ≡ Some (Some c.number)) (ending : is_ending c.number (frames_of w (who.Task c.caller)) ≡ true) where
   abbrev waiter : Who
   waiter = who.Task c.caller
 
@@ -289,7 +283,7 @@ module _ (p : Image) (part : Part) (c : Call) (depth : ℕ) (outcome : Outcome) 
       (λ h. edited-ending (waited_mark (not (is_cancelled outcome))) (λ m. refl) c.number depth (frames_of (readied p waiter w) waiter) h) waiter
       (ap (is_ending c.number) (readied-frames p waiter w waiter) ∙ ending)
 
-  ended-waited : {E : Kind} → E.stay c.number ≡ false → EndsWell E p waiter waited
+  ended-waited : {E : Kind} → E.stay c.number ≡ false → EndsWell E late p waiter waited
   ended-waited {E = E} go =
       let calm : Calm any_kind w waited = waited-calm in
       let good_then = calm-good p w waited good calm in
@@ -353,7 +347,7 @@ abbrev pub Seen_if : Call → World → Type 0
 Seen_if c w = waiting_of w (who.Task c.caller) ≡ waits_end c.number → (d : Call) × (call_of w c.number ≡ Some d)
 
 -- the call has an outcome, and stands in no queue; its caller is told
-module _ {E : Kind} (p : Image) (part : Part) (c : Call) (outcome : Outcome) (w : World) (good : Good p w) (seen : Seen_if c w) (end : Ended c.number w) (awake : AllAwake E w) (go : E.stay c.number ≡ false) where
+module _ {E : Kind} {late : CallNo → Bool} (p : Image) (part : Part) (c : Call) (outcome : Outcome) (w : World) (good : GoodBut p late w) (seen : Seen_if c w) (end : Ended c.number w) (awake : AllAwake E w) (go : E.stay c.number ≡ false) where
   end_for_abortable-by : (depth : ℕ) → abortable_depth w c ≡ Some depth → (b : Bool) → waits_for_end c.number (waiting_of w (who.Task c.caller)) ≡ b → Leaves E c w (elim b as (λ _. Step) [ true ↦ end_wait p part c depth outcome | false ↦ trigger_at part c.caller depth ])
   end_for_abortable-by depth at true is =
       let there = seen (waits-this c.number (waiting_of w (who.Task c.caller)) is) in
@@ -389,7 +383,7 @@ abbrev pub MayEnd : Kind → CallNo → Type 0
 MayEnd E c = E.may c ≡ true
 
 outcome-edits : (E : Kind) (w : World) (c : CallNo) (outcome : Outcome) (x : Call) → MayEnd E c → Out c w → Idle c w → Edits E w c x (with_outcome outcome x)
-outcome-edits E w c outcome x may out idle = record { directed = inl (refl, refl); caller = refl; outcome = λ h. refl; steady = inr (may, out, idle) }
+outcome-edits E w c outcome x may out idle = record { directed = inl (refl, refl); firm = inl refl; caller = refl; outcome = λ h. refl; steady = inr (may, out, idle) }
 
 with_outcome-ended : (c : CallNo) (outcome : Outcome) (w : World) → c.0 ≤ w.drawn.calls → Ended c (edit_call c (with_outcome outcome) w)
 with_outcome-ended c outcome w low = (low, λ d e. by_found (call_of w c) d (sym (edited_call-same c (with_outcome outcome) w (λ x. refl)) ∙ e)) where
@@ -401,7 +395,7 @@ still-there_as : (c : CallNo) (outcome : Outcome) (w : World) (d : Call) → cal
 still-there_as c outcome w d is = edited_call-same c (with_outcome outcome) w (λ x. refl) ∙ ap (option_map (with_outcome outcome)) is
 
 -- it is there, or is there no more, and then nobody waits for it
-end_with-leaves : {E : Kind} (p : Image) (part : Part) (c : Call) (outcome : Outcome) (w : World) → Good p w → Seen_if c w → c.number.0 ≤ w.drawn.calls → MayEnd E c.number → Out c.number w → Idle c.number w → AllAwake E w → E.stay c.number ≡ false → Leaves E c w (end_with p part c outcome)
+end_with-leaves : {E : Kind} {late : CallNo → Bool} (p : Image) (part : Part) (c : Call) (outcome : Outcome) (w : World) → GoodBut p late w → Seen_if c w → c.number.0 ≤ w.drawn.calls → MayEnd E c.number → Out c.number w → Idle c.number w → AllAwake E w → E.stay c.number ≡ false → Leaves E c w (end_with p part c outcome)
 unfolding end_with
 end_with-leaves {E = E} p part c outcome w good seen low may out idle awake go =
     let v = edit_call c.number (with_outcome outcome) w in
@@ -438,7 +432,7 @@ with_results-calls p c call_ended.Cancelled w = refl
 with_results-calls p c (call_ended.ToRaise e) w = refl
 with_results-calls p c (call_ended.WasRaised e) w = refl
 
-pub end_call-leaves : {E : Kind} (p : Image) (part : Part) (c : Call) (outcome : Outcome) (w : World) → Good p w → Seen_if c w → c.number.0 ≤ w.drawn.calls → MayEnd E c.number → Out c.number w → Idle c.number w → AllAwake E w → E.stay c.number ≡ false → Leaves E c w (end_call p part c outcome)
+pub end_call-leaves : {E : Kind} {late : CallNo → Bool} (p : Image) (part : Part) (c : Call) (outcome : Outcome) (w : World) → GoodBut p late w → Seen_if c w → c.number.0 ≤ w.drawn.calls → MayEnd E c.number → Out c.number w → Idle c.number w → AllAwake E w → E.stay c.number ≡ false → Leaves E c w (end_call p part c outcome)
 unfolding end_call
 end_call-leaves {E = E} p part c outcome w good seen low may out idle awake go =
     let r = with_results p c outcome w in

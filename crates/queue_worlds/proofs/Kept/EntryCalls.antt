@@ -1,5 +1,5 @@
 -- Entry calls are made (9.5.3, 9.7.2 to 9.7.4).
-use Rattle.std.proofs.Common.{sym, subst, inl, inr, cond, arith, is_none, is_some, eqb, ◌≤◌, ◌<◌}
+use Rattle.std.proofs.Common.{sym, subst, inl, inr, cond, arith, is_none, is_some, eqb, ◌≤◌, ◌<◌, ◌⊎◌}
 use Rattle.std.proofs.lemmas.Bool.{eq-eqb, eqb-true, true≢false, and_parts}
 use Rattle.queue_worlds.proofs.TaskEdits as tasks
 use Rattle.profile_machine.specs.declared.run_data.Leaving.TheVariants as how
@@ -71,7 +71,7 @@ use Rattle.queue_worlds.proofs.Kept.Rendezvous.{accepting-awake, meet-onward}
 use Rattle.queue_worlds.proofs.Kept.Sending.{not_accepted-from}
 use Rattle.queue_worlds.proofs.Moving.{Next, calm-next, next-then}
 use Rattle.queue_worlds.proofs.Softening.{natures-length, push-calm}
-use Rattle.queue_worlds.proofs.Standing.{Awake, Calm, Good, Idle, Kind, Out, Own, Stands, Waited, Waited_in, any_kind, awaits_at, calm-awake, calm-good, calm-idle, ends_by, fresh-idle, fresh-out, has_own, is_ending, natures, natures_of, quiet_kind, served, some_nature}
+use Rattle.queue_worlds.proofs.Standing.{Awake, Calm, Good, Idle, Kind, Out, Own, Stands, Waited, Waited_in, any_kind, awaits_at, calm-awake, calm-good, calm-idle, ends_by, fresh-idle, fresh-out, has_own, is_ending, natures, natures_of, quiet_kind, served, some_nature, Awaited, Open, Unfirm, none_late}
 use Rattle.queue_worlds.proofs.TaskEdits.{edited_to}
 
 -- ---- a call is made: nothing knows its number yet
@@ -124,6 +124,13 @@ module _ (p : Image) (c : Call) (w : World) (good : Good p w) where
   made-own : (a : Who) (x : CallNo) → Own a x w → Own a x made
   made-own a x own = (let low : x.0 ≤ w.drawn.calls = own.0 in omega (arith, low), λ d e. own.1 d (sym (made-old x own.0) ∙ e))
 
+  made-awaited : (x : CallNo) → Awaited x w ⊎ (none_late x ≡ true) → Awaited x made ⊎ (none_late x ≡ true)
+  made-awaited x (inl a) = inl (by_owner a.owner a.place a.stands a.opens (λ d e. a.unfirm d (sym (made-old x (good.within a.owner a.place x a.stands)) ∙ e))) where
+    by_owner : (o : Owner) (k : ℕ) → Stands w o k x → Open w o → Unfirm x made → Awaited x made
+    by_owner (owned_by.Task t) k h open_ unfirm = record { owner = owned_by.Task t; place = k; stands = h; opens = open_; unfirm = unfirm }
+    by_owner (owned_by.Object o) k h open_ unfirm = record { owner = owned_by.Object o; place = k; stands = h; opens = tt; unfirm = unfirm }
+  made-awaited x (inr e) = inr e
+
   pub made-good : Good p made
   made-good = record {
     known = made-known;
@@ -136,6 +143,7 @@ module _ (p : Image) (c : Call) (w : World) (good : Good p w) where
     once = λ a x. subst (λ n. n ≤ 1) (sym (made-served a x)) (good.once a x);
     alone = λ a b x h i. good.alone a b x (made-positive a x h) (made-positive b x i);
     timed = λ x h a. made-served a x ∙ good.timed x h a;
+    awaited = λ x h. made-awaited x (good.awaited x h);
     objects = good.objects;
     named = good.named;
     present = good.present;
@@ -368,7 +376,7 @@ asynchronous_select-acts p name s trigger = async_by_trigger-acts p name s trigg
 
 mark_sending-quiets : {E : Kind} (c : Option CallNo) (o : Owner) (e : EntryNo) (with_abort : Bool) → Quiets E (mark_sending c o e with_abort)
 mark_sending-quiets None o e with_abort = unchanged-quiets
-mark_sending-quiets (Some c) o e with_abort = edit_call-quiets c (with_sending o e with_abort) record { number = λ d. refl; owner = λ d. refl; entry = λ d. refl; caller = λ d. refl; begun = λ d. refl; outcome = λ d. refl }
+mark_sending-quiets (Some c) o e with_abort = edit_call-quiets c (with_sending o e with_abort) record { number = λ d. refl; owner = λ d. refl; entry = λ d. refl; caller = λ d. refl; begun = λ d. refl; outcome = λ d. refl; firm = λ d. refl }
 
 pub requeue-keeps : {E : Kind} (p : Image) (name : Who) (e : EntryNo) (o : EntryOwner) (with_abort : Bool) → Keeps E name (requeue p name e o with_abort)
 unfolding requeue

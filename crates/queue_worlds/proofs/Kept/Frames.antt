@@ -55,11 +55,11 @@ use Rattle.queue_worlds.proofs.Standing.{Awake, Calm, Kind, Nature, awaits_part,
 
 -- ---- tasks
 
-pub edit_task-quiets : {E : Kind} (name : Who) (f : Task → Task) → ((t : Task) → (f t).who ≡ t.who) → ((t : Task) → (f t).frames ≡ t.frames) → ((t : Task) → (f t).state ≡ t.state) → ((t : Task) → (f t).queues ≡ t.queues) → Quiets E (edit_task name f)
-edit_task-quiets name f named frames state queues = record { at = λ w. plain-calm name f w named frames state queues }
+pub edit_task-quiets : {E : Kind} (name : Who) (f : Task → Task) → ((t : Task) → (f t).who ≡ t.who) → ((t : Task) → (f t).frames ≡ t.frames) → ((t : Task) → (f t).state ≡ t.state) → ((t : Task) → (f t).queues ≡ t.queues) → ((t : Task) → (f t).completed ≡ t.completed) → Quiets E (edit_task name f)
+edit_task-quiets name f named frames state queues completed = record { at = λ w. plain-calm name f w named frames state queues completed }
 
-pub edit_task-alters : {E : Kind} {name : Who} (someone : Who) (f : Task → Task) → ((t : Task) → (f t).who ≡ t.who) → ((t : Task) → (f t).frames ≡ t.frames) → ((t : Task) → (f t).state ≡ t.state) → ((t : Task) → (f t).queues ≡ t.queues) → Alters E name (edit_task someone f)
-edit_task-alters someone f named frames state queues = quiets-alters (edit_task someone f) (edit_task-quiets someone f named frames state queues)
+pub edit_task-alters : {E : Kind} {name : Who} (someone : Who) (f : Task → Task) → ((t : Task) → (f t).who ≡ t.who) → ((t : Task) → (f t).frames ≡ t.frames) → ((t : Task) → (f t).state ≡ t.state) → ((t : Task) → (f t).queues ≡ t.queues) → ((t : Task) → (f t).completed ≡ t.completed) → Alters E name (edit_task someone f)
+edit_task-alters someone f named frames state queues completed = quiets-alters (edit_task someone f) (edit_task-quiets someone f named frames state queues completed)
 
 -- ---- placing
 
@@ -75,12 +75,16 @@ full_quantum-state : (b : Bool) (n : ℕ) (t : Task) → (cond b (record t { qua
 full_quantum-state true n t = refl
 full_quantum-state false n t = refl
 
+full_quantum-completed : (b : Bool) (n : ℕ) (t : Task) → (cond b (record t { quantum = n }) t).completed ≡ t.completed
+full_quantum-completed true n t = refl
+full_quantum-completed false n t = refl
+
 full_quantum-queues : (b : Bool) (n : ℕ) (t : Task) → (cond b (record t { quantum = n }) t).queues ≡ t.queues
 full_quantum-queues true n t = refl
 full_quantum-queues false n t = refl
 
 pub keep_level-quiets : {E : Kind} (p : Image) (name : Who) → Quiets E (keep_level p name)
-keep_level-quiets p name = record { at = λ w. plain-calm name (λ t. record t { kept_level = level_kept_by p w t (edf_low p t.base) }) w (λ t. refl) (λ t. refl) (λ t. refl) (λ t. refl) }
+keep_level-quiets p name = record { at = λ w. plain-calm name (λ t. record t { kept_level = level_kept_by p w t (edf_low p t.base) }) w (λ t. refl) (λ t. refl) (λ t. refl) (λ t. refl) (λ t. refl) }
 
 pub grant_quantum-quiets : {E : Kind} (p : Image) (name : Who) → Quiets E (grant_quantum p name)
 grant_quantum-quiets p name =
@@ -90,7 +94,8 @@ grant_quantum-quiets p name =
           (λ t. full_quantum-who (eqb (active p t) t.base && is_robin_level p t.base) (slice_index_or w.quanta t.base 0) t)
           (λ t. full_quantum-frames (eqb (active p t) t.base && is_robin_level p t.base) (slice_index_or w.quanta t.base 0) t)
           (λ t. full_quantum-state (eqb (active p t) t.base && is_robin_level p t.base) (slice_index_or w.quanta t.base 0) t)
-          (λ t. full_quantum-queues (eqb (active p t) t.base && is_robin_level p t.base) (slice_index_or w.quanta t.base 0) t);
+          (λ t. full_quantum-queues (eqb (active p t) t.base && is_robin_level p t.base) (slice_index_or w.quanta t.base 0) t)
+          (λ t. full_quantum-completed (eqb (active p t) t.base && is_robin_level p t.base) (slice_index_or w.quanta t.base 0) t);
     }
 
 pub says_ready-calms : {E : Kind} (p : Image) (part : Part) (name : Who) (end : QueueEnd) → Calms E (says_ready p part name end)
@@ -135,7 +140,7 @@ ready-calms p part name = then-calms _ _ (changes-calms _ (runnable-quiets name)
 
 pub says_block-calms : {E : Kind} (part : Part) (name : Who) (waiting : Waiting) → Calms E (says_block part name waiting)
 unfolding says_block
-says_block-calms part name waiting = then-calms _ _ (changes-calms _ (edit_task-quiets name without_kept_level (λ t. refl) (λ t. refl) (λ t. refl) (λ t. refl))) (says-calms part (line.Block name (word_of waiting)))
+says_block-calms part name waiting = then-calms _ _ (changes-calms _ (edit_task-quiets name without_kept_level (λ t. refl) (λ t. refl) (λ t. refl) (λ t. refl) (λ t. refl))) (says-calms part (line.Block name (word_of waiting)))
 
 pub block-calms : {E : Kind} (part : Part) (name : Who) (waiting : Waiting) → for_end waiting ≡ false → Calms E (block part name waiting)
 unfolding block
@@ -271,10 +276,10 @@ drop_delay-quiets who.Agent = unchanged-quiets
 -- ---- inherited priorities
 
 pub inherit-quiets : {E : Kind} (name : Who) (cause : Cause) (level : ℕ) → Quiets E (inherit name cause level)
-inherit-quiets name cause level = edit_task-quiets name _ (λ t. refl) (λ t. refl) (λ t. refl) (λ t. refl)
+inherit-quiets name cause level = edit_task-quiets name _ (λ t. refl) (λ t. refl) (λ t. refl) (λ t. refl) (λ t. refl)
 
 pub lose-quiets : {E : Kind} (name : Who) (cause : Cause) → Quiets E (lose name cause)
-lose-quiets name cause = edit_task-quiets name _ (λ t. refl) (λ t. refl) (λ t. refl) (λ t. refl)
+lose-quiets name cause = edit_task-quiets name _ (λ t. refl) (λ t. refl) (λ t. refl) (λ t. refl) (λ t. refl)
 
 pub inherit_running-calms : {E : Kind} (p : Image) (name : Who) (cause : Cause) (level : ℕ) → Calms E (inherit_running p name cause level)
 unfolding inherit_running
@@ -337,10 +342,11 @@ pub record Same (f : Call → Call) : Type 0 where
   pub caller : (d : Call) → (f d).caller ≡ d.caller
   pub begun : (d : Call) → (f d).begun ≡ d.begun
   pub outcome : (d : Call) → (f d).outcome ≡ d.outcome
+  pub firm : (d : Call) → (f d).firm ≡ d.firm
 
 pub edit_call-quiets : {E : Kind} (c : CallNo) (f : Call → Call) → Same f → Quiets E (edit_call c f)
 edit_call-quiets c f same =
-    record { at = λ w. edit_call-calm c f w same.number (λ x. record { directed = inl (same.owner x, same.entry x); caller = same.caller x; outcome = λ h. ap is_none (same.outcome x) ∙ h; steady = inl (same.begun x, same.outcome x) }) }
+    record { at = λ w. edit_call-calm c f w same.number (λ x. record { directed = inl (same.owner x, same.entry x); firm = inl (same.firm x); caller = same.caller x; outcome = λ h. ap is_none (same.outcome x) ∙ h; steady = inl (same.begun x, same.outcome x) }) }
 
 -- ---- a mark that is no abortable part ends
 

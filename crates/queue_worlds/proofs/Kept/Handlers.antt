@@ -62,6 +62,10 @@ spent-queues : (robin : Bool) (t : world.Task) → (cond robin (record t { quant
 spent-queues true t = refl
 spent-queues false t = refl
 
+spent-completed : (robin : Bool) (t : world.Task) → (cond robin (record t { quantum = t.quantum - 1 }) t).completed ≡ t.completed
+spent-completed true t = refl
+spent-completed false t = refl
+
 -- ---- releases
 
 says_release-calms : {E : Kind} (part : Part) (h : HandlerOf) → Calms E (says_release part h)
@@ -171,7 +175,7 @@ cancel_budget-keeps p name s d target = search (sees-keeps, given-keeps, goes-ke
 charge_clock-calm : {E : Kind} (t : TaskNo) (w : World) → Calm E w (charge_clock t w)
 charge_clock-calm t w =
     let next = edit_task (who.Task t) clock_risen w in
-    calm-then w next (charge_clock t w) ((edit_task-quiets (who.Task t) clock_risen (λ u. refl) (λ u. refl) (λ u. refl) (λ u. refl)).at w) (same-calm next (charge_clock t w) refl refl refl refl refl refl refl refl)
+    calm-then w next (charge_clock t w) ((edit_task-quiets (who.Task t) clock_risen (λ u. refl) (λ u. refl) (λ u. refl) (λ u. refl) (λ u. refl)).at w) (same-calm next (charge_clock t w) refl refl refl refl refl refl refl refl)
 
 charge_budget-calm : {E : Kind} (n : Option ℕ) (w : World) → Calm E w (charge_budget n w)
 charge_budget-calm None w = stays-calm w
@@ -187,7 +191,7 @@ charge-calm p (who.Task t) w =
     let risen = charge_clock t w in
     let charged = charge_group t risen in
     calm-then w risen (charge_task p t w) (charge_clock-calm t w) (calm-then risen charged (charge_task p t w) (charge_group-calm t risen)
-    ((edit_task-quiets (who.Task t) (quantum_spent_by p) (λ u. spent-who (is_robin_level p u.base) u) (λ u. spent-frames (is_robin_level p u.base) u) (λ u. spent-state (is_robin_level p u.base) u) (λ u. spent-queues (is_robin_level p u.base) u)).at charged))
+    ((edit_task-quiets (who.Task t) (quantum_spent_by p) (λ u. spent-who (is_robin_level p u.base) u) (λ u. spent-frames (is_robin_level p u.base) u) (λ u. spent-state (is_robin_level p u.base) u) (λ u. spent-queues (is_robin_level p u.base) u) (λ u. spent-completed (is_robin_level p u.base) u)).at charged))
 charge-calm p who.Agent w = stays-calm w
 
 -- ---- what may release

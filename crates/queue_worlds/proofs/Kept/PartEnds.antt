@@ -19,7 +19,7 @@ use Rattle.trace_text.specs.declared.events.Who.{Who}
 use Rattle.queue_worlds.proofs.Kept.Ends.{EndsWell, end_found-from}
 use Rattle.queue_worlds.proofs.Kept.Onward.{Onward, calm-onward}
 use Rattle.queue_worlds.proofs.Softening.{Unset}
-use Rattle.queue_worlds.proofs.Standing.{Good, Out, any_kind, awaits_part, ended-out, ends_by, ends_part, natures, part_of, some_nature}
+use Rattle.queue_worlds.proofs.Standing.{Good, Out, any_kind, awaits_part, ended-out, ends_by, ends_part, natures, part_of, some_nature, none_late}
 
 some-same : (a b : CallNo) → Some a ≡ Some b → a ≡ b
 some-same a b e = cc
@@ -44,7 +44,7 @@ module _ (p : Image) (name : Who) (f : Frame) (below : List Frame) (m : Abortabl
       let one : f ≡ g = first-same f g below rest (sym top ∙ is) in
       part-mark m n (sym mark ∙ (ap (λ (x : Frame). x.mark) one ∙ other))
 
-  ends-well : (v : World) → Good p v → frames_of v name ≡ f ∷ below → Unset name v (f ∷ below) → ((c : CallNo) → m.call ≡ Some c → Out c v) → EndsWell any_kind p name v
+  ends-well : (v : World) → Good p v → frames_of v name ≡ f ∷ below → Unset name v (f ∷ below) → ((c : CallNo) → m.call ≡ Some c → Out c v) → EndsWell any_kind none_late p name v
   ends-well v good top unset out = record {
     good = good;
     unset = subst (Unset name v) (sym top) unset;
@@ -52,7 +52,7 @@ module _ (p : Image) (name : Who) (f : Frame) (below : List Frame) (m : Abortabl
     stays = λ g rest n c is other call. refl;
   }
 
-  end_top-onward : (v : World) → EndsWell any_kind p name v → Onward p v (end_top p name)
+  end_top-onward : (v : World) → EndsWell any_kind none_late p name v → Onward p v (end_top p name)
   unfolding end_top
   end_top-onward v ends = calm-onward {E = any_kind} _ v ends.good (end_found-from p of_part.Own name v refl ends)
 

@@ -230,6 +230,8 @@ module _ (g : AbortableMark → AbortableMark) (same : (m : AbortableMark) → (
       record {
         named = refl;
         queues = λ k c h. h;
+        stays = λ k c h. inl h;
+        completed = refl;
         fewer = λ c. subst (λ n. n ≤ served_in c (natures fs)) (sym (edited-served c depth fs)) (omega arith);
         owns = λ c h. inl (sym (edited-owns c depth fs) ∙ h);
         ended = λ c h. ends-or c (edited-ends c call depth fs at h);

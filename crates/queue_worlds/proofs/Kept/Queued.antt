@@ -48,7 +48,7 @@ use Rattle.queue_worlds.proofs.Kept.Frames.{Same, edit_call-quiets, edit_task-qu
 use Rattle.queue_worlds.proofs.Kept.Onward.{Acts, Any, Onward, any-acts, branch-any, calms-any, changes-onward, changes_then-onward, for_some-any, given-acts, keeps-acts, looks-any, nothing-any, raise_if-acts, sees-acts, then-acts, then-any, when-any, when-onward, with_call-onward}
 use Rattle.queue_worlds.proofs.Kept.Statements.{delay_to-keeps}
 use Rattle.queue_worlds.proofs.Moving.{Begun, Next, calm-next, next-then, queue-frames, queued-next}
-use Rattle.queue_worlds.proofs.Serving.{put-comes, put_anew-comes}
+use Rattle.queue_worlds.proofs.Serving.{put-comes, put-stays, put_anew-comes, put_anew-stays}
 use Rattle.queue_worlds.proofs.Standing.{Calm, Good, Idle, Kind, Out, any_kind, calm-good, calm-idle, calm-then, queued-idle, rightly}
 
 abbrev pub all_may : Kind
@@ -67,7 +67,7 @@ queued-rightly p d begun outcome =
     (subst (λ b. (b && eqb (place_of_entry p d.entry) (place_of_entry p d.entry)) ≡ true) (sym (same-owner_self d.owner)) (eq-eqb (place_of_entry p d.entry) (place_of_entry p d.entry) refl)))
 
 unbegun-edits : (w : World) (c : CallNo) (x : Call) → Out c w → Idle c w → Edits all_may w c x (record x { begun = false })
-unbegun-edits w c x out idle = record { directed = inl (refl, refl); caller = refl; outcome = λ h. h; steady = inr (refl, out, idle) }
+unbegun-edits w c x out idle = record { directed = inl (refl, refl); firm = inl refl; caller = refl; outcome = λ h. h; steady = inr (refl, out, idle) }
 
 abbrev unbegun : CallNo → World → World
 unbegun c w = edit_call c (λ d. record d { begun = false }) w
@@ -83,7 +83,7 @@ enqueued-next p d w good is none out idle =
     let u = unbegun d.number w in
     let calm = unbegun-calm d.number w out idle in
     next-then p w u (enqueued p d w) (calm-next p w u good calm)
-    (queued-next p d.owner (place_of_entry p d.entry) (put_call p.policies.queuing w d.number d.priority) d.number (record d { begun = false }) u (λ q x h. put-comes p.policies.queuing w d.number d.priority q x h) (calm-good p w u good calm) (unbegun-there d.number w d is) (queued-rightly p (record d { begun = false }) refl none))
+    (queued-next p d.owner (place_of_entry p d.entry) (put_call p.policies.queuing w d.number d.priority) d.number (record d { begun = false }) u (λ q x h. put-comes p.policies.queuing w d.number d.priority q x h) (λ q x h. put-stays p.policies.queuing w d.number d.priority q x h) (calm-good p w u good calm) (unbegun-there d.number w d is) (queued-rightly p (record d { begun = false }) refl none))
 
 -- it is queued then
 enqueued-calls : (p : Image) (d : Call) (w : World) → (enqueued p d w).calls ≡ (unbegun d.number w).calls
@@ -142,7 +142,7 @@ abbrev pub begun_of : Image → Call → World → World
 begun_of p c w = edit_call c.number begun_call (unqueued p c w)
 
 begun-edits : (E : Kind) (u : World) (c : CallNo) (x : Call) → E.may c ≡ true → Out c u → Idle c u → Edits E u c x (begun_call x)
-begun-edits E u c x may out idle = record { directed = inl (refl, refl); caller = refl; outcome = λ h. h; steady = inr (may, out, idle) }
+begun-edits E u c x may out idle = record { directed = inl (refl, refl); firm = inl refl; caller = refl; outcome = λ h. h; steady = inr (may, out, idle) }
 
 pub begun-calm : {E : Kind} (p : Image) (c : Call) (w : World) → E.may c.number ≡ true → Good p w → Directed c w → Idle c.number w → Calm E w (begun_of p c w)
 begun-calm {E = E} p c w may good directed idle =
@@ -189,12 +189,12 @@ begun-on c w v calm calls appointments begun = record {
 -- ---- a call takes a new place
 
 priority-same : (level : ℕ) → Same (with_priority level)
-priority-same level = record { number = λ d. refl; owner = λ d. refl; entry = λ d. refl; caller = λ d. refl; begun = λ d. refl; outcome = λ d. refl }
+priority-same level = record { number = λ d. refl; owner = λ d. refl; entry = λ d. refl; caller = λ d. refl; begun = λ d. refl; outcome = λ d. refl; firm = λ d. refl }
 
 anew-next : (p : Image) (queuing : Queuing) (c d : Call) (level : ℕ) (w : World) → Good p w → call_of w c.number ≡ Some d → d.owner ≡ c.owner → d.entry ≡ c.entry → is_queued d ≡ true → Next p w (placed_anew queuing p c level w)
 anew-next p queuing.Fifo c d level w good is owner entry queued = calm-next p w w good (stays-calm {E = all_may} w)
 anew-next p queuing.Priority c d level w good is owner entry queued =
-    queued-next p c.owner (place_of_entry p c.entry) (λ q. put_call queuing.Priority w c.number level (take_call c.number q)) c.number d w (λ q x h. put_anew-comes w c.number level q x h) good is
+    queued-next p c.owner (place_of_entry p c.entry) (λ q. put_call queuing.Priority w c.number level (take_call c.number q)) c.number d w (λ q x h. put_anew-comes w c.number level q x h) (λ q x h. put_anew-stays w c.number level q x h) good is
     (subst (λ o. rightly p o (place_of_entry p c.entry) d ≡ true) owner (subst (λ e. rightly p d.owner (place_of_entry p e) d ≡ true) entry (right-of d queued))) where
       both : (a b e : Bool) → a ≡ true → b ≡ true → e ≡ true → (a && b && e) ≡ true
       both true true e x y z = z
@@ -225,8 +225,8 @@ replace_in-any p part name Made = nothing-any
 replace_in-any p part name Runnable = calms-any _ (to_tail-calms p part name)
 replace_in-any p part name (Blocked waiting) = reprioritize_own-any p name waiting
 
-plain-any : {p : Image} (name : Who) (f : world_task.Task → world_task.Task) → ((t : world_task.Task) → (f t).who ≡ t.who) → ((t : world_task.Task) → (f t).frames ≡ t.frames) → ((t : world_task.Task) → (f t).state ≡ t.state) → ((t : world_task.Task) → (f t).queues ≡ t.queues) → Any p (changes (edit_task name f))
-plain-any name f named frames state queues = calms-any _ (changes-calms _ (edit_task-quiets name f named frames state queues))
+plain-any : {p : Image} (name : Who) (f : world_task.Task → world_task.Task) → ((t : world_task.Task) → (f t).who ≡ t.who) → ((t : world_task.Task) → (f t).frames ≡ t.frames) → ((t : world_task.Task) → (f t).state ≡ t.state) → ((t : world_task.Task) → (f t).queues ≡ t.queues) → ((t : world_task.Task) → (f t).completed ≡ t.completed) → Any p (changes (edit_task name f))
+plain-any name f named frames state queues completed = calms-any _ (changes-calms _ (edit_task-quiets name f named frames state queues completed))
 
 says_base-any : {p : Image} (part : Part) (name : Who) (level : ℕ) → Any p (says_base part name level)
 unfolding says_base
@@ -236,7 +236,7 @@ says_base-any part who.Agent level = nothing-any
 set_base-any : (p : Image) (part placing : Part) (name : Who) (level : ℕ) → Any p (set_base p part placing name level)
 unfolding set_base
 set_base-any p part placing name level =
-    then-any _ _ (plain-any name (λ t. record t { base = level }) (λ t. refl) (λ t. refl) (λ t. refl) (λ t. refl)) (then-any _ _ (says_base-any part name level) (looks-any (λ w. replace_in p placing name (task_of w name).state) (λ w. replace_in-any p placing name (task_of w name).state)))
+    then-any _ _ (plain-any name (λ t. record t { base = level }) (λ t. refl) (λ t. refl) (λ t. refl) (λ t. refl) (λ t. refl)) (then-any _ _ (says_base-any part name level) (looks-any (λ w. replace_in p placing name (task_of w name).state) (λ w. replace_in-any p placing name (task_of w name).state)))
 
 says_deadline-calms : {E : Kind} (part : Part) (name : Who) (d : ℤ) → Calms E (says_deadline part name d)
 unfolding says_deadline
@@ -246,18 +246,18 @@ says_deadline-calms part who.Agent d = nothing-calms
 set_deadline-calms : {E : Kind} (p : Image) (part placing : Part) (name : Who) (d : ℤ) → Calms E (set_deadline p part placing name d)
 unfolding set_deadline
 set_deadline-calms p part placing name d =
-    then-calms _ _ (changes-calms _ (edit_task-quiets name (λ t. record t { deadline = d }) (λ t. refl) (λ t. refl) (λ t. refl) (λ t. refl))) (then-calms _ _ (says_deadline-calms part name d)
+    then-calms _ _ (changes-calms _ (edit_task-quiets name (λ t. record t { deadline = d }) (λ t. refl) (λ t. refl) (λ t. refl) (λ t. refl) (λ t. refl))) (then-calms _ _ (says_deadline-calms part name d)
     (looks-calms (λ w. when (is_runnable_at_edf p w name (task_of w name).state) (to_tail p placing name)) (λ w. when-calms (is_runnable_at_edf p w name (task_of w name).state) (to_tail p placing name) (to_tail-calms p placing name))))
 
 take_base-any : (p : Image) (name : Who) (n : Option ℕ) → Any p (take_base p name n)
 unfolding take_base
 take_base-any p name None = nothing-any
-take_base-any p name (Some level) = then-any _ _ (plain-any name (λ t. record t { deferred_base = None }) (λ t. refl) (λ t. refl) (λ t. refl) (λ t. refl)) (set_base-any p ThePlacing ThePlacing name level)
+take_base-any p name (Some level) = then-any _ _ (plain-any name (λ t. record t { deferred_base = None }) (λ t. refl) (λ t. refl) (λ t. refl) (λ t. refl) (λ t. refl)) (set_base-any p ThePlacing ThePlacing name level)
 
 take_deadline-any : (p : Image) (name : Who) (n : Option ℤ) → Any p (take_deadline p name n)
 unfolding take_deadline
 take_deadline-any p name None = nothing-any
-take_deadline-any p name (Some d) = then-any _ _ (plain-any name (λ t. record t { deferred_deadline = None }) (λ t. refl) (λ t. refl) (λ t. refl) (λ t. refl)) (calms-any _ (set_deadline-calms p ThePlacing ThePlacing name d))
+take_deadline-any p name (Some d) = then-any _ _ (plain-any name (λ t. record t { deferred_deadline = None }) (λ t. refl) (λ t. refl) (λ t. refl) (λ t. refl) (λ t. refl)) (calms-any _ (set_deadline-calms p ThePlacing ThePlacing name d))
 
 pub set_deferred-any : (p : Image) (name : Who) → Any p (set_deferred p name)
 unfolding set_deferred
@@ -269,7 +269,7 @@ set_or_defer_base-any : (p : Image) (actor name : Who) (level : ℕ) → Any p (
 unfolding set_or_defer_base defer_base
 set_or_defer_base-any p actor name level =
     looks-any (λ w. elim (in_protected w name) as (λ _. Step) [ true ↦ changes (edit_task name (λ t. record t { deferred_base = Some level })) | false ↦ set_base p (part_of actor name) (placing_of actor name) name level ])
-    (λ w. branch-any (in_protected w name) _ _ (plain-any name (λ t. record t { deferred_base = Some level }) (λ t. refl) (λ t. refl) (λ t. refl) (λ t. refl)) (set_base-any p (part_of actor name) (placing_of actor name) name level))
+    (λ w. branch-any (in_protected w name) _ _ (plain-any name (λ t. record t { deferred_base = Some level }) (λ t. refl) (λ t. refl) (λ t. refl) (λ t. refl) (λ t. refl)) (set_base-any p (part_of actor name) (placing_of actor name) name level))
 
 set_base_of-acts : (p : Image) (actor : Who) (s : StatementNo) (level : ℕ) (t : Option world_task.Task) → Acts p actor (set_base_of p actor s level t)
 unfolding set_base_of
@@ -292,7 +292,7 @@ set_or_defer_deadline-calms : {E : Kind} (p : Image) (actor name : Who) (d : ℤ
 unfolding set_or_defer_deadline defer_deadline
 set_or_defer_deadline-calms p actor name d =
     looks-calms (λ w. elim (in_protected w name && has_edf p) as (λ _. Step) [ true ↦ changes (edit_task name (λ t. record t { deferred_deadline = Some d })) | false ↦ set_deadline p (part_of actor name) (placing_of actor name) name d ])
-    (λ w. branch-calms (in_protected w name && has_edf p) _ _ (changes-calms _ (edit_task-quiets name (λ t. record t { deferred_deadline = Some d }) (λ t. refl) (λ t. refl) (λ t. refl) (λ t. refl))) (set_deadline-calms p (part_of actor name) (placing_of actor name) name d))
+    (λ w. branch-calms (in_protected w name && has_edf p) _ _ (changes-calms _ (edit_task-quiets name (λ t. record t { deferred_deadline = Some d }) (λ t. refl) (λ t. refl) (λ t. refl) (λ t. refl) (λ t. refl))) (set_deadline-calms p (part_of actor name) (placing_of actor name) name d))
 
 pub set_deadline_of-acts : (p : Image) (name : Who) (s : StatementNo) (e : ExprNo) (task : Option ExprNo) → Acts p name (set_deadline_of p name s e task)
 unfolding set_deadline_of
@@ -303,7 +303,7 @@ set_deadline_of-acts p name s e task =
 delay_with_deadline-keeps : {E : Kind} (p : Image) (name : Who) (s : StatementNo) (until offset : ℤ) → Keeps E name (delay_with_deadline p name s until offset)
 unfolding delay_with_deadline
 delay_with_deadline-keeps p name s until offset =
-    then-keeps _ _ (goes-keeps name (next_of p s)) (then-keeps _ _ (any-keeps _ (changes-calms _ (edit_task-quiets name _ (λ t. refl) (λ t. refl) (λ t. refl) (λ t. refl)))) (then-keeps _ _ (any-keeps _ (says_deadline-calms of_part.Own name _)) (delay_to-keeps p name until)))
+    then-keeps _ _ (goes-keeps name (next_of p s)) (then-keeps _ _ (any-keeps _ (changes-calms _ (edit_task-quiets name _ (λ t. refl) (λ t. refl) (λ t. refl) (λ t. refl) (λ t. refl)))) (then-keeps _ _ (any-keeps _ (says_deadline-calms of_part.Own name _)) (delay_to-keeps p name until)))
 
 pub delay_and_set_deadline-keeps : {E : Kind} (p : Image) (name : Who) (s : StatementNo) (until offset : ExprNo) → Keeps E name (delay_and_set_deadline p name s until offset)
 unfolding delay_and_set_deadline

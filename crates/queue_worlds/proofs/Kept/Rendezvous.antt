@@ -354,12 +354,12 @@ behind_accept-keeps p name how.Abort = pass_on-keeps p name how.Abort
 behind_accept-keeps p name how.Terminate = pass_on-keeps p name how.Terminate
 
 pub finished-same : (p : Image) (cells : List Value) (leaving : Leaving) → Same (finished_call p cells leaving)
-finished-same p cells how.Return = record { number = λ d. refl; owner = λ d. refl; entry = λ d. refl; caller = λ d. refl; begun = λ d. refl; outcome = λ d. refl }
-finished-same p cells how.End = record { number = λ d. refl; owner = λ d. refl; entry = λ d. refl; caller = λ d. refl; begun = λ d. refl; outcome = λ d. refl }
-finished-same p cells (how.Exit loop) = record { number = λ d. refl; owner = λ d. refl; entry = λ d. refl; caller = λ d. refl; begun = λ d. refl; outcome = λ d. refl }
-finished-same p cells (how.Exception e) = record { number = λ d. refl; owner = λ d. refl; entry = λ d. refl; caller = λ d. refl; begun = λ d. refl; outcome = λ d. refl }
-finished-same p cells how.Abort = record { number = λ d. refl; owner = λ d. refl; entry = λ d. refl; caller = λ d. refl; begun = λ d. refl; outcome = λ d. refl }
-finished-same p cells how.Terminate = record { number = λ d. refl; owner = λ d. refl; entry = λ d. refl; caller = λ d. refl; begun = λ d. refl; outcome = λ d. refl }
+finished-same p cells how.Return = record { number = λ d. refl; owner = λ d. refl; entry = λ d. refl; caller = λ d. refl; begun = λ d. refl; outcome = λ d. refl; firm = λ d. refl }
+finished-same p cells how.End = record { number = λ d. refl; owner = λ d. refl; entry = λ d. refl; caller = λ d. refl; begun = λ d. refl; outcome = λ d. refl; firm = λ d. refl }
+finished-same p cells (how.Exit loop) = record { number = λ d. refl; owner = λ d. refl; entry = λ d. refl; caller = λ d. refl; begun = λ d. refl; outcome = λ d. refl; firm = λ d. refl }
+finished-same p cells (how.Exception e) = record { number = λ d. refl; owner = λ d. refl; entry = λ d. refl; caller = λ d. refl; begun = λ d. refl; outcome = λ d. refl; firm = λ d. refl }
+finished-same p cells how.Abort = record { number = λ d. refl; owner = λ d. refl; entry = λ d. refl; caller = λ d. refl; begun = λ d. refl; outcome = λ d. refl; firm = λ d. refl }
+finished-same p cells how.Terminate = record { number = λ d. refl; owner = λ d. refl; entry = λ d. refl; caller = λ d. refl; begun = λ d. refl; outcome = λ d. refl; firm = λ d. refl }
 
 module _ (p : Image) (name : Who) (m : AcceptMark) (leaving : Leaving) (w : World) (f : Frame) (below : List Frame) (good : Good p w) (awake : Awake name w) (top : frames_of w name ≡ f ∷ below) (mark : f.mark ≡ InAccept m) where
   below-none : served_in m.call (natures below) ≡ 0

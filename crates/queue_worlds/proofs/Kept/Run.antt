@@ -85,6 +85,7 @@ blank-good p script = record {
   once = λ a c. let none : served c (blank_world p script) a ≡ 0 = none-served p script c a in omega (arith, none);
   alone = λ a b c h i. absurd (none-serves p script c a h);
   timed = λ c h. absurd (true≢false (sym h));
+  awaited = λ c h. absurd (true≢false (sym h));
   objects = (tt, (omega arith, omega arith));
   named = refl;
   present = λ t h. drawn t h (eqb t.0 0) refl;
@@ -138,7 +139,7 @@ serve-lasting p (who.Task t) w good = good
 serve-lasting p who.Agent w good = serve_if_free-lasting p w.serving w.agent.frames w.releases w good
 
 ticks-good : (p : Image) (name : Who) (f : Task → Option ℕ) (w : World) → Good p w → Good p (edit_task name (λ t. with_ticks (f t) t) w)
-ticks-good p name f w good = same-good p w (edit_task name (λ t. with_ticks (f t) t) w) ((edit_task-quiets name (λ t. with_ticks (f t) t) (λ t. refl) (λ t. refl) (λ t. refl) (λ t. refl)).at w) good
+ticks-good p name f w good = same-good p w (edit_task name (λ t. with_ticks (f t) t) w) ((edit_task-quiets name (λ t. with_ticks (f t) t) (λ t. refl) (λ t. refl) (λ t. refl) (λ t. refl) (λ t. refl)).at w) good
 
 next_tick-good : (p : Image) (ran : Option Who) (w : World) → Good p w → Good p (next_tick ran w)
 next_tick-good p ran w good = same-good p w (next_tick ran w) (same-calm w (next_tick ran w) refl refl refl refl refl refl refl refl) good

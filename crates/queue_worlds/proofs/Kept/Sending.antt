@@ -1,7 +1,8 @@
 -- Calls that are queued and not accepted, and calls that are sent on (9.5.4, 9.7).
-use Rattle.std.proofs.Common.{◌≡◌, ℤ, Bool, true, false, cond, not, ◌&&◌, inl, inr, List, Option, Some, None, refl, sym, subst}
+use Rattle.std.proofs.Common.{◌≡◌, ℤ, Bool, true, false, cond, not, ◌&&◌, inl, inr, List, Option, Some, None, refl, sym, subst, ◌||◌, [], ◌∷◌, ◌∙◌}
 use Rattle.std.specs.Prelude.{is_none}
-use Rattle.std.proofs.lemmas.Bool.{and_parts}
+use Rattle.std.specs.List.{list_any}
+use Rattle.std.proofs.lemmas.Bool.{and_parts, eq-eqb, or_left, or_right, true≢false}
 use Rattle.ann_base.specs.declared.identities.CallNo.{CallNo}
 use Rattle.trace_text.specs.declared.events.Who.{Who}
 use Rattle.trace_text.specs.declared.events.Who.TheVariants as who
@@ -12,6 +13,8 @@ use Rattle.profile_machine.specs.declared.world.appointments.Due.TheVariants as 
 use Rattle.profile_machine.specs.declared.world.calls.Call.{Call}
 use Rattle.profile_machine.specs.declared.world.calls.CallKind.{CallKind}
 use Rattle.profile_machine.specs.declared.world.calls.CallKind.TheVariants as call_kind
+use Rattle.profile_machine.specs.declared.world.calls.Owner.{Owner}
+use Rattle.profile_machine.specs.declared.world.calls.Owner.TheVariants as owned_by
 use Rattle.profile_machine.specs.declared.world.calls.Sending.{Sending}
 use Rattle.profile_machine.specs.declared.world.calls.Outcome.TheVariants as call_ended
 use Rattle.profile_machine.specs.declared.world.lines.Line.TheVariants as line
@@ -19,17 +22,18 @@ use Rattle.profile_machine.specs.declared.world.lines.Part.{Part}
 use Rattle.profile_machine.specs.declared.world.lines.Part.TheVariants.{TheFinish, TheBlock}
 use Rattle.profile_machine.specs.declared.world.tasks.Waiting.{Waiting}
 use Rattle.profile_machine.specs.declared.world.tasks.Waiting.TheVariants as waits_for
-use Rattle.profile_machine.specs.Words.{same_call, same_who}
+use Rattle.profile_machine.specs.Words.{same_call, same_who, has}
 use Rattle.profile_machine.specs.declared.world.lines.Said.{Said}
 use Rattle.profile_machine.specs.Steps.{for_some, goes_on_with}
 use Rattle.profile_machine.specs.Program.{form_of}
 use Rattle.profile_machine.specs.Steps.{Step, changes, when, nothing, ◌▷◌}
-use Rattle.profile_machine.specs.Tasks.{waiting_of}
+use Rattle.profile_machine.specs.Tasks.{waiting_of, task_of}
 use Rattle.profile_machine.specs.Dispatching.{ready}
 use Rattle.profile_machine.specs.Frames.{new_frame, has_room}
-use Rattle.profile_machine.specs.Calls.{call_of, edit_call, unqueued, says_call}
+use Rattle.profile_machine.specs.Calls.{call_of, edit_call, unqueued, says_call, place_of_entry, queue_of}
 use Rattle.profile_machine.specs.CallEnds.{resume, waits_for_call, abortable_depth}
-use Rattle.profile_machine.specs.Sending.{open_abortable, new_abortable_mark, abortable_in, is_not_future, cancel_at_once, appoint_timeout, wait_for_call, wait_or_cancel, not_accepted, sent_call, send_on, is_to_be_cancelled, cancel_sent, is_triggering, may_begin_abortable, begin_abortable, timeout_again, sent_not_begun_by, sent_not_begun}
+use Rattle.profile_machine.specs.Appointments.{appoint}
+use Rattle.profile_machine.specs.Sending.{open_abortable, new_abortable_mark, abortable_in, is_not_future, cancel_at_once, appoint_timeout, wait_for_call, wait_or_cancel, not_accepted, sent_call, send_on, is_to_be_cancelled, cancel_sent, is_triggering, may_begin_abortable, begin_abortable, timeout_again, sent_not_begun_by, sent_not_begun, may_time_out, stands_in_queue, still_serves}
 use Rattle.queue_worlds.proofs.CallChanges.{Directed, Edits, appoint-calm, edit_call-calm, unqueued-calm, unqueued-out}
 use Rattle.queue_worlds.proofs.CallLists.{same-call}
 use Rattle.queue_worlds.proofs.Kept.CallEnds.{attempt_with-from, found-directed, found-number, resume-from}
@@ -38,7 +42,7 @@ use Rattle.queue_worlds.proofs.Kept.Ends.{AllAwake, MayEnd, all_awake-on, delive
 use Rattle.queue_worlds.proofs.Kept.Frames.{block-calms, push-alters, ready-calms}
 use Rattle.queue_worlds.proofs.Kept.Onward.{Onward}
 use Rattle.queue_worlds.proofs.Moving.{Next, calm-next, next-then}
-use Rattle.queue_worlds.proofs.Standing.{Awake, Calm, Good, Idle, Kind, Out, any_kind, calm-awake, calm-good, calm-idle, quiet_kind, waits_end}
+use Rattle.queue_worlds.proofs.Standing.{Awake, Calm, Good, Idle, Kind, Out, any_kind, calm-awake, calm-good, calm-idle, quiet_kind, waits_end, Awaited, Open}
 
 pub open_abortable-alters : {E : Kind} (p : Image) (name : Who) (select : StatementNo) (c : CallNo) → Alters E name (open_abortable p name select (Some c))
 open_abortable-alters p name select c = push-alters name (new_frame (new_abortable_mark select (Some c)) (abortable_in (form_of p select))) (λ x. refl) (λ x. refl) (λ x. refl) refl
@@ -53,15 +57,53 @@ pub wait_for_call-calms : {E : Kind} (c : Call) → Calms E (wait_for_call c)
 unfolding wait_for_call
 wait_for_call-calms c = block-calms TheBlock (who.Task c.caller) (waits_for.Call c.number) refl
 
--- a time-out is set of a call that nobody serves
-timeout-calm : {E : Kind} (c : CallNo) (moment : Option ℤ) (w : World) → Idle c w → Calm E w (appoint_timeout c moment w)
-timeout-calm c None w idle = stays-calm w
-timeout-calm c (Some moment) w idle = appoint-calm (due_for.Timeout c) moment w (λ x e. subst (λ n. Idle n w) (sym (same-call x c e)) idle) (λ t depth e. cc)
+-- a call that may time out is awaited
+any-has : (c : CallNo) (queue : List CallNo) → list_any (same_call c) queue ≡ true → has same_call queue c ≡ true
+any-has c [] h = h
+any-has c (x ∷ xs) h = step (same_call c x) refl h (any-has c xs) where
+  step : (b : Bool) → same_call c x ≡ b → (b || list_any (same_call c) xs) ≡ true → (list_any (same_call c) xs ≡ true → has same_call xs c ≡ true) → (same_call x c || has same_call xs c) ≡ true
+  step true is k onward = or_left (same_call x c) (has same_call xs c) (subst (λ n. same_call n c ≡ true) (same-call c x is) (eq-eqb c.0 c.0 refl))
+  step false is k onward = or_right (same_call x c) (has same_call xs c) (onward k)
+
+open-of : (w : World) (o : Owner) → still_serves w o ≡ true → Open w o
+open-of w (owned_by.Task t) h = not-true (task_of w (who.Task t)).completed h where
+  not-true : (b : Bool) → not b ≡ true → b ≡ false
+  not-true true e = sym e
+  not-true false e = refl
+open-of w (owned_by.Object o) h = tt
+
+may-awaited : (p : Image) (w : World) (c : CallNo) (found : Option Call) → call_of w c ≡ found → may_time_out p w found ≡ true → Awaited c w
+may-awaited p w c None e h = absurd (true≢false (sym h))
+may-awaited p w c (Some d) e h =
+    let queue = queue_of w d.owner (place_of_entry p d.entry) in
+    let parts = and_parts (stands_in_queue p w d && not d.firm) (still_serves w d.owner) h in
+    let more = and_parts (stands_in_queue p w d) (not d.firm) parts.0 in
+    record {
+      owner = d.owner;
+      place = place_of_entry p d.entry;
+      stands = any-has c queue (subst (λ n. list_any (same_call n) queue ≡ true) (found-number c w d e) more.0);
+      opens = open-of w d.owner parts.1;
+      unfirm = λ x f. let one : d ≡ x = some-one d x (sym e ∙ f) in subst (λ (y : Call). y.firm ≡ false) one (not-true d.firm more.1);
+    } where
+      some-one : (a b : Call) → Some a ≡ Some b → a ≡ b
+      some-one a b e = cc
+
+      not-true : (b : Bool) → not b ≡ true → b ≡ false
+      not-true true e = sym e
+      not-true false e = refl
+
+-- a time-out is set of a call that nobody serves, and that may time out
+timeout-calm : {E : Kind} (p : Image) (c : CallNo) (moment : Option ℤ) (w : World) → Idle c w → Calm E w (appoint_timeout p c moment w)
+timeout-calm p c None w idle = stays-calm w
+timeout-calm {E = E} p c (Some moment) w idle = timed (may_time_out p w (call_of w c)) refl where
+  timed : (may : Bool) → may_time_out p w (call_of w c) ≡ may → Calm E w (cond may (appoint (due_for.Timeout c) moment w) w)
+  timed true is = appoint-calm (due_for.Timeout c) moment w (λ x e. subst (λ n. Idle n w × Awaited n w) (sym (same-call x c e)) (idle, may-awaited p w c (call_of w c) refl is)) (λ t depth e. cc)
+  timed false is = stays-calm w
 
 wait_or_cancel-from : (p : Image) (part : Part) (c : Call) (test : Bool) (w : World) → Good p w → Directed c w → Idle c.number w → Awake (who.Task c.caller) w → From quiet_kind w (wait_or_cancel p part c test)
 unfolding wait_or_cancel
 wait_or_cancel-from p part c true w good directed idle awake = cancel_at_once-from p part c w good directed awake
-wait_or_cancel-from p part c false w good directed idle awake = then-after (changes (appoint_timeout c.number c.moment)) _ w (changes-from (appoint_timeout c.number c.moment) w (timeout-calm c.number c.moment w idle)) (λ v calm. calms-from _ v (wait_for_call-calms c))
+wait_or_cancel-from p part c false w good directed idle awake = then-after (changes (appoint_timeout p c.number c.moment)) _ w (changes-from (appoint_timeout p c.number c.moment) w (timeout-calm p c.number c.moment w idle)) (λ v calm. calms-from _ v (wait_for_call-calms c))
 
 pub not_accepted-from : (p : Image) (part : Part) (c : Call) (kind : CallKind) (w : World) → Good p w → Directed c w → Idle c.number w → Awake (who.Task c.caller) w → From quiet_kind w (not_accepted p part c kind)
 unfolding not_accepted
@@ -73,7 +115,7 @@ not_accepted-from p part c call_kind.Triggering w good directed idle awake = cha
 -- ---- a call is sent on
 
 sent-edits : (E : Kind) (w : World) (c : CallNo) (s : Sending) (x : Call) → Out c w → Edits E w c x (sent_call s x)
-sent-edits E w c s x out = record { directed = inr out; caller = refl; outcome = λ h. h; steady = inl (refl, refl) }
+sent-edits E w c s x out = record { directed = inr out; firm = inr out; caller = refl; outcome = λ h. h; steady = inl (refl, refl) }
 
 pub sent-calm : {E : Kind} (c : CallNo) (s : Sending) (w : World) → Out c w → Calm E w (edit_call c (sent_call s) w)
 sent-calm {E = E} c s w out = edit_call-calm c (sent_call s) w (λ d. refl) (λ x. sent-edits E w c s x out)
@@ -132,14 +174,14 @@ begin_abortable-calms p c =
     then-after (changes (open_abortable p (who.Task d.caller) d.statement (Some d.number))) _ w (changes-from (open_abortable p (who.Task d.caller) d.statement (Some d.number)) w ((open_abortable-alters p (who.Task d.caller) d.statement d.number).at w awake))
     (λ v calm. calms-from _ v (ready-calms p TheFinish (who.Task d.caller)))))))
 
-again-calm : {E : Kind} (firm : Bool) (c : Call) (w : World) → Idle c.number w → Calm E w ((cond firm (λ v. v) (appoint_timeout c.number c.moment)) w)
-again-calm true c w idle = stays-calm w
-again-calm false c w idle = timeout-calm c.number c.moment w idle
+again-calm : {E : Kind} (p : Image) (firm : Bool) (c : Call) (w : World) → Idle c.number w → Calm E w ((cond firm (λ v. v) (appoint_timeout p c.number c.moment)) w)
+again-calm p true c w idle = stays-calm w
+again-calm p false c w idle = timeout-calm p c.number c.moment w idle
 
 sent_not_begun_by-from : {E : Kind} (p : Image) (c : Call) (test : Bool) (w : World) → Good p w → Directed c w → Idle c.number w → MayEnd E c.number → AllAwake E w → ((x : CallNo) → E.stay x ≡ false) → From E w (sent_not_begun_by p c test)
 unfolding sent_not_begun_by
 sent_not_begun_by-from p c true w good directed idle may awake loose = cancel_sent-from p c w good directed idle may awake loose
-sent_not_begun_by-from p c false w good directed idle may awake loose = then-after (changes (timeout_again c)) _ w (changes-from (timeout_again c) w (again-calm c.firm c w idle)) (λ v calm. calms-from _ v (begin_abortable-calms p c.number))
+sent_not_begun_by-from p c false w good directed idle may awake loose = then-after (changes (timeout_again p c)) _ w (changes-from (timeout_again p c) w (again-calm p c.firm c w idle)) (λ v calm. calms-from _ v (begin_abortable-calms p c.number))
 
 pub sent_not_begun-from : {E : Kind} (p : Image) (c : CallNo) (w : World) → Good p w → Idle c w → MayEnd E c → AllAwake E w → ((x : CallNo) → E.stay x ≡ false) → From E w (sent_not_begun p c)
 unfolding sent_not_begun

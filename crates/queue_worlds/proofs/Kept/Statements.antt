@@ -23,7 +23,8 @@ use Rattle.profile_machine.specs.Frames.{goes}
 use Rattle.profile_machine.specs.Operators.{Valued, ◌>>=◌}
 use Rattle.profile_machine.specs.Values.{Seen, seen_by, value, variable, object_cell}
 use Rattle.profile_machine.specs.CallEnds.{store}
-use Rattle.profile_machine.specs.Statements.{null, assign, cells_from, put_cells, copy_cells, array_copied, assign_array, if_statement, go_to_alternative, case_statement, while_turn, loop_cell, put, first_bound, last_bound, bounds_set, for_bounds, first_turn, advance, later_turn, exit_where, exit_statement, block_statement, raise_again, wait_until, delay_to, delay_until, put_line}
+use Rattle.profile_machine.specs.Statements.{null, assign, cells_from, copy_cells, array_copied, assign_array, if_statement, go_to_alternative, case_statement, while_turn, loop_cell, put, first_bound, last_bound, bounds_set, for_bounds, first_turn, advance, later_turn, exit_where, exit_statement, block_statement, raise_again, wait_until, delay_to, delay_until, put_line}
+use Rattle.profile_machine.specs.Scopes.{put_cells}
 use Rattle.queue_worlds.proofs.Kept.Combinators.{Alters, Gives, Keeps, Quiets, bind-gives, changes-keeps, looks-from, looks-keeps, nothing-keeps, ok-gives, says-keeps, sees-keeps, then-keeps}
 use Rattle.queue_worlds.proofs.Kept.Frames.{appoint-keeps, block-keeps, edit_cells-quiets, exit_loop-keeps, given-keeps, given_world-from, goes-keeps, open_scope-alters, raise_if-keeps, raises-keeps, store-gives, to_tail-keeps, with_room-keeps, write_cell-alters, write_cell-quiets}
 use Rattle.queue_worlds.proofs.Standing.{Kind, calm-then}

@@ -57,7 +57,7 @@ return_value-keeps p name f e = search (sees-keeps, given-keeps, return_result-k
 
 pub drop_sending-alters : {E : Kind} {name : Who} (c : Option CallNo) → Alters E name (drop_sending c)
 drop_sending-alters None = search (unchanged-alters)
-drop_sending-alters (Some c) = quiets-alters _ (edit_call-quiets c without_sending record { number = λ d. refl; owner = λ d. refl; entry = λ d. refl; caller = λ d. refl; begun = λ d. refl; outcome = λ d. refl })
+drop_sending-alters (Some c) = quiets-alters _ (edit_call-quiets c without_sending record { number = λ d. refl; owner = λ d. refl; entry = λ d. refl; caller = λ d. refl; begun = λ d. refl; outcome = λ d. refl; firm = λ d. refl })
 
 pub return-keeps : {E : Kind} (name : Who) → Keeps E name (return name)
 unfolding return

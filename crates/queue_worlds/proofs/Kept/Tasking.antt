@@ -31,10 +31,10 @@ use Rattle.profile_machine.specs.declared.world.tasks.State.TheVariants.{Made}
 use Rattle.profile_machine.specs.declared.world.tasks.Waiting.{Waiting}
 use Rattle.profile_machine.specs.declared.world.tasks.Waiting.TheVariants as waits_for
 use Rattle.profile_machine.specs.declared.world.tasks.Task.{Task}
-use Rattle.profile_machine.specs.Words.{same_call, same_region, has, is_the}
+use Rattle.profile_machine.specs.Words.{same_who, same_call, same_region, has, is_the}
 use Rattle.profile_machine.specs.Program.{declaration_of, next_of, scope_of, task_unit_of}
 use Rattle.profile_machine.specs.Steps.{Step, changes, looks, for_some, for_each, ◌▷◌}
-use Rattle.profile_machine.specs.Tasks.{task_of, edit_task, is_made, waiting_of}
+use Rattle.profile_machine.specs.Tasks.{task_of, edit_task, is_made, is_runnable, waiting_of}
 use Rattle.profile_machine.specs.Dispatching.{active_of}
 use Rattle.profile_machine.specs.Frames.{top_of, edit_top, goes_on, goes, pop, pass_on, has_room, in_protected, is_deferred}
 use Rattle.profile_machine.specs.Scopes.{home, plainly, end_scope, cells_of, scope_in_use}
@@ -43,10 +43,10 @@ use Rattle.profile_machine.specs.Calls.{formals_count}
 use Rattle.profile_machine.specs.Controlled.{next_to_finalize, finalize}
 use Rattle.profile_machine.specs.Declarations.{set_thing}
 use Rattle.profile_machine.specs.Inheritance.{falls}
-use Rattle.profile_machine.specs.Unwinding.{any_struck, strike_outermost}
+use Rattle.profile_machine.specs.Unwinding.{unwind, any_struck, strike_outermost}
 use Rattle.profile_machine.specs.Masters.{may_terminate, leave_by_terminate, has_dependents, has_activating, waits_at_terminate}
 use Rattle.profile_machine.specs.Serving.{keeps_sending, keep_values, with_values, end_body_of_entry}
-use Rattle.profile_machine.specs.Tasking.{unit_of_declaration, optional_span, created_task, add_task, says_created, create_task, create, fall_from, unit_of_task, activated_task, begin_task, says_done, group_fails, fail_to_begin, activate_one, await_group, no_failure, is_to_activate, top_region_of_scope, activate_group, activate, end_own_activation, leaves_as, is_made_in, end_made, being_left_mark, left_so_frame, is_task_scope, complete_if_task, wait_for_dependents, leave_region, is_environment, end_environment, fails_by, end_task, is_normal, end_body, behind_scope, raises_behind, left_by, says_left, end_of_scope, go_on_leaving, end_scope_mark_of, end_scope_mark, named_tasks, is_to_abort, abnormal_task, says_abort, abort_one, unwind_one, abort_all, abort_statement, block_at_terminate, take_terminates, unwind_all}
+use Rattle.profile_machine.specs.Tasking.{unit_of_declaration, optional_span, created_task, add_task, says_created, create_task, create, fall_from, unit_of_task, activated_task, begin_task, says_done, group_fails, fail_to_begin, activate_one, await_group, no_failure, is_to_activate, top_region_of_scope, activate_group, activate, end_own_activation, leaves_as, is_made_in, end_made, being_left_mark, left_so_frame, is_task_scope, complete_if_task, wait_for_dependents, leave_region, is_environment, end_environment, fails_by, end_task, is_normal, end_body, behind_scope, raises_behind, left_by, says_left, end_of_scope, go_on_leaving, end_scope_mark_of, end_scope_mark, named_tasks, is_to_abort, abnormal_task, says_abort, abort_one, unwind_by, unwind_one, abort_all, abort_statement, block_at_terminate, take_terminates, unwind_all}
 use Rattle.queue_worlds.proofs.Arrivals.{NewTask, add_task-calm, end_scope-calm, no_calls-none}
 use Rattle.queue_worlds.proofs.Calming.{edit_task-drawn, same-calm}
 use Rattle.queue_worlds.proofs.Kept.CallEnds.{strike_outermost-quiets, unwind-from}
@@ -104,7 +104,7 @@ begin_task-keeps : {E : Kind} (p : Image) (activator : Who) (level : ℕ) (t : T
 unfolding begin_task
 begin_task-keeps p activator level t = looks-keeps _ (λ w.
     then-keeps _ _ (changes-keeps _ (open_scope-alters p t.who (unit_of_task p t).scope (plainly t.outer) opened_for.Task))
-    (any-keeps _ (then-calms _ _ (changes-calms _ (edit_task-quiets t.who (activated_task activator w.time) (λ u. refl) (λ u. refl) (λ u. refl) (λ u. refl)))
+    (any-keeps _ (then-calms _ _ (changes-calms _ (edit_task-quiets t.who (activated_task activator w.time) (λ u. refl) (λ u. refl) (λ u. refl) (λ u. refl) (λ u. refl)))
     (then-calms _ _ (changes-calms _ (inherit-quiets t.who inherited_by.Activation level)) (ready-calms p (OfOther t.who) t.who)))))
 
 says_done-calms : {E : Kind} (part : Part) (name : Who) → Calms E (says_done part name)
@@ -117,7 +117,7 @@ unfolding fail_to_begin
 fail_to_begin-any p activator t =
     then-any _ _ (calms-any _ (says-calms (OfOther t.who) (line.Raise t.who exception.Storage)))
     (then-any _ _ (calms-any _ (says_done-calms (OfOther t.who) t.who))
-    (then-any _ _ (calms-any _ (changes-calms _ (edit_task-quiets activator group_fails (λ u. refl) (λ u. refl) (λ u. refl) (λ u. refl)))) (terminate-any p activator t.who)))
+    (then-any _ _ (calms-any _ (changes-calms _ (edit_task-quiets activator group_fails (λ u. refl) (λ u. refl) (λ u. refl) (λ u. refl) (λ u. refl)))) (terminate-any p activator t.who)))
 
 activate_one-onward : (p : Image) (activator : Who) (level : ℕ) (t : Task) (w : World) → Good p w → Awake t.who w → Onward p w (activate_one p activator level t)
 unfolding activate_one
@@ -150,7 +150,7 @@ group-onward p name s part w good awake =
     let group = filter (is_to_activate (top_region_of_scope w name) part) w.tasks in
     let each : AllTasks (λ t. Awake t.who w) group = map-all (λ t. (is_made t ≡ true → Awake t.who w) × (is_to_activate (top_region_of_scope w name) part t ≡ true)) (λ t. Awake t.who w) (λ t x. x.0 (first-is (is_made t) (is_the same_region t.master (top_region_of_scope w name)) (eqb t.declarative_part part) x.1)) group (filter-all (λ t. is_made t ≡ true → Awake t.who w) (is_to_activate (top_region_of_scope w name) part) w.tasks (made-awake p w good)) in
     then-onward (goes name (next_of p s)) (changes (edit_task name no_failure) ▷ for_each group (activate_one p name (active_of p w name))) w (calm-onward {E = quiet_kind} (goes name (next_of p s)) w good (keeps-from _ w awake (goes-keeps name (next_of p s))))
-    (λ v next. then-onward (changes (edit_task name no_failure)) (for_each group (activate_one p name (active_of p w name))) v ((calms-any _ (changes-calms _ (edit_task-quiets name no_failure (λ u. refl) (λ u. refl) (λ u. refl) (λ u. refl)))).from v next.good)
+    (λ v next. then-onward (changes (edit_task name no_failure)) (for_each group (activate_one p name (active_of p w name))) v ((calms-any _ (changes-calms _ (edit_task-quiets name no_failure (λ u. refl) (λ u. refl) (λ u. refl) (λ u. refl) (λ u. refl)))).from v next.good)
     (λ u later. each_activated-onward p name (active_of p w name) group u later.good (map-all (λ t. Awake t.who w) (λ t. Awake t.who u) (λ t x. later.awake t.who (next.awake t.who x)) group each)))
 
 pub activate-acts : (p : Image) (name : Who) (s : StatementNo) (part : ℕ) → Acts p name (activate p name s part)
@@ -197,18 +197,18 @@ end_task-any p name leaving =
     (when-any (is_environment name) _ (calms-any _ (changes-calms _ record { at = λ w. same-calm w (end_environment leaving w) refl refl refl refl refl refl refl refl })))))
 
 sending-same : (leaving : Leaving) → Same (keeps_sending leaving)
-sending-same how.Return = record { number = λ d. refl; owner = λ d. refl; entry = λ d. refl; caller = λ d. refl; begun = λ d. refl; outcome = λ d. refl }
-sending-same how.End = record { number = λ d. refl; owner = λ d. refl; entry = λ d. refl; caller = λ d. refl; begun = λ d. refl; outcome = λ d. refl }
-sending-same (how.Exit loop) = record { number = λ d. refl; owner = λ d. refl; entry = λ d. refl; caller = λ d. refl; begun = λ d. refl; outcome = λ d. refl }
-sending-same (how.Exception e) = record { number = λ d. refl; owner = λ d. refl; entry = λ d. refl; caller = λ d. refl; begun = λ d. refl; outcome = λ d. refl }
-sending-same how.Abort = record { number = λ d. refl; owner = λ d. refl; entry = λ d. refl; caller = λ d. refl; begun = λ d. refl; outcome = λ d. refl }
-sending-same how.Terminate = record { number = λ d. refl; owner = λ d. refl; entry = λ d. refl; caller = λ d. refl; begun = λ d. refl; outcome = λ d. refl }
+sending-same how.Return = record { number = λ d. refl; owner = λ d. refl; entry = λ d. refl; caller = λ d. refl; begun = λ d. refl; outcome = λ d. refl; firm = λ d. refl }
+sending-same how.End = record { number = λ d. refl; owner = λ d. refl; entry = λ d. refl; caller = λ d. refl; begun = λ d. refl; outcome = λ d. refl; firm = λ d. refl }
+sending-same (how.Exit loop) = record { number = λ d. refl; owner = λ d. refl; entry = λ d. refl; caller = λ d. refl; begun = λ d. refl; outcome = λ d. refl; firm = λ d. refl }
+sending-same (how.Exception e) = record { number = λ d. refl; owner = λ d. refl; entry = λ d. refl; caller = λ d. refl; begun = λ d. refl; outcome = λ d. refl; firm = λ d. refl }
+sending-same how.Abort = record { number = λ d. refl; owner = λ d. refl; entry = λ d. refl; caller = λ d. refl; begun = λ d. refl; outcome = λ d. refl; firm = λ d. refl }
+sending-same how.Terminate = record { number = λ d. refl; owner = λ d. refl; entry = λ d. refl; caller = λ d. refl; begun = λ d. refl; outcome = λ d. refl; firm = λ d. refl }
 
 end_body_of_entry-keeps : {E : Kind} {name : Who} (p : Image) (c : CallNo) (cells : List Value) (leaving : Leaving) → Keeps E name (end_body_of_entry p c cells leaving)
 unfolding end_body_of_entry keep_values
 end_body_of_entry-keeps p c cells leaving =
     then-keeps _ _ (any-keeps _ (changes-calms _ (edit_call-quiets c (keeps_sending leaving) (sending-same leaving))))
-    (with_call-keeps c _ (λ d. any-keeps _ (changes-calms _ (edit_call-quiets c (with_values cells (formals_count p d)) record { number = λ x. refl; owner = λ x. refl; entry = λ x. refl; caller = λ x. refl; begun = λ x. refl; outcome = λ x. refl }))))
+    (with_call-keeps c _ (λ d. any-keeps _ (changes-calms _ (edit_call-quiets c (with_values cells (formals_count p d)) record { number = λ x. refl; owner = λ x. refl; entry = λ x. refl; caller = λ x. refl; begun = λ x. refl; outcome = λ x. refl; firm = λ x. refl }))))
 
 end_body-keeps : {E : Kind} (p : Image) (name : Who) (leaving : Leaving) (normally : Step) → Keeps E name normally → Keeps E name (end_body p name leaving normally)
 end_body-keeps p name leaving normally kept = branch-keeps (is_normal leaving) normally (pass_on p name leaving) kept (pass_on-keeps p name leaving)
@@ -274,14 +274,22 @@ abort_one-any : (p : Image) (actor : Who) (t : Task) → Any p (abort_one p acto
 unfolding abort_one
 abort_one-any p actor t = then-any _ _ (calms-any _ (says_abort-calms actor t.who)) (cond-any (is_made t) (end_made p actor t) (changes (strike_outermost t.who)) (end_made-any p actor t) (calms-any _ (changes-calms _ (strike_outermost-quiets t.who))))
 
+unwind-any : (p : Image) (part : Part) (name : Who) → Any p (unwind p part name)
+unwind-any p part name = record { from = λ w good. calm-onward {E = quiet_kind} _ w good (unwind-from p part name w (λ x. refl) good) }
+
+unwind_by-any : (p : Image) (name : Who) (acts : Bool) → Any p (unwind_by p name acts)
+unfolding unwind_by
+unwind_by-any p name false = unwind-any p (OfOther name) name
+unwind_by-any p name true = looks-any _ (λ w. when-any (is_runnable (task_of w name)) _ (unwind-any p Own name))
+
 unwind_one-any : (p : Image) (actor : Who) (t : Task) → Any p (unwind_one p actor t)
 unfolding unwind_one
-unwind_one-any p actor t = record { from = λ w good. calm-onward {E = quiet_kind} _ w good (unwind-from p _ t.who w (λ x. refl) good) }
+unwind_one-any p actor t = unwind_by-any p t.who (same_who actor t.who)
 
 abort_all-any : (p : Image) (actor : Who) (tasks : List Task) → Any p (abort_all p actor tasks)
 unfolding abort_all
 abort_all-any p actor tasks =
-    then-any _ _ (for_each-any tasks _ (λ t. calms-any _ (changes-calms _ (edit_task-quiets t.who abnormal_task (λ u. refl) (λ u. refl) (λ u. refl) (λ u. refl)))))
+    then-any _ _ (for_each-any tasks _ (λ t. calms-any _ (changes-calms _ (edit_task-quiets t.who abnormal_task (λ u. refl) (λ u. refl) (λ u. refl) (λ u. refl) (λ u. refl)))))
     (then-any _ _ (for_each-any tasks (abort_one p actor) (abort_one-any p actor)) (for_each-any tasks (unwind_one p actor) (unwind_one-any p actor)))
 
 pub abort_statement-acts : (p : Image) (name : Who) (s : StatementNo) (tasks : List DeclNo) → Acts p name (abort_statement p name s tasks)

@@ -23,7 +23,7 @@ use Rattle.profile_machine.specs.declared.world.calls.Owner.{Owner}
 use Rattle.profile_machine.specs.declared.world.tasks.Task.{Task}
 use Rattle.trace_text.specs.declared.events.Who.{Who}
 use Rattle.queue_worlds.proofs.Calming.{StandsAt, edit_task-calls, edit_task-drawn, edit_task-fall, edit_task-objects, found-appointments, named-edited, task-edited}
-use Rattle.queue_worlds.proofs.Standing.{Good, Stands, Waited, awaits_at, ends_by, has_own, is_ending, is_task, natures, served, served_in, some_nature, waits_end}
+use Rattle.queue_worlds.proofs.Standing.{Awaited, Good, Open, Stands, Unfirm, Waited, awaits_at, ends_by, has_own, is_ending, is_task, natures, none_late, served, served_in, some_nature, waits_end}
 
 module _ (p : Image) (name : Who) (c : CallNo) (w : World) (good : Good p w) (low : c.0 ≤ w.drawn.calls) (ending : is_ending c (frames_of w name) ≡ true) where
   abbrev pub waiting_world : World
@@ -60,6 +60,19 @@ module _ (p : Image) (name : Who) (c : CallNo) (w : World) (good : Good p w) (lo
   stood (owned_by.Task t) k x h = subst (λ qs. has same_call (queue_at qs k) x ≡ true) (waits-queues (who.Task t)) h
   stood (owned_by.Object o) k x h = subst (λ xs. StandsAt xs o k x) (edit_task-objects name waits w) h
 
+  waits-awaited : (x : CallNo) → Awaited x w ⊎ (none_late x ≡ true) → Awaited x waiting_world ⊎ (none_late x ≡ true)
+  waits-awaited x (inl a) = inl (by_owner a.owner a.place a.stands a.opens (λ d e. a.unfirm d (was-call x d e))) where
+    by_owner : (o : Owner) (k : ℕ) → Stands w o k x → Open w o → Unfirm x waiting_world → Awaited x waiting_world
+    by_owner (owned_by.Task t) k h open_ unfirm = record {
+      owner = owned_by.Task t;
+      place = k;
+      stands = subst (λ qs. has same_call (queue_at qs k) x ≡ true) (sym (waits-queues (who.Task t))) h;
+      opens = task-edited name waits w (λ t. refl) (λ m a b. b.completed ≡ a.completed) (λ m. refl) refl (who.Task t) ∙ open_;
+      unfirm = unfirm;
+    }
+    by_owner (owned_by.Object o) k h open_ unfirm = record { owner = owned_by.Object o; place = k; stands = subst (λ xs. StandsAt xs o k x) (sym (edit_task-objects name waits w)) h; opens = tt; unfirm = unfirm }
+  waits-awaited x (inr e) = inr e
+
   same-served : (a : Who) (x : CallNo) → served x waiting_world a ≡ served x w a
   same-served a x = ap (λ fs. served_in x (natures fs)) (waits-frames a)
 
@@ -90,6 +103,7 @@ module _ (p : Image) (name : Who) (c : CallNo) (w : World) (good : Good p w) (lo
     once = λ a x. subst (λ n. n ≤ 1) (sym (same-served a x)) (good.once a x);
     alone = λ a b x h i. good.alone a b x (was-served a x h) (was-served b x i);
     timed = λ x h a. same-served a x ∙ good.timed x (was-set (is_timeout_of x) h) a;
+    awaited = λ x h. waits-awaited x (good.awaited x (was-set (is_timeout_of x) h));
     objects = edit_task-fall name waits w (λ t. refl) good.objects;
     named = named-edited name waits w (task_at w name) refl (λ t. refl) good.named;
     present = λ t h. subst (λ d. t.0 < d.tasks) (sym (edit_task-drawn name waits w)) (good.present t (ap is_task (sym (waits-who (who.Task t))) ∙ h));

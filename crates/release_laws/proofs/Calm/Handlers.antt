@@ -23,10 +23,12 @@ use Rattle.profile_machine.specs.Frames.{goes, has_room, new_frame}
 use Rattle.profile_machine.specs.Values.{number_of_thing, moment}
 use Rattle.profile_machine.specs.CallEnds.{store}
 use Rattle.trace_text.specs.declared.events.Mode.TheVariants.{Write}
-use Rattle.profile_machine.specs.Protected.{entering, begin_action_on, new_protected_mark}
+use Rattle.profile_machine.specs.Protected.{entering, begin_action_on, new_protected_mark, body_of_object}
 use Rattle.profile_machine.specs.Serving.{end_release}
-use Rattle.profile_machine.specs.Handlers.{with_room_for_release, scope_size_of, begin_handler, begin_handler_if_room, enter_handler, call_handler, answer, edit_budget, loaded, raised_by, change_member, add_member, remove_member, fill_budget, replenish, add_to_budget}
-use Rattle.std.proofs.Common.{◌≡◌, refl}
+use Rattle.profile_machine.specs.declared.world.marks.Purpose.TheVariants as opened_for
+use Rattle.profile_machine.specs.declared.world.marks.ResultTo.TheVariants as bound_for
+use Rattle.profile_machine.specs.Handlers.{with_room_for_release, scope_size_of, begin_handler, begin_handler_if_room, enter_handler, call_handler, answer, edit_budget, loaded, raised_by, change_member, add_member, remove_member, fill_budget, replenish, add_to_budget, argument_values}
+use Rattle.std.proofs.Common.{◌≡◌, refl, []}
 use Rattle.std.specs.Prelude.{Bool}
 use Rattle.machine_laws.proofs.Moves.{StepRelation, MoveRelation, LetsIn}
 use Rattle.machine_laws.proofs.FineMoves.{GoodWorld, Naming, Openings, Exits, AnyWorld, Anybody, AnyRegion, AnyRelease}
@@ -49,7 +51,7 @@ module _ {R : StepRelation} {Q : MoveRelation} (moves : CalmMoves AnyWorld Anybo
   begin_handler-from p r w h =
       then-from moves (begin_action_on p who.Agent r.handler.object Write None (Some r.number)) _ w
       (begin_action_on-from moves p who.Agent r.handler.object Write None (Some r.number) w tt tt (λ v good. freely.pushes who.Agent (new_frame (new_protected_mark r.handler.object Write None (Some r.number)) None) v) h)
-      (looks-keeps moves _ (λ v. changes-keeps moves _ (open_scope-alters openings p who.Agent _ _ _ tt)))
+      (looks-keeps moves _ (λ v. changes-keeps moves _ (open_scope-alters openings p who.Agent (subprogram_of p r.handler.procedure).scope (body_of_object p v (subprogram_of p r.handler.procedure).scope r.handler.object None (argument_values r.argument)) (opened_for.Subprogram [] bound_for.Nowhere) tt)))
 
   begin_handler_if_room-from : (p : Image) (r : Release) (w : World) → LetsIn who.Agent r.handler.object Write w → From R w (begin_handler_if_room p r)
   unfolding begin_handler_if_room

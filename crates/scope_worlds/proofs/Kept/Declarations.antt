@@ -25,7 +25,8 @@ use Rattle.profile_machine.specs.Steps.{changes, ◌▷◌}
 use Rattle.profile_machine.specs.Frames.{goes}
 use Rattle.profile_machine.specs.Operators.{◌>>=◌, unless}
 use Rattle.profile_machine.specs.Values.{Seen, value, object_cell, component_at, protected_cells, controlled_cells}
-use Rattle.profile_machine.specs.Statements.{copy_cells, put_cells}
+use Rattle.profile_machine.specs.Statements.{copy_cells}
+use Rattle.profile_machine.specs.Scopes.{put_cells}
 use Rattle.profile_machine.specs.CallEnds.{store}
 use Rattle.profile_machine.specs.Declarations.{default_cells, set_defaults, initialized, initial_of, components_initialized, located_here, set_thing, object_declared, object_drawn, new_object, with_object, says_object, declare_protected, controlled_declared, event_drawn, event_declared, with_budget, budget_declared, timed_task, with_timer, timer_declared, declared, declare_quietly, declare_by, declare}
 use Rattle.profile_machine.specs.Values.{seen_by}

@@ -24,7 +24,7 @@ use Rattle.profile_machine.specs.Steps.{Step, changes, looks, for_some, ◌▷�
 use Rattle.profile_machine.specs.Frames.{pass_on, in_protected, is_deferred, edit_top, goes_on, goes}
 use Rattle.profile_machine.specs.Scopes.{home}
 use Rattle.profile_machine.specs.Declarations.{set_thing}
-use Rattle.profile_machine.specs.Tasking.{unit_of_declaration, optional_span, created_task, add_task, says_created, create_task, create, fall_from, says_done, await_group, end_own_activation, complete_if_task, wait_for_dependents, end_environment, is_normal, end_body, says_left, says_abort, unwind_one, block_at_terminate, take_terminates, unwind_all}
+use Rattle.profile_machine.specs.Tasking.{unit_of_declaration, optional_span, created_task, add_task, says_created, create_task, create, fall_from, says_done, await_group, end_own_activation, complete_if_task, wait_for_dependents, end_environment, is_normal, end_body, says_left, says_abort, unwind_by, unwind_one, block_at_terminate, take_terminates, unwind_all}
 use Rattle.std.proofs.Common.{◌≡◌, refl}
 use Rattle.profile_machine.specs.Values.{seen_by}
 use Rattle.machine_laws.proofs.Moves.{StepRelation, MoveRelation}
@@ -99,9 +99,14 @@ module _ {G : GoodWorld} {May Other : Naming} {R : StepRelation} {Q : MoveRelati
   says_abort-keeps (who.Task actor) who.Agent = search (nothing-keeps)
   says_abort-keeps who.Agent t = search (nothing-keeps)
 
+  unwind_by-keeps : (p : Image) (name : Who) (acts : Bool) → Other name → Keeps G R (unwind_by p name acts)
+  unfolding unwind_by
+  unwind_by-keeps p name false other = search (unwind-keeps)
+  unwind_by-keeps p name true other = search (looks-keeps, when-keeps, unwind-keeps)
+
   pub unwind_one-keeps : (p : Image) (actor : Who) (t : world.Task) → Other t.who → Keeps G R (unwind_one p actor t)
   unfolding unwind_one
-  unwind_one-keeps p actor t other = search (unwind-keeps)
+  unwind_one-keeps p actor t other = search (unwind_by-keeps)
 
   pub block_at_terminate-keeps : (name : Who) (waiting : Option Waiting) → Other name → Keeps G R (block_at_terminate name waiting)
   unfolding block_at_terminate

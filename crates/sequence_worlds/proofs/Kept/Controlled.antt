@@ -19,12 +19,12 @@ use Rattle.profile_machine.specs.declared.world.marks.AssignStep.{AssignStep}
 use Rattle.profile_machine.specs.declared.world.marks.AssignStep.TheVariants as assigning
 use Rattle.profile_machine.specs.declared.world.lines.Part.TheVariants.{Own}
 use Rattle.profile_machine.specs.Steps.{says, changes, ◌▷◌, looks}
-use Rattle.profile_machine.specs.Scopes.{write_cell}
-use Rattle.profile_machine.specs.Statements.{cells_from, put_cells}
-use Rattle.profile_machine.specs.Controlled.{first_place, open_operation, top_region, registered_as, register, initialize_by, initialize, end_in_initialize, edit_top_scope, finalize_has_raised, open_finalize, has_room_to_finalize, finalize_by, no_longer_registered, finalize, behind_finalize, end_in_finalize, begin_assignment, assign_registered, assign_located, assign_controlled, edit_top_assign, leave_without_room, finalize_target_by, has_room_to_adjust, adjust_by, copy_components_of, copy_object, do_step, step_with, end_in_assign, edit_scope_mark, edit_assign, registered_object, registers, is_assignment}
+use Rattle.profile_machine.specs.Scopes.{write_cell, put_cells}
+use Rattle.profile_machine.specs.Statements.{cells_from}
+use Rattle.profile_machine.specs.Controlled.{first_place, open_operation, top_region, registered_as, register, initialize_by, initialize, end_in_initialize, edit_top_scope, finalize_has_raised, open_finalize, has_room_to_finalize, finalize_by, no_longer_registered, finalize_now, finalize, behind_finalize, end_in_finalize, begin_assignment, assign_registered, assign_located, assign_controlled, edit_top_assign, leave_without_room, finalize_target_by, has_room_to_adjust, adjust_by, copy_components_of, copy_object, do_step, step_with, end_in_assign, edit_scope_mark, edit_assign, registered_object, registers, is_assignment}
 use Rattle.machine_laws.proofs.FineMoves.{GoodWorld, Naming, nature}
 use Rattle.sequence_worlds.proofs.FineMoves.{FineMoves, Openings, Behind}
-use Rattle.sequence_worlds.proofs.Kept.Combinators.{Keeps, Alters, branch-keeps, changes-from, changes-keeps, cond-keeps, looks-from, looks-keeps, nothing-keeps, says-keeps, sees-keeps, then-from, then-keeps, From, changes_then-from, keeps-from, looks_at-from}
+use Rattle.sequence_worlds.proofs.Kept.Combinators.{Keeps, Alters, branch-keeps, changes-from, changes-keeps, cond-keeps, looks-from, looks-keeps, nothing-keeps, says-keeps, sees-keeps, then-from, then-keeps, From, changes_then-from, keeps-from, looks_at-from, when-keeps}
 use Rattle.sequence_worlds.proofs.Kept.Frames.{goes-keeps, push-alters, leaves-keeps, raises-keeps, pass_on-keeps, given-keeps, with_room-keeps, popped, edit_mark-alters}
 use Rattle.sequence_worlds.proofs.Kept.Scopes.{write_cell-alters, open_scope-alters}
 use Rattle.std.proofs.Common.{◌≡◌, refl, ap, []}
@@ -130,9 +130,13 @@ module _ {p : Image} {G : GoodWorld} {May Other : Naming} (moves : FineMoves p G
   finalize_by-keeps name r None may = search (nothing-keeps)
   finalize_by-keeps name r (Some f) may = looks-keeps moves _ (λ w. branch-keeps moves (has_room_to_finalize p w name f) (open_finalize p name r.object r.located f) (changes (edit_top_scope name finalize_has_raised)) (search (open_finalize-keeps)) (search (changes-keeps, edit_top_scope-alters)))
 
+  finalize_now-keeps : (name : Who) (r : Registered) → May name → Keeps G (Behind G) (finalize_now p name r)
+  unfolding finalize_now
+  finalize_now-keeps name r may = search (says-keeps, then-keeps, changes-keeps, no_longer_registered-alters, finalize_by-keeps) depth 6
+
   pub finalize-keeps : (name : Who) (r : Registered) → May name → Keeps G (Behind G) (finalize p name r)
   unfolding finalize
-  finalize-keeps name r may = search (says-keeps, then-keeps, changes-keeps, no_longer_registered-alters, finalize_by-keeps) depth 6
+  finalize-keeps name r may = search (looks-keeps, when-keeps, finalize_now-keeps)
 
   pub begin_assignment-keeps : (name : Who) (s : StatementNo) (target source : ℕ) → May name → Keeps G (Behind G) (begin_assignment p name s target source)
   unfolding begin_assignment

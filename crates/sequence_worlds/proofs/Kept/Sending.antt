@@ -4,7 +4,7 @@ use Rattle.profile_machine.specs.declared.world.tasks.Waiting.TheVariants as wai
 use Rattle.sequence_worlds.proofs.TaskEdits.{onward-pushed}
 use Rattle.profile_machine.specs.declared.world.lines.Part.TheVariants.{TheFinish, TheBlock}
 use Rattle.profile_machine.specs.Dispatching.{ready}
-use Rattle.std.proofs.Common.{◌≡◌, ℤ, Bool, true, false, cond, not, ◌&&◌, Option, Some, None, refl, sym}
+use Rattle.std.proofs.Common.{◌≡◌, ℤ, Bool, true, false, cond, not, ◌&&◌, Option, Some, None, refl, sym, []}
 use Rattle.std.specs.Prelude.{◌||◌}
 use Rattle.std.proofs.lemmas.Bool.{false≢true}
 use Rattle.ann_base.specs.declared.identities.CallNo.{CallNo}
@@ -19,12 +19,13 @@ use Rattle.profile_machine.specs.declared.world.calls.CallKind.TheVariants as ca
 use Rattle.profile_machine.specs.declared.world.appointments.Due.TheVariants as due_for
 use Rattle.profile_machine.specs.declared.world.lines.Part.{Part}
 use Rattle.profile_machine.specs.Steps.{changes, ◌▷◌}
-use Rattle.profile_machine.specs.Sending.{open_abortable, is_not_future, is_conditional, is_to_be_cancelled, cancel_at_once, appoint_timeout, wait_for_call, wait_or_cancel, not_accepted, send_on, cancel_sent, begin_abortable, timeout_again, sent_not_begun_by, sent_not_begun, new_abortable_mark, abortable_in, may_begin_abortable}
+use Rattle.profile_machine.specs.Appointments.{appoint}
+use Rattle.profile_machine.specs.Calls.{call_of}
+use Rattle.profile_machine.specs.Sending.{open_abortable, is_not_future, is_conditional, is_to_be_cancelled, cancel_at_once, appoint_timeout, wait_for_call, wait_or_cancel, not_accepted, send_on, cancel_sent, begin_abortable, timeout_again, sent_not_begun_by, sent_not_begun, new_abortable_mark, abortable_in, may_begin_abortable, may_time_out}
 use Rattle.machine_laws.proofs.FineMoves.{GoodWorld, Naming}
 use Rattle.sequence_worlds.proofs.FineMoves.{FineMoves, Behind, Openings, Loosens}
-use Rattle.sequence_worlds.proofs.Kept.Combinators.{Keeps, From, Alters, changes-keeps, looks-keeps, looks-from, keeps-from, then-from, nothing-keeps, says-keeps, then-keeps, unchanged-alters, when-keeps, from-keeps, changes_then-from}
+use Rattle.sequence_worlds.proofs.Kept.Combinators.{Keeps, From, Alters, changes-keeps, looks-keeps, looks-from, keeps-from, then-from, nothing-keeps, says-keeps, then-keeps, unchanged-alters, when-keeps, from-keeps, changes_then-from, changes-from}
 use Rattle.sequence_worlds.proofs.Kept.Dispatching.{block-keeps, ready-from}
-use Rattle.sequence_worlds.proofs.Kept.Appointments.{appoint-from}
 use Rattle.sequence_worlds.proofs.Kept.Calls.{edit_call-alters, with_call-keeps, says_call-keeps, unqueued-alters, attempt_with-keeps}
 use Rattle.sequence_worlds.proofs.Kept.CallEnds.{resume-keeps, deliver-keeps}
 use Rattle.profile_machine.specs.Program.{form_of}
@@ -46,9 +47,12 @@ module _ {p : Image} {G : GoodWorld} {May Other : Naming} (moves : FineMoves p G
   unfolding cancel_at_once
   cancel_at_once-keeps part c may = search (attempt_with-keeps, resume-keeps, nothing-keeps)
 
-  appoint_timeout-from : (c : CallNo) (moment : Option ℤ) (w : World) → G w → is_not_future w.time moment ≡ false → From (Behind G) w (changes (appoint_timeout c moment))
-  appoint_timeout-from c None w good later = keeps-from moves (changes (λ v. v)) w good (changes-keeps moves (λ v. v) (unchanged-alters moves))
-  appoint_timeout-from c (Some moment) w good later = appoint-from moves (due_for.Timeout c) moment w good
+  appoint_timeout-from : (p : Image) (c : CallNo) (moment : Option ℤ) (w : World) → G w → is_not_future w.time moment ≡ false → From (Behind G) w (changes (appoint_timeout p c moment))
+  appoint_timeout-from p c None w good later = keeps-from moves (changes (λ v. v)) w good (changes-keeps moves (λ v. v) (unchanged-alters moves))
+  appoint_timeout-from p c (Some moment) w good later = changes-from moves (appoint_timeout p c (Some moment)) w (timed (may_time_out p w (call_of w c))) where
+    timed : (may : Bool) → Behind G w [] (cond may (appoint (due_for.Timeout c) moment w) w)
+    timed true = moves.appoints (due_for.Timeout c) moment w good
+    timed false = moves.stays w good
 
   pub send_on-keeps : (c : CallNo) (s : Sending) → Keeps G (Behind G) (send_on c s)
   unfolding send_on
@@ -63,7 +67,7 @@ module _ {p : Image} {G : GoodWorld} {May Other : Naming} (moves : FineMoves p G
   unfolding wait_or_cancel
   wait_or_cancel-from part c true w good is may = keeps-from moves (cancel_at_once p part c) w good (cancel_at_once-keeps moves part c may)
   wait_or_cancel-from part c false w good is may =
-      then-from moves (changes (appoint_timeout c.number c.moment)) (wait_for_call c) w (appoint_timeout-from moves c.number c.moment w good is) (wait_for_call-keeps c)
+      then-from moves (changes (appoint_timeout p c.number c.moment)) (wait_for_call c) w (appoint_timeout-from moves p c.number c.moment w good is) (wait_for_call-keeps c)
 
   pub not_accepted-keeps : (part : Part) (c : Call) (kind : CallKind) → May (who.Task c.caller) → Keeps G (Behind G) (not_accepted p part c kind)
   unfolding not_accepted
@@ -92,16 +96,16 @@ module _ {p : Image} {G : GoodWorld} {May Other : Naming} (moves : FineMoves p G
   unfolding begin_abortable
   begin_abortable-keeps c = with_call-keeps moves c _ (λ d. looks-keeps moves _ (λ w. when-keeps moves (may_begin_abortable w d) _ (part_begins-keeps d)))
 
-  unless_firm-from : (firm : Bool) (c : Call) (w : World) → G w → (firm ≡ false → is_not_future w.time c.moment ≡ false) → From (Behind G) w (changes (cond firm (λ v. v) (appoint_timeout c.number c.moment)))
-  unless_firm-from true c w good later = keeps-from moves (changes (λ v. v)) w good (changes-keeps moves (λ v. v) (unchanged-alters moves))
-  unless_firm-from false c w good later = appoint_timeout-from moves c.number c.moment w good (later refl)
+  unless_firm-from : (p : Image) (firm : Bool) (c : Call) (w : World) → G w → (firm ≡ false → is_not_future w.time c.moment ≡ false) → From (Behind G) w (changes (cond firm (λ v. v) (appoint_timeout p c.number c.moment)))
+  unless_firm-from p true c w good later = keeps-from moves (changes (λ v. v)) w good (changes-keeps moves (λ v. v) (unchanged-alters moves))
+  unless_firm-from p false c w good later = appoint_timeout-from moves p c.number c.moment w good (later refl)
 
   sent_not_begun_by-from : (c : Call) (test : Bool) (w : World) → G w → is_to_be_cancelled w.time c ≡ test → From (Behind G) w (sent_not_begun_by p c test)
   unfolding sent_not_begun_by
   sent_not_begun_by-from c true w good is = keeps-from moves (cancel_sent p c) w good (cancel_sent-keeps c)
   sent_not_begun_by-from c false w good is =
-      then-from moves (changes (timeout_again c)) (begin_abortable p c.number) w
-      (unless_firm-from c.firm c w good (last_is_false c.firm (is_conditional c.kind) c.attempted (is_not_future w.time c.moment) is))
+      then-from moves (changes (timeout_again p c)) (begin_abortable p c.number) w
+      (unless_firm-from p c.firm c w good (last_is_false c.firm (is_conditional c.kind) c.attempted (is_not_future w.time c.moment) is))
       (begin_abortable-keeps c.number)
 
   pub sent_not_begun-keeps : (c : CallNo) → Keeps G (Behind G) (sent_not_begun p c)

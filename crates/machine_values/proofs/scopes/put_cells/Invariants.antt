@@ -1,7 +1,7 @@
 use Rattle.std.proofs.Common.{◌≡◌}
 use Rattle.std.specs.VecDeque.Iter.{deque_iter_rest}
-use Rattle.profile_machine.specs.Statements.{put_cells}
-use Rattle.machine_parameters.proofs.arrays.put_cells.Given as goal
+use Rattle.profile_machine.specs.Scopes.{put_cells}
+use Rattle.machine_values.proofs.scopes.put_cells.Given as goal
 
 -- the values that are to come make of the cells what all of them make
 abbrev pub invariant-loop-value : goal.invariant-loop-value

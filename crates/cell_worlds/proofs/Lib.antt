@@ -1,0 +1,4 @@
+pub mod CellLists
+pub mod RightCells
+pub mod Kept
+pub mod CellWorlds

@@ -1,0 +1,2 @@
+pub mod FormedWorlds
+pub mod FormedRuns

@@ -1,0 +1,2 @@
+pub mod ServingEnds
+pub mod ServingRuns

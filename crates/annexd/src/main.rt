@@ -1,16 +1,12 @@
 //! annexd: the timed run of an Ada program, as an exact trace.
 #![tactic(auto)]
 
-#[cfg(test)]
-mod tests;
-mod whole;
-
 use ann_base::{HostShelf, HostSink};
 use commands::Outcome;
+use interpreter::top;
 use std::process::ExitCode;
 use std::{env, io};
 use table_commands::conclude;
-use whole::top;
 
 /// Passes the words behind the program's name to `top`, with the host's files and streams. Words that are not UTF-8 are
 /// refused, as words that are not asked for are; where memory runs out for the words the status is 9, as it is behind

@@ -8,11 +8,11 @@ ghost use Rattle.machine_frames.specs.Did.{Did};
 use ann_base::{CallNo, NoMemory, Raised};
 use machine_calls::deliver;
 use machine_dispatching::{block, inherit_running};
+use machine_exclusion::begin_call;
 use machine_frames::{
     Effect, goes, has_room, in_protected, new_frame, push, raises, says, waiting_of,
 };
 use machine_operators::{Program, form_of, marks_of, next_of, scope_of};
-use machine_protected::begin_call;
 use machine_queues::{copied_call, next_of_queue, parameters_of, place_of_entry, queue_of};
 use machine_values::{begin_scope, innermost, next_id};
 use profile_machine::world::{
@@ -171,7 +171,8 @@ fn accept_with_room(
     c: &Call,
     has_room: bool,
 ) -> Result<(), NoMemory>
-    ensures { OnOk result (Did (accept_with_room p.now name s c.now has_room) effect.old effect.new) }
+    ensures { OnOk result
+        (Did (accept_with_room p.now name s c.now has_room) effect.old effect.new) }
 {
     if has_room {
         open_accept(alloc, p, &mut effect.world, name, s, c)?;
@@ -214,7 +215,8 @@ pub(crate) fn accept_call(
 // The head of the queue of an entry of the one with this name.
 #[tactic(auto, using(crate::proofs::QueueLemmas::queue_laws))]
 fn next_of_own(p: &Program, world: &World, name: Who, e: EntryNo) -> Option<CallNo>
-    ensures { result ≡ next_call p.now world.now (own_queue world.now name (place_of_entry p.now e) ∷ []) }
+    ensures { result
+        ≡ next_call p.now world.now (own_queue world.now name (place_of_entry p.now e) ∷ []) }
 {
     let Who::Task(t) = name else {
         return None;

@@ -7,8 +7,7 @@ mod alternatives;
 mod selecting;
 
 pub use accepting::{
-    accept, accept_for, begin_accept, finish_without_room, first_accept, has_room_for_accept,
-    open_accept,
+    accept, accept_for, begin_accept, finish_without_room, has_room_for_accept, open_accept,
 };
 pub use alternatives::delay_moment;
 pub use selecting::selective_accept;

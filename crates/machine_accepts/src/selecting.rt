@@ -1,5 +1,5 @@
 //! The selective accept (ISO/IEC 8652:2012, 9.7.1).
-ghost use Rattle.std.specs.Prelude.{◌≡◌, IfOk, OnOk, int_le, pos};
+ghost use Rattle.std.specs.Prelude.{◌≡◌, IfOk, OnOk};
 ghost use Rattle.profile_machine.specs.Calls.{next_call, place_of_entry};
 ghost use Rattle.profile_machine.specs.Rendezvous.{own_queue, open_accepts, queue_of_accept, queues_of_accepts, accept_chosen, wait_at_select, appoint_delay, select_delay, select_wait, select_otherwise, select_by_call, select_open, selective_accept};
 ghost use Rattle.profile_machine.specs.Words.{first_of_list};
@@ -10,10 +10,10 @@ use crate::alternatives::{
     has_terminate, is_closed, least_delay, open_accepts, open_alternatives, open_delays,
 };
 use ann_base::{CallNo, Moment, NoMemory, OrMemory, Raised};
-use machine_dispatching::{appoint, block};
+use machine_dispatching::{appoint, block, has_come};
+use machine_exclusion::next_with;
 use machine_frames::{Effect, goes, in_protected, raises, set_state};
 use machine_operators::{Program, form_of, next_of, policies};
-use machine_protected::next_with;
 use machine_queues::{call_of, place_of_entry, queue_of};
 use machine_values::seen_by;
 use profile_machine::world::{DelayMoment, Due, Owner, Part, State, Waiting, World};
@@ -51,7 +51,8 @@ fn next_of_accepts(
     name: Who,
     accepts: &List<StatementNo>,
 ) -> Option<CallNo>
-    ensures { result ≡ next_call p.now world.now (queues_of_accepts p.now world.now name accepts.now) }
+    ensures { result
+        ≡ next_call p.now world.now (queues_of_accepts p.now world.now name accepts.now) }
 {
     let mut chosen = None;
     let mut place = accepts.len();
@@ -96,7 +97,8 @@ fn wait_at_select(
     delay: Option<StatementNo>,
     terminate: bool,
 ) -> Result<(), NoMemory>
-    ensures { OnOk result (Did (wait_at_select name accepts delay terminate) effect.old effect.new) }
+    ensures { OnOk result
+        (Did (wait_at_select name accepts delay terminate) effect.old effect.new) }
 {
     let waiting = Waiting::Select(accepts, delay, terminate);
     if terminate {
@@ -128,7 +130,8 @@ fn select_delay(
     terminate: bool,
     has_come: bool,
 ) -> Result<(), NoMemory>
-    ensures { OnOk result (Did (select_delay p.now name s accepts m terminate has_come) effect.old effect.new) }
+    ensures { OnOk result
+        (Did (select_delay p.now name s accepts m terminate has_come) effect.old effect.new) }
 {
     if has_come {
         goes(effect, name, next_of(p, m.delay));
@@ -138,13 +141,6 @@ fn select_delay(
         appoint_delay(&mut effect.world, name, m.at)?;
         wait_at_select(effect, name, accepts, Some(m.delay), terminate)
     }
-}
-
-// Whether a moment has come. The present is never below 0.
-fn has_come(moment: Moment, time: u64) -> bool
-    ensures { result ≡ int_le moment (pos time) }
-{
-    i128::from(moment) <= i128::from(time)
 }
 
 #[tactic(auto, unfolding(profile_machine::specs::Rendezvous::select_wait))]
@@ -157,7 +153,8 @@ fn select_wait(
     terminate: bool,
     m: Option<DelayMoment>,
 ) -> Result<(), NoMemory>
-    ensures { OnOk result (Did (select_wait p.now name s accepts terminate m) effect.old effect.new) }
+    ensures { OnOk result
+        (Did (select_wait p.now name s accepts terminate m) effect.old effect.new) }
 {
     match m {
         Some(m) => {
@@ -183,7 +180,8 @@ fn select_otherwise(
     m: Option<DelayMoment>,
     otherwise: Option<StatementNo>,
 ) -> Result<(), NoMemory>
-    ensures { OnOk result (Did (select_otherwise p.now name s kinds.now m otherwise) effect.old effect.new) }
+    ensures { OnOk result
+        (Did (select_otherwise p.now name s kinds.now m otherwise) effect.old effect.new) }
 {
     match otherwise {
         Some(otherwise) => {
@@ -209,7 +207,8 @@ fn select_by_call(
     otherwise: Option<StatementNo>,
     chosen: Option<CallNo>,
 ) -> Result<(), NoMemory>
-    ensures { OnOk result (Did (select_by_call p.now name s kinds.now m otherwise chosen) effect.old effect.new) }
+    ensures { OnOk result
+        (Did (select_by_call p.now name s kinds.now m otherwise chosen) effect.old effect.new) }
 {
     match chosen {
         Some(c) => {
@@ -228,7 +227,11 @@ fn next_of_open(
     name: Who,
     kinds: &List<SelectKind>,
 ) -> Result<Option<CallNo>, NoMemory>
-    ensures { IfOk result (λ c. c ≡ next_call p.now world.now (queues_of_accepts p.now world.now name (open_accepts kinds.now))) }
+    ensures { IfOk result
+        (λ c.
+        c
+        ≡ next_call p.now world.now
+        (queues_of_accepts p.now world.now name (open_accepts kinds.now))) }
 {
     let accepts = open_accepts(alloc, kinds)?;
     Ok(next_of_accepts(p, world, name, &accepts))
@@ -245,7 +248,8 @@ fn select_open(
     kinds: &List<SelectKind>,
     delays: &List<DelayMoment>,
 ) -> Result<(), NoMemory>
-    ensures { OnOk result (Did (select_open p.now name s otherwise kinds.now delays.now) effect.old effect.new) }
+    ensures { OnOk result
+        (Did (select_open p.now name s otherwise kinds.now delays.now) effect.old effect.new) }
 {
     if is_closed(kinds, otherwise) {
         raises(effect, Part::Own, name, Raised::Program)
@@ -271,7 +275,8 @@ pub fn selective_accept(
     alternatives: &[SelectAlternative],
     otherwise: Option<StatementNo>,
 ) -> Result<(), NoMemory>
-    ensures { OnOk result (Did (selective_accept p.now name s alternatives.now otherwise) effect.old effect.new) }
+    ensures { OnOk result
+        (Did (selective_accept p.now name s alternatives.now otherwise) effect.old effect.new) }
 {
     if in_protected(&effect.world, name) {
         raises(effect, Part::Own, name, Raised::Program)

@@ -66,7 +66,8 @@ fn run_triggered(
     select: StatementNo,
     outcome: Outcome,
 ) -> Result<(), NoMemory>
-    ensures { OnOk result (Did (run_triggered p.now part name select outcome) effect.old effect.new) }
+    ensures { OnOk result
+        (Did (run_triggered p.now part name select outcome) effect.old effect.new) }
 {
     match outcome {
         Outcome::Finished => {
@@ -189,7 +190,9 @@ pub fn end_top_abortable(
     part: Part,
     name: Who,
 ) -> Result<(), NoMemory>
-    ensures { OnOk result (Did (looks (λ w. end_top_abortable p.now part name (frames_of w name))) effect.old effect.new) }
+    ensures { OnOk result
+        (Did (looks (λ w. end_top_abortable p.now part name (frames_of w name))) effect.old
+        effect.new) }
 {
     match ending_of(&effect.world, name) {
         Some(ending) => ended_so(p, effect, part, name, ending),

@@ -120,7 +120,8 @@ fn end_for_abortable(
     depth: usize,
     outcome: Outcome,
 ) -> Result<(), NoMemory>
-    ensures { OnOk result (Did (end_for_abortable p.now part call.now depth outcome) effect.old effect.new) }
+    ensures { OnOk result
+        (Did (end_for_abortable p.now part call.now depth outcome) effect.old effect.new) }
 {
     if waits_for_end(&effect.world, Who::Task(call.caller), call.number) {
         end_wait(p, effect, part, call, depth, outcome)

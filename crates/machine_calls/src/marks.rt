@@ -115,7 +115,8 @@ fn strike_in(frames: &mut List<Frame>, depth: usize)
 
 #[tactic(auto, using(crate::proofs::DepthLemmas::depth_laws))]
 fn trigger_in(frames: &mut List<Frame>, depth: usize)
-    ensures { frames.new ≡ edit_depth depth (λ x. with_mark (edit_abortable triggered_mark x.mark) x) frames.old }
+    ensures { frames.new
+        ≡ edit_depth depth (λ x. with_mark (edit_abortable triggered_mark x.mark) x) frames.old }
 {
     if let Some(place) = place_at(frames, depth) {
         if let Some(frame) = frames.get_mut(place) {
@@ -126,7 +127,10 @@ fn trigger_in(frames: &mut List<Frame>, depth: usize)
 
 #[tactic(auto, using(crate::proofs::DepthLemmas::depth_laws))]
 fn end_wait_in(frames: &mut List<Frame>, depth: usize, outcome: Outcome)
-    ensures { frames.new ≡ edit_depth depth (λ x. with_mark (edit_abortable (waited_mark (not (is_cancelled outcome))) x.mark) x) frames.old }
+    ensures { frames.new
+        ≡ edit_depth depth
+        (λ x. with_mark (edit_abortable (waited_mark (not (is_cancelled outcome))) x.mark) x)
+        frames.old }
 {
     if let Some(place) = place_at(frames, depth) {
         if let Some(frame) = frames.get_mut(place) {
@@ -155,7 +159,8 @@ pub(crate) fn set_triggered_at(world: &mut World, name: Who, depth: usize)
 
 // The abortable part with so many below it waits for its call no more.
 pub(crate) fn set_waited_at(world: &mut World, name: Who, depth: usize, outcome: Outcome)
-    ensures { world.new ≡ edit_abortable_at name depth (waited_mark (not (is_cancelled outcome))) world.old }
+    ensures { world.new
+        ≡ edit_abortable_at name depth (waited_mark (not (is_cancelled outcome))) world.old }
 {
     if let Some(task) = task_mut(world, name) {
         end_wait_in(&mut task.frames, depth, outcome);

@@ -94,7 +94,7 @@ fn is_unwinding(frames: &List<Frame>) -> bool
 }
 
 /// Whether a struck construct may be left now.
-pub fn may_unwind(frames: &List<Frame>) -> bool
+pub(crate) fn may_unwind(frames: &List<Frame>) -> bool
     ensures { result ≡ may_unwind frames.now }
 {
     may_leave_struck(frames) && !is_unwinding(frames)

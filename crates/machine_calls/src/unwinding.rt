@@ -136,7 +136,8 @@ fn unwind_so(
     }
 }
 
-fn frames_may_unwind(world: &World, name: Who) -> bool
+/// Whether the one with this name may be unwound: a construct of it is struck, and nothing defers the abort.
+pub fn frames_may_unwind(world: &World, name: Who) -> bool
     ensures { result ≡ may_unwind (frames_of world.now name) }
 {
     match task_at(world, name) {

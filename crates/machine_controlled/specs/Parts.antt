@@ -1,4 +1,4 @@
--- Parts of the machine's steps, in its own words.
+-- The steps of the declaration of a protected object, in the machine's own words.
 use Rattle.trace_text.specs.declared.events.Who.{Who}
 use Rattle.profile_machine.specs.declared.image.Image.{Image}
 use Rattle.profile_machine.specs.declared.numbers.ProtectedUnitNo.{ProtectedUnitNo}

@@ -37,7 +37,8 @@ fn finalize_target_by(
     target: Registered,
     operation: Option<SubprogramNo>,
 ) -> Result<(), NoMemory>
-    ensures { OnOk result (Did (finalize_target_by p.now name target operation) effect.old effect.new) }
+    ensures { OnOk result
+        (Did (finalize_target_by p.now name target operation) effect.old effect.new) }
 {
     match operation {
         None => Ok(()),

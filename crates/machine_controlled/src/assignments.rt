@@ -31,7 +31,8 @@ fn begin_assignment(
     target: u32,
     source: u32,
 ) -> Result<(), NoMemory>
-    ensures { OnOk result (Did (begin_assignment p.now name s target source) effect.old effect.new) }
+    ensures { OnOk result
+        (Did (begin_assignment p.now name s target source) effect.old effect.new) }
 {
     if has_room(&effect.world, name, 1, 0) {
         goes(effect, name, next_of(p, s));
@@ -57,7 +58,8 @@ fn assign_registered(
     target: Option<Registered>,
     source: Option<Registered>,
 ) -> Result<(), NoMemory>
-    ensures { OnOk result (Did (assign_registered p.now name s target source) effect.old effect.new) }
+    ensures { OnOk result
+        (Did (assign_registered p.now name s target source) effect.old effect.new) }
 {
     match (target, source) {
         (Some(target), Some(source)) => {
@@ -100,7 +102,8 @@ pub fn assign_controlled(
     target: DeclNo,
     source: DeclNo,
 ) -> Result<(), NoMemory>
-    ensures { OnOk result (Did (assign_controlled p.now name s target source) effect.old effect.new) }
+    ensures { OnOk result
+        (Did (assign_controlled p.now name s target source) effect.old effect.new) }
 {
     let q = seen_by(p, &effect.world, name);
     match (located(&q, target), located(&q, source)) {

@@ -27,7 +27,8 @@ fn object_declared(
     initial: Initial,
     world: &mut World,
 ) -> Result<(), OrMemory<Raised>>
-    ensures { Becomes result (object_declared (seen_by p.now world.old name) d initial) world.old world.new }
+    ensures { Becomes result (object_declared (seen_by p.now world.old name) d initial) world.old
+        world.new }
 {
     let v = object_cell(&seen_by(p, world, name), ObjectName::Declared(d))?;
     initialized(alloc, p, name, v, initial, world)
@@ -42,7 +43,8 @@ fn controlled_declared(
     c: ControlledNo,
     world: &mut World,
 ) -> Result<(), OrMemory<Raised>>
-    ensures { Becomes result (controlled_declared (seen_by p.now world.old name) d c) world.old world.new }
+    ensures { Becomes result (controlled_declared (seen_by p.now world.old name) d c) world.old
+        world.new }
 {
     let object = or_raised(located_here(&seen_by(p, world, name), d))?;
     let components = controlled_of(p, c).components.as_slice();

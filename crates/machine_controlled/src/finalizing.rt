@@ -47,7 +47,8 @@ fn finalize_by(
     registered: Registered,
     operation: Option<SubprogramNo>,
 ) -> Result<(), NoMemory>
-    ensures { OnOk result (Did (finalize_by p.now name registered operation) effect.old effect.new) }
+    ensures { OnOk result
+        (Did (finalize_by p.now name registered operation) effect.old effect.new) }
 {
     match operation {
         None => Ok(()),

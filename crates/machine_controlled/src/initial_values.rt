@@ -168,7 +168,8 @@ fn value_set(
     initial: Initial,
     world: &mut World,
 ) -> Result<(), OrMemory<Raised>>
-    ensures { Becomes result (value_set (seen_by p.now world.old name) v initial world.old) world.old world.new }
+    ensures { Becomes result (value_set (seen_by p.now world.old name) v initial world.old)
+        world.old world.new }
 {
     let value = first_value(&seen_by(p, world, name), v, initial)?;
     written(alloc, p, v, value, world)?;
@@ -187,7 +188,8 @@ pub(crate) fn initialized(
     initial: Initial,
     world: &mut World,
 ) -> Result<(), OrMemory<Raised>>
-    ensures { Becomes result (initialized (seen_by p.now world.old name) v initial world.old) world.old world.new }
+    ensures { Becomes result (initialized (seen_by p.now world.old name) v initial world.old)
+        world.old world.new }
 {
     value_set(alloc, p, name, v, initial, world)
 }
@@ -248,7 +250,9 @@ fn components_set(
     components: &[DeclNo],
     world: &mut World,
 ) -> Result<(), OrMemory<Raised>>
-    ensures { Becomes result (components_set (seen_by p.now world.old name) own_cells object components.now world.old) world.old world.new }
+    ensures { Becomes result
+        (components_set (seen_by p.now world.old name) own_cells object components.now world.old)
+        world.old world.new }
 {
     let values = first_values(
         alloc,
@@ -273,7 +277,9 @@ pub(crate) fn components_initialized(
     components: &[DeclNo],
     world: &mut World,
 ) -> Result<(), OrMemory<Raised>>
-    ensures { Becomes result (components_initialized (seen_by p.now world.old name) own_cells object components.now world.old) world.old world.new }
+    ensures { Becomes result
+        (components_initialized (seen_by p.now world.old name) own_cells object components.now
+        world.old) world.old world.new }
 {
     components_set(alloc, p, name, own_cells, object, components, world)
 }

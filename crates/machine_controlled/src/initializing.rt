@@ -25,7 +25,8 @@ fn initialize_by(
     object: Located,
     operation: Option<SubprogramNo>,
 ) -> Result<(), NoMemory>
-    ensures { OnOk result (Did (initialize_by p.now name s object operation) effect.old effect.new) }
+    ensures { OnOk result
+        (Did (initialize_by p.now name s object operation) effect.old effect.new) }
 {
     match operation {
         None => {
@@ -79,7 +80,8 @@ pub fn end_in_initialize(
     object: Located,
     leaving: Leaving,
 ) -> Result<(), NoMemory>
-    ensures { OnOk result (Did (end_in_initialize p.now name object leaving) effect.old effect.new) }
+    ensures { OnOk result
+        (Did (end_in_initialize p.now name object leaving) effect.old effect.new) }
 {
     pop(&mut effect.world, name);
     if registers(leaving) {

@@ -136,7 +136,8 @@ fn declare_protected_at(
     object: Located,
     unit: ProtectedUnitNo,
 ) -> Result<(), NoMemory>
-    ensures { OnOk result (Did (declare_protected_at p.now name s object unit) effect.old effect.new) }
+    ensures { OnOk result
+        (Did (declare_protected_at p.now name s object unit) effect.old effect.new) }
 {
     let components = protected_unit_of(p, unit).components.as_slice();
     let world = &mut effect.world;

@@ -63,7 +63,9 @@ fn scope_of_operation(p: &Program, f: SubprogramNo) -> &Scope
 
 // The scope in use that stands round the body of an operation.
 fn round_operation(p: &Program, world: &World, name: Who, f: SubprogramNo) -> Option<ScopeId>
-    ensures { result ≡ option_and_then (λ outer. home world.now outer (innermost world.now name)) (scope_of p.now (subprogram_of p.now f).scope).outer }
+    ensures { result
+        ≡ option_and_then (λ outer. home world.now outer (innermost world.now name))
+        (scope_of p.now (subprogram_of p.now f).scope).outer }
 {
     home(
         world,
@@ -80,7 +82,8 @@ fn operation_beginning(
     f: SubprogramNo,
     object: Located,
 ) -> Result<Beginning, NoMemory>
-    ensures { IfOk result (λ beginning. beginning ≡ operation_beginning p.now world.now name f object) }
+    ensures { IfOk result
+        (λ beginning. beginning ≡ operation_beginning p.now world.now name f object) }
 {
     let mut values = List::new(alloc);
     values.push_back(read_cell(world, object.within, first_place(p, object)))?;

@@ -67,7 +67,8 @@ pub(crate) fn budget_declared(
     d: DeclNo,
     world: &mut World,
 ) -> Result<(), OrMemory<Raised>>
-    ensures { Becomes result (budget_declared (seen_by p.now world.old name) d) world.old world.new }
+    ensures { Becomes result (budget_declared (seen_by p.now world.old name) d) world.old
+        world.new }
 {
     let object = or_raised(located_here(&seen_by(p, world, name), d))?;
     let number = number_of_place(world.budgets.len())?;
@@ -114,7 +115,8 @@ pub(crate) fn timer_declared(
     task: DeclNo,
     world: &mut World,
 ) -> Result<(), OrMemory<Raised>>
-    ensures { Becomes result (timer_declared (seen_by p.now world.old name) d task) world.old world.new }
+    ensures { Becomes result (timer_declared (seen_by p.now world.old name) d task) world.old
+        world.new }
 {
     let timed = or_raised(timed_task(&seen_by(p, world, name), task))?;
     if TIMERS <= world.timers.len() {

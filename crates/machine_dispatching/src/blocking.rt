@@ -1,6 +1,6 @@
 //! Blocking (ISO/IEC 8652:2012, D.2.1).
 ghost use Rattle.std.specs.Prelude.{◌≡◌, OnOk};
-ghost use Rattle.profile_machine.specs.Dispatching.{word_of, without_kept_level, says_block, block};
+ghost use Rattle.profile_machine.specs.Dispatching.{word_of, without_kept_level, block};
 ghost use Rattle.profile_machine.specs.Tasks.{edit_task};
 ghost use Rattle.machine_frames.specs.Did.{Did};
 ghost use Rattle.machine_dispatching.specs.Blocking.{says_waits};
@@ -40,19 +40,6 @@ pub fn says_waits(effect: &mut Effect, part: Part, name: Who, waits: Waits) -> R
 {
     drop_kept_level(&mut effect.world, name);
     says(effect, part, Line::Block { who: name, waits })
-}
-
-/// The `block` line of one who waits for this; it keeps no level.
-#[tactic(auto, unfolding(profile_machine::specs::Dispatching::says_block))]
-pub fn says_block(
-    effect: &mut Effect,
-    part: Part,
-    name: Who,
-    waiting: &Waiting,
-) -> Result<(), NoMemory>
-    ensures { OnOk result (Did (says_block part name waiting.now) effect.old effect.new) }
-{
-    says_waits(effect, part, name, word_of(waiting))
 }
 
 /// A task, or the agent, blocks: it leaves the ready queues and keeps no level.

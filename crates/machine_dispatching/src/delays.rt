@@ -9,7 +9,7 @@ use crate::placing::to_tail;
 use ann_base::{Moment, NoMemory};
 use machine_frames::Effect;
 use machine_operators::Program;
-use profile_machine::world::{Due, Part, Waiting, World};
+use profile_machine::world::{Due, Part, Waiting};
 use trace_text::Who;
 
 // A task that waits for a moment blocks; where the moment is not in the future it goes to the tail.
@@ -36,10 +36,11 @@ fn wait_until(
     }
 }
 
-fn is_ahead(world: &World, until: Moment) -> bool
-    ensures { result ≡ int_lt (pos world.now.time) until }
+/// Whether a moment is in the future. The present is never below 0.
+pub fn is_ahead(time: u64, moment: Moment) -> bool
+    ensures { result ≡ int_lt (pos time) moment }
 {
-    i128::from(world.time) < i128::from(until)
+    i128::from(time) < i128::from(moment)
 }
 
 /// The one with this name waits for a moment.
@@ -47,6 +48,6 @@ fn is_ahead(world: &World, until: Moment) -> bool
 pub fn delay_to(p: &Program, effect: &mut Effect, name: Who, until: Moment) -> Result<(), NoMemory>
     ensures { OnOk result (Did (delay_to p.now name until) effect.old effect.new) }
 {
-    let future = is_ahead(&effect.world, until);
+    let future = is_ahead(effect.world.time, until);
     wait_until(p, effect, name, until, future)
 }

@@ -95,7 +95,8 @@ pub fn take_out(places: &mut List<Placed>, who: Who)
 /// The ready queues follow a line: `ready` places, `block` and `done` take out, no other line moves anybody. That
 /// holds whatever the names are with which the line is written.
 pub fn places_after(places: &mut List<Placed>, line: &Line) -> Result<(), NoMemory>
-    ensures { OnOk result ((p : Image) → places.new ≡ places_after (event_of p line.now) places.old) }
+    ensures { OnOk result
+        ((p : Image) → places.new ≡ places_after (event_of p line.now) places.old) }
 {
     match line {
         Line::Ready {

@@ -14,7 +14,9 @@ use world_tables::List;
 
 // Whether everybody inside an object has a later deadline, or its ceiling is another level.
 fn is_later_inside(world: &World, object: &Object, level: Level, deadline: Moment) -> bool
-    ensures { result ≡ all_later deadline (of_level level (inside_object world.now object.now.ceiling object.now.actions)) }
+    ensures { result
+        ≡ all_later deadline
+        (of_level level (inside_object world.now object.now.ceiling object.now.actions)) }
 {
     for action in object.actions.iter() {
         if object.ceiling == level && deadline_of(world, action.who) <= deadline {
@@ -27,7 +29,8 @@ fn is_later_inside(world: &World, object: &Object, level: Level, deadline: Momen
 // Whether everybody inside the objects of this ceiling has a later deadline.
 #[tactic(auto, using(crate::proofs::LevelLemmas::later_laws))]
 fn are_later_inside(world: &World, level: Level, deadline: Moment) -> bool
-    ensures { result ≡ all_later deadline (of_level level (inside_objects world.now world.now.objects)) }
+    ensures { result
+        ≡ all_later deadline (of_level level (inside_objects world.now world.now.objects)) }
 {
     for object in world.objects.iter() {
         if !is_later_inside(world, object, level, deadline) {
@@ -67,7 +70,10 @@ fn is_rival(name: Who, task: &Task) -> bool
 
 // Whether the task may keep the ceiling of somebody inside.
 fn may_stand_at(p: &Program, world: &World, task: &Task, low: Level, ceiling: Level) -> bool
-    ensures { result ≡ may_stand_at low task.now.base task.now.deadline (inside_objects world.now world.now.objects) (ready_rivals p.now task.now.who world.now.tasks) ceiling }
+    ensures { result
+        ≡ may_stand_at low task.now.base task.now.deadline
+        (inside_objects world.now world.now.objects)
+        (ready_rivals p.now task.now.who world.now.tasks) ceiling }
 {
     ceiling < task.base
         && are_later_inside(world, ceiling, task.deadline)
@@ -84,7 +90,12 @@ fn level_inside(
     object: &Object,
     least: Level,
 ) -> Level
-    ensures { result ≡ greatest_level (may_stand_at low task.now.base task.now.deadline (inside_objects world.now world.now.objects) (ready_rivals p.now task.now.who world.now.tasks)) (inside_object world.now object.now.ceiling object.now.actions) least }
+    ensures { result
+        ≡ greatest_level
+        (may_stand_at low task.now.base task.now.deadline
+        (inside_objects world.now world.now.objects)
+        (ready_rivals p.now task.now.who world.now.tasks))
+        (inside_object world.now object.now.ceiling object.now.actions) least }
 {
     if !object.actions.is_empty() && may_stand_at(p, world, task, low, object.ceiling) {
         object.ceiling.max(least)
@@ -97,7 +108,10 @@ fn level_inside(
 /// an object in which somebody is and which it may enter, and no less than `low` and what it inherits.
 #[tactic(auto, using(crate::proofs::LevelLemmas::level_laws))]
 pub fn edf_level(p: &Program, world: &World, task: &Task, low: Level, inherited: Level) -> Level
-    ensures { result ≡ edf_level low task.now.base inherited task.now.deadline (inside_objects world.now world.now.objects) (ready_rivals p.now task.now.who world.now.tasks) }
+    ensures { result
+        ≡ edf_level low task.now.base inherited task.now.deadline
+        (inside_objects world.now world.now.objects)
+        (ready_rivals p.now task.now.who world.now.tasks) }
 {
     let least = low.max(inherited);
     let mut greatest = least;

@@ -19,8 +19,10 @@ fn follow(
     lines: &mut List<Line>,
     mut ordered: List<Said>,
 ) -> Result<(), NoMemory>
-    ensures places { OnOk result ((p : Image) → places.new ≡ places_after_all (said_as p ordered) places.old) }
-    ensures lines { OnOk result ((p : Image) → written p lines.new ≡ written p lines.old ++ said_as p ordered) }
+    ensures places { OnOk result
+        ((p : Image) → places.new ≡ places_after_all (said_as p ordered) places.old) }
+    ensures lines { OnOk result
+        ((p : Image) → written p lines.new ≡ written p lines.old ++ said_as p ordered) }
 {
     while let Some(said) = ordered.pop_front() {
         places_after(places, &said.line)?;
@@ -32,7 +34,8 @@ fn follow(
 /// An effect is over: its lines are put in order behind those that are there, and the ready queues follow them. What
 /// is left is an effect that has said nothing. The clause speaks of the lines as they are written, whatever the names.
 pub fn settle(alloc: Global, effect: &mut Effect, lines: &mut List<Line>) -> Result<(), NoMemory>
-    ensures settled { OnOk result ((p : Image) → Settles p effect.old lines.old effect.new.world lines.new) }
+    ensures settled { OnOk result
+        ((p : Image) → Settles p effect.old lines.old effect.new.world lines.new) }
     ensures nothing_said { OnOk result (effect.new.said ≡ []) }
 {
     let ordered = in_order(alloc, &mut effect.said)?;

@@ -1,22 +1,20 @@
 //! Calls of protected entries (ISO/IEC 8652:2012, 9.5.3): tested first, then made. A call runs at
 //! once where the barrier is open.
-ghost use Rattle.std.specs.Prelude.{◌≡◌, ◌+◌, OnOk};
+ghost use Rattle.std.specs.Prelude.{◌≡◌, OnOk};
 ghost use Rattle.profile_machine.specs.EntryCalls.{make_call, call_runs, call_without_room, has_room_for_action, call_runs_if_room, call_passes, call_refused, call_closed, call_by_barrier, call_object};
-ghost use Rattle.profile_machine.specs.Program.{marks_of};
 ghost use Rattle.machine_frames.specs.Did.{Did};
 ghost use Rattle.machine_entry_calls.specs.Objects.{enters, starts, fails, exits, called_by_barrier};
 
 use crate::making::{end_at_once, has_room_if_queued, make_call};
 use ann_base::{NoMemory, ObjectNo, Raised};
-use machine_frames::{Effect, has_room, raises, says};
-use machine_operators::{Program, form_of, opens_handled, scope_of};
-use machine_protected::{
+use machine_exclusion::{
     begin_action_on, begin_call, body_opens, body_scope_of, entering, find_held, has_room_for_body,
-    is_barrier_open,
+    is_barrier_open, marks_of_action,
 };
+use machine_frames::{Effect, has_room, raises, says};
+use machine_operators::{Program, scope_of};
 use machine_queues::{enqueue, is_full};
 use machine_sending::not_accepted;
-use profile_machine::ScopeNo;
 use profile_machine::world::{Call, Entering, Line, MeetingEnd, Part, World};
 use std::alloc::Global;
 use trace_text::{Mode, Who};
@@ -110,16 +108,6 @@ fn call_without_room(effect: &mut Effect, o: ObjectNo, c: &Call) -> Result<(), N
     end_at_once(effect, Part::Own, c, Raised::Storage)
 }
 
-// How many marks a call opens: the action, and what opens with the body.
-fn marks_of_action(p: &Program, scope: ScopeNo) -> u32
-    ensures { result ≡ 1 + marks_of p.now scope }
-{
-    match scope_of(p, scope).first {
-        Some(s) if opens_handled(form_of(p, s)) => 3,
-        _ => 2,
-    }
-}
-
 fn has_room_for_action(p: &Program, world: &World, c: &Call) -> bool
     ensures { result ≡ has_room_for_action p.now world.now c.now }
 {
@@ -152,7 +140,8 @@ fn make_running(
     o: ObjectNo,
     c: Call,
 ) -> Result<(), NoMemory>
-    ensures { OnOk result (Did (make_call p.now c (call_runs_if_room p.now o)) effect.old effect.new) }
+    ensures { OnOk result
+        (Did (make_call p.now c (call_runs_if_room p.now o)) effect.old effect.new) }
 {
     let made = make_call(p, effect, c)?;
     call_runs_if_room(alloc, p, effect, o, &made)

@@ -2,30 +2,18 @@
 ghost use Rattle.std.specs.Prelude.{◌≡◌, OnOk};
 ghost use Rattle.profile_machine.specs.Calls.{edit_call};
 ghost use Rattle.profile_machine.specs.EntryCalls.{with_sending, mark_sending, requeue};
-ghost use Rattle.profile_machine.specs.Frames.{frames_of};
-ghost use Rattle.profile_machine.specs.Subprograms.{call_that_returns};
 ghost use Rattle.machine_frames.specs.Did.{Did};
 
 use crate::owners::owner_of_entry;
 use ann_base::{CallNo, NoMemory};
-use machine_frames::{Effect, leaves, raises, task_at};
+use machine_frames::{Effect, leaves, raises};
 use machine_operators::Program;
 use machine_queues::call_mut;
-use machine_statements::call_that_returns;
+use machine_statements::call_returned;
 use machine_values::seen_by;
 use profile_machine::world::{Owner, Part, Sending, World};
 use profile_machine::{EntryNo, EntryOwner, Leaving};
 use trace_text::Who;
-
-// The call of the accept or entry body in which the one with this name stands.
-fn call_served(world: &World, name: Who) -> Option<CallNo>
-    ensures { result ≡ call_that_returns (frames_of world.now name) }
-{
-    match task_at(world, name) {
-        Some(task) => call_that_returns(&task.frames),
-        None => None,
-    }
-}
 
 // The call is to be sent on, once the marks are left.
 fn mark_sending(
@@ -71,7 +59,7 @@ pub fn requeue(
 {
     match owner_of_entry(&seen_by(p, &effect.world, name), e, o) {
         Ok(owner) => {
-            let c = call_served(&effect.world, name);
+            let c = call_returned(&effect.world, name);
             mark_sending(&mut effect.world, c, owner, e, with_abort);
             leaves(effect, name, Leaving::Return);
             Ok(())

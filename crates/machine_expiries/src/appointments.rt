@@ -13,9 +13,9 @@ use ann_base::{CallNo, NoMemory};
 use machine_calls::{deliver, trigger_at, unwind};
 use machine_dispatching::{DueOf, drop_appointment, first_due, ready, settle};
 use machine_frames::{Effect, goes, open_sequence, says, waiting_of};
-use machine_handlers::release;
 use machine_operators::{Program, next_of};
 use machine_queues::{copied_call, unqueued};
+use machine_releases::release;
 use profile_machine::world::{Due, Line, Outcome, Part, Waiting, World};
 use std::alloc::Global;
 use trace_text::Who;
@@ -91,7 +91,8 @@ fn come_due(p: &Program, effect: &mut Effect, due: Due) -> Result<(), NoMemory>
 
 // What is due first.
 fn due_now(world: &World, events: bool) -> Option<Due>
-    ensures { result ≡ option_map (λ a. a.due) (first_due events world.now.time world.now.appointments) }
+    ensures { result
+        ≡ option_map (λ a. a.due) (first_due events world.now.time world.now.appointments) }
 {
     Some(first_due(events, world.time, &world.appointments)?.due)
 }
@@ -124,7 +125,8 @@ pub fn appointments_due(
     lines: &mut List<Line>,
 ) -> Result<(), NoMemory>
     requires { effect.old.said ≡ [] }
-    ensures { OnOk result (Moved p.now (appointments_due p.now events) effect.old lines.old effect.new lines.new) }
+    ensures { OnOk result
+        (Moved p.now (appointments_due p.now events) effect.old lines.old effect.new lines.new) }
 {
     all_due(effect.world.appointments.len(), p, events, effect)?;
     settle(alloc, effect, lines)

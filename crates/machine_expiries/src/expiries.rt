@@ -11,8 +11,8 @@ ghost use Rattle.machine_expiries.specs.Moved.{Moved};
 use ann_base::NoMemory;
 use machine_dispatching::{active, settle, to_tail};
 use machine_frames::{Effect, any_protected, is_runnable, says, task_at};
-use machine_handlers::{clear_timer, release};
 use machine_operators::{Program, is_robin_level};
+use machine_releases::{clear_timer, release};
 use machine_values::{budget_of, timer_of};
 use profile_machine::world::{Line, Part, Task, TimerSetting, World};
 use std::alloc::Global;
@@ -75,7 +75,8 @@ pub fn timers_due(
     lines: &mut List<Line>,
 ) -> Result<(), NoMemory>
     requires { effect.old.said ≡ [] }
-    ensures { OnOk result (Moved p.now (timers_due p.now) effect.old lines.old effect.new lines.new) }
+    ensures { OnOk result
+        (Moved p.now (timers_due p.now) effect.old lines.old effect.new lines.new) }
 {
     let timers = copied(alloc, &effect.world.timers_due)?;
     expire_all(p, effect, &timers)?;
@@ -112,7 +113,8 @@ pub fn budgets_due(
     lines: &mut List<Line>,
 ) -> Result<(), NoMemory>
     requires { effect.old.said ≡ [] }
-    ensures { OnOk result (Moved p.now (budgets_due p.now) effect.old lines.old effect.new lines.new) }
+    ensures { OnOk result
+        (Moved p.now (budgets_due p.now) effect.old lines.old effect.new lines.new) }
 {
     let budget = effect.world.budget_due;
     run_out_if_due(p, effect, budget)?;
@@ -169,7 +171,8 @@ pub fn quantum_spent(
     lines: &mut List<Line>,
 ) -> Result<(), NoMemory>
     requires { effect.old.said ≡ [] }
-    ensures { OnOk result (Moved p.now (quantum_spent p.now) effect.old lines.old effect.new lines.new) }
+    ensures { OnOk result
+        (Moved p.now (quantum_spent p.now) effect.old lines.old effect.new lines.new) }
 {
     let ran = effect.world.ran;
     spend_quantum(p, effect, ran)?;

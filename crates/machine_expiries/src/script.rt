@@ -1,16 +1,16 @@
 //! The items of the script whose moment has come (docs/LANGUAGE.md): interrupts, ports and masks.
-ghost use Rattle.std.specs.Prelude.{◌≡◌, [], OnOk, int_le, pos, option_copied};
-ghost use Rattle.profile_machine.specs.Instant.{is_flag, with_port, with_masked, with_kept_interrupt, interrupt_comes, deliver_kept_interrupt, script_item, take_item, items_due, script_items};
+ghost use Rattle.std.specs.Prelude.{◌≡◌, [], OnOk};
+ghost use Rattle.profile_machine.specs.Instant.{is_flag, with_port, with_masked, with_kept_interrupt, interrupt_comes, deliver_kept_interrupt, script_item, items_due, script_items};
 ghost use Rattle.profile_machine.specs.Words.{edit_at};
 ghost use Rattle.profile_machine.specs.declared.run_data.Item.TheVariants as item;
 ghost use Rattle.machine_frames.specs.Did.{Did};
 ghost use Rattle.machine_expiries.specs.Moved.{Moved};
 
-use ann_base::{Moment, NoMemory};
-use machine_dispatching::settle;
+use ann_base::NoMemory;
+use machine_dispatching::{has_come, settle};
 use machine_frames::{Effect, says};
-use machine_handlers::interrupt;
 use machine_operators::Program;
+use machine_releases::interrupt;
 use profile_machine::Item;
 use profile_machine::world::{Line, Part, World};
 use std::alloc::Global;
@@ -125,13 +125,6 @@ fn script_item(p: &Program, effect: &mut Effect, item: Item) -> Result<(), NoMem
     }
 }
 
-// Whether a moment has come. The present is never below 0.
-fn has_come(moment: Moment, time: u64) -> bool
-    ensures { result ≡ int_le moment (pos time) }
-{
-    i128::from(moment) <= i128::from(time)
-}
-
 #[tactic(auto, unfolding(profile_machine::specs::Instant::items_due), using(crate::proofs::FuelLemmas::items_laws))]
 fn items_due(fuel: usize, p: &Program, effect: &mut Effect) -> Result<(), NoMemory>
     ensures { OnOk result (Did (items_due fuel p.now) effect.old effect.new) }
@@ -161,7 +154,8 @@ pub fn script_items(
     lines: &mut List<Line>,
 ) -> Result<(), NoMemory>
     requires { effect.old.said ≡ [] }
-    ensures { OnOk result (Moved p.now (script_items p.now) effect.old lines.old effect.new lines.new) }
+    ensures { OnOk result
+        (Moved p.now (script_items p.now) effect.old lines.old effect.new lines.new) }
 {
     items_due(effect.world.script.len(), p, effect)?;
     settle(alloc, effect, lines)

@@ -1,9 +1,6 @@
 mod BudgetLemmas
-mod EditLemmas
 mod EventLemmas
 mod GivenLemmas
 mod MemberLemmas
-mod OkLemmas
 mod SettingLemmas
-mod TickLemmas
 mod TimerLemmas

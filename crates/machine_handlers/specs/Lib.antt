@@ -1,3 +1,2 @@
 pub mod SettingSteps
 pub mod Settings
-pub mod Ticks

@@ -4,9 +4,10 @@ ghost use Rattle.profile_machine.specs.Handlers.{argument_values, scope_size_of,
 ghost use Rattle.machine_frames.specs.Did.{Did};
 
 use ann_base::NoMemory;
+use machine_exclusion::{begin_action_on, body_of_object, entering, find_held};
 use machine_frames::{Effect, has_room};
 use machine_operators::{Program, marks_of, scope_of, subprogram_of};
-use machine_protected::{begin_action_on, body_of_object, end_release, entering, find_held};
+use machine_protected::end_release;
 use machine_values::open_scope;
 use profile_machine::world::{Entering, Purpose, Release, ResultTo};
 use profile_machine::{ScopeNo, Value};

@@ -2,69 +2,21 @@
 ghost use Rattle.std.specs.Prelude.{◌≡◌, OnOk};
 ghost use Rattle.ann_base.specs.Answers.{Answers};
 ghost use Rattle.profile_machine.specs.Handlers.{loaded, raised_by, with_handler, edit_budget, replenish, add_to_budget, set_budget, cancel_budget};
-ghost use Rattle.profile_machine.specs.Words.{edit_at};
 ghost use Rattle.machine_frames.specs.Did.{Did};
 ghost use Rattle.machine_handlers.specs.Settings.{amount_named, budget_setting};
 ghost use Rattle.machine_handlers.specs.SettingSteps.{budget_changes, budget_is_cancelled};
 
 use crate::events::answer;
-use crate::releases::has_room_for_release;
-use crate::settings::{Named, handler_named, held_sum, is_interrupt_handler, thing_named};
+use crate::settings::{Named, handler_named, is_interrupt_handler, thing_named};
 use ann_base::{Moment, NoMemory, OrMemory, Raised};
 use machine_frames::{Effect, goes};
 use machine_operators::{Program, next_of};
+use machine_releases::{has_room_for_release, load, raise_by, set_handler};
 use machine_statements::refused;
 use machine_values::{Seen, budget_of, moment, number_of_thing, or_raised, seen_by};
-use profile_machine::world::{Budget, HandlerOf, World};
+use profile_machine::world::{HandlerOf, World};
 use profile_machine::{DeclNo, ExprNo, HandlerName, StatementNo, VariableName};
 use trace_text::Who;
-use world_tables::List;
-
-fn loaded(amount: Moment, budget: Budget) -> Budget
-    ensures { result ≡ loaded amount budget }
-{
-    Budget {
-        remaining: amount,
-        handler: budget.handler,
-    }
-}
-
-// A sum past the last time is held there.
-fn raised_by(amount: Moment, budget: Budget) -> Budget
-    ensures { result ≡ raised_by amount budget }
-{
-    Budget {
-        remaining: held_sum(budget.remaining, amount),
-        handler: budget.handler,
-    }
-}
-
-#[tactic(auto, using(crate::proofs::EditLemmas::none_edited))]
-fn load(budgets: &mut List<Budget>, b: u32, amount: Moment)
-    ensures { budgets.new ≡ edit_at b (loaded amount) budgets.old }
-{
-    if let Some(budget) = budgets.get_mut(b as usize) {
-        *budget = loaded(amount, *budget);
-    }
-}
-
-#[tactic(auto, using(crate::proofs::EditLemmas::none_edited))]
-fn raise_by(budgets: &mut List<Budget>, b: u32, amount: Moment)
-    ensures { budgets.new ≡ edit_at b (raised_by amount) budgets.old }
-{
-    if let Some(budget) = budgets.get_mut(b as usize) {
-        *budget = raised_by(amount, *budget);
-    }
-}
-
-#[tactic(auto, using(crate::proofs::EditLemmas::none_edited))]
-fn set_handler(budgets: &mut List<Budget>, b: u32, handler: Option<HandlerOf>)
-    ensures { budgets.new ≡ edit_at b (with_handler handler) budgets.old }
-{
-    if let Some(budget) = budgets.get_mut(b as usize) {
-        budget.handler = handler;
-    }
-}
 
 // A budget with a positive amount.
 #[derive(Clone, Copy)]

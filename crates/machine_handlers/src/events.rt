@@ -1,19 +1,19 @@
 //! Timing events (ISO/IEC 8652:2012, D.15).
-ghost use Rattle.std.specs.Prelude.{◌≡◌, OnOk, int_lt, pos};
+ghost use Rattle.std.specs.Prelude.{OnOk};
 ghost use Rattle.profile_machine.specs.Handlers.{answer, appoint_event, event_set_to, set_event, cancel_event};
 ghost use Rattle.machine_frames.specs.Did.{Did};
 ghost use Rattle.machine_handlers.specs.SettingSteps.{event_is_set, event_is_cancelled};
 
-use crate::releases::release;
 use crate::settings::{Named, Set, event_setting, thing_named};
 use ann_base::{Moment, NoMemory};
 use machine_calls::store;
-use machine_dispatching::{DueOf, appoint, drop_appointment, is_appointed};
+use machine_dispatching::{DueOf, appoint, drop_appointment, is_ahead, is_appointed};
 use machine_frames::{Effect, goes};
 use machine_operators::{Program, next_of};
+use machine_releases::release;
 use machine_statements::refused;
 use machine_values::seen_by;
-use profile_machine::world::{Due, HandlerOf, Part, Variable, World};
+use profile_machine::world::{Due, HandlerOf, Part, Variable};
 use profile_machine::{DeclNo, HandlerName, Setting, StatementNo, Value, VariableName};
 use trace_text::Who;
 
@@ -46,19 +46,14 @@ fn appoint_event(
     moment: Moment,
     future: bool,
 ) -> Result<(), NoMemory>
-    ensures { OnOk result (Did (appoint_event p.now event handler moment future) effect.old effect.new) }
+    ensures { OnOk result
+        (Did (appoint_event p.now event handler moment future) effect.old effect.new) }
 {
     if future {
         appoint(&mut effect.world, Due::Event(event, handler), moment)
     } else {
         release(p, effect, Part::Own, handler, Some(event))
     }
-}
-
-fn is_ahead(world: &World, moment: Moment) -> bool
-    ensures { result ≡ int_lt (pos world.now.time) moment }
-{
-    i128::from(world.time) < i128::from(moment)
 }
 
 #[tactic(auto, unfolding(profile_machine::specs::Handlers::event_set_to))]
@@ -73,7 +68,7 @@ fn event_set_to(
 {
     match handler {
         Some(handler) => {
-            let future = is_ahead(&effect.world, moment);
+            let future = is_ahead(effect.world.time, moment);
             appoint_event(p, effect, event, handler, moment, future)
         }
         None => Ok(()),

@@ -71,7 +71,8 @@ fn member_changes(
     is_right: bool,
     budget: Option<u32>,
 ) -> Result<(), NoMemory>
-    ensures { OnOk result (Did (member_changes p.now name s who is_right budget) effect.old effect.new) }
+    ensures { OnOk result
+        (Did (member_changes p.now name s who is_right budget) effect.old effect.new) }
 {
     if is_right {
         goes(effect, name, next_of(p, s));

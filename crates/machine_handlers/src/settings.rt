@@ -1,44 +1,18 @@
 //! Handlers and moments that a setting names (ISO/IEC 8652:2012, D.14, D.15).
-ghost use Rattle.std.specs.Prelude.{◌≡◌, ◌+ℤ◌, pos};
+ghost use Rattle.std.specs.Prelude.{◌≡◌, pos};
 ghost use Rattle.ann_base.specs.Answers.{Answers};
 ghost use Rattle.profile_machine.specs.Handlers.{handler_named, set_value, is_interrupt_handler, clock_of_timer};
-ghost use Rattle.profile_machine.specs.Operators.{held_moment};
 ghost use Rattle.machine_handlers.specs.Settings.{set_with, event_setting, timer_setting, thing_named, timer_named};
 
-use crate::releases::has_room_for_release;
 use ann_base::{Moment, OrMemory, Raised};
+use machine_exclusion::ceiling_of;
 use machine_operators::{Program, interrupt_priority};
-use machine_protected::ceiling_of;
+use machine_releases::{has_room_for_release, held_behind};
 use machine_values::{
     Seen, live_task, moment, number_of_thing, object_number, or_raised, timer_of, variable,
 };
 use profile_machine::world::{HandlerOf, Variable, World};
 use profile_machine::{DeclNo, HandlerName, Setting, VariableName};
-
-const TIME_FIRST: i128 = -4_611_686_018_427_387_904;
-
-const TIME_LAST: i128 = 4_611_686_018_427_387_903;
-
-// A moment that would be beyond an end of all times is that end.
-fn held(n: i128) -> Moment
-    ensures { result ≡ held_moment n }
-{
-    n.clamp(TIME_FIRST, TIME_LAST) as Moment
-}
-
-/// A span behind a moment from the start of the run, held between the ends of all times.
-pub(crate) fn held_behind(base: u64, span: Moment) -> Moment
-    ensures { result ≡ held_moment (pos base +ℤ span) }
-{
-    held(i128::from(base) + i128::from(span))
-}
-
-/// A sum of spans, held between the ends of all times.
-pub(crate) fn held_sum(a: Moment, b: Moment) -> Moment
-    ensures { result ≡ held_moment (a +ℤ b) }
-{
-    held(i128::from(a) + i128::from(b))
-}
 
 /// The handler that has this name.
 ///

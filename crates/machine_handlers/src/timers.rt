@@ -1,46 +1,20 @@
 //! Timers of tasks (ISO/IEC 8652:2012, D.14.1).
-ghost use Rattle.std.specs.Prelude.{◌≡◌, OnOk, eqb};
-ghost use Rattle.profile_machine.specs.Handlers.{without_number, with_setting, clear_timer, with_timer_set, timer_set_beyond, timer_set_to, set_timer, is_set_timer, cancel_timer};
-ghost use Rattle.profile_machine.specs.Words.{edit_at};
+ghost use Rattle.std.specs.Prelude.{◌≡◌, OnOk};
+ghost use Rattle.profile_machine.specs.Handlers.{clear_timer, with_timer_set, timer_set_beyond, timer_set_to, set_timer, is_set_timer, cancel_timer};
 ghost use Rattle.machine_frames.specs.Did.{Did};
 ghost use Rattle.machine_handlers.specs.SettingSteps.{timer_is_set, timer_is_cancelled};
 
 use crate::events::answer;
-use crate::releases::release;
 use crate::settings::{Named, Set, timer_named, timer_setting};
 use ann_base::{Moment, NoMemory};
 use machine_frames::{Effect, goes};
 use machine_operators::{Program, next_of};
+use machine_releases::{clear_timer, release, set_in};
 use machine_statements::refused;
 use machine_values::{seen_by, timer_of};
-use profile_machine::world::{HandlerOf, Part, Timer, TimerSetting, World};
+use profile_machine::world::{HandlerOf, Part, TimerSetting, World};
 use profile_machine::{DeclNo, HandlerName, Setting, StatementNo, VariableName};
 use trace_text::Who;
-use world_tables::List;
-
-fn drop_number(numbers: &mut List<u32>, k: u32)
-    ensures { numbers.new ≡ without_number k numbers.old }
-{
-    numbers.retain(|number| k != *number);
-}
-
-#[tactic(auto, using(crate::proofs::EditLemmas::none_edited))]
-fn set_in(timers: &mut List<Timer>, k: u32, setting: Option<TimerSetting>)
-    ensures { timers.new ≡ edit_at k (with_setting setting) timers.old }
-{
-    if let Some(timer) = timers.get_mut(k as usize) {
-        timer.setting = setting;
-    }
-}
-
-/// A timer is not set, and what the last tick made due of it is undone.
-pub fn clear_timer(world: &mut World, k: u32)
-    ensures { world.new ≡ clear_timer k world.old }
-{
-    set_in(&mut world.timers, k, None);
-    drop_number(&mut world.timers_set, k);
-    drop_number(&mut world.timers_due, k);
-}
 
 fn with_timer_set(
     world: &mut World,
@@ -65,7 +39,8 @@ fn timer_set_beyond(
     value: Moment,
     beyond: bool,
 ) -> Result<(), NoMemory>
-    ensures { OnOk result (Did (timer_set_beyond p.now k handler value beyond) effect.old effect.new) }
+    ensures { OnOk result
+        (Did (timer_set_beyond p.now k handler value beyond) effect.old effect.new) }
 {
     if beyond {
         with_timer_set(&mut effect.world, k, handler, value)

@@ -1,5 +1,7 @@
 //! The kernel: it opens a run, and goes on by at most one line a call.
 ghost use Rattle.std.specs.Prelude.{◌≡◌, ◌≤◌, ◌<◌, ◌+◌, ℕ, [], Some, None, true, false, IsTrue, length};
+ghost use Rattle.trace_text.specs.declared.buffer.TheConstants.{BUFFER_BYTES};
+ghost use Rattle.trace_text.specs.declared.write.TheConstants.{LINE_BYTES};
 ghost use Rattle.machine_kernel.specs.Reached.{is_in_time};
 ghost use Rattle.machine_ticks.specs.declared.stops.Stopped.TheVariants as stopped;
 
@@ -104,20 +106,23 @@ impl Kernel {
     }
 
     /// Appends the first owed line; where none is owed, goes on by an instant or a tock, until a stop is reached.
-    /// It needs 1,100 free bytes. After an error the kernel is not used again.
+    /// It needs LINE_BYTES free bytes. After an error the kernel is not used again.
     ///
     /// Errors: memory ran out, or a line has a name or a text that no trace can have.
     pub fn next(&mut self, out: &mut LineBuffer) -> Result<Next, NoMemory>
-        requires { length out.old + 1100 ≤ 65536 }
+        requires { length out.old + LINE_BYTES ≤ BUFFER_BYTES }
         ensures step { OnOk result (shown self.new ≡ advanced (shown self.old)) }
         ensures told { OnOk result (out.new ≡ out.old ++ written_of (shown self.old).owed) }
         ensures printable { OnOk result (ArePrintable (first_line (shown self.old).owed)) }
         ensures err { OnErr result (out.new ≡ out.old) }
-        ensures future { OnOk result (out.new ++ text_of (future self.new) ≡ out.old ++ text_of (future self.old)) }
-        ensures lines { OnOk result (first_line (shown self.old).owed ++ future self.new ≡ future self.old) }
+        ensures future { OnOk result
+            (out.new ++ text_of (future self.new) ≡ out.old ++ text_of (future self.old)) }
+        ensures lines { OnOk result
+            (first_line (shown self.old).owed ++ future self.new ≡ future self.old) }
         ensures stop { OnOk result (stop_to_come self.new ≡ stop_to_come self.old) }
         ensures going { IfOk result (IfGoing (left_to_do self.new < left_to_do self.old)) }
-        ensures ended { IfOk result (IfEnded (λ why. (future self.old ≡ []) × (why ≡ stop_to_come self.old))) }
+        ensures ended { IfOk result
+            (IfEnded (λ why. (future self.old ≡ []) × (why ≡ stop_to_come self.old))) }
     {
         instants_take_no_time();
         tocks_take_one_tick();
@@ -127,13 +132,15 @@ impl Kernel {
 
     /// One step: an owed line is told, or the run goes on.
     fn step(&mut self, out: &mut LineBuffer) -> Result<Next, NoMemory>
-        requires { length out.old + 1100 ≤ 65536 }
+        requires { length out.old + LINE_BYTES ≤ BUFFER_BYTES }
         ensures step { OnOk result (shown self.new ≡ advanced (shown self.old)) }
         ensures told { OnOk result (out.new ≡ out.old ++ written_of (shown self.old).owed) }
         ensures printable { OnOk result (ArePrintable (first_line (shown self.old).owed)) }
         ensures err { OnErr result (out.new ≡ out.old) }
-        ensures going { IfOk result (IfGoing ((shown self.old).owed ≡ [] → (shown self.old).stop ≡ None)) }
-        ensures ended { IfOk result (IfEnded (λ why. ((shown self.old).owed ≡ []) × ((shown self.old).stop ≡ Some why))) }
+        ensures going { IfOk result
+            (IfGoing ((shown self.old).owed ≡ [] → (shown self.old).stop ≡ None)) }
+        ensures ended { IfOk result
+            (IfEnded (λ why. ((shown self.old).owed ≡ []) × ((shown self.old).stop ≡ Some why))) }
     {
         match self.said.front() {
             Some(line) => {
@@ -148,14 +155,16 @@ impl Kernel {
 
     /// A line of a tock is told, where none of an instant is owed.
     fn tell_tick(&mut self, out: &mut LineBuffer) -> Result<Next, NoMemory>
-        requires room { length out.old + 1100 ≤ 65536 }
+        requires room { length out.old + LINE_BYTES ≤ BUFFER_BYTES }
         requires said { self.old.said ≡ [] }
         ensures step { OnOk result (shown self.new ≡ advanced (shown self.old)) }
         ensures told { OnOk result (out.new ≡ out.old ++ written_of (shown self.old).owed) }
         ensures printable { OnOk result (ArePrintable (first_line (shown self.old).owed)) }
         ensures err { OnErr result (out.new ≡ out.old) }
-        ensures going { IfOk result (IfGoing ((shown self.old).owed ≡ [] → (shown self.old).stop ≡ None)) }
-        ensures ended { IfOk result (IfEnded (λ why. ((shown self.old).owed ≡ []) × ((shown self.old).stop ≡ Some why))) }
+        ensures going { IfOk result
+            (IfGoing ((shown self.old).owed ≡ [] → (shown self.old).stop ≡ None)) }
+        ensures ended { IfOk result
+            (IfEnded (λ why. ((shown self.old).owed ≡ []) × ((shown self.old).stop ≡ Some why))) }
     {
         match self.ticks.front() {
             Some(line) => {
@@ -170,15 +179,17 @@ impl Kernel {
 
     /// The last line of the run is told, where no other is owed.
     fn tell_last(&mut self, out: &mut LineBuffer) -> Result<Next, NoMemory>
-        requires room { length out.old + 1100 ≤ 65536 }
+        requires room { length out.old + LINE_BYTES ≤ BUFFER_BYTES }
         requires said { self.old.said ≡ [] }
         requires ticks { self.old.ticks ≡ [] }
         ensures step { OnOk result (shown self.new ≡ advanced (shown self.old)) }
         ensures told { OnOk result (out.new ≡ out.old ++ written_of (shown self.old).owed) }
         ensures printable { OnOk result (ArePrintable (first_line (shown self.old).owed)) }
         ensures err { OnErr result (out.new ≡ out.old) }
-        ensures going { IfOk result (IfGoing ((shown self.old).owed ≡ [] → (shown self.old).stop ≡ None)) }
-        ensures ended { IfOk result (IfEnded (λ why. ((shown self.old).owed ≡ []) × ((shown self.old).stop ≡ Some why))) }
+        ensures going { IfOk result
+            (IfGoing ((shown self.old).owed ≡ [] → (shown self.old).stop ≡ None)) }
+        ensures ended { IfOk result
+            (IfEnded (λ why. ((shown self.old).owed ≡ []) × ((shown self.old).stop ≡ Some why))) }
     {
         match self.last {
             Some(stopped) => {
@@ -196,7 +207,8 @@ impl Kernel {
         requires said { self.old.said ≡ [] }
         requires ticks { self.old.ticks ≡ [] }
         requires last { self.old.last ≡ None }
-        ensures step { OnOk result (shown self.new ≡ unless_stopped (shown self.old).stop (shown self.old)) }
+        ensures step { OnOk result
+            (shown self.new ≡ unless_stopped (shown self.old).stop (shown self.old)) }
         ensures going { IfOk result (IfGoing ((shown self.old).stop ≡ None)) }
         ensures ended { IfOk result (IfEnded (λ why. (shown self.old).stop ≡ Some why)) }
     {
@@ -231,7 +243,10 @@ impl Kernel {
         requires last { self.old.last ≡ None }
         requires running { self.old.stop ≡ None }
         requires at_instant { self.old.at_instant ≡ true }
-        ensures { OnOk result (shown self.new ≡ after_instant (shown self.old) (instant (shown self.old).program (shown self.old).world)) }
+        ensures { OnOk result
+            (shown self.new
+            ≡ after_instant (shown self.old)
+            (instant (shown self.old).program (shown self.old).world)) }
     {
         instants_take_no_time();
         let now = self.effect.world.time;
@@ -258,7 +273,9 @@ impl Kernel {
         requires last { self.old.last ≡ None }
         requires running { self.old.stop ≡ None }
         requires at_tock { self.old.at_instant ≡ false }
-        ensures { OnOk result (shown self.new ≡ after_tock (shown self.old) (tock (shown self.old).program (shown self.old).world)) }
+        ensures { OnOk result
+            (shown self.new
+            ≡ after_tock (shown self.old) (tock (shown self.old).program (shown self.old).world)) }
     {
         tocks_take_one_tick();
         let now = self.effect.world.time;

@@ -173,7 +173,8 @@ fn called(
     entry: EntryNo,
     priority: Level,
 ) -> Result<Event, NoMemory>
-    ensures event { IfOk result (λ event. event ≡ event_of p.now (line.Call task call owner entry priority)) }
+    ensures event { IfOk result
+        (λ event. event ≡ event_of p.now (line.Call task call owner entry priority)) }
     ensures printable { IfOk result IsPrintable }
 {
     let entry = name_of_entry(p, owner, entry)?;
@@ -200,7 +201,8 @@ fn initialized(
     region: RegionNo,
     declared: DeclNo,
 ) -> Result<Event, NoMemory>
-    ensures event { IfOk result (λ event. event ≡ event_of p.now (line.Init who object region declared)) }
+    ensures event { IfOk result
+        (λ event. event ≡ event_of p.now (line.Init who object region declared)) }
     ensures printable { IfOk result IsPrintable }
 {
     let name = name(declaration_of(p, declared).name.as_slice())?;

@@ -98,7 +98,8 @@ fn end_activation_by(
     failed: bool,
     activator: Option<Who>,
 ) -> Result<(), NoMemory>
-    ensures { OnOk result (Did (end_activation_by p.now actor name failed activator) effect.old effect.new) }
+    ensures { OnOk result
+        (Did (end_activation_by p.now actor name failed activator) effect.old effect.new) }
 {
     match activator {
         Some(activator) => {

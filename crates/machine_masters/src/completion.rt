@@ -41,7 +41,8 @@ fn all_gone_by_completion(
     actor: Who,
     calls: &List<Call>,
 ) -> Result<(), NoMemory>
-    ensures { OnOk result (Did (for_each calls.now (gone_by_completion p.now actor)) effect.old effect.new) }
+    ensures { OnOk result
+        (Did (for_each calls.now (gone_by_completion p.now actor)) effect.old effect.new) }
 {
     for call in calls.iter() {
         gone_by_completion(p, effect, actor, call)?;
@@ -106,7 +107,8 @@ fn complete_with(
     calls: &List<Call>,
     failed: bool,
 ) -> Result<(), NoMemory>
-    ensures { OnOk result (Did (complete_with p.now actor name calls.now failed) effect.old effect.new) }
+    ensures { OnOk result
+        (Did (complete_with p.now actor name calls.now failed) effect.old effect.new) }
 {
     set_completed(alloc, &mut effect.world, name)?;
     all_gone_by_completion(p, effect, actor, calls)?;

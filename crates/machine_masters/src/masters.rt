@@ -41,7 +41,9 @@ pub fn depends_on_region(world: &World, region: RegionNo, task: &Task) -> bool
 // Whether this master, or one of so many more beyond it, is a region of the task with this name.
 #[tactic(auto, using(crate::proofs::MasterLemmas::master_laws))]
 fn is_owned_beyond(world: &World, name: Who, master: RegionNo, more: usize) -> bool
-    ensures { result ≡ list_any (λ r. is_task name (owner_of world.now r)) (masters_from (suc more) world.now (Some master)) }
+    ensures { result
+        ≡ list_any (λ r. is_task name (owner_of world.now r))
+        (masters_from (suc more) world.now (Some master)) }
 {
     let Some(owner) = owner_of(world, master) else {
         return false;

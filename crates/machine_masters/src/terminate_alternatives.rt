@@ -49,7 +49,8 @@ fn all_at_terminate(world: &World, region: RegionNo) -> bool
 // Whether a region is being left, and every task that depends on it waits at an open terminate
 // alternative.
 fn may_be_left(world: &World, region: RegionNo) -> bool
-    ensures { result ≡ (is_region_being_left world.now region && all_at_terminate world.now region) }
+    ensures { result
+        ≡ (is_region_being_left world.now region && all_at_terminate world.now region) }
 {
     is_region_being_left(world, region) && all_at_terminate(world, region)
 }
@@ -57,7 +58,9 @@ fn may_be_left(world: &World, region: RegionNo) -> bool
 // Whether this master, or one of so many more beyond it, may be left.
 #[tactic(auto, using(crate::proofs::MasterLemmas::master_laws))]
 fn may_be_left_beyond(world: &World, master: RegionNo, more: usize) -> bool
-    ensures { result ≡ list_any (λ r. is_region_being_left world.now r && all_at_terminate world.now r) (masters_from (suc more) world.now (Some master)) }
+    ensures { result
+        ≡ list_any (λ r. is_region_being_left world.now r && all_at_terminate world.now r)
+        (masters_from (suc more) world.now (Some master)) }
 {
     if may_be_left(world, master) {
         return true;
@@ -92,7 +95,9 @@ pub fn leave_by_terminate(
     actor: Who,
     name: Who,
 ) -> Result<(), NoMemory>
-    ensures { OnOk result ((task : AnyTask) → task.who ≡ name → Did (leave_by_terminate p.now actor task) effect.old effect.new) }
+    ensures { OnOk result
+        ((task : AnyTask) → task.who ≡ name
+        → Did (leave_by_terminate p.now actor task) effect.old effect.new) }
 {
     drop_delay(&mut effect.world, name);
     if same_who(actor, name) {

@@ -1,12 +1,12 @@
 //! The asynchronous select (ISO/IEC 8652:2012, 9.7.4): the trigger is issued first.
-ghost use Rattle.std.specs.Prelude.{◌≡◌, OnOk, int_lt, pos};
+ghost use Rattle.std.specs.Prelude.{◌≡◌, OnOk};
 ghost use Rattle.profile_machine.specs.EntryCalls.{appoint_trigger, trigger_delay, async_delay, asynchronous_select};
 ghost use Rattle.machine_frames.specs.Did.{Did};
 
 use crate::task_calls::{entry_call, is_forbidden};
 use ann_base::{Moment, NoMemory, OrMemory, Raised};
 use machine_accepts::delay_moment;
-use machine_dispatching::appoint;
+use machine_dispatching::{appoint, is_ahead};
 use machine_frames::{Effect, frame_count, goes, has_room, raises};
 use machine_operators::{Program, form_of, next_of};
 use machine_sending::open_abortable;
@@ -40,7 +40,8 @@ fn trigger_delay(
     m: Moment,
     is_ahead: bool,
 ) -> Result<(), NoMemory>
-    ensures { OnOk result (Did (trigger_delay p.now name s trigger m is_ahead) effect.old effect.new) }
+    ensures { OnOk result
+        (Did (trigger_delay p.now name s trigger m is_ahead) effect.old effect.new) }
 {
     if !is_ahead {
         goes(effect, name, next_of(p, trigger));
@@ -53,13 +54,6 @@ fn trigger_delay(
     } else {
         raises(effect, Part::Own, name, Raised::Storage)
     }
-}
-
-// Whether a moment is in the future. The present is never below 0.
-fn is_ahead(time: u64, moment: Moment) -> bool
-    ensures { result ≡ int_lt (pos time) moment }
-{
-    i128::from(time) < i128::from(moment)
 }
 
 #[tactic(auto, unfolding(profile_machine::specs::EntryCalls::async_delay))]

@@ -1,8 +1,7 @@
 //! The end of an accept, and calls that are sent on from one (ISO/IEC 8652:2012, 9.5.2, 9.5.4).
-ghost use Rattle.std.specs.Prelude.{◌≡◌, IfOk, OnOk};
+ghost use Rattle.std.specs.Prelude.{◌≡◌, OnOk};
 ghost use Rattle.profile_machine.specs.Calls.{edit_call};
 ghost use Rattle.profile_machine.specs.Rendezvous.{is_callable, gone_sent, meet_sent, arrive_at, arrive, finish_accept, finish_rendezvous, behind_accept, finished_call, end_in_accept};
-ghost use Rattle.profile_machine.specs.Scopes.{cells_of, scope_in_use};
 ghost use Rattle.machine_frames.specs.Did.{Did};
 ghost use Rattle.machine_meetings.specs.Meetings.{says_gone, rendezvous_ends};
 
@@ -11,14 +10,14 @@ use ann_base::{CallNo, NoMemory, Raised, TaskNo};
 use machine_accepts::accept_for;
 use machine_calls::{deliver, gone};
 use machine_dispatching::lose_running;
+use machine_exclusion::{copied_cells, keeps_sending, says_finish, with_values};
 use machine_frames::{Effect, found_task, pass_on, pop, says};
 use machine_operators::Program;
-use machine_protected::{keeps_sending, says_finish, with_values};
 use machine_queues::{call_mut, copied_call, enqueue, formals_count};
 use machine_sending::{send_on, sent_not_begun};
-use machine_values::{end_scope, scope_in_use};
+use machine_values::end_scope;
 use profile_machine::world::{
-    AcceptMark, Call, Cause, Line, MeetingEnd, Outcome, Owner, Part, ScopeId, Sending, World,
+    AcceptMark, Call, Cause, Line, MeetingEnd, Outcome, Owner, Part, Sending, World,
 };
 use profile_machine::{Leaving, StatementNo, Value};
 use std::alloc::Global;
@@ -229,20 +228,12 @@ fn set_finished(
     cells: &List<Value>,
     leaving: Leaving,
 ) -> Result<(), NoMemory>
-    ensures { OnOk result (world.new ≡ edit_call c (finished_call p.now cells.now leaving) world.old) }
+    ensures { OnOk result
+        (world.new ≡ edit_call c (finished_call p.now cells.now leaving) world.old) }
 {
     match call_mut(&mut world.calls, c) {
         Some(call) => finished_call(p, call, cells, leaving),
         None => Ok(()),
-    }
-}
-
-fn copied_cells(alloc: Global, world: &World, id: ScopeId) -> Result<List<Value>, NoMemory>
-    ensures { IfOk result (λ cells. cells ≡ cells_of (scope_in_use world.now id)) }
-{
-    match scope_in_use(world, id) {
-        Some(scope) => Ok(scope.cells.clone()?),
-        None => Ok(List::new(alloc)),
     }
 }
 

@@ -72,7 +72,10 @@ pub(crate) fn meet(
     c: &Call,
     arrival: Arrival,
 ) -> Result<(), NoMemory>
-    ensures { OnOk result (Did (meet p.now part name s c.now (behind_met p.now arrival c.now) (behind_failed p.now arrival c.now)) effect.old effect.new) }
+    ensures { OnOk result
+        (Did
+        (meet p.now part name s c.now (behind_met p.now arrival c.now)
+        (behind_failed p.now arrival c.now)) effect.old effect.new) }
 {
     drop_delay(&mut effect.world, name);
     if has_room_for_accept(p, &effect.world, name, s) {

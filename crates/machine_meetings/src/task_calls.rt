@@ -191,7 +191,8 @@ fn new_call(
     parameters: &List<(Value, Option<Variable>)>,
     moment: Option<Moment>,
 ) -> Result<Call, NoMemory>
-    ensures { IfOk result (λ call. call ≡ new_call_of t kind s entry owner priority parameters.now moment) }
+    ensures { IfOk result
+        (λ call. call ≡ new_call_of t kind s entry owner priority parameters.now moment) }
 {
     Ok(Call {
         number: CallNo(0),
@@ -226,7 +227,8 @@ fn call_named(
     owner: EntryOwner,
     actuals: &[Actual],
 ) -> Result<(), NoMemory>
-    ensures { OnOk result (Did (call_named p.now t kind s (named entry owner actuals.now)) effect.old effect.new) }
+    ensures { OnOk result
+        (Did (call_named p.now t kind s (named entry owner actuals.now)) effect.old effect.new) }
 {
     let name = Who::Task(t);
     let q = seen_by(p, &effect.world, name);
@@ -271,7 +273,8 @@ fn call_in_form(
     s: StatementNo,
     form: &StatementForm,
 ) -> Result<(), NoMemory>
-    ensures { OnOk result (Did (call_named p.now t kind s (named_call_in form.now)) effect.old effect.new) }
+    ensures { OnOk result
+        (Did (call_named p.now t kind s (named_call_in form.now)) effect.old effect.new) }
 {
     match form {
         StatementForm::EntryCall {

@@ -28,7 +28,9 @@ pub fn begin_body(
     h: Handed,
     to: ResultTo,
 ) -> Result<(), NoMemory>
-    ensures { OnOk result (Did (begin_body p.now name s f (body_beginning outer object h) h to) effect.old effect.new) }
+    ensures { OnOk result
+        (Did (begin_body p.now name s f (body_beginning outer object h) h to) effect.old
+        effect.new) }
 {
     goes(effect, name, next_of(p, s));
     let b = Beginning {

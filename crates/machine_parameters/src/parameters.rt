@@ -75,7 +75,9 @@ fn hand_over(
     f: Formal,
     a: Actual,
 ) -> Result<Handed, OrMemory<Raised>>
-    ensures { Answers result (hand_over q.now place f a (handed q.now (place + 1) (drop (place + 1) formals.now) (drop (place + 1) actuals.now))) }
+    ensures { Answers result
+        (hand_over q.now place f a
+        (handed q.now (place + 1) (drop (place + 1) formals.now) (drop (place + 1) actuals.now))) }
 {
     match a {
         Actual::In(e) => {
@@ -117,7 +119,8 @@ fn handed_behind(
     formals: &[Formal],
     actuals: &[Actual],
 ) -> Result<Handed, OrMemory<Raised>>
-    ensures { Answers result (handed q.now (place + 1) (drop (place + 1) formals.now) (drop (place + 1) actuals.now)) }
+    ensures { Answers result
+        (handed q.now (place + 1) (drop (place + 1) formals.now) (drop (place + 1) actuals.now)) }
 {
     match place.checked_add(1) {
         Some(next) => handed_from(alloc, q, next, formals, actuals),
@@ -135,7 +138,8 @@ fn handed_from(
     formals: &[Formal],
     actuals: &[Actual],
 ) -> Result<Handed, OrMemory<Raised>>
-    ensures { Answers result (handed q.now place (drop place formals.now) (drop place actuals.now)) }
+    ensures { Answers result
+        (handed q.now place (drop place formals.now) (drop place actuals.now)) }
 {
     match formals.get(place as usize) {
         Some(formal) => match actuals.get(place as usize) {

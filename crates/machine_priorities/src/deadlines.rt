@@ -25,7 +25,8 @@ fn put_deadline(world: &mut World, name: Who, deadline: Moment)
 }
 
 fn put_deferred_deadline(world: &mut World, name: Who, deadline: Option<Moment>)
-    ensures { world.new ≡ edit_task name (λ t. record t { deferred_deadline = deadline }) world.old }
+    ensures { world.new
+        ≡ edit_task name (λ t. record t { deferred_deadline = deadline }) world.old }
 {
     if let Some(task) = task_mut(world, name) {
         task.deferred_deadline = deadline;
@@ -68,7 +69,8 @@ fn set_deadline(
     name: Who,
     deadline: Moment,
 ) -> Result<(), NoMemory>
-    ensures { OnOk result (Did (set_deadline p.now part placing name deadline) effect.old effect.new) }
+    ensures { OnOk result
+        (Did (set_deadline p.now part placing name deadline) effect.old effect.new) }
 {
     put_deadline(&mut effect.world, name, deadline);
     says_deadline(effect, part, name, deadline)?;
@@ -121,7 +123,8 @@ fn set_or_defer_deadline(
     name: Who,
     deadline: Moment,
 ) -> Result<(), NoMemory>
-    ensures { OnOk result (Did (set_or_defer_deadline p.now actor name deadline) effect.old effect.new) }
+    ensures { OnOk result
+        (Did (set_or_defer_deadline p.now actor name deadline) effect.old effect.new) }
 {
     if in_protected(&effect.world, name) && has_edf(p) {
         defer_deadline(effect, name, deadline);
@@ -212,7 +215,8 @@ fn delay_with_deadline(
     until: Moment,
     offset: Moment,
 ) -> Result<(), NoMemory>
-    ensures { OnOk result (Did (delay_with_deadline p.now name s until offset) effect.old effect.new) }
+    ensures { OnOk result
+        (Did (delay_with_deadline p.now name s until offset) effect.old effect.new) }
 {
     let deadline = moment_after(until, offset)?;
     goes(effect, name, next_of(p, s));
@@ -251,7 +255,8 @@ pub fn delay_and_set_deadline(
     until: ExprNo,
     offset: ExprNo,
 ) -> Result<(), NoMemory>
-    ensures { OnOk result (Did (delay_and_set_deadline p.now name s until offset) effect.old effect.new) }
+    ensures { OnOk result
+        (Did (delay_and_set_deadline p.now name s until offset) effect.old effect.new) }
 {
     if in_protected(&effect.world, name) {
         return raises(effect, Part::Own, name, Raised::Program);

@@ -40,7 +40,9 @@ fn put_deferred_base(world: &mut World, name: Who, level: Option<Level>)
 // a blocked one waits gets its new active priority.
 #[tactic(auto, unfolding(profile_machine::specs::Priorities::replace_in, profile_machine::specs::Priorities::reprioritize_own))]
 fn replace(p: &Program, effect: &mut Effect, part: Part, name: Who) -> Result<(), NoMemory>
-    ensures { OnOk result (Did (looks (λ w. replace_in p.now part name (task_of w name).state)) effect.old effect.new) }
+    ensures { OnOk result
+        (Did (looks (λ w. replace_in p.now part name (task_of w name).state)) effect.old
+        effect.new) }
 {
     match task_at(&effect.world, name) {
         None => Ok(()),
@@ -184,7 +186,9 @@ fn set_base_of(
     level: Level,
     number: TaskNo,
 ) -> Result<(), NoMemory>
-    ensures { OnOk result (Did (set_base_of p.now actor s level (found_task (who.Task number) effect.old.world.tasks)) effect.old effect.new) }
+    ensures { OnOk result
+        (Did (set_base_of p.now actor s level (found_task (who.Task number) effect.old.world.tasks))
+        effect.old effect.new) }
 {
     match found_task(Who::Task(number), &effect.world.tasks) {
         None => {

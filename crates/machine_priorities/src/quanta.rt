@@ -77,7 +77,10 @@ fn level_given(
     level: Value,
     n: Moment,
 ) -> Result<(), NoMemory>
-    ensures { OnOk result (Did (given Own name (priority_in_range p.now.policies.last_priority (whole_in level)) (ticks_given p.now name s n)) effect.old effect.new) }
+    ensures { OnOk result
+        (Did
+        (given Own name (priority_in_range p.now.policies.last_priority (whole_in level))
+        (ticks_given p.now name s n)) effect.old effect.new) }
 {
     match priority_in_range(u32::from(policies(p).last_priority), whole_in(level)) {
         Ok(level) => ticks_given(p, effect, name, s, level, n),

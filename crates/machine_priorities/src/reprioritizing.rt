@@ -48,7 +48,8 @@ fn put_priority(world: &mut World, c: CallNo, level: Level)
 // By Priority_Queuing it stands behind the calls of that priority; by FIFO_Queuing it keeps its
 // place.
 fn placed_anew(p: &Program, world: &mut World, call: &Call, level: Level) -> Result<(), NoMemory>
-    ensures { OnOk result (world.new ≡ placed_anew p.now.policies.queuing p.now call.now level world.old) }
+    ensures { OnOk result
+        (world.new ≡ placed_anew p.now.policies.queuing p.now call.now level world.old) }
 {
     match policies(p).queuing {
         Queuing::Fifo => Ok(()),
@@ -79,7 +80,11 @@ pub(crate) fn reprioritize_awaited(
     name: Who,
     awaited: Option<CallNo>,
 ) -> Result<(), NoMemory>
-    ensures { OnOk result (Did (looks (λ w. for_some awaited (λ c. with_call c (reprioritize p.now (active_of p.now w name))))) effect.old effect.new) }
+    ensures { OnOk result
+        (Did
+        (looks
+        (λ w. for_some awaited (λ c. with_call c (reprioritize p.now (active_of p.now w name)))))
+        effect.old effect.new) }
 {
     let Some(c) = awaited else {
         return Ok(());

@@ -1,4 +1,1 @@
-pub mod ActionLemmas
-pub mod HeadLemmas
-pub mod PlaceLemmas
 pub mod TurnLemmas

@@ -1,5 +1,2 @@
-pub mod Finished
-pub mod Heads
 pub mod Operations
 pub mod Turns
-pub mod Values

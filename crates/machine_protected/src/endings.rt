@@ -5,19 +5,19 @@ ghost use Rattle.profile_machine.specs.Frames.{edit_top};
 ghost use Rattle.profile_machine.specs.Protected.{edit_top_protected};
 ghost use Rattle.profile_machine.specs.Serving.{go_on_by_mode, with_body_left, not_left, end_operation, is_own_call, outcome_by, finish_raised, finish_well, finish_call, no_longer_serves, end_entry_body, end_in_protected_by, end_in_protected};
 ghost use Rattle.machine_frames.specs.Did.{Did};
-ghost use Rattle.machine_protected.specs.Finished.{says_finish};
 
 use crate::releases::release_object;
 use crate::serving::serve_calls;
 use ann_base::{CallNo, NoMemory, Raised};
 use machine_calls::deliver;
-use machine_frames::{Effect, says, task_mut};
+use machine_exclusion::says_finish;
+use machine_frames::{Effect, task_mut};
 use machine_operators::Program;
 use machine_queues::{copied_call, enqueue};
 use machine_sending::send_on;
 use profile_machine::Leaving;
 use profile_machine::world::{
-    Call, Line, Mark, MeetingEnd, Outcome, Part, ProtectedMark, Sending, World,
+    Call, Mark, MeetingEnd, Outcome, Part, ProtectedMark, Sending, World,
 };
 use std::alloc::Global;
 use trace_text::{Mode, Who};
@@ -137,26 +137,6 @@ fn outcome_by(is_own: bool, exception: Raised) -> Outcome
     } else {
         Outcome::ToRaise(exception)
     }
-}
-
-/// The `finish` line of a call, among those of the call that ended.
-pub fn says_finish(
-    effect: &mut Effect,
-    name: Who,
-    c: CallNo,
-    how: MeetingEnd,
-) -> Result<(), NoMemory>
-    ensures { OnOk result (Did (says_finish name c how) effect.old effect.new) }
-{
-    says(
-        effect,
-        Part::TheFinish,
-        Line::Finish {
-            who: name,
-            call: c,
-            how,
-        },
-    )
 }
 
 #[tactic(auto, unfolding(profile_machine::specs::Serving::finish_raised))]

@@ -1,5 +1,5 @@
 //! Calls of protected operations (ISO/IEC 8652:2012, 9.5.1).
-ghost use Rattle.std.specs.Prelude.{◌≡◌, ◌+◌, OnOk};
+ghost use Rattle.std.specs.Prelude.{◌≡◌, OnOk};
 ghost use Rattle.profile_machine.specs.Values.{own_object, seen_by};
 ghost use Rattle.profile_machine.specs.Program.{marks_of, scope_of, subprogram_of};
 ghost use Rattle.profile_machine.specs.Subprograms.{handing};
@@ -7,18 +7,17 @@ ghost use Rattle.profile_machine.specs.Protected.{mode_of, where_let_inside, beg
 ghost use Rattle.machine_frames.specs.Did.{Did};
 ghost use Rattle.machine_protected.specs.Operations.{own_operation};
 
-use crate::actions::{begin_action_on, body_of_object, outer_of_body};
-use crate::exclusion::{entering, find_held, has_open};
 use ann_base::{NoMemory, ObjectNo, OrMemory, Raised};
-use machine_frames::{Effect, goes, has_room, object_of, raises};
-use machine_operators::{
-    Program, form_of, marks_of, next_of, opens_handled, scope_of, subprogram_of,
+use machine_exclusion::{
+    begin_action_on, body_of_object, entering, find_held, has_open, marks_of_action, outer_of_body,
 };
+use machine_frames::{Effect, goes, has_room, object_of, raises};
+use machine_operators::{Program, marks_of, next_of, scope_of, subprogram_of};
 use machine_parameters::{begin_body, handed, result_to};
 use machine_values::{object_number, open_scope, own_object, seen_by};
 use profile_machine::world::{Entering, Handed, Part, Purpose, ResultTo, World};
 use profile_machine::{
-    Actual, DeclNo, Destination, ProtectedUnitNo, ScopeNo, StatementNo, Subprogram, SubprogramNo,
+    Actual, DeclNo, Destination, ProtectedUnitNo, StatementNo, Subprogram, SubprogramNo,
 };
 use std::alloc::Global;
 use trace_text::{Mode, Who};
@@ -38,16 +37,6 @@ fn has_object_open(world: &World, name: Who, o: ObjectNo) -> bool
     match object_of(world, o) {
         Some(object) => has_open(name, &object.actions),
         None => false,
-    }
-}
-
-// How many marks a call opens: the action, and what opens with the body.
-fn marks_of_call(p: &Program, scope: ScopeNo) -> u32
-    ensures { result ≡ 1 + marks_of p.now scope }
-{
-    match scope_of(p, scope).first {
-        Some(s) if opens_handled(form_of(p, s)) => 3,
-        _ => 2,
     }
 }
 
@@ -86,7 +75,10 @@ fn let_inside(
     h: Handed,
     to: ResultTo,
 ) -> Result<(), NoMemory>
-    ensures { OnOk result (Did (where_let_inside p.now name o (mode_of (subprogram_of p.now f)) (begin_operation p.now name s f o h to)) effect.old effect.new) }
+    ensures { OnOk result
+        (Did
+        (where_let_inside p.now name o (mode_of (subprogram_of p.now f))
+        (begin_operation p.now name s f o h to)) effect.old effect.new) }
 {
     let mode = mode_of(subprogram_of(p, f));
     match entering(p, &effect.world, name, o, mode) {
@@ -108,7 +100,12 @@ fn call_with_room(
     to: Destination,
     o: ObjectNo,
 ) -> Result<(), NoMemory>
-    ensures { OnOk result (Did (handing p.now name f actuals.now to (λ h r. where_let_inside p.now name o (mode_of (subprogram_of p.now f)) (begin_operation p.now name s f o h r))) effect.old effect.new) }
+    ensures { OnOk result
+        (Did
+        (handing p.now name f actuals.now to
+        (λ h r.
+        where_let_inside p.now name o (mode_of (subprogram_of p.now f))
+        (begin_operation p.now name s f o h r))) effect.old effect.new) }
 {
     let q = seen_by(p, &effect.world, name);
     match result_to(&q, to) {
@@ -136,7 +133,8 @@ fn call_operation_of(
     to: Destination,
     o: ObjectNo,
 ) -> Result<(), NoMemory>
-    ensures { OnOk result (Did (call_operation_of p.now name s f actuals.now to o) effect.old effect.new) }
+    ensures { OnOk result
+        (Did (call_operation_of p.now name s f actuals.now to o) effect.old effect.new) }
 {
     let scope = subprogram_of(p, f).scope;
     if has_object_open(&effect.world, name, o) {
@@ -144,7 +142,7 @@ fn call_operation_of(
     } else if has_room(
         &effect.world,
         name,
-        marks_of_call(p, scope),
+        marks_of_action(p, scope),
         scope_of(p, scope).size,
     ) {
         call_with_room(alloc, p, effect, name, s, f, actuals, to, o)
@@ -166,7 +164,8 @@ pub fn call_operation(
     actuals: &[Actual],
     to: Destination,
 ) -> Result<(), NoMemory>
-    ensures { OnOk result (Did (call_operation p.now name s d f actuals.now to) effect.old effect.new) }
+    ensures { OnOk result
+        (Did (call_operation p.now name s d f actuals.now to) effect.old effect.new) }
 {
     match object_number(&seen_by(p, &effect.world, name), d) {
         Ok(o) => call_operation_of(alloc, p, effect, name, s, f, actuals, to, o),
@@ -209,7 +208,8 @@ fn unit_of_operation(operation: &Subprogram) -> ProtectedUnitNo
 
 // The object of the operation's unit in whose body the one with this name stands.
 fn object_called(p: &Program, world: &World, name: Who, f: SubprogramNo) -> Option<ObjectNo>
-    ensures { result ≡ own_object (seen_by p.now world.now name) (unit_of_operation (subprogram_of p.now f)) }
+    ensures { result
+        ≡ own_object (seen_by p.now world.now name) (unit_of_operation (subprogram_of p.now f)) }
 {
     own_object(
         &seen_by(p, world, name),
@@ -245,7 +245,9 @@ fn call_own_with_room(
     actuals: &[Actual],
     to: Destination,
 ) -> Result<(), NoMemory>
-    ensures { OnOk result (Did (handing p.now name f actuals.now to (own_operation p.now name s f)) effect.old effect.new) }
+    ensures { OnOk result
+        (Did (handing p.now name f actuals.now to (own_operation p.now name s f)) effect.old
+        effect.new) }
 {
     let q = seen_by(p, &effect.world, name);
     match result_to(&q, to) {
@@ -271,7 +273,8 @@ pub fn call_own_operation(
     actuals: &[Actual],
     to: Destination,
 ) -> Result<(), NoMemory>
-    ensures { OnOk result (Did (call_own_operation p.now name s f actuals.now to) effect.old effect.new) }
+    ensures { OnOk result
+        (Did (call_own_operation p.now name s f actuals.now to) effect.old effect.new) }
 {
     let scope = subprogram_of(p, f).scope;
     if has_room(

@@ -1,17 +1,15 @@
 //! Objects are released, and who held them goes on (ISO/IEC 8652:2012, 9.5.1, 9.5.4, C.3, D.15).
 ghost use Rattle.std.specs.Prelude.{◌≡◌, OnOk};
-ghost use Rattle.profile_machine.specs.Frames.{frames_of};
 ghost use Rattle.profile_machine.specs.Protected.{is_action_of};
 ghost use Rattle.profile_machine.specs.Serving.{serves_nothing, is_served_now, serve_ends, end_release, close_action, may_open_abortable, wait_or_unwind, wait_for_own, resume_own, behind_action, release_object};
-ghost use Rattle.profile_machine.specs.Unwinding.{may_unwind};
 ghost use Rattle.profile_machine.specs.Words.{without};
 ghost use Rattle.machine_frames.specs.Did.{Did};
 
-use crate::exclusion::is_action_of;
 use ann_base::{CallNo, NoMemory, ObjectNo};
-use machine_calls::{may_unwind, resume};
+use machine_calls::{frames_may_unwind, resume};
 use machine_dispatching::{block, lose_running};
-use machine_frames::{Effect, has_room, leaves, pass_on, pop, says, task_at};
+use machine_exclusion::is_action_of;
+use machine_frames::{Effect, has_room, leaves, pass_on, pop, says};
 use machine_operators::Program;
 use machine_priorities::set_deferred;
 use machine_queues::{attempt_on, copied_call, forget_call, is_cancellable, object_mut};
@@ -110,15 +108,6 @@ fn wait_or_unwind(
     }
 }
 
-fn unwinds(world: &World, name: Who) -> bool
-    ensures { result ≡ may_unwind (frames_of world.now name) }
-{
-    match task_at(world, name) {
-        Some(task) => may_unwind(&task.frames),
-        None => false,
-    }
-}
-
 #[tactic(auto, unfolding(profile_machine::specs::Serving::wait_for_own))]
 fn wait_for_own(
     p: &Program,
@@ -138,7 +127,7 @@ fn wait_for_own(
             Some(c.number),
         )
     } else {
-        let unwinds = unwinds(&effect.world, name);
+        let unwinds = frames_may_unwind(&effect.world, name);
         wait_or_unwind(p, effect, name, c, unwinds)
     }
 }

@@ -4,11 +4,10 @@ ghost use Rattle.profile_machine.specs.Serving.{is_the_call, part_of_start, sett
 ghost use Rattle.machine_frames.specs.Did.{Did};
 ghost use Rattle.machine_protected.specs.Turns.{serving, turn, Leads};
 
-use crate::barriers::served_next;
-use crate::bodies::{begin_call, body_opens, has_room_for_body};
 use crate::releases::release_object;
 use ann_base::{CallNo, NoMemory, Raised};
 use machine_calls::deliver;
+use machine_exclusion::{begin_call, body_opens, has_room_for_body, served_next};
 use machine_frames::{Effect, says};
 use machine_operators::Program;
 use machine_queues::copied_call;
@@ -81,7 +80,8 @@ fn serve(
     c: CallNo,
     call: &Call,
 ) -> Result<bool, NoMemory>
-    ensures { IfOk result (λ again. Leads again (serving p.now name m is_sent c call.now) effect.old effect.new) }
+    ensures { IfOk result
+        (λ again. Leads again (serving p.now name m is_sent c call.now) effect.old effect.new) }
 {
     let part = part_of_start(is_sent);
     let has_room = has_room_for_body(p, &effect.world, name, call.entry);
@@ -113,7 +113,9 @@ fn serve_chosen(
     is_sent: bool,
     chosen: Option<CallNo>,
 ) -> Result<bool, NoMemory>
-    ensures { IfOk result (λ again. Leads again (λ step. serve_chosen p.now name m is_sent step chosen) effect.old effect.new) }
+    ensures { IfOk result
+        (λ again.
+        Leads again (λ step. serve_chosen p.now name m is_sent step chosen) effect.old effect.new) }
 {
     match chosen {
         Some(c) => match copied_call(&effect.world, c)? {

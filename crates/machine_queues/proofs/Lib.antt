@@ -1,5 +1,4 @@
 mod EditLemmas
-mod HeadLemmas
 mod OkLemmas
 mod PutLemmas
 mod QueueLemmas

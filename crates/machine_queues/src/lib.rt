@@ -10,13 +10,10 @@ mod queues;
 mod served;
 
 pub use calls::{
-    call_drawn, call_mut, call_of, copied_call, copy_of_call, forget_call, formals_count, is_call,
+    call_drawn, call_mut, call_of, copied_call, copy_of_call, forget_call, formals_count,
     parameters_of, priority_of, says_call,
 };
 pub use cancellation::{attempt_on, is_cancellable};
 pub use objects::object_mut;
-pub use queues::{
-    enqueue, is_full, place_of_entry, placed_anew, put_in_queue, queue_of, take_from_queue,
-    unqueue, unqueued,
-};
-pub use served::{next_call, next_of_queue};
+pub use queues::{enqueue, is_full, place_of_entry, placed_anew, queue_of, unqueued};
+pub use served::next_of_queue;

@@ -26,7 +26,11 @@ fn end_top(p: &Program, effect: &mut Effect, name: Who) -> Result<(), NoMemory>
 
 // The abortable part on top waits for its call, and remembers how it is left.
 fn let_top_wait(world: &mut World, name: Who, leaving: Leaving)
-    ensures { world.new ≡ edit_top name (λ f. with_mark (edit_abortable waiting_mark f.mark) (record f { left_as = Some leaving })) world.old }
+    ensures { world.new
+        ≡ edit_top name
+        (λ f.
+        with_mark (edit_abortable waiting_mark f.mark) (record f { left_as = Some leaving }))
+        world.old }
 {
     if let Some(task) = task_mut(world, name) {
         if let Some(frame) = task.frames.front_mut() {
@@ -81,7 +85,10 @@ fn end_with_call(
     call: &Call,
     leaving: Leaving,
 ) -> Result<(), NoMemory>
-    ensures { OnOk result (Did (attempt_with p.now Own call.now (end_top p.now name) (wait_for_trigger name call.now leaving)) effect.old effect.new) }
+    ensures { OnOk result
+        (Did
+        (attempt_with p.now Own call.now (end_top p.now name)
+        (wait_for_trigger name call.now leaving)) effect.old effect.new) }
 {
     let cancels = is_cancellable(call);
     attempt_on(p, effect, Part::Own, call)?;

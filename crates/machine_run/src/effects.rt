@@ -49,7 +49,8 @@ pub fn finish_action(
     lines: &mut List<Line>,
 ) -> Result<(), NoMemory>
     requires { effect.old.said ≡ [] }
-    ensures { OnOk result (Moved p.now (finish_action p.now) effect.old lines.old effect.new lines.new) }
+    ensures { OnOk result
+        (Moved p.now (finish_action p.now) effect.old lines.old effect.new lines.new) }
 {
     match effect.world.ran {
         Some(name) if is_over(&effect.world, name) => {

@@ -6,5 +6,5 @@
 mod sending;
 mod waiting;
 
-pub use sending::{begin_abortable, may_begin_abortable, send_on, sent_not_begun};
+pub use sending::{begin_abortable, send_on, sent_not_begun};
 pub use waiting::{is_triggering, not_accepted, open_abortable, wait_for_call};

@@ -156,7 +156,8 @@ fn sent_not_begun_by(
     c: &Call,
     is_to_be_cancelled: bool,
 ) -> Result<(), NoMemory>
-    ensures { OnOk result (Did (sent_not_begun_by p.now c.now is_to_be_cancelled) effect.old effect.new) }
+    ensures { OnOk result
+        (Did (sent_not_begun_by p.now c.now is_to_be_cancelled) effect.old effect.new) }
 {
     if is_to_be_cancelled {
         cancel_sent(p, effect, c)

@@ -129,7 +129,7 @@ pub(crate) fn appoint_timeout(
     }
 }
 
-// The caller blocks until its call ends.
+/// The caller blocks until its call ends.
 #[tactic(auto, unfolding(profile_machine::specs::Sending::wait_for_call))]
 pub fn wait_for_call(effect: &mut Effect, c: &Call) -> Result<(), NoMemory>
     ensures { OnOk result (Did (wait_for_call c.now) effect.old effect.new) }

@@ -1,4 +1,4 @@
--- Parts of the machine's steps, in its own words.
+-- The steps of assignments, loops, delays and bodies, in the machine's own words.
 use Rattle.std.specs.Prelude.{ℤ, Bool, Option, option_and_then}
 use Rattle.trace_text.specs.declared.events.Who.{Who}
 use Rattle.profile_machine.specs.declared.image.Image.{Image}

@@ -25,7 +25,8 @@ fn assigned(
     e: ExprNo,
     world: &mut World,
 ) -> Result<(), OrMemory<Raised>>
-    ensures { Becomes result (assigned p.now (seen_by p.now world.old name) target e) world.old world.new }
+    ensures { Becomes result (assigned p.now (seen_by p.now world.old name) target e) world.old
+        world.new }
 {
     let q = seen_by(p, world, name);
     let v = variable(&q, target)?;
@@ -62,7 +63,8 @@ fn array_copied(
     source: ObjectName,
     world: &mut World,
 ) -> Result<(), OrMemory<Raised>>
-    ensures { Becomes result (array_copied p.now (seen_by p.now world.old name) target source) world.old world.new }
+    ensures { Becomes result (array_copied p.now (seen_by p.now world.old name) target source)
+        world.old world.new }
 {
     let q = seen_by(p, world, name);
     let target = object_cell(&q, target)?;

@@ -34,7 +34,9 @@ fn called(
     h: Handed,
     to: ResultTo,
 ) -> Result<(), NoMemory>
-    ensures { OnOk result (Did (sees p.now name (λ q. begin_body p.now name s f (beginning_of q f h) h to)) effect.old effect.new) }
+    ensures { OnOk result
+        (Did (sees p.now name (λ q. begin_body p.now name s f (beginning_of q f h) h to)) effect.old
+        effect.new) }
 {
     let outer = outer_of(&seen_by(p, &effect.world, name), f);
     begin_body(alloc, p, effect, name, s, f, outer, None, h, to)
@@ -52,7 +54,8 @@ pub fn call_subprogram(
     actuals: &[Actual],
     to: Destination,
 ) -> Result<(), NoMemory>
-    ensures { OnOk result (Did (call_subprogram p.now name s f actuals.now to) effect.old effect.new) }
+    ensures { OnOk result
+        (Did (call_subprogram p.now name s f actuals.now to) effect.old effect.new) }
 {
     let scope = subprogram_of(p, f).scope;
     if has_room(

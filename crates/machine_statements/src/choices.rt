@@ -1,4 +1,4 @@
-//! If and case statements (ISO/IEC 8652:2012, 5.3, 5.4).
+//! What if and case statements do (ISO/IEC 8652:2012, 5.3, 5.4).
 ghost use Rattle.std.specs.Prelude.{◌≡◌, OnOk};
 ghost use Rattle.profile_machine.specs.Statements.{if_statement, case_statement, go_to_alternative, chosen_alternative, any_chosen, is_chosen, branch};
 ghost use Rattle.machine_frames.specs.Did.{Did};
@@ -105,7 +105,8 @@ pub fn case_statement(
     e: ExprNo,
     alternatives: &[CaseAlternative],
 ) -> Result<(), NoMemory>
-    ensures { OnOk result (Did (case_statement p.now name e alternatives.now) effect.old effect.new) }
+    ensures { OnOk result
+        (Did (case_statement p.now name e alternatives.now) effect.old effect.new) }
 {
     match value(&seen_by(p, &effect.world, name), e) {
         Ok(value) => go_to_alternative(effect, name, chosen_alternative(value, alternatives)),

@@ -68,7 +68,9 @@ pub fn delay_statement(
     s: StatementNo,
     e: ExprNo,
 ) -> Result<(), NoMemory>
-    ensures { OnOk result (Did (sees p.now name (λ q. delay_until p.now name s (relative_moment q e))) effect.old effect.new) }
+    ensures { OnOk result
+        (Did (sees p.now name (λ q. delay_until p.now name s (relative_moment q e))) effect.old
+        effect.new) }
 {
     if in_protected(&effect.world, name) {
         raises(effect, Part::Own, name, Raised::Program)
@@ -89,7 +91,8 @@ pub fn delay_until_statement(
     s: StatementNo,
     e: ExprNo,
 ) -> Result<(), NoMemory>
-    ensures { OnOk result (Did (sees p.now name (λ q. delay_until p.now name s (moment q e))) effect.old effect.new) }
+    ensures { OnOk result
+        (Did (sees p.now name (λ q. delay_until p.now name s (moment q e))) effect.old effect.new) }
 {
     if in_protected(&effect.world, name) {
         raises(effect, Part::Own, name, Raised::Program)

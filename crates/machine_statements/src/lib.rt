@@ -18,8 +18,6 @@ pub use choices::{case_statement, if_statement};
 pub use delays::{delay_statement, delay_until_statement, relative_moment};
 pub use faults::refused;
 pub use loops::{exit_statement, first_turn, for_bounds, later_turn, while_turn};
-pub use returns::{
-    call_that_returns, end_subprogram, return_statement, return_value, without_sending,
-};
+pub use returns::{call_returned, end_subprogram, return_statement, return_value};
 pub use sequences::{block_statement, null, raise_again};
 pub use texts::put_line;

@@ -82,7 +82,8 @@ fn bounds_set(
     high: ExprNo,
     world: &mut World,
 ) -> Result<(), OrMemory<Raised>>
-    ensures { Becomes result (bounds_set (seen_by p.now world.old name) d reverse low high) world.old world.new }
+    ensures { Becomes result (bounds_set (seen_by p.now world.old name) d reverse low high)
+        world.old world.new }
 {
     let q = seen_by(p, world, name);
     let low = value(&q, low)?;
@@ -106,7 +107,8 @@ pub fn for_bounds(
     high: ExprNo,
     turn: StatementNo,
 ) -> Result<(), NoMemory>
-    ensures { OnOk result (Did (for_bounds p.now name d reverse low high turn) effect.old effect.new) }
+    ensures { OnOk result
+        (Did (for_bounds p.now name d reverse low high turn) effect.old effect.new) }
 {
     match bounds_set(p, name, d, reverse, low, high, &mut effect.world) {
         Ok(()) => {
@@ -197,7 +199,8 @@ fn advance(
     past: Option<StatementNo>,
     is_last: bool,
 ) -> Result<(), NoMemory>
-    ensures { OnOk result (Did (advance name x reverse value body past is_last) effect.old effect.new) }
+    ensures { OnOk result
+        (Did (advance name x reverse value body past is_last) effect.old effect.new) }
 {
     if is_last {
         goes(effect, name, past);

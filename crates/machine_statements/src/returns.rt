@@ -129,7 +129,8 @@ fn drop_sending(world: &mut World, c: Option<CallNo>)
     }
 }
 
-fn call_returned(world: &World, name: Who) -> Option<CallNo>
+/// The call of the accept or entry body in which the one with this name stands.
+pub fn call_returned(world: &World, name: Who) -> Option<CallNo>
     ensures { result ≡ call_that_returns (frames_of world.now name) }
 {
     call_that_returns(&task_at(world, name)?.frames)
@@ -208,7 +209,9 @@ fn copy_parameters(
     back: &List<CopyBack>,
     to: ResultTo,
 ) -> Result<(), NoMemory>
-    ensures { OnOk result (Did (copy_parameters p.now name cells.now back.now (store_result p.now name cells.now to)) effect.old effect.new) }
+    ensures { OnOk result
+        (Did (copy_parameters p.now name cells.now back.now (store_result p.now name cells.now to))
+        effect.old effect.new) }
 {
     for b in back.iter() {
         let value = cell_in(cells, b.place as usize);
@@ -232,7 +235,8 @@ pub fn end_subprogram(
     to: ResultTo,
     leaving: Leaving,
 ) -> Result<(), NoMemory>
-    ensures { OnOk result (Did (end_subprogram p.now name cells.now back.now to leaving) effect.old effect.new) }
+    ensures { OnOk result
+        (Did (end_subprogram p.now name cells.now back.now to leaving) effect.old effect.new) }
 {
     if falls_through(leaving, to) {
         raises(effect, Part::Own, name, Raised::Program)

@@ -83,7 +83,8 @@ fn all_to_abort(
     world: &World,
     aborted: &List<TaskNo>,
 ) -> Result<List<Kept>, NoMemory>
-    ensures { IfOk result (λ kept. kept ≡ map kept_of (filter (is_to_abort world.now aborted.now) world.now.tasks)) }
+    ensures { IfOk result
+        (λ kept. kept ≡ map kept_of (filter (is_to_abort world.now aborted.now) world.now.tasks)) }
 {
     let mut kept = List::new(alloc);
     for task in world.tasks.iter() {
@@ -104,7 +105,8 @@ fn put_abnormal(world: &mut World, name: Who)
 
 // These tasks become abnormal.
 fn all_become_abnormal(effect: &mut Effect, tasks: &List<Kept>)
-    ensures { Did (for_each (tasks_kept tasks.now) (λ t. changes (edit_task t.who abnormal_task))) effect.old effect.new }
+    ensures { Did (for_each (tasks_kept tasks.now) (λ t. changes (edit_task t.who abnormal_task)))
+        effect.old effect.new }
 {
     for task in tasks.iter() {
         put_abnormal(&mut effect.world, task.who);
@@ -153,7 +155,8 @@ fn all_aborted(
     actor: Who,
     tasks: &List<Kept>,
 ) -> Result<(), NoMemory>
-    ensures { OnOk result (Did (for_each (tasks_kept tasks.now) (abort_one p.now actor)) effect.old effect.new) }
+    ensures { OnOk result
+        (Did (for_each (tasks_kept tasks.now) (abort_one p.now actor)) effect.old effect.new) }
 {
     for task in tasks.iter() {
         abort_one(alloc, p, effect, actor, *task)?;
@@ -170,7 +173,8 @@ fn abort_all(
     actor: Who,
     tasks: &List<Kept>,
 ) -> Result<(), NoMemory>
-    ensures { OnOk result (Did (abort_all p.now actor (tasks_kept tasks.now)) effect.old effect.new) }
+    ensures { OnOk result
+        (Did (abort_all p.now actor (tasks_kept tasks.now)) effect.old effect.new) }
 {
     all_become_abnormal(effect, tasks);
     all_aborted(alloc, p, effect, actor, tasks)?;
@@ -186,7 +190,9 @@ fn tasks_aborted(
     actor: Who,
     aborted: &List<TaskNo>,
 ) -> Result<(), NoMemory>
-    ensures { OnOk result (Did (looks (λ w. abort_all p.now actor (filter (is_to_abort w aborted.now) w.tasks))) effect.old effect.new) }
+    ensures { OnOk result
+        (Did (looks (λ w. abort_all p.now actor (filter (is_to_abort w aborted.now) w.tasks)))
+        effect.old effect.new) }
 {
     let tasks = all_to_abort(alloc, &effect.world, aborted)?;
     abort_all(alloc, p, effect, actor, &tasks)

@@ -80,7 +80,8 @@ fn activate_group(
     s: StatementNo,
     declarative_part: u32,
 ) -> Result<(), NoMemory>
-    ensures { OnOk result (Did (activate_group p.now name s declarative_part) effect.old effect.new) }
+    ensures { OnOk result
+        (Did (activate_group p.now name s declarative_part) effect.old effect.new) }
 {
     let region = top_region_of_scope(&effect.world, name);
     let level = active_of(p, &effect.world, name);

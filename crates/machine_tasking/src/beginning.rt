@@ -41,7 +41,8 @@ pub(crate) fn all_to_activate(
     region: RegionNo,
     declarative_part: u32,
 ) -> Result<List<Kept>, NoMemory>
-    ensures { IfOk result (λ kept. kept ≡ map kept_of (filter (is_to_activate region declarative_part) tasks.now)) }
+    ensures { IfOk result
+        (λ kept. kept ≡ map kept_of (filter (is_to_activate region declarative_part) tasks.now)) }
 {
     let mut kept = List::new(alloc);
     for task in tasks.iter() {
@@ -91,7 +92,10 @@ fn put_activated(world: &mut World, name: Who, activator: Who, now: u64) -> Resu
 
 // The scope of the body of a task is opened.
 fn open_body(alloc: Global, p: &Program, world: &mut World, task: Kept) -> Result<(), NoMemory>
-    ensures { OnOk result (world.new ≡ open_scope p.now task.who (unit_of_task p.now (task_kept task)).scope (plainly task.outer) opened_for.Task world.old) }
+    ensures { OnOk result
+        (world.new
+        ≡ open_scope p.now task.who (unit_of_task p.now (task_kept task)).scope
+        (plainly task.outer) opened_for.Task world.old) }
 {
     let scope = unit_of_task(p, task).scope;
     let beginning = plainly(alloc, task.outer);
@@ -106,7 +110,8 @@ fn begin_task(
     level: Level,
     task: Kept,
 ) -> Result<(), NoMemory>
-    ensures { OnOk result (Did (begin_task p.now activator level (task_kept task)) effect.old effect.new) }
+    ensures { OnOk result
+        (Did (begin_task p.now activator level (task_kept task)) effect.old effect.new) }
 {
     let now = effect.world.time;
     open_body(alloc, p, &mut effect.world, task)?;
@@ -132,7 +137,9 @@ fn fail_to_begin(
     activator: Who,
     name: Who,
 ) -> Result<(), NoMemory>
-    ensures { OnOk result ((task : AnyTask) → task.who ≡ name → Did (fail_to_begin p.now activator task) effect.old effect.new) }
+    ensures { OnOk result
+        ((task : AnyTask) → task.who ≡ name
+        → Did (fail_to_begin p.now activator task) effect.old effect.new) }
 {
     let exception = Raised::Storage;
     says(
@@ -157,7 +164,8 @@ fn activate_one(
     level: Level,
     task: Kept,
 ) -> Result<(), NoMemory>
-    ensures { OnOk result (Did (activate_one p.now activator level (task_kept task)) effect.old effect.new) }
+    ensures { OnOk result
+        (Did (activate_one p.now activator level (task_kept task)) effect.old effect.new) }
 {
     let size = scope_of(p, unit_of_task(p, task).scope).size;
     if has_room(&effect.world, task.who, 1, size) {
@@ -176,7 +184,9 @@ pub(crate) fn activate_all(
     level: Level,
     tasks: &List<Kept>,
 ) -> Result<(), NoMemory>
-    ensures { OnOk result (Did (for_each (tasks_kept tasks.now) (activate_one p.now activator level)) effect.old effect.new) }
+    ensures { OnOk result
+        (Did (for_each (tasks_kept tasks.now) (activate_one p.now activator level)) effect.old
+        effect.new) }
 {
     for task in tasks.iter() {
         activate_one(alloc, p, effect, activator, level, *task)?;

@@ -3,13 +3,13 @@ ghost use Rattle.std.specs.Prelude.{◌≡◌, ◌||◌, IfOk, OnOk, leb, length
 ghost use Rattle.ann_base.specs.Answers.{Answers};
 ghost use Rattle.profile_machine.specs.Tasking.{unit_of_kind, unit_of_declaration, optional_span, outer_of_task, created_task, task_drawn, add_task, create_task, create};
 ghost use Rattle.profile_machine.specs.Frames.{in_protected, is_deferred};
-ghost use Rattle.profile_machine.specs.Tasks.{task_of};
 ghost use Rattle.machine_frames.specs.Did.{Did};
 ghost use Rattle.machine_tasking.specs.Created.{span_given, asks_span, last_drawn, names_object};
 
-use ann_base::{Level, Moment, NoMemory, OrMemory, Raised, TaskNo};
+use ann_base::{Moment, NoMemory, OrMemory, Raised, TaskNo};
 use machine_controlled::{no_calls, set_thing, top_region};
-use machine_frames::{Effect, goes, in_protected, is_deferred, new_task, raises, says, task_at};
+use machine_exclusion::base_of;
+use machine_frames::{Effect, goes, in_protected, is_deferred, new_task, raises, says};
 use machine_operators::{Program, declaration_of, next_of, scope_of, task_unit_of};
 use machine_values::{Seen, home, moment, seen_by};
 use profile_machine::world::{Drawn, Line, Located, Part, ScopeId, State, Task, World};
@@ -52,15 +52,6 @@ fn outer_of_task(q: &Seen<'_>, unit: &TaskUnit) -> Option<ScopeId>
 {
     let outer = scope_of(q.program, unit.scope).outer?;
     home(q.world, outer, q.within)
-}
-
-fn base_of(world: &World, name: Who) -> Level
-    ensures { result ≡ (task_of world.now name).base }
-{
-    match task_at(world, name) {
-        Some(task) => task.base,
-        None => 0,
-    }
 }
 
 // The task that is created with this number.
@@ -170,7 +161,8 @@ fn span_given(
     declarative_part: u32,
     span: Option<Moment>,
 ) -> Result<(), NoMemory>
-    ensures { OnOk result (Did (span_given p.now name s d declarative_part span) effect.old effect.new) }
+    ensures { OnOk result
+        (Did (span_given p.now name s d declarative_part span) effect.old effect.new) }
 {
     let q = seen_by(p, &effect.world, name);
     let within = home(&effect.world, declaration_of(p, d).scope, q.within);
@@ -201,7 +193,7 @@ fn asks_span(
     }
 }
 
-// No task is created or activated inside a protected action, and wherever abort is deferred.
+/// No task is created or activated inside a protected action, and wherever abort is deferred.
 pub fn bars_tasks(world: &World, name: Who) -> bool
     ensures { result ≡ (in_protected world.now name || is_deferred world.now name) }
 {

@@ -1,7 +1,6 @@
 //! A scope has ended, and with it a block, a body or a task (ISO/IEC 8652:2012, 5.6, 6.5, 7.6.1,
 //! 9.3, 9.5.2).
-ghost use Rattle.std.specs.Prelude.{◌≡◌, IfOk, OnOk};
-ghost use Rattle.profile_machine.specs.Scopes.{cells_of, scope_in_use};
+ghost use Rattle.std.specs.Prelude.{◌≡◌, OnOk};
 ghost use Rattle.profile_machine.specs.Tasking.{says_done, exception_in, is_environment, end_environment, fails_by, end_task, is_normal, behind_scope, is_dropped, raises_behind, left_by, says_left, end_of_scope, go_on_leaving, end_scope_mark_of, end_scope_mark};
 ghost use Rattle.profile_machine.specs.Steps.{changes, when};
 ghost use Rattle.machine_frames.specs.Did.{Did};
@@ -9,13 +8,13 @@ ghost use Rattle.machine_frames.specs.Did.{Did};
 use crate::leaving::leave_region;
 use ann_base::{NoMemory, Raised, RegionNo};
 use machine_controlled::{finalize, next_to_finalize};
+use machine_exclusion::{copied_cells, end_body_of_entry};
 use machine_frames::{Effect, pass_on, pop, says, task_at};
 use machine_masters::{end_activation, terminate};
 use machine_operators::Program;
-use machine_protected::end_body_of_entry;
 use machine_statements::end_subprogram;
-use machine_values::{end_scope, scope_in_use};
-use profile_machine::world::{Line, Part, Purpose, ScopeId, ScopeMark, World};
+use machine_values::end_scope;
+use profile_machine::world::{Line, Part, Purpose, ScopeMark, World};
 use profile_machine::{Leaving, Value};
 use std::alloc::Global;
 use trace_text::Who;
@@ -71,7 +70,8 @@ fn end_environment(world: &mut World, leaving: Leaving)
 
 // The end of the environment task ends the run.
 fn end_run_of(effect: &mut Effect, name: Who, leaving: Leaving)
-    ensures { Did (when (is_environment name) (changes (end_environment leaving))) effect.old effect.new }
+    ensures { Did (when (is_environment name) (changes (end_environment leaving))) effect.old
+        effect.new }
 {
     if is_environment(name) {
         end_environment(&mut effect.world, leaving);
@@ -118,7 +118,8 @@ fn behind_scope(
     cells: &List<Value>,
     leaving: Leaving,
 ) -> Result<(), NoMemory>
-    ensures { OnOk result (Did (behind_scope p.now name purpose.now cells.now leaving) effect.old effect.new) }
+    ensures { OnOk result
+        (Did (behind_scope p.now name purpose.now cells.now leaving) effect.old effect.new) }
 {
     match purpose {
         Purpose::Block(_) => {
@@ -199,16 +200,6 @@ fn says_left(
     Ok(())
 }
 
-// A copy of the cells of a scope in use.
-fn copied_cells(alloc: Global, world: &World, id: ScopeId) -> Result<List<Value>, NoMemory>
-    ensures { IfOk result (λ cells. cells ≡ cells_of (scope_in_use world.now id)) }
-{
-    match scope_in_use(world, id) {
-        Some(scope) => Ok(scope.cells.clone()?),
-        None => Ok(List::new(alloc)),
-    }
-}
-
 // The scope of the mark on top has ended.
 fn end_of_scope(
     alloc: Global,
@@ -247,7 +238,8 @@ fn go_on_leaving(
     region: RegionNo,
     being_left: bool,
 ) -> Result<(), NoMemory>
-    ensures { OnOk result (Did (go_on_leaving p.now name m.now leaving region being_left) effect.old effect.new) }
+    ensures { OnOk result
+        (Did (go_on_leaving p.now name m.now leaving region being_left) effect.old effect.new) }
 {
     if !being_left {
         return leave_region(alloc, p, effect, name, m, leaving, region);

@@ -21,7 +21,9 @@ pub(crate) fn fall_from(
     name: Who,
     before: Level,
 ) -> Result<(), NoMemory>
-    ensures { OnOk result ((w : AnyWorld) → active_of p.now w name ≡ before → Did (fall_from p.now name w) effect.old effect.new) }
+    ensures { OnOk result
+        ((w : AnyWorld) → active_of p.now w name ≡ before
+        → Did (fall_from p.now name w) effect.old effect.new) }
 {
     if active_of(p, &effect.world, name) < before {
         to_head(p, effect, Part::ThePlacing, name)

@@ -82,7 +82,8 @@ fn end_all_made(
     actor: Who,
     tasks: &List<Kept>,
 ) -> Result<(), NoMemory>
-    ensures { OnOk result (Did (for_each (tasks_kept tasks.now) (end_made p.now actor)) effect.old effect.new) }
+    ensures { OnOk result
+        (Did (for_each (tasks_kept tasks.now) (end_made p.now actor)) effect.old effect.new) }
 {
     for task in tasks.iter() {
         end_made(alloc, p, effect, actor, *task)?;
@@ -99,7 +100,9 @@ fn end_made_in(
     actor: Who,
     region: RegionNo,
 ) -> Result<(), NoMemory>
-    ensures { OnOk result (Did (looks (λ w. for_each (filter (is_made_in region) w.tasks) (end_made p.now actor))) effect.old effect.new) }
+    ensures { OnOk result
+        (Did (looks (λ w. for_each (filter (is_made_in region) w.tasks) (end_made p.now actor)))
+        effect.old effect.new) }
 {
     let tasks = all_made_in(alloc, &effect.world.tasks, region)?;
     end_all_made(alloc, p, effect, actor, &tasks)
@@ -168,7 +171,8 @@ pub(crate) fn leave_region(
     leaving: Leaving,
     region: RegionNo,
 ) -> Result<(), NoMemory>
-    ensures { OnOk result (Did (leave_region p.now name m.now leaving region) effect.old effect.new) }
+    ensures { OnOk result
+        (Did (leave_region p.now name m.now leaving region) effect.old effect.new) }
 {
     set_being_left(&mut effect.world, name);
     put_left_as(&mut effect.world, name, leaving);

@@ -16,7 +16,6 @@ mod settling;
 
 pub use aborts::abort_statement;
 pub use activations::{activate, end_own_activation};
-pub use beginning::is_to_activate;
 pub use creation::create;
 pub use endings::end_scope_mark;
 pub use settling::{take_terminates, unwind_all};

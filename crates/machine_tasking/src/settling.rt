@@ -24,7 +24,8 @@ use world_tables::List;
 // A task that has come to its select with an open terminate alternative blocks there.
 #[tactic(auto, unfolding(profile_machine::specs::Tasking::block_at_terminate, profile_machine::specs::Dispatching::says_block))]
 fn block_at_terminate(effect: &mut Effect, name: Who) -> Result<(), NoMemory>
-    ensures { OnOk result (Did (looks (λ w. block_at_terminate name (waiting_of w name))) effect.old effect.new) }
+    ensures { OnOk result
+        (Did (looks (λ w. block_at_terminate name (waiting_of w name))) effect.old effect.new) }
 {
     match waiting_of(&effect.world, name) {
         Some(waiting) if waits_at_terminate(waiting) => {
@@ -37,7 +38,8 @@ fn block_at_terminate(effect: &mut Effect, name: Who) -> Result<(), NoMemory>
 
 // The tasks that may terminate by their open terminate alternatives.
 fn all_that_may_terminate(alloc: Global, world: &World) -> Result<List<Kept>, NoMemory>
-    ensures { IfOk result (λ kept. kept ≡ map kept_of (filter (may_terminate world.now) world.now.tasks)) }
+    ensures { IfOk result
+        (λ kept. kept ≡ map kept_of (filter (may_terminate world.now) world.now.tasks)) }
 {
     let mut kept = List::new(alloc);
     for task in world.tasks.iter() {
@@ -55,7 +57,9 @@ fn all_leave_by_terminate(
     actor: Who,
     tasks: &List<Kept>,
 ) -> Result<(), NoMemory>
-    ensures { OnOk result (Did (for_each (tasks_kept tasks.now) (leave_by_terminate p.now actor)) effect.old effect.new) }
+    ensures { OnOk result
+        (Did (for_each (tasks_kept tasks.now) (leave_by_terminate p.now actor)) effect.old
+        effect.new) }
 {
     for task in tasks.iter() {
         leave_by_terminate(p, effect, actor, task.who)?;
@@ -71,7 +75,11 @@ fn leave_selects(
     effect: &mut Effect,
     actor: Who,
 ) -> Result<(), NoMemory>
-    ensures { OnOk result (Did (looks (λ w. for_each (filter (may_terminate w) w.tasks) (leave_by_terminate p.now actor))) effect.old effect.new) }
+    ensures { OnOk result
+        (Did
+        (looks
+        (λ w. for_each (filter (may_terminate w) w.tasks) (leave_by_terminate p.now actor)))
+        effect.old effect.new) }
 {
     let tasks = all_that_may_terminate(alloc, &effect.world)?;
     all_leave_by_terminate(p, effect, actor, &tasks)
@@ -119,7 +127,8 @@ pub(crate) fn unwind_kept(
     actor: Who,
     tasks: &List<Kept>,
 ) -> Result<(), NoMemory>
-    ensures { OnOk result (Did (for_each (tasks_kept tasks.now) (unwind_one p.now actor)) effect.old effect.new) }
+    ensures { OnOk result
+        (Did (for_each (tasks_kept tasks.now) (unwind_one p.now actor)) effect.old effect.new) }
 {
     for task in tasks.iter() {
         unwind_one(p, effect, actor, *task)?;
@@ -129,7 +138,8 @@ pub(crate) fn unwind_kept(
 
 // The tasks with struck constructs.
 fn all_struck(alloc: Global, tasks: &List<Task>) -> Result<List<Kept>, NoMemory>
-    ensures { IfOk result (λ kept. kept ≡ map kept_of (filter (λ t. any_struck t.frames) tasks.now)) }
+    ensures { IfOk result
+        (λ kept. kept ≡ map kept_of (filter (λ t. any_struck t.frames) tasks.now)) }
 {
     let mut kept = List::new(alloc);
     for task in tasks.iter() {

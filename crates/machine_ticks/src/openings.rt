@@ -171,7 +171,8 @@ pub fn opening(
     lines: &mut List<Line>,
 ) -> Result<Effect, NoMemory>
     ensures world { IfOk result (λ effect. effect.world ≡ (opening p.now script).0) }
-    ensures lines { OnOk result (written p.now lines.new ≡ written p.now lines.old ++ (opening p.now script).1) }
+    ensures lines { OnOk result
+        (written p.now lines.new ≡ written p.now lines.old ++ (opening p.now script).1) }
     ensures in_order { IfOk result (λ effect. effect.said ≡ []) }
 {
     let mut effect = Effect {

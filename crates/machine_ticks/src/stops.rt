@@ -31,7 +31,9 @@ fn stop_by_end(ended: Option<Option<Raised>>) -> Option<Stopped>
 }
 
 fn is_stuck(world: &World) -> bool
-    ensures { result ≡ (is_empty world.now.places && is_empty world.now.appointments && is_empty world.now.script) }
+    ensures { result
+        ≡ (is_empty world.now.places && is_empty world.now.appointments
+        && is_empty world.now.script) }
 {
     world.places.is_empty() && world.appointments.is_empty() && world.script.is_empty()
 }

@@ -11,8 +11,8 @@ use ann_base::NoMemory;
 use machine_costs::cost;
 use machine_dispatching::choose;
 use machine_frames::{same_who, set_ticks, task_at, task_mut};
-use machine_handlers::charge;
 use machine_operators::Program;
+use machine_releases::charge;
 use profile_machine::world::World;
 use trace_text::Who;
 use world_tables::List;
@@ -39,7 +39,8 @@ fn ran_before(name: Who, ran: Option<Who>) -> bool
 
 // `run`, for somebody who did not run the tick before.
 fn says_run(name: Who, world: &mut World, lines: &mut List<TickLine>) -> Result<(), NoMemory>
-    ensures { OnOk result (Ticks (watches (λ w. says_run name w.ran)) world.old lines.old world.new lines.new) }
+    ensures { OnOk result
+        (Ticks (watches (λ w. says_run name w.ran)) world.old lines.old world.new lines.new) }
 {
     if !ran_before(name, world.ran) {
         lines.push_back(TickLine::Run(name))?;
@@ -49,7 +50,8 @@ fn says_run(name: Who, world: &mut World, lines: &mut List<TickLine>) -> Result<
 
 // The first release that is pending begins.
 fn serve_first(world: &mut World, lines: &mut List<TickLine>) -> Result<(), NoMemory>
-    ensures { OnOk result (Ticks (watches (λ w. serve_first w.releases)) world.old lines.old world.new lines.new) }
+    ensures { OnOk result
+        (Ticks (watches (λ w. serve_first w.releases)) world.old lines.old world.new lines.new) }
 {
     if let Some(release) = world.releases.pop_front() {
         world.serving = Some(release);

@@ -200,7 +200,9 @@ fn component_of_own(
     component: DeclNo,
     number: Option<ObjectNo>,
 ) -> Result<Variable, OrMemory<Raised>>
-    ensures { Answers result (component_of_own q.now.program component (option_and_then (object_of q.now.world) number)) }
+    ensures { Answers result
+        (component_of_own q.now.program component
+        (option_and_then (object_of q.now.world) number)) }
 {
     let Some(number) = number else {
         return Err(OrMemory::Fault(Raised::Program));

@@ -113,7 +113,8 @@ fn is_sought(world: &World, sought: Sought, scope: &ScopeInUse) -> bool
 // The first that is sought, from a scope in use outwards: this scope is looked at, and at most so many more.
 #[tactic(auto, using(crate::proofs::OutwardsLemmas::outwards_more))]
 fn outwards(more: usize, world: &World, sought: Sought, id: Option<ScopeId>) -> Option<&ScopeInUse>
-    ensures { option_copied result ≡ outwards (suc more) world.now.scopes (is_sought world.now sought) id }
+    ensures { option_copied result
+        ≡ outwards (suc more) world.now.scopes (is_sought world.now sought) id }
 {
     let scope = scope_in_use(world, id?)?;
     if is_sought(world, sought, scope) {

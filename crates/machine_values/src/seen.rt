@@ -26,7 +26,8 @@ impl<'a> Model for Seen<'a> {
 
     ghost Value = { WhatIsSeen };
 
-    ghost view = { λ seen. sight_of seen.program.now seen.world.now seen.who seen.within seen.object };
+    ghost view = { λ seen.
+        sight_of seen.program.now seen.world.now seen.who seen.within seen.object };
 }
 
 /// As somebody sees it at the first item of the own rest.

@@ -76,7 +76,8 @@ fn own_queue_length(q: &Seen<'_>, unit: EntryUnit, place: u32) -> usize
 }
 
 fn object_queue_length(q: &Seen<'_>, number: Option<ObjectNo>, place: u32) -> usize
-    ensures { result ≡ length (queue_at (queues_of (option_and_then (object_of q.now.world) number)) place) }
+    ensures { result
+        ≡ length (queue_at (queues_of (option_and_then (object_of q.now.world) number)) place) }
 {
     let Some(number) = number else {
         return 0;
@@ -92,7 +93,8 @@ fn object_queue_length(q: &Seen<'_>, number: Option<ObjectNo>, place: u32) -> us
 /// Errors: more calls are queued than an Integer can tell.
 pub fn count_of_entry(q: &Seen<'_>, entry: &Entry) -> Result<Value, NoMemory>
     ensures ok { IfOk result (λ value. value ≡ count_of_entry q.now entry.now) }
-    ensures err { OnErr result (2 ^ 31 ≤ length (queue_at (own_queues q.now entry.now.unit) entry.now.place)) }
+    ensures err { OnErr result
+        (2 ^ 31 ≤ length (queue_at (own_queues q.now entry.now.unit) entry.now.place)) }
 {
     match i32::try_from(own_queue_length(q, entry.unit, entry.place)) {
         Ok(count) => Ok(Value::Whole(count)),

@@ -40,7 +40,8 @@ fn both_values(
     right: ExprNo,
     left: Value,
 ) -> Result<Value, OrMemory<Raised>>
-    ensures { Answers result (both_values (value_by fuel q.now.program.expressions q.now) operator right left) }
+    ensures { Answers result
+        (both_values (value_by fuel q.now.program.expressions q.now) operator right left) }
 {
     if decides(operator, left) {
         Ok(left)
@@ -57,7 +58,8 @@ fn indexed(
     index: Option<ExprNo>,
     v: Variable,
 ) -> Result<Variable, OrMemory<Raised>>
-    ensures { Answers result (indexed (value_by fuel q.now.program.expressions q.now) q.now index v) }
+    ensures { Answers result
+        (indexed (value_by fuel q.now.program.expressions q.now) q.now index v) }
 {
     let Some(index) = index else {
         return Ok(v);
@@ -68,7 +70,8 @@ fn indexed(
 
 #[cycle(value)]
 fn variable_by(fuel: usize, q: &Seen<'_>, name: VariableName) -> Result<Variable, OrMemory<Raised>>
-    ensures { Answers result (variable_by (value_by fuel q.now.program.expressions q.now) q.now name) }
+    ensures { Answers result
+        (variable_by (value_by fuel q.now.program.expressions q.now) q.now name) }
 {
     let first = object_cell(q, name.object)?;
     indexed(fuel, q, name.index, first)
@@ -81,7 +84,8 @@ fn named_task(
     q: &Seen<'_>,
     task: Option<ExprNo>,
 ) -> Result<Option<TaskNo>, OrMemory<Raised>>
-    ensures { Answers result (named_task (value_by fuel q.now.program.expressions q.now) q.now task) }
+    ensures { Answers result
+        (named_task (value_by fuel q.now.program.expressions q.now) q.now task) }
 {
     match task {
         None => Ok(number_of(q.who)),
@@ -95,7 +99,8 @@ fn live_task_named<'a>(
     q: &Seen<'a>,
     task: Option<ExprNo>,
 ) -> Result<&'a Task, OrMemory<Raised>>
-    ensures { AnswersAs (λ t. t.now) result (live_task_named (value_by fuel q.now.program.expressions q.now) q.now task) }
+    ensures { AnswersAs (λ t. t.now) result
+        (live_task_named (value_by fuel q.now.program.expressions q.now) q.now task) }
 {
     let task = named_task(fuel, q, task)?;
     or_raised(live_task(q.world, task))
@@ -103,7 +108,8 @@ fn live_task_named<'a>(
 
 #[cycle(value)]
 fn form_value(fuel: usize, q: &Seen<'_>, expression: Expression) -> Result<Value, OrMemory<Raised>>
-    ensures { Answers result (form_value (value_by fuel q.now.program.expressions q.now) q.now expression) }
+    ensures { Answers result
+        (form_value (value_by fuel q.now.program.expressions q.now) q.now expression) }
 {
     match expression {
         Expression::Known(value) => Ok(value),

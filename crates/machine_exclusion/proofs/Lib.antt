@@ -1,0 +1,3 @@
+pub mod ActionLemmas
+pub mod HeadLemmas
+pub mod PlaceLemmas

@@ -1,0 +1,3 @@
+mod EditLemmas
+mod OkLemmas
+mod TickLemmas

@@ -1,23 +1,26 @@
 //! The numbers by which run-time things are named.
 
 /// A slot of the tables: 0 to 255 for live tasks, 256 for the agent that runs handlers.
-#[derive(Clone, Copy, Debug, PartialEq, Eq, PartialOrd, Ord, Hash)]
+#[derive(Clone, Copy, Debug, PartialEq, Eq, PartialOrd, Ord)]
 pub struct Slot(pub u16);
 
+/// How many slots there are.
+pub const SLOTS: usize = 257;
+
 /// A task, numbered in order of creation; 0 is the environment task (ISO/IEC 8652:2012, 10.2).
-#[derive(Clone, Copy, Debug, PartialEq, Eq, PartialOrd, Ord, Hash)]
+#[derive(Clone, Copy, Debug, PartialEq, Eq, PartialOrd, Ord)]
 pub struct TaskNo(pub u32);
 
 /// An entry call, numbered from 1 in the order in which calls are made (9.5.3).
-#[derive(Clone, Copy, Debug, PartialEq, Eq, PartialOrd, Ord, Hash)]
+#[derive(Clone, Copy, Debug, PartialEq, Eq, PartialOrd, Ord)]
 pub struct CallNo(pub u32);
 
 /// A protected object, numbered from 1 in order of creation (9.4).
-#[derive(Clone, Copy, Debug, PartialEq, Eq, PartialOrd, Ord, Hash)]
+#[derive(Clone, Copy, Debug, PartialEq, Eq, PartialOrd, Ord)]
 pub struct ObjectNo(pub u32);
 
 /// The region of a kept scope, numbered from 1 in the order in which such scopes begin (7.6.1, 9.3).
-#[derive(Clone, Copy, Debug, PartialEq, Eq, PartialOrd, Ord, Hash)]
+#[derive(Clone, Copy, Debug, PartialEq, Eq, PartialOrd, Ord)]
 pub struct RegionNo(pub u32);
 
 /// A moment or a span of virtual time, in ticks of one microsecond.

@@ -15,7 +15,7 @@ mod places;
 pub use exceptions::Raised;
 pub use faults::{Failed, Full, NoMemory, OrMemory};
 pub use host::{HostShelf, HostSink};
-pub use identities::{CallNo, Level, Moment, ObjectNo, RegionNo, Slot, TaskNo};
+pub use identities::{CallNo, Level, Moment, ObjectNo, RegionNo, SLOTS, Slot, TaskNo};
 pub use memory::{MemShelf, MemSink};
 pub use names::{NAME_BYTES, Name};
 pub use outside::{Shelf, Sink};

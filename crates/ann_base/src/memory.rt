@@ -62,7 +62,10 @@ impl MemShelf {
     /// Counts a call, and answers whether it is one of those that fail.
     fn begin(&mut self) -> bool
         ensures bounded { self.old.faults < 2 ^ 64 }
-        ensures counted { (result ≡ next_fails self.old.fails self.old.calls) × (self.new ≡ record self.old { calls = one_more self.old.calls; faults = faults_after result self.old.faults }) }
+        ensures counted { (result ≡ next_fails self.old.fails self.old.calls)
+            × (self.new
+            ≡ record self.old
+            { calls = one_more self.old.calls; faults = faults_after result self.old.faults }) }
     {
         self.calls = self.calls.saturating_add(1);
         let failing = self.fails.contains(&self.calls);
@@ -85,14 +88,19 @@ impl Shelf for MemShelf {
     ghost faults = { λ s. s.faults };
 
     fn pick(&mut self, name: &[u8]) -> Result<(), Failed>
-        ensures answer { result ≡ pick_answer (next_fails self.old.fails self.old.calls) (first_named self.old.files name.now) }
+        ensures answer { result
+            ≡ pick_answer (next_fails self.old.fails self.old.calls)
+            (first_named self.old.files name.now) }
         ensures state { self.new ≡ after_pick self.old name.now }
         ensures files { Some (first_named self.new.files) ≡ Some (first_named self.old.files) }
         ensures monotone { self.old.faults ≤ self.new.faults }
         ensures ok { OnOk result (is_some self.new.at ≡ true) }
-        ensures start { OnOk result (IsPickedAt (Some (first_named self.old.files)) name.now self.new.at) }
+        ensures start { OnOk result
+            (IsPickedAt (Some (first_named self.old.files)) name.now self.new.at) }
         ensures err { OnErr result (is_some self.new.at ≡ false) }
-        ensures cause { OnErr result (Lacks (Some (first_named self.old.files)) name.now (Rose self.old.faults self.new.faults)) }
+        ensures cause { OnErr result
+            (Lacks (Some (first_named self.old.files)) name.now
+            (Rose self.old.faults self.new.faults)) }
     {
         if self.begin() {
             self.picked = None;
@@ -114,12 +122,16 @@ impl Shelf for MemShelf {
         requires { is_some self.old.at ≡ true }
         ensures answer { result ≡ read_answer self.old (length piece.old) }
         ensures state { self.new ≡ after_read self.old (length piece.old) }
-        ensures bytes { IfOk result (λ count. take count piece.new ≡ take count (rest_at self.old.files self.old.at)) }
+        ensures bytes { IfOk result
+            (λ count. take count piece.new ≡ take count (rest_at self.old.files self.old.at)) }
         ensures files { Some (first_named self.new.files) ≡ Some (first_named self.old.files) }
         ensures monotone { self.old.faults ≤ self.new.faults }
         ensures picked { is_some self.new.at ≡ true }
         ensures within { IfOk result (λ count. count ≤ length piece.old) }
-        ensures ok { IfOk result (λ count. HasRead (Some (first_named self.old.files)) self.old.at self.new.at (length piece.old) (take count piece.new) count) }
+        ensures ok { IfOk result
+            (λ count.
+            HasRead (Some (first_named self.old.files)) self.old.at self.new.at (length piece.old)
+            (take count piece.new) count) }
         ensures err { OnErr result (self.new.at ≡ self.old.at) }
         ensures cause { OnErr result (Rose self.old.faults self.new.faults) }
     {
@@ -181,7 +193,8 @@ fn copy_front(bytes: &[u8], offset: usize, most: usize, piece: &mut [u8]) -> usi
 
 /// The place of the first file of this name.
 fn position_of(files: &[(Vec<u8>, Vec<u8>)], name: &[u8]) -> Option<usize>
-    ensures { MatchOption result (first_named (files_of files.now) name.now ≡ None) (StandsAt (files_of files.now) name.now) }
+    ensures { MatchOption result (first_named (files_of files.now) name.now ≡ None)
+        (StandsAt (files_of files.now) name.now) }
 {
     for (place, file) in files.iter().enumerate() {
         if file.0.as_slice() == name {
@@ -241,7 +254,8 @@ impl Sink for MemSink {
         ensures monotone { self.old.faults ≤ self.new.faults }
         ensures within { IfOk result (λ count. count ≤ length piece.now) }
         ensures some { IfOk result (λ count. 0 < length piece.now → 0 < count) }
-        ensures ok { IfOk result (λ count. Some self.new.held ≡ extended (Some self.old.held) (take count piece.now)) }
+        ensures ok { IfOk result
+            (λ count. Some self.new.held ≡ extended (Some self.old.held) (take count piece.now)) }
         ensures err { OnErr result (Some self.new.held ≡ Some self.old.held) }
         ensures cause { OnErr result (Rose self.old.faults self.new.faults) }
     {

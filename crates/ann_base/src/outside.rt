@@ -28,7 +28,8 @@ pub trait Shelf {
         ensures ok { OnOk result (picked self.new ≡ true) }
         ensures start { OnOk result (IsPickedAt (files self.old) name.now (at self.new)) }
         ensures err { OnErr result (picked self.new ≡ false) }
-        ensures cause { OnErr result (Lacks (files self.old) name.now (Rose (faults self.old) (faults self.new))) };
+        ensures cause { OnErr result
+            (Lacks (files self.old) name.now (Rose (faults self.old) (faults self.new))) };
 
     /// Reads bytes of the picked file into the front of `piece`, and answers how many. The answer is 0 for a
     /// nonempty piece exactly at the file's end, where the shelf tells its files.
@@ -38,7 +39,10 @@ pub trait Shelf {
         ensures monotone { faults self.old ≤ faults self.new }
         ensures picked { picked self.new ≡ true }
         ensures within { IfOk result (λ count. count ≤ length piece.old) }
-        ensures ok { IfOk result (λ count. HasRead (files self.old) (at self.old) (at self.new) (length piece.old) (take count piece.new) count) }
+        ensures ok { IfOk result
+            (λ count.
+            HasRead (files self.old) (at self.old) (at self.new) (length piece.old)
+            (take count piece.new) count) }
         ensures err { OnErr result (at self.new ≡ at self.old) }
         ensures cause { OnErr result (Rose (faults self.old) (faults self.new)) };
 }
@@ -56,7 +60,8 @@ pub trait Sink {
         ensures monotone { faults self.old ≤ faults self.new }
         ensures within { IfOk result (λ count. count ≤ length piece.now) }
         ensures some { IfOk result (λ count. 0 < length piece.now → 0 < count) }
-        ensures ok { IfOk result (λ count. held self.new ≡ extended (held self.old) (take count piece.now)) }
+        ensures ok { IfOk result
+            (λ count. held self.new ≡ extended (held self.old) (take count piece.now)) }
         ensures err { OnErr result (held self.new ≡ held self.old) }
         ensures cause { OnErr result (Rose (faults self.old) (faults self.new)) };
 }

@@ -1,13 +1,14 @@
 -- A level as a list of entries: who stands there, in order, each with a key. A key has a rank, a whole number.
 use Rattle.std.specs.Prelude.{◌≡◌, ◌<◌, ◌≤ℤ◌, ◌+◌, ℕ, ℤ, Bool, true, false, ◌==◌, ◌||◌, if◌then◌else◌, List, [], ◌∷◌, Option, Some, None, int_lt}
 use Rattle.ann_base.specs.declared.identities.Slot.{Slot}
+use Rattle.ann_base.specs.declared.identities.TheConstants.{SLOTS}
 
 abbrev pub Entry : Type 0 → Type 0
 Entry K = Slot × K
 
--- one of the 257 slots
+-- one of the slots
 abbrev pub IsSlot : Slot → Type 0
-IsSlot t = t.0 < 257
+IsSlot t = t.0 < SLOTS
 
 -- whether t stands there
 abbrev pub holds : {K : Type 0} → Slot → List (Entry K) → Bool
@@ -69,7 +70,7 @@ pub record IsOrdered {K : Type 0} (rank : K → ℤ) (es : List (Entry K)) : Typ
   pub distinct : IsDistinct es
   pub ranked : IsRanked rank es
 
--- every slot is one of the 257
+-- every slot is one of those that there are
 abbrev pub AreSlots : {K : Type 0} → List (Entry K) → Type 0
 AreSlots [] = Unit {0}
 AreSlots (e ∷ es) = IsSlot e.0 × AreSlots es

@@ -2,12 +2,9 @@
 ghost use Rattle.std.specs.Prelude.{◌≡◌, ◌≤◌, [], length, IfOk, Some, true, false, insert, ◌∷◌, ◌++◌};
 ghost use Rattle.level_policies.specs.Entries.{IsSlot, holds, head_of, key_of, removed, rekeyed, place_of, IsDistinct};
 
-use ann_base::{NoMemory, Slot};
+use ann_base::{NoMemory, SLOTS, Slot};
 use std::alloc::Global;
 use std::marker::Model;
-
-/// As many as there are slots.
-pub const ROOM: usize = 257;
 
 /// Slots with keys in an order that its owner decides. No slot stands there twice.
 #[derive(Drop)]
@@ -17,13 +14,16 @@ pub struct Line<K> {
 
 impl<K> Model for Line<K> {
     ghost use Rattle.std.specs.Prelude.{List, ◌≤◌, vec_capacity};
+    ghost use Rattle.ann_base.specs.declared.identities.TheConstants.{SLOTS};
     ghost use Rattle.level_policies.specs.Entries.{Entry, IsDistinct, AreSlots};
 
     ghost Value = { List (Entry K) };
 
     ghost view = { λ line. line.entries.items };
 
-    ghost invariant = { λ line. (257 ≤ vec_capacity line.entries) × IsDistinct line.entries.items × AreSlots line.entries.items };
+    ghost invariant = { λ line.
+        (SLOTS ≤ vec_capacity line.entries) × IsDistinct line.entries.items
+        × AreSlots line.entries.items };
 }
 
 impl<K: Copy> Line<K> {
@@ -32,7 +32,7 @@ impl<K: Copy> Line<K> {
         ensures { IfOk result (λ line. line ≡ []) }
     {
         Ok(Line {
-            entries: Vec::with_capacity(alloc, ROOM)?,
+            entries: Vec::with_capacity(alloc, SLOTS)?,
         })
     }
 

@@ -25,14 +25,16 @@ pub trait LevelPolicy: Drop {
     fn put_tail(&mut self, t: Slot, key: Self::Key)
         requires slot { IsSlot t }
         requires absent { holds t (entries self.old) ≡ false }
-        ensures placed { entries self.new ≡ placed_tail (discipline self.old).rank t key (entries self.old) }
+        ensures placed { entries self.new
+            ≡ placed_tail (discipline self.old).rank t key (entries self.old) }
         ensures same_discipline { discipline self.new ≡ discipline self.old };
 
     /// Puts `t` before all whose rank is not smaller, and behind the others.
     fn put_head(&mut self, t: Slot, key: Self::Key)
         requires slot { IsSlot t }
         requires absent { holds t (entries self.old) ≡ false }
-        ensures placed { entries self.new ≡ placed_head (discipline self.old).rank t key (entries self.old) }
+        ensures placed { entries self.new
+            ≡ placed_head (discipline self.old).rank t key (entries self.old) }
         ensures same_discipline { discipline self.new ≡ discipline self.old };
 
     /// Takes `t` out. The others keep their order.
@@ -55,9 +57,13 @@ pub trait LevelPolicy: Drop {
     /// then spent and `t` is not fixed to its place. Nobody is moved.
     fn spend(&mut self, t: Slot, fixed: bool) -> bool
         requires { holds t (entries self.old) ≡ true }
-        ensures charged { entries self.new ≡ rekeyed (discipline self.old).after_tick t (entries self.old) }
-        ensures moves { result ≡ (is_spent_at (discipline self.old) t (entries self.new) && not fixed) }
+        ensures charged { entries self.new
+            ≡ rekeyed (discipline self.old).after_tick t (entries self.old) }
+        ensures moves { result
+            ≡ (is_spent_at (discipline self.old) t (entries self.new) && not fixed) }
         ensures same_discipline { discipline self.new ≡ discipline self.old };
 
-    ghost spend_keeps_rank: { (level : Self) (key : Self.Key) → (discipline level).rank ((discipline level).after_tick key) ≡ (discipline level).rank key };
+    ghost spend_keeps_rank: { (level : Self) (key : Self.Key)
+        → (discipline level).rank ((discipline level).after_tick key)
+        ≡ (discipline level).rank key };
 }

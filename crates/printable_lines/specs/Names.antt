@@ -1,6 +1,7 @@
 -- What is asked of the names of a program, and what every line of its runs then is: printable, where it names something.
 use Rattle.std.specs.Prelude.{◌≢◌, ◌≤◌, ◌<◌, ◌^◌, ℕ, ℤ, Bool, false, not, ◌&&◌, leb, IsTrue, List, [], ◌∷◌, All, bytes_eq, codes, length}
 use Rattle.std.specs.List.{list_all}
+use Rattle.ann_base.specs.declared.names.TheConstants.{NAME_BYTES}
 use Rattle.trace_text.specs.declared.events.EntryName.{EntryName}
 use Rattle.trace_text.specs.declared.events.EntryName.TheVariants as called
 use Rattle.trace_text.specs.declared.events.Finished.{Finished}
@@ -21,11 +22,11 @@ use Rattle.profile_machine.specs.Run.{run_of}
 -- a name, and the name of an exception, for which a line has room
 pub record IsShortName (name : List ℕ) : Type 0 where
   pub name_is : IsName name
-  pub short : length name ≤ 1000
+  pub short : length name ≤ NAME_BYTES
 
 pub record IsShortException (name : List ℕ) : Type 0 where
   pub exception_is : IsExceptionName name
-  pub short : length name ≤ 1000
+  pub short : length name ≤ NAME_BYTES
 
 -- Each name of the program can stand in a line. Every declaration is asked for an expanded name that an exception may have:
 -- only a library unit could be named as one of the other ends of a call.
@@ -68,28 +69,28 @@ IsComplete _ = Unit {0}
 
 -- there is room for each name and text of the line
 abbrev pub HasRoomForEntry : EntryName → Type 0
-HasRoomForEntry (called.OfTask task name) = length name ≤ 1000
-HasRoomForEntry (called.OfObject object name) = length name ≤ 1000
+HasRoomForEntry (called.OfTask task name) = length name ≤ NAME_BYTES
+HasRoomForEntry (called.OfObject object name) = length name ≤ NAME_BYTES
 
 abbrev pub HasRoomForFinished : Finished → Type 0
 HasRoomForFinished finished.Ok = Unit {0}
-HasRoomForFinished (finished.Raised name) = length name ≤ 1000
+HasRoomForFinished (finished.Raised name) = length name ≤ NAME_BYTES
 HasRoomForFinished finished.Requeue = Unit {0}
 
 abbrev pub HasRoomForEnded : Ended → Type 0
 HasRoomForEnded why.Completed = Unit {0}
-HasRoomForEnded (why.Exception name) = length name ≤ 1000
+HasRoomForEnded (why.Exception name) = length name ≤ NAME_BYTES
 HasRoomForEnded why.Stuck = Unit {0}
 HasRoomForEnded why.Bound = Unit {0}
 
 abbrev pub HasRoom : Event → Type 0
-HasRoom (line.New what name level) = length name ≤ 1000
-HasRoom (line.Raise who name) = length name ≤ 1000
-HasRoom (line.Put who text) = length text ≤ 1000
+HasRoom (line.New what name level) = length name ≤ NAME_BYTES
+HasRoom (line.Raise who name) = length name ≤ NAME_BYTES
+HasRoom (line.Put who text) = length text ≤ NAME_BYTES
 HasRoom (line.Call task call entry priority) = HasRoomForEntry entry
 HasRoom (line.Finish who call how) = HasRoomForFinished how
-HasRoom (line.Init who object region name) = length name ≤ 1000
-HasRoom (line.Release release object handler) = length handler ≤ 1000
+HasRoom (line.Init who object region name) = length name ≤ NAME_BYTES
+HasRoom (line.Release release object handler) = length handler ≤ NAME_BYTES
 HasRoom (line.End why) = HasRoomForEnded why
 HasRoom _ = Unit {0}
 
@@ -126,7 +127,7 @@ RunsArePrintable = (p : Image) (script : List (ℤ × Item)) (bound : ℕ) → I
 -- ---- a test of what is asked
 
 abbrev pub is_short_name : List ℕ → Bool
-is_short_name name = is_name_from false name && leb (length name) 1000
+is_short_name name = is_name_from false name && leb (length name) NAME_BYTES
 
 abbrev pub is_short_exception : List ℕ → Bool
 is_short_exception name = not (bytes_eq name (codes "ok")) && (not (bytes_eq name (codes "requeue")) && is_short_name name)

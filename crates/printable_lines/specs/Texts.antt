@@ -1,6 +1,7 @@
 -- What a Put_Line of a program can put (A.10.7), and what every text then is that a run puts.
 use Rattle.std.specs.Prelude.{◌≡◌, ◌≤◌, ◌<◌, ◌+◌, ◌^◌, ℕ, ℤ, pos, negsuc, Bool, true, cond, leb, IsTrue, List, [], ◌∷◌, ◌++◌, length}
 use Rattle.std.specs.List.{list_all, AllByRecursion}
+use Rattle.ann_base.specs.declared.names.TheConstants.{NAME_BYTES}
 use Rattle.trace_text.specs.declared.events.Event.{Event}
 use Rattle.trace_text.specs.declared.events.Event.TheVariants as line
 use Rattle.trace_text.specs.Text.{is_text_byte, IsPutText}
@@ -70,7 +71,7 @@ has_text_bytes p (piece.Literal e n) = list_all are_text_bytes (literals_of p n)
 -- a line has room for the text of these pieces, and each byte of it may stand there
 pub record IsShortPut (p : Image) (pieces : List Piece) : Type 0 where
   pub bytes : IsTrue (list_all (has_text_bytes p) pieces)
-  pub short : most_bytes_of_all p pieces ≤ 1000
+  pub short : most_bytes_of_all p pieces ≤ NAME_BYTES
 
 -- so it is of each Put_Line of the program
 abbrev pub PutsAreShort : Image → Type 0

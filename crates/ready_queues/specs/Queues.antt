@@ -1,6 +1,8 @@
 -- The ready queues as lists: for each level, the lowest first, the entries that stand there (ISO/IEC 8652:2012, D.2.1).
 use Rattle.std.specs.Prelude.{◌≡◌, ◌+◌, ℕ, pos, Bool, false, ◌==◌, ◌||◌, if◌then◌else◌, List, [], ◌∷◌, Option, Some, None, length, slice_index_or, slice_set}
 use Rattle.ann_base.specs.declared.identities.Slot.{Slot}
+use Rattle.ann_base.specs.declared.identities.TheConstants.{SLOTS}
+use Rattle.ready_queues.specs.declared.queues.TheConstants.{LEVELS}
 use Rattle.level_policies.specs.Entries.{Entry, IsSlot, IsOrdered, holds, head_of, placed_tail, placed_head, removed, rekeyed}
 use Rattle.level_policies.specs.Disciplines.{Discipline, is_spent_at}
 
@@ -76,9 +78,9 @@ abbrev pub AreEmpty : {K : Type 0} → List (List (Entry K)) → Type 0
 AreEmpty [] = Unit {0}
 AreEmpty (es ∷ higher) = (es ≡ []) × AreEmpty higher
 
--- what the table of levels keeps: 99 levels, a place for each slot, and both say the same
+-- what the table of levels keeps: all levels, a place for each slot, and both say the same
 pub record IsTable {K : Type 0} (disciplines : List (Discipline K)) (lists : List (List (Entry K))) (places : List (Option ℕ)) : Type 0 where
-  pub levels : length lists ≡ 99
-  pub slots : length places ≡ 257
+  pub levels : length lists ≡ LEVELS
+  pub slots : length places ≡ SLOTS
   pub agrees : Agrees lists places
   pub ordered : AreOrdered disciplines lists

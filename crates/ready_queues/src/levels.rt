@@ -11,7 +11,8 @@ pub fn put_tail<L: LevelPolicy>(levels: &mut [L], level: Level, t: Slot, key: L:
     requires slot { IsSlot t }
     requires level_number { level < length levels.old }
     requires absent { holds t (entries_at level (map L.entries levels.old)) ≡ false }
-    ensures placed { map L.entries levels.new ≡ tail_at (map L.discipline levels.old) level t key (map L.entries levels.old) }
+    ensures placed { map L.entries levels.new
+        ≡ tail_at (map L.discipline levels.old) level t key (map L.entries levels.old) }
     ensures same_disciplines { map L.discipline levels.new ≡ map L.discipline levels.old }
 {
     let queue = &mut levels[usize::from(level)];
@@ -23,7 +24,8 @@ pub fn put_head<L: LevelPolicy>(levels: &mut [L], level: Level, t: Slot, key: L:
     requires slot { IsSlot t }
     requires level_number { level < length levels.old }
     requires absent { holds t (entries_at level (map L.entries levels.old)) ≡ false }
-    ensures placed { map L.entries levels.new ≡ head_at (map L.discipline levels.old) level t key (map L.entries levels.old) }
+    ensures placed { map L.entries levels.new
+        ≡ head_at (map L.discipline levels.old) level t key (map L.entries levels.old) }
     ensures same_disciplines { map L.discipline levels.new ≡ map L.discipline levels.old }
 {
     let queue = &mut levels[usize::from(level)];
@@ -34,7 +36,9 @@ pub fn put_head<L: LevelPolicy>(levels: &mut [L], level: Level, t: Slot, key: L:
 pub fn remove<L: LevelPolicy>(levels: &mut [L], level: Level, t: Slot)
     requires level_number { level < length levels.old }
     requires present { holds t (entries_at level (map L.entries levels.old)) ≡ true }
-    ensures left { map L.entries levels.new ≡ slice_set (map L.entries levels.old) level (removed t (entries_at level (map L.entries levels.old))) }
+    ensures left { map L.entries levels.new
+        ≡ slice_set (map L.entries levels.old) level
+        (removed t (entries_at level (map L.entries levels.old))) }
     ensures same_disciplines { map L.discipline levels.new ≡ map L.discipline levels.old }
 {
     let queue = &mut levels[usize::from(level)];
@@ -45,8 +49,11 @@ pub fn remove<L: LevelPolicy>(levels: &mut [L], level: Level, t: Slot)
 pub fn spend<L: LevelPolicy>(levels: &mut [L], level: Level, t: Slot, fixed: bool) -> bool
     requires level_number { level < length levels.old }
     requires present { holds t (entries_at level (map L.entries levels.old)) ≡ true }
-    ensures charged { map L.entries levels.new ≡ charged_at (map L.discipline levels.old) level t (map L.entries levels.old) }
-    ensures moves { result ≡ (is_spent_on (map L.discipline levels.old) level t (map L.entries levels.new) && not fixed) }
+    ensures charged { map L.entries levels.new
+        ≡ charged_at (map L.discipline levels.old) level t (map L.entries levels.old) }
+    ensures moves { result
+        ≡ (is_spent_on (map L.discipline levels.old) level t (map L.entries levels.new)
+        && not fixed) }
     ensures same_disciplines { map L.discipline levels.new ≡ map L.discipline levels.old }
 {
     let queue = &mut levels[usize::from(level)];

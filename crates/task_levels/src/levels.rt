@@ -1,15 +1,14 @@
 //! The priorities of all tasks.
 ghost use Rattle.std.specs.Prelude.{◌≡◌, ◌<◌, ◌≤◌, ◌+◌, true, false, None, Some, nat_lt, IfOk, IsSomeAnd, slice_set, length};
+ghost use Rattle.ann_base.specs.declared.identities.TheConstants.{SLOTS};
+ghost use Rattle.task_levels.specs.declared.levels.TheConstants.{INHERITED};
 ghost use Rattle.task_levels.specs.TaskLevels.{IsSlot, starting_at, has_cause, task_at, is_there, active_at, inherited_at, inherited_count, changed_at, inheriting, losing, based_at, deferring, settled, keeping, greatest_inherited_of};
 
 use crate::causes::Cause;
 use crate::rows::{self, Inherited, Own};
-use ann_base::{Level, NoMemory, Slot};
+use ann_base::{Level, NoMemory, SLOTS, Slot};
 use std::alloc::Global;
 use std::marker::Model;
-
-// As many as there are slots.
-const SLOTS: usize = 257;
 
 /// As many inherited priorities as there is room for: one for each frame and two for each slot.
 pub const INHERITED: usize = 66050;
@@ -24,6 +23,8 @@ pub struct Levels {
 
 impl Model for Levels {
     ghost use Rattle.std.specs.Prelude.{◌≡◌, ◌≤◌, List, Option, length, vec_capacity};
+    ghost use Rattle.ann_base.specs.declared.identities.TheConstants.{SLOTS};
+    ghost use Rattle.task_levels.specs.declared.levels.TheConstants.{INHERITED};
     ghost use Rattle.task_levels.specs.TaskLevels.{Priorities};
     ghost use Rattle.task_levels.specs.Shown.{shown_from, AreThere};
 
@@ -31,13 +32,15 @@ impl Model for Levels {
 
     ghost view = { λ levels. shown_from 0 levels.inherited.items levels.owns.items };
 
-    ghost invariant = { λ levels. (length levels.owns.items ≡ 257) × (66050 ≤ vec_capacity levels.inherited) × AreThere levels.owns.items levels.inherited.items };
+    ghost invariant = { λ levels.
+        (length levels.owns.items ≡ SLOTS) × (INHERITED ≤ vec_capacity levels.inherited)
+        × AreThere levels.owns.items levels.inherited.items };
 }
 
 impl Levels {
     /// No task is there. No later call takes memory.
     pub fn with_room(alloc: Global) -> Result<Levels, NoMemory>
-        ensures slots { IfOk result (λ levels. length levels ≡ 257) }
+        ensures slots { IfOk result (λ levels. length levels ≡ SLOTS) }
         ensures absent { IfOk result (λ levels. (t : Slot) → task_at t levels ≡ None) }
         ensures count { IfOk result (λ levels. inherited_count levels ≡ 0) }
     {
@@ -77,7 +80,7 @@ impl Levels {
         requires slot { IsSlot t }
         requires there { is_there t self.old ≡ true }
         requires lacks { has_cause cause (inherited_at t self.old) ≡ false }
-        requires room { inherited_count self.old < 66050 }
+        requires room { inherited_count self.old < INHERITED }
         ensures inherits { self.new ≡ changed_at t (inheriting cause level) self.old }
         ensures count { inherited_count self.new ≡ inherited_count self.old + 1 }
         ensures rose { result ≡ nat_lt (active_at t self.old) (active_at t self.new) }

@@ -59,7 +59,8 @@ pub fn greatest_inherited(inherited: &[Inherited], t: Slot) -> Option<Level>
 
 /// Drops all that the task in a slot inherits.
 pub fn drop_slot(inherited: &mut Vec<Inherited>, t: Slot)
-    ensures left { inherited.new.items ≡ filter (λ one. not (one.slot.0 == t.0)) inherited.old.items }
+    ensures left { inherited.new.items
+        ≡ filter (λ one. not (one.slot.0 == t.0)) inherited.old.items }
     ensures capacity { vec_capacity inherited.new ≡ vec_capacity inherited.old }
 {
     inherited.retain(|one| one.slot != t);
@@ -67,7 +68,9 @@ pub fn drop_slot(inherited: &mut Vec<Inherited>, t: Slot)
 
 /// Drops what the task in a slot inherits for a cause.
 pub fn drop_cause(inherited: &mut Vec<Inherited>, t: Slot, cause: Cause)
-    ensures left { inherited.new.items ≡ filter (λ one. not ((one.slot.0 == t.0) && same_cause one.cause cause)) inherited.old.items }
+    ensures left { inherited.new.items
+        ≡ filter (λ one. not ((one.slot.0 == t.0) && same_cause one.cause cause))
+        inherited.old.items }
     ensures capacity { vec_capacity inherited.new ≡ vec_capacity inherited.old }
 {
     inherited.retain(|one| !is_of(one, t, cause));

@@ -3,6 +3,7 @@ use Rattle.std.specs.Prelude.{◌≡◌, ℕ, ◌+◌, ◌<◌, ◌≤◌, ⊤, 
 use Rattle.ann_base.specs.declared.identities.Slot.{Slot}
 use Rattle.task_masters.specs.declared.task.Task.{Task}
 use Rattle.task_masters.specs.declared.task.Home.{Home}
+use Rattle.task_masters.specs.declared.masters.TheConstants.{LIVE_TASKS}
 use Rattle.task_masters.specs.Tasks.{is_live}
 
 -- numbers rise from the first on, and are below the next
@@ -21,15 +22,15 @@ times_free n (slot ∷ free) = cond (slot.0 == n) 1 0 + times_free n free
 
 -- each slot is that of one live task, or free once
 abbrev pub EachSlotOnce : List Task → List Slot → Type 0
-EachSlotOnce tasks free = (n : ℕ) → n < 256 → times_live n tasks + times_free n free ≡ 1
+EachSlotOnce tasks free = (n : ℕ) → n < LIVE_TASKS → times_live n tasks + times_free n free ≡ 1
 
 abbrev pub IsInRange : List Task → Type 0
 IsInRange [] = ⊤
-IsInRange (t ∷ tasks) = (t.slot.0 < 256) × IsInRange tasks
+IsInRange (t ∷ tasks) = (t.slot.0 < LIVE_TASKS) × IsInRange tasks
 
 abbrev pub IsFreeInRange : List Slot → Type 0
 IsFreeInRange [] = ⊤
-IsFreeInRange (slot ∷ free) = (slot.0 < 256) × IsFreeInRange free
+IsFreeInRange (slot ∷ free) = (slot.0 < LIVE_TASKS) × IsFreeInRange free
 
 -- who made a task is live and older
 abbrev pub HasOlder : Option Home → List Task → Type 0
@@ -47,5 +48,5 @@ pub record IsSound (tasks : List Task) (free : List Slot) (next : ℕ) : Type 0 
   pub slots : EachSlotOnce tasks free
   pub in_range : IsInRange tasks
   pub free_in_range : IsFreeInRange free
-  pub total : length tasks + length free ≡ 256
+  pub total : length tasks + length free ≡ LIVE_TASKS
   pub grown : IsGrown (reverse tasks)

@@ -34,7 +34,8 @@ impl Model for Masters {
 
     ghost view = { λ m. record { tasks = m.tasks.items; next = m.next } };
 
-    ghost invariant = { λ m. (LIVE_TASKS ≤ vec_capacity m.tasks) × (LIVE_TASKS ≤ vec_capacity m.free)
+    ghost invariant = { λ m.
+        (LIVE_TASKS ≤ vec_capacity m.tasks) × (LIVE_TASKS ≤ vec_capacity m.free)
         × IsSound m.tasks.items m.free.items m.next };
 }
 
@@ -86,9 +87,11 @@ impl Masters {
         ensures full { IsErr result ↔ (length self.old.tasks ≡ LIVE_TASKS) }
         ensures as_before { OnErr result (self.new ≡ self.old) }
         ensures number { IfOk result (λ made. made.1.0 ≡ self.old.next) }
-        ensures slot { IfOk result (λ made. (made.0.0 < LIVE_TASKS) × (is_live self.old.tasks made.0 ≡ false)) }
+        ensures slot { IfOk result
+            (λ made. (made.0.0 < LIVE_TASKS) × (is_live self.old.tasks made.0 ≡ false)) }
         ensures tasks { IfOk result (λ made. self.new.tasks
-            ≡ self.old.tasks ++ made_task made.0 made.1 (home_of self.old.tasks creator master part) ∷ []) }
+            ≡ self.old.tasks ++ made_task made.0 made.1 (home_of self.old.tasks creator master part)
+            ∷ []) }
         ensures next { OnOk result (self.new.next ≡ self.old.next + 1) }
 
         // The new task depends on its master and on what its creator depends on; the others depend as before.
@@ -113,7 +116,8 @@ impl Masters {
         requires { is_live self.old.tasks creator ≡ true }
         ensures count { result ≡ length (filter (begins creator master part) self.old.tasks) }
         ensures tasks { self.new.tasks
-            ≡ map (begun creator master part (first_number creator master part self.old.tasks)) self.old.tasks }
+            ≡ map (begun creator master part (first_number creator master part self.old.tasks))
+            self.old.tasks }
         ensures next { self.new.next ≡ self.old.next }
     {
         let group = first_number(&self.tasks, creator, master, part);
@@ -127,7 +131,8 @@ impl Masters {
     pub fn activation_ended(&mut self, t: Slot, failed: bool) -> Option<(Slot, bool)>
         requires { is_live self.old.tasks t ≡ true }
         ensures told { result ≡ told self.old.tasks t failed (activation_of self.old.tasks t) }
-        ensures tasks { self.new.tasks ≡ after_activation self.old.tasks t failed (activation_of self.old.tasks t) }
+        ensures tasks { self.new.tasks
+            ≡ after_activation self.old.tasks t failed (activation_of self.old.tasks t) }
         ensures next { self.new.next ≡ self.old.next }
     {
         let Some(activation) = activation_of(&self.tasks, t) else {
@@ -229,7 +234,8 @@ fn environment_task() -> Task
 fn free_all(free: &mut Vec<Slot>)
     requires empty { free.old.items ≡ [] }
     requires room { LIVE_TASKS ≤ vec_capacity free.old }
-    ensures slots { (n : ℕ) → n < 256 → times_free n free.new.items ≡ (if nat_lt 0 n then 1 else 0) }
+    ensures slots { (n : ℕ) → n < LIVE_TASKS
+        → times_free n free.new.items ≡ (if nat_lt 0 n then 1 else 0) }
     ensures in_range { IsFreeInRange free.new.items }
     ensures count { length free.new.items ≡ 255 }
     ensures capacity { vec_capacity free.new ≡ vec_capacity free.old }

@@ -5,6 +5,7 @@ use Rattle.std.specs.Str.{bytes_eq}
 use Rattle.std.specs.Str.Parse.{digits_value}
 use Rattle.ann_base.specs.declared.identities.TaskNo.{TaskNo}
 use Rattle.ann_base.specs.declared.identities.ObjectNo.{ObjectNo}
+use Rattle.ann_base.specs.declared.names.TheConstants.{NAME_BYTES}
 use Rattle.trace_text.specs.declared.events.EntryName.{EntryName}
 use Rattle.trace_text.specs.declared.events.EntryName.TheVariants.{OfTask, OfObject}
 use Rattle.trace_text.specs.declared.events.Finished.{Finished}
@@ -94,10 +95,10 @@ abbrev pub object_in : List ℕ → Option ObjectNo
 object_in bytes = behind 112 bytes >>= λ digits. long_in digits >>= λ n. Some (record { 0 = n })
 
 abbrev pub name_in : List ℕ → Option (List ℕ)
-name_in bytes = if is_name_from false bytes && nat_le (length bytes) 1000 then Some bytes else None
+name_in bytes = if is_name_from false bytes && nat_le (length bytes) NAME_BYTES then Some bytes else None
 
 abbrev pub text_in : List ℕ → Option (List ℕ)
-text_in bytes = if list_all is_text_byte bytes && nat_le (length bytes) 1000 then Some bytes else None
+text_in bytes = if list_all is_text_byte bytes && nat_le (length bytes) NAME_BYTES then Some bytes else None
 
 -- neither of the two other ends of a call
 abbrev pub exception_in : List ℕ → Option (List ℕ)

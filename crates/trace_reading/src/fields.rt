@@ -185,7 +185,8 @@ fn is_number(bytes: &[u8]) -> bool
 // The number of such digits, where it has 64 bits.
 fn number_from_digits(bytes: &[u8]) -> Option<u64>
     requires { IsTrue (is_number bytes.now) }
-    ensures read { MatchOption result (2 ^ 64 ≤ digits_value 10 bytes.now) (λ number. number ≡ digits_value 10 bytes.now) }
+    ensures read { MatchOption result (2 ^ 64 ≤ digits_value 10 bytes.now)
+        (λ number. number ≡ digits_value 10 bytes.now) }
     ensures spelt { IfSome result (λ number. bytes.now ≡ decimal number) }
 {
     match str::from_utf8(bytes) {

@@ -8,8 +8,10 @@ ghost use Rattle.trace_reading.specs.Lines.{line_in};
 
 /// Different printable lines have different texts, and different lists of them have different texts.
 pub fn texts_differ()
-    ensures lines { (t u : ℕ) (e f : Event) → IsPrintableLine t e → IsPrintableLine u f → line_text t e ≡ line_text u f → (t ≡ u) × (e ≡ f) }
-    ensures texts { (a b : List Line) → ArePrintable a → ArePrintable b → text_of a ≡ text_of b → a ≡ b }
+    ensures lines { (t u : ℕ) (e f : Event) → IsPrintableLine t e → IsPrintableLine u f
+        → line_text t e ≡ line_text u f → (t ≡ u) × (e ≡ f) }
+    ensures texts { (a b : List Line) → ArePrintable a → ArePrintable b → text_of a ≡ text_of b
+        → a ≡ b }
 {}
 
 /// A text of more than LINE_BYTES bytes is no line.

@@ -30,7 +30,9 @@ pub enum Lead {
 
 fn created(what: Created, bytes: &[u8]) -> Option<Event>
     ensures read { result ≡ created_in what bytes.now }
-    ensures spelt { IfSome result (λ event. spaced (created_text what ∷ codes "new" ∷ []) ++ bytes.now ≡ spaced (words_of event)) }
+    ensures spelt { IfSome result
+        (λ event.
+        spaced (created_text what ∷ codes "new" ∷ []) ++ bytes.now ≡ spaced (words_of event)) }
     ensures printable { IfSome result IsPrintable }
 {
     let (name, rest) = name_at(bytes)?;
@@ -40,7 +42,9 @@ fn created(what: Created, bytes: &[u8]) -> Option<Event>
 
 fn ready(who: Who, bytes: &[u8]) -> Option<Event>
     ensures read { result ≡ ready_in who bytes.now }
-    ensures spelt { IfSome result (λ event. spaced (who_text who ∷ codes "ready" ∷ []) ++ bytes.now ≡ spaced (words_of event)) }
+    ensures spelt { IfSome result
+        (λ event.
+        spaced (who_text who ∷ codes "ready" ∷ []) ++ bytes.now ≡ spaced (words_of event)) }
     ensures printable { IfSome result IsPrintable }
 {
     let (level, rest) = short_at(bytes)?;
@@ -56,7 +60,9 @@ fn ready(who: Who, bytes: &[u8]) -> Option<Event>
 
 fn call(task: TaskNo, bytes: &[u8]) -> Option<Event>
     ensures read { result ≡ call_in task bytes.now }
-    ensures spelt { IfSome result (λ event. spaced (task_text task ∷ codes "call" ∷ []) ++ bytes.now ≡ spaced (words_of event)) }
+    ensures spelt { IfSome result
+        (λ event.
+        spaced (task_text task ∷ codes "call" ∷ []) ++ bytes.now ≡ spaced (words_of event)) }
     ensures printable { IfSome result IsPrintable }
 {
     let (call, rest) = long_at(bytes)?;
@@ -72,7 +78,9 @@ fn call(task: TaskNo, bytes: &[u8]) -> Option<Event>
 
 fn finish(who: Who, bytes: &[u8]) -> Option<Event>
     ensures read { result ≡ finish_in who bytes.now }
-    ensures spelt { IfSome result (λ event. spaced (who_text who ∷ codes "finish" ∷ []) ++ bytes.now ≡ spaced (words_of event)) }
+    ensures spelt { IfSome result
+        (λ event.
+        spaced (who_text who ∷ codes "finish" ∷ []) ++ bytes.now ≡ spaced (words_of event)) }
     ensures printable { IfSome result IsPrintable }
 {
     let (call, rest) = long_at(bytes)?;
@@ -86,7 +94,9 @@ fn finish(who: Who, bytes: &[u8]) -> Option<Event>
 
 fn enter(who: Who, bytes: &[u8]) -> Option<Event>
     ensures read { result ≡ enter_in who bytes.now }
-    ensures spelt { IfSome result (λ event. spaced (who_text who ∷ codes "enter" ∷ []) ++ bytes.now ≡ spaced (words_of event)) }
+    ensures spelt { IfSome result
+        (λ event.
+        spaced (who_text who ∷ codes "enter" ∷ []) ++ bytes.now ≡ spaced (words_of event)) }
     ensures printable { IfSome result IsPrintable }
 {
     let (object, rest) = object_at(bytes)?;
@@ -96,7 +106,9 @@ fn enter(who: Who, bytes: &[u8]) -> Option<Event>
 
 fn held(who: Who, bytes: &[u8]) -> Option<Event>
     ensures read { result ≡ held_in who bytes.now }
-    ensures spelt { IfSome result (λ event. spaced (who_text who ∷ codes "held" ∷ []) ++ bytes.now ≡ spaced (words_of event)) }
+    ensures spelt { IfSome result
+        (λ event.
+        spaced (who_text who ∷ codes "held" ∷ []) ++ bytes.now ≡ spaced (words_of event)) }
     ensures printable { IfSome result IsPrintable }
 {
     let (object, rest) = object_at(bytes)?;
@@ -106,7 +118,9 @@ fn held(who: Who, bytes: &[u8]) -> Option<Event>
 
 fn leave(who: Who, bytes: &[u8]) -> Option<Event>
     ensures read { result ≡ leave_in who bytes.now }
-    ensures spelt { IfSome result (λ event. spaced (who_text who ∷ codes "leave" ∷ []) ++ bytes.now ≡ spaced (words_of event)) }
+    ensures spelt { IfSome result
+        (λ event.
+        spaced (who_text who ∷ codes "leave" ∷ []) ++ bytes.now ≡ spaced (words_of event)) }
     ensures printable { IfSome result IsPrintable }
 {
     let (region, rest) = long_at(bytes)?;
@@ -120,7 +134,9 @@ fn leave(who: Who, bytes: &[u8]) -> Option<Event>
 
 fn init(who: Who, bytes: &[u8]) -> Option<Event>
     ensures read { result ≡ init_in who bytes.now }
-    ensures spelt { IfSome result (λ event. spaced (who_text who ∷ codes "init" ∷ []) ++ bytes.now ≡ spaced (words_of event)) }
+    ensures spelt { IfSome result
+        (λ event.
+        spaced (who_text who ∷ codes "init" ∷ []) ++ bytes.now ≡ spaced (words_of event)) }
     ensures printable { IfSome result IsPrintable }
 {
     let (object, rest) = long_at(bytes)?;
@@ -136,7 +152,8 @@ fn init(who: Who, bytes: &[u8]) -> Option<Event>
 
 fn release(bytes: &[u8]) -> Option<Event>
     ensures read { result ≡ release_in bytes.now }
-    ensures spelt { IfSome result (λ event. spaced (codes "release" ∷ []) ++ bytes.now ≡ spaced (words_of event)) }
+    ensures spelt { IfSome result
+        (λ event. spaced (codes "release" ∷ []) ++ bytes.now ≡ spaced (words_of event)) }
     ensures printable { IfSome result IsPrintable }
 {
     let (release, rest) = long_at(bytes)?;
@@ -150,7 +167,8 @@ fn release(bytes: &[u8]) -> Option<Event>
 
 fn port(bytes: &[u8]) -> Option<Event>
     ensures read { result ≡ port_in bytes.now }
-    ensures spelt { IfSome result (λ event. spaced (codes "port" ∷ []) ++ bytes.now ≡ spaced (words_of event)) }
+    ensures spelt { IfSome result
+        (λ event. spaced (codes "port" ∷ []) ++ bytes.now ≡ spaced (words_of event)) }
     ensures printable { IfSome result IsPrintable }
 {
     let (number, rest) = short_at(bytes)?;
@@ -160,7 +178,8 @@ fn port(bytes: &[u8]) -> Option<Event>
 
 fn end(bytes: &[u8]) -> Option<Event>
     ensures read { result ≡ end_in bytes.now }
-    ensures spelt { IfSome result (λ event. spaced (codes "end" ∷ []) ++ bytes.now ≡ spaced (words_of event)) }
+    ensures spelt { IfSome result
+        (λ event. spaced (codes "end" ∷ []) ++ bytes.now ≡ spaced (words_of event)) }
     ensures printable { IfSome result IsPrintable }
 {
     let (why, rest) = word_at(bytes)?;
@@ -188,7 +207,9 @@ fn end(bytes: &[u8]) -> Option<Event>
 // What a task or the agent does.
 fn who_line(who: Who, word: Word, bytes: &[u8]) -> Option<Event>
     ensures read { result ≡ who_in who word bytes.now }
-    ensures spelt { IfSome result (λ event. spaced (who_text who ∷ word_text word ∷ []) ++ bytes.now ≡ spaced (words_of event)) }
+    ensures spelt { IfSome result
+        (λ event.
+        spaced (who_text who ∷ word_text word ∷ []) ++ bytes.now ≡ spaced (words_of event)) }
     ensures printable { IfSome result IsPrintable }
 {
     match word {
@@ -241,7 +262,9 @@ fn who_line(who: Who, word: Word, bytes: &[u8]) -> Option<Event>
 // What a task does.
 fn task_line(task: TaskNo, word: Word, bytes: &[u8]) -> Option<Event>
     ensures read { result ≡ task_line_in task word bytes.now }
-    ensures spelt { IfSome result (λ event. spaced (task_text task ∷ word_text word ∷ []) ++ bytes.now ≡ spaced (words_of event)) }
+    ensures spelt { IfSome result
+        (λ event.
+        spaced (task_text task ∷ word_text word ∷ []) ++ bytes.now ≡ spaced (words_of event)) }
     ensures printable { IfSome result IsPrintable }
 {
     match word {
@@ -286,7 +309,9 @@ fn task_line(task: TaskNo, word: Word, bytes: &[u8]) -> Option<Event>
 // What the agent does.
 fn agent_line(word: Word, bytes: &[u8]) -> Option<Event>
     ensures read { result ≡ agent_line_in word bytes.now }
-    ensures spelt { IfSome result (λ event. spaced (codes "agent" ∷ word_text word ∷ []) ++ bytes.now ≡ spaced (words_of event)) }
+    ensures spelt { IfSome result
+        (λ event.
+        spaced (codes "agent" ∷ word_text word ∷ []) ++ bytes.now ≡ spaced (words_of event)) }
     ensures printable { IfSome result IsPrintable }
 {
     match word {
@@ -303,7 +328,9 @@ fn agent_line(word: Word, bytes: &[u8]) -> Option<Event>
 // A protected object is created.
 fn object_line(object: ObjectNo, word: Word, bytes: &[u8]) -> Option<Event>
     ensures read { result ≡ object_line_in object word bytes.now }
-    ensures spelt { IfSome result (λ event. spaced (object_text object ∷ word_text word ∷ []) ++ bytes.now ≡ spaced (words_of event)) }
+    ensures spelt { IfSome result
+        (λ event.
+        spaced (object_text object ∷ word_text word ∷ []) ++ bytes.now ≡ spaced (words_of event)) }
     ensures printable { IfSome result IsPrintable }
 {
     match word {
@@ -315,7 +342,8 @@ fn object_line(object: ObjectNo, word: Word, bytes: &[u8]) -> Option<Event>
 // A line without a subject.
 fn bare_line(word: Word, bytes: &[u8]) -> Option<Event>
     ensures read { result ≡ bare_in word bytes.now }
-    ensures spelt { IfSome result (λ event. spaced (word_text word ∷ []) ++ bytes.now ≡ spaced (words_of event)) }
+    ensures spelt { IfSome result
+        (λ event. spaced (word_text word ∷ []) ++ bytes.now ≡ spaced (words_of event)) }
     ensures printable { IfSome result IsPrintable }
 {
     match word {
@@ -362,7 +390,8 @@ fn lead_of(bytes: &[u8]) -> Option<Lead>
 // The line behind its subject, or behind its word where it has none.
 fn led_line(lead: Lead, bytes: &[u8]) -> Option<Event>
     ensures read { result ≡ led_in lead bytes.now }
-    ensures spelt { IfSome result (λ event. spaced (lead_text lead ∷ []) ++ bytes.now ≡ spaced (words_of event)) }
+    ensures spelt { IfSome result
+        (λ event. spaced (lead_text lead ∷ []) ++ bytes.now ≡ spaced (words_of event)) }
     ensures printable { IfSome result IsPrintable }
 {
     match lead {
@@ -424,7 +453,8 @@ pub fn read_line(line: &[u8]) -> Result<(u64, Event), BadLine>
     ensures line { IfOk result (λ read. line.now ≡ line_text read.0 read.1) }
     ensures printable { IfOk result (λ read. IsPrintable read.1) }
     // What has this line is read, so nothing has a line that is bad.
-    ensures only { (tick : ℕ) (event : Event) → IsPrintableLine tick event → line.now ≡ line_text tick event → result ≡ Ok (tick, event) }
+    ensures only { (tick : ℕ) (event : Event) → IsPrintableLine tick event
+        → line.now ≡ line_text tick event → result ≡ Ok (tick, event) }
 {
     line_of(line).ok_or(BadLine)
 }

@@ -5,6 +5,7 @@ use Rattle.std.specs.Fmt.{signed_decimal}
 use Rattle.std.specs.Int.{w32, w64}
 use Rattle.ann_base.specs.declared.identities.TaskNo.{TaskNo}
 use Rattle.ann_base.specs.declared.identities.ObjectNo.{ObjectNo}
+use Rattle.ann_base.specs.declared.names.TheConstants.{NAME_BYTES}
 use Rattle.trace_text.specs.declared.events.Who.{Who}
 use Rattle.trace_text.specs.declared.events.Who.TheVariants as subject
 use Rattle.trace_text.specs.declared.events.Created.{Created}
@@ -165,7 +166,7 @@ abbrev pub is_text_byte : ℕ → Bool
 is_text_byte byte = nat_le 32 byte && nat_le byte 126
 
 pub record IsPutText (text : List ℕ) : Type 0 where
-  pub short : length text ≤ 1000
+  pub short : length text ≤ NAME_BYTES
   pub bytes : IsTrue (list_all is_text_byte text)
 
 abbrev pub IsEntryPrintable : EntryName → Type 0
@@ -231,17 +232,17 @@ IsCreatedWithin (created.Task task) = task.0 < 2 ^ 32
 IsCreatedWithin (created.Object object) = object.0 < 2 ^ 32
 
 abbrev pub IsEntryWithin : EntryName → Type 0
-IsEntryWithin (OfTask task name) = (task.0 < 2 ^ 32) × (length name ≤ 1000)
-IsEntryWithin (OfObject object name) = (object.0 < 2 ^ 32) × (length name ≤ 1000)
+IsEntryWithin (OfTask task name) = (task.0 < 2 ^ 32) × (length name ≤ NAME_BYTES)
+IsEntryWithin (OfObject object name) = (object.0 < 2 ^ 32) × (length name ≤ NAME_BYTES)
 
 abbrev pub IsFinishedWithin : Finished → Type 0
 IsFinishedWithin finished.Ok = Unit {0}
-IsFinishedWithin (finished.Raised name) = length name ≤ 1000
+IsFinishedWithin (finished.Raised name) = length name ≤ NAME_BYTES
 IsFinishedWithin finished.Requeue = Unit {0}
 
 abbrev pub IsEndedWithin : Ended → Type 0
 IsEndedWithin ended.Completed = Unit {0}
-IsEndedWithin (ended.Exception name) = length name ≤ 1000
+IsEndedWithin (ended.Exception name) = length name ≤ NAME_BYTES
 IsEndedWithin ended.Stuck = Unit {0}
 IsEndedWithin ended.Bound = Unit {0}
 
@@ -250,7 +251,7 @@ IsDeadlineWithin None = Unit {0}
 IsDeadlineWithin (Some deadline) = FitsSigned w64 deadline
 
 abbrev pub IsWithin : Event → Type 0
-IsWithin (New what name level) = IsCreatedWithin what × (length name ≤ 1000) × (level < 2 ^ 8)
+IsWithin (New what name level) = IsCreatedWithin what × (length name ≤ NAME_BYTES) × (level < 2 ^ 8)
 IsWithin (Ready who level end deadline) = IsWhoWithin who × (level < 2 ^ 8) × IsDeadlineWithin deadline
 IsWithin (Block who why) = IsWhoWithin who
 IsWithin (Run who) = IsWhoWithin who
@@ -259,8 +260,8 @@ IsWithin (Base task level) = (task.0 < 2 ^ 32) × (level < 2 ^ 8)
 IsWithin (Deadline task deadline) = (task.0 < 2 ^ 32) × FitsSigned w64 deadline
 IsWithin (Quantum task) = task.0 < 2 ^ 32
 IsWithin (Done task) = task.0 < 2 ^ 32
-IsWithin (Raise who name) = IsWhoWithin who × (length name ≤ 1000)
-IsWithin (Put who text) = IsWhoWithin who × (length text ≤ 1000)
+IsWithin (Raise who name) = IsWhoWithin who × (length name ≤ NAME_BYTES)
+IsWithin (Put who text) = IsWhoWithin who × (length text ≤ NAME_BYTES)
 IsWithin (Call task call entry priority) = (task.0 < 2 ^ 32) × (call.0 < 2 ^ 32) × IsEntryWithin entry × (priority < 2 ^ 8)
 IsWithin (Start who call) = IsWhoWithin who × (call.0 < 2 ^ 32)
 IsWithin (Finish who call how) = IsWhoWithin who × (call.0 < 2 ^ 32) × IsFinishedWithin how
@@ -272,11 +273,11 @@ IsWithin (Held who object mode) = IsWhoWithin who × (object.0 < 2 ^ 32)
 IsWithin (Abort task victim) = (task.0 < 2 ^ 32) × (victim.0 < 2 ^ 32)
 IsWithin (Trigger task) = task.0 < 2 ^ 32
 IsWithin (Leave who region how) = IsWhoWithin who × (region.0 < 2 ^ 32)
-IsWithin (Init who object region name) = IsWhoWithin who × (object < 2 ^ 32) × (region.0 < 2 ^ 32) × (length name ≤ 1000)
+IsWithin (Init who object region name) = IsWhoWithin who × (object < 2 ^ 32) × (region.0 < 2 ^ 32) × (length name ≤ NAME_BYTES)
 IsWithin (Final who object) = IsWhoWithin who × (object < 2 ^ 32)
 IsWithin (Left who region) = IsWhoWithin who × (region.0 < 2 ^ 32)
 IsWithin (Replace who object) = IsWhoWithin who × (object < 2 ^ 32)
-IsWithin (Release release object handler) = (release < 2 ^ 32) × (object.0 < 2 ^ 32) × (length handler ≤ 1000)
+IsWithin (Release release object handler) = (release < 2 ^ 32) × (object.0 < 2 ^ 32) × (length handler ≤ NAME_BYTES)
 IsWithin (Serve release) = release < 2 ^ 32
 IsWithin (Served release) = release < 2 ^ 32
 IsWithin (Interrupt number) = number < 2 ^ 8

@@ -23,7 +23,8 @@ impl Model for LineBuffer {
 
     ghost view = { λ buffer. buffer.bytes.items };
 
-    ghost invariant = { λ buffer. (BUFFER_BYTES ≤ vec_capacity buffer.bytes) × (vec_len buffer.bytes ≤ BUFFER_BYTES) };
+    ghost invariant = { λ buffer.
+        (BUFFER_BYTES ≤ vec_capacity buffer.bytes) × (vec_len buffer.bytes ≤ BUFFER_BYTES) };
 }
 
 impl LineBuffer {

@@ -5,11 +5,15 @@ ghost use Rattle.trace_text.specs.Laws.{DispatchOk, CeilingOk, ExclusiveOk, Hand
 
 /// Each law on lines, and what a trace is, holds exactly where the test beside it computes to true.
 pub fn tests_tell()
-    ensures dispatch { (lines : List Line) → RisesFrom 0 lines → (IsTrue (follows_dispatch lines) ↔ DispatchOk lines) }
+    ensures dispatch { (lines : List Line) → RisesFrom 0 lines
+        → (IsTrue (follows_dispatch lines) ↔ DispatchOk lines) }
     ensures ceilings { (lines : List Line) → (IsTrue (follows_ceilings lines) ↔ CeilingOk lines) }
-    ensures exclusion { (lines : List Line) → (IsTrue (follows_exclusion lines) ↔ ExclusiveOk lines) }
-    ensures handlers { (lines : List Line) → RisesFrom 0 lines → (IsTrue (follows_handlers lines) ↔ HandlersOk lines) }
+    ensures exclusion { (lines : List Line)
+        → (IsTrue (follows_exclusion lines) ↔ ExclusiveOk lines) }
+    ensures handlers { (lines : List Line) → RisesFrom 0 lines
+        → (IsTrue (follows_handlers lines) ↔ HandlersOk lines) }
     ensures leaving { (lines : List Line) → (IsTrue (follows_leaving lines) ↔ LeftOk lines) }
-    ensures laws { (lines : List Line) → RisesFrom 0 lines → IsTrue (follows_laws lines) → KeepsLaws lines }
+    ensures laws { (lines : List Line) → RisesFrom 0 lines → IsTrue (follows_laws lines)
+        → KeepsLaws lines }
     ensures formed { (lines : List Line) → (IsTrue (follows_form lines) ↔ Formed lines) }
 {}

@@ -3,6 +3,7 @@ ghost use Rattle.std.specs.Prelude.{◌≡◌, ◌+◌, ◌≤◌, ◌∷◌, []
 ghost use Rattle.std.specs.Int.{w32, w64};
 ghost use Rattle.std.specs.Fmt.{signed_decimal};
 ghost use Rattle.trace_text.specs.Text.{task_text, object_text, who_text, created_text, queue_end_text, waits_text, mode_text, leaves_text, entry_text, finished_text, ended_words, deadline_words, words_of, spaced, line_text, IsPrintable, IsWithin, IsWhoWithin, IsCreatedWithin, IsEntryWithin, IsFinishedWithin, IsEndedWithin, IsDeadlineWithin};
+ghost use Rattle.ann_base.specs.declared.names.TheConstants.{NAME_BYTES};
 ghost use Rattle.trace_text.specs.declared.buffer.TheConstants.{BUFFER_BYTES};
 ghost use Rattle.trace_text.specs.declared.write.TheConstants.{LINE_BYTES, WORDS_BYTES};
 
@@ -55,113 +56,56 @@ fn push_event(event: &Event, buffer: &mut LineBuffer)
             end,
             deadline,
         } => {
-            push_who(*who, buffer);
-            push_word(b"ready", buffer);
+            push_subject(*who, b"ready", buffer);
             push_short(*level, buffer);
             push_word(queue_end_bytes(*end), buffer);
             push_deadline(*deadline, buffer);
         }
-        Event::Block { who, waits } => {
-            push_who(*who, buffer);
-            push_word(b"block", buffer);
-            push_word(waits_bytes(*waits), buffer);
-        }
-        Event::Run { who } => {
-            push_who(*who, buffer);
-            push_word(b"run", buffer);
-        }
+        Event::Block { who, waits } => push_two(*who, b"block", waits_bytes(*waits), buffer),
+        Event::Run { who } => push_subject(*who, b"run", buffer),
         Event::Idle => push_word(b"idle", buffer),
         Event::Base { task, level } => {
-            push_task(*task, buffer);
-            push_word(b"base", buffer);
+            push_of_task(*task, b"base", buffer);
             push_short(*level, buffer);
         }
         Event::Deadline { task, deadline } => {
-            push_task(*task, buffer);
-            push_word(b"deadline", buffer);
+            push_of_task(*task, b"deadline", buffer);
             push_moment(*deadline, buffer);
         }
-        Event::Quantum { task } => {
-            push_task(*task, buffer);
-            push_word(b"quantum", buffer);
-        }
-        Event::Done { task } => {
-            push_task(*task, buffer);
-            push_word(b"done", buffer);
-        }
-        Event::Raise { who, exception } => {
-            push_who(*who, buffer);
-            push_word(b"raise", buffer);
-            push_word(exception.as_bytes(), buffer);
-        }
-        Event::Put { who, text } => {
-            push_who(*who, buffer);
-            push_word(b"put", buffer);
-            push_word(text.as_bytes(), buffer);
-        }
+        Event::Quantum { task } => push_of_task(*task, b"quantum", buffer),
+        Event::Done { task } => push_of_task(*task, b"done", buffer),
+        Event::Raise { who, exception } => push_two(*who, b"raise", exception.as_bytes(), buffer),
+        Event::Put { who, text } => push_two(*who, b"put", text.as_bytes(), buffer),
         Event::Call {
             task,
             call,
             entry,
             priority,
         } => {
-            push_task(*task, buffer);
-            push_word(b"call", buffer);
-            push_number(call.0, buffer);
+            push_call(*task, b"call", call.0, buffer);
             push_entry(entry, buffer);
             push_short(*priority, buffer);
         }
-        Event::Start { who, call } => {
-            push_who(*who, buffer);
-            push_word(b"start", buffer);
-            push_number(call.0, buffer);
-        }
+        Event::Start { who, call } => push_counted(*who, b"start", call.0, buffer),
         Event::Finish { who, call, how } => {
-            push_who(*who, buffer);
-            push_word(b"finish", buffer);
-            push_number(call.0, buffer);
+            push_counted(*who, b"finish", call.0, buffer);
             push_word(finished_word(how), buffer);
         }
-        Event::Cancel { task, call } => {
-            push_task(*task, buffer);
-            push_word(b"cancel", buffer);
-            push_number(call.0, buffer);
-        }
-        Event::Gone { task, call } => {
-            push_task(*task, buffer);
-            push_word(b"gone", buffer);
-            push_number(call.0, buffer);
-        }
-        Event::Enter { who, object, mode } => {
-            push_who(*who, buffer);
-            push_word(b"enter", buffer);
-            push_object(*object, buffer);
-            push_word(mode_bytes(*mode), buffer);
-        }
+        Event::Cancel { task, call } => push_call(*task, b"cancel", call.0, buffer),
+        Event::Gone { task, call } => push_call(*task, b"gone", call.0, buffer),
+        Event::Enter { who, object, mode } => push_action(*who, b"enter", *object, *mode, buffer),
         Event::Exit { who, object } => {
-            push_who(*who, buffer);
-            push_word(b"exit", buffer);
+            push_subject(*who, b"exit", buffer);
             push_object(*object, buffer);
         }
-        Event::Held { who, object, mode } => {
-            push_who(*who, buffer);
-            push_word(b"held", buffer);
-            push_object(*object, buffer);
-            push_word(mode_bytes(*mode), buffer);
-        }
+        Event::Held { who, object, mode } => push_action(*who, b"held", *object, *mode, buffer),
         Event::Abort { task, victim } => {
-            push_task(*task, buffer);
-            push_word(b"abort", buffer);
+            push_of_task(*task, b"abort", buffer);
             push_task(*victim, buffer);
         }
-        Event::Trigger { task } => {
-            push_task(*task, buffer);
-            push_word(b"trigger", buffer);
-        }
+        Event::Trigger { task } => push_of_task(*task, b"trigger", buffer),
         Event::Leave { who, region, how } => {
-            push_who(*who, buffer);
-            push_word(b"leave", buffer);
-            push_number(region.0, buffer);
+            push_counted(*who, b"leave", region.0, buffer);
             push_word(leaves_bytes(*how), buffer);
         }
         Event::Init {
@@ -170,27 +114,13 @@ fn push_event(event: &Event, buffer: &mut LineBuffer)
             region,
             name,
         } => {
-            push_who(*who, buffer);
-            push_word(b"init", buffer);
-            push_number(*object, buffer);
+            push_counted(*who, b"init", *object, buffer);
             push_number(region.0, buffer);
             push_word(name.as_bytes(), buffer);
         }
-        Event::Final { who, object } => {
-            push_who(*who, buffer);
-            push_word(b"final", buffer);
-            push_number(*object, buffer);
-        }
-        Event::Left { who, region } => {
-            push_who(*who, buffer);
-            push_word(b"left", buffer);
-            push_number(region.0, buffer);
-        }
-        Event::Replace { who, object } => {
-            push_who(*who, buffer);
-            push_word(b"replace", buffer);
-            push_number(*object, buffer);
-        }
+        Event::Final { who, object } => push_counted(*who, b"final", *object, buffer),
+        Event::Left { who, region } => push_counted(*who, b"left", region.0, buffer),
+        Event::Replace { who, object } => push_counted(*who, b"replace", *object, buffer),
         Event::Release {
             release,
             object,
@@ -201,42 +131,104 @@ fn push_event(event: &Event, buffer: &mut LineBuffer)
             push_object(*object, buffer);
             push_part(handler.as_bytes(), buffer);
         }
-        Event::Serve { release } => {
-            push_word(b"agent", buffer);
-            push_word(b"serve", buffer);
-            push_number(*release, buffer);
-        }
-        Event::Served { release } => {
-            push_word(b"agent", buffer);
-            push_word(b"served", buffer);
-            push_number(*release, buffer);
-        }
-        Event::Interrupt { number } => {
-            push_word(b"interrupt", buffer);
-            push_short(*number, buffer);
-        }
+        Event::Serve { release } => push_counted(Who::Agent, b"serve", *release, buffer),
+        Event::Served { release } => push_counted(Who::Agent, b"served", *release, buffer),
+        Event::Interrupt { number } => push_of_line(b"interrupt", *number, buffer),
         Event::Port { number, value } => {
-            push_word(b"port", buffer);
-            push_short(*number, buffer);
+            push_of_line(b"port", *number, buffer);
             push_value(*value, buffer);
         }
-        Event::Mask { number } => {
-            push_word(b"mask", buffer);
-            push_short(*number, buffer);
-        }
-        Event::Unmask { number } => {
-            push_word(b"unmask", buffer);
-            push_short(*number, buffer);
-        }
-        Event::Masked { number } => {
-            push_word(b"masked", buffer);
-            push_short(*number, buffer);
-        }
+        Event::Mask { number } => push_of_line(b"mask", *number, buffer),
+        Event::Unmask { number } => push_of_line(b"unmask", *number, buffer),
+        Event::Masked { number } => push_of_line(b"masked", *number, buffer),
         Event::End { why } => {
             push_word(b"end", buffer);
             push_ended(why, buffer);
         }
     }
+}
+
+// Who, and what happens.
+fn push_subject(who: Who, word: &[u8], buffer: &mut LineBuffer)
+    requires { length buffer.old + length word.now + 13 ≤ BUFFER_BYTES }
+    ensures words { buffer.new ≡ buffer.old ++ spaced (who_text who ∷ word.now ∷ []) }
+    ensures longer { length buffer.new ≤ length buffer.old + length word.now + 13 }
+    ensures within { IsWhoWithin who }
+{
+    push_who(who, buffer);
+    push_word(word, buffer);
+}
+
+// Who, what happens, and a word more.
+fn push_two(who: Who, word: &[u8], last: &[u8], buffer: &mut LineBuffer)
+    requires { length buffer.old + length word.now + length last.now + 14 ≤ BUFFER_BYTES }
+    ensures words { buffer.new ≡ buffer.old ++ spaced (who_text who ∷ word.now ∷ last.now ∷ []) }
+    ensures longer { length buffer.new
+        ≤ length buffer.old + length word.now + length last.now + 14 }
+    ensures within { IsWhoWithin who }
+{
+    push_subject(who, word, buffer);
+    push_word(last, buffer);
+}
+
+// Who, what happens, and the number of a call, a region, an object or a release.
+fn push_counted(who: Who, word: &[u8], number: u32, buffer: &mut LineBuffer)
+    requires { length buffer.old + length word.now + 24 ≤ BUFFER_BYTES }
+    ensures words { buffer.new
+        ≡ buffer.old ++ spaced (who_text who ∷ word.now ∷ decimal number ∷ []) }
+    ensures longer { length buffer.new ≤ length buffer.old + length word.now + 24 }
+    ensures within { IsWhoWithin who × (number < 2 ^ 32) }
+{
+    push_subject(who, word, buffer);
+    push_number(number, buffer);
+}
+
+// Who begins or finds a protected action, on which object.
+fn push_action(who: Who, word: &[u8], object: ObjectNo, mode: Mode, buffer: &mut LineBuffer)
+    requires { length buffer.old + length word.now + 31 ≤ BUFFER_BYTES }
+    ensures words { buffer.new
+        ≡ buffer.old
+        ++ spaced (who_text who ∷ word.now ∷ object_text object ∷ mode_text mode ∷ []) }
+    ensures longer { length buffer.new ≤ length buffer.old + length word.now + 31 }
+    ensures within { IsWhoWithin who × (object.0 < 2 ^ 32) }
+{
+    push_subject(who, word, buffer);
+    push_object(object, buffer);
+    push_word(mode_bytes(mode), buffer);
+}
+
+// A task, and what happens.
+fn push_of_task(task: TaskNo, word: &[u8], buffer: &mut LineBuffer)
+    requires { length buffer.old + length word.now + 13 ≤ BUFFER_BYTES }
+    ensures words { buffer.new ≡ buffer.old ++ spaced (task_text task ∷ word.now ∷ []) }
+    ensures longer { length buffer.new ≤ length buffer.old + length word.now + 13 }
+    ensures within { task.0 < 2 ^ 32 }
+{
+    push_task(task, buffer);
+    push_word(word, buffer);
+}
+
+// A task, what happens, and the number of its call.
+fn push_call(task: TaskNo, word: &[u8], call: u32, buffer: &mut LineBuffer)
+    requires { length buffer.old + length word.now + 24 ≤ BUFFER_BYTES }
+    ensures words { buffer.new
+        ≡ buffer.old ++ spaced (task_text task ∷ word.now ∷ decimal call ∷ []) }
+    ensures longer { length buffer.new ≤ length buffer.old + length word.now + 24 }
+    ensures within { (task.0 < 2 ^ 32) × (call < 2 ^ 32) }
+{
+    push_of_task(task, word, buffer);
+    push_number(call, buffer);
+}
+
+// What happens on a line of interrupts or a port.
+fn push_of_line(word: &[u8], number: u8, buffer: &mut LineBuffer)
+    requires { length buffer.old + length word.now + 5 ≤ BUFFER_BYTES }
+    ensures words { buffer.new ≡ buffer.old ++ spaced (word.now ∷ decimal number ∷ []) }
+    ensures longer { length buffer.new ≤ length buffer.old + length word.now + 5 }
+    ensures within { number < 2 ^ 8 }
+{
+    push_word(word, buffer);
+    push_short(number, buffer);
 }
 
 // A word behind a space.
@@ -405,7 +397,7 @@ fn push_ended(why: &Ended, buffer: &mut LineBuffer)
 
 fn finished_word(how: &Finished) -> &[u8]
     ensures word { result.now ≡ finished_text how.now }
-    ensures short { length result.now ≤ 1000 }
+    ensures short { length result.now ≤ NAME_BYTES }
     ensures within { IsFinishedWithin how.now }
 {
     match how {

@@ -116,7 +116,8 @@ pub(crate) fn add_components(
     left: usize,
     mut found: Items<Component>,
 ) -> Result<Items<Component>, OrMemory<Stuck>>
-    ensures { Reads result cursor.new (items_from sees_identifier (component_of left) (length cursor.old) found cursor.old) }
+    ensures { Reads result cursor.new
+        (items_from sees_identifier (component_of left) (length cursor.old) found cursor.old) }
 {
     for _turn in 0..cursor.remaining() {
         if !cursor.is_identifier() {

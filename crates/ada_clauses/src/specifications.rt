@@ -52,7 +52,8 @@ fn next_aspect(
     cursor: &mut Cursor<'_>,
     left: usize,
 ) -> Result<Aspect, OrMemory<Stuck>>
-    ensures { Reads result cursor.new (behind_delimiter_of (codes ",") (aspect_of left) cursor.old) }
+    ensures { Reads result cursor.new
+        (behind_delimiter_of (codes ",") (aspect_of left) cursor.old) }
 {
     cursor.delimiter(b",")?;
     aspect(alloc, cursor, left)
@@ -65,7 +66,9 @@ fn add_aspects(
     left: usize,
     mut found: Items<Aspect>,
 ) -> Result<Items<Aspect>, OrMemory<Stuck>>
-    ensures { Reads result cursor.new (items_from (sees_delimiter (codes ",")) (behind_delimiter_of (codes ",") (aspect_of left)) (length cursor.old) found cursor.old) }
+    ensures { Reads result cursor.new
+        (items_from (sees_delimiter (codes ",")) (behind_delimiter_of (codes ",") (aspect_of left))
+        (length cursor.old) found cursor.old) }
 {
     for _turn in 0..cursor.remaining() {
         if !cursor.is_delimiter(b",") {
@@ -223,7 +226,9 @@ fn add_entries(
     left: usize,
     mut found: Items<EntryDeclaration>,
 ) -> Result<Items<EntryDeclaration>, OrMemory<Stuck>>
-    ensures { Reads result cursor.new (items_from (sees_word (codes "entry")) (entry_of left) (length cursor.old) found cursor.old) }
+    ensures { Reads result cursor.new
+        (items_from (sees_word (codes "entry")) (entry_of left) (length cursor.old) found
+        cursor.old) }
 {
     for _turn in 0..cursor.remaining() {
         if !cursor.is_word(b"entry") {
@@ -327,7 +332,8 @@ fn add_operations(
     left: usize,
     mut found: Items<ProtectedOperation>,
 ) -> Result<Items<ProtectedOperation>, OrMemory<Stuck>>
-    ensures { Reads result cursor.new (items_from begins_operation (operation_of left) (length cursor.old) found cursor.old) }
+    ensures { Reads result cursor.new
+        (items_from begins_operation (operation_of left) (length cursor.old) found cursor.old) }
 {
     for _turn in 0..cursor.remaining() {
         if !begins_operation(cursor) {

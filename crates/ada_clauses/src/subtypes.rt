@@ -139,7 +139,8 @@ fn next_parameter(
     cursor: &mut Cursor<'_>,
     left: usize,
 ) -> Result<Parameter, OrMemory<Stuck>>
-    ensures { Reads result cursor.new (behind_delimiter_of (codes ";") (parameter_of left) cursor.old) }
+    ensures { Reads result cursor.new
+        (behind_delimiter_of (codes ";") (parameter_of left) cursor.old) }
 {
     cursor.delimiter(b";")?;
     parameter(alloc, cursor, left)
@@ -152,7 +153,10 @@ fn add_parameters(
     left: usize,
     mut found: Items<Parameter>,
 ) -> Result<Items<Parameter>, OrMemory<Stuck>>
-    ensures { Reads result cursor.new (items_from (sees_delimiter (codes ";")) (behind_delimiter_of (codes ";") (parameter_of left)) (length cursor.old) found cursor.old) }
+    ensures { Reads result cursor.new
+        (items_from (sees_delimiter (codes ";"))
+        (behind_delimiter_of (codes ";") (parameter_of left)) (length cursor.old) found
+        cursor.old) }
 {
     for _turn in 0..cursor.remaining() {
         if !cursor.is_delimiter(b";") {

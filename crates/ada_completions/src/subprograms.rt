@@ -23,22 +23,12 @@ fn specified_number(kind: &EntityKind) -> Option<SubprogramNo>
     ensures { result ≡ specified_number kind.now }
 {
     match kind {
-        EntityKind::Package => None,
-        EntityKind::Main => None,
-        EntityKind::Mark(_) => None,
-        EntityKind::Literal { .. } => None,
-        EntityKind::Object { .. } => None,
-        EntityKind::Parameter { .. } => None,
-        EntityKind::LoopParameter(_) => None,
-        EntityKind::Component { .. } => None,
-        EntityKind::Exception(_) => None,
         EntityKind::Subprogram {
             number,
             specified,
             ..
         } => { if *specified { Some(*number) } else { None } }
-        EntityKind::Entry { .. } => None,
-        EntityKind::Label => None,
+        _ => None,
     }
 }
 
@@ -151,7 +141,8 @@ fn body_of_declared(
     identifier: &Identifier,
     specification: &SubprogramSpecification,
 ) -> Result<(), NoMemory>
-    ensures { OnOk result (names.new ≡ body_of_declared entity identifier.now specification.now names.old) }
+    ensures { OnOk result
+        (names.new ≡ body_of_declared entity identifier.now specification.now names.old) }
 {
     let number = number_specified(names, entity);
     numbered_if(alloc, names, specification, number)?;
@@ -168,7 +159,9 @@ fn completed_or_declared<'t>(
     identifier: &'t Identifier,
     specification: &'t SubprogramSpecification,
 ) -> Result<(), NoMemory>
-    ensures { OnOk result (names.new ≡ completed_or_declared outer entity identifier.now specification.now names.old) }
+    ensures { OnOk result
+        (names.new
+        ≡ completed_or_declared outer entity identifier.now specification.now names.old) }
 {
     match entity {
         Some(entity) => body_of_declared(alloc, names, entity, identifier, specification),

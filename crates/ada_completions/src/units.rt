@@ -144,7 +144,9 @@ fn body_again(
     identifier: &Identifier,
     scope: Option<u32>,
 ) -> Result<(), NoMemory>
-    ensures { OnOk result (names.new ≡ body_apart (Some entity) identifier.now scope (seen_again names.old region) names.old) }
+    ensures { OnOk result
+        (names.new
+        ≡ body_apart (Some entity) identifier.now scope (seen_again names.old region) names.old) }
 {
     let seen = seen_again(alloc, names, region)?;
     body_apart(alloc, names, Some(entity), identifier, scope, seen)
@@ -170,7 +172,9 @@ fn first_body(
     identifier: &Identifier,
     scope: Option<u32>,
 ) -> Result<(), NoMemory>
-    ensures { OnOk result (names.new ≡ first_body entity (region_of_entity names.old entity) identifier.now scope names.old) }
+    ensures { OnOk result
+        (names.new
+        ≡ first_body entity (region_of_entity names.old entity) identifier.now scope names.old) }
 {
     match region_of_entity(names, entity) {
         None => body_alone(alloc, names, identifier, scope),
@@ -192,7 +196,9 @@ fn later_body(
     identifier: &Identifier,
     scope: Option<u32>,
 ) -> Result<(), NoMemory>
-    ensures { OnOk result (names.new ≡ later_body entity (region_of_entity names.old entity) identifier.now scope names.old) }
+    ensures { OnOk result
+        (names.new
+        ≡ later_body entity (region_of_entity names.old entity) identifier.now scope names.old) }
 {
     match region_of_entity(names, entity) {
         None => body_alone(alloc, names, identifier, scope),

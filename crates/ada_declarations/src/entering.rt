@@ -109,7 +109,8 @@ pub fn entered(
     kind: EntityKind,
     region: Option<u32>,
 ) -> Result<(), NoMemory>
-    ensures { OnOk result (names.new ≡ entered enclosure taken identifier.now kind region names.old) }
+    ensures { OnOk result
+        (names.new ≡ entered enclosure taken identifier.now kind region names.old) }
 {
     let entity = number(names.entities.len())?;
     told_if_taken(names, taken, identifier);

@@ -36,7 +36,9 @@ pub(crate) fn numbered_declaration<'t>(
     scope: u32,
     subtype: Option<Subtype>,
 ) -> Result<NumberedDeclaration<'t>, NoMemory>
-    ensures { IfOk result (λ declaration. declaration ≡ numbered_declaration names.now identifier.now sort scope subtype None) }
+    ensures { IfOk result
+        (λ declaration.
+        declaration ≡ numbered_declaration names.now identifier.now sort scope subtype None) }
 {
     let name = copy(alloc, identifier.text.as_slice())?;
     let expanded = expanded(alloc, &names.frames, identifier.text.as_slice())?;

@@ -152,7 +152,8 @@ pub fn parameter_declared<'t>(
     identifier: &'t Identifier,
     parameter: &'t Parameter,
 ) -> Result<(), NoMemory>
-    ensures { OnOk result (names.new ≡ parameter_declared with_cells identifier.now parameter.now names.old) }
+    ensures { OnOk result
+        (names.new ≡ parameter_declared with_cells identifier.now parameter.now names.old) }
 {
     let subtype = indicated_subtype(names, &parameter.subtype);
     let mode = mode_of(parameter.is_in, parameter.is_out);

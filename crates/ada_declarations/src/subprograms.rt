@@ -78,7 +78,10 @@ fn numbered_subprogram<'t>(
     identifier: &Identifier,
     specification: &'t SubprogramSpecification,
 ) -> Result<NumberedSubprogram<'t>, NoMemory>
-    ensures { IfOk result (λ subprogram. subprogram ≡ numbered_subprogram names.now enclosure scope identifier.now specification.now) }
+    ensures { IfOk result
+        (λ subprogram.
+        subprogram
+        ≡ numbered_subprogram names.now enclosure scope identifier.now specification.now) }
 {
     let name = copy(alloc, identifier.text.as_slice())?;
     let formals = formals_of(alloc, names, specification.parameters.as_slice())?;
@@ -104,7 +107,10 @@ pub fn subprogram_declared<'t>(
     identifier: &Identifier,
     specification: &'t SubprogramSpecification,
 ) -> Result<(), NoMemory>
-    ensures { OnOk result (names.new ≡ subprogram_declared enclosure specified scope identifier.now specification.now names.old) }
+    ensures { OnOk result
+        (names.new
+        ≡ subprogram_declared enclosure specified scope identifier.now specification.now
+        names.old) }
 {
     let kind = EntityKind::Subprogram {
         number: SubprogramNo(number(names.subprograms.len())?),

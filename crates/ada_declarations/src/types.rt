@@ -25,7 +25,8 @@ pub fn array_declared(
     high: &Expression,
     component: &SubtypeIndication,
 ) -> Result<(), NoMemory>
-    ensures { OnOk result (names.new ≡ array_declared identifier.now low.now high.now component.now names.old) }
+    ensures { OnOk result
+        (names.new ≡ array_declared identifier.now low.now high.now component.now names.old) }
 {
     let array = number(names.arrays.len())?;
     let of_type = array_type(names, low, high, component);

@@ -103,7 +103,8 @@ pub fn protected_declared<'t>(
     aspects: &'t [Aspect],
     identifier: &Identifier,
 ) -> Result<(), NoMemory>
-    ensures { OnOk result (names.new ≡ protected_declared is_type aspects.now identifier.now names.old) }
+    ensures { OnOk result
+        (names.new ≡ protected_declared is_type aspects.now identifier.now names.old) }
 {
     let unit = ProtectedUnitNo(number(names.protected_units.len())?);
     let region = names.regions;

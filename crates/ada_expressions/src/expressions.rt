@@ -61,7 +61,8 @@ impl<F: Fn(Global, &mut Cursor<'_>, usize) -> Result<Expression, OrMemory<Stuck>
         cursor: &mut Cursor<'_>,
     ) -> Result<Argument<Expression>, OrMemory<Stuck>>
         requires reads { ReadsInside self.now.left (F.pre self.now.read) (F.post self.now.read) }
-        ensures { Reads result cursor.new (named_argument_of self.now.left (inner_of self.now.left) cursor.old) }
+        ensures { Reads result cursor.new
+            (named_argument_of self.now.left (inner_of self.now.left) cursor.old) }
     {
         let formal = cursor.identifier(self.alloc)?;
         cursor.delimiter(b"=>")?;
@@ -76,7 +77,8 @@ impl<F: Fn(Global, &mut Cursor<'_>, usize) -> Result<Expression, OrMemory<Stuck>
     #[tactic(auto, unfolding(ada_grammar::specs::ReadingExpressions::argument_of))]
     fn argument(&self, cursor: &mut Cursor<'_>) -> Result<Argument<Expression>, OrMemory<Stuck>>
         requires reads { ReadsInside self.now.left (F.pre self.now.read) (F.post self.now.read) }
-        ensures { Reads result cursor.new (argument_of self.now.left (inner_of self.now.left) cursor.old) }
+        ensures { Reads result cursor.new
+            (argument_of self.now.left (inner_of self.now.left) cursor.old) }
     {
         if cursor.is_identifier_before(b"=>") {
             self.named_argument(cursor)
@@ -96,7 +98,9 @@ impl<F: Fn(Global, &mut Cursor<'_>, usize) -> Result<Expression, OrMemory<Stuck>
         cursor: &mut Cursor<'_>,
     ) -> Result<Argument<Expression>, OrMemory<Stuck>>
         requires reads { ReadsInside self.now.left (F.pre self.now.read) (F.post self.now.read) }
-        ensures { Reads result cursor.new (behind_delimiter_of (codes ",") (argument_of self.now.left (inner_of self.now.left)) cursor.old) }
+        ensures { Reads result cursor.new
+            (behind_delimiter_of (codes ",") (argument_of self.now.left (inner_of self.now.left))
+            cursor.old) }
     {
         cursor.delimiter(b",")?;
         self.argument(cursor)
@@ -110,7 +114,10 @@ impl<F: Fn(Global, &mut Cursor<'_>, usize) -> Result<Expression, OrMemory<Stuck>
         mut arguments: Items<Argument<Expression>>,
     ) -> Result<Items<Argument<Expression>>, OrMemory<Stuck>>
         requires reads { ReadsInside self.now.left (F.pre self.now.read) (F.post self.now.read) }
-        ensures { Reads result cursor.new (items_from (sees_delimiter (codes ",")) (behind_delimiter_of (codes ",") (argument_of self.now.left (inner_of self.now.left))) (length cursor.old) arguments cursor.old) }
+        ensures { Reads result cursor.new
+            (items_from (sees_delimiter (codes ","))
+            (behind_delimiter_of (codes ",") (argument_of self.now.left (inner_of self.now.left)))
+            (length cursor.old) arguments cursor.old) }
     {
         for _turn in 0..cursor.remaining() {
             if !cursor.is_delimiter(b",") {
@@ -128,7 +135,8 @@ impl<F: Fn(Global, &mut Cursor<'_>, usize) -> Result<Expression, OrMemory<Stuck>
         cursor: &mut Cursor<'_>,
     ) -> Result<Items<Argument<Expression>>, OrMemory<Stuck>>
         requires reads { ReadsInside self.now.left (F.pre self.now.read) (F.post self.now.read) }
-        ensures { Reads result cursor.new (given_arguments_of self.now.left (inner_of self.now.left) cursor.old) }
+        ensures { Reads result cursor.new
+            (given_arguments_of self.now.left (inner_of self.now.left) cursor.old) }
     {
         cursor.open(self.left)?;
         let mut arguments = Items::new(self.alloc);
@@ -145,7 +153,8 @@ impl<F: Fn(Global, &mut Cursor<'_>, usize) -> Result<Expression, OrMemory<Stuck>
         cursor: &mut Cursor<'_>,
     ) -> Result<Items<Argument<Expression>>, OrMemory<Stuck>>
         requires reads { ReadsInside self.now.left (F.pre self.now.read) (F.post self.now.read) }
-        ensures { Reads result cursor.new (arguments_of self.now.left (inner_of self.now.left) cursor.old) }
+        ensures { Reads result cursor.new
+            (arguments_of self.now.left (inner_of self.now.left) cursor.old) }
     {
         if cursor.is_delimiter(b"(") {
             self.given_arguments(cursor)
@@ -158,7 +167,8 @@ impl<F: Fn(Global, &mut Cursor<'_>, usize) -> Result<Expression, OrMemory<Stuck>
     #[tactic(auto, unfolding(ada_grammar::specs::ReadingExpressions::named_of))]
     fn named(&self, cursor: &mut Cursor<'_>) -> Result<Expression, OrMemory<Stuck>>
         requires reads { ReadsInside self.now.left (F.pre self.now.read) (F.post self.now.read) }
-        ensures { Reads result cursor.new (named_of self.now.left (inner_of self.now.left) cursor.old) }
+        ensures { Reads result cursor.new
+            (named_of self.now.left (inner_of self.now.left) cursor.old) }
     {
         let name = name(self.alloc, cursor)?;
         let attribute = designator(cursor)?;
@@ -175,7 +185,8 @@ impl<F: Fn(Global, &mut Cursor<'_>, usize) -> Result<Expression, OrMemory<Stuck>
     #[tactic(auto, unfolding(ada_grammar::specs::ReadingExpressions::bracketed_of))]
     fn bracketed(&self, cursor: &mut Cursor<'_>) -> Result<Expression, OrMemory<Stuck>>
         requires reads { ReadsInside self.now.left (F.pre self.now.read) (F.post self.now.read) }
-        ensures { Reads result cursor.new (bracketed_of self.now.left (inner_of self.now.left) cursor.old) }
+        ensures { Reads result cursor.new
+            (bracketed_of self.now.left (inner_of self.now.left) cursor.old) }
     {
         let place = cursor.open(self.left)?;
         let inner = self.inner(cursor)?;
@@ -187,7 +198,8 @@ impl<F: Fn(Global, &mut Cursor<'_>, usize) -> Result<Expression, OrMemory<Stuck>
     #[tactic(auto, unfolding(ada_grammar::specs::ReadingExpressions::primary_of))]
     fn primary(&self, cursor: &mut Cursor<'_>) -> Result<Expression, OrMemory<Stuck>>
         requires reads { ReadsInside self.now.left (F.pre self.now.read) (F.post self.now.read) }
-        ensures { Reads result cursor.new (primary_of self.now.left (inner_of self.now.left) cursor.old) }
+        ensures { Reads result cursor.new
+            (primary_of self.now.left (inner_of self.now.left) cursor.old) }
     {
         if cursor.is_number() {
             let (place, literal) = cursor.number(self.alloc)?;
@@ -213,7 +225,8 @@ impl<F: Fn(Global, &mut Cursor<'_>, usize) -> Result<Expression, OrMemory<Stuck>
         operator: HighestOperator,
     ) -> Result<Expression, OrMemory<Stuck>>
         requires reads { ReadsInside self.now.left (F.pre self.now.read) (F.post self.now.read) }
-        ensures { Reads result cursor.new (highest_of self.now.left (inner_of self.now.left) operator cursor.old) }
+        ensures { Reads result cursor.new
+            (highest_of self.now.left (inner_of self.now.left) operator cursor.old) }
     {
         let place = highest_place(cursor, operator)?;
         let operand = self.primary(cursor)?;
@@ -229,7 +242,8 @@ impl<F: Fn(Global, &mut Cursor<'_>, usize) -> Result<Expression, OrMemory<Stuck>
     #[tactic(auto, unfolding(ada_grammar::specs::ReadingExpressions::factor_of))]
     fn factor(&self, cursor: &mut Cursor<'_>) -> Result<Expression, OrMemory<Stuck>>
         requires reads { ReadsInside self.now.left (F.pre self.now.read) (F.post self.now.read) }
-        ensures { Reads result cursor.new (factor_of self.now.left (inner_of self.now.left) cursor.old) }
+        ensures { Reads result cursor.new
+            (factor_of self.now.left (inner_of self.now.left) cursor.old) }
     {
         if cursor.is_word(b"abs") {
             self.highest(cursor, HighestOperator::Absolute)
@@ -244,7 +258,8 @@ impl<F: Fn(Global, &mut Cursor<'_>, usize) -> Result<Expression, OrMemory<Stuck>
     #[tactic(auto, unfolding(ada_grammar::specs::ReadingExpressions::multiplied_of))]
     fn multiplied(&self, cursor: &mut Cursor<'_>) -> Result<Multiplied<Expression>, OrMemory<Stuck>>
         requires reads { ReadsInside self.now.left (F.pre self.now.read) (F.post self.now.read) }
-        ensures { Reads result cursor.new (multiplied_of self.now.left (inner_of self.now.left) cursor.old) }
+        ensures { Reads result cursor.new
+            (multiplied_of self.now.left (inner_of self.now.left) cursor.old) }
     {
         let (place, operator) = multiplication(cursor)?;
         let factor = self.factor(cursor)?;
@@ -262,7 +277,9 @@ impl<F: Fn(Global, &mut Cursor<'_>, usize) -> Result<Expression, OrMemory<Stuck>
         mut factors: Items<Multiplied<Expression>>,
     ) -> Result<Items<Multiplied<Expression>>, OrMemory<Stuck>>
         requires reads { ReadsInside self.now.left (F.pre self.now.read) (F.post self.now.read) }
-        ensures { Reads result cursor.new (items_from multiplies (multiplied_of self.now.left (inner_of self.now.left)) (length cursor.old) factors cursor.old) }
+        ensures { Reads result cursor.new
+            (items_from multiplies (multiplied_of self.now.left (inner_of self.now.left))
+            (length cursor.old) factors cursor.old) }
     {
         for _turn in 0..cursor.remaining() {
             if !multiplies(cursor) {
@@ -281,7 +298,8 @@ impl<F: Fn(Global, &mut Cursor<'_>, usize) -> Result<Expression, OrMemory<Stuck>
         first: Expression,
     ) -> Result<Expression, OrMemory<Stuck>>
         requires reads { ReadsInside self.now.left (F.pre self.now.read) (F.post self.now.read) }
-        ensures { Reads result cursor.new (product_of self.now.left (inner_of self.now.left) first cursor.old) }
+        ensures { Reads result cursor.new
+            (product_of self.now.left (inner_of self.now.left) first cursor.old) }
     {
         let second = self.multiplied(cursor)?;
         let others = OneOrMore {
@@ -295,7 +313,8 @@ impl<F: Fn(Global, &mut Cursor<'_>, usize) -> Result<Expression, OrMemory<Stuck>
     #[tactic(auto, unfolding(ada_grammar::specs::ReadingExpressions::term_of))]
     fn term(&self, cursor: &mut Cursor<'_>) -> Result<Expression, OrMemory<Stuck>>
         requires reads { ReadsInside self.now.left (F.pre self.now.read) (F.post self.now.read) }
-        ensures { Reads result cursor.new (term_of self.now.left (inner_of self.now.left) cursor.old) }
+        ensures { Reads result cursor.new
+            (term_of self.now.left (inner_of self.now.left) cursor.old) }
     {
         let first = self.factor(cursor)?;
         if multiplies(cursor) {
@@ -309,7 +328,8 @@ impl<F: Fn(Global, &mut Cursor<'_>, usize) -> Result<Expression, OrMemory<Stuck>
     #[tactic(auto, unfolding(ada_grammar::specs::ReadingExpressions::signed_of))]
     fn signed(&self, cursor: &mut Cursor<'_>, sign: Sign) -> Result<Expression, OrMemory<Stuck>>
         requires reads { ReadsInside self.now.left (F.pre self.now.read) (F.post self.now.read) }
-        ensures { Reads result cursor.new (signed_of self.now.left (inner_of self.now.left) sign cursor.old) }
+        ensures { Reads result cursor.new
+            (signed_of self.now.left (inner_of self.now.left) sign cursor.old) }
     {
         let place = sign_place(cursor, sign)?;
         let operand = self.term(cursor)?;
@@ -325,7 +345,8 @@ impl<F: Fn(Global, &mut Cursor<'_>, usize) -> Result<Expression, OrMemory<Stuck>
     #[tactic(auto, unfolding(ada_grammar::specs::ReadingExpressions::first_term_of))]
     fn first_term(&self, cursor: &mut Cursor<'_>) -> Result<Expression, OrMemory<Stuck>>
         requires reads { ReadsInside self.now.left (F.pre self.now.read) (F.post self.now.read) }
-        ensures { Reads result cursor.new (first_term_of self.now.left (inner_of self.now.left) cursor.old) }
+        ensures { Reads result cursor.new
+            (first_term_of self.now.left (inner_of self.now.left) cursor.old) }
     {
         if cursor.is_delimiter(b"+") {
             self.signed(cursor, Sign::Plus)
@@ -340,7 +361,8 @@ impl<F: Fn(Global, &mut Cursor<'_>, usize) -> Result<Expression, OrMemory<Stuck>
     #[tactic(auto, unfolding(ada_grammar::specs::ReadingExpressions::addend_of))]
     fn addend(&self, cursor: &mut Cursor<'_>) -> Result<Addend<Expression>, OrMemory<Stuck>>
         requires reads { ReadsInside self.now.left (F.pre self.now.read) (F.post self.now.read) }
-        ensures { Reads result cursor.new (addend_of self.now.left (inner_of self.now.left) cursor.old) }
+        ensures { Reads result cursor.new
+            (addend_of self.now.left (inner_of self.now.left) cursor.old) }
     {
         let (place, operator) = addition(cursor)?;
         let term = self.term(cursor)?;
@@ -358,7 +380,9 @@ impl<F: Fn(Global, &mut Cursor<'_>, usize) -> Result<Expression, OrMemory<Stuck>
         mut terms: Items<Addend<Expression>>,
     ) -> Result<Items<Addend<Expression>>, OrMemory<Stuck>>
         requires reads { ReadsInside self.now.left (F.pre self.now.read) (F.post self.now.read) }
-        ensures { Reads result cursor.new (items_from adds (addend_of self.now.left (inner_of self.now.left)) (length cursor.old) terms cursor.old) }
+        ensures { Reads result cursor.new
+            (items_from adds (addend_of self.now.left (inner_of self.now.left)) (length cursor.old)
+            terms cursor.old) }
     {
         for _turn in 0..cursor.remaining() {
             if !adds(cursor) {
@@ -377,7 +401,8 @@ impl<F: Fn(Global, &mut Cursor<'_>, usize) -> Result<Expression, OrMemory<Stuck>
         first: Expression,
     ) -> Result<Expression, OrMemory<Stuck>>
         requires reads { ReadsInside self.now.left (F.pre self.now.read) (F.post self.now.read) }
-        ensures { Reads result cursor.new (addition_behind_of self.now.left (inner_of self.now.left) first cursor.old) }
+        ensures { Reads result cursor.new
+            (addition_behind_of self.now.left (inner_of self.now.left) first cursor.old) }
     {
         let second = self.addend(cursor)?;
         let others = OneOrMore {
@@ -391,7 +416,8 @@ impl<F: Fn(Global, &mut Cursor<'_>, usize) -> Result<Expression, OrMemory<Stuck>
     #[tactic(auto, unfolding(ada_grammar::specs::ReadingExpressions::sum_of))]
     fn sum(&self, cursor: &mut Cursor<'_>) -> Result<Expression, OrMemory<Stuck>>
         requires reads { ReadsInside self.now.left (F.pre self.now.read) (F.post self.now.read) }
-        ensures { Reads result cursor.new (sum_of self.now.left (inner_of self.now.left) cursor.old) }
+        ensures { Reads result cursor.new
+            (sum_of self.now.left (inner_of self.now.left) cursor.old) }
     {
         let first = self.first_term(cursor)?;
         if adds(cursor) {
@@ -409,7 +435,8 @@ impl<F: Fn(Global, &mut Cursor<'_>, usize) -> Result<Expression, OrMemory<Stuck>
         first: Expression,
     ) -> Result<Expression, OrMemory<Stuck>>
         requires reads { ReadsInside self.now.left (F.pre self.now.read) (F.post self.now.read) }
-        ensures { Reads result cursor.new (compared_of self.now.left (inner_of self.now.left) first cursor.old) }
+        ensures { Reads result cursor.new
+            (compared_of self.now.left (inner_of self.now.left) first cursor.old) }
     {
         let (place, operator) = comparison(cursor)?;
         let second = self.sum(cursor)?;
@@ -426,7 +453,8 @@ impl<F: Fn(Global, &mut Cursor<'_>, usize) -> Result<Expression, OrMemory<Stuck>
     #[tactic(auto, unfolding(ada_grammar::specs::ReadingExpressions::relation_of))]
     fn relation(&self, cursor: &mut Cursor<'_>) -> Result<Expression, OrMemory<Stuck>>
         requires reads { ReadsInside self.now.left (F.pre self.now.read) (F.post self.now.read) }
-        ensures { Reads result cursor.new (relation_of self.now.left (inner_of self.now.left) cursor.old) }
+        ensures { Reads result cursor.new
+            (relation_of self.now.left (inner_of self.now.left) cursor.old) }
     {
         let first = self.sum(cursor)?;
         if compares(cursor) {
@@ -444,7 +472,8 @@ impl<F: Fn(Global, &mut Cursor<'_>, usize) -> Result<Expression, OrMemory<Stuck>
         operator: LogicalOperator,
     ) -> Result<Operand<Expression>, OrMemory<Stuck>>
         requires reads { ReadsInside self.now.left (F.pre self.now.read) (F.post self.now.read) }
-        ensures { Reads result cursor.new (operand_of self.now.left (inner_of self.now.left) operator cursor.old) }
+        ensures { Reads result cursor.new
+            (operand_of self.now.left (inner_of self.now.left) operator cursor.old) }
     {
         let place = again(cursor, operator)?;
         let relation = self.relation(cursor)?;
@@ -459,7 +488,10 @@ impl<F: Fn(Global, &mut Cursor<'_>, usize) -> Result<Expression, OrMemory<Stuck>
         mut operands: Items<Operand<Expression>>,
     ) -> Result<Items<Operand<Expression>>, OrMemory<Stuck>>
         requires reads { ReadsInside self.now.left (F.pre self.now.read) (F.post self.now.read) }
-        ensures { Reads result cursor.new (items_from (sees_word (logical_text operator)) (operand_of self.now.left (inner_of self.now.left) operator) (length cursor.old) operands cursor.old) }
+        ensures { Reads result cursor.new
+            (items_from (sees_word (logical_text operator))
+            (operand_of self.now.left (inner_of self.now.left) operator) (length cursor.old)
+            operands cursor.old) }
     {
         for _turn in 0..cursor.remaining() {
             if !joins_again(cursor, operator) {
@@ -478,7 +510,8 @@ impl<F: Fn(Global, &mut Cursor<'_>, usize) -> Result<Expression, OrMemory<Stuck>
         first: Expression,
     ) -> Result<Expression, OrMemory<Stuck>>
         requires reads { ReadsInside self.now.left (F.pre self.now.read) (F.post self.now.read) }
-        ensures { Reads result cursor.new (joined_of self.now.left (inner_of self.now.left) first cursor.old) }
+        ensures { Reads result cursor.new
+            (joined_of self.now.left (inner_of self.now.left) first cursor.old) }
     {
         let (place, operator) = logical_operator(cursor)?;
         let relation = self.relation(cursor)?;
@@ -498,7 +531,8 @@ impl<F: Fn(Global, &mut Cursor<'_>, usize) -> Result<Expression, OrMemory<Stuck>
     #[tactic(auto, unfolding(ada_grammar::specs::ReadingExpressions::logical_of))]
     fn logical(&self, cursor: &mut Cursor<'_>) -> Result<Expression, OrMemory<Stuck>>
         requires reads { ReadsInside self.now.left (F.pre self.now.read) (F.post self.now.read) }
-        ensures { Reads result cursor.new (logical_of self.now.left (inner_of self.now.left) cursor.old) }
+        ensures { Reads result cursor.new
+            (logical_of self.now.left (inner_of self.now.left) cursor.old) }
     {
         let first = self.relation(cursor)?;
         if joins(cursor) {

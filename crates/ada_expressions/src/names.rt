@@ -29,7 +29,9 @@ fn add_identifiers(
     delimiter: &[u8],
     mut identifiers: Items<Identifier>,
 ) -> Result<Items<Identifier>, OrMemory<Stuck>>
-    ensures { Reads result cursor.new (items_from (sees_delimiter delimiter.now) (behind_delimiter_of delimiter.now an_identifier) (length cursor.old) identifiers cursor.old) }
+    ensures { Reads result cursor.new
+        (items_from (sees_delimiter delimiter.now) (behind_delimiter_of delimiter.now an_identifier)
+        (length cursor.old) identifiers cursor.old) }
 {
     for _turn in 0..cursor.remaining() {
         if !cursor.is_delimiter(delimiter) {
@@ -94,7 +96,9 @@ fn add_names(
     delimiter: &[u8],
     mut names: Items<Name>,
 ) -> Result<Items<Name>, OrMemory<Stuck>>
-    ensures { Reads result cursor.new (items_from (sees_delimiter delimiter.now) (behind_delimiter_of delimiter.now name_of) (length cursor.old) names cursor.old) }
+    ensures { Reads result cursor.new
+        (items_from (sees_delimiter delimiter.now) (behind_delimiter_of delimiter.now name_of)
+        (length cursor.old) names cursor.old) }
 {
     for _turn in 0..cursor.remaining() {
         if !cursor.is_delimiter(delimiter) {

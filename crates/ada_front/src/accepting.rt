@@ -47,9 +47,11 @@ fn accept_tokens(alloc: Global, source: &[u8], tokens: &[Token]) -> Result<Image
     requires inside { AreTokensOf source.now tokens.now }
     requires count { length tokens.now ≤ length source.now }
     requires short { length source.now ≤ MAX_SOURCE }
-    ensures exact { Answers result (by_grammar source.now tokens.now (unit_of (lexemes_of source.now tokens.now))) }
+    ensures exact { Answers result
+        (by_grammar source.now tokens.now (unit_of (lexemes_of source.now tokens.now))) }
     ensures accepted { IfOk result (λ image. AcceptedTokens source.now tokens.now image) }
-    ensures only { (image : Image) → AcceptedTokens source.now tokens.now image → Answers result (Ok image) }
+    ensures only { (image : Image) → AcceptedTokens source.now tokens.now image
+        → Answers result (Ok image) }
 {
     match parse(alloc, source, tokens) {
         Ok(tree) => accept_tree(alloc, &tree),
@@ -78,7 +80,10 @@ fn accept_names<'t>(
 ) -> Result<Image, OrMemory<Refusal>>
     requires { names.now ≡ names_of tree.now }
     ensures exact { Answers result (by_names tree.now fault) }
-    ensures accepted { IfOk result (λ image. (image ≡ program_of tree.now) × (first_fault_of tree.now ≡ None) × (unit_built tree.now (names_of tree.now) ≡ true) × (fault ≡ None)) }
+    ensures accepted { IfOk result
+        (λ image.
+        (image ≡ program_of tree.now) × (first_fault_of tree.now ≡ None)
+        × (unit_built tree.now (names_of tree.now) ≡ true) × (fault ≡ None)) }
 {
     match fault {
         None => accept_named(alloc, tree, names),
@@ -94,7 +99,10 @@ fn accept_named<'t>(
 ) -> Result<Image, OrMemory<Refusal>>
     requires { names.now ≡ names_of tree.now }
     ensures exact { Answers result (by_rules tree.now (first_fault_of tree.now)) }
-    ensures accepted { IfOk result (λ image. (image ≡ program_of tree.now) × (first_fault_of tree.now ≡ None) × (unit_built tree.now (names_of tree.now) ≡ true)) }
+    ensures accepted { IfOk result
+        (λ image.
+        (image ≡ program_of tree.now) × (first_fault_of tree.now ≡ None)
+        × (unit_built tree.now (names_of tree.now) ≡ true)) }
 {
     match first_fault_of(alloc, tree, names) {
         Ok(fault) => accept_judged(alloc, tree, names, fault),
@@ -124,7 +132,10 @@ fn accept_judged(
 ) -> Result<Image, OrMemory<Refusal>>
     requires { names.now ≡ names_of tree.now }
     ensures exact { Answers result (by_rules tree.now fault) }
-    ensures accepted { IfOk result (λ image. (image ≡ program_of tree.now) × (unit_built tree.now (names_of tree.now) ≡ true) × (fault ≡ None)) }
+    ensures accepted { IfOk result
+        (λ image.
+        (image ≡ program_of tree.now) × (unit_built tree.now (names_of tree.now) ≡ true)
+        × (fault ≡ None)) }
 {
     match fault {
         None => accept_legal(alloc, tree, names),
@@ -136,7 +147,9 @@ fn accept_judged(
 fn accept_legal(alloc: Global, tree: &Unit, names: &Names<'_>) -> Result<Image, OrMemory<Refusal>>
     requires { names.now ≡ names_of tree.now }
     ensures exact { Answers result (by_rules tree.now None) }
-    ensures accepted { IfOk result (λ image. (image ≡ program_of tree.now) × (unit_built tree.now (names_of tree.now) ≡ true)) }
+    ensures accepted { IfOk result
+        (λ image.
+        (image ≡ program_of tree.now) × (unit_built tree.now (names_of tree.now) ≡ true)) }
 {
     accept_formed(alloc, tree, names, has_forms(tree, names))
 }

@@ -1,4 +1,4 @@
-//! Why a source is refused, and where.
+//! The first reason for which a source is refused, in the order of the steps that refuse.
 ghost use Rattle.std.specs.Prelude.{◌≡◌, ◌≤◌, length};
 ghost use Rattle.ada_verdicts.specs.Refusals.{of_tokens, of_grammar, of_names, of_rules, of_forms, place_of, end_of, place_after};
 

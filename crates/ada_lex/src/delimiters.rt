@@ -113,7 +113,9 @@ impl Delimiter {
 
 fn first_of(entries: &[Delimiter], spelling: &[u8]) -> Option<Delimiter>
     ensures found { IfSome result (λ entry. letters entry ≡ spelling.now) }
-    ensures none { IfNone result ((k : ℕ) → k < length entries.now → letters (slice_index_or entries.now k Delimiter.Arrow) ≢ spelling.now) }
+    ensures none { IfNone result
+        ((k : ℕ) → k < length entries.now
+        → letters (slice_index_or entries.now k Delimiter.Arrow) ≢ spelling.now) }
 {
     for entry in entries {
         if entry.letters() == spelling {

@@ -311,7 +311,8 @@ pub(crate) fn piece_at(spot: Spot, bytes: &[u8]) -> Result<(Option<Token>, usize
     requires some { 0 < length bytes.now }
     requires offset { spot.offset + length bytes.now ≤ MAX_SOURCE }
     requires column { spot.place.column ≤ spot.offset + 1 }
-    ensures exact { result_map_both (λ p. (option_to_list p.0, p.1)) (λ fault. fault) result ≡ piece_at spot bytes.now }
+    ensures exact { result_map_both (λ p. (option_to_list p.0, p.1)) (λ fault. fault) result
+        ≡ piece_at spot bytes.now }
     ensures nonempty { IfOk result (λ p. 0 < p.1) }
     ensures within { IfOk result (λ p. p.1 ≤ length bytes.now) }
 {

@@ -245,7 +245,10 @@ impl Reserved {
 
 fn first_of(entries: &[Reserved], spelling: &[u8]) -> Option<Reserved>
     ensures found { IfSome result (λ entry. letters entry ≡ map to_ascii_lowercase spelling.now) }
-    ensures none { IfNone result ((k : ℕ) → k < length entries.now → letters (slice_index_or entries.now k Reserved.Abort) ≢ map to_ascii_lowercase spelling.now) }
+    ensures none { IfNone result
+        ((k : ℕ) → k < length entries.now
+        → letters (slice_index_or entries.now k Reserved.Abort)
+        ≢ map to_ascii_lowercase spelling.now) }
 {
     for entry in entries {
         if entry.letters().eq_ignore_ascii_case(spelling) {
@@ -258,7 +261,8 @@ fn first_of(entries: &[Reserved], spelling: &[u8]) -> Option<Reserved>
 /// The reserved word that is spelt so, in any case; None where there is none.
 pub fn reserved_word(spelling: &[u8]) -> Option<Reserved>
     ensures found { IfSome result (λ entry. letters entry ≡ map to_ascii_lowercase spelling.now) }
-    ensures none { IfNone result ((entry : Reserved) → letters entry ≢ map to_ascii_lowercase spelling.now) }
+    ensures none { IfNone result
+        ((entry : Reserved) → letters entry ≢ map to_ascii_lowercase spelling.now) }
 {
     first_of(&ALL, spelling)
 }

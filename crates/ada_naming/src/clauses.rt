@@ -124,7 +124,12 @@ fn is_used_package(names: &Names<'_>, denoted: Denoted) -> bool
 
 /// A use clause for this package stands in the region.
 fn with_use(names: &mut Names<'_>, denoted: Denoted) -> Result<(), NoMemory>
-    ensures { OnOk result (names.new ≡ record names.old { uses = names.old.uses ++ record { region = region_here names.old; used = denoted } ∷ [] }) }
+    ensures { OnOk result
+        (names.new
+        ≡ record names.old {
+          uses = names.old.uses ++ record { region = region_here names.old; used = denoted }
+              ∷ [];
+        }) }
 {
     let region = region_here(names);
     names.uses.push_back(UseClause {

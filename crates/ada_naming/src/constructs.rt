@@ -22,7 +22,8 @@ fn exporting_frame(
     of_type: Option<AdaType>,
     region: u32,
 ) -> Result<Frame, NoMemory>
-    ensures { IfOk result (λ frame. frame ≡ record (record_frame identifier.now of_type region) { owner = owner }) }
+    ensures { IfOk result
+        (λ frame. frame ≡ record (record_frame identifier.now of_type region) { owner = owner }) }
 {
     let name = copy(alloc, identifier.text.as_slice())?;
     Ok(Frame {
@@ -44,7 +45,12 @@ fn unit_opened(
     entity: u32,
     identifier: &Identifier,
 ) -> Result<(), NoMemory>
-    ensures { OnOk result (names.new ≡ opened_if (option_map (unit_frame entity identifier.now (and_then (kind_at names.old entity) type_of_kind)) (region_of_entity names.old entity)) names.old) }
+    ensures { OnOk result
+        (names.new
+        ≡ opened_if
+        (option_map
+        (unit_frame entity identifier.now (and_then (kind_at names.old entity) type_of_kind))
+        (region_of_entity names.old entity)) names.old) }
 {
     match region_of_entity(names, entity) {
         None => opened_new(names, no_frame()),
@@ -79,7 +85,11 @@ fn record_opened(
     entity: u32,
     identifier: &Identifier,
 ) -> Result<(), NoMemory>
-    ensures { OnOk result (names.new ≡ opened_if (option_map (record_frame identifier.now (and_then (kind_at names.old entity) type_of_kind)) (region_of_entity names.old entity)) names.old) }
+    ensures { OnOk result
+        (names.new
+        ≡ opened_if
+        (option_map (record_frame identifier.now (and_then (kind_at names.old entity) type_of_kind))
+        (region_of_entity names.old entity)) names.old) }
 {
     match region_of_entity(names, entity) {
         None => opened_new(names, no_frame()),
@@ -113,7 +123,10 @@ pub(crate) fn accept_begun(
     entity: Option<u32>,
     place: Place,
 ) -> Result<(), NoMemory>
-    ensures { OnOk result (names.new ≡ opened_new (accept_frame (next_scope names.old) entity) (with_scope place false true names.old)) }
+    ensures { OnOk result
+        (names.new
+        ≡ opened_new (accept_frame (next_scope names.old) entity)
+        (with_scope place false true names.old)) }
 {
     let mut frame = no_frame();
     frame.owner = entity;

@@ -42,7 +42,8 @@ fn end(names: &mut Names<'_>) -> Result<(), NoMemory>
 
 /// A with clause names a unit.
 fn with_unit(alloc: Global, names: &mut Names<'_>, name: &Name) -> Result<(), NoMemory>
-    ensures { OnOk result (names.new ≡ withed name.now (library_unit names.old name.now) names.old) }
+    ensures { OnOk result
+        (names.new ≡ withed name.now (library_unit names.old name.now) names.old) }
 {
     let unit = library_unit(names, name);
     withed(alloc, names, name, unit)
@@ -56,7 +57,8 @@ fn specification_declared<'t>(
     identifier: &'t Identifier,
     specification: &'t SubprogramSpecification,
 ) -> Result<(), NoMemory>
-    ensures { OnOk result (names.new ≡ declared identifier.now (a_subprogram specification.now) names.old) }
+    ensures { OnOk result
+        (names.new ≡ declared identifier.now (a_subprogram specification.now) names.old) }
 {
     let enclosure = enclosure_here(names);
     subprogram_declared(alloc, names, enclosure, true, 0, identifier, specification)
@@ -168,7 +170,8 @@ fn behind_all<'t>(
     names: &mut Names<'t>,
     occurrences: &[Occurrence<'t>],
 ) -> Result<(), NoMemory>
-    ensures { OnOk result (names.new ≡ behind_all (map occurrence_shown occurrences.now) names.old) }
+    ensures { OnOk result
+        (names.new ≡ behind_all (map occurrence_shown occurrences.now) names.old) }
 {
     for occurrence in occurrences {
         behind(alloc, names, *occurrence)?;

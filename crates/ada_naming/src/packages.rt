@@ -68,7 +68,9 @@ pub(crate) fn context_named(
     names: &Names<'_>,
     name: &[u8],
 ) -> Result<Option<PackageContext>, NoMemory>
-    ensures { IfOk result (λ context. context ≡ and_then (package_named names.now name.now) (context_of_package names.now)) }
+    ensures { IfOk result
+        (λ context.
+        context ≡ and_then (package_named names.now name.now) (context_of_package names.now)) }
 {
     match package_named(names, name) {
         None => Ok(None),
@@ -162,7 +164,8 @@ fn package_opened(
     exports: bool,
     region: Option<u32>,
 ) -> Result<(), NoMemory>
-    ensures { OnOk result (names.new ≡ package_opened entity identifier.now exports region names.old) }
+    ensures { OnOk result
+        (names.new ≡ package_opened entity identifier.now exports region names.old) }
 {
     match region {
         None => package_apart(alloc, names, identifier),

@@ -20,7 +20,9 @@ fn declare_objects<'t>(
     occurrences: &mut Occurrences<'t>,
     object: &'t ObjectDeclaration,
 ) -> Result<(), NoMemory>
-    ensures { OnOk result (occurrences.new ≡ occurrences.old ++ declares_all (an_object object.now) object.now.names) }
+    ensures { OnOk result
+        (occurrences.new
+        ≡ occurrences.old ++ declares_all (an_object object.now) object.now.names) }
 {
     occurrences.push(Occurrence::DeclareObject {
         name: &object.names.first,
@@ -51,7 +53,9 @@ fn declare_components<'t>(
     occurrences: &mut Occurrences<'t>,
     component: &'t Component,
 ) -> Result<(), NoMemory>
-    ensures { OnOk result (occurrences.new ≡ occurrences.old ++ declares_all (a_component component.now) component.now.names) }
+    ensures { OnOk result
+        (occurrences.new
+        ≡ occurrences.old ++ declares_all (a_component component.now) component.now.names) }
 {
     occurrences.push(Occurrence::DeclareComponent {
         name: &component.names.first,
@@ -82,7 +86,8 @@ fn declare_literals<'t>(
     occurrences: &mut Occurrences<'t>,
     literals: &'t OneOrMore<Identifier>,
 ) -> Result<(), NoMemory>
-    ensures { OnOk result (occurrences.new ≡ occurrences.old ++ declares_all a_literal literals.now) }
+    ensures { OnOk result
+        (occurrences.new ≡ occurrences.old ++ declares_all a_literal literals.now) }
 {
     occurrences.push(Occurrence::DeclareLiteral {
         name: &literals.first,
@@ -98,7 +103,8 @@ fn declare_exceptions<'t>(
     occurrences: &mut Occurrences<'t>,
     names: &'t OneOrMore<Identifier>,
 ) -> Result<(), NoMemory>
-    ensures { OnOk result (occurrences.new ≡ occurrences.old ++ declares_all an_exception names.now) }
+    ensures { OnOk result
+        (occurrences.new ≡ occurrences.old ++ declares_all an_exception names.now) }
 {
     occurrences.push(Occurrence::DeclareException { name: &names.first })?;
     for name in names.others.as_slice() {
@@ -113,7 +119,8 @@ fn tell_definition<'t>(
     name: &'t Identifier,
     definition: &'t TypeDefinition,
 ) -> Result<(), NoMemory>
-    ensures { OnOk result (occurrences.new ≡ occurrences.old ++ names_in_definition name.now definition.now) }
+    ensures { OnOk result
+        (occurrences.new ≡ occurrences.old ++ names_in_definition name.now definition.now) }
 {
     match definition {
         TypeDefinition::Enumeration { literals } => {
@@ -188,7 +195,8 @@ fn tell_profile<'t>(
     with_cells: bool,
     specification: &'t SubprogramSpecification,
 ) -> Result<(), NoMemory>
-    ensures { OnOk result (occurrences.new ≡ occurrences.old ++ names_in_profile with_cells specification.now) }
+    ensures { OnOk result
+        (occurrences.new ≡ occurrences.old ++ names_in_profile with_cells specification.now) }
 {
     tell_parameters(occurrences, with_cells, specification.parameters.as_slice())?;
     specification.result.tell(occurrences)?;
@@ -279,7 +287,8 @@ fn tell_private<'t>(
     occurrences: &mut Occurrences<'t>,
     components: &'t Option<Items<Component>>,
 ) -> Result<(), NoMemory>
-    ensures { OnOk result (occurrences.new ≡ occurrences.old ++ if_there names_in_private components.now) }
+    ensures { OnOk result
+        (occurrences.new ≡ occurrences.old ++ if_there names_in_private components.now) }
 {
     match components {
         None => Ok(()),
@@ -327,7 +336,9 @@ fn tell_subprogram_body<'t, Q: TellSequence>(
     specification: &'t SubprogramSpecification,
     body: &'t Body<Q>,
 ) -> Result<(), NoMemory>
-    ensures { OnOk result (occurrences.new ≡ occurrences.old ++ names_in_subprogram_body Q.names_in specification.now body.now) }
+    ensures { OnOk result
+        (occurrences.new
+        ≡ occurrences.old ++ names_in_subprogram_body Q.names_in specification.now body.now) }
 {
     occurrences.push(Occurrence::Head {
         name: &specification.name,
@@ -351,7 +362,8 @@ fn tell_entry_body<'t, Q: TellSequence>(
     head: &'t EntryHead,
     body: &'t Body<Q>,
 ) -> Result<(), NoMemory>
-    ensures { OnOk result (occurrences.new ≡ occurrences.old ++ names_in_entry_body Q.names_in head.now body.now) }
+    ensures { OnOk result
+        (occurrences.new ≡ occurrences.old ++ names_in_entry_body Q.names_in head.now body.now) }
 {
     occurrences.push(Occurrence::MentionEntry { name: &head.name })?;
     occurrences.push(Occurrence::BeginEntryBody {

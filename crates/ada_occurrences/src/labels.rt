@@ -77,7 +77,8 @@ fn tell_optional_labels<'t, Q: TellSequence>(
     occurrences: &mut Occurrences<'t>,
     sequence: &'t Option<Q>,
 ) -> Result<(), NoMemory>
-    ensures { OnOk result (occurrences.new ≡ occurrences.old ++ if_there (labels_in Q.names_in) sequence.now) }
+    ensures { OnOk result
+        (occurrences.new ≡ occurrences.old ++ if_there (labels_in Q.names_in) sequence.now) }
 {
     match sequence {
         None => Ok(()),

@@ -73,7 +73,10 @@ fn declare_parameters<'t>(
     with_cells: bool,
     parameter: &'t Parameter,
 ) -> Result<(), NoMemory>
-    ensures { OnOk result (occurrences.new ≡ occurrences.old ++ declares_all (a_parameter with_cells parameter.now) parameter.now.names) }
+    ensures { OnOk result
+        (occurrences.new
+        ≡ occurrences.old
+        ++ declares_all (a_parameter with_cells parameter.now) parameter.now.names) }
 {
     occurrences.push(Occurrence::DeclareParameter {
         name: &parameter.names.first,
@@ -96,7 +99,8 @@ pub(crate) fn tell_parameter<'t>(
     with_cells: bool,
     parameter: &'t Parameter,
 ) -> Result<(), NoMemory>
-    ensures { OnOk result (occurrences.new ≡ occurrences.old ++ names_in_parameter with_cells parameter.now) }
+    ensures { OnOk result
+        (occurrences.new ≡ occurrences.old ++ names_in_parameter with_cells parameter.now) }
 {
     hide_all(occurrences, &parameter.names)?;
     parameter.subtype.tell(occurrences)?;
@@ -109,7 +113,8 @@ pub(crate) fn tell_parameters<'t>(
     with_cells: bool,
     parameters: &'t [Parameter],
 ) -> Result<(), NoMemory>
-    ensures { OnOk result (occurrences.new ≡ occurrences.old ++ names_in_parameters with_cells parameters.now) }
+    ensures { OnOk result
+        (occurrences.new ≡ occurrences.old ++ names_in_parameters with_cells parameters.now) }
 {
     for parameter in parameters {
         tell_parameter(occurrences, with_cells, parameter)?;
@@ -197,7 +202,9 @@ fn tell_loop_name<'t>(
     occurrences: &mut Occurrences<'t>,
     name: &'t Option<Identifier>,
 ) -> Result<(), NoMemory>
-    ensures { OnOk result (occurrences.new ≡ occurrences.old ++ if_there (λ name. one (mentions_simply name)) name.now) }
+    ensures { OnOk result
+        (occurrences.new
+        ≡ occurrences.old ++ if_there (λ name. one (mentions_simply name)) name.now) }
 {
     match name {
         None => Ok(()),
@@ -234,7 +241,9 @@ pub(crate) fn tell_optional<'t, Q: TellSequence>(
     occurrences: &mut Occurrences<'t>,
     sequence: &'t Option<Q>,
 ) -> Result<(), NoMemory>
-    ensures { OnOk result (occurrences.new ≡ occurrences.old ++ if_there (names_in_statements Q.names_in) sequence.now) }
+    ensures { OnOk result
+        (occurrences.new
+        ≡ occurrences.old ++ if_there (names_in_statements Q.names_in) sequence.now) }
 {
     match sequence {
         None => Ok(()),
@@ -295,7 +304,8 @@ fn begin_loop<'t>(
     occurrences: &mut Occurrences<'t>,
     label: &'t Option<Label>,
 ) -> Result<(), NoMemory>
-    ensures { OnOk result (occurrences.new ≡ occurrences.old ++ begins (a_loop (label_name label.now)) ∷ []) }
+    ensures { OnOk result
+        (occurrences.new ≡ occurrences.old ++ begins (a_loop (label_name label.now)) ∷ []) }
 {
     match label {
         None => occurrences.push(Occurrence::BeginLoop),
@@ -309,7 +319,8 @@ fn begin_block<'t>(
     label: &'t Option<Label>,
     place: Place,
 ) -> Result<(), NoMemory>
-    ensures { OnOk result (occurrences.new ≡ occurrences.old ++ begins (a_block (label_name label.now) place) ∷ []) }
+    ensures { OnOk result
+        (occurrences.new ≡ occurrences.old ++ begins (a_block (label_name label.now) place) ∷ []) }
 {
     match label {
         None => occurrences.push(Occurrence::BeginBlock { place }),

@@ -29,7 +29,8 @@ pub(crate) trait TellSequence {
 
     /// Tells its declarations.
     fn tell_declarations<'t>(&'t self, occurrences: &mut Occurrences<'t>) -> Result<(), NoMemory>
-        ensures { OnOk result (occurrences.new ≡ occurrences.old ++ (names_in self.now).declarations) };
+        ensures { OnOk result
+            (occurrences.new ≡ occurrences.old ++ (names_in self.now).declarations) };
 
     /// Declares the labels of its statements.
     fn tell_labels<'t>(&'t self, occurrences: &mut Occurrences<'t>) -> Result<(), NoMemory>
@@ -37,7 +38,8 @@ pub(crate) trait TellSequence {
 
     /// Tells its statements and handlers.
     fn tell_statements<'t>(&'t self, occurrences: &mut Occurrences<'t>) -> Result<(), NoMemory>
-        ensures { OnOk result (occurrences.new ≡ occurrences.old ++ (names_in self.now).statements) };
+        ensures { OnOk result
+            (occurrences.new ≡ occurrences.old ++ (names_in self.now).statements) };
 }
 
 /// Items one behind another.

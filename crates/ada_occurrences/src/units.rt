@@ -80,7 +80,9 @@ fn tell_clause_names<'t>(
     is_use: bool,
     names: &'t OneOrMore<Name>,
 ) -> Result<(), NoMemory>
-    ensures { OnOk result (occurrences.new ≡ occurrences.old ++ in_all (λ name. one (clause_with is_use name)) names.now) }
+    ensures { OnOk result
+        (occurrences.new
+        ≡ occurrences.old ++ in_all (λ name. one (clause_with is_use name)) names.now) }
 {
     tell_clause_name(occurrences, is_use, &names.first)?;
     for name in names.others.as_slice() {
@@ -104,7 +106,8 @@ fn tell_private_part<'t>(
     occurrences: &mut Occurrences<'t>,
     declarations: &'t Option<Items<Declaration<Sequence>>>,
 ) -> Result<(), NoMemory>
-    ensures { OnOk result (occurrences.new ≡ occurrences.old ++ if_there names_in_private_part declarations.now) }
+    ensures { OnOk result
+        (occurrences.new ≡ occurrences.old ++ if_there names_in_private_part declarations.now) }
 {
     match declarations {
         None => Ok(()),
@@ -120,7 +123,12 @@ fn tell_package_region<'t>(
     occurrences: &mut Occurrences<'t>,
     declaration: &'t PackageDeclaration,
 ) -> Result<(), NoMemory>
-    ensures { OnOk result (occurrences.new ≡ occurrences.old ++ within_region (package_region declaration.now.name) (names_in_part declaration.now.declarations ++ if_there names_in_private_part declaration.now.private)) }
+    ensures { OnOk result
+        (occurrences.new
+        ≡ occurrences.old
+        ++ within_region (package_region declaration.now.name)
+        (names_in_part declaration.now.declarations
+        ++ if_there names_in_private_part declaration.now.private)) }
 {
     occurrences.push(Occurrence::BeginPackage {
         name: &declaration.name,
@@ -136,7 +144,9 @@ fn tell_package_declaration<'t>(
     context: &'t [ContextClause],
     declaration: &'t PackageDeclaration,
 ) -> Result<(), NoMemory>
-    ensures { OnOk result (occurrences.new ≡ occurrences.old ++ names_in_package_declaration context.now declaration.now) }
+    ensures { OnOk result
+        (occurrences.new
+        ≡ occurrences.old ++ names_in_package_declaration context.now declaration.now) }
 {
     occurrences.push(Occurrence::BeginContext)?;
     tell_each(occurrences, context)?;
@@ -152,7 +162,8 @@ fn tell_package_statements<'t>(
     occurrences: &mut Occurrences<'t>,
     sequence: &'t Option<Sequence>,
 ) -> Result<(), NoMemory>
-    ensures { OnOk result (occurrences.new ≡ occurrences.old ++ if_there names_in_package_statements sequence.now) }
+    ensures { OnOk result
+        (occurrences.new ≡ occurrences.old ++ if_there names_in_package_statements sequence.now) }
 {
     match sequence {
         None => Ok(()),
@@ -166,7 +177,8 @@ fn tell_package_body<'t>(
     context: &'t [ContextClause],
     body: &'t PackageBody,
 ) -> Result<(), NoMemory>
-    ensures { OnOk result (occurrences.new ≡ occurrences.old ++ names_in_package_body context.now body.now) }
+    ensures { OnOk result
+        (occurrences.new ≡ occurrences.old ++ names_in_package_body context.now body.now) }
 {
     occurrences.push(Occurrence::BeginContextOf { name: &body.name })?;
     occurrences.push(Occurrence::BeginFurtherContext)?;
@@ -202,7 +214,8 @@ fn tell_main<'t>(
     context: &'t [ContextClause],
     main: &'t MainProcedure,
 ) -> Result<(), NoMemory>
-    ensures { OnOk result (occurrences.new ≡ occurrences.old ++ names_in_main context.now main.now) }
+    ensures { OnOk result
+        (occurrences.new ≡ occurrences.old ++ names_in_main context.now main.now) }
 {
     occurrences.push(Occurrence::BeginContext)?;
     tell_each(occurrences, context)?;

@@ -1,4 +1,4 @@
-//! Library units and the source (ISO/IEC 8652:2012, 2.8, clause 7, 10.1).
+//! Library units and the source, as they are read (ISO/IEC 8652:2012, 2.8, clause 7, 10.1).
 ghost use Rattle.std.specs.Prelude.{◌≡◌, ◌≤◌, codes, length, true, IfErr, IfOk, Ok};
 ghost use Rattle.ann_base.specs.Answers.{Answers, OfFault};
 ghost use Rattle.ada_lex.specs.Lexed.{AreTokensOf};
@@ -37,7 +37,8 @@ pub fn parse(alloc: Global, source: &[u8], tokens: &[Token]) -> Result<Unit, OrM
     ensures found { IfOk result (λ unit. SpellsTokens unit (lexemes_of source.now tokens.now)) }
     ensures shaped { IfOk result (λ unit. is_shaped unit ≡ true) }
     // Any shaped tree that spells the tokens is the answer, unless memory runs out; so it is refused only where there is none.
-    ensures only { (unit : Tree) → SpellsTokens unit (lexemes_of source.now tokens.now) → is_shaped unit ≡ true → Answers result (Ok unit) }
+    ensures only { (unit : Tree) → SpellsTokens unit (lexemes_of source.now tokens.now)
+        → is_shaped unit ≡ true → Answers result (Ok unit) }
     // Otherwise the fault is at the first token with which the reading from left to right cannot go on.
     ensures exact { Answers result (unit_of (lexemes_of source.now tokens.now)) }
     // No shaped tree begins with the tokens up to that of the fault, itself counted.
@@ -118,7 +119,8 @@ fn next_argument(
     cursor: &mut Cursor<'_>,
     left: usize,
 ) -> Result<Argument<Expression>, OrMemory<Stuck>>
-    ensures { Reads result cursor.new (behind_delimiter_of (codes ",") (argument_of left (inner_of left)) cursor.old) }
+    ensures { Reads result cursor.new
+        (behind_delimiter_of (codes ",") (argument_of left (inner_of left)) cursor.old) }
 {
     cursor.delimiter(b",")?;
     argument(alloc, cursor, left)
@@ -131,7 +133,9 @@ fn next_arguments(
     cursor: &mut Cursor<'_>,
     left: usize,
 ) -> Result<Items<Argument<Expression>>, OrMemory<Stuck>>
-    ensures { Reads result cursor.new (items_of (sees_delimiter (codes ",")) (behind_delimiter_of (codes ",") (argument_of left (inner_of left))) cursor.old) }
+    ensures { Reads result cursor.new
+        (items_of (sees_delimiter (codes ","))
+        (behind_delimiter_of (codes ",") (argument_of left (inner_of left))) cursor.old) }
 {
     let mut found = Items::new(alloc);
     for _turn in 0..cursor.remaining() {
@@ -150,7 +154,8 @@ fn pragma_arguments(
     cursor: &mut Cursor<'_>,
     left: usize,
 ) -> Result<OneOrMore<Argument<Expression>>, OrMemory<Stuck>>
-    ensures { Reads result cursor.new (separated_of (codes ",") (argument_of left (inner_of left)) cursor.old) }
+    ensures { Reads result cursor.new
+        (separated_of (codes ",") (argument_of left (inner_of left)) cursor.old) }
 {
     let first = argument(alloc, cursor, left)?;
     let others = next_arguments(alloc, cursor, left)?;
@@ -186,7 +191,8 @@ fn pragmas(
     cursor: &mut Cursor<'_>,
     left: usize,
 ) -> Result<Items<Pragma>, OrMemory<Stuck>>
-    ensures { Reads result cursor.new (items_of (sees_word (codes "pragma")) (pragma_of left) cursor.old) }
+    ensures { Reads result cursor.new
+        (items_of (sees_word (codes "pragma")) (pragma_of left) cursor.old) }
 {
     let mut found = Items::new(alloc);
     for _turn in 0..cursor.remaining() {

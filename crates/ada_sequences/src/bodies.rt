@@ -66,7 +66,8 @@ impl<
     ) -> Result<Body<Sequence>, OrMemory<Stuck>>
         requires reads { ReadsInside self.now.left (F.pre self.now.read) (F.post self.now.read) }
         requires lower { map to_ascii_lowercase name.now.text ≡ name.now.text }
-        ensures { Reads result cursor.new (body_of self.now.left (inside_of self.now.left) name.now.text cursor.old) }
+        ensures { Reads result cursor.new
+            (body_of self.now.left (inside_of self.now.left) name.now.text cursor.old) }
     {
         cursor.open_is(self.left)?;
         let sequence = self.inner(cursor, SequenceRole::Body)?;
@@ -86,7 +87,8 @@ impl<
         cursor: &mut Cursor<'_>,
     ) -> Result<OperationBody<Sequence>, OrMemory<Stuck>>
         requires reads { ReadsInside self.now.left (F.pre self.now.read) (F.post self.now.read) }
-        ensures { Reads result cursor.new (subprogram_operation_of self.now.left (inside_of self.now.left) cursor.old) }
+        ensures { Reads result cursor.new
+            (subprogram_operation_of self.now.left (inside_of self.now.left) cursor.old) }
     {
         let specification = specification(self.alloc, cursor, self.left)?;
         let body = self.body(cursor, &specification.name)?;
@@ -103,7 +105,8 @@ impl<
         cursor: &mut Cursor<'_>,
     ) -> Result<OperationBody<Sequence>, OrMemory<Stuck>>
         requires reads { ReadsInside self.now.left (F.pre self.now.read) (F.post self.now.read) }
-        ensures { Reads result cursor.new (entry_operation_of self.now.left (inside_of self.now.left) cursor.old) }
+        ensures { Reads result cursor.new
+            (entry_operation_of self.now.left (inside_of self.now.left) cursor.old) }
     {
         let head = entry_head(self.alloc, cursor, self.left)?;
         let body = self.body(cursor, &head.name)?;
@@ -117,7 +120,8 @@ impl<
         cursor: &mut Cursor<'_>,
     ) -> Result<OperationBody<Sequence>, OrMemory<Stuck>>
         requires reads { ReadsInside self.now.left (F.pre self.now.read) (F.post self.now.read) }
-        ensures { Reads result cursor.new (operation_body_of self.now.left (inside_of self.now.left) cursor.old) }
+        ensures { Reads result cursor.new
+            (operation_body_of self.now.left (inside_of self.now.left) cursor.old) }
     {
         if cursor.is_word(b"entry") {
             self.entry_operation(cursor)
@@ -135,7 +139,8 @@ impl<
     ) -> Result<Declaration<Sequence>, OrMemory<Stuck>>
         requires reads { ReadsInside self.now.left (F.pre self.now.read) (F.post self.now.read) }
         requires lower { map to_ascii_lowercase specification.name.text ≡ specification.name.text }
-        ensures { Reads result cursor.new (subprogram_body_of self.now.left (inside_of self.now.left) specification cursor.old) }
+        ensures { Reads result cursor.new
+            (subprogram_body_of self.now.left (inside_of self.now.left) specification cursor.old) }
     {
         let body = self.body(cursor, &specification.name)?;
         Ok(Declaration::SubprogramBody {
@@ -148,7 +153,8 @@ impl<
     #[tactic(auto, unfolding(ada_grammar::specs::ReadingBodies::subprogram_of))]
     fn subprogram(&self, cursor: &mut Cursor<'_>) -> Result<Declaration<Sequence>, OrMemory<Stuck>>
         requires reads { ReadsInside self.now.left (F.pre self.now.read) (F.post self.now.read) }
-        ensures { Reads result cursor.new (subprogram_of self.now.left (inside_of self.now.left) cursor.old) }
+        ensures { Reads result cursor.new
+            (subprogram_of self.now.left (inside_of self.now.left) cursor.old) }
     {
         let specification = specification(self.alloc, cursor, self.left)?;
         if cursor.is_delimiter(b";") {
@@ -167,7 +173,8 @@ impl<
         place: Place,
     ) -> Result<Declaration<Sequence>, OrMemory<Stuck>>
         requires reads { ReadsInside self.now.left (F.pre self.now.read) (F.post self.now.read) }
-        ensures { Reads result cursor.new (task_body_of self.now.left (inside_of self.now.left) place cursor.old) }
+        ensures { Reads result cursor.new
+            (task_body_of self.now.left (inside_of self.now.left) place cursor.old) }
     {
         cursor.word(b"body")?;
         let name = cursor.identifier(self.alloc)?;
@@ -179,7 +186,8 @@ impl<
     #[tactic(auto, unfolding(ada_grammar::specs::ReadingBodies::any_task_of))]
     fn any_task(&self, cursor: &mut Cursor<'_>) -> Result<Declaration<Sequence>, OrMemory<Stuck>>
         requires reads { ReadsInside self.now.left (F.pre self.now.read) (F.post self.now.read) }
-        ensures { Reads result cursor.new (any_task_of self.now.left (inside_of self.now.left) cursor.old) }
+        ensures { Reads result cursor.new
+            (any_task_of self.now.left (inside_of self.now.left) cursor.old) }
     {
         let place = cursor.word(b"task")?;
         if cursor.is_word(b"body") {
@@ -195,7 +203,8 @@ impl<
         cursor: &mut Cursor<'_>,
     ) -> Result<OperationBody<Sequence>, OrMemory<Stuck>>
         requires reads { ReadsInside self.now.left (F.pre self.now.read) (F.post self.now.read) }
-        ensures { Reads result cursor.new (operation_body_of (below self.now.left) (inside_of (below self.now.left)) cursor.old) }
+        ensures { Reads result cursor.new
+            (operation_body_of (below self.now.left) (inside_of (below self.now.left)) cursor.old) }
     {
         SequenceReader {
             alloc: self.alloc,
@@ -212,7 +221,10 @@ impl<
         cursor: &mut Cursor<'_>,
     ) -> Result<Items<OperationBody<Sequence>>, OrMemory<Stuck>>
         requires reads { ReadsInside self.now.left (F.pre self.now.read) (F.post self.now.read) }
-        ensures { Reads result cursor.new (items_of begins_operation (operation_body_of (below self.now.left) (inside_of (below self.now.left))) cursor.old) }
+        ensures { Reads result cursor.new
+            (items_of begins_operation
+            (operation_body_of (below self.now.left) (inside_of (below self.now.left)))
+            cursor.old) }
     {
         let mut found = Items::new(self.alloc);
         for _turn in 0..cursor.remaining() {
@@ -232,7 +244,9 @@ impl<
         place: Place,
     ) -> Result<Declaration<Sequence>, OrMemory<Stuck>>
         requires reads { ReadsInside self.now.left (F.pre self.now.read) (F.post self.now.read) }
-        ensures { Reads result cursor.new (protected_body_of self.now.left (inside_of self.now.left) (inside_of (below self.now.left)) place cursor.old) }
+        ensures { Reads result cursor.new
+            (protected_body_of self.now.left (inside_of self.now.left)
+            (inside_of (below self.now.left)) place cursor.old) }
     {
         cursor.word(b"body")?;
         let name = cursor.identifier(self.alloc)?;
@@ -256,7 +270,9 @@ impl<
         cursor: &mut Cursor<'_>,
     ) -> Result<Declaration<Sequence>, OrMemory<Stuck>>
         requires reads { ReadsInside self.now.left (F.pre self.now.read) (F.post self.now.read) }
-        ensures { Reads result cursor.new (any_protected_of self.now.left (inside_of self.now.left) (inside_of (below self.now.left)) cursor.old) }
+        ensures { Reads result cursor.new
+            (any_protected_of self.now.left (inside_of self.now.left)
+            (inside_of (below self.now.left)) cursor.old) }
     {
         let place = cursor.word(b"protected")?;
         if cursor.is_word(b"body") {
@@ -273,7 +289,9 @@ impl<
         cursor: &mut Cursor<'_>,
     ) -> Result<Declaration<Sequence>, OrMemory<Stuck>>
         requires reads { ReadsInside self.now.left (F.pre self.now.read) (F.post self.now.read) }
-        ensures { Reads result cursor.new (declaration_of self.now.left (inside_of self.now.left) (inside_of (below self.now.left)) cursor.old) }
+        ensures { Reads result cursor.new
+            (declaration_of self.now.left (inside_of self.now.left)
+            (inside_of (below self.now.left)) cursor.old) }
     {
         if cursor.is_identifier() {
             named_declaration(self.alloc, cursor, self.left)

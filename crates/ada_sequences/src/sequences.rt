@@ -81,7 +81,9 @@ impl<
     #[tactic(auto, unfolding(ada_grammar::specs::ReadingSequences::statement_of))]
     fn statement(&self, cursor: &mut Cursor<'_>) -> Result<Statement<Sequence>, OrMemory<Stuck>>
         requires reads { ReadsInside self.now.left (F.pre self.now.read) (F.post self.now.read) }
-        ensures { Reads result cursor.new (statement_of self.now.left (inside_of self.now.left) (inside_of (below self.now.left)) cursor.old) }
+        ensures { Reads result cursor.new
+            (statement_of self.now.left (inside_of self.now.left) (inside_of (below self.now.left))
+            cursor.old) }
     {
         match self.left {
             0 => {
@@ -107,7 +109,10 @@ impl<
         cursor: &mut Cursor<'_>,
     ) -> Result<Items<Statement<Sequence>>, OrMemory<Stuck>>
         requires reads { ReadsInside self.now.left (F.pre self.now.read) (F.post self.now.read) }
-        ensures { Reads result cursor.new (items_of begins_statement (statement_of self.now.left (inside_of self.now.left) (inside_of (below self.now.left))) cursor.old) }
+        ensures { Reads result cursor.new
+            (items_of begins_statement
+            (statement_of self.now.left (inside_of self.now.left) (inside_of (below self.now.left)))
+            cursor.old) }
     {
         let mut found = Items::new(self.alloc);
         for _turn in 0..cursor.remaining() {
@@ -126,7 +131,9 @@ impl<
         cursor: &mut Cursor<'_>,
     ) -> Result<OneOrMore<Statement<Sequence>>, OrMemory<Stuck>>
         requires reads { ReadsInside self.now.left (F.pre self.now.read) (F.post self.now.read) }
-        ensures { Reads result cursor.new (statements_of self.now.left (inside_of self.now.left) (inside_of (below self.now.left)) cursor.old) }
+        ensures { Reads result cursor.new
+            (statements_of self.now.left (inside_of self.now.left) (inside_of (below self.now.left))
+            cursor.old) }
     {
         let first = self.statement(cursor)?;
         let others = self.next_statements(cursor)?;
@@ -137,7 +144,9 @@ impl<
     #[tactic(auto, unfolding(ada_grammar::specs::ReadingSequences::plain_of))]
     fn plain(&self, cursor: &mut Cursor<'_>) -> Result<Sequence, OrMemory<Stuck>>
         requires reads { ReadsInside self.now.left (F.pre self.now.read) (F.post self.now.read) }
-        ensures { Reads result cursor.new (plain_of self.now.left (inside_of self.now.left) (inside_of (below self.now.left)) cursor.old) }
+        ensures { Reads result cursor.new
+            (plain_of self.now.left (inside_of self.now.left) (inside_of (below self.now.left))
+            cursor.old) }
     {
         let statements = self.statements(cursor)?;
         Ok(made_plain(self.alloc, statements)?)
@@ -147,7 +156,9 @@ impl<
     #[tactic(auto, unfolding(ada_grammar::specs::ReadingSequences::handler_of))]
     fn handler(&self, cursor: &mut Cursor<'_>) -> Result<Handler<Sequence>, OrMemory<Stuck>>
         requires reads { ReadsInside self.now.left (F.pre self.now.read) (F.post self.now.read) }
-        ensures { Reads result cursor.new (handler_of self.now.left (inside_of self.now.left) (inside_of (below self.now.left)) cursor.old) }
+        ensures { Reads result cursor.new
+            (handler_of self.now.left (inside_of self.now.left) (inside_of (below self.now.left))
+            cursor.old) }
     {
         let place = cursor.word(b"when")?;
         let exceptions = handled_exceptions(self.alloc, cursor)?;
@@ -167,7 +178,10 @@ impl<
         cursor: &mut Cursor<'_>,
     ) -> Result<Items<Handler<Sequence>>, OrMemory<Stuck>>
         requires reads { ReadsInside self.now.left (F.pre self.now.read) (F.post self.now.read) }
-        ensures { Reads result cursor.new (items_of (sees_word (codes "when")) (handler_of self.now.left (inside_of self.now.left) (inside_of (below self.now.left))) cursor.old) }
+        ensures { Reads result cursor.new
+            (items_of (sees_word (codes "when"))
+            (handler_of self.now.left (inside_of self.now.left) (inside_of (below self.now.left)))
+            cursor.old) }
     {
         let mut found = Items::new(self.alloc);
         for _turn in 0..cursor.remaining() {
@@ -186,7 +200,9 @@ impl<
         cursor: &mut Cursor<'_>,
     ) -> Result<Items<Handler<Sequence>>, OrMemory<Stuck>>
         requires reads { ReadsInside self.now.left (F.pre self.now.read) (F.post self.now.read) }
-        ensures { Reads result cursor.new (given_handlers_of self.now.left (inside_of self.now.left) (inside_of (below self.now.left)) cursor.old) }
+        ensures { Reads result cursor.new
+            (given_handlers_of self.now.left (inside_of self.now.left)
+            (inside_of (below self.now.left)) cursor.old) }
     {
         cursor.word(b"exception")?;
         let first = self.handler(cursor)?;
@@ -201,7 +217,9 @@ impl<
     #[tactic(auto, unfolding(ada_grammar::specs::ReadingSequences::handlers_of))]
     fn handlers(&self, cursor: &mut Cursor<'_>) -> Result<Items<Handler<Sequence>>, OrMemory<Stuck>>
         requires reads { ReadsInside self.now.left (F.pre self.now.read) (F.post self.now.read) }
-        ensures { Reads result cursor.new (handlers_of self.now.left (inside_of self.now.left) (inside_of (below self.now.left)) cursor.old) }
+        ensures { Reads result cursor.new
+            (handlers_of self.now.left (inside_of self.now.left) (inside_of (below self.now.left))
+            cursor.old) }
     {
         if cursor.is_word(b"exception") {
             self.given_handlers(cursor)
@@ -217,7 +235,9 @@ impl<
         cursor: &mut Cursor<'_>,
     ) -> Result<Items<Declaration<Sequence>>, OrMemory<Stuck>>
         requires reads { ReadsInside self.now.left (F.pre self.now.read) (F.post self.now.read) }
-        ensures { Reads result cursor.new (declarations_of self.now.left (inside_of self.now.left) (inside_of (below self.now.left)) cursor.old) }
+        ensures { Reads result cursor.new
+            (declarations_of self.now.left (inside_of self.now.left)
+            (inside_of (below self.now.left)) cursor.old) }
     {
         let mut found = Items::new(self.alloc);
         for _turn in 0..cursor.remaining() {
@@ -237,7 +257,9 @@ impl<
         declarations: Items<Declaration<Sequence>>,
     ) -> Result<Sequence, OrMemory<Stuck>>
         requires reads { ReadsInside self.now.left (F.pre self.now.read) (F.post self.now.read) }
-        ensures { Reads result cursor.new (handled_behind_of self.now.left (inside_of self.now.left) (inside_of (below self.now.left)) declarations cursor.old) }
+        ensures { Reads result cursor.new
+            (handled_behind_of self.now.left (inside_of self.now.left)
+            (inside_of (below self.now.left)) declarations cursor.old) }
     {
         let statements = self.statements(cursor)?;
         let handlers = self.handlers(cursor)?;
@@ -248,7 +270,9 @@ impl<
     #[tactic(auto, unfolding(ada_grammar::specs::ReadingSequences::whole_body_of))]
     fn whole_body(&self, cursor: &mut Cursor<'_>) -> Result<Sequence, OrMemory<Stuck>>
         requires reads { ReadsInside self.now.left (F.pre self.now.read) (F.post self.now.read) }
-        ensures { Reads result cursor.new (whole_body_of self.now.left (inside_of self.now.left) (inside_of (below self.now.left)) cursor.old) }
+        ensures { Reads result cursor.new
+            (whole_body_of self.now.left (inside_of self.now.left) (inside_of (below self.now.left))
+            cursor.old) }
     {
         let declarations = self.declarations(cursor)?;
         cursor.word(b"begin")?;
@@ -262,7 +286,9 @@ impl<
         role: SequenceRole,
     ) -> Result<Sequence, OrMemory<Stuck>>
         requires reads { ReadsInside self.now.left (F.pre self.now.read) (F.post self.now.read) }
-        ensures { Reads result cursor.new (parts_of self.now.left (inside_of self.now.left) (inside_of (below self.now.left)) role cursor.old) }
+        ensures { Reads result cursor.new
+            (parts_of self.now.left (inside_of self.now.left) (inside_of (below self.now.left)) role
+            cursor.old) }
     {
         match role {
             SequenceRole::Statements => self.plain(cursor),

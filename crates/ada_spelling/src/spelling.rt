@@ -56,7 +56,8 @@ impl Tokens {
 
     /// One token more.
     pub(crate) fn push(&mut self, kind: Kind, text: &[u8]) -> Result<(), NoMemory>
-        ensures { OnOk result (self.new ≡ self.old ++ record { kind = kind; text = text.now } ∷ []) }
+        ensures { OnOk result
+            (self.new ≡ self.old ++ record { kind = kind; text = text.now } ∷ []) }
     {
         let text = Bytes::copy_of(self.alloc, text)?;
         self.spelt.push(Spelt { kind, text })?;
@@ -93,7 +94,8 @@ pub(crate) trait Spell {
 
 /// Items one behind another.
 pub(crate) fn spell_each<T: Spell>(tokens: &mut Tokens, items: &[T]) -> Result<(), NoMemory>
-    ensures { OnOk result (tokens.new ≡ tokens.old ++ map spelt (each_written T.written items.now)) }
+    ensures { OnOk result
+        (tokens.new ≡ tokens.old ++ map spelt (each_written T.written items.now)) }
 {
     for item in items {
         item.spell(tokens)?;
@@ -108,7 +110,13 @@ pub(crate) fn spell_behind<T: Spell>(
     text: &[u8],
     items: &[T],
 ) -> Result<(), NoMemory>
-    ensures { OnOk result (tokens.new ≡ tokens.old ++ map spelt (each_written (behind (record { kind = kind; text = text.now; identifier = false; place = None }) T.written) items.now)) }
+    ensures { OnOk result
+        (tokens.new
+        ≡ tokens.old
+        ++ map spelt
+        (each_written
+        (behind (record { kind = kind; text = text.now; identifier = false; place = None })
+        T.written) items.now)) }
 {
     for item in items {
         tokens.push(kind, text)?;
@@ -123,7 +131,9 @@ pub(crate) fn spell_separated<T: Spell>(
     separator: &[u8],
     items: &OneOrMore<T>,
 ) -> Result<(), NoMemory>
-    ensures { OnOk result (tokens.new ≡ tokens.old ++ map spelt (separated (delimiter separator.now) T.written items.now)) }
+    ensures { OnOk result
+        (tokens.new
+        ≡ tokens.old ++ map spelt (separated (delimiter separator.now) T.written items.now)) }
 {
     items.first.spell(tokens)?;
     spell_behind(tokens, Kind::Delimiter, separator, items.others.as_slice())
@@ -135,7 +145,12 @@ pub(crate) fn spell_bracketed<T: Spell>(
     separator: &[u8],
     items: &[T],
 ) -> Result<(), NoMemory>
-    ensures { OnOk result (tokens.new ≡ tokens.old ++ map spelt (enclosed (delimiter (codes "(")) (delimiter separator.now) (delimiter (codes ")") ∷ []) T.written items.now)) }
+    ensures { OnOk result
+        (tokens.new
+        ≡ tokens.old
+        ++ map spelt
+        (enclosed (delimiter (codes "(")) (delimiter separator.now) (delimiter (codes ")") ∷ [])
+        T.written items.now)) }
 {
     match items {
         [] => Ok(()),
@@ -210,7 +225,13 @@ pub(crate) fn spell_led<T: Spell>(
     text: &[u8],
     item: &Option<T>,
 ) -> Result<(), NoMemory>
-    ensures { OnOk result (tokens.new ≡ tokens.old ++ map spelt (optional (behind (record { kind = kind; text = text.now; identifier = false; place = None }) T.written) item.now)) }
+    ensures { OnOk result
+        (tokens.new
+        ≡ tokens.old
+        ++ map spelt
+        (optional
+        (behind (record { kind = kind; text = text.now; identifier = false; place = None })
+        T.written) item.now)) }
 {
     match item {
         None => Ok(()),
@@ -234,7 +255,8 @@ pub(crate) fn spell_end_name(
 
 /// A word, where it stands there.
 pub(crate) fn spell_flag(tokens: &mut Tokens, stands: bool, text: &[u8]) -> Result<(), NoMemory>
-    ensures { OnOk result (tokens.new ≡ tokens.old ++ map spelt (flag stands (word text.now ∷ []))) }
+    ensures { OnOk result
+        (tokens.new ≡ tokens.old ++ map spelt (flag stands (word text.now ∷ []))) }
 {
     if stands { tokens.word(text) } else { Ok(()) }
 }

@@ -25,7 +25,11 @@ fn spell_subtype_and_initial(
     subtype: &SubtypeIndication,
     initial: &Option<Expression>,
 ) -> Result<(), NoMemory>
-    ensures { OnOk result (tokens.new ≡ tokens.old ++ map spelt (indication_written subtype.now ++ (optional becomes_written initial.now ++ semicolon))) }
+    ensures { OnOk result
+        (tokens.new
+        ≡ tokens.old
+        ++ map spelt
+        (indication_written subtype.now ++ (optional becomes_written initial.now ++ semicolon))) }
 {
     subtype.spell(tokens)?;
     spell_led(tokens, Kind::Delimiter, b":=", initial)?;
@@ -65,7 +69,8 @@ fn spell_extension(
     tokens: &mut Tokens,
     components: &Option<OneOrMore<Component>>,
 ) -> Result<(), NoMemory>
-    ensures { OnOk result (tokens.new ≡ tokens.old ++ map spelt (extension_written components.now)) }
+    ensures { OnOk result
+        (tokens.new ≡ tokens.old ++ map spelt (extension_written components.now)) }
 {
     match components {
         None => {
@@ -175,7 +180,8 @@ pub(crate) fn spell_aspects(tokens: &mut Tokens, aspects: &[Aspect]) -> Result<(
 }
 
 fn spell_overriding(tokens: &mut Tokens, overriding: Option<Place>) -> Result<(), NoMemory>
-    ensures { OnOk result (tokens.new ≡ tokens.old ++ map spelt (optional overriding_written overriding)) }
+    ensures { OnOk result
+        (tokens.new ≡ tokens.old ++ map spelt (optional overriding_written overriding)) }
 {
     match overriding {
         None => Ok(()),
@@ -228,7 +234,10 @@ pub(crate) fn spell_named_end(
     named: bool,
     name: &Identifier,
 ) -> Result<(), NoMemory>
-    ensures { OnOk result (tokens.new ≡ tokens.old ++ map spelt (word (codes "end") ∷ (end_name_written named name.now ++ semicolon))) }
+    ensures { OnOk result
+        (tokens.new
+        ≡ tokens.old
+        ++ map spelt (word (codes "end") ∷ (end_name_written named name.now ++ semicolon))) }
 {
     tokens.word(b"end")?;
     spell_end_name(tokens, named, name)?;
@@ -241,7 +250,9 @@ pub(crate) fn spell_name_and_aspects(
     name: &Identifier,
     aspects: &[Aspect],
 ) -> Result<(), NoMemory>
-    ensures { OnOk result (tokens.new ≡ tokens.old ++ map spelt (identifier_written name.now ∷ aspects_written aspects.now)) }
+    ensures { OnOk result
+        (tokens.new
+        ≡ tokens.old ++ map spelt (identifier_written name.now ∷ aspects_written aspects.now)) }
 {
     name.spell(tokens)?;
     spell_aspects(tokens, aspects)
@@ -249,7 +260,10 @@ pub(crate) fn spell_name_and_aspects(
 
 /// `body NAME is` (7.2, 9.1, 9.4)
 pub(crate) fn spell_body_name(tokens: &mut Tokens, name: &Identifier) -> Result<(), NoMemory>
-    ensures { OnOk result (tokens.new ≡ tokens.old ++ map spelt (word (codes "body") ∷ identifier_written name.now ∷ word (codes "is") ∷ [])) }
+    ensures { OnOk result
+        (tokens.new
+        ≡ tokens.old
+        ++ map spelt (word (codes "body") ∷ identifier_written name.now ∷ word (codes "is") ∷ [])) }
 {
     tokens.word(b"body")?;
     name.spell(tokens)?;
@@ -262,7 +276,9 @@ fn spell_task_definition(
     name: &Identifier,
     definition: &Option<TaskDefinition>,
 ) -> Result<(), NoMemory>
-    ensures { OnOk result (tokens.new ≡ tokens.old ++ map spelt (optional (task_definition_written name.now) definition.now)) }
+    ensures { OnOk result
+        (tokens.new
+        ≡ tokens.old ++ map spelt (optional (task_definition_written name.now) definition.now)) }
 {
     match definition {
         None => Ok(()),
@@ -344,7 +360,8 @@ pub(crate) fn spell_body<Q: SpellSequence>(
     name: &Identifier,
     body: &Body<Q>,
 ) -> Result<(), NoMemory>
-    ensures { OnOk result (tokens.new ≡ tokens.old ++ map spelt (body_written Q.written name.now body.now)) }
+    ensures { OnOk result
+        (tokens.new ≡ tokens.old ++ map spelt (body_written Q.written name.now body.now)) }
 {
     tokens.word(b"is")?;
     body.sequence.spell_as(SequenceRole::Body, tokens)?;

@@ -72,7 +72,8 @@ fn spell_multiplying(
     operator: MultiplyingOperator,
     place: Place,
 ) -> Result<(), NoMemory>
-    ensures { OnOk result (tokens.new ≡ tokens.old ++ map spelt (multiplying_written operator place ∷ [])) }
+    ensures { OnOk result
+        (tokens.new ≡ tokens.old ++ map spelt (multiplying_written operator place ∷ [])) }
 {
     match operator {
         MultiplyingOperator::Times => tokens.delimiter(b"*"),
@@ -120,7 +121,8 @@ fn spell_operand<E: Spell>(
     operator: LogicalOperator,
     operand: &Operand<E>,
 ) -> Result<(), NoMemory>
-    ensures { OnOk result (tokens.new ≡ tokens.old ++ map spelt (operand_written E.written operator operand.now)) }
+    ensures { OnOk result
+        (tokens.new ≡ tokens.old ++ map spelt (operand_written E.written operator operand.now)) }
 {
     spell_logical(tokens, operator, operand.place)?;
     operand.relation.spell(tokens)
@@ -131,7 +133,10 @@ fn spell_operands<E: Spell>(
     operator: LogicalOperator,
     operands: &[Operand<E>],
 ) -> Result<(), NoMemory>
-    ensures { OnOk result (tokens.new ≡ tokens.old ++ map spelt (each_written (operand_written E.written operator) operands.now)) }
+    ensures { OnOk result
+        (tokens.new
+        ≡ tokens.old
+        ++ map spelt (each_written (operand_written E.written operator) operands.now)) }
 {
     for operand in operands {
         spell_operand(tokens, operator, operand)?;

@@ -81,7 +81,8 @@ impl Spell for Parameter {
 }
 
 fn spell_index(tokens: &mut Tokens, index: &Option<Expression>) -> Result<(), NoMemory>
-    ensures { OnOk result (tokens.new ≡ tokens.old ++ map spelt (optional index_written index.now)) }
+    ensures { OnOk result
+        (tokens.new ≡ tokens.old ++ map spelt (optional index_written index.now)) }
 {
     match index {
         None => Ok(()),
@@ -167,7 +168,8 @@ impl Spell for Label {
 
 /// A loop or a block's name behind `end`.
 fn spell_label_end(tokens: &mut Tokens, label: &Option<Label>) -> Result<(), NoMemory>
-    ensures { OnOk result (tokens.new ≡ tokens.old ++ map spelt (optional label_end_written label.now)) }
+    ensures { OnOk result
+        (tokens.new ≡ tokens.old ++ map spelt (optional label_end_written label.now)) }
 {
     match label {
         None => Ok(()),
@@ -177,7 +179,10 @@ fn spell_label_end(tokens: &mut Tokens, label: &Option<Label>) -> Result<(), NoM
 
 /// `loop`, the loop's name and a semicolon, behind `end` (5.5).
 fn spell_loop_end(tokens: &mut Tokens, label: &Option<Label>) -> Result<(), NoMemory>
-    ensures { OnOk result (tokens.new ≡ tokens.old ++ map spelt (word (codes "loop") ∷ (optional label_end_written label.now ++ semicolon))) }
+    ensures { OnOk result
+        (tokens.new
+        ≡ tokens.old
+        ++ map spelt (word (codes "loop") ∷ (optional label_end_written label.now ++ semicolon))) }
 {
     tokens.word(b"loop")?;
     spell_label_end(tokens, label)?;
@@ -265,7 +270,8 @@ pub(crate) fn spell_word_alone(tokens: &mut Tokens, text: &[u8]) -> Result<(), N
 
 /// `end`, the word that opened the statement, and a semicolon.
 pub(crate) fn spell_end(tokens: &mut Tokens, text: &[u8]) -> Result<(), NoMemory>
-    ensures { OnOk result (tokens.new ≡ tokens.old ++ map spelt (word (codes "end") ∷ word text.now ∷ semicolon)) }
+    ensures { OnOk result
+        (tokens.new ≡ tokens.old ++ map spelt (word (codes "end") ∷ word text.now ∷ semicolon)) }
 {
     tokens.word(b"end")?;
     spell_word_alone(tokens, text)
@@ -276,7 +282,9 @@ pub(crate) fn spell_statements<Q: SpellSequence>(
     tokens: &mut Tokens,
     statements: &Option<Q>,
 ) -> Result<(), NoMemory>
-    ensures { OnOk result (tokens.new ≡ tokens.old ++ map spelt (optional (statements_written Q.written) statements.now)) }
+    ensures { OnOk result
+        (tokens.new
+        ≡ tokens.old ++ map spelt (optional (statements_written Q.written) statements.now)) }
 {
     match statements {
         None => Ok(()),
@@ -289,7 +297,8 @@ pub(crate) fn spell_else<Q: SpellSequence>(
     tokens: &mut Tokens,
     otherwise: &Option<Q>,
 ) -> Result<(), NoMemory>
-    ensures { OnOk result (tokens.new ≡ tokens.old ++ map spelt (optional (else_written Q.written) otherwise.now)) }
+    ensures { OnOk result
+        (tokens.new ≡ tokens.old ++ map spelt (optional (else_written Q.written) otherwise.now)) }
 {
     match otherwise {
         None => Ok(()),
@@ -381,7 +390,8 @@ fn spell_block_opened<Q: SpellSequence>(
     place: Place,
     sequence: &Q,
 ) -> Result<(), NoMemory>
-    ensures { OnOk result (tokens.new ≡ tokens.old ++ map spelt (block_opened Q.written declare place sequence.now)) }
+    ensures { OnOk result
+        (tokens.new ≡ tokens.old ++ map spelt (block_opened Q.written declare place sequence.now)) }
 {
     if declare {
         tokens.word(b"declare")?;
@@ -427,7 +437,9 @@ fn spell_accept_body<Q: SpellSequence>(
     entry: &Identifier,
     body: &Option<AcceptBody<Q>>,
 ) -> Result<(), NoMemory>
-    ensures { OnOk result (tokens.new ≡ tokens.old ++ map spelt (optional (accept_body_written Q.written entry.now) body.now)) }
+    ensures { OnOk result
+        (tokens.new
+        ≡ tokens.old ++ map spelt (optional (accept_body_written Q.written entry.now) body.now)) }
 {
     match body {
         None => Ok(()),

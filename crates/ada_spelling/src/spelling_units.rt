@@ -33,7 +33,13 @@ fn spell_exception_part<Q: SpellSequence>(
     first: &Handler<Q>,
     others: &[Handler<Q>],
 ) -> Result<(), NoMemory>
-    ensures { OnOk result (tokens.new ≡ tokens.old ++ map spelt (word (codes "exception") ∷ (handler_written Q.written first.now ++ each_written (handler_written Q.written) others.now))) }
+    ensures { OnOk result
+        (tokens.new
+        ≡ tokens.old
+        ++ map spelt
+        (word (codes "exception")
+        ∷ (handler_written Q.written first.now
+        ++ each_written (handler_written Q.written) others.now))) }
 {
     tokens.word(b"exception")?;
     first.spell(tokens)?;
@@ -44,7 +50,8 @@ fn spell_handlers<Q: SpellSequence>(
     tokens: &mut Tokens,
     handlers: &[Handler<Q>],
 ) -> Result<(), NoMemory>
-    ensures { OnOk result (tokens.new ≡ tokens.old ++ map spelt (handlers_written Q.written handlers.now)) }
+    ensures { OnOk result
+        (tokens.new ≡ tokens.old ++ map spelt (handlers_written Q.written handlers.now)) }
 {
     match handlers {
         [] => Ok(()),
@@ -57,7 +64,8 @@ fn spell_handled<Q: SpellSequence>(
     tokens: &mut Tokens,
     parts: &SequenceParts<Q>,
 ) -> Result<(), NoMemory>
-    ensures { OnOk result (tokens.new ≡ tokens.old ++ map spelt (handled_written Q.written parts.now)) }
+    ensures { OnOk result
+        (tokens.new ≡ tokens.old ++ map spelt (handled_written Q.written parts.now)) }
 {
     parts.statements.spell(tokens)?;
     spell_handlers(tokens, parts.handlers.as_slice())
@@ -148,7 +156,8 @@ fn spell_package_statements(
     tokens: &mut Tokens,
     sequence: &Option<Sequence>,
 ) -> Result<(), NoMemory>
-    ensures { OnOk result (tokens.new ≡ tokens.old ++ map spelt (optional package_statements_written sequence.now)) }
+    ensures { OnOk result
+        (tokens.new ≡ tokens.old ++ map spelt (optional package_statements_written sequence.now)) }
 {
     match sequence {
         None => Ok(()),

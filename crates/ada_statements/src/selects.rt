@@ -1,4 +1,4 @@
-//! Select statements (ISO/IEC 8652:2012, 9.7).
+//! Select statements, as they are read (ISO/IEC 8652:2012, 9.7).
 ghost use Rattle.std.specs.Prelude.{◌≡◌, suc, codes};
 ghost use Rattle.ada_grammar.specs.Reading.{items_of, sees_word};
 ghost use Rattle.ada_grammar.specs.Reads.{Reads};
@@ -58,8 +58,10 @@ impl<
 
     /// An accept statement in a select statement, which takes a level.
     fn opened_accept(&self, cursor: &mut Cursor<'_>) -> Result<Accept<Sequence>, OrMemory<Stuck>>
-        requires reads { ReadsInside (suc self.now.left) (F.pre self.now.read) (F.post self.now.read) }
-        ensures { Reads result cursor.new (accept_opened_of self.now.left (inside_of self.now.left) cursor.old) }
+        requires reads { ReadsInside (suc self.now.left) (F.pre self.now.read)
+            (F.post self.now.read) }
+        ensures { Reads result cursor.new
+            (accept_opened_of self.now.left (inside_of self.now.left) cursor.old) }
     {
         match self.left {
             0 => {
@@ -84,8 +86,11 @@ impl<
         &self,
         cursor: &mut Cursor<'_>,
     ) -> Result<Alternative<Sequence>, OrMemory<Stuck>>
-        requires reads { ReadsInside (suc self.now.left) (F.pre self.now.read) (F.post self.now.read) }
-        ensures { Reads result cursor.new (accept_alternative_of self.now.left (sequence_of self.now.left) (inside_of self.now.left) cursor.old) }
+        requires reads { ReadsInside (suc self.now.left) (F.pre self.now.read)
+            (F.post self.now.read) }
+        ensures { Reads result cursor.new
+            (accept_alternative_of self.now.left (sequence_of self.now.left)
+            (inside_of self.now.left) cursor.old) }
     {
         let accept = self.opened_accept(cursor)?;
         let statements = self.optional_statements(cursor)?;
@@ -98,8 +103,11 @@ impl<
         &self,
         cursor: &mut Cursor<'_>,
     ) -> Result<Alternative<Sequence>, OrMemory<Stuck>>
-        requires reads { ReadsInside (suc self.now.left) (F.pre self.now.read) (F.post self.now.read) }
-        ensures { Reads result cursor.new (delay_alternative_of self.now.left (sequence_of self.now.left) (inside_of self.now.left) cursor.old) }
+        requires reads { ReadsInside (suc self.now.left) (F.pre self.now.read)
+            (F.post self.now.read) }
+        ensures { Reads result cursor.new
+            (delay_alternative_of self.now.left (sequence_of self.now.left)
+            (inside_of self.now.left) cursor.old) }
     {
         let delay = self.opened_delay(cursor)?;
         let statements = self.optional_statements(cursor)?;
@@ -112,7 +120,9 @@ impl<
         &self,
         cursor: &mut Cursor<'_>,
     ) -> Result<Alternative<Sequence>, OrMemory<Stuck>>
-        ensures { Reads result cursor.new (terminate_of self.now.left (sequence_of self.now.left) (inside_of self.now.left) cursor.old) }
+        ensures { Reads result cursor.new
+            (terminate_of self.now.left (sequence_of self.now.left) (inside_of self.now.left)
+            cursor.old) }
     {
         let place = cursor.word(b"terminate")?;
         cursor.delimiter(b";")?;
@@ -122,8 +132,11 @@ impl<
     /// What an alternative waits for (9.7.1).
     #[tactic(auto, unfolding(ada_grammar::specs::ReadingStatements::alternative_of))]
     fn alternative(&self, cursor: &mut Cursor<'_>) -> Result<Alternative<Sequence>, OrMemory<Stuck>>
-        requires reads { ReadsInside (suc self.now.left) (F.pre self.now.read) (F.post self.now.read) }
-        ensures { Reads result cursor.new (alternative_of self.now.left (sequence_of self.now.left) (inside_of self.now.left) cursor.old) }
+        requires reads { ReadsInside (suc self.now.left) (F.pre self.now.read)
+            (F.post self.now.read) }
+        ensures { Reads result cursor.new
+            (alternative_of self.now.left (sequence_of self.now.left) (inside_of self.now.left)
+            cursor.old) }
     {
         if cursor.is_word(b"accept") {
             self.accept_alternative(cursor)
@@ -137,7 +150,9 @@ impl<
     /// `[when EXPRESSION =>]` (9.7.1)
     #[tactic(auto, unfolding(ada_grammar::specs::ReadingStatements::guard_of))]
     fn guard(&self, cursor: &mut Cursor<'_>) -> Result<Option<Guard>, OrMemory<Stuck>>
-        ensures { Reads result cursor.new (guard_of self.now.left (sequence_of self.now.left) (inside_of self.now.left) cursor.old) }
+        ensures { Reads result cursor.new
+            (guard_of self.now.left (sequence_of self.now.left) (inside_of self.now.left)
+            cursor.old) }
     {
         if cursor.is_word(b"when") {
             let place = cursor.word(b"when")?;
@@ -155,8 +170,11 @@ impl<
         &self,
         cursor: &mut Cursor<'_>,
     ) -> Result<SelectAlternative<Sequence>, OrMemory<Stuck>>
-        requires reads { ReadsInside (suc self.now.left) (F.pre self.now.read) (F.post self.now.read) }
-        ensures { Reads result cursor.new (select_alternative_of self.now.left (sequence_of self.now.left) (inside_of self.now.left) cursor.old) }
+        requires reads { ReadsInside (suc self.now.left) (F.pre self.now.read)
+            (F.post self.now.read) }
+        ensures { Reads result cursor.new
+            (select_alternative_of self.now.left (sequence_of self.now.left)
+            (inside_of self.now.left) cursor.old) }
     {
         let guard = self.guard(cursor)?;
         let alternative = self.alternative(cursor)?;
@@ -169,8 +187,11 @@ impl<
         &self,
         cursor: &mut Cursor<'_>,
     ) -> Result<SelectAlternative<Sequence>, OrMemory<Stuck>>
-        requires reads { ReadsInside (suc self.now.left) (F.pre self.now.read) (F.post self.now.read) }
-        ensures { Reads result cursor.new (next_alternative_of self.now.left (sequence_of self.now.left) (inside_of self.now.left) cursor.old) }
+        requires reads { ReadsInside (suc self.now.left) (F.pre self.now.read)
+            (F.post self.now.read) }
+        ensures { Reads result cursor.new
+            (next_alternative_of self.now.left (sequence_of self.now.left) (inside_of self.now.left)
+            cursor.old) }
     {
         cursor.word(b"or")?;
         self.select_alternative(cursor)
@@ -182,8 +203,12 @@ impl<
         &self,
         cursor: &mut Cursor<'_>,
     ) -> Result<Items<SelectAlternative<Sequence>>, OrMemory<Stuck>>
-        requires reads { ReadsInside (suc self.now.left) (F.pre self.now.read) (F.post self.now.read) }
-        ensures { Reads result cursor.new (items_of (sees_word (codes "or")) (next_alternative_of self.now.left (sequence_of self.now.left) (inside_of self.now.left)) cursor.old) }
+        requires reads { ReadsInside (suc self.now.left) (F.pre self.now.read)
+            (F.post self.now.read) }
+        ensures { Reads result cursor.new
+            (items_of (sees_word (codes "or"))
+            (next_alternative_of self.now.left (sequence_of self.now.left)
+            (inside_of self.now.left)) cursor.old) }
     {
         let mut found = Items::new(self.alloc);
         for _turn in 0..cursor.remaining() {
@@ -202,8 +227,11 @@ impl<
         cursor: &mut Cursor<'_>,
         first: SelectAlternative<Sequence>,
     ) -> Result<SelectForm<Sequence>, OrMemory<Stuck>>
-        requires reads { ReadsInside (suc self.now.left) (F.pre self.now.read) (F.post self.now.read) }
-        ensures { Reads result cursor.new (selective_of self.now.left (sequence_of self.now.left) (inside_of self.now.left) first cursor.old) }
+        requires reads { ReadsInside (suc self.now.left) (F.pre self.now.read)
+            (F.post self.now.read) }
+        ensures { Reads result cursor.new
+            (selective_of self.now.left (sequence_of self.now.left) (inside_of self.now.left) first
+            cursor.old) }
     {
         let others = self.next_alternatives(cursor)?;
         let otherwise = self.otherwise(cursor)?;
@@ -221,8 +249,11 @@ impl<
         trigger: Trigger,
         statements: Option<Sequence>,
     ) -> Result<SelectForm<Sequence>, OrMemory<Stuck>>
-        requires reads { ReadsInside (suc self.now.left) (F.pre self.now.read) (F.post self.now.read) }
-        ensures { Reads result cursor.new (asynchronous_of self.now.left (sequence_of self.now.left) (inside_of self.now.left) trigger statements cursor.old) }
+        requires reads { ReadsInside (suc self.now.left) (F.pre self.now.read)
+            (F.post self.now.read) }
+        ensures { Reads result cursor.new
+            (asynchronous_of self.now.left (sequence_of self.now.left) (inside_of self.now.left)
+            trigger statements cursor.old) }
     {
         cursor.word(b"then")?;
         cursor.word(b"abort")?;
@@ -242,8 +273,11 @@ impl<
         call: Call,
         statements: Option<Sequence>,
     ) -> Result<SelectForm<Sequence>, OrMemory<Stuck>>
-        requires reads { ReadsInside (suc self.now.left) (F.pre self.now.read) (F.post self.now.read) }
-        ensures { Reads result cursor.new (timed_of self.now.left (sequence_of self.now.left) (inside_of self.now.left) call statements cursor.old) }
+        requires reads { ReadsInside (suc self.now.left) (F.pre self.now.read)
+            (F.post self.now.read) }
+        ensures { Reads result cursor.new
+            (timed_of self.now.left (sequence_of self.now.left) (inside_of self.now.left) call
+            statements cursor.old) }
     {
         cursor.word(b"or")?;
         let delay = self.opened_delay(cursor)?;
@@ -264,8 +298,11 @@ impl<
         call: Call,
         statements: Option<Sequence>,
     ) -> Result<SelectForm<Sequence>, OrMemory<Stuck>>
-        requires reads { ReadsInside (suc self.now.left) (F.pre self.now.read) (F.post self.now.read) }
-        ensures { Reads result cursor.new (conditional_of self.now.left (sequence_of self.now.left) (inside_of self.now.left) call statements cursor.old) }
+        requires reads { ReadsInside (suc self.now.left) (F.pre self.now.read)
+            (F.post self.now.read) }
+        ensures { Reads result cursor.new
+            (conditional_of self.now.left (sequence_of self.now.left) (inside_of self.now.left) call
+            statements cursor.old) }
     {
         cursor.word(b"else")?;
         let otherwise = self.sequence(cursor, SequenceRole::Statements)?;
@@ -284,8 +321,11 @@ impl<
         call: Call,
         statements: Option<Sequence>,
     ) -> Result<SelectForm<Sequence>, OrMemory<Stuck>>
-        requires reads { ReadsInside (suc self.now.left) (F.pre self.now.read) (F.post self.now.read) }
-        ensures { Reads result cursor.new (behind_call_of self.now.left (sequence_of self.now.left) (inside_of self.now.left) call statements cursor.old) }
+        requires reads { ReadsInside (suc self.now.left) (F.pre self.now.read)
+            (F.post self.now.read) }
+        ensures { Reads result cursor.new
+            (behind_call_of self.now.left (sequence_of self.now.left) (inside_of self.now.left) call
+            statements cursor.old) }
     {
         if cursor.is_word(b"or") {
             self.timed_entry_call(cursor, call, statements)
@@ -299,8 +339,11 @@ impl<
     /// A select statement that begins with a call.
     #[tactic(auto, unfolding(ada_grammar::specs::ReadingStatements::call_select_of))]
     fn call_select(&self, cursor: &mut Cursor<'_>) -> Result<SelectForm<Sequence>, OrMemory<Stuck>>
-        requires reads { ReadsInside (suc self.now.left) (F.pre self.now.read) (F.post self.now.read) }
-        ensures { Reads result cursor.new (call_select_of self.now.left (sequence_of self.now.left) (inside_of self.now.left) cursor.old) }
+        requires reads { ReadsInside (suc self.now.left) (F.pre self.now.read)
+            (F.post self.now.read) }
+        ensures { Reads result cursor.new
+            (call_select_of self.now.left (sequence_of self.now.left) (inside_of self.now.left)
+            cursor.old) }
     {
         let call = self.opened_call(cursor)?;
         let statements = self.optional_statements(cursor)?;
@@ -310,8 +353,11 @@ impl<
     /// A select statement that begins with a delay.
     #[tactic(auto, unfolding(ada_grammar::specs::ReadingStatements::delay_select_of))]
     fn delay_select(&self, cursor: &mut Cursor<'_>) -> Result<SelectForm<Sequence>, OrMemory<Stuck>>
-        requires reads { ReadsInside (suc self.now.left) (F.pre self.now.read) (F.post self.now.read) }
-        ensures { Reads result cursor.new (delay_select_of self.now.left (sequence_of self.now.left) (inside_of self.now.left) cursor.old) }
+        requires reads { ReadsInside (suc self.now.left) (F.pre self.now.read)
+            (F.post self.now.read) }
+        ensures { Reads result cursor.new
+            (delay_select_of self.now.left (sequence_of self.now.left) (inside_of self.now.left)
+            cursor.old) }
     {
         let delay = self.opened_delay(cursor)?;
         let statements = self.optional_statements(cursor)?;
@@ -329,8 +375,11 @@ impl<
     /// What stands between `select` and its `end`.
     #[tactic(auto, unfolding(ada_grammar::specs::ReadingStatements::select_form_of))]
     fn select_form(&self, cursor: &mut Cursor<'_>) -> Result<SelectForm<Sequence>, OrMemory<Stuck>>
-        requires reads { ReadsInside (suc self.now.left) (F.pre self.now.read) (F.post self.now.read) }
-        ensures { Reads result cursor.new (select_form_of self.now.left (sequence_of self.now.left) (inside_of self.now.left) cursor.old) }
+        requires reads { ReadsInside (suc self.now.left) (F.pre self.now.read)
+            (F.post self.now.read) }
+        ensures { Reads result cursor.new
+            (select_form_of self.now.left (sequence_of self.now.left) (inside_of self.now.left)
+            cursor.old) }
     {
         if cursor.is_identifier() {
             self.call_select(cursor)
@@ -348,8 +397,11 @@ impl<
         &self,
         cursor: &mut Cursor<'_>,
     ) -> Result<Statement<Sequence>, OrMemory<Stuck>>
-        requires reads { ReadsInside (suc self.now.left) (F.pre self.now.read) (F.post self.now.read) }
-        ensures { Reads result cursor.new (select_of self.now.left (sequence_of self.now.left) (inside_of self.now.left) cursor.old) }
+        requires reads { ReadsInside (suc self.now.left) (F.pre self.now.read)
+            (F.post self.now.read) }
+        ensures { Reads result cursor.new
+            (select_of self.now.left (sequence_of self.now.left) (inside_of self.now.left)
+            cursor.old) }
     {
         let place = cursor.word(b"select")?;
         let form = self.select_form(cursor)?;

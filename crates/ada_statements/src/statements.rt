@@ -100,7 +100,8 @@ impl<
         cursor: &mut Cursor<'_>,
         role: SequenceRole,
     ) -> Result<Sequence, OrMemory<Stuck>>
-        requires reads { ReadsInside (suc self.now.left) (F.pre self.now.read) (F.post self.now.read) }
+        requires reads { ReadsInside (suc self.now.left) (F.pre self.now.read)
+            (F.post self.now.read) }
         ensures { Reads result cursor.new (sequence_of self.now.left role cursor.old) }
     {
         (self.read)(self.alloc, cursor, self.left, role)
@@ -109,8 +110,10 @@ impl<
     /// `elsif EXPRESSION then STATEMENTS` (5.3)
     #[tactic(auto, unfolding(ada_grammar::specs::ReadingStatements::elsif_of))]
     fn elsif(&self, cursor: &mut Cursor<'_>) -> Result<Elsif<Sequence>, OrMemory<Stuck>>
-        requires reads { ReadsInside (suc self.now.left) (F.pre self.now.read) (F.post self.now.read) }
-        ensures { Reads result cursor.new (elsif_of self.now.left (sequence_of self.now.left) cursor.old) }
+        requires reads { ReadsInside (suc self.now.left) (F.pre self.now.read)
+            (F.post self.now.read) }
+        ensures { Reads result cursor.new
+            (elsif_of self.now.left (sequence_of self.now.left) cursor.old) }
     {
         let place = cursor.word(b"elsif")?;
         let condition = expression(self.alloc, cursor, self.left)?;
@@ -126,8 +129,11 @@ impl<
     /// `{elsif EXPRESSION then STATEMENTS}` (5.3)
     #[tactic(auto, unfolding(ada_grammar::specs::Reading::items_of))]
     fn elsifs(&self, cursor: &mut Cursor<'_>) -> Result<Items<Elsif<Sequence>>, OrMemory<Stuck>>
-        requires reads { ReadsInside (suc self.now.left) (F.pre self.now.read) (F.post self.now.read) }
-        ensures { Reads result cursor.new (items_of (sees_word (codes "elsif")) (elsif_of self.now.left (sequence_of self.now.left)) cursor.old) }
+        requires reads { ReadsInside (suc self.now.left) (F.pre self.now.read)
+            (F.post self.now.read) }
+        ensures { Reads result cursor.new
+            (items_of (sees_word (codes "elsif"))
+            (elsif_of self.now.left (sequence_of self.now.left)) cursor.old) }
     {
         let mut found = Items::new(self.alloc);
         for _turn in 0..cursor.remaining() {
@@ -145,8 +151,10 @@ impl<
         &self,
         cursor: &mut Cursor<'_>,
     ) -> Result<Option<Sequence>, OrMemory<Stuck>>
-        requires reads { ReadsInside (suc self.now.left) (F.pre self.now.read) (F.post self.now.read) }
-        ensures { Reads result cursor.new (else_of self.now.left (sequence_of self.now.left) cursor.old) }
+        requires reads { ReadsInside (suc self.now.left) (F.pre self.now.read)
+            (F.post self.now.read) }
+        ensures { Reads result cursor.new
+            (else_of self.now.left (sequence_of self.now.left) cursor.old) }
     {
         if cursor.is_word(b"else") {
             cursor.word(b"else")?;
@@ -160,8 +168,10 @@ impl<
     /// An if statement (5.3).
     #[tactic(auto, unfolding(ada_grammar::specs::ReadingStatements::if_of))]
     fn if_statement(&self, cursor: &mut Cursor<'_>) -> Result<Statement<Sequence>, OrMemory<Stuck>>
-        requires reads { ReadsInside (suc self.now.left) (F.pre self.now.read) (F.post self.now.read) }
-        ensures { Reads result cursor.new (if_of self.now.left (sequence_of self.now.left) cursor.old) }
+        requires reads { ReadsInside (suc self.now.left) (F.pre self.now.read)
+            (F.post self.now.read) }
+        ensures { Reads result cursor.new
+            (if_of self.now.left (sequence_of self.now.left) cursor.old) }
     {
         let place = cursor.word(b"if")?;
         let condition = expression(self.alloc, cursor, self.left)?;
@@ -184,7 +194,8 @@ impl<
     /// A choice behind a bar (3.8.1).
     #[tactic(auto, unfolding(ada_grammar::specs::Reading::behind_delimiter_of))]
     fn next_choice(&self, cursor: &mut Cursor<'_>) -> Result<Choice, OrMemory<Stuck>>
-        ensures { Reads result cursor.new (behind_delimiter_of (codes "|") (choice_of self.now.left) cursor.old) }
+        ensures { Reads result cursor.new
+            (behind_delimiter_of (codes "|") (choice_of self.now.left) cursor.old) }
     {
         cursor.delimiter(b"|")?;
         choice(self.alloc, cursor, self.left)
@@ -193,7 +204,9 @@ impl<
     /// The choices behind the first one (3.8.1).
     #[tactic(auto, unfolding(ada_grammar::specs::Reading::items_of))]
     fn next_choices(&self, cursor: &mut Cursor<'_>) -> Result<Items<Choice>, OrMemory<Stuck>>
-        ensures { Reads result cursor.new (items_of (sees_delimiter (codes "|")) (behind_delimiter_of (codes "|") (choice_of self.now.left)) cursor.old) }
+        ensures { Reads result cursor.new
+            (items_of (sees_delimiter (codes "|"))
+            (behind_delimiter_of (codes "|") (choice_of self.now.left)) cursor.old) }
     {
         let mut found = Items::new(self.alloc);
         for _turn in 0..cursor.remaining() {
@@ -208,7 +221,8 @@ impl<
     /// `CHOICE {| CHOICE}` (3.8.1)
     #[tactic(auto, unfolding(ada_grammar::specs::Reading::separated_of))]
     fn choices(&self, cursor: &mut Cursor<'_>) -> Result<OneOrMore<Choice>, OrMemory<Stuck>>
-        ensures { Reads result cursor.new (separated_of (codes "|") (choice_of self.now.left) cursor.old) }
+        ensures { Reads result cursor.new
+            (separated_of (codes "|") (choice_of self.now.left) cursor.old) }
     {
         let first = choice(self.alloc, cursor, self.left)?;
         let others = self.next_choices(cursor)?;
@@ -221,8 +235,10 @@ impl<
         &self,
         cursor: &mut Cursor<'_>,
     ) -> Result<CaseAlternative<Sequence>, OrMemory<Stuck>>
-        requires reads { ReadsInside (suc self.now.left) (F.pre self.now.read) (F.post self.now.read) }
-        ensures { Reads result cursor.new (case_alternative_of self.now.left (sequence_of self.now.left) cursor.old) }
+        requires reads { ReadsInside (suc self.now.left) (F.pre self.now.read)
+            (F.post self.now.read) }
+        ensures { Reads result cursor.new
+            (case_alternative_of self.now.left (sequence_of self.now.left) cursor.old) }
     {
         let place = cursor.word(b"when")?;
         let choices = self.choices(cursor)?;
@@ -241,8 +257,11 @@ impl<
         &self,
         cursor: &mut Cursor<'_>,
     ) -> Result<Items<CaseAlternative<Sequence>>, OrMemory<Stuck>>
-        requires reads { ReadsInside (suc self.now.left) (F.pre self.now.read) (F.post self.now.read) }
-        ensures { Reads result cursor.new (items_of (sees_word (codes "when")) (case_alternative_of self.now.left (sequence_of self.now.left)) cursor.old) }
+        requires reads { ReadsInside (suc self.now.left) (F.pre self.now.read)
+            (F.post self.now.read) }
+        ensures { Reads result cursor.new
+            (items_of (sees_word (codes "when"))
+            (case_alternative_of self.now.left (sequence_of self.now.left)) cursor.old) }
     {
         let mut found = Items::new(self.alloc);
         for _turn in 0..cursor.remaining() {
@@ -260,8 +279,10 @@ impl<
         &self,
         cursor: &mut Cursor<'_>,
     ) -> Result<OneOrMore<CaseAlternative<Sequence>>, OrMemory<Stuck>>
-        requires reads { ReadsInside (suc self.now.left) (F.pre self.now.read) (F.post self.now.read) }
-        ensures { Reads result cursor.new (case_alternatives_of self.now.left (sequence_of self.now.left) cursor.old) }
+        requires reads { ReadsInside (suc self.now.left) (F.pre self.now.read)
+            (F.post self.now.read) }
+        ensures { Reads result cursor.new
+            (case_alternatives_of self.now.left (sequence_of self.now.left) cursor.old) }
     {
         let first = self.case_alternative(cursor)?;
         let others = self.next_case_alternatives(cursor)?;
@@ -274,8 +295,10 @@ impl<
         &self,
         cursor: &mut Cursor<'_>,
     ) -> Result<Statement<Sequence>, OrMemory<Stuck>>
-        requires reads { ReadsInside (suc self.now.left) (F.pre self.now.read) (F.post self.now.read) }
-        ensures { Reads result cursor.new (case_of self.now.left (sequence_of self.now.left) cursor.old) }
+        requires reads { ReadsInside (suc self.now.left) (F.pre self.now.read)
+            (F.post self.now.read) }
+        ensures { Reads result cursor.new
+            (case_of self.now.left (sequence_of self.now.left) cursor.old) }
     {
         let place = cursor.word(b"case")?;
         let selector = expression(self.alloc, cursor, self.left)?;
@@ -298,9 +321,11 @@ impl<
         cursor: &mut Cursor<'_>,
         name: Option<Identifier>,
     ) -> Result<Statement<Sequence>, OrMemory<Stuck>>
-        requires reads { ReadsInside (suc self.now.left) (F.pre self.now.read) (F.post self.now.read) }
+        requires reads { ReadsInside (suc self.now.left) (F.pre self.now.read)
+            (F.post self.now.read) }
         requires lower { IfSome name (λ name. map to_ascii_lowercase name.text ≡ name.text) }
-        ensures { Reads result cursor.new (loop_of self.now.left (sequence_of self.now.left) name cursor.old) }
+        ensures { Reads result cursor.new
+            (loop_of self.now.left (sequence_of self.now.left) name cursor.old) }
     {
         let iteration = iteration(self.alloc, cursor, self.left)?;
         let place = cursor.word(b"loop")?;
@@ -328,7 +353,9 @@ impl<
         sequence: Sequence,
     ) -> Result<Statement<Sequence>, OrMemory<Stuck>>
         requires lower { IfSome name (λ name. map to_ascii_lowercase name.text ≡ name.text) }
-        ensures { Reads result cursor.new (block_end_of self.now.left (sequence_of self.now.left) name place declare sequence cursor.old) }
+        ensures { Reads result cursor.new
+            (block_end_of self.now.left (sequence_of self.now.left) name place declare sequence
+            cursor.old) }
     {
         cursor.word(b"end")?;
         let label = label_end(cursor, name)?;
@@ -348,9 +375,11 @@ impl<
         cursor: &mut Cursor<'_>,
         name: Option<Identifier>,
     ) -> Result<Statement<Sequence>, OrMemory<Stuck>>
-        requires reads { ReadsInside (suc self.now.left) (F.pre self.now.read) (F.post self.now.read) }
+        requires reads { ReadsInside (suc self.now.left) (F.pre self.now.read)
+            (F.post self.now.read) }
         requires lower { IfSome name (λ name. map to_ascii_lowercase name.text ≡ name.text) }
-        ensures { Reads result cursor.new (declare_of self.now.left (sequence_of self.now.left) name cursor.old) }
+        ensures { Reads result cursor.new
+            (declare_of self.now.left (sequence_of self.now.left) name cursor.old) }
     {
         let place = cursor.word(b"declare")?;
         let sequence = self.sequence(cursor, SequenceRole::Body)?;
@@ -364,9 +393,11 @@ impl<
         cursor: &mut Cursor<'_>,
         name: Option<Identifier>,
     ) -> Result<Statement<Sequence>, OrMemory<Stuck>>
-        requires reads { ReadsInside (suc self.now.left) (F.pre self.now.read) (F.post self.now.read) }
+        requires reads { ReadsInside (suc self.now.left) (F.pre self.now.read)
+            (F.post self.now.read) }
         requires lower { IfSome name (λ name. map to_ascii_lowercase name.text ≡ name.text) }
-        ensures { Reads result cursor.new (begin_of self.now.left (sequence_of self.now.left) name cursor.old) }
+        ensures { Reads result cursor.new
+            (begin_of self.now.left (sequence_of self.now.left) name cursor.old) }
     {
         let place = cursor.word(b"begin")?;
         let sequence = self.sequence(cursor, SequenceRole::Handled)?;
@@ -380,9 +411,11 @@ impl<
         cursor: &mut Cursor<'_>,
         name: Option<Identifier>,
     ) -> Result<Statement<Sequence>, OrMemory<Stuck>>
-        requires reads { ReadsInside (suc self.now.left) (F.pre self.now.read) (F.post self.now.read) }
+        requires reads { ReadsInside (suc self.now.left) (F.pre self.now.read)
+            (F.post self.now.read) }
         requires lower { IfSome name (λ name. map to_ascii_lowercase name.text ≡ name.text) }
-        ensures { Reads result cursor.new (block_of self.now.left (sequence_of self.now.left) name cursor.old) }
+        ensures { Reads result cursor.new
+            (block_of self.now.left (sequence_of self.now.left) name cursor.old) }
     {
         if cursor.is_word(b"declare") {
             self.declare_block(cursor, name)
@@ -394,8 +427,10 @@ impl<
     /// A loop or a block with a name (5.5, 5.6).
     #[tactic(auto, unfolding(ada_grammar::specs::ReadingStatements::labelled_of))]
     fn labelled(&self, cursor: &mut Cursor<'_>) -> Result<Statement<Sequence>, OrMemory<Stuck>>
-        requires reads { ReadsInside (suc self.now.left) (F.pre self.now.read) (F.post self.now.read) }
-        ensures { Reads result cursor.new (labelled_of self.now.left (sequence_of self.now.left) cursor.old) }
+        requires reads { ReadsInside (suc self.now.left) (F.pre self.now.read)
+            (F.post self.now.read) }
+        ensures { Reads result cursor.new
+            (labelled_of self.now.left (sequence_of self.now.left) cursor.old) }
     {
         let name = cursor.identifier(self.alloc)?;
         cursor.delimiter(b":")?;
@@ -413,9 +448,11 @@ impl<
         cursor: &mut Cursor<'_>,
         name: &Identifier,
     ) -> Result<Option<AcceptBody<Sequence>>, OrMemory<Stuck>>
-        requires reads { ReadsInside (suc self.now.left) (F.pre self.now.read) (F.post self.now.read) }
+        requires reads { ReadsInside (suc self.now.left) (F.pre self.now.read)
+            (F.post self.now.read) }
         requires lower { map to_ascii_lowercase name.now.text ≡ name.now.text }
-        ensures { Reads result cursor.new (accept_body_of self.now.left (sequence_of self.now.left) name.now.text cursor.old) }
+        ensures { Reads result cursor.new
+            (accept_body_of self.now.left (sequence_of self.now.left) name.now.text cursor.old) }
     {
         if cursor.is_word(b"do") {
             cursor.word(b"do")?;
@@ -437,8 +474,10 @@ impl<
         &self,
         cursor: &mut Cursor<'_>,
     ) -> Result<Accept<Sequence>, OrMemory<Stuck>>
-        requires reads { ReadsInside (suc self.now.left) (F.pre self.now.read) (F.post self.now.read) }
-        ensures { Reads result cursor.new (accept_of self.now.left (sequence_of self.now.left) cursor.old) }
+        requires reads { ReadsInside (suc self.now.left) (F.pre self.now.read)
+            (F.post self.now.read) }
+        ensures { Reads result cursor.new
+            (accept_of self.now.left (sequence_of self.now.left) cursor.old) }
     {
         let place = cursor.word(b"accept")?;
         let entry = cursor.identifier(self.alloc)?;
@@ -459,8 +498,10 @@ impl<
         &self,
         cursor: &mut Cursor<'_>,
     ) -> Result<Option<Sequence>, OrMemory<Stuck>>
-        requires reads { ReadsInside (suc self.now.left) (F.pre self.now.read) (F.post self.now.read) }
-        ensures { Reads result cursor.new (optional_statements_of self.now.left (sequence_of self.now.left) cursor.old) }
+        requires reads { ReadsInside (suc self.now.left) (F.pre self.now.read)
+            (F.post self.now.read) }
+        ensures { Reads result cursor.new
+            (optional_statements_of self.now.left (sequence_of self.now.left) cursor.old) }
     {
         if begins_statement(cursor) {
             let statements = self.sequence(cursor, SequenceRole::Statements)?;
@@ -476,8 +517,11 @@ impl<
         &self,
         cursor: &mut Cursor<'_>,
     ) -> Result<Statement<Sequence>, OrMemory<Stuck>>
-        requires reads { ReadsInside (suc self.now.left) (F.pre self.now.read) (F.post self.now.read) }
-        ensures { Reads result cursor.new (named_statement_of self.now.left (sequence_of self.now.left) (inside_of self.now.left) cursor.old) }
+        requires reads { ReadsInside (suc self.now.left) (F.pre self.now.read)
+            (F.post self.now.read) }
+        ensures { Reads result cursor.new
+            (named_statement_of self.now.left (sequence_of self.now.left) (inside_of self.now.left)
+            cursor.old) }
     {
         if cursor.is_identifier_before(b":") {
             self.labelled(cursor)
@@ -489,8 +533,11 @@ impl<
     /// A statement that holds others, and has no name (5.1).
     #[tactic(auto, unfolding(ada_grammar::specs::ReadingStatements::compound_of))]
     fn compound(&self, cursor: &mut Cursor<'_>) -> Result<Statement<Sequence>, OrMemory<Stuck>>
-        requires reads { ReadsInside (suc self.now.left) (F.pre self.now.read) (F.post self.now.read) }
-        ensures { Reads result cursor.new (compound_of self.now.left (sequence_of self.now.left) (inside_of self.now.left) cursor.old) }
+        requires reads { ReadsInside (suc self.now.left) (F.pre self.now.read)
+            (F.post self.now.read) }
+        ensures { Reads result cursor.new
+            (compound_of self.now.left (sequence_of self.now.left) (inside_of self.now.left)
+            cursor.old) }
     {
         if cursor.is_word(b"if") {
             self.if_statement(cursor)
@@ -511,8 +558,11 @@ impl<
     /// Another statement, or one with a name (5.1).
     #[tactic(auto, unfolding(ada_grammar::specs::ReadingStatements::simple_statement_of))]
     fn simple(&self, cursor: &mut Cursor<'_>) -> Result<Statement<Sequence>, OrMemory<Stuck>>
-        requires reads { ReadsInside (suc self.now.left) (F.pre self.now.read) (F.post self.now.read) }
-        ensures { Reads result cursor.new (simple_statement_of self.now.left (sequence_of self.now.left) (inside_of self.now.left) cursor.old) }
+        requires reads { ReadsInside (suc self.now.left) (F.pre self.now.read)
+            (F.post self.now.read) }
+        ensures { Reads result cursor.new
+            (simple_statement_of self.now.left (sequence_of self.now.left) (inside_of self.now.left)
+            cursor.old) }
     {
         if cursor.is_word(b"null") {
             null_statement(cursor)
@@ -537,8 +587,11 @@ impl<
     /// A statement (5.1).
     #[tactic(auto, unfolding(ada_grammar::specs::ReadingStatements::statement_inside_of))]
     pub fn statement(&self, cursor: &mut Cursor<'_>) -> Result<Statement<Sequence>, OrMemory<Stuck>>
-        requires reads { ReadsInside (suc self.now.left) (F.pre self.now.read) (F.post self.now.read) }
-        ensures { Reads result cursor.new (statement_inside_of self.now.left (sequence_of self.now.left) (inside_of self.now.left) cursor.old) }
+        requires reads { ReadsInside (suc self.now.left) (F.pre self.now.read)
+            (F.post self.now.read) }
+        ensures { Reads result cursor.new
+            (statement_inside_of self.now.left (sequence_of self.now.left) (inside_of self.now.left)
+            cursor.old) }
     {
         if begins_compound(cursor) {
             self.compound(cursor)

@@ -50,7 +50,8 @@ fn push_formals(
     mode: Mode,
     subtype: Option<Subtype>,
 ) -> Result<(), NoMemory>
-    ensures { OnOk result (formals.new ≡ formals.old ++ map (formal_with mode subtype) (all_of names.now)) }
+    ensures { OnOk result
+        (formals.new ≡ formals.old ++ map (formal_with mode subtype) (all_of names.now)) }
 {
     push_formal(alloc, formals, &names.first, mode, subtype)?;
     for name in names.others.as_slice() {
@@ -66,7 +67,8 @@ fn push_formals_of_parameter(
     names: &Names<'_>,
     parameter: &Parameter,
 ) -> Result<(), NoMemory>
-    ensures { OnOk result (formals.new ≡ formals.old ++ formals_of_parameter names.now parameter.now) }
+    ensures { OnOk result
+        (formals.new ≡ formals.old ++ formals_of_parameter names.now parameter.now) }
 {
     let mode = mode_of(parameter.is_in, parameter.is_out);
     let subtype = indicated_subtype(names, &parameter.subtype);

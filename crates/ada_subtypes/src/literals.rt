@@ -39,7 +39,8 @@ fn six_digits(digits: &[u8]) -> u64
 
 /// Some whole number of seconds with six decimals, in ticks.
 fn ticks(seconds: u128, decimals: u64) -> Option<u128>
-    ensures { SomeIff result (seconds * 1000000 + decimals < 2 ^ 128) (seconds * 1000000 + decimals) }
+    ensures { SomeIff result (seconds * 1000000 + decimals < 2 ^ 128)
+        (seconds * 1000000 + decimals) }
 {
     match seconds.checked_mul(1_000_000) {
         None => None,

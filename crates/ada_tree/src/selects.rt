@@ -1,4 +1,4 @@
-//! Select statements (ISO/IEC 8652:2012, 9.7).
+//! Select statements, as parts of the tree (ISO/IEC 8652:2012, 9.7).
 use crate::{Accept, Call, Delay, Expression, OneOrMore};
 use ann_base::Place;
 

@@ -1,4 +1,4 @@
-//! Library units and the source (ISO/IEC 8652:2012, 2.8, clause 7, 10.1).
+//! Library units and the source, as parts of the tree (ISO/IEC 8652:2012, 2.8, clause 7, 10.1).
 use crate::{
     Argument, Aspect, Body, Declaration, Expression, Identifier, Name, OneOrMore, Sequence,
 };

@@ -124,7 +124,9 @@ fn declared_inside(names: &Names<'_>, name: &[u8], frame: &Frame) -> Option<Deno
 
 /// What stands under a name behind an entity that is open, or one that is not.
 fn selected_from_entity(names: &Names<'_>, name: &[u8], entity: u32) -> Option<Denoted>
-    ensures { result ≡ selected_from_entity names.now name.now entity (find (frame_owned_by entity) names.now.frames) }
+    ensures { result
+        ≡ selected_from_entity names.now name.now entity
+        (find (frame_owned_by entity) names.now.frames) }
 {
     match frame_of(names, entity) {
         Some(frame) => declared_inside(names, name, frame),
@@ -136,7 +138,9 @@ fn selected_from_entity(names: &Names<'_>, name: &[u8], entity: u32) -> Option<D
 }
 
 fn selected_from_unit(last: u8, name: &[u8], unit: PredefinedUnit) -> Option<Denoted>
-    ensures { result ≡ or_else (item_of last unit name.now) (option_map Denoted.Unit (child_unit unit name.now)) }
+    ensures { result
+        ≡ or_else (item_of last unit name.now)
+        (option_map Denoted.Unit (child_unit unit name.now)) }
 {
     match item_of(last, unit, name) {
         Some(item) => Some(item),

@@ -90,7 +90,8 @@ fn exported_among<'n>(bound: &'n List<Binding>, name: &[u8]) -> Option<&'n Bindi
 
 /// The binding of a name in a region that is visible from outside it.
 fn exported_binding<'n>(names: &'n Names<'_>, name: &[u8], region: u32) -> Option<&'n Binding>
-    ensures { option_copied result ≡ and_then (item_at region names.now.bindings) (find (exports_name name.now)) }
+    ensures { option_copied result
+        ≡ and_then (item_at region names.now.bindings) (find (exports_name name.now)) }
 {
     match names.bindings.get(region) {
         Some(bound) => exported_among(bound, name),
@@ -111,7 +112,9 @@ pub(crate) fn exported_from(names: &Names<'_>, name: &[u8], region: u32) -> Opti
 
 /// What a use clause for a predefined unit makes visible.
 fn visible_in_unit(names: &Names<'_>, name: &[u8], unit: PredefinedUnit) -> Option<Denoted>
-    ensures { result ≡ or_else (item_of names.now.last_priority unit name.now) (and_then (child_unit unit name.now) (some_if_withed names.now.withs)) }
+    ensures { result
+        ≡ or_else (item_of names.now.last_priority unit name.now)
+        (and_then (child_unit unit name.now) (some_if_withed names.now.withs)) }
 {
     match item_of(names.last_priority, unit, name) {
         Some(item) => Some(item),
@@ -183,7 +186,9 @@ fn used_by(
     clause: &UseClause,
     others: Sought,
 ) -> Sought
-    ensures { result ≡ cond (eqb clause.now.region region) (joined_if (visible_in names.now name.now clause.now.used) others) others }
+    ensures { result
+        ≡ cond (eqb clause.now.region region)
+        (joined_if (visible_in names.now name.now clause.now.used) others) others }
 {
     if clause.region == region {
         joined_if(visible_in(names, name, clause.used), others)
@@ -198,7 +203,9 @@ fn used_by(
 fn used_before(names: &Names<'_>, name: &[u8], region: u32, place: usize, behind: Sought) -> Sought
     requires some { 0 < place }
     requires inside { place ≤ length names.now.uses }
-    ensures { (others : Sought) → behind ≡ used_in names.now name.now region (drop place names.now.uses) others → result ≡ used_in names.now name.now region (drop (place - 1) names.now.uses) others }
+    ensures { (others : Sought)
+        → behind ≡ used_in names.now name.now region (drop place names.now.uses) others
+        → result ≡ used_in names.now name.now region (drop (place - 1) names.now.uses) others }
 {
     match names.uses.get(place - 1) {
         Some(clause) => used_by(names, name, region, clause, behind),
@@ -226,7 +233,8 @@ pub(crate) fn used_in(names: &Names<'_>, name: &[u8], region: u32, others: Sough
 fn used_in_frame(names: &Names<'_>, name: &[u8], place: usize, outside: Sought) -> Sought
     requires some { 0 < place }
     requires inside { place ≤ length names.now.frames }
-    ensures { outside ≡ used_around names.now name.now (drop place names.now.frames) → result ≡ used_around names.now name.now (drop (place - 1) names.now.frames) }
+    ensures { outside ≡ used_around names.now name.now (drop place names.now.frames)
+        → result ≡ used_around names.now name.now (drop (place - 1) names.now.frames) }
 {
     match names.frames.get(place - 1) {
         Some(frame) => used_in(names, name, frame.region, outside),

@@ -67,7 +67,8 @@ fn once(tick: &[u8], rest: &[u8]) -> Result<TickAndNumber, ScriptFaultKind>
 }
 
 fn interrupt_line(tick: &[u8], rest: &[u8]) -> Result<Entry, ScriptFaultKind>
-    ensures read { result ≡ with_item item.Interrupt (once tick.now (one_word (words_of rest.now))) }
+    ensures read { result
+        ≡ with_item item.Interrupt (once tick.now (one_word (words_of rest.now))) }
     ensures limits { IfOk result IsEntry }
 {
     match once(tick, rest) {
@@ -97,7 +98,8 @@ fn unmask_line(tick: &[u8], rest: &[u8]) -> Result<Entry, ScriptFaultKind>
 }
 
 fn port_at(value: &[u8], tick: &[u8], number: &[u8]) -> Result<Entry, ScriptFaultKind>
-    ensures read { result ≡ port_at (value_in value.now) (once_at (tick_in tick.now) (number_of number.now)) }
+    ensures read { result
+        ≡ port_at (value_in value.now) (once_at (tick_in tick.now) (number_of number.now)) }
     ensures limits { IfOk result IsEntry }
 {
     match value_in(value) {
@@ -128,7 +130,8 @@ fn ends_in_time(tick: u32, period: u32, count: u32) -> bool
 }
 
 fn every_number(tick: u32, period: u32, count: u32, number: &[u8]) -> Result<Entry, ScriptFaultKind>
-    requires limits { (tick ≤ LAST_TICK) × (period ≤ LAST_TICK) × (1 ≤ count) × (count ≤ MOST_ITEMS) }
+    requires limits { (tick ≤ LAST_TICK) × (period ≤ LAST_TICK) × (1 ≤ count)
+        × (count ≤ MOST_ITEMS) }
     ensures read { result ≡ every_number tick period count (number_of number.now) }
     ensures limits { IfOk result IsEntry }
 {
@@ -152,7 +155,9 @@ fn every_at(
     count: &[u8],
     number: &[u8],
 ) -> Result<Entry, ScriptFaultKind>
-    ensures read { result ≡ every_at (tick_in tick.now) (number_in 1 LAST_TICK period.now) (number_in 1 MOST_ITEMS count.now) (number_of number.now) }
+    ensures read { result
+        ≡ every_at (tick_in tick.now) (number_in 1 LAST_TICK period.now)
+        (number_in 1 MOST_ITEMS count.now) (number_of number.now) }
     ensures limits { IfOk result IsEntry }
 {
     match tick_in(tick) {
@@ -180,7 +185,8 @@ fn every_with(
     count: &[u8],
     rest: &[u8],
 ) -> Result<Entry, ScriptFaultKind>
-    ensures read { result ≡ every_with tick.now period.now count.now (two_words (words_of rest.now)) }
+    ensures read { result
+        ≡ every_with tick.now period.now count.now (two_words (words_of rest.now)) }
     ensures limits { IfOk result IsEntry }
 {
     match two_words(rest) {

@@ -48,7 +48,8 @@ fn is_version(line: &TextLine<'_>) -> bool
 fn add_entry(reading: &mut Reading, line: u32, entry: Entry) -> Result<(), OrMemory<ScriptFault>>
     requires script { IsScript reading.old.items }
     requires limits { IsEntry entry }
-    ensures added { AnswersAs (λ _. reading.new) result (at_line line (with_entry reading.old (Ok entry))) }
+    ensures added { AnswersAs (λ _. reading.new) result
+        (at_line line (with_entry reading.old (Ok entry))) }
     ensures script { OnOk result (IsScript reading.new.items) }
 {
     if entry.tick < reading.last {
@@ -71,7 +72,9 @@ fn add_entry(reading: &mut Reading, line: u32, entry: Entry) -> Result<(), OrMem
 /// Adds what a line says that is neither empty nor a comment.
 fn read_text(reading: &mut Reading, line: TextLine<'_>) -> Result<(), OrMemory<ScriptFault>>
     requires { IsScript reading.old.items }
-    ensures read { AnswersAs (λ _. reading.new) result (at_line line.entry.number (with_entry reading.old (entry_of reading.old.is_second line.entry.text.now))) }
+    ensures read { AnswersAs (λ _. reading.new) result
+        (at_line line.entry.number
+        (with_entry reading.old (entry_of reading.old.is_second line.entry.text.now))) }
     ensures script { OnOk result (IsScript reading.new.items) }
 {
     match entry_of(reading.is_second, line.text) {
@@ -86,7 +89,8 @@ fn read_text(reading: &mut Reading, line: TextLine<'_>) -> Result<(), OrMemory<S
 /// Adds what a line says; nothing is read past a line that is refused.
 fn read_line(reading: &mut Reading, line: TextLine<'_>) -> Result<(), OrMemory<ScriptFault>>
     requires { IsScript reading.old.items }
-    ensures read { AnswersAs (λ _. reading.new) result (read_line (Ok reading.old) (line_in line.entry)) }
+    ensures read { AnswersAs (λ _. reading.new) result
+        (read_line (Ok reading.old) (line_in line.entry)) }
     ensures script { OnOk result (IsScript reading.new.items) }
     ensures short { OnOk result (line.entry.stop ≤ SCRIPT_BYTES) }
 {

@@ -51,7 +51,8 @@ pub fn keyword_of(is_second: bool, word: &[u8]) -> Option<Keyword>
 
 /// The word that a text is.
 pub fn one_word(text: &[u8]) -> Option<&[u8]>
-    ensures { MatchOption result (one_word (words_of text.now) ≡ None) (λ word. one_word (words_of text.now) ≡ Some word.now) }
+    ensures { MatchOption result (one_word (words_of text.now) ≡ None)
+        (λ word. one_word (words_of text.now) ≡ Some word.now) }
 {
     match next_word(text) {
         Some(_) => None,
@@ -61,7 +62,8 @@ pub fn one_word(text: &[u8]) -> Option<&[u8]>
 
 /// The two words that a text is.
 pub fn two_words(text: &[u8]) -> Option<(&[u8], &[u8])>
-    ensures { MatchOption result (two_words (words_of text.now) ≡ None) (λ words. two_words (words_of text.now) ≡ Some (words.0.now, words.1.now)) }
+    ensures { MatchOption result (two_words (words_of text.now) ≡ None)
+        (λ words. two_words (words_of text.now) ≡ Some (words.0.now, words.1.now)) }
 {
     let (first, rest) = next_word(text)?;
     let second = one_word(rest)?;

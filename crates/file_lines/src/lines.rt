@@ -33,7 +33,8 @@ impl Lines {
         most: usize,
     ) -> Result<Lines, OrMemory<Failed>>
         ensures lines { IfOk result (λ lines. WhereTold (told (S.files shelf.old) name.now)
-            (λ file. to_come lines (left_of (S.files shelf.new) (S.at shelf.new)) ≡ Some (take most file))) }
+            (λ file.
+            to_come lines (left_of (S.files shelf.new) (S.at shelf.new)) ≡ Some (take most file))) }
         ensures files { S.files shelf.new ≡ S.files shelf.old }
         ensures picked { OnOk result (S.picked shelf.new ≡ true) }
         ensures monotone { S.faults shelf.old ≤ S.faults shelf.new }
@@ -73,7 +74,8 @@ impl Lines {
         ensures files { S.files shelf.new ≡ S.files shelf.old }
         ensures picked { S.picked shelf.new ≡ true }
         ensures monotone { S.faults shelf.old ≤ S.faults shelf.new }
-        ensures cause { IfErr result (OfFault (λ _. Rose (S.faults shelf.old) (S.faults shelf.new))) }
+        ensures cause { IfErr result
+            (OfFault (λ _. Rose (S.faults shelf.old) (S.faults shelf.new))) }
     {
         line.clear();
         loop {
@@ -97,13 +99,16 @@ impl Lines {
     fn refill<S: Shelf>(&mut self, shelf: &mut S) -> Result<bool, OrMemory<Failed>>
         requires picked { S.picked shelf.old ≡ true }
         requires used { length self.old.piece.items ≤ self.old.next }
-        ensures read { IfOk result (λ some. Refills self.old self.new (left_of (S.files shelf.old) (S.at shelf.old))
+        ensures read { IfOk result
+            (λ some. Refills self.old self.new (left_of (S.files shelf.old) (S.at shelf.old))
             (left_of (S.files shelf.new) (S.at shelf.new)) some) }
-        ensures left { IfErr result (OfFault (λ _. (self.new ≡ self.old) × (S.at shelf.new ≡ S.at shelf.old))) }
+        ensures left { IfErr result
+            (OfFault (λ _. (self.new ≡ self.old) × (S.at shelf.new ≡ S.at shelf.old))) }
         ensures files { S.files shelf.new ≡ S.files shelf.old }
         ensures picked { S.picked shelf.new ≡ true }
         ensures monotone { S.faults shelf.old ≤ S.faults shelf.new }
-        ensures cause { IfErr result (OfFault (λ _. Rose (S.faults shelf.old) (S.faults shelf.new))) }
+        ensures cause { IfErr result
+            (OfFault (λ _. Rose (S.faults shelf.old) (S.faults shelf.new))) }
     {
         let mut piece = [0; PIECE];
         match shelf.read(&mut piece) {

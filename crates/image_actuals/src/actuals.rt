@@ -104,7 +104,9 @@ fn push_actual(
     formal: &Formal,
     argument: Option<&Expression>,
 ) -> Result<(), NoMemory>
-    ensures { OnOk result (Added (actual_if within.now formal.now (option_copied argument.entry)) lists.old lists.new actuals.old actuals.new) }
+    ensures { OnOk result
+        (Added (actual_if within.now formal.now (option_copied argument.entry)) lists.old lists.new
+        actuals.old actuals.new) }
 {
     match argument {
         None => Ok(()),
@@ -125,7 +127,8 @@ pub fn arguments_made(
     formals: &[Formal],
     arguments: &[Argument<Expression>],
 ) -> Result<Actuals, NoMemory>
-    ensures { Made (arguments_made within.now formals.now arguments.now) lists.old lists.new result }
+    ensures { Made (arguments_made within.now formals.now arguments.now) lists.old lists.new
+        result }
 {
     let mut actuals = Actuals::new(alloc);
     for (place, formal) in formals.iter().enumerate() {

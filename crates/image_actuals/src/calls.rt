@@ -32,7 +32,9 @@ pub fn call_put(
     signs: u32,
     next: Option<StatementNo>,
 ) -> Result<Option<StatementNo>, NoMemory>
-    ensures { Made (call_put within.now name.now arguments.now number unit formals.now destination signs next) lists.old lists.new result }
+    ensures { Made
+        (call_put within.now name.now arguments.now number unit formals.now destination signs next)
+        lists.old lists.new result }
 {
     let actuals = arguments_made(alloc, lists, within, formals, arguments)?;
     let callee = callee_of(within, name, number, unit);
@@ -62,7 +64,9 @@ pub fn entry_call_put(
     signs: u32,
     next: Option<StatementNo>,
 ) -> Result<Option<StatementNo>, NoMemory>
-    ensures { Made (entry_call_put within.now name.now arguments.now number unit formals.now signs next) lists.old lists.new result }
+    ensures { Made
+        (entry_call_put within.now name.now arguments.now number unit formals.now signs next)
+        lists.old lists.new result }
 {
     let actuals = arguments_made(alloc, lists, within, formals, arguments)?;
     let owner = owner_of_entry(within, name, unit);
@@ -103,15 +107,6 @@ fn call_of_kind<'t>(
     ensures { option_map call_shown result ≡ call_of_kind name.now arguments.now kind.now }
 {
     match kind {
-        EntityKind::Package => None,
-        EntityKind::Main => None,
-        EntityKind::Mark(_) => None,
-        EntityKind::Literal { .. } => None,
-        EntityKind::Object { .. } => None,
-        EntityKind::Parameter { .. } => None,
-        EntityKind::LoopParameter(_) => None,
-        EntityKind::Component { .. } => None,
-        EntityKind::Exception(_) => None,
         EntityKind::Subprogram {
             number,
             formals,
@@ -124,8 +119,7 @@ fn call_of_kind<'t>(
             unit: *unit,
             formals: formals.as_slice(),
         }),
-        EntityKind::Entry { .. } => None,
-        EntityKind::Label => None,
+        _ => None,
     }
 }
 
@@ -137,7 +131,8 @@ fn call_of_name<'t>(
     attribute: &Option<AttributeDesignator>,
     arguments: &'t [Argument<Expression>],
 ) -> Option<FunctionCall<'t>>
-    ensures { option_map call_shown result ≡ call_of_name within.now name.now attribute.now arguments.now }
+    ensures { option_map call_shown result
+        ≡ call_of_name within.now name.now attribute.now arguments.now }
 {
     match attribute {
         None => match kind_named(within, name) {
@@ -157,21 +152,12 @@ pub fn function_call<'t>(
     ensures { option_map call_shown result ≡ function_call within.now expression.now }
 {
     match expression.form.get() {
-        ExpressionForm::Logical { .. } => None,
-        ExpressionForm::Relational { .. } => None,
-        ExpressionForm::Adding { .. } => None,
-        ExpressionForm::Signed { .. } => None,
-        ExpressionForm::Multiplying { .. } => None,
-        ExpressionForm::Highest { .. } => None,
-        ExpressionForm::Number { .. } => None,
-        ExpressionForm::Text { .. } => None,
-        ExpressionForm::Null { .. } => None,
-        ExpressionForm::Bracketed { .. } => None,
         ExpressionForm::Named {
             name,
             attribute,
             arguments,
         } => call_of_name(within, name, attribute, arguments.as_slice()),
+        _ => None,
     }
 }
 
@@ -186,7 +172,8 @@ pub fn function_call_put(
     signs: u32,
     next: Option<StatementNo>,
 ) -> Result<Option<StatementNo>, NoMemory>
-    ensures { Made (function_call_put within.now (call_shown call.now) destination signs next) lists.old lists.new result }
+    ensures { Made (function_call_put within.now (call_shown call.now) destination signs next)
+        lists.old lists.new result }
 {
     call_put(
         alloc,

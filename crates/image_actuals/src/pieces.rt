@@ -62,7 +62,8 @@ pub fn value_or_none(
     within: &Within<'_, '_>,
     expression: Option<&Expression>,
 ) -> Result<ExprNo, NoMemory>
-    ensures { Made (value_or_none within.now (option_copied expression.entry)) lists.old lists.new result }
+    ensures { Made (value_or_none within.now (option_copied expression.entry)) lists.old lists.new
+        result }
 {
     match expression {
         None => no_value(lists),
@@ -79,7 +80,9 @@ fn push_image(
     name: &Name,
     arguments: &[Argument<Expression>],
 ) -> Result<(), NoMemory>
-    ensures { OnOk result (Added (image_made within.now name.now arguments.now) lists.old lists.new pieces.old pieces.new) }
+    ensures { OnOk result
+        (Added (image_made within.now name.now arguments.now) lists.old lists.new pieces.old
+        pieces.new) }
 {
     let value = value_or_none(lists, within, first_argument(arguments))?;
     pieces.push(image_piece(value, subtype_of_name(within.names.get(), name)))?;
@@ -103,7 +106,8 @@ fn push_piece(
     within: &Within<'_, '_>,
     expression: &Expression,
 ) -> Result<(), NoMemory>
-    ensures { OnOk result (Added (piece_made within.now expression.now) lists.old lists.new pieces.old pieces.new) }
+    ensures { OnOk result
+        (Added (piece_made within.now expression.now) lists.old lists.new pieces.old pieces.new) }
 {
     match expression.form.get() {
         ExpressionForm::Logical { .. } => Ok(()),
@@ -133,7 +137,8 @@ fn push_joined(
     within: &Within<'_, '_>,
     addends: &[Addend<Expression>],
 ) -> Result<(), NoMemory>
-    ensures { OnOk result (Added (joined_made within.now addends.now) lists.old lists.new pieces.old pieces.new) }
+    ensures { OnOk result
+        (Added (joined_made within.now addends.now) lists.old lists.new pieces.old pieces.new) }
 {
     for addend in addends {
         push_piece(alloc, lists, pieces, within, &addend.term)?;
@@ -151,7 +156,9 @@ fn push_all_joined(
     first: &Expression,
     others: &OneOrMore<Addend<Expression>>,
 ) -> Result<(), NoMemory>
-    ensures { OnOk result (Added (all_joined within.now first.now (others.now.first ∷ others.now.others)) lists.old lists.new pieces.old pieces.new) }
+    ensures { OnOk result
+        (Added (all_joined within.now first.now (others.now.first ∷ others.now.others)) lists.old
+        lists.new pieces.old pieces.new) }
 {
     push_piece(alloc, lists, pieces, within, first)?;
     push_piece(alloc, lists, pieces, within, &others.first.term)?;
@@ -167,7 +174,9 @@ fn push_pieces(
     within: &Within<'_, '_>,
     expression: &Expression,
 ) -> Result<(), NoMemory>
-    ensures { OnOk result (Added (pieces_in_form within.now (out-Expression expression.now).form) lists.old lists.new pieces.old pieces.new) }
+    ensures { OnOk result
+        (Added (pieces_in_form within.now (out-Expression expression.now).form) lists.old lists.new
+        pieces.old pieces.new) }
 {
     match expression.form.get() {
         ExpressionForm::Logical { .. } => Ok(()),
@@ -198,7 +207,8 @@ fn pieces_made(
     within: &Within<'_, '_>,
     expression: Option<&Expression>,
 ) -> Result<Sequence<Piece>, NoMemory>
-    ensures { Made (pieces_made within.now (option_copied expression.entry)) lists.old lists.new result }
+    ensures { Made (pieces_made within.now (option_copied expression.entry)) lists.old lists.new
+        result }
 {
     let mut pieces = Sequence::new(alloc);
     match expression {
@@ -220,7 +230,8 @@ pub fn put_line_put(
     signs: u32,
     next: Option<StatementNo>,
 ) -> Result<Option<StatementNo>, NoMemory>
-    ensures { Made (put_line_put within.now (option_copied text.entry ∷ []) signs next) lists.old lists.new result }
+    ensures { Made (put_line_put within.now (option_copied text.entry ∷ []) signs next) lists.old
+        lists.new result }
 {
     let pieces = pieces_made(alloc, lists, within, text)?;
     action_put(lists, StatementForm::PutLine(pieces), signs, next)

@@ -21,7 +21,8 @@ pub fn target_made(
     name: &Name,
     index: Option<&Expression>,
 ) -> Result<VariableName, NoMemory>
-    ensures { Made (target_made within.now name.now (option_copied index.entry)) lists.old lists.new result }
+    ensures { Made (target_made within.now name.now (option_copied index.entry)) lists.old lists.new
+        result }
 {
     variable_made(lists, within, name, index)
 }

@@ -86,7 +86,8 @@ fn accept_body_put<Q: MakeSequence>(
     scope: u32,
     body: &Option<AcceptBody<Q>>,
 ) -> Result<Option<StatementNo>, NoMemory>
-    ensures { Made (accept_body_put Q.making within.now s scope body.now) lists.old lists.new result }
+    ensures { Made (accept_body_put Q.making within.now s scope body.now) lists.old lists.new
+        result }
 {
     match body {
         None => Ok(None),

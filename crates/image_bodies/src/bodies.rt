@@ -25,7 +25,8 @@ pub fn body_put<Q: MakeSequence>(
     is_task_body: bool,
     sequence: &Q,
 ) -> Result<(), NoMemory>
-    ensures { Made (body_put Q.making within.now place function is_task_body sequence.now) lists.old lists.new result }
+    ensures { Made (body_put Q.making within.now place function is_task_body sequence.now) lists.old
+        lists.new result }
 {
     let scope = scope_at(within.names.get(), place)?;
     let inner = in_body_of(alloc, within, scope, function)?;
@@ -42,7 +43,10 @@ fn subprogram_body_put<Q: MakeSequence>(
     specification: &SubprogramSpecification,
     body: &Body<Q>,
 ) -> Result<(), NoMemory>
-    ensures { Made (body_put Q.making within.now specification.now.place (subprogram_declared_as within.now specification.now.name) false body.now.sequence) lists.old lists.new result }
+    ensures { Made
+        (body_put Q.making within.now specification.now.place
+        (subprogram_declared_as within.now specification.now.name) false body.now.sequence)
+        lists.old lists.new result }
 {
     let function = subprogram_declared_as(within, &specification.name);
     body_put(
@@ -64,7 +68,8 @@ fn operation_body_put<Q: MakeSequence>(
     within: &Within<'_, '_>,
     operation: &OperationBody<Q>,
 ) -> Result<(), NoMemory>
-    ensures { Made (operation_body_put Q.making within.now operation.now) lists.old lists.new result }
+    ensures { Made (operation_body_put Q.making within.now operation.now) lists.old lists.new
+        result }
 {
     match operation {
         OperationBody::Subprogram {
@@ -93,7 +98,8 @@ fn operation_bodies_put<Q: MakeSequence>(
     within: &Within<'_, '_>,
     operations: &[OperationBody<Q>],
 ) -> Result<(), NoMemory>
-    ensures { Made (operation_bodies_put Q.making within.now operations.now) lists.old lists.new result }
+    ensures { Made (operation_bodies_put Q.making within.now operations.now) lists.old lists.new
+        result }
 {
     for operation in operations {
         operation_body_put(alloc, lists, within, operation)?;
@@ -145,7 +151,8 @@ pub fn inner_bodies_put<Q: MakeSequence>(
     within: &Within<'_, '_>,
     declarations: &[Declaration<Q>],
 ) -> Result<(), NoMemory>
-    ensures { Made (inner_bodies_put Q.making within.now declarations.now) lists.old lists.new result }
+    ensures { Made (inner_bodies_put Q.making within.now declarations.now) lists.old lists.new
+        result }
 {
     for declaration in declarations {
         inner_body_put(alloc, lists, within, declaration)?;

@@ -1,4 +1,4 @@
-//! If and case statements (ISO/IEC 8652:2012, 5.3, 5.4).
+//! If and case statements, with the statements in them, become actions (ISO/IEC 8652:2012, 5.3, 5.4).
 ghost use Rattle.std.specs.Prelude.{◌≡◌, ◌∷◌};
 ghost use Rattle.ada_image.specs.Made.{Made};
 ghost use Rattle.ada_image.specs.ImageOfStatements.{inside, inside_if, branch_put, elsifs_put, if_put, alternatives_put, case_put};
@@ -56,7 +56,8 @@ fn branch_put<Q: MakeSequence>(
     otherwise: Option<StatementNo>,
     next: Option<StatementNo>,
 ) -> Result<Option<StatementNo>, NoMemory>
-    ensures { Made (branch_put Q.making within.now condition.now statements.now otherwise next) lists.old lists.new result }
+    ensures { Made (branch_put Q.making within.now condition.now statements.now otherwise next)
+        lists.old lists.new result }
 {
     let first = inside(alloc, lists, statements, within, next)?;
     if_action(lists, within, condition, first, otherwise, next)
@@ -72,7 +73,8 @@ fn elsifs_put<Q: MakeSequence>(
     otherwise: Option<StatementNo>,
     next: Option<StatementNo>,
 ) -> Result<Option<StatementNo>, NoMemory>
-    ensures { Made (elsifs_put Q.making within.now elsifs.now otherwise next) lists.old lists.new result }
+    ensures { Made (elsifs_put Q.making within.now elsifs.now otherwise next) lists.old lists.new
+        result }
 {
     let mut later = otherwise;
     let mut place = elsifs.len();
@@ -126,7 +128,8 @@ fn alternative_made<Q: MakeSequence>(
     alternative: &CaseAlternative<Q>,
     next: Option<StatementNo>,
 ) -> Result<CaseActions, NoMemory>
-    ensures { Made (alternative_made Q.making within.now alternative.now next) lists.old lists.new result }
+    ensures { Made (alternative_made Q.making within.now alternative.now next) lists.old lists.new
+        result }
 {
     let choices = choices_made(alloc, within, &alternative.choices)?;
     let first = inside(alloc, lists, &alternative.statements, within, next)?;
@@ -145,7 +148,9 @@ fn alternatives_put<Q: MakeSequence>(
     alternatives: &OneOrMore<CaseAlternative<Q>>,
     next: Option<StatementNo>,
 ) -> Result<Sequence<CaseActions>, NoMemory>
-    ensures { Made (alternatives_put Q.making within.now (alternatives.now.first ∷ alternatives.now.others) next) lists.old lists.new result }
+    ensures { Made
+        (alternatives_put Q.making within.now (alternatives.now.first ∷ alternatives.now.others)
+        next) lists.old lists.new result }
 {
     let mut made = Sequence::new(alloc);
     let first = alternative_made(alloc, lists, within, &alternatives.first, next)?;

@@ -71,7 +71,8 @@ fn while_put<Q: MakeSequence>(
     condition: &Expression,
     next: Option<StatementNo>,
 ) -> Result<Option<StatementNo>, NoMemory>
-    ensures { Made (while_put Q.making within.now statement.now condition.now next) lists.old lists.new result }
+    ensures { Made (while_put Q.making within.now statement.now condition.now next) lists.old
+        lists.new result }
 {
     let s = reserved(lists)?;
     let body = loop_body(alloc, lists, within, statement, s, s)?;
@@ -105,7 +106,9 @@ fn for_put<Q: MakeSequence>(
     high: &Expression,
     next: Option<StatementNo>,
 ) -> Result<Option<StatementNo>, NoMemory>
-    ensures { Made (for_put Q.making within.now statement.now parameter reverse low.now high.now next) lists.old lists.new result }
+    ensures { Made
+        (for_put Q.making within.now statement.now parameter reverse low.now high.now next)
+        lists.old lists.new result }
 {
     let s = reserved(lists)?;
     let first = reserved(lists)?;

@@ -34,7 +34,8 @@ fn alternative_put<Q: MakeSequence>(
     alternative: &Alternative<Q>,
     next: Option<StatementNo>,
 ) -> Result<SelectKind, NoMemory>
-    ensures { Made (alternative_put Q.making within.now alternative.now next) lists.old lists.new result }
+    ensures { Made (alternative_put Q.making within.now alternative.now next) lists.old lists.new
+        result }
 {
     match alternative {
         Alternative::Accept { accept, statements } => {
@@ -60,7 +61,8 @@ fn select_alternative_put<Q: MakeSequence>(
     alternative: &SelectAlternative<Q>,
     next: Option<StatementNo>,
 ) -> Result<GuardedAlternative, NoMemory>
-    ensures { Made (select_alternative_put Q.making within.now alternative.now next) lists.old lists.new result }
+    ensures { Made (select_alternative_put Q.making within.now alternative.now next) lists.old
+        lists.new result }
 {
     let guard = condition_made(lists, within, guard_of(&alternative.guard))?;
     let kind = alternative_put(alloc, lists, within, &alternative.alternative, next)?;
@@ -76,7 +78,9 @@ fn select_alternatives_put<Q: MakeSequence>(
     alternatives: &OneOrMore<SelectAlternative<Q>>,
     next: Option<StatementNo>,
 ) -> Result<SelectAlternatives, NoMemory>
-    ensures { Made (select_alternatives_put Q.making within.now (alternatives.now.first ∷ alternatives.now.others) next) lists.old lists.new result }
+    ensures { Made
+        (select_alternatives_put Q.making within.now
+        (alternatives.now.first ∷ alternatives.now.others) next) lists.old lists.new result }
 {
     let mut made = SelectAlternatives::new(alloc);
     let first = select_alternative_put(alloc, lists, within, &alternatives.first, next)?;
@@ -93,7 +97,8 @@ fn signs_in_alternative<Q: MakeSequence>(
     within: &Within<'_, '_>,
     alternative: &Alternative<Q>,
 ) -> Result<u32, NoMemory>
-    ensures { IfOk result (λ signs. signs ≡ signs_in_alternative Q.making within.now alternative.now) }
+    ensures { IfOk result
+        (λ signs. signs ≡ signs_in_alternative Q.making within.now alternative.now) }
 {
     match alternative {
         Alternative::Accept { .. } => Ok(0),
@@ -107,7 +112,11 @@ fn signs_in_guarded<Q: MakeSequence>(
     within: &Within<'_, '_>,
     alternative: &SelectAlternative<Q>,
 ) -> Result<u32, NoMemory>
-    ensures { IfOk result (λ signs. signs ≡ signs_if within.now (guard_of alternative.now.guard) + signs_in_alternative Q.making within.now alternative.now.alternative) }
+    ensures { IfOk result
+        (λ signs.
+        signs
+        ≡ signs_if within.now (guard_of alternative.now.guard)
+        + signs_in_alternative Q.making within.now alternative.now.alternative) }
 {
     let in_guard = signs_in_guard(within, &alternative.guard)?;
     let in_alternative = signs_in_alternative(within, &alternative.alternative)?;
@@ -120,7 +129,11 @@ fn signs_in_alternatives<Q: MakeSequence>(
     within: &Within<'_, '_>,
     alternatives: &OneOrMore<SelectAlternative<Q>>,
 ) -> Result<u32, NoMemory>
-    ensures { IfOk result (λ signs. signs ≡ signs_in_alternatives Q.making within.now (alternatives.now.first ∷ alternatives.now.others)) }
+    ensures { IfOk result
+        (λ signs.
+        signs
+        ≡ signs_in_alternatives Q.making within.now
+        (alternatives.now.first ∷ alternatives.now.others)) }
 {
     let mut signs = signs_in_guarded(within, &alternatives.first)?;
     for alternative in alternatives.others.as_slice() {
@@ -154,7 +167,8 @@ fn selective_accept_put<Q: MakeSequence>(
     select: &SelectiveAccept<Q>,
     next: Option<StatementNo>,
 ) -> Result<Option<StatementNo>, NoMemory>
-    ensures { Made (selective_accept_put Q.making within.now select.now next) lists.old lists.new result }
+    ensures { Made (selective_accept_put Q.making within.now select.now next) lists.old lists.new
+        result }
 {
     let signs = signs_in_alternatives(within, &select.alternatives)?;
     let alternatives = select_alternatives_put(alloc, lists, within, &select.alternatives, next)?;
@@ -176,7 +190,8 @@ fn call_before<Q: MakeSequence>(
     statements: &Option<Q>,
     next: Option<StatementNo>,
 ) -> Result<Option<StatementNo>, NoMemory>
-    ensures { Made (call_before Q.making within.now call.now statements.now next) lists.old lists.new result }
+    ensures { Made (call_before Q.making within.now call.now statements.now next) lists.old
+        lists.new result }
 {
     let behind = inside_if(alloc, lists, statements, within, next)?;
     call_statement_put(
@@ -199,7 +214,8 @@ fn delay_before<Q: MakeSequence>(
     statements: &Option<Q>,
     next: Option<StatementNo>,
 ) -> Result<Option<StatementNo>, NoMemory>
-    ensures { Made (delay_before Q.making within.now delay.now statements.now next) lists.old lists.new result }
+    ensures { Made (delay_before Q.making within.now delay.now statements.now next) lists.old
+        lists.new result }
 {
     let behind = inside_if(alloc, lists, statements, within, next)?;
     delay_put(lists, within, delay, behind)
@@ -236,7 +252,8 @@ fn conditional_call_put<Q: MakeSequence>(
     select: &ConditionalEntryCall<Q>,
     next: Option<StatementNo>,
 ) -> Result<Option<StatementNo>, NoMemory>
-    ensures { Made (conditional_call_put Q.making within.now select.now next) lists.old lists.new result }
+    ensures { Made (conditional_call_put Q.making within.now select.now next) lists.old lists.new
+        result }
 {
     let signs = signs_in_actuals(within, select.call.arguments.as_slice())?;
     let call = call_before(alloc, lists, within, &select.call, &select.statements, next)?;
@@ -257,7 +274,8 @@ fn trigger_put<Q: MakeSequence>(
     statements: &Option<Q>,
     next: Option<StatementNo>,
 ) -> Result<Option<StatementNo>, NoMemory>
-    ensures { Made (trigger_put Q.making within.now trigger.now statements.now next) lists.old lists.new result }
+    ensures { Made (trigger_put Q.making within.now trigger.now statements.now next) lists.old
+        lists.new result }
 {
     match trigger {
         Trigger::Call(call) => call_before(alloc, lists, within, call, statements, next),
@@ -274,7 +292,8 @@ fn asynchronous_put<Q: MakeSequence>(
     select: &AsynchronousSelect<Q>,
     next: Option<StatementNo>,
 ) -> Result<Option<StatementNo>, NoMemory>
-    ensures { Made (asynchronous_put Q.making within.now select.now next) lists.old lists.new result }
+    ensures { Made (asynchronous_put Q.making within.now select.now next) lists.old lists.new
+        result }
 {
     let signs = signs_in_trigger(within, &select.trigger)?;
     let s = reserved(lists)?;

@@ -25,7 +25,8 @@ fn unhandled_put<Q: MakeSequence>(
     parts: &SequenceParts<Q>,
     next: Option<StatementNo>,
 ) -> Result<Option<StatementNo>, NoMemory>
-    ensures { Made (unhandled_put Q.making within.now part parts.now next) lists.old lists.new result }
+    ensures { Made (unhandled_put Q.making within.now part parts.now next) lists.old lists.new
+        result }
 {
     let first = statements_put(alloc, lists, within, &parts.statements, next)?;
     activation_put(lists, part, first)
@@ -41,7 +42,8 @@ fn with_handlers_put<Q: MakeSequence>(
     parts: &SequenceParts<Q>,
     next: Option<StatementNo>,
 ) -> Result<Option<StatementNo>, NoMemory>
-    ensures { Made (with_handlers_put Q.making within.now part parts.now next) lists.old lists.new result }
+    ensures { Made (with_handlers_put Q.making within.now part parts.now next) lists.old lists.new
+        result }
 {
     let handled = reserved(lists)?;
     let inner = in_construct(within, handled)?;
@@ -64,7 +66,8 @@ fn handled_put<Q: MakeSequence>(
     parts: &SequenceParts<Q>,
     next: Option<StatementNo>,
 ) -> Result<Option<StatementNo>, NoMemory>
-    ensures { Made (handled_put Q.making within.now part parts.now parts.now.handlers next) lists.old lists.new result }
+    ensures { Made (handled_put Q.making within.now part parts.now parts.now.handlers next)
+        lists.old lists.new result }
 {
     match parts.handlers.as_slice() {
         [] => unhandled_put(alloc, lists, within, part, parts, next),
@@ -81,7 +84,8 @@ fn whole_put<Q: MakeSequence>(
     is_task_body: bool,
     parts: &SequenceParts<Q>,
 ) -> Result<Option<StatementNo>, NoMemory>
-    ensures { Made (whole_put Q.making within.now is_task_body parts.now) lists.old lists.new result }
+    ensures { Made (whole_put Q.making within.now is_task_body parts.now) lists.old lists.new
+        result }
 {
     let declarations = parts.declarations.as_slice();
     let part = part_if(make_tasks(within, declarations), 0);

@@ -1,4 +1,4 @@
-//! Statements, and lists of them (ISO/IEC 8652:2012, 5.1).
+//! Statements, and lists of them, become actions (ISO/IEC 8652:2012, 5.1).
 ghost use Rattle.std.specs.Prelude.{◌≡◌, ◌∷◌};
 ghost use Rattle.ada_image.specs.Made.{Made};
 ghost use Rattle.ada_image.specs.ImageOfStatements.{statement_put, statements_put};
@@ -28,7 +28,8 @@ fn statement_put<Q: MakeSequence>(
     statement: &Statement<Q>,
     next: Option<StatementNo>,
 ) -> Result<Option<StatementNo>, NoMemory>
-    ensures { Made (statement_put Q.making within.now statement.now next) lists.old lists.new result }
+    ensures { Made (statement_put Q.making within.now statement.now next) lists.old lists.new
+        result }
 {
     match statement {
         Statement::Null { .. } => action_put(lists, StatementForm::Null, 0, next),
@@ -73,7 +74,8 @@ fn statements_behind<Q: MakeSequence>(
     statements: &[Statement<Q>],
     next: Option<StatementNo>,
 ) -> Result<Option<StatementNo>, NoMemory>
-    ensures { Made (statements_put Q.making within.now statements.now next) lists.old lists.new result }
+    ensures { Made (statements_put Q.making within.now statements.now next) lists.old lists.new
+        result }
 {
     let mut later = next;
     let mut place = statements.len();
@@ -92,7 +94,9 @@ pub fn statements_put<Q: MakeSequence>(
     statements: &OneOrMore<Statement<Q>>,
     next: Option<StatementNo>,
 ) -> Result<Option<StatementNo>, NoMemory>
-    ensures { Made (statements_put Q.making within.now (statements.now.first ∷ statements.now.others) next) lists.old lists.new result }
+    ensures { Made
+        (statements_put Q.making within.now (statements.now.first ∷ statements.now.others) next)
+        lists.old lists.new result }
 {
     let others = statements.others.as_slice();
     let later = statements_behind(alloc, lists, within, others, next)?;

@@ -1,4 +1,4 @@
-//! Call statements (ISO/IEC 8652:2012, 6.4, 9.5.3): of a subprogram, an entry or a predefined procedure.
+//! Call statements become actions (ISO/IEC 8652:2012, 6.4, 9.5.3): of a subprogram, an entry or a predefined procedure.
 ghost use Rattle.std.specs.Prelude.{◌≡◌, IfOk};
 ghost use Rattle.ada_image.specs.Made.{Made};
 ghost use Rattle.ada_image.specs.CallStatements.{entity_call_put, item_call_put, denoted_call_put, signs_in_actuals, call_statement_put};
@@ -27,7 +27,8 @@ fn entity_call_put(
     signs: u32,
     next: Option<StatementNo>,
 ) -> Result<Option<StatementNo>, NoMemory>
-    ensures { Made (entity_call_put within.now name.now arguments.now kind.now signs next) lists.old lists.new result }
+    ensures { Made (entity_call_put within.now name.now arguments.now kind.now signs next) lists.old
+        lists.new result }
 {
     match kind {
         EntityKind::Package => not_built(lists, next),
@@ -87,7 +88,8 @@ fn item_call_put(
     signs: u32,
     next: Option<StatementNo>,
 ) -> Result<Option<StatementNo>, NoMemory>
-    ensures { Made (item_call_put within.now item arguments.now signs next) lists.old lists.new result }
+    ensures { Made (item_call_put within.now item arguments.now signs next) lists.old lists.new
+        result }
 {
     match item {
         Predefined::Mark(_) => not_built(lists, next),
@@ -111,7 +113,8 @@ fn denoted_call_put(
     signs: u32,
     next: Option<StatementNo>,
 ) -> Result<Option<StatementNo>, NoMemory>
-    ensures { Made (denoted_call_put within.now name.now arguments.now denoted signs next) lists.old lists.new result }
+    ensures { Made (denoted_call_put within.now name.now arguments.now denoted signs next) lists.old
+        lists.new result }
 {
     match denoted {
         None => not_built(lists, next),
@@ -153,7 +156,8 @@ pub fn call_statement_put(
     arguments: &[Argument<Expression>],
     next: Option<StatementNo>,
 ) -> Result<Option<StatementNo>, NoMemory>
-    ensures { Made (call_statement_put within.now name.now arguments.now next) lists.old lists.new result }
+    ensures { Made (call_statement_put within.now name.now arguments.now next) lists.old lists.new
+        result }
 {
     let signs = signs_in_actuals(within, arguments)?;
     let denoted = denoted_by(within.names.get(), name);

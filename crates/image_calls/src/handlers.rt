@@ -61,7 +61,8 @@ fn handler_with(within: &Within<'_, '_>, name: &Name, kind: &EntityKind) -> Opti
 
 /// The handler that a name denotes.
 fn handler_named(within: &Within<'_, '_>, name: &Name) -> Option<HandlerName>
-    ensures { result ≡ and_then (kind_named within.now name.now) (handler_with within.now name.now) }
+    ensures { result
+        ≡ and_then (kind_named within.now name.now) (handler_with within.now name.now) }
 {
     match kind_named(within, name) {
         None => None,

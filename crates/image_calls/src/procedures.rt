@@ -38,7 +38,8 @@ fn variable_of(
     within: &Within<'_, '_>,
     actual: Option<&Expression>,
 ) -> Result<VariableName, NoMemory>
-    ensures { Made (variable_of within.now (option_copied actual.entry)) lists.old lists.new result }
+    ensures { Made (variable_of within.now (option_copied actual.entry)) lists.old lists.new
+        result }
 {
     match actual {
         None => Ok(no_variable()),
@@ -53,7 +54,8 @@ fn optional_value(
     within: &Within<'_, '_>,
     actual: Option<&Expression>,
 ) -> Result<Option<ExprNo>, NoMemory>
-    ensures { Made (optional_value within.now (option_copied actual.entry)) lists.old lists.new result }
+    ensures { Made (optional_value within.now (option_copied actual.entry)) lists.old lists.new
+        result }
 {
     match actual {
         None => Ok(None),
@@ -70,7 +72,10 @@ fn cancel_event_put(
     signs: u32,
     next: Option<StatementNo>,
 ) -> Result<Option<StatementNo>, NoMemory>
-    ensures { Made (cancel_put action.CancelEvent within.now (actuals_for (names_of_formals operations.CancelEvent) arguments.now) signs next) lists.old lists.new result }
+    ensures { Made
+        (cancel_put action.CancelEvent within.now
+        (actuals_for (names_of_formals operations.CancelEvent) arguments.now) signs next) lists.old
+        lists.new result }
 {
     let event = thing_of(within, argument_from(0, b"event", arguments));
     let cancelled = variable_of(lists, within, argument_from(1, b"cancelled", arguments))?;
@@ -91,7 +96,10 @@ fn cancel_timer_put(
     signs: u32,
     next: Option<StatementNo>,
 ) -> Result<Option<StatementNo>, NoMemory>
-    ensures { Made (cancel_put action.CancelTimer within.now (actuals_for (names_of_formals operations.CancelTimer) arguments.now) signs next) lists.old lists.new result }
+    ensures { Made
+        (cancel_put action.CancelTimer within.now
+        (actuals_for (names_of_formals operations.CancelTimer) arguments.now) signs next) lists.old
+        lists.new result }
 {
     let timer = thing_of(within, argument_from(0, b"tm", arguments));
     let cancelled = variable_of(lists, within, argument_from(1, b"cancelled", arguments))?;
@@ -112,7 +120,10 @@ fn cancel_budget_put(
     signs: u32,
     next: Option<StatementNo>,
 ) -> Result<Option<StatementNo>, NoMemory>
-    ensures { Made (cancel_put action.CancelBudget within.now (actuals_for (names_of_formals operations.CancelBudget) arguments.now) signs next) lists.old lists.new result }
+    ensures { Made
+        (cancel_put action.CancelBudget within.now
+        (actuals_for (names_of_formals operations.CancelBudget) arguments.now) signs next) lists.old
+        lists.new result }
 {
     let budget = thing_of(within, argument_from(0, b"gb", arguments));
     let cancelled = variable_of(lists, within, argument_from(1, b"cancelled", arguments))?;
@@ -133,7 +144,10 @@ fn add_task_put(
     signs: u32,
     next: Option<StatementNo>,
 ) -> Result<Option<StatementNo>, NoMemory>
-    ensures { Made (budget_put action.AddTask within.now (actuals_for (names_of_formals operations.AddTask) arguments.now) signs next) lists.old lists.new result }
+    ensures { Made
+        (budget_put action.AddTask within.now
+        (actuals_for (names_of_formals operations.AddTask) arguments.now) signs next) lists.old
+        lists.new result }
 {
     let budget = thing_of(within, argument_from(0, b"gb", arguments));
     let task = value_or_none(lists, within, argument_from(1, b"t", arguments))?;
@@ -149,7 +163,10 @@ fn remove_task_put(
     signs: u32,
     next: Option<StatementNo>,
 ) -> Result<Option<StatementNo>, NoMemory>
-    ensures { Made (budget_put action.RemoveTask within.now (actuals_for (names_of_formals operations.RemoveTask) arguments.now) signs next) lists.old lists.new result }
+    ensures { Made
+        (budget_put action.RemoveTask within.now
+        (actuals_for (names_of_formals operations.RemoveTask) arguments.now) signs next) lists.old
+        lists.new result }
 {
     let budget = thing_of(within, argument_from(0, b"gb", arguments));
     let task = value_or_none(lists, within, argument_from(1, b"t", arguments))?;
@@ -170,7 +187,10 @@ fn replenish_put(
     signs: u32,
     next: Option<StatementNo>,
 ) -> Result<Option<StatementNo>, NoMemory>
-    ensures { Made (budget_put action.Replenish within.now (actuals_for (names_of_formals operations.Replenish) arguments.now) signs next) lists.old lists.new result }
+    ensures { Made
+        (budget_put action.Replenish within.now
+        (actuals_for (names_of_formals operations.Replenish) arguments.now) signs next) lists.old
+        lists.new result }
 {
     let budget = thing_of(within, argument_from(0, b"gb", arguments));
     let to = value_or_none(lists, within, argument_from(1, b"to", arguments))?;
@@ -186,7 +206,10 @@ fn add_put(
     signs: u32,
     next: Option<StatementNo>,
 ) -> Result<Option<StatementNo>, NoMemory>
-    ensures { Made (budget_put action.AddToBudget within.now (actuals_for (names_of_formals operations.Add) arguments.now) signs next) lists.old lists.new result }
+    ensures { Made
+        (budget_put action.AddToBudget within.now
+        (actuals_for (names_of_formals operations.Add) arguments.now) signs next) lists.old
+        lists.new result }
 {
     let budget = thing_of(within, argument_from(0, b"gb", arguments));
     let interval = value_or_none(lists, within, argument_from(1, b"interval", arguments))?;
@@ -207,7 +230,10 @@ fn set_priority_put(
     signs: u32,
     next: Option<StatementNo>,
 ) -> Result<Option<StatementNo>, NoMemory>
-    ensures { Made (task_put action.SetPriority within.now (actuals_for (names_of_formals operations.SetPriority) arguments.now) signs next) lists.old lists.new result }
+    ensures { Made
+        (task_put action.SetPriority within.now
+        (actuals_for (names_of_formals operations.SetPriority) arguments.now) signs next) lists.old
+        lists.new result }
 {
     let priority = value_or_none(lists, within, argument_from(0, b"priority", arguments))?;
     let task = optional_value(lists, within, argument_from(1, b"t", arguments))?;
@@ -228,7 +254,10 @@ fn set_deadline_put(
     signs: u32,
     next: Option<StatementNo>,
 ) -> Result<Option<StatementNo>, NoMemory>
-    ensures { Made (task_put action.SetDeadline within.now (actuals_for (names_of_formals operations.SetDeadline) arguments.now) signs next) lists.old lists.new result }
+    ensures { Made
+        (task_put action.SetDeadline within.now
+        (actuals_for (names_of_formals operations.SetDeadline) arguments.now) signs next) lists.old
+        lists.new result }
 {
     let deadline = value_or_none(lists, within, argument_from(0, b"d", arguments))?;
     let task = optional_value(lists, within, argument_from(1, b"t", arguments))?;
@@ -249,7 +278,10 @@ fn set_quantum_put(
     signs: u32,
     next: Option<StatementNo>,
 ) -> Result<Option<StatementNo>, NoMemory>
-    ensures { Made (values_put action.SetQuantum within.now (actuals_for (names_of_formals operations.SetQuantum) arguments.now) signs next) lists.old lists.new result }
+    ensures { Made
+        (values_put action.SetQuantum within.now
+        (actuals_for (names_of_formals operations.SetQuantum) arguments.now) signs next) lists.old
+        lists.new result }
 {
     let level = value_or_none(lists, within, argument_from(0, b"pri", arguments))?;
     let quantum = value_or_none(lists, within, argument_from(1, b"quantum", arguments))?;
@@ -270,7 +302,10 @@ fn delay_until_and_set_deadline_put(
     signs: u32,
     next: Option<StatementNo>,
 ) -> Result<Option<StatementNo>, NoMemory>
-    ensures { Made (values_put action.DelayUntilAndSetDeadline within.now (actuals_for (names_of_formals operations.DelayUntilAndSetDeadline) arguments.now) signs next) lists.old lists.new result }
+    ensures { Made
+        (values_put action.DelayUntilAndSetDeadline within.now
+        (actuals_for (names_of_formals operations.DelayUntilAndSetDeadline) arguments.now) signs
+        next) lists.old lists.new result }
 {
     let until = value_or_none(
         lists,
@@ -299,7 +334,10 @@ fn set_budget_put(
     signs: u32,
     next: Option<StatementNo>,
 ) -> Result<Option<StatementNo>, NoMemory>
-    ensures { Made (procedure_with within.now operations.SetBudget arguments.now (actuals_for (names_of_formals operations.SetBudget) arguments.now) signs next) lists.old lists.new result }
+    ensures { Made
+        (procedure_with within.now operations.SetBudget arguments.now
+        (actuals_for (names_of_formals operations.SetBudget) arguments.now) signs next) lists.old
+        lists.new result }
 {
     let budget = thing_of(within, argument_from(0, b"gb", arguments));
     let handler = handler_of(within, argument_from(1, b"handler", arguments));
@@ -321,7 +359,9 @@ fn text_put(
     signs: u32,
     next: Option<StatementNo>,
 ) -> Result<Option<StatementNo>, NoMemory>
-    ensures { Made (put_line_put within.now (actuals_for (names_of_formals operations.PutLine) arguments.now) signs next) lists.old lists.new result }
+    ensures { Made
+        (put_line_put within.now (actuals_for (names_of_formals operations.PutLine) arguments.now)
+        signs next) lists.old lists.new result }
 {
     put_line_put(
         alloc,
@@ -344,7 +384,8 @@ pub(crate) fn procedure_put(
     signs: u32,
     next: Option<StatementNo>,
 ) -> Result<Option<StatementNo>, NoMemory>
-    ensures { Made (procedure_put within.now operation arguments.now signs next) lists.old lists.new result }
+    ensures { Made (procedure_put within.now operation arguments.now signs next) lists.old lists.new
+        result }
 {
     match operation {
         Operation::PutLine => text_put(alloc, lists, within, arguments, signs, next),

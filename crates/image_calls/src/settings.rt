@@ -60,7 +60,8 @@ fn moment_of(arguments: &[Argument<Expression>]) -> Option<&Expression>
 
 /// Whether it is there and a span.
 fn is_a_span(within: &Within<'_, '_>, moment: Option<&Expression>) -> bool
-    ensures { result ≡ unwrap_or (option_map (is_span within.now.names) (option_copied moment.entry)) false }
+    ensures { result
+        ≡ unwrap_or (option_map (is_span within.now.names) (option_copied moment.entry)) false }
 {
     match moment {
         None => false,
@@ -114,7 +115,10 @@ pub(crate) fn set_event_put(
     signs: u32,
     next: Option<StatementNo>,
 ) -> Result<Option<StatementNo>, NoMemory>
-    ensures { Made (set_event_put within.now arguments.now (actuals_for (names_of_formals operations.SetEvent) arguments.now) signs next) lists.old lists.new result }
+    ensures { Made
+        (set_event_put within.now arguments.now
+        (actuals_for (names_of_formals operations.SetEvent) arguments.now) signs next) lists.old
+        lists.new result }
 {
     let event = thing_of(within, argument_from(0, b"event", arguments));
     let handler = handler_of(within, argument_from(2, b"handler", arguments));
@@ -136,7 +140,10 @@ pub(crate) fn set_timer_put(
     signs: u32,
     next: Option<StatementNo>,
 ) -> Result<Option<StatementNo>, NoMemory>
-    ensures { Made (set_timer_put within.now arguments.now (actuals_for (names_of_formals operations.SetTimer) arguments.now) signs next) lists.old lists.new result }
+    ensures { Made
+        (set_timer_put within.now arguments.now
+        (actuals_for (names_of_formals operations.SetTimer) arguments.now) signs next) lists.old
+        lists.new result }
 {
     let timer = thing_of(within, argument_from(0, b"tm", arguments));
     let handler = handler_of(within, argument_from(2, b"handler", arguments));

@@ -24,7 +24,10 @@ fn numbered_object(
     declaration: &NumberedDeclaration<'_>,
     initial: Initial,
 ) -> Result<Declaration, NoMemory>
-    ensures { IfOk result (λ made. made ≡ numbered_object names.now (take before names.now.declarations) declaration.now initial) }
+    ensures { IfOk result
+        (λ made.
+        made
+        ≡ numbered_object names.now (take before names.now.declarations) declaration.now initial) }
 {
     Ok(Declaration {
         name: copy(alloc, declaration.name.as_slice())?,
@@ -62,7 +65,9 @@ fn declaration_made(
     before: usize,
     declaration: &NumberedDeclaration<'_>,
 ) -> Result<Declaration, NoMemory>
-    ensures { Made (declaration_made within.now (take before within.now.names.declarations) declaration.now) lists.old lists.new result }
+    ensures { Made
+        (declaration_made within.now (take before within.now.names.declarations) declaration.now)
+        lists.old lists.new result }
 {
     let initial = initial_made(lists, within, declaration.subtype, initial_of(declaration))?;
     numbered_object(alloc, within.names.get(), before, declaration, initial)
@@ -75,7 +80,8 @@ pub fn declarations_made(
     lists: &mut Lists,
     within: &Within<'_, '_>,
 ) -> Result<Sequence<Declaration>, NoMemory>
-    ensures { Made (declarations_made within.now [] within.now.names.declarations) lists.old lists.new result }
+    ensures { Made (declarations_made within.now [] within.now.names.declarations) lists.old
+        lists.new result }
 {
     let names = within.names.get();
     let mut made = Sequence::new(alloc);

@@ -63,7 +63,8 @@ fn initial_of_call(
     expression: &Expression,
     is_call: bool,
 ) -> Result<Initial, NoMemory>
-    ensures { Made (initial_of_call within.now subtype expression.now is_call) lists.old lists.new result }
+    ensures { Made (initial_of_call within.now subtype expression.now is_call) lists.old lists.new
+        result }
 {
     if is_call {
         Ok(Initial::Default)
@@ -80,7 +81,8 @@ pub(crate) fn initial_made(
     subtype: Option<Subtype>,
     expression: Option<&Expression>,
 ) -> Result<Initial, NoMemory>
-    ensures { Made (initial_made within.now subtype (option_copied expression.entry)) lists.old lists.new result }
+    ensures { Made (initial_made within.now subtype (option_copied expression.entry)) lists.old
+        lists.new result }
 {
     match expression {
         None => Ok(Initial::Default),

@@ -50,7 +50,8 @@ fn denoted_made<E: Imaged>(
     within: &Within<'_, '_>,
     denoted: Option<Denoted>,
 ) -> Result<ExprNo, NoMemory>
-    ensures { Made (denoted_made E.image name.now arguments.now within.now denoted) lists.old lists.new result }
+    ensures { Made (denoted_made E.image name.now arguments.now within.now denoted) lists.old
+        lists.new result }
 {
     match denoted {
         None => no_value(lists),
@@ -72,7 +73,8 @@ fn named_made<E: Imaged>(
     arguments: &[Argument<E>],
     within: &Within<'_, '_>,
 ) -> Result<ExprNo, NoMemory>
-    ensures { Made (named_made E.image name.now attribute.now arguments.now within.now) lists.old lists.new result }
+    ensures { Made (named_made E.image name.now attribute.now arguments.now within.now) lists.old
+        lists.new result }
 {
     match attribute {
         None => {

@@ -23,7 +23,8 @@ fn image_or_none<E: Imaged>(
     actual: Option<&E>,
     within: &Within<'_, '_>,
 ) -> Result<ExprNo, NoMemory>
-    ensures { Made (image_or_none (option_map E.image (option_copied actual.entry)) within.now) lists.old lists.new result }
+    ensures { Made (image_or_none (option_map E.image (option_copied actual.entry)) within.now)
+        lists.old lists.new result }
 {
     match actual {
         None => no_value(lists),
@@ -38,7 +39,8 @@ fn optional_made<E: Imaged>(
     actual: Option<&E>,
     within: &Within<'_, '_>,
 ) -> Result<Option<ExprNo>, NoMemory>
-    ensures { Made (optional_made (option_map E.image (option_copied actual.entry)) within.now) lists.old lists.new result }
+    ensures { Made (optional_made (option_map E.image (option_copied actual.entry)) within.now)
+        lists.old lists.new result }
 {
     match actual {
         None => Ok(None),
@@ -54,7 +56,8 @@ fn span_made<E: Imaged>(
     actual: Option<&E>,
     within: &Within<'_, '_>,
 ) -> Result<ExprNo, NoMemory>
-    ensures { Made (span_made ticks (option_map E.image (option_copied actual.entry)) within.now) lists.old lists.new result }
+    ensures { Made (span_made ticks (option_map E.image (option_copied actual.entry)) within.now)
+        lists.old lists.new result }
 {
     let count = image_or_none(lists, actual, within)?;
     value_put(lists, Expression::Span { ticks, count })
@@ -67,7 +70,8 @@ fn same_ticks_made<E: Imaged>(
     actual: Option<&E>,
     within: &Within<'_, '_>,
 ) -> Result<ExprNo, NoMemory>
-    ensures { Made (same_ticks_made (option_map E.image (option_copied actual.entry)) within.now) lists.old lists.new result }
+    ensures { Made (same_ticks_made (option_map E.image (option_copied actual.entry)) within.now)
+        lists.old lists.new result }
 {
     let span = image_or_none(lists, actual, within)?;
     value_put(lists, Expression::SameTicks(span))
@@ -80,7 +84,9 @@ fn execution_time_made<E: Imaged>(
     actual: Option<&E>,
     within: &Within<'_, '_>,
 ) -> Result<ExprNo, NoMemory>
-    ensures { Made (of_task_made valuation.ExecutionTime (option_map E.image (option_copied actual.entry)) within.now) lists.old lists.new result }
+    ensures { Made
+        (of_task_made valuation.ExecutionTime (option_map E.image (option_copied actual.entry))
+        within.now) lists.old lists.new result }
 {
     let task = optional_made(lists, actual, within)?;
     value_put(lists, Expression::ExecutionTime(task))
@@ -93,7 +99,9 @@ fn priority_made<E: Imaged>(
     actual: Option<&E>,
     within: &Within<'_, '_>,
 ) -> Result<ExprNo, NoMemory>
-    ensures { Made (of_task_made valuation.Priority (option_map E.image (option_copied actual.entry)) within.now) lists.old lists.new result }
+    ensures { Made
+        (of_task_made valuation.Priority (option_map E.image (option_copied actual.entry))
+        within.now) lists.old lists.new result }
 {
     let task = optional_made(lists, actual, within)?;
     value_put(lists, Expression::Priority(task))
@@ -106,7 +114,9 @@ fn deadline_made<E: Imaged>(
     actual: Option<&E>,
     within: &Within<'_, '_>,
 ) -> Result<ExprNo, NoMemory>
-    ensures { Made (of_task_made valuation.Deadline (option_map E.image (option_copied actual.entry)) within.now) lists.old lists.new result }
+    ensures { Made
+        (of_task_made valuation.Deadline (option_map E.image (option_copied actual.entry))
+        within.now) lists.old lists.new result }
 {
     let task = optional_made(lists, actual, within)?;
     value_put(lists, Expression::Deadline(task))
@@ -119,7 +129,8 @@ fn port_made<E: Imaged>(
     actual: Option<&E>,
     within: &Within<'_, '_>,
 ) -> Result<ExprNo, NoMemory>
-    ensures { Made (port_made (option_map E.image (option_copied actual.entry)) within.now) lists.old lists.new result }
+    ensures { Made (port_made (option_map E.image (option_copied actual.entry)) within.now)
+        lists.old lists.new result }
 {
     let port = image_or_none(lists, actual, within)?;
     value_put(lists, Expression::PortValue(port))
@@ -127,7 +138,8 @@ fn port_made<E: Imaged>(
 
 /// The event, timer or budget that an actual names.
 fn thing_of_actual<E: Imaged>(within: &Within<'_, '_>, actual: Option<&E>) -> DeclNo
-    ensures { result ≡ thing_in within.now (name_in (option_map E.image (option_copied actual.entry))) }
+    ensures { result
+        ≡ thing_in within.now (name_in (option_map E.image (option_copied actual.entry))) }
 {
     match actual {
         None => thing_in(within, None),
@@ -142,7 +154,9 @@ fn time_of_event_made<E: Imaged>(
     actual: Option<&E>,
     within: &Within<'_, '_>,
 ) -> Result<ExprNo, NoMemory>
-    ensures { Made (of_thing_made valuation.TimeOfEvent (option_map E.image (option_copied actual.entry)) within.now) lists.old lists.new result }
+    ensures { Made
+        (of_thing_made valuation.TimeOfEvent (option_map E.image (option_copied actual.entry))
+        within.now) lists.old lists.new result }
 {
     let event = thing_of_actual(within, actual);
     value_put(lists, Expression::TimeOfEvent(event))
@@ -155,7 +169,9 @@ fn time_remaining_made<E: Imaged>(
     actual: Option<&E>,
     within: &Within<'_, '_>,
 ) -> Result<ExprNo, NoMemory>
-    ensures { Made (of_thing_made valuation.TimeRemaining (option_map E.image (option_copied actual.entry)) within.now) lists.old lists.new result }
+    ensures { Made
+        (of_thing_made valuation.TimeRemaining (option_map E.image (option_copied actual.entry))
+        within.now) lists.old lists.new result }
 {
     let timer = thing_of_actual(within, actual);
     value_put(lists, Expression::TimeRemaining(timer))
@@ -168,7 +184,9 @@ fn budget_has_expired_made<E: Imaged>(
     actual: Option<&E>,
     within: &Within<'_, '_>,
 ) -> Result<ExprNo, NoMemory>
-    ensures { Made (of_thing_made valuation.BudgetHasExpired (option_map E.image (option_copied actual.entry)) within.now) lists.old lists.new result }
+    ensures { Made
+        (of_thing_made valuation.BudgetHasExpired (option_map E.image (option_copied actual.entry))
+        within.now) lists.old lists.new result }
 {
     let budget = thing_of_actual(within, actual);
     value_put(lists, Expression::BudgetHasExpired(budget))
@@ -181,7 +199,9 @@ fn budget_remaining_made<E: Imaged>(
     actual: Option<&E>,
     within: &Within<'_, '_>,
 ) -> Result<ExprNo, NoMemory>
-    ensures { Made (of_thing_made valuation.BudgetRemaining (option_map E.image (option_copied actual.entry)) within.now) lists.old lists.new result }
+    ensures { Made
+        (of_thing_made valuation.BudgetRemaining (option_map E.image (option_copied actual.entry))
+        within.now) lists.old lists.new result }
 {
     let budget = thing_of_actual(within, actual);
     value_put(lists, Expression::BudgetRemaining(budget))
@@ -195,7 +215,10 @@ pub(crate) fn function_made<E: Imaged>(
     arguments: &[Argument<E>],
     within: &Within<'_, '_>,
 ) -> Result<ExprNo, NoMemory>
-    ensures { Made (function_made operation (images_for E.image (actuals_for (names_of_formals operation) arguments.now)) within.now) lists.old lists.new result }
+    ensures { Made
+        (function_made operation
+        (images_for E.image (actuals_for (names_of_formals operation) arguments.now)) within.now)
+        lists.old lists.new result }
 {
     match operation {
         Operation::PutLine => no_value(lists),

@@ -19,7 +19,8 @@ use profile_machine::{DeclNo, ExprNo, Expression, Value};
 
 /// The static value of First or Last (3.5).
 fn end_value(names: &Names<'_>, name: &Name, attribute: Attribute) -> Value
-    ensures { result ≡ unwrap_or (attribute_value names.now name.now attribute) (value.Whole (pos 0)) }
+    ensures { result
+        ≡ unwrap_or (attribute_value names.now name.now attribute) (value.Whole (pos 0)) }
 {
     match attribute_value(names, name, attribute) {
         Some(value) => value,
@@ -79,7 +80,10 @@ fn object_made<E: Imaged>(
     declaration: DeclNo,
     index: Option<&E>,
 ) -> Result<ExprNo, NoMemory>
-    ensures { Made (object_made within.now name.now subtype declaration (option_map (λ e. (E.image e).made within.now) (option_copied index.entry))) lists.old lists.new result }
+    ensures { Made
+        (object_made within.now name.now subtype declaration
+        (option_map (λ e. (E.image e).made within.now) (option_copied index.entry))) lists.old
+        lists.new result }
 {
     if subtype_is_thing(subtype) {
         value_put(lists, Expression::Thing(declaration))
@@ -97,7 +101,10 @@ pub(crate) fn entity_made<E: Imaged>(
     index: Option<&E>,
     kind: &EntityKind,
 ) -> Result<ExprNo, NoMemory>
-    ensures { Made (entity_made within.now name.now (option_map (λ e. (E.image e).made within.now) (option_copied index.entry)) kind.now) lists.old lists.new result }
+    ensures { Made
+        (entity_made within.now name.now
+        (option_map (λ e. (E.image e).made within.now) (option_copied index.entry)) kind.now)
+        lists.old lists.new result }
 {
     match kind {
         EntityKind::Package => no_value(lists),

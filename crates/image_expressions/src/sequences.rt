@@ -1,4 +1,4 @@
-//! Operators of one level, from left to right (ISO/IEC 8652:2012, 4.5).
+//! Operators of one level are made, from left to right (ISO/IEC 8652:2012, 4.5).
 ghost use Rattle.std.specs.Prelude.{◌≡◌, ◌∷◌};
 ghost use Rattle.ada_image.specs.Made.{Made};
 ghost use Rattle.ada_image.specs.ImageOfExpressions.{operands_made, addends_made, factors_made, logical_made, relational_made, adding_made, multiplying_made};
@@ -20,7 +20,8 @@ fn operands_made<E: Imaged>(
     operands: &[Operand<E>],
     within: &Within<'_, '_>,
 ) -> Result<ExprNo, NoMemory>
-    ensures { Made (operands_made E.image operator first operands.now within.now) lists.old lists.new result }
+    ensures { Made (operands_made E.image operator first operands.now within.now) lists.old
+        lists.new result }
 {
     let mut left = first;
     for operand in operands {
@@ -74,7 +75,8 @@ pub(crate) fn logical_made<E: Imaged>(
     others: &OneOrMore<Operand<E>>,
     within: &Within<'_, '_>,
 ) -> Result<ExprNo, NoMemory>
-    ensures { Made (logical_made E.image operator first.now others.now within.now) lists.old lists.new result }
+    ensures { Made (logical_made E.image operator first.now others.now within.now) lists.old
+        lists.new result }
 {
     let operator = logical_operator(operator);
     let left = first.made(lists, within)?;
@@ -91,7 +93,8 @@ pub(crate) fn relational_made<E: Imaged>(
     second: &E,
     within: &Within<'_, '_>,
 ) -> Result<ExprNo, NoMemory>
-    ensures { Made (relational_made E.image first.now operator second.now within.now) lists.old lists.new result }
+    ensures { Made (relational_made E.image first.now operator second.now within.now) lists.old
+        lists.new result }
 {
     let left = first.made(lists, within)?;
     binary_put(lists, relational_operator(operator), left, second, within)
@@ -105,7 +108,8 @@ pub(crate) fn adding_made<E: Imaged>(
     others: &OneOrMore<Addend<E>>,
     within: &Within<'_, '_>,
 ) -> Result<ExprNo, NoMemory>
-    ensures { Made (adding_made E.image first.now others.now within.now) lists.old lists.new result }
+    ensures { Made (adding_made E.image first.now others.now within.now) lists.old lists.new
+        result }
 {
     let left = first.made(lists, within)?;
     let operator = adding_operator(others.first.operator);
@@ -121,7 +125,8 @@ pub(crate) fn multiplying_made<E: Imaged>(
     others: &OneOrMore<Multiplied<E>>,
     within: &Within<'_, '_>,
 ) -> Result<ExprNo, NoMemory>
-    ensures { Made (multiplying_made E.image first.now others.now within.now) lists.old lists.new result }
+    ensures { Made (multiplying_made E.image first.now others.now within.now) lists.old lists.new
+        result }
 {
     let left = first.made(lists, within)?;
     let operator = multiplying_operator(others.first.operator);

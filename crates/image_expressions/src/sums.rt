@@ -95,7 +95,11 @@ pub(crate) fn signs_in_named<E: Imaged>(
     arguments: &[Argument<E>],
     names: &Names<'_>,
 ) -> Result<u32, NoMemory>
-    ensures { IfOk result (λ n. n ≡ call_counts E.image attribute.now (denoted_by names.now name.now) + signs_in_arguments E.image arguments.now names.now) }
+    ensures { IfOk result
+        (λ n.
+        n
+        ≡ call_counts E.image attribute.now (denoted_by names.now name.now)
+        + signs_in_arguments E.image arguments.now names.now) }
 {
     match attribute {
         None => added(

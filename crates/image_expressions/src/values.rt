@@ -34,7 +34,8 @@ pub(crate) fn unary_made<E: Imaged>(
     operand: &E,
     within: &Within<'_, '_>,
 ) -> Result<ExprNo, NoMemory>
-    ensures { Made (unary_made operator ((E.image operand.now).made within.now)) lists.old lists.new result }
+    ensures { Made (unary_made operator ((E.image operand.now).made within.now)) lists.old lists.new
+        result }
 {
     let operand = operand.made(lists, within)?;
     value_put(lists, Expression::Unary { operator, operand })
@@ -49,7 +50,8 @@ pub(crate) fn binary_put<E: Imaged>(
     right: &E,
     within: &Within<'_, '_>,
 ) -> Result<ExprNo, NoMemory>
-    ensures { Made (binary_put operator left ((E.image right.now).made within.now)) lists.old lists.new result }
+    ensures { Made (binary_put operator left ((E.image right.now).made within.now)) lists.old
+        lists.new result }
 {
     let right = right.made(lists, within)?;
     value_put(
@@ -69,7 +71,9 @@ fn minus_made<E: Imaged>(
     operand: &E,
     within: &Within<'_, '_>,
 ) -> Result<ExprNo, NoMemory>
-    ensures { Made (signed_made sign.Minus (E.image operand.now).literal ((E.image operand.now).made within.now)) lists.old lists.new result }
+    ensures { Made
+        (signed_made sign.Minus (E.image operand.now).literal
+        ((E.image operand.now).made within.now)) lists.old lists.new result }
 {
     match operand.literal() {
         None => unary_made(lists, UnaryOperator::Minus, operand, within),
@@ -88,7 +92,9 @@ pub(crate) fn signed_made<E: Imaged>(
     operand: &E,
     within: &Within<'_, '_>,
 ) -> Result<ExprNo, NoMemory>
-    ensures { Made (signed_made sign (E.image operand.now).literal ((E.image operand.now).made within.now)) lists.old lists.new result }
+    ensures { Made
+        (signed_made sign (E.image operand.now).literal ((E.image operand.now).made within.now))
+        lists.old lists.new result }
 {
     match sign {
         Sign::Plus => unary_made(lists, UnaryOperator::Plus, operand, within),

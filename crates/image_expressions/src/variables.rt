@@ -18,7 +18,9 @@ fn index_made<E: Imaged>(
     index: Option<&E>,
     within: &Within<'_, '_>,
 ) -> Result<Option<ExprNo>, NoMemory>
-    ensures { Made (index_made (option_map (λ e. (E.image e).made within.now) (option_copied index.entry))) lists.old lists.new result }
+    ensures { Made
+        (index_made (option_map (λ e. (E.image e).made within.now) (option_copied index.entry)))
+        lists.old lists.new result }
 {
     match index {
         None => Ok(None),
@@ -34,7 +36,10 @@ pub fn variable_made<E: Imaged>(
     name: &Name,
     index: Option<&E>,
 ) -> Result<VariableName, NoMemory>
-    ensures { Made (variable_made within.now name.now (option_map (λ e. (E.image e).made within.now) (option_copied index.entry))) lists.old lists.new result }
+    ensures { Made
+        (variable_made within.now name.now
+        (option_map (λ e. (E.image e).made within.now) (option_copied index.entry))) lists.old
+        lists.new result }
 {
     let index = index_made(lists, index, within)?;
     Ok(VariableName {
@@ -51,7 +56,10 @@ pub(crate) fn variable_put<E: Imaged>(
     name: &Name,
     index: Option<&E>,
 ) -> Result<ExprNo, NoMemory>
-    ensures { Made (variable_put within.now name.now (option_map (λ e. (E.image e).made within.now) (option_copied index.entry))) lists.old lists.new result }
+    ensures { Made
+        (variable_put within.now name.now
+        (option_map (λ e. (E.image e).made within.now) (option_copied index.entry))) lists.old
+        lists.new result }
 {
     let variable = variable_made(lists, within, name, index)?;
     value_put(lists, Expression::Variable(variable))

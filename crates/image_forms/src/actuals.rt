@@ -116,7 +116,9 @@ fn kind_or_value_built(
     kind: &EntityKind,
     names: &Names<'_>,
 ) -> bool
-    ensures { result ≡ call_or_value_built expression.now (call_of_kind name.now arguments.now kind.now) names.now }
+    ensures { result
+        ≡ call_or_value_built expression.now (call_of_kind name.now arguments.now kind.now)
+        names.now }
 {
     match kind {
         EntityKind::Package => expression_built(expression, names),
@@ -144,7 +146,9 @@ fn name_or_value_built(
     arguments: &[Argument<Expression>],
     names: &Names<'_>,
 ) -> bool
-    ensures { result ≡ call_or_value_built expression.now (call_of_form (form.Named name.now attribute.now arguments.now) names.now) names.now }
+    ensures { result
+        ≡ call_or_value_built expression.now
+        (call_of_form (form.Named name.now attribute.now arguments.now) names.now) names.now }
 {
     match attribute {
         None => match kind_of(names, name) {
@@ -223,7 +227,9 @@ fn name_if_built(
     arguments: &[Argument<Expression>],
     names: &Names<'_>,
 ) -> bool
-    ensures { result ≡ call_if_built (call_of_form (form.Named name.now attribute.now arguments.now) names.now) names.now }
+    ensures { result
+        ≡ call_if_built (call_of_form (form.Named name.now attribute.now arguments.now) names.now)
+        names.now }
 {
     match attribute {
         None => match kind_of(names, name) {

@@ -22,7 +22,9 @@ pub(crate) fn sequence_if_built<Q: HasForm>(sequence: &Option<Q>, names: &Names<
 
 /// A further condition with the statements behind it.
 fn elsif_built<Q: HasForm>(elsif: &Elsif<Q>, names: &Names<'_>) -> bool
-    ensures { result ≡ (expression_built elsif.now.condition names.now && Q.built elsif.now.statements names.now) }
+    ensures { result
+        ≡ (expression_built elsif.now.condition names.now
+        && Q.built elsif.now.statements names.now) }
 {
     expression_built(&elsif.condition, names) && elsif.statements.is_built(names)
 }
@@ -44,7 +46,9 @@ fn alternative_of_case_built<Q: HasForm>(
     alternative: &CaseAlternative<Q>,
     names: &Names<'_>,
 ) -> bool
-    ensures { result ≡ (choices_built (alternative.now.choices.first ∷ alternative.now.choices.others) names.now && Q.built alternative.now.statements names.now) }
+    ensures { result
+        ≡ (choices_built (alternative.now.choices.first ∷ alternative.now.choices.others)
+        names.now && Q.built alternative.now.statements names.now) }
 {
     choices_built(&alternative.choices, names) && alternative.statements.is_built(names)
 }
@@ -69,7 +73,8 @@ pub(crate) fn alternatives_built<Q: HasForm>(
     alternatives: &OneOrMore<CaseAlternative<Q>>,
     names: &Names<'_>,
 ) -> bool
-    ensures { result ≡ alternatives_built Q.built (alternatives.now.first ∷ alternatives.now.others) names.now }
+    ensures { result
+        ≡ alternatives_built Q.built (alternatives.now.first ∷ alternatives.now.others) names.now }
 {
     alternative_of_case_built(&alternatives.first, names)
         && other_alternatives_built(alternatives.others.as_slice(), names)

@@ -36,7 +36,9 @@ pub(crate) fn operation_built<E: HasForm>(
     arguments: &[Argument<E>],
     names: &Names<'_>,
 ) -> bool
-    ensures { result ≡ operation_built E.built operation (actuals_for (names_of_formals operation) arguments.now) names.now }
+    ensures { result
+        ≡ operation_built E.built operation
+        (actuals_for (names_of_formals operation) arguments.now) names.now }
 {
     match operation {
         Operation::PutLine => false,

@@ -29,7 +29,9 @@ pub(crate) fn procedure_built(
     arguments: &[Argument<Expression>],
     names: &Names<'_>,
 ) -> bool
-    ensures { result ≡ procedure_built operation arguments.now (actuals_for (names_of_formals operation) arguments.now) names.now }
+    ensures { result
+        ≡ procedure_built operation arguments.now
+        (actuals_for (names_of_formals operation) arguments.now) names.now }
 {
     match operation {
         Operation::PutLine => text_built(argument_from(0, b"item", arguments), names),

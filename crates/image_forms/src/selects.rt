@@ -1,4 +1,4 @@
-//! Select statements (ISO/IEC 8652:2012, 9.7).
+//! Whether select statements have a form in an image (ISO/IEC 8652:2012, 9.7).
 ghost use Rattle.std.specs.Prelude.{◌≡◌, ◌∷◌, ◌&&◌};
 ghost use Rattle.ada_tree.specs.declared.selects.SelectForm.TheVariants as selecting;
 ghost use Rattle.ada_image.specs.ImageOfStatements.{guard_of};
@@ -47,7 +47,9 @@ fn select_alternative_built<Q: HasForm>(
     alternative: &SelectAlternative<Q>,
     names: &Names<'_>,
 ) -> bool
-    ensures { result ≡ (value_if_there (guard_of alternative.now.guard) names.now && alternative_built Q.built alternative.now.alternative names.now) }
+    ensures { result
+        ≡ (value_if_there (guard_of alternative.now.guard) names.now
+        && alternative_built Q.built alternative.now.alternative names.now) }
 {
     guard_built(&alternative.guard, names) && alternative_built(&alternative.alternative, names)
 }
@@ -72,7 +74,9 @@ fn select_alternatives_built<Q: HasForm>(
     alternatives: &OneOrMore<SelectAlternative<Q>>,
     names: &Names<'_>,
 ) -> bool
-    ensures { result ≡ select_alternatives_built Q.built (alternatives.now.first ∷ alternatives.now.others) names.now }
+    ensures { result
+        ≡ select_alternatives_built Q.built (alternatives.now.first ∷ alternatives.now.others)
+        names.now }
 {
     select_alternative_built(&alternatives.first, names)
         && other_alternatives_built(alternatives.others.as_slice(), names)

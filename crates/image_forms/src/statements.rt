@@ -1,4 +1,4 @@
-//! Statements, and lists of them (ISO/IEC 8652:2012, 5.1).
+//! Whether statements, and lists of them, have a form in an image (ISO/IEC 8652:2012, 5.1).
 ghost use Rattle.std.specs.Prelude.{◌≡◌, ◌∷◌};
 ghost use Rattle.ada_tree.specs.declared.statements.Statement.TheVariants as statement;
 ghost use Rattle.ada_image.specs.BuiltSequences.{statement_built, statements_built};
@@ -77,7 +77,8 @@ pub(crate) fn statements_built<Q: HasForm>(
     statements: &OneOrMore<Statement<Q>>,
     names: &Names<'_>,
 ) -> bool
-    ensures { result ≡ statements_built Q.built (statements.now.first ∷ statements.now.others) names.now }
+    ensures { result
+        ≡ statements_built Q.built (statements.now.first ∷ statements.now.others) names.now }
 {
     statement_built(&statements.first, names)
         && other_statements_built(statements.others.as_slice(), names)

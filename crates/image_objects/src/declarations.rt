@@ -20,7 +20,8 @@ fn declaration_put<Q>(
     declaration: &Declaration<Q>,
     next: Option<StatementNo>,
 ) -> Result<Option<StatementNo>, NoMemory>
-    ensures { Made (declaration_put within.now part declaration.now next) lists.old lists.new result }
+    ensures { Made (declaration_put within.now part declaration.now next) lists.old lists.new
+        result }
 {
     match declaration {
         Declaration::Object(object) => objects_put(alloc, lists, within, part, object, next),
@@ -59,7 +60,8 @@ pub fn declarations_put<Q>(
     declarations: &[Declaration<Q>],
     next: Option<StatementNo>,
 ) -> Result<Option<StatementNo>, NoMemory>
-    ensures { Made (declarations_put within.now part declarations.now next) lists.old lists.new result }
+    ensures { Made (declarations_put within.now part declarations.now next) lists.old lists.new
+        result }
 {
     let mut later = next;
     let mut place = declarations.len();

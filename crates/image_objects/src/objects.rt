@@ -115,7 +115,9 @@ fn object_declaration_put(
     signs: u32,
     next: Option<StatementNo>,
 ) -> Result<Option<StatementNo>, NoMemory>
-    ensures { Made (object_declaration_put within.now object subtype (option_map call_shown call.now) signs next) lists.old lists.new result }
+    ensures { Made
+        (object_declaration_put within.now object subtype (option_map call_shown call.now) signs
+        next) lists.old lists.new result }
 {
     match call {
         Some(call) => {
@@ -140,7 +142,8 @@ fn object_elaborated(
     initial: &Option<Expression>,
     next: Option<StatementNo>,
 ) -> Result<Option<StatementNo>, NoMemory>
-    ensures { Made (object_elaborated within.now object subtype initial.now next) lists.old lists.new result }
+    ensures { Made (object_elaborated within.now object subtype initial.now next) lists.old
+        lists.new result }
 {
     let signs = signs_if(within, initial)?;
     let call = function_call_if(within, initial);
@@ -159,7 +162,8 @@ fn object_put(
     identifier: &Identifier,
     next: Option<StatementNo>,
 ) -> Result<Option<StatementNo>, NoMemory>
-    ensures { Made (object_put within.now part initial.now identifier.now next) lists.old lists.new result }
+    ensures { Made (object_put within.now part initial.now identifier.now next) lists.old lists.new
+        result }
 {
     let object = number_declared(within, identifier);
     let subtype = subtype_declared_as(within, identifier);
@@ -181,7 +185,8 @@ fn objects_behind(
     identifiers: &[Identifier],
     next: Option<StatementNo>,
 ) -> Result<Option<StatementNo>, NoMemory>
-    ensures { Made (objects_put within.now part value.now identifiers.now next) lists.old lists.new result }
+    ensures { Made (objects_put within.now part value.now identifiers.now next) lists.old lists.new
+        result }
 {
     let mut later = next;
     let mut place = identifiers.len();
@@ -210,7 +215,8 @@ pub(crate) fn objects_put(
     object: &ObjectDeclaration,
     next: Option<StatementNo>,
 ) -> Result<Option<StatementNo>, NoMemory>
-    ensures { Made (objects_put within.now part object.now.initial (all_of object.now.names) next) lists.old lists.new result }
+    ensures { Made (objects_put within.now part object.now.initial (all_of object.now.names) next)
+        lists.old lists.new result }
 {
     let initial = &object.initial;
     let others = object.names.others.as_slice();
@@ -237,7 +243,8 @@ pub(crate) fn single_put(
     identifier: &Identifier,
     next: Option<StatementNo>,
 ) -> Result<Option<StatementNo>, NoMemory>
-    ensures { Made (single_put within.now part is_type identifier.now next) lists.old lists.new result }
+    ensures { Made (single_put within.now part is_type identifier.now next) lists.old lists.new
+        result }
 {
     if is_type {
         Ok(next)

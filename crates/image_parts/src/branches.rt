@@ -1,4 +1,4 @@
-//! If and case statements (ISO/IEC 8652:2012, 5.3, 5.4).
+//! The actions of if and case statements, where the statements in them are made (ISO/IEC 8652:2012, 5.3, 5.4).
 ghost use Rattle.std.specs.Prelude.{◌≡◌};
 ghost use Rattle.ada_image.specs.Made.{Made};
 ghost use Rattle.image_parts.specs.Parts.{case_action, if_action};
@@ -19,7 +19,8 @@ pub fn if_action(
     otherwise: Option<StatementNo>,
     next: Option<StatementNo>,
 ) -> Result<Option<StatementNo>, NoMemory>
-    ensures { Made (if_action within.now condition.now first otherwise next) lists.old lists.new result }
+    ensures { Made (if_action within.now condition.now first otherwise next) lists.old lists.new
+        result }
 {
     let signs = signs_in(within, condition)?;
     let condition = expression_made(lists, condition, within)?;
@@ -39,7 +40,8 @@ pub fn case_action(
     alternatives: Sequence<CaseAlternative>,
     next: Option<StatementNo>,
 ) -> Result<Option<StatementNo>, NoMemory>
-    ensures { Made (case_action within.now selector.now alternatives next) lists.old lists.new result }
+    ensures { Made (case_action within.now selector.now alternatives next) lists.old lists.new
+        result }
 {
     let signs = signs_in(within, selector)?;
     let selector = expression_made(lists, selector, within)?;

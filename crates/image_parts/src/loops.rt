@@ -76,7 +76,8 @@ fn signs_in_bounds(
     low: &Expression,
     high: &Expression,
 ) -> Result<u32, NoMemory>
-    ensures { IfOk result (λ signs. signs ≡ signs_in within.now low.now + signs_in within.now high.now) }
+    ensures { IfOk result
+        (λ signs. signs ≡ signs_in within.now low.now + signs_in within.now high.now) }
 {
     let in_low = signs_in(within, low)?;
     let in_high = signs_in(within, high)?;
@@ -97,7 +98,9 @@ pub fn for_action(
     body: StatementNo,
     next: Option<StatementNo>,
 ) -> Result<Option<StatementNo>, NoMemory>
-    ensures { Made (for_action within.now s first later parameter reverse low.now high.now body next) lists.old lists.new result }
+    ensures { Made
+        (for_action within.now s first later parameter reverse low.now high.now body next) lists.old
+        lists.new result }
 {
     let signs = signs_in_bounds(within, low, high)?;
     turns_put(lists, first, later, parameter, reverse, body, next)?;

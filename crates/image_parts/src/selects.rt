@@ -49,7 +49,10 @@ pub fn signs_in_timed_call(
     call: &Call,
     delay: &Delay,
 ) -> Result<u32, NoMemory>
-    ensures { IfOk result (λ signs. signs ≡ signs_in_actuals within.now call.now.arguments + signs_in within.now delay.now.value) }
+    ensures { IfOk result
+        (λ signs.
+        signs
+        ≡ signs_in_actuals within.now call.now.arguments + signs_in within.now delay.now.value) }
 {
     let in_call = signs_in_actuals(within, call.arguments.as_slice())?;
     let in_delay = signs_in(within, &delay.value)?;

@@ -35,21 +35,12 @@ fn word_in_form(form: &ExpressionForm<Expression>) -> Option<&[u8]>
     ensures { option_copied result ≡ word_in_form form.now }
 {
     match form {
-        ExpressionForm::Logical { .. } => None,
-        ExpressionForm::Relational { .. } => None,
-        ExpressionForm::Adding { .. } => None,
-        ExpressionForm::Signed { .. } => None,
-        ExpressionForm::Multiplying { .. } => None,
-        ExpressionForm::Highest { .. } => None,
-        ExpressionForm::Number { .. } => None,
-        ExpressionForm::Text { .. } => None,
-        ExpressionForm::Null { .. } => None,
-        ExpressionForm::Bracketed { .. } => None,
         ExpressionForm::Named {
             name,
             attribute,
             ..
         } => word_of_name(name, attribute),
+        _ => None,
     }
 }
 
@@ -154,7 +145,8 @@ fn number_of_literal(literal: &[u8]) -> Result<u32, NoMemory>
 /// The number that an expression is, or 0.
 #[tactic(auto, unfolding(ada_image::specs::PoliciesOfImage::number_in_form))]
 fn number_in_form(form: &ExpressionForm<Expression>) -> Result<u32, NoMemory>
-    ensures { IfOk result (λ number. number ≡ unwrap_or (and_then (number_in_form form.now) level_of) 0) }
+    ensures { IfOk result
+        (λ number. number ≡ unwrap_or (and_then (number_in_form form.now) level_of) 0) }
 {
     match form {
         ExpressionForm::Logical { .. } => Ok(0),

@@ -11,7 +11,9 @@ use profile_machine::Queuing;
 
 /// Whether an argument names Priority_Queuing (D.4).
 fn is_priority_queuing(argument: &Argument<Expression>) -> bool
-    ensures { result ≡ unwrap_or (option_map (λ w. bytes_eq w (codes "priority_queuing")) (word_of argument.now)) false }
+    ensures { result
+        ≡ unwrap_or (option_map (λ w. bytes_eq w (codes "priority_queuing")) (word_of argument.now))
+        false }
 {
     match word_of(argument) {
         None => false,
@@ -65,7 +67,9 @@ pub fn is_longest(formal: &Option<Identifier>) -> bool
 
 /// The number that an argument gives Max_Entry_Queue_Length, if it gives one.
 fn longest_in_argument(argument: &Argument<Expression>) -> Result<Option<u32>, NoMemory>
-    ensures { IfOk result (λ longest. longest ≡ cond (is_longest argument.now.formal) (Some (number_of argument.now)) None) }
+    ensures { IfOk result
+        (λ longest.
+        longest ≡ cond (is_longest argument.now.formal) (Some (number_of argument.now)) None) }
 {
     if is_longest(&argument.formal) {
         Ok(Some(number_of(argument)?))
@@ -80,7 +84,8 @@ fn least_with(
     before: Option<u32>,
     arguments: &[Argument<Expression>],
 ) -> Result<Option<u32>, NoMemory>
-    ensures { IfOk result (λ longest. longest ≡ least_of before (longest_in_arguments arguments.now)) }
+    ensures { IfOk result
+        (λ longest. longest ≡ least_of before (longest_in_arguments arguments.now)) }
 {
     let mut least = before;
     for argument in arguments {

@@ -22,7 +22,9 @@ fn private_bodies_put(
     within: &Within<'_, '_>,
     declaration: &PackageDeclaration,
 ) -> Result<(), NoMemory>
-    ensures { Made (inner_bodies_put sequence_put within.now (unwrap_or declaration.now.private [])) lists.old lists.new result }
+    ensures { Made
+        (inner_bodies_put sequence_put within.now (unwrap_or declaration.now.private []))
+        lists.old lists.new result }
 {
     match &declaration.private {
         None => Ok(()),
@@ -38,7 +40,10 @@ fn package_bodies_put(
     within: &Within<'_, '_>,
     declaration: &PackageDeclaration,
 ) -> Result<(), NoMemory>
-    ensures { Made (inner_bodies_put sequence_put within.now (declaration.now.declarations ++ unwrap_or declaration.now.private [])) lists.old lists.new result }
+    ensures { Made
+        (inner_bodies_put sequence_put within.now
+        (declaration.now.declarations ++ unwrap_or declaration.now.private [])) lists.old
+        lists.new result }
 {
     inner_bodies_put(alloc, lists, within, declaration.declarations.as_slice())?;
     private_bodies_put(alloc, lists, within, declaration)
@@ -54,7 +59,8 @@ fn private_declarations_put(
     declaration: &PackageDeclaration,
     next: Option<StatementNo>,
 ) -> Result<Option<StatementNo>, NoMemory>
-    ensures { Made (declarations_put within.now part (unwrap_or declaration.now.private []) next) lists.old lists.new result }
+    ensures { Made (declarations_put within.now part (unwrap_or declaration.now.private []) next)
+        lists.old lists.new result }
 {
     match &declaration.private {
         None => Ok(next),
@@ -74,7 +80,10 @@ fn package_declarations_put(
     declaration: &PackageDeclaration,
     next: Option<StatementNo>,
 ) -> Result<Option<StatementNo>, NoMemory>
-    ensures { Made (declarations_put within.now part (declaration.now.declarations ++ unwrap_or declaration.now.private []) next) lists.old lists.new result }
+    ensures { Made
+        (declarations_put within.now part
+        (declaration.now.declarations ++ unwrap_or declaration.now.private []) next) lists.old
+        lists.new result }
 {
     let behind = private_declarations_put(alloc, lists, within, part, declaration, next)?;
     declarations_put(
@@ -101,7 +110,9 @@ fn private_makes_tasks(within: &Within<'_, '_>, declaration: &PackageDeclaration
 /// Whether the declaration of a package makes tasks.
 #[tactic(auto, using(crate::proofs::Parts::tasks_behind))]
 fn declaration_makes_tasks(within: &Within<'_, '_>, declaration: &PackageDeclaration) -> bool
-    ensures { result ≡ make_tasks within.now (declaration.now.declarations ++ unwrap_or declaration.now.private []) }
+    ensures { result
+        ≡ make_tasks within.now
+        (declaration.now.declarations ++ unwrap_or declaration.now.private []) }
 {
     make_tasks(within, declaration.declarations.as_slice())
         || private_makes_tasks(within, declaration)
@@ -117,7 +128,8 @@ fn package_declaration_put(
     declaration: &PackageDeclaration,
     next: Option<StatementNo>,
 ) -> Result<Option<StatementNo>, NoMemory>
-    ensures { Made (package_declaration_put packages.now within.now declaration.now next) lists.old lists.new result }
+    ensures { Made (package_declaration_put packages.now within.now declaration.now next)
+        lists.old lists.new result }
 {
     let name = declaration.name.text.as_slice();
     let part = part_of(packages, name)?;
@@ -168,7 +180,8 @@ fn package_statements_put(
     sequence: &Option<Sequence>,
     next: Option<StatementNo>,
 ) -> Result<Option<StatementNo>, NoMemory>
-    ensures { Made (package_statements_put within.now part sequence.now next) lists.old lists.new result }
+    ensures { Made (package_statements_put within.now part sequence.now next) lists.old lists.new
+        result }
 {
     match sequence {
         None => activation_put(lists, part, next),
@@ -189,7 +202,8 @@ fn package_body_put(
     body: &PackageBody,
     next: Option<StatementNo>,
 ) -> Result<Option<StatementNo>, NoMemory>
-    ensures { Made (package_body_put packages.now within.now body.now next) lists.old lists.new result }
+    ensures { Made (package_body_put packages.now within.now body.now next) lists.old lists.new
+        result }
 {
     let part = part_of(packages, body.name.text.as_slice())?;
     let activated = package_part(packages, within, body)?;
@@ -229,7 +243,8 @@ fn packages_put(
     packages: &[LibraryPackage],
     next: Option<StatementNo>,
 ) -> Result<Option<StatementNo>, NoMemory>
-    ensures { Made (packages_put packages.now within.now packages.now next) lists.old lists.new result }
+    ensures { Made (packages_put packages.now within.now packages.now next) lists.old lists.new
+        result }
 {
     let mut later = next;
     let mut place = packages.len();

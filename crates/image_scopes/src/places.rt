@@ -27,7 +27,9 @@ pub fn place_behind(
     before: usize,
     declaration: &NumberedDeclaration<'_>,
 ) -> Result<u32, NoMemory>
-    ensures { IfOk result (λ place. place ≡ place_behind names.now (take before names.now.declarations) declaration.now) }
+    ensures { IfOk result
+        (λ place.
+        place ≡ place_behind names.now (take before names.now.declarations) declaration.now) }
 {
     let mut place = 0;
     let mut left = before;

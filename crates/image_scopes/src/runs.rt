@@ -49,7 +49,10 @@ fn run_of_component(
     place: u32,
     subtype: Option<Subtype>,
 ) -> Result<u32, NoMemory>
-    ensures runs { OnOk result (runs.new ≡ runs.old ++ run_of place (width_of_subtype names.now subtype) (first_value names.now subtype)) }
+    ensures runs { OnOk result
+        (runs.new
+        ≡ runs.old
+        ++ run_of place (width_of_subtype names.now subtype) (first_value names.now subtype)) }
     ensures behind { IfOk result (λ behind. behind ≡ place + width_of_subtype names.now subtype) }
 {
     let width = width_of_subtype(names, subtype)?;
@@ -65,7 +68,9 @@ fn runs_of_components(
     place: u32,
     owner: ComponentOwner,
 ) -> Result<(), NoMemory>
-    ensures { OnOk result (runs.new ≡ runs.old ++ runs_of_components names.now place (components_of_owner names.now owner)) }
+    ensures { OnOk result
+        (runs.new
+        ≡ runs.old ++ runs_of_components names.now place (components_of_owner names.now owner)) }
 {
     let mut at = place;
     for component in names.declarations.iter() {
@@ -84,7 +89,10 @@ fn runs_behind(
     own: u32,
     owner: ComponentOwner,
 ) -> Result<(), NoMemory>
-    ensures { OnOk result (runs.new ≡ runs.old ++ runs_of_components names.now (place + own) (components_of_owner names.now owner)) }
+    ensures { OnOk result
+        (runs.new
+        ≡ runs.old
+        ++ runs_of_components names.now (place + own) (components_of_owner names.now owner)) }
 {
     runs_of_components(names, runs, added(place, own)?, owner)
 }
@@ -96,7 +104,10 @@ fn run_of_values(
     place: u32,
     subtype: Option<Subtype>,
 ) -> Result<(), NoMemory>
-    ensures { OnOk result (runs.new ≡ runs.old ++ run_of place (width_of_object names.now subtype) (first_value names.now subtype)) }
+    ensures { OnOk result
+        (runs.new
+        ≡ runs.old
+        ++ run_of place (width_of_object names.now subtype) (first_value names.now subtype)) }
 {
     let width = width_of_object(names, subtype)?;
     run_of(runs, place, width, first_value(names, subtype))
@@ -198,7 +209,8 @@ pub(crate) fn runs_from(
     runs: &mut Sequence<CellRun>,
     scope: u32,
 ) -> Result<(), NoMemory>
-    ensures { OnOk result (runs.new ≡ runs.old ++ runs_from names.now 0 (declarations_in_scope names.now scope)) }
+    ensures { OnOk result
+        (runs.new ≡ runs.old ++ runs_from names.now 0 (declarations_in_scope names.now scope)) }
 {
     let mut place = 0;
     for declaration in names.declarations.iter() {

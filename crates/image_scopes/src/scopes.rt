@@ -44,7 +44,10 @@ fn keeps(sort: Sort, subtype: Option<Subtype>) -> bool
 /// How many cells the declarations of a scope take.
 #[tactic(auto, unfolding(ada_image::specs::Layout::declarations_in_scope))]
 fn cells_of_scope(names: &Names<'_>, scope: u32) -> Result<u32, NoMemory>
-    ensures { IfOk result (λ count. count ≡ total (map (cells_of_declaration names.now) (declarations_in_scope names.now scope))) }
+    ensures { IfOk result
+        (λ count.
+        count
+        ≡ total (map (cells_of_declaration names.now) (declarations_in_scope names.now scope))) }
 {
     let mut count = 0;
     for declaration in names.declarations.iter() {
@@ -58,7 +61,8 @@ fn cells_of_scope(names: &Names<'_>, scope: u32) -> Result<u32, NoMemory>
 /// Whether a scope waits for a task or finalizes an object.
 #[tactic(auto, unfolding(ada_image::specs::Layout::declarations_in_scope))]
 fn keeps_any(names: &Names<'_>, scope: u32) -> bool
-    ensures { result ≡ list_any (λ d. keeps d.sort d.subtype) (declarations_in_scope names.now scope) }
+    ensures { result
+        ≡ list_any (λ d. keeps d.sort d.subtype) (declarations_in_scope names.now scope) }
 {
     for declaration in names.declarations.iter() {
         if is_in_scope(scope, declaration) {
@@ -101,7 +105,8 @@ fn runs_of_scope(
     names: &Names<'_>,
     scope: u32,
 ) -> Result<Sequence<CellRun>, NoMemory>
-    ensures { IfOk result (λ runs. runs ≡ runs_from names.now 0 (declarations_in_scope names.now scope)) }
+    ensures { IfOk result
+        (λ runs. runs ≡ runs_from names.now 0 (declarations_in_scope names.now scope)) }
 {
     let mut runs = Sequence::new(alloc);
     runs_from(names, &mut runs, scope)?;

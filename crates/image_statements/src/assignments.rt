@@ -38,7 +38,8 @@ fn array_assigned(
     signs: u32,
     next: Option<StatementNo>,
 ) -> Result<Option<StatementNo>, NoMemory>
-    ensures { Made (array_assigned within.now assignment.now signs next) lists.old lists.new result }
+    ensures { Made (array_assigned within.now assignment.now signs next) lists.old lists.new
+        result }
 {
     let form = StatementForm::AssignArray {
         target: object_named(within, &assignment.target),
@@ -75,7 +76,9 @@ fn value_assigned(
     signs: u32,
     next: Option<StatementNo>,
 ) -> Result<Option<StatementNo>, NoMemory>
-    ensures { Made (value_assigned within.now assignment.now (option_map call_shown call.now) signs next) lists.old lists.new result }
+    ensures { Made
+        (value_assigned within.now assignment.now (option_map call_shown call.now) signs next)
+        lists.old lists.new result }
 {
     let target = target_made(lists, within, &assignment.target, assignment.index.as_ref())?;
     match call {
@@ -101,7 +104,8 @@ fn assigned_whole(
     signs: u32,
     next: Option<StatementNo>,
 ) -> Result<Option<StatementNo>, NoMemory>
-    ensures { Made (assigned_whole within.now assignment.now subtype signs next) lists.old lists.new result }
+    ensures { Made (assigned_whole within.now assignment.now subtype signs next) lists.old lists.new
+        result }
 {
     if subtype_is_kept(subtype) {
         controlled_assigned(lists, within, assignment, next)
@@ -123,7 +127,8 @@ fn assigned(
     signs: u32,
     next: Option<StatementNo>,
 ) -> Result<Option<StatementNo>, NoMemory>
-    ensures { Made (assigned within.now assignment.now assignment.now.index signs next) lists.old lists.new result }
+    ensures { Made (assigned within.now assignment.now assignment.now.index signs next) lists.old
+        lists.new result }
 {
     match &assignment.index {
         None => {

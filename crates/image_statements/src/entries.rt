@@ -46,7 +46,10 @@ fn tasks_named(
     within: &Within<'_, '_>,
     names: &OneOrMore<Name>,
 ) -> Result<Sequence<DeclNo>, NoMemory>
-    ensures { IfOk result (λ tasks. tasks ≡ thing_named within.now names.now.first ∷ map (thing_named within.now) names.now.others) }
+    ensures { IfOk result
+        (λ tasks.
+        tasks
+        ≡ thing_named within.now names.now.first ∷ map (thing_named within.now) names.now.others) }
 {
     let mut tasks = Sequence::new(alloc);
     tasks.push(thing_named(within, &names.first))?;

@@ -98,7 +98,11 @@ fn exceptions_named(
     within: &Within<'_, '_>,
     names: &OneOrMore<Name>,
 ) -> Result<Sequence<ExceptionChoice>, NoMemory>
-    ensures { IfOk result (λ choices. choices ≡ exception_choice.Named (exception_named within.now names.now.first) ∷ map (λ name. exception_choice.Named (exception_named within.now name)) names.now.others) }
+    ensures { IfOk result
+        (λ choices.
+        choices
+        ≡ exception_choice.Named (exception_named within.now names.now.first)
+        ∷ map (λ name. exception_choice.Named (exception_named within.now name)) names.now.others) }
 {
     let mut choices = Sequence::new(alloc);
     choices.push(ExceptionChoice::Named(exception_named(within, &names.first)))?;

@@ -51,7 +51,9 @@ fn value_returned(
     call: &Option<FunctionCall<'_>>,
     next: Option<StatementNo>,
 ) -> Result<Option<StatementNo>, NoMemory>
-    ensures { Made (value_returned within.now function expression.now (option_map call_shown call.now) next) lists.old lists.new result }
+    ensures { Made
+        (value_returned within.now function expression.now (option_map call_shown call.now) next)
+        lists.old lists.new result }
 {
     let signs = signs_in(within, expression)?;
     match call {
@@ -141,7 +143,8 @@ pub fn condition_made(
     within: &Within<'_, '_>,
     condition: Option<&Expression>,
 ) -> Result<Option<ExprNo>, NoMemory>
-    ensures { Made (condition_made within.now (option_copied condition.entry)) lists.old lists.new result }
+    ensures { Made (condition_made within.now (option_copied condition.entry)) lists.old lists.new
+        result }
 {
     match condition {
         None => Ok(None),

@@ -7,4 +7,4 @@ mod operators;
 mod typing;
 
 pub use operators::type_of_operation;
-pub use typing::{is_span, type_of_expression};
+pub use typing::is_span;

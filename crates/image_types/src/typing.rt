@@ -3,7 +3,7 @@ ghost use Rattle.std.specs.Prelude.{◌≡◌, Some, cond, slice_get};
 ghost use Rattle.ada_lex.specs.Meaning.{decimals_of};
 ghost use Rattle.ada_regions.specs.Words.{all_of, nothing_there};
 ghost use Rattle.ada_regions.specs.declared.types.AdaType.TheVariants as types;
-ghost use Rattle.ada_image.specs.TypesOfExpressions.{type_of_subtype, indexed, type_of_result, type_of_kind, type_denoted, type_of_addends, type_of_factors, type_of_named, type_of_expression, is_span};
+ghost use Rattle.ada_image.specs.TypesOfExpressions.{type_of_subtype, indexed, type_of_result, type_of_kind, type_denoted, type_of_addends, type_of_factors, type_of_named, is_span};
 
 use crate::operators::{
     is_span_type, type_behind_operator, type_of_attribute, type_of_item, type_of_product,
@@ -188,7 +188,9 @@ fn type_of_named<E: Typed>(
 
 /// The type of a numeric literal (2.4): one with a point is a Duration.
 fn type_of_number(literal: &[u8]) -> AdaType
-    ensures { Some result ≡ cond (nothing_there (decimals_of literal.now)) (Some types.Integer) (Some types.Duration) }
+    ensures { Some result
+        ≡ cond (nothing_there (decimals_of literal.now)) (Some types.Integer)
+        (Some types.Duration) }
 {
     if decimals(literal).is_empty() {
         AdaType::Integer
@@ -242,13 +244,6 @@ impl Typed for Expression {
     fn type_of(&self, names: &Names<'_>) -> Option<AdaType> {
         self.form.get().type_of(names)
     }
-}
-
-/// The type of an expression, if it has one.
-pub fn type_of_expression(names: &Names<'_>, expression: &Expression) -> Option<AdaType>
-    ensures { result ≡ type_of_expression expression.now names.now }
-{
-    expression.type_of(names)
 }
 
 /// Whether an expression is of type Time_Span (D.8).

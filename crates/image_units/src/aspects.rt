@@ -61,7 +61,8 @@ pub(crate) fn priority_given(
 
 /// The priority that aspects give, or this one (D.1). One that is no level is answered as want of memory.
 pub fn priority_or(names: &Names<'_>, aspects: &[Aspect], default: Level) -> Result<Level, NoMemory>
-    ensures { IfOk result (λ priority. priority ≡ unwrap_or (priority_of names.now aspects.now) default) }
+    ensures { IfOk result
+        (λ priority. priority ≡ unwrap_or (priority_of names.now aspects.now) default) }
 {
     match priority_of(names, aspects) {
         None => Ok(default),

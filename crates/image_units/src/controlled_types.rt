@@ -39,7 +39,8 @@ pub fn controlled_types_made(
     alloc: Global,
     names: &Names<'_>,
 ) -> Result<Sequence<ControlledType>, NoMemory>
-    ensures { IfOk result (λ made. made ≡ controlled_types_made names.now 0 names.now.controlled_types) }
+    ensures { IfOk result
+        (λ made. made ≡ controlled_types_made names.now 0 names.now.controlled_types) }
 {
     let mut made = Sequence::new(alloc);
     let mut number = 0u32;

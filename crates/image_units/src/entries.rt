@@ -24,7 +24,8 @@ fn entry_with(
     entry: &NumberedEntry<'_>,
     body: Option<EntryBody>,
 ) -> Result<Entry, NoMemory>
-    ensures { IfOk result (λ made. made ≡ entry_with names.now (take before names.now.entries) entry.now body) }
+    ensures { IfOk result
+        (λ made. made ≡ entry_with names.now (take before names.now.entries) entry.now body) }
 {
     Ok(Entry {
         name: copy(alloc, entry.name.as_slice())?,
@@ -65,7 +66,8 @@ fn entry_made(
     before: usize,
     entry: &NumberedEntry<'_>,
 ) -> Result<Entry, NoMemory>
-    ensures { Made (entry_made within.now (take before within.now.names.entries) entry.now) lists.old lists.new result }
+    ensures { Made (entry_made within.now (take before within.now.names.entries) entry.now)
+        lists.old lists.new result }
 {
     let body = entry_body_made(lists, within, &entry.body)?;
     entry_with(alloc, within.names.get(), before, entry, body)
@@ -78,7 +80,8 @@ pub fn entries_made(
     lists: &mut Lists,
     within: &Within<'_, '_>,
 ) -> Result<Sequence<Entry>, NoMemory>
-    ensures { Made (entries_made within.now [] within.now.names.entries) lists.old lists.new result }
+    ensures { Made (entries_made within.now [] within.now.names.entries) lists.old lists.new
+        result }
 {
     let names = within.names.get();
     let mut made = Sequence::new(alloc);

@@ -45,7 +45,8 @@ pub(crate) fn overriding(
     controlled: NumberedControlled,
     name: &[u8],
 ) -> Result<Option<SubprogramNo>, NoMemory>
-    ensures { IfOk result (λ operation. operation ≡ overriding names.now number controlled name.now) }
+    ensures { IfOk result
+        (λ operation. operation ≡ overriding names.now number controlled name.now) }
 {
     let mut found = None;
     let mut place = 0u32;

@@ -53,7 +53,8 @@ pub fn protected_units_made(
     alloc: Global,
     names: &Names<'_>,
 ) -> Result<Sequence<ProtectedUnit>, NoMemory>
-    ensures { IfOk result (λ made. made ≡ protected_units_made names.now 0 names.now.protected_units) }
+    ensures { IfOk result
+        (λ made. made ≡ protected_units_made names.now 0 names.now.protected_units) }
 {
     let mut made = Sequence::new(alloc);
     let mut number = 0u32;

@@ -23,7 +23,8 @@ fn deadline_made(
     within: &Within<'_, '_>,
     deadline: Option<&Expression>,
 ) -> Result<Option<ExprNo>, NoMemory>
-    ensures { Made (deadline_made within.now (option_copied deadline.entry)) lists.old lists.new result }
+    ensures { Made (deadline_made within.now (option_copied deadline.entry)) lists.old lists.new
+        result }
 {
     match deadline {
         None => Ok(None),
@@ -73,7 +74,8 @@ pub fn task_units_made(
     lists: &mut Lists,
     within: &Within<'_, '_>,
 ) -> Result<Sequence<TaskUnit>, NoMemory>
-    ensures { Made (task_units_made within.now 0 within.now.names.task_units) lists.old lists.new result }
+    ensures { Made (task_units_made within.now 0 within.now.names.task_units) lists.old lists.new
+        result }
 {
     let names = within.names.get();
     let mut units = Sequence::new(alloc);

@@ -29,7 +29,10 @@ fn found_in_units<'n, 't>(
     in_force: InForce,
     indexes: &'n List<AdaType>,
 ) -> Result<(), NoMemory>
-    ensures { OnOk result (found.new ≡ found.old ++ units_found tree.now (known_with names.now occurrences.now in_force indexes.now)) }
+    ensures { OnOk result
+        (found.new
+        ≡ found.old
+        ++ units_found tree.now (known_with names.now occurrences.now in_force indexes.now)) }
 {
     let known = known_with(alloc, names, occurrences, in_force, indexes);
     units_found(alloc, found, &known, tree)
@@ -60,7 +63,8 @@ fn found_behind(
     occurrences: &Occurrences<'_>,
     found: &List<Finding>,
 ) -> Result<(), NoMemory>
-    ensures { OnOk result (all.new ≡ all.old ++ found_behind tree.now names.now occurrences.now found.now) }
+    ensures { OnOk result
+        (all.new ≡ all.old ++ found_behind tree.now names.now occurrences.now found.now) }
 {
     let pragmas = tree.pragmas.as_slice();
     let ranges = deadline_ranges_of(alloc, pragmas)?;
@@ -114,7 +118,8 @@ pub fn first_fault<'t>(
     names: &Names<'t>,
 ) -> Result<Option<Fault>, NoMemory>
     // It is the first of those that the definitions find; none where the source breaks no rule.
-    ensures fault { IfOk result (λ fault. fault ≡ first_fault_in (faults_where unit.now names.now)) }
+    ensures fault { IfOk result
+        (λ fault. fault ≡ first_fault_in (faults_where unit.now names.now)) }
 {
     let occurrences = occurrences_of(alloc, unit)?;
     let found = found_of(alloc, unit, names, &occurrences)?;

@@ -97,7 +97,8 @@ fn all_handlers(
     found: &[Finding],
     object: &ProtectedObject,
 ) -> Result<(), NoMemory>
-    ensures { OnOk result (judged.new ≡ judged.old ++ flat_map (handler_of_object object.now) found.now) }
+    ensures { OnOk result
+        (judged.new ≡ judged.old ++ flat_map (handler_of_object object.now) found.now) }
 {
     for finding in found {
         handler_of_object(judged, object, finding)?;
@@ -167,7 +168,8 @@ fn taken_number(
     object: &ProtectedObject,
     finding: &Finding,
 ) -> Result<(), NoMemory>
-    ensures { OnOk result (judged.new ≡ judged.old ++ taken_number found.now before.now object.now finding.now) }
+    ensures { OnOk result
+        (judged.new ≡ judged.old ++ taken_number found.now before.now object.now finding.now) }
 {
     match finding {
         Finding::Attached(attached) => {
@@ -191,7 +193,8 @@ pub(crate) fn numbers_of_object(
     before: &[Finding],
     object: &ProtectedObject,
 ) -> Result<(), NoMemory>
-    ensures { OnOk result (judged.new ≡ judged.old ++ numbers_of_object found.now before.now object.now) }
+    ensures { OnOk result
+        (judged.new ≡ judged.old ++ numbers_of_object found.now before.now object.now) }
 {
     for finding in found {
         taken_number(judged, found, before, object, finding)?;

@@ -58,7 +58,8 @@ fn told_if(
     passes: bool,
     number: u32,
 ) -> Result<(), NoMemory>
-    ensures { OnOk result (judged.new ≡ judged.old ++ cond passes (flat_map (cells_of number) found.now) []) }
+    ensures { OnOk result
+        (judged.new ≡ judged.old ++ cond passes (flat_map (cells_of number) found.now) []) }
 {
     if passes {
         all_cells_of(judged, found, number)
@@ -76,7 +77,8 @@ fn cells_behind(
     before: u64,
     declaration: &NumberedDeclaration<'_>,
 ) -> Result<u64, NoMemory>
-    ensures told { OnOk result (judged.new ≡ judged.old ++ told_of names.now found.now number before declaration.now) }
+    ensures told { OnOk result
+        (judged.new ≡ judged.old ++ told_of names.now found.now number before declaration.now) }
     ensures behind { IfOk result (λ behind. behind ≡ cells_with names.now before declaration.now) }
 {
     if is_in_scope(0, declaration) {
@@ -103,7 +105,8 @@ fn passing_from(
     names: &Names<'_>,
     found: &[Finding],
 ) -> Result<(), NoMemory>
-    ensures { OnOk result (judged.new ≡ judged.old ++ passing_from names.now found.now 0 0 names.now.declarations) }
+    ensures { OnOk result
+        (judged.new ≡ judged.old ++ passing_from names.now found.now 0 0 names.now.declarations) }
 {
     let mut number = 0;
     let mut before = 0;
@@ -121,7 +124,8 @@ pub(crate) fn passing_cells(
     names: &Names<'_>,
     found: &[Finding],
 ) -> Result<(), NoMemory>
-    ensures { OnOk result (judged.new ≡ judged.old ++ passing_cells names.now found.now 0 0 names.now.declarations) }
+    ensures { OnOk result
+        (judged.new ≡ judged.old ++ passing_cells names.now found.now 0 0 names.now.declarations) }
 {
     passing_from(judged, names, found)
 }

@@ -60,7 +60,8 @@ fn in_deadline_range(
     range: &DeadlineRange,
     finding: &Finding,
 ) -> Result<(), NoMemory>
-    ensures { OnOk result (judged.new ≡ judged.old ++ in_deadline_range last found.now range.now finding.now) }
+    ensures { OnOk result
+        (judged.new ≡ judged.old ++ in_deadline_range last found.now range.now finding.now) }
 {
     match finding {
         Finding::MainPriority { number, place } => broken_if(
@@ -91,7 +92,9 @@ fn all_in_range(
     found: &[Finding],
     range: &DeadlineRange,
 ) -> Result<(), NoMemory>
-    ensures { OnOk result (judged.new ≡ judged.old ++ flat_map (in_deadline_range last found.now range.now) found.now) }
+    ensures { OnOk result
+        (judged.new
+        ≡ judged.old ++ flat_map (in_deadline_range last found.now range.now) found.now) }
 {
     for finding in found {
         in_deadline_range(judged, last, found, range, finding)?;
@@ -125,7 +128,8 @@ pub(crate) fn ranges_judged(
     found: &[Finding],
     ranges: &[DeadlineRange],
 ) -> Result<(), NoMemory>
-    ensures { OnOk result (judged.new ≡ judged.old ++ flat_map (range_judged last found.now) ranges.now) }
+    ensures { OnOk result
+        (judged.new ≡ judged.old ++ flat_map (range_judged last found.now) ranges.now) }
 {
     for range in ranges {
         range_judged(judged, last, found, range)?;

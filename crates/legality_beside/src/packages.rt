@@ -30,7 +30,8 @@ fn body_put(
     names: &Names<'_>,
     declaration: &Declaration<Sequence>,
 ) -> Result<(), NoMemory>
-    ensures { OnOk result (bodies.new ≡ bodies.old ++ map (denoted_in names.now) (body_named declaration.now)) }
+    ensures { OnOk result
+        (bodies.new ≡ bodies.old ++ map (denoted_in names.now) (body_named declaration.now)) }
 {
     match declaration {
         Declaration::SubprogramBody { specification, .. } => {
@@ -48,7 +49,9 @@ fn bodies_put(
     names: &Names<'_>,
     declarations: &[Declaration<Sequence>],
 ) -> Result<(), NoMemory>
-    ensures { OnOk result (bodies.new ≡ bodies.old ++ map (denoted_in names.now) (flat_map body_named declarations.now)) }
+    ensures { OnOk result
+        (bodies.new
+        ≡ bodies.old ++ map (denoted_in names.now) (flat_map body_named declarations.now)) }
 {
     for declaration in declarations {
         body_put(bodies, names, declaration)?;
@@ -63,7 +66,8 @@ fn bodies_in_package(
     names: &Names<'_>,
     declared: &PackageDeclaration,
 ) -> Result<List<Option<u32>>, NoMemory>
-    ensures { IfOk result (λ bodies. bodies ≡ map (denoted_in names.now) (bodies_in_package declared.now)) }
+    ensures { IfOk result
+        (λ bodies. bodies ≡ map (denoted_in names.now) (bodies_in_package declared.now)) }
 {
     let mut bodies = List::new(alloc);
     bodies_put(&mut bodies, names, declared.declarations.as_slice())?;
@@ -172,7 +176,8 @@ fn package_body_put(
     names: &Names<'_>,
     unit: &Package,
 ) -> Result<(), NoMemory>
-    ensures { OnOk result (bodies.new ≡ bodies.old ++ map (denoted_in names.now) (body_named_in unit.now)) }
+    ensures { OnOk result
+        (bodies.new ≡ bodies.old ++ map (denoted_in names.now) (body_named_in unit.now)) }
 {
     match unit {
         Package::Declaration(_) => Ok(()),
@@ -190,7 +195,8 @@ fn bodies_of_packages(
     names: &Names<'_>,
     packages: &[LibraryPackage],
 ) -> Result<List<Option<u32>>, NoMemory>
-    ensures { IfOk result (λ bodies. bodies ≡ map (denoted_in names.now) (bodies_of_packages packages.now)) }
+    ensures { IfOk result
+        (λ bodies. bodies ≡ map (denoted_in names.now) (bodies_of_packages packages.now)) }
 {
     let mut bodies = List::new(alloc);
     for library in packages {
@@ -231,7 +237,8 @@ fn first_among(names: &Names<'_>, entity: u32, place: Place, packages: &[Library
 /// Whether the name at a place is that of an entity's first body.
 #[tactic(auto, using(crate::proofs::BodiesNamed::first_is))]
 fn is_first_of(names: &Names<'_>, entity: u32, place: Place, packages: &[LibraryPackage]) -> bool
-    ensures { result ≡ is_first_of place (denote_entity names.now entity (bodies_of_packages packages.now)) }
+    ensures { result
+        ≡ is_first_of place (denote_entity names.now entity (bodies_of_packages packages.now)) }
 {
     first_among(names, entity, place, packages)
 }
@@ -244,7 +251,8 @@ fn completes_package(
     name: &Identifier,
     entity: u32,
 ) -> bool
-    ensures { result ≡ completes_package names.now (bodies_of_packages packages.now) name.now entity }
+    ensures { result
+        ≡ completes_package names.now (bodies_of_packages packages.now) name.now entity }
 {
     is_package_at(names, entity) && is_first_of(names, entity, name.place, packages)
 }
@@ -266,7 +274,9 @@ fn body_judged(
     packages: &[LibraryPackage],
     body: &PackageBody,
 ) -> Result<(), NoMemory>
-    ensures { OnOk result (judged.new ≡ judged.old ++ body_judged names.now (bodies_of_packages packages.now) body.now) }
+    ensures { OnOk result
+        (judged.new
+        ≡ judged.old ++ body_judged names.now (bodies_of_packages packages.now) body.now) }
 {
     broken_unless(
         judged,
@@ -284,7 +294,8 @@ fn has_package_body(
     packages: &[LibraryPackage],
     name: &Identifier,
 ) -> Result<bool, NoMemory>
-    ensures { IfOk result (λ has. has ≡ has_package_body names.now (bodies_of_packages packages.now) name.now) }
+    ensures { IfOk result
+        (λ has. has ≡ has_package_body names.now (bodies_of_packages packages.now) name.now) }
 {
     let bodies = bodies_of_packages(alloc, names, packages)?;
     Ok(has_body_among(names, &bodies, name, false))
@@ -299,7 +310,10 @@ fn declaration_judged(
     packages: &[LibraryPackage],
     declared: &PackageDeclaration,
 ) -> Result<(), NoMemory>
-    ensures { OnOk result (judged.new ≡ judged.old ++ declaration_judged names.now (bodies_of_packages packages.now) declared.now) }
+    ensures { OnOk result
+        (judged.new
+        ≡ judged.old
+        ++ declaration_judged names.now (bodies_of_packages packages.now) declared.now) }
 {
     let needs = package_needs_body(alloc, names, declared)?;
     let has = has_package_body(alloc, names, packages, &declared.name)?;
@@ -314,7 +328,9 @@ fn package_judged(
     packages: &[LibraryPackage],
     unit: &Package,
 ) -> Result<(), NoMemory>
-    ensures { OnOk result (judged.new ≡ judged.old ++ package_judged names.now (bodies_of_packages packages.now) unit.now) }
+    ensures { OnOk result
+        (judged.new
+        ≡ judged.old ++ package_judged names.now (bodies_of_packages packages.now) unit.now) }
 {
     match unit {
         Package::Declaration(declaration) => {

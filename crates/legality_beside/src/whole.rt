@@ -23,7 +23,11 @@ fn object_judged(
     object: &ProtectedObject,
 ) -> Result<(), NoMemory>
     requires { at ≤ length found.now }
-    ensures { OnOk result (judged.new ≡ judged.old ++ (handlers_of found.now object.now ++ numbers_of found.now (take at found.now) object.now)) }
+    ensures { OnOk result
+        (judged.new
+        ≡ judged.old
+        ++ (handlers_of found.now object.now
+        ++ numbers_of found.now (take at found.now) object.now)) }
 {
     handlers_of_object(judged, found, object)?;
     numbers_of_object(judged, found, before_place(found, at), object)
@@ -39,7 +43,9 @@ fn judged_beside(
     finding: &Finding,
 ) -> Result<(), NoMemory>
     requires { at ≤ length found.now }
-    ensures { OnOk result (judged.new ≡ judged.old ++ judged_beside names.now found.now (take at found.now) finding.now) }
+    ensures { OnOk result
+        (judged.new
+        ≡ judged.old ++ judged_beside names.now found.now (take at found.now) finding.now) }
 {
     match finding {
         Finding::Declared {
@@ -87,7 +93,8 @@ fn judged_along(
     names: &Names<'_>,
     found: &[Finding],
 ) -> Result<(), NoMemory>
-    ensures { OnOk result (judged.new ≡ judged.old ++ judged_along names.now found.now 0 found.now) }
+    ensures { OnOk result
+        (judged.new ≡ judged.old ++ judged_along names.now found.now 0 found.now) }
 {
     let mut at = 0;
     for finding in found {

@@ -33,7 +33,9 @@ fn subprogram_body_found<Q: Judge<WithDeclarations>>(
     specification: &SubprogramSpecification,
     body: &Body<Q>,
 ) -> Result<(), NoMemory>
-    ensures { OnOk result (found.new ≡ found.old ++ subprogram_body_found Q.judged specification.now body.now known.now) }
+    ensures { OnOk result
+        (found.new
+        ≡ found.old ++ subprogram_body_found Q.judged specification.now body.now known.now) }
 {
     let unit = unit_of_operation(known, &specification.name);
     subprogram_body_judged(alloc, found, known, specification, unit)?;
@@ -52,7 +54,8 @@ fn entry_body_found<Q: Judge<WithDeclarations>>(
     head: &EntryHead,
     body: &Body<Q>,
 ) -> Result<(), NoMemory>
-    ensures { OnOk result (found.new ≡ found.old ++ entry_body_found Q.judged head.now body.now known.now) }
+    ensures { OnOk result
+        (found.new ≡ found.old ++ entry_body_found Q.judged head.now body.now known.now) }
 {
     let entity = entity_denoted(known.names.get(), head.name.place);
     let inside = with_around(known, Around::Entry(entity))?;
@@ -117,7 +120,8 @@ fn task_body_found<Q: Judge<WithDeclarations>>(
     name: &Identifier,
     body: &Body<Q>,
 ) -> Result<(), NoMemory>
-    ensures { OnOk result (found.new ≡ found.old ++ task_body_found Q.judged name.now body.now known.now) }
+    ensures { OnOk result
+        (found.new ≡ found.old ++ task_body_found Q.judged name.now body.now known.now) }
 {
     unit_body_judged(found, known, UnitKind::Task, BodyKind::Task, name)?;
     let inside = with_around(known, Around::Task(unit_here(known, name)))?;

@@ -45,7 +45,8 @@ fn given_in_place(formals: &[FormalPart], actual: &ActualPart, place: usize, nam
 
 /// An actual in this place gives the formal of this name.
 fn gives(formals: &[FormalPart], actual: &ActualPart, place: usize, name: &[u8]) -> bool
-    ensures { result ≡ (gives_name name.now actual.now || given_in_place formals.now actual.now place name.now) }
+    ensures { result
+        ≡ (gives_name name.now actual.now || given_in_place formals.now actual.now place name.now) }
 {
     gives_name(name, actual) || given_in_place(formals, actual, place, name)
 }
@@ -107,7 +108,8 @@ fn stray_along(
     formals: &[FormalPart],
     actuals: &[ActualPart],
 ) -> Result<(), NoMemory>
-    ensures { OnOk result (found.new ≡ found.old ++ stray_along formals.now actuals.now 0 actuals.now) }
+    ensures { OnOk result
+        (found.new ≡ found.old ++ stray_along formals.now actuals.now 0 actuals.now) }
 {
     let mut at = 0;
     for actual in actuals {
@@ -125,7 +127,8 @@ fn stray_actuals(
     formals: &[FormalPart],
     actuals: &[ActualPart],
 ) -> Result<(), NoMemory>
-    ensures { OnOk result (found.new ≡ found.old ++ stray_actuals formals.now actuals.now 0 actuals.now) }
+    ensures { OnOk result
+        (found.new ≡ found.old ++ stray_actuals formals.now actuals.now 0 actuals.now) }
 {
     stray_along(found, formals, actuals)
 }

@@ -56,7 +56,8 @@ fn fitted_along(
     formals: &[FormalPart],
     actuals: &[ActualPart],
 ) -> Result<(), NoMemory>
-    ensures { OnOk result (found.new ≡ found.old ++ fitted_along known.now 0 formals.now actuals.now) }
+    ensures { OnOk result
+        (found.new ≡ found.old ++ fitted_along known.now 0 formals.now actuals.now) }
 {
     let mut number = 0;
     for formal in formals {
@@ -75,7 +76,8 @@ fn actuals_fitted(
     formals: &[FormalPart],
     actuals: &[ActualPart],
 ) -> Result<(), NoMemory>
-    ensures { OnOk result (found.new ≡ found.old ++ actuals_fitted known.now 0 formals.now actuals.now) }
+    ensures { OnOk result
+        (found.new ≡ found.old ++ actuals_fitted known.now 0 formals.now actuals.now) }
 {
     fitted_along(found, known, formals, actuals)
 }
@@ -137,7 +139,8 @@ pub fn actuals_numbered(
     formals: &[FormalPart],
     actuals: &[ActualPart],
 ) -> Result<(), NoMemory>
-    ensures { OnOk result (found.new ≡ found.old ++ actuals_numbered known.now call formals.now actuals.now) }
+    ensures { OnOk result
+        (found.new ≡ found.old ++ actuals_numbered known.now call formals.now actuals.now) }
 {
     wrong_actuals(found, call, formals, actuals)?;
     let broken = known.in_force.no_relative_delay && sets_event_by_span(formals);
@@ -153,7 +156,8 @@ pub fn actuals_judged(
     formals: &[FormalPart],
     actuals: &[ActualPart],
 ) -> Result<(), NoMemory>
-    ensures { OnOk result (found.new ≡ found.old ++ actuals_judged known.now call formals.now actuals.now) }
+    ensures { OnOk result
+        (found.new ≡ found.old ++ actuals_judged known.now call formals.now actuals.now) }
 {
     actuals_numbered(found, known, call, formals, actuals)?;
     actuals_fitted(found, known, formals, actuals)

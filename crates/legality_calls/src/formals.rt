@@ -123,7 +123,12 @@ fn with_formal(
     part: Part,
     may_be_omitted: bool,
 ) -> Result<(), NoMemory>
-    ensures { OnOk result (parts.new ≡ parts.old ++ record { name = name.now; mode = part.mode; wanted = part.wanted; may_be_omitted = may_be_omitted } ∷ []) }
+    ensures { OnOk result
+        (parts.new
+        ≡ parts.old
+        ++ record
+        { name = name.now; mode = part.mode; wanted = part.wanted; may_be_omitted = may_be_omitted }
+        ∷ []) }
 {
     parts.push(FormalPart {
         name: copy(alloc, name)?,
@@ -148,7 +153,12 @@ fn one(
     part: Part,
     may_be_omitted: bool,
 ) -> Result<Sequence<FormalPart>, NoMemory>
-    ensures { IfOk result (λ parts. parts ≡ record { name = name.now; mode = part.mode; wanted = part.wanted; may_be_omitted = may_be_omitted } ∷ []) }
+    ensures { IfOk result
+        (λ parts.
+        parts
+        ≡ record
+        { name = name.now; mode = part.mode; wanted = part.wanted; may_be_omitted = may_be_omitted }
+        ∷ []) }
 {
     let mut parts = Sequence::new(alloc);
     with_formal(alloc, &mut parts, name, part, may_be_omitted)?;
@@ -164,7 +174,21 @@ fn two(
     second_part: Part,
     may_be_omitted: bool,
 ) -> Result<Sequence<FormalPart>, NoMemory>
-    ensures { IfOk result (λ parts. parts ≡ record { name = first.now; mode = first_part.mode; wanted = first_part.wanted; may_be_omitted = false } ∷ record { name = second.now; mode = second_part.mode; wanted = second_part.wanted; may_be_omitted = may_be_omitted } ∷ []) }
+    ensures { IfOk result
+        (λ parts.
+        parts
+        ≡ record {
+          name = first.now;
+          mode = first_part.mode;
+          wanted = first_part.wanted;
+          may_be_omitted = false;
+        }
+        ∷ record {
+          name = second.now;
+          mode = second_part.mode;
+          wanted = second_part.wanted;
+          may_be_omitted = may_be_omitted;
+        } ∷ []) }
 {
     let mut parts = Sequence::new(alloc);
     with_formal(alloc, &mut parts, first, first_part, false)?;
@@ -187,7 +211,28 @@ fn set_handler(
     is_span: bool,
     moment: AdaType,
 ) -> Result<Sequence<FormalPart>, NoMemory>
-    ensures { IfOk result (λ parts. parts ≡ record { name = name.now; mode = mode.InOut; wanted = wanting.OfType (Some of_type); may_be_omitted = false } ∷ record { name = moment_name is_span; mode = mode.In; wanted = wanting.OfType (Some (cond is_span types.TimeSpan moment)); may_be_omitted = false } ∷ record { name = codes "handler"; mode = mode.In; wanted = wanting.HandlerOf of_type; may_be_omitted = false } ∷ []) }
+    ensures { IfOk result
+        (λ parts.
+        parts
+        ≡ record {
+          name = name.now;
+          mode = mode.InOut;
+          wanted = wanting.OfType (Some of_type);
+          may_be_omitted = false;
+        }
+        ∷ record {
+          name = moment_name is_span;
+          mode = mode.In;
+          wanted = wanting.OfType
+              (Some (cond is_span types.TimeSpan moment));
+          may_be_omitted = false;
+        }
+        ∷ record {
+          name = codes "handler";
+          mode = mode.In;
+          wanted = wanting.HandlerOf of_type;
+          may_be_omitted = false;
+        } ∷ []) }
 {
     let mut parts = Sequence::new(alloc);
     with_formal(alloc, &mut parts, name, changed(of_type), false)?;

@@ -155,7 +155,8 @@ fn is_handler_or_null(typed: Typed) -> bool
 
 /// A formal is of this type.
 fn formal_is(t: AdaType, formal: &Formal) -> bool
-    ensures { result ≡ unwrap_or (option_map (λ s. same_type s.of_type t) formal.now.subtype) false }
+    ensures { result
+        ≡ unwrap_or (option_map (λ s. same_type s.of_type t) formal.now.subtype) false }
 {
     match formal.subtype {
         None => false,

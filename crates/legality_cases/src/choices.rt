@@ -183,7 +183,9 @@ fn range_judged(
     high: &Expression,
     high_read: &Read,
 ) -> Result<(), NoMemory>
-    ensures { OnOk result (found.new ≡ found.old ++ range_judged known.now t low.now low_read.now high.now high_read.now) }
+    ensures { OnOk result
+        (found.new
+        ≡ found.old ++ range_judged known.now t low.now low_read.now high.now high_read.now) }
 {
     expected(found, Asked::ForValue, t, low_read)?;
     expected(found, Asked::ForValue, t, high_read)?;
@@ -266,7 +268,8 @@ pub fn case_judged(
     read: &Read,
     choices: &[ChoicePart],
 ) -> Result<(), NoMemory>
-    ensures { OnOk result (found.new ≡ found.old ++ case_judged known.now place read.now choices.now) }
+    ensures { OnOk result
+        (found.new ≡ found.old ++ case_judged known.now place read.now choices.now) }
 {
     call_inside(found, read)?;
     selector_judged(found, read, read.typed)?;

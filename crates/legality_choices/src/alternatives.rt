@@ -161,7 +161,8 @@ fn beyond_allowed(
     most: i128,
     parts: &[AlternativePart],
 ) -> Result<(), NoMemory>
-    ensures { OnOk result (found.new ≡ found.old ++ beyond_restriction (λ p. p.place) (Some most) parts.now) }
+    ensures { OnOk result
+        (found.new ≡ found.old ++ beyond_restriction (λ p. p.place) (Some most) parts.now) }
 {
     match usize::try_from(most) {
         Ok(most) => beyond(found, Rule::Restriction, most, parts),
@@ -175,7 +176,8 @@ fn beyond_restriction(
     most: Option<i128>,
     parts: &[AlternativePart],
 ) -> Result<(), NoMemory>
-    ensures { OnOk result (found.new ≡ found.old ++ beyond_restriction (λ p. p.place) most parts.now) }
+    ensures { OnOk result
+        (found.new ≡ found.old ++ beyond_restriction (λ p. p.place) most parts.now) }
 {
     match most {
         None => Ok(()),
@@ -192,7 +194,8 @@ pub fn selective_accept_judged(
     parts: &[AlternativePart],
     otherwise: bool,
 ) -> Result<(), NoMemory>
-    ensures { OnOk result (found.new ≡ found.old ++ selective_accept_judged known.now place parts.now otherwise) }
+    ensures { OnOk result
+        (found.new ≡ found.old ++ selective_accept_judged known.now place parts.now otherwise) }
 {
     let kept = is_selective_accept(parts, otherwise);
     broken_unless(found, Rule::SelectiveAccept, kept, place)?;

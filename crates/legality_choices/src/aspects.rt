@@ -106,7 +106,9 @@ fn priority_if(
     is_second: bool,
     aspect: &AspectPart,
 ) -> Result<(), NoMemory>
-    ensures { OnOk result (found.new ≡ found.old ++ cond (asks_priority owner) (wrong_priority last is_second aspect.now) []) }
+    ensures { OnOk result
+        (found.new
+        ≡ found.old ++ cond (asks_priority owner) (wrong_priority last is_second aspect.now) []) }
 {
     if asks_priority(owner) {
         wrong_priority(found, last, is_second, aspect)
@@ -122,7 +124,8 @@ fn cpu_if(
     is_second: bool,
     aspect: &AspectPart,
 ) -> Result<(), NoMemory>
-    ensures { OnOk result (found.new ≡ found.old ++ cond (asks_cpu owner) (wrong_cpu is_second aspect.now) []) }
+    ensures { OnOk result
+        (found.new ≡ found.old ++ cond (asks_cpu owner) (wrong_cpu is_second aspect.now) []) }
 {
     if asks_cpu(owner) {
         wrong_cpu(found, is_second, aspect)
@@ -140,7 +143,8 @@ fn priority_judged(
     before: &[AspectPart],
     aspect: &AspectPart,
 ) -> Result<(), NoMemory>
-    ensures { OnOk result (found.new ≡ found.old ++ priority_judged last owner before.now aspect.now) }
+    ensures { OnOk result
+        (found.new ≡ found.old ++ priority_judged last owner before.now aspect.now) }
 {
     priority_if(found, last, owner, stands_before_priority(before), aspect)?;
     cpu_if(found, owner, stands_before_cpu(before), aspect)
@@ -153,7 +157,9 @@ fn attached_to(
     aspect: &AspectPart,
     unit: Option<u32>,
 ) -> Result<(), NoMemory>
-    ensures { OnOk result (found.new ≡ found.old ++ unwrap_or (option_map (λ u. attached_as place aspect.now u ∷ []) unit) []) }
+    ensures { OnOk result
+        (found.new
+        ≡ found.old ++ unwrap_or (option_map (λ u. attached_as place aspect.now u ∷ []) unit) []) }
 {
     match unit {
         None => Ok(()),
@@ -212,7 +218,8 @@ fn aspect_judged(
     before: &[AspectPart],
     aspect: &AspectPart,
 ) -> Result<(), NoMemory>
-    ensures { OnOk result (found.new ≡ found.old ++ aspect_judged last owner place before.now aspect.now) }
+    ensures { OnOk result
+        (found.new ≡ found.old ++ aspect_judged last owner place before.now aspect.now) }
 {
     let kept = may_have_aspect(owner, aspect.name);
     broken_unless(found, Rule::KindOfName, kept, aspect.place)?;
@@ -238,7 +245,8 @@ fn aspects_along(
     begins: Place,
     aspects: &[AspectPart],
 ) -> Result<(), NoMemory>
-    ensures { OnOk result (found.new ≡ found.old ++ aspects_along last owner begins aspects.now 0 aspects.now) }
+    ensures { OnOk result
+        (found.new ≡ found.old ++ aspects_along last owner begins aspects.now 0 aspects.now) }
 {
     let mut at = 0;
     for aspect in aspects {
@@ -258,7 +266,8 @@ pub fn aspects_from(
     begins: Place,
     aspects: &[AspectPart],
 ) -> Result<(), NoMemory>
-    ensures { OnOk result (found.new ≡ found.old ++ aspects_from last owner begins aspects.now 0 aspects.now) }
+    ensures { OnOk result
+        (found.new ≡ found.old ++ aspects_from last owner begins aspects.now 0 aspects.now) }
 {
     aspects_along(found, last, owner, begins, aspects)
 }

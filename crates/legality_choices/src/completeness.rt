@@ -124,7 +124,8 @@ pub fn wrong_choices(
     choices: &[ChoicePart],
     t: Option<AdaType>,
 ) -> Result<(), NoMemory>
-    ensures { OnOk result (found.new ≡ found.old ++ wrong_choices names.now place read.now choices.now t) }
+    ensures { OnOk result
+        (found.new ≡ found.old ++ wrong_choices names.now place read.now choices.now t) }
 {
     match t {
         None => Ok(()),

@@ -53,7 +53,9 @@ pub fn stands_before_attach(before: &[AspectPart]) -> bool
 
 /// An aspect gives a priority of its subtype.
 fn gives_priority(last: u8, aspect: &AspectPart) -> bool
-    ensures { result ≡ (is_priority_name aspect.now.name && is_priority_value last aspect.now.name aspect.now.number) }
+    ensures { result
+        ≡ (is_priority_name aspect.now.name
+        && is_priority_value last aspect.now.name aspect.now.number) }
 {
     is_priority_name(aspect.name) && is_priority_value(last, aspect.name, aspect.number)
 }

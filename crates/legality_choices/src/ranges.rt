@@ -8,7 +8,8 @@ use legality_numbers::{ends_of, span};
 
 /// The last position of an enumeration type.
 fn last_literal(names: &Names<'_>, enumeration: usize) -> i128
-    ensures { result ≡ pos (length (unwrap_or (slice_get names.now.enumerations enumeration) []) - 1) }
+    ensures { result
+        ≡ pos (length (unwrap_or (slice_get names.now.enumerations enumeration) []) - 1) }
 {
     match names.enumerations.get(enumeration) {
         None => 0,

@@ -23,7 +23,8 @@ fn accept_body_found<W, Q: Judge<W>>(
     entry: Option<u32>,
     body: &AcceptBody<Q>,
 ) -> Result<(), NoMemory>
-    ensures { OnOk result (found.new ≡ found.old ++ accept_body_found Q.judged entry body.now known.now) }
+    ensures { OnOk result
+        (found.new ≡ found.old ++ accept_body_found Q.judged entry body.now known.now) }
 {
     let inside = with_around(known, Around::Accept(entry))?;
     body.sequence.judge(alloc, found, &inside)
@@ -37,7 +38,8 @@ fn accept_body_if<W, Q: Judge<W>>(
     entry: Option<u32>,
     body: &Option<AcceptBody<Q>>,
 ) -> Result<(), NoMemory>
-    ensures { OnOk result (found.new ≡ found.old ++ found_if (accept_body_found Q.judged entry) body.now known.now) }
+    ensures { OnOk result
+        (found.new ≡ found.old ++ found_if (accept_body_found Q.judged entry) body.now known.now) }
 {
     match body {
         None => Ok(()),

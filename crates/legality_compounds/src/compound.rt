@@ -77,7 +77,8 @@ fn add_further<'t, Q>(
     choices: &mut Sequence<ChoiceOf<'t>>,
     alternatives: &'t [CaseAlternative<Q>],
 ) -> Result<(), NoMemory>
-    ensures { OnOk result (choices.new ≡ choices.old ++ flat_map (λ a. all_of a.choices) alternatives.now) }
+    ensures { OnOk result
+        (choices.new ≡ choices.old ++ flat_map (λ a. all_of a.choices) alternatives.now) }
 {
     for alternative in alternatives {
         add_choices(choices, &alternative.choices)?;

@@ -63,7 +63,8 @@ pub fn judge_all<W, T: Judge<W>>(
     known: &Known<'_, '_>,
     items: &OneOrMore<T>,
 ) -> Result<(), NoMemory>
-    ensures { OnOk result (found.new ≡ found.old ++ all_found T.judged (all_of items.now) known.now) }
+    ensures { OnOk result
+        (found.new ≡ found.old ++ all_found T.judged (all_of items.now) known.now) }
 {
     items.first.judge(alloc, found, known)?;
     judge_each(alloc, found, known, items.others.as_slice())

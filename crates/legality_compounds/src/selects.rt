@@ -156,7 +156,8 @@ fn selective_accept_found<W, Q: Judge<W>>(
     place: Place,
     select: &SelectiveAccept<Q>,
 ) -> Result<(), NoMemory>
-    ensures { OnOk result (found.new ≡ found.old ++ selective_accept_found Q.judged place select.now known.now) }
+    ensures { OnOk result
+        (found.new ≡ found.old ++ selective_accept_found Q.judged place select.now known.now) }
 {
     let parts = alternative_parts(alloc, &select.alternatives)?;
     let otherwise = select.otherwise.is_some();
@@ -232,7 +233,8 @@ fn select_form_found<W, Q: Judge<W>>(
     place: Place,
     form: &SelectForm<Q>,
 ) -> Result<(), NoMemory>
-    ensures { OnOk result (found.new ≡ found.old ++ select_form_found Q.judged place form.now known.now) }
+    ensures { OnOk result
+        (found.new ≡ found.old ++ select_form_found Q.judged place form.now known.now) }
 {
     match form {
         SelectForm::SelectiveAccept(select) => {

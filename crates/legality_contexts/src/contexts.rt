@@ -56,7 +56,8 @@ fn uses_found(
     known: &Known<'_, '_>,
     names: &OneOrMore<Name>,
 ) -> Result<(), NoMemory>
-    ensures { OnOk result (found.new ≡ found.old ++ all_found use_found (all_of names.now) known.now) }
+    ensures { OnOk result
+        (found.new ≡ found.old ++ all_found use_found (all_of names.now) known.now) }
 {
     use_found(found, known, &names.first)?;
     for name in names.others.as_slice() {
@@ -71,7 +72,8 @@ fn withs_found(
     known: &Known<'_, '_>,
     names: &OneOrMore<Name>,
 ) -> Result<(), NoMemory>
-    ensures { OnOk result (found.new ≡ found.old ++ all_found with_found (all_of names.now) known.now) }
+    ensures { OnOk result
+        (found.new ≡ found.old ++ all_found with_found (all_of names.now) known.now) }
 {
     with_found(found, known, &names.first)?;
     for name in names.others.as_slice() {

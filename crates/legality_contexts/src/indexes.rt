@@ -61,7 +61,11 @@ fn index_between<'n, 't>(
     low: &Expression,
     high: &Expression,
 ) -> Result<AdaType, NoMemory>
-    ensures { IfOk result (λ t. t ≡ type_between (known_with names.now occurrences.now in_force indexes.now) low.now high.now) }
+    ensures { IfOk result
+        (λ t.
+        t
+        ≡ type_between (known_with names.now occurrences.now in_force indexes.now) low.now
+        high.now) }
 {
     let known = known_with(alloc, names, occurrences, in_force, indexes);
     type_between(alloc, &known, low, high)
@@ -76,7 +80,10 @@ fn index_put<'n, 't>(
     indexes: &mut List<AdaType>,
     occurrence: Occurrence<'_>,
 ) -> Result<(), NoMemory>
-    ensures { OnOk result (indexes.new ≡ index_put names.now occurrences.now in_force indexes.old (occurrence_shown occurrence.entry)) }
+    ensures { OnOk result
+        (indexes.new
+        ≡ index_put names.now occurrences.now in_force indexes.old
+        (occurrence_shown occurrence.entry)) }
 {
     match occurrence {
         Occurrence::DeclareArray { low, high, .. } => {
@@ -97,7 +104,10 @@ fn indexes_along<'n, 't>(
     indexes: &mut List<AdaType>,
     items: &[Occurrence<'t>],
 ) -> Result<(), NoMemory>
-    ensures { OnOk result (indexes.new ≡ indexes_along names.now occurrences.now in_force indexes.old (map occurrence_shown items.now)) }
+    ensures { OnOk result
+        (indexes.new
+        ≡ indexes_along names.now occurrences.now in_force indexes.old
+        (map occurrence_shown items.now)) }
 {
     for occurrence in items {
         index_put(alloc, names, occurrences, in_force, indexes, *occurrence)?;

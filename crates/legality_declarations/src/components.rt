@@ -19,7 +19,8 @@ fn component_found(
     purpose: IndicationUse,
     component: &Component,
 ) -> Result<(), NoMemory>
-    ensures { OnOk result (found.new ≡ found.old ++ component_found purpose component.now known.now) }
+    ensures { OnOk result
+        (found.new ≡ found.old ++ component_found purpose component.now known.now) }
 {
     indication_found(alloc, found, known, purpose, &component.subtype)?;
     let t = type_of_mark(known, &component.subtype);
@@ -33,7 +34,8 @@ fn record_component_found(
     known: &Known<'_, '_>,
     component: &Component,
 ) -> Result<(), NoMemory>
-    ensures { OnOk result (found.new ≡ found.old ++ record_component_found component.now known.now) }
+    ensures { OnOk result
+        (found.new ≡ found.old ++ record_component_found component.now known.now) }
 {
     component_found(alloc, found, known, IndicationUse::ForComponent, component)
 }
@@ -61,7 +63,8 @@ fn protected_component_found(
     known: &Known<'_, '_>,
     component: &Component,
 ) -> Result<(), NoMemory>
-    ensures { OnOk result (found.new ≡ found.old ++ protected_component_found component.now known.now) }
+    ensures { OnOk result
+        (found.new ≡ found.old ++ protected_component_found component.now known.now) }
 {
     let purpose = IndicationUse::ForProtectedComponent(component.names.first.place);
     component_found(alloc, found, known, purpose, component)
@@ -74,7 +77,8 @@ pub(crate) fn protected_components_found(
     known: &Known<'_, '_>,
     components: &[Component],
 ) -> Result<(), NoMemory>
-    ensures { OnOk result (found.new ≡ found.old ++ all_found protected_component_found components.now known.now) }
+    ensures { OnOk result
+        (found.new ≡ found.old ++ all_found protected_component_found components.now known.now) }
 {
     for component in components {
         protected_component_found(alloc, found, known, component)?;

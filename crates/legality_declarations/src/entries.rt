@@ -222,7 +222,8 @@ fn beyond_allowed(
     most: i128,
     entries: &[EntryOf<'_>],
 ) -> Result<(), NoMemory>
-    ensures { OnOk result (found.new ≡ found.old ++ beyond_restriction (λ e. e.place) (Some most) entries.now) }
+    ensures { OnOk result
+        (found.new ≡ found.old ++ beyond_restriction (λ e. e.place) (Some most) entries.now) }
 {
     match usize::try_from(most) {
         Ok(most) => beyond_most(found, Rule::Restriction, most, entries),
@@ -236,7 +237,8 @@ fn beyond_restriction(
     most: Option<i128>,
     entries: &[EntryOf<'_>],
 ) -> Result<(), NoMemory>
-    ensures { OnOk result (found.new ≡ found.old ++ beyond_restriction (λ e. e.place) most entries.now) }
+    ensures { OnOk result
+        (found.new ≡ found.old ++ beyond_restriction (λ e. e.place) most entries.now) }
 {
     match most {
         None => Ok(()),

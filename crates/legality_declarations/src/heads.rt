@@ -51,7 +51,8 @@ pub fn unit_body_judged(
     of_kind: BodyKind,
     name: &Identifier,
 ) -> Result<(), NoMemory>
-    ensures { OnOk result (found.new ≡ found.old ++ unit_body_judged kind of_kind name.now known.now) }
+    ensures { OnOk result
+        (found.new ≡ found.old ++ unit_body_judged kind of_kind name.now known.now) }
 {
     let kept = is_unit_of(kind, known, name);
     broken_unless(found, Rule::KindOfName, kept, name.place)?;
@@ -107,7 +108,8 @@ fn entry_profile_if(
     parameters: &[Parameter],
     entity: Option<u32>,
 ) -> Result<(), NoMemory>
-    ensures { OnOk result (found.new ≡ found.old ++ entry_profile_if is_own known.now parameters.now entity) }
+    ensures { OnOk result
+        (found.new ≡ found.old ++ entry_profile_if is_own known.now parameters.now entity) }
 {
     if is_own {
         entry_body_profile_judged(alloc, found, known, parameters, entity)

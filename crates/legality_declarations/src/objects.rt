@@ -73,7 +73,9 @@ fn is_aliased_constant(object: &ObjectDeclaration, t: AdaType) -> bool
 
 /// The constant with this entity.
 fn constant_with(found: &mut List<Finding>, entity: Option<u32>) -> Result<(), NoMemory>
-    ensures { OnOk result (found.new ≡ found.old ++ unwrap_or (option_map (λ e. Finding.TaskConstant e ∷ []) entity) []) }
+    ensures { OnOk result
+        (found.new
+        ≡ found.old ++ unwrap_or (option_map (λ e. Finding.TaskConstant e ∷ []) entity) []) }
 {
     match entity {
         None => Ok(()),
@@ -132,7 +134,8 @@ fn timer_noted(
     is_timer: bool,
     place: Place,
 ) -> Result<(), NoMemory>
-    ensures { OnOk result (found.new ≡ found.old ++ timer_noted known.now constraint.now is_timer place) }
+    ensures { OnOk result
+        (found.new ≡ found.old ++ timer_noted known.now constraint.now is_timer place) }
 {
     if is_timer {
         let task = task_named(known, constraint);
@@ -152,7 +155,8 @@ fn typed_object_judged(
     name: &Identifier,
     t: AdaType,
 ) -> Result<(), NoMemory>
-    ensures { OnOk result (found.new ≡ found.old ++ typed_object_judged known.now object.now name.now t) }
+    ensures { OnOk result
+        (found.new ≡ found.old ++ typed_object_judged known.now object.now name.now t) }
 {
     let broken = object.initial.is_some() && has_no_values(t);
     broken_if(found, Rule::LimitedObject, broken, name.place)?;
@@ -171,7 +175,8 @@ fn typed_object_if(
     name: &Identifier,
     t: Option<AdaType>,
 ) -> Result<(), NoMemory>
-    ensures { OnOk result (found.new ≡ found.old ++ typed_object_if known.now object.now name.now t) }
+    ensures { OnOk result
+        (found.new ≡ found.old ++ typed_object_if known.now object.now name.now t) }
 {
     match t {
         None => Ok(()),
@@ -204,7 +209,9 @@ fn objects_judged(
     t: Option<AdaType>,
     names: &OneOrMore<Identifier>,
 ) -> Result<(), NoMemory>
-    ensures { OnOk result (found.new ≡ found.old ++ flat_map (object_judged known.now object.now t) (all_of names.now)) }
+    ensures { OnOk result
+        (found.new
+        ≡ found.old ++ flat_map (object_judged known.now object.now t) (all_of names.now)) }
 {
     object_judged(found, known, object, t, &names.first)?;
     for name in names.others.as_slice() {

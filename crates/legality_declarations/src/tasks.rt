@@ -118,7 +118,8 @@ pub(crate) fn single_task_judged(
     place: Place,
     is_type: bool,
 ) -> Result<(), NoMemory>
-    ensures { OnOk result (found.new ≡ found.old ++ single_task_judged known.now name.now place is_type) }
+    ensures { OnOk result
+        (found.new ≡ found.old ++ single_task_judged known.now name.now place is_type) }
 {
     if is_type {
         Ok(())

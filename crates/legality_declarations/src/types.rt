@@ -50,7 +50,8 @@ fn is_too_long(
     high: &Expression,
     high_read: &Read,
 ) -> Result<bool, NoMemory>
-    ensures { IfOk result (λ long. long ≡ is_too_long known.now t low.now low_read.now high.now high_read.now) }
+    ensures { IfOk result
+        (λ long. long ≡ is_too_long known.now t low.now low_read.now high.now high_read.now) }
 {
     let first = static_number(known, t, low, low_read.typed)?;
     let last = static_number(known, t, high, high_read.typed)?;
@@ -77,7 +78,8 @@ fn array_judged(
     component: Option<AdaType>,
     too_long: bool,
 ) -> Result<(), NoMemory>
-    ensures { OnOk result (found.new ≡ found.old ++ array_judged known.now place component too_long) }
+    ensures { OnOk result
+        (found.new ≡ found.old ++ array_judged known.now place component too_long) }
 {
     let broken = is_other_component_if(component) || too_long;
     broken_if(found, Rule::StaticBounds, broken, place)
@@ -94,7 +96,8 @@ fn array_found(
     high: &Expression,
     component: &SubtypeIndication,
 ) -> Result<(), NoMemory>
-    ensures { OnOk result (found.new ≡ found.old ++ array_found place low.now high.now component.now known.now) }
+    ensures { OnOk result
+        (found.new ≡ found.old ++ array_found place low.now high.now component.now known.now) }
 {
     let first = low.read(alloc, found, known)?;
     let last = high.read(alloc, found, known)?;
@@ -133,7 +136,8 @@ fn components_if(
     known: &Known<'_, '_>,
     components: &Option<OneOrMore<Component>>,
 ) -> Result<(), NoMemory>
-    ensures { OnOk result (found.new ≡ found.old ++ found_if components_found components.now known.now) }
+    ensures { OnOk result
+        (found.new ≡ found.old ++ found_if components_found components.now known.now) }
 {
     match components {
         None => Ok(()),
@@ -150,7 +154,8 @@ pub fn definition_found(
     place: Place,
     definition: &TypeDefinition,
 ) -> Result<(), NoMemory>
-    ensures { OnOk result (found.new ≡ found.old ++ definition_found place definition.now known.now) }
+    ensures { OnOk result
+        (found.new ≡ found.old ++ definition_found place definition.now known.now) }
 {
     match definition {
         TypeDefinition::Enumeration { .. } => Ok(()),

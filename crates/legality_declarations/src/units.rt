@@ -97,7 +97,8 @@ fn operations_found(
     known: &Known<'_, '_>,
     operations: &[ProtectedOperation],
 ) -> Result<(), NoMemory>
-    ensures { OnOk result (found.new ≡ found.old ++ all_found operation_found operations.now known.now) }
+    ensures { OnOk result
+        (found.new ≡ found.old ++ all_found operation_found operations.now known.now) }
 {
     for operation in operations {
         operation_found(alloc, found, known, operation)?;
@@ -112,7 +113,8 @@ fn single_object_noted(
     name: &Identifier,
     is_type: bool,
 ) -> Result<(), NoMemory>
-    ensures { OnOk result (found.new ≡ found.old ++ single_object_noted known.now name.now is_type) }
+    ensures { OnOk result
+        (found.new ≡ found.old ++ single_object_noted known.now name.now is_type) }
 {
     if is_type {
         Ok(())
@@ -167,7 +169,9 @@ fn components_if(
     known: &Known<'_, '_>,
     components: &Option<Items<Component>>,
 ) -> Result<(), NoMemory>
-    ensures { OnOk result (found.new ≡ found.old ++ found_if (all_found protected_component_found) components.now known.now) }
+    ensures { OnOk result
+        (found.new
+        ≡ found.old ++ found_if (all_found protected_component_found) components.now known.now) }
 {
     match components {
         None => Ok(()),

@@ -1,6 +1,6 @@
 //! What names denote, and subtypes of entities (ISO/IEC 8652:2012, 3.3, 4.1, 8.6).
 ghost use Rattle.std.specs.Prelude.{◌≡◌, eqb, find, option_copied};
-ghost use Rattle.ada_legality.specs.Values.{subtype_of_loop, subtype_of_object, denoted_kind, kind_of_name, entity_of_name, subtype_of_entity, object_subtype, type_of_unit_kind, is_library_declaration, is_library_object};
+ghost use Rattle.ada_legality.specs.Values.{subtype_of_loop, subtype_of_object, denoted_kind, kind_of_name, entity_of_name, subtype_of_entity, type_of_unit_kind, is_library_declaration, is_library_object};
 ghost use Rattle.ada_legality.specs.Attributes.{kind_of_identifier};
 
 use ada_entities::{denoted_by, entity_denoted, entity_of, kind_at};
@@ -99,16 +99,6 @@ pub fn subtype_of_entity(known: &Known<'_, '_>, denoted: Denoted) -> Option<Subt
             None => None,
             Some(kind) => subtype_of_object(known, entity, kind),
         },
-    }
-}
-
-/// The subtype of the object that a name denotes.
-pub fn object_subtype(known: &Known<'_, '_>, name: &Name) -> Option<Subtype>
-    ensures { result ≡ object_subtype known.now name.now }
-{
-    match denoted_by(known.names.get(), name) {
-        None => None,
-        Some(denoted) => subtype_of_entity(known, denoted),
     }
 }
 

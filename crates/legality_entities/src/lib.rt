@@ -19,7 +19,7 @@ pub use around::{
 };
 pub use entities::{
     denoted_kind, entity_of_name, is_library_object, kind_of_identifier, kind_of_name,
-    object_subtype, subtype_of_entity, type_of_unit_kind,
+    subtype_of_entity, type_of_unit_kind,
 };
 pub use exceptions::names_exception;
 pub use kinds::{

@@ -34,7 +34,8 @@ pub fn with_loop<'n, 't>(
     known: &Known<'n, 't>,
     parameter: LoopParameter,
 ) -> Result<Known<'n, 't>, NoMemory>
-    ensures { IfOk result (λ inside. inside ≡ record known.now { loops = parameter ∷ known.now.loops }) }
+    ensures { IfOk result
+        (λ inside. inside ≡ record known.now { loops = parameter ∷ known.now.loops }) }
 {
     let mut inside = copy_of(known)?;
     inside.loops.push_front(parameter)?;

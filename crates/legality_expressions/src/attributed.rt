@@ -123,7 +123,8 @@ fn no_handler_access(
     name: &Name,
     attribute: Attribute,
 ) -> Result<(), NoMemory>
-    ensures { OnOk result (found.new ≡ found.old ++ no_handler_access known.now name.now attribute) }
+    ensures { OnOk result
+        (found.new ≡ found.old ++ no_handler_access known.now name.now attribute) }
 {
     match attribute {
         Attribute::Access => {
@@ -179,7 +180,8 @@ fn other_attribute(
     attribute: Attribute,
     actuals: &[ActualPart],
 ) -> Result<(), NoMemory>
-    ensures { OnOk result (found.new ≡ found.old ++ other_attribute known.now name.now attribute actuals.now) }
+    ensures { OnOk result
+        (found.new ≡ found.old ++ other_attribute known.now name.now attribute actuals.now) }
 {
     match actuals {
         [] => attribute_alone(found, known, name, attribute),
@@ -197,7 +199,8 @@ pub(crate) fn attribute_judged(
     attribute: Attribute,
     actuals: &[ActualPart],
 ) -> Result<(), NoMemory>
-    ensures { OnOk result (found.new ≡ found.old ++ attribute_judged known.now name.now attribute actuals.now) }
+    ensures { OnOk result
+        (found.new ≡ found.old ++ attribute_judged known.now name.now attribute actuals.now) }
 {
     if takes_arguments(attribute) {
         let t = type_of_prefix(known, name);

@@ -1,4 +1,4 @@
-//! Operators of one level, from left to right (ISO/IEC 8652:2012, 4.5).
+//! Operators of one level are judged, from left to right (ISO/IEC 8652:2012, 4.5).
 ghost use Rattle.std.specs.Prelude.{◌≡◌};
 ghost use Rattle.ada_legality.specs.Findings.{Reads};
 ghost use Rattle.ada_legality.specs.ReadExpressions.{operands_read, addends_read, factors_read, logical_expression, relational_expression, adding_expression, multiplying_expression};
@@ -25,7 +25,8 @@ fn operands_read<E: Readable>(
     first: Read,
     operands: &[Operand<E>],
 ) -> Result<Read, NoMemory>
-    ensures { Reads (operands_read E.reading operator first operands.now known.now) found.old found.new result }
+    ensures { Reads (operands_read E.reading operator first operands.now known.now) found.old
+        found.new result }
 {
     let mut left = first;
     for operand in operands {
@@ -51,7 +52,8 @@ fn addends_read<E: Readable>(
     first: Read,
     addends: &[Addend<E>],
 ) -> Result<Read, NoMemory>
-    ensures { Reads (addends_read E.reading first addends.now known.now) found.old found.new result }
+    ensures { Reads (addends_read E.reading first addends.now known.now) found.old found.new
+        result }
 {
     let mut left = first;
     for addend in addends {
@@ -77,7 +79,8 @@ fn factors_read<E: Readable>(
     first: Read,
     factors: &[Multiplied<E>],
 ) -> Result<Read, NoMemory>
-    ensures { Reads (factors_read E.reading first factors.now known.now) found.old found.new result }
+    ensures { Reads (factors_read E.reading first factors.now known.now) found.old found.new
+        result }
 {
     let mut left = first;
     for factor in factors {
@@ -104,7 +107,8 @@ pub(crate) fn logical_expression<E: Readable>(
     first: &E,
     others: &OneOrMore<Operand<E>>,
 ) -> Result<Read, NoMemory>
-    ensures { Reads (logical_expression E.reading operator first.now others.now known.now) found.old found.new result }
+    ensures { Reads (logical_expression E.reading operator first.now others.now known.now) found.old
+        found.new result }
 {
     let left = first_relation(operator, operand_read(alloc, found, known, first)?);
     let right = operand_read(alloc, found, known, &others.first.relation)?;
@@ -137,7 +141,8 @@ pub(crate) fn relational_expression<E: Readable>(
     operator: RelationalOperator,
     second: &E,
 ) -> Result<Read, NoMemory>
-    ensures { Reads (relational_expression E.reading first.now place operator second.now known.now) found.old found.new result }
+    ensures { Reads (relational_expression E.reading first.now place operator second.now known.now)
+        found.old found.new result }
 {
     let left = operand_read(alloc, found, known, first)?;
     let right = operand_read(alloc, found, known, second)?;
@@ -160,7 +165,8 @@ pub(crate) fn adding_expression<E: Readable>(
     first: &E,
     others: &OneOrMore<Addend<E>>,
 ) -> Result<Read, NoMemory>
-    ensures { Reads (adding_expression E.reading first.now others.now known.now) found.old found.new result }
+    ensures { Reads (adding_expression E.reading first.now others.now known.now) found.old found.new
+        result }
 {
     let left = first_term(operand_read(alloc, found, known, first)?);
     let operator = others.first.operator;
@@ -179,7 +185,8 @@ pub(crate) fn multiplying_expression<E: Readable>(
     first: &E,
     others: &OneOrMore<Multiplied<E>>,
 ) -> Result<Read, NoMemory>
-    ensures { Reads (multiplying_expression E.reading first.now others.now known.now) found.old found.new result }
+    ensures { Reads (multiplying_expression E.reading first.now others.now known.now) found.old
+        found.new result }
 {
     let read = operand_read(alloc, found, known, first)?;
     let left = plain_read(read.place, read.typed);

@@ -35,7 +35,8 @@ fn signed_expression<E: Readable>(
     sign: Sign,
     operand: &E,
 ) -> Result<Read, NoMemory>
-    ensures { Reads (signed_expression E.reading place sign operand.now known.now) found.old found.new result }
+    ensures { Reads (signed_expression E.reading place sign operand.now known.now) found.old
+        found.new result }
 {
     let read = operand.read(alloc, found, known)?;
     signed_judged(found, place, sign, &read)?;
@@ -52,7 +53,8 @@ fn highest_expression<E: Readable>(
     operator: HighestOperator,
     operand: &E,
 ) -> Result<Read, NoMemory>
-    ensures { Reads (highest_expression E.reading place operator operand.now known.now) found.old found.new result }
+    ensures { Reads (highest_expression E.reading place operator operand.now known.now) found.old
+        found.new result }
 {
     let read = operand_read(alloc, found, known, operand)?;
     operation_of_one_judged(found, place, highest_operator(operator), read.typed)?;
@@ -68,7 +70,8 @@ fn bracketed_expression<E: Readable>(
     place: Place,
     inner: &E,
 ) -> Result<Read, NoMemory>
-    ensures { Reads (bracketed_expression E.reading place inner.now known.now) found.old found.new result }
+    ensures { Reads (bracketed_expression E.reading place inner.now known.now) found.old found.new
+        result }
 {
     let read = inner.read(alloc, found, known)?;
     call_inside(found, &read)?;
@@ -140,7 +143,8 @@ fn named_expression<E: Readable>(
     attribute: &Option<AttributeDesignator>,
     arguments: &[Argument<E>],
 ) -> Result<Read, NoMemory>
-    ensures { Reads (named_expression E.reading name.now attribute.now arguments.now known.now) found.old found.new result }
+    ensures { Reads (named_expression E.reading name.now attribute.now arguments.now known.now)
+        found.old found.new result }
 {
     let actuals = arguments_read(alloc, found, known, arguments)?;
     let has_arguments = !arguments.is_empty();

@@ -163,7 +163,11 @@ fn call_of(
     actuals: &[ActualPart],
     denoted: Denoted,
 ) -> Result<(), NoMemory>
-    ensures { OnOk result (found.new ≡ found.old ++ actuals_judged known.now place (formals_denoted known.now actuals.now denoted) actuals.now) }
+    ensures { OnOk result
+        (found.new
+        ≡ found.old
+        ++ actuals_judged known.now place (formals_denoted known.now actuals.now denoted)
+        actuals.now) }
 {
     let formals = formals_denoted(alloc, known, actuals, denoted)?;
     actuals_judged(found, known, place, formals.as_slice(), actuals)
@@ -179,7 +183,8 @@ fn denoted_judged(
     actuals: &[ActualPart],
     denoted: Denoted,
 ) -> Result<(), NoMemory>
-    ensures { OnOk result (found.new ≡ found.old ++ denoted_judged known.now place actuals.now denoted) }
+    ensures { OnOk result
+        (found.new ≡ found.old ++ denoted_judged known.now place actuals.now denoted) }
 {
     if denotes_function(known, denoted) {
         call_of(alloc, found, known, place, actuals, denoted)
@@ -249,7 +254,10 @@ fn denoted_judged_if(
     actuals: &[ActualPart],
     denoted: Option<Denoted>,
 ) -> Result<(), NoMemory>
-    ensures { OnOk result (found.new ≡ found.old ++ unwrap_or (option_map (denoted_judged known.now place actuals.now) denoted) []) }
+    ensures { OnOk result
+        (found.new
+        ≡ found.old
+        ++ unwrap_or (option_map (denoted_judged known.now place actuals.now) denoted) []) }
 {
     match denoted {
         None => Ok(()),

@@ -120,7 +120,9 @@ pub fn accept_judged(
     name: &Identifier,
     kind: Option<&EntityKind>,
 ) -> Result<(), NoMemory>
-    ensures { OnOk result (found.new ≡ found.old ++ accept_judged known.now place name.now (option_copied kind.entry)) }
+    ensures { OnOk result
+        (found.new
+        ≡ found.old ++ accept_judged known.now place name.now (option_copied kind.entry)) }
 {
     let names_entry = is_entry(kind);
     broken_unless(found, Rule::KindOfName, names_entry, name.place)?;

@@ -77,7 +77,8 @@ fn exceptions_of<'t, Q>(
     alloc: Global,
     handlers: &'t [Handler<Q>],
 ) -> Result<Sequence<HandledName<'t>>, NoMemory>
-    ensures { IfOk result (λ names. names ≡ flat_map exceptions_named (map (λ h. h.exceptions) handlers.now)) }
+    ensures { IfOk result
+        (λ names. names ≡ flat_map exceptions_named (map (λ h. h.exceptions) handlers.now)) }
 {
     let mut names = Sequence::new(alloc);
     for handler in handlers {
@@ -124,7 +125,8 @@ fn repeated_along(
     known: &Known<'_, '_>,
     names: &[HandledName<'_>],
 ) -> Result<(), NoMemory>
-    ensures { OnOk result (found.new ≡ found.old ++ repeated_along known.now names.now 0 names.now) }
+    ensures { OnOk result
+        (found.new ≡ found.old ++ repeated_along known.now names.now 0 names.now) }
 {
     let mut at = 0;
     for name in names {
@@ -141,7 +143,8 @@ fn repeated_names(
     known: &Known<'_, '_>,
     names: &[HandledName<'_>],
 ) -> Result<(), NoMemory>
-    ensures { OnOk result (found.new ≡ found.old ++ repeated_names known.now names.now 0 names.now) }
+    ensures { OnOk result
+        (found.new ≡ found.old ++ repeated_names known.now names.now 0 names.now) }
 {
     repeated_along(found, known, names)
 }
@@ -168,7 +171,8 @@ fn others_here(found: &mut List<Finding>, place: Option<Place>) -> Result<(), No
 
 /// The handlers for all others before the last one, one handler at a time.
 fn others_behind<Q>(found: &mut List<Finding>, handlers: &[Handler<Q>]) -> Result<(), NoMemory>
-    ensures { OnOk result (found.new ≡ found.old ++ others_behind None (map (λ h. h.exceptions) handlers.now)) }
+    ensures { OnOk result
+        (found.new ≡ found.old ++ others_behind None (map (λ h. h.exceptions) handlers.now)) }
 {
     let mut before: Option<Place> = None;
     for handler in handlers {
@@ -181,7 +185,8 @@ fn others_behind<Q>(found: &mut List<Finding>, handlers: &[Handler<Q>]) -> Resul
 /// The handlers for all others before the last one.
 #[tactic(auto, using(crate::proofs::Handled::others_are))]
 fn others_before_last<Q>(found: &mut List<Finding>, handlers: &[Handler<Q>]) -> Result<(), NoMemory>
-    ensures { OnOk result (found.new ≡ found.old ++ others_before_last (map (λ h. h.exceptions) handlers.now)) }
+    ensures { OnOk result
+        (found.new ≡ found.old ++ others_before_last (map (λ h. h.exceptions) handlers.now)) }
 {
     others_behind(found, handlers)
 }
@@ -194,7 +199,8 @@ pub fn handled_judged<Q>(
     known: &Known<'_, '_>,
     handlers: &[Handler<Q>],
 ) -> Result<(), NoMemory>
-    ensures { OnOk result (found.new ≡ found.old ++ handled_judged known.now (map (λ h. h.exceptions) handlers.now)) }
+    ensures { OnOk result
+        (found.new ≡ found.old ++ handled_judged known.now (map (λ h. h.exceptions) handlers.now)) }
 {
     let names = exceptions_of(alloc, handlers)?;
     repeated_names(found, known, names.as_slice())?;

@@ -18,7 +18,8 @@ use profile_machine::ProtectedUnitNo;
 
 /// An entity that is an object.
 fn object_at(names: &Names<'_>, entity: u32) -> Option<u32>
-    ensures { result ≡ cond (holds_of is_object_kind (kind_at names.now entity)) (Some entity) None }
+    ensures { result
+        ≡ cond (holds_of is_object_kind (kind_at names.now entity)) (Some entity) None }
 {
     match kind_at(names, entity) {
         None => None,

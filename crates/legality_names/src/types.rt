@@ -116,7 +116,8 @@ fn unless_index(has_index: bool, t: Option<AdaType>) -> Option<AdaType>
 
 /// A whole number from 0 to this one.
 fn up_to(last: i32) -> Typed
-    ensures { result ≡ typing.OfSubtype (subtype_with types.Integer (constraint.Whole (pos 0) last)) }
+    ensures { result
+        ≡ typing.OfSubtype (subtype_with types.Integer (constraint.Whole (pos 0) last)) }
 {
     Typed::OfSubtype(Subtype {
         of_type: AdaType::Integer,

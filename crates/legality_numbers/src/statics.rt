@@ -17,7 +17,11 @@ use profile_machine::Value;
 
 /// The number of minus a literal.
 fn negative_literal(operand: &Expression) -> Result<Option<i128>, NoMemory>
-    ensures { IfOk result (λ n. n ≡ option_map (λ l. neg_ℤ (number_of_literal l)) (literal_of (out-Expression operand.now).form)) }
+    ensures { IfOk result
+        (λ n.
+        n
+        ≡ option_map (λ l. neg_ℤ (number_of_literal l))
+        (literal_of (out-Expression operand.now).form)) }
 {
     match literal_of(operand) {
         None => Ok(None),

@@ -129,7 +129,8 @@ fn aspects_judged(
     place: Place,
     aspects: &[AspectPart],
 ) -> Result<(), NoMemory>
-    ensures { OnOk result (found.new ≡ found.old ++ aspects_judged known.now owner place aspects.now) }
+    ensures { OnOk result
+        (found.new ≡ found.old ++ aspects_judged known.now owner place aspects.now) }
 {
     let broken = stands_before_attach(aspects) && !may_be_attached(owner);
     broken_if(found, Rule::HandlerProcedure, broken, place)?;

@@ -195,7 +195,8 @@ fn mark_judged_if(
     constraint: &Option<Indicated>,
     t: Option<AdaType>,
 ) -> Result<(), NoMemory>
-    ensures { OnOk result (found.new ≡ found.old ++ mark_judged_if purpose name.now constraint.now t) }
+    ensures { OnOk result
+        (found.new ≡ found.old ++ mark_judged_if purpose name.now constraint.now t) }
 {
     match t {
         None => Ok(()),
@@ -212,7 +213,8 @@ pub fn indication_found(
     purpose: IndicationUse,
     indication: &SubtypeIndication,
 ) -> Result<(), NoMemory>
-    ensures { OnOk result (found.new ≡ found.old ++ indication_found purpose indication.now known.now) }
+    ensures { OnOk result
+        (found.new ≡ found.old ++ indication_found purpose indication.now known.now) }
 {
     let t = type_of_mark(known, indication);
     let kept = is_fitting_mark(known, purpose, indication, t);
@@ -231,7 +233,8 @@ pub(crate) fn parameter_found(
     overrides: bool,
     parameter: &Parameter,
 ) -> Result<(), NoMemory>
-    ensures { OnOk result (found.new ≡ found.old ++ parameter_found in_unit overrides parameter.now known.now) }
+    ensures { OnOk result
+        (found.new ≡ found.old ++ parameter_found in_unit overrides parameter.now known.now) }
 {
     let is_changed = parameter.is_in && parameter.is_out;
     let purpose = IndicationUse::ForParameter {

@@ -92,7 +92,8 @@ fn name_at<'n, 't>(names: &'n [FormalName<'t>], at: usize) -> Option<&'n FormalN
 
 /// The name with which there are more than so many.
 fn beyond(found: &mut List<Finding>, most: usize, names: &[FormalName<'_>]) -> Result<(), NoMemory>
-    ensures { OnOk result (found.new ≡ found.old ++ beyond Rule.Limit (λ i. i.place) most names.now) }
+    ensures { OnOk result
+        (found.new ≡ found.old ++ beyond Rule.Limit (λ i. i.place) most names.now) }
 {
     match name_at(names, most) {
         None => Ok(()),
@@ -109,7 +110,9 @@ fn each_parameter(
     overrides: bool,
     parameters: &[Parameter],
 ) -> Result<(), NoMemory>
-    ensures { OnOk result (found.new ≡ found.old ++ all_found (parameter_found in_unit overrides) parameters.now known.now) }
+    ensures { OnOk result
+        (found.new
+        ≡ found.old ++ all_found (parameter_found in_unit overrides) parameters.now known.now) }
 {
     for parameter in parameters {
         parameter_found(alloc, found, known, in_unit, overrides, parameter)?;
@@ -127,7 +130,8 @@ pub fn parameters_found(
     overrides: bool,
     parameters: &[Parameter],
 ) -> Result<(), NoMemory>
-    ensures { OnOk result (found.new ≡ found.old ++ parameters_found in_unit overrides parameters.now known.now) }
+    ensures { OnOk result
+        (found.new ≡ found.old ++ parameters_found in_unit overrides parameters.now known.now) }
 {
     let listed = formal_names_of(alloc, parameters)?;
     let names = listed.as_slice();

@@ -37,7 +37,8 @@ pub fn value_found_if(
     t: Option<AdaType>,
     expression: &Option<Expression>,
 ) -> Result<(), NoMemory>
-    ensures { OnOk result (found.new ≡ found.old ++ found_if (value_found t) expression.now known.now) }
+    ensures { OnOk result
+        (found.new ≡ found.old ++ found_if (value_found t) expression.now known.now) }
 {
     match expression {
         None => Ok(()),
@@ -68,7 +69,8 @@ pub fn value_alone_found_if(
     t: Option<AdaType>,
     expression: &Option<Expression>,
 ) -> Result<(), NoMemory>
-    ensures { OnOk result (found.new ≡ found.old ++ found_if (value_alone_found t) expression.now known.now) }
+    ensures { OnOk result
+        (found.new ≡ found.old ++ found_if (value_alone_found t) expression.now known.now) }
 {
     match expression {
         None => Ok(()),
@@ -98,7 +100,8 @@ pub fn not_static(
     expression: &Expression,
     place: Place,
 ) -> Result<(), NoMemory>
-    ensures { OnOk result (found.new ≡ found.old ++ not_static rule known.now expression.now place) }
+    ensures { OnOk result
+        (found.new ≡ found.old ++ not_static rule known.now expression.now place) }
 {
     let kept = number_of_expression(known, expression)?.is_some();
     broken_unless(found, rule, kept, place)
@@ -125,7 +128,9 @@ fn pair_judged(
     high: &Expression,
     high_read: &Read,
 ) -> Result<(), NoMemory>
-    ensures { OnOk result (found.new ≡ found.old ++ pair_judged known.now t low.now low_read.now high.now high_read.now) }
+    ensures { OnOk result
+        (found.new
+        ≡ found.old ++ pair_judged known.now t low.now low_read.now high.now high_read.now) }
 {
     not_static(found, Rule::StaticBounds, known, low, low_read.place)?;
     not_static(found, Rule::StaticBounds, known, high, high_read.place)?;
@@ -150,7 +155,9 @@ pub fn bounds_judged(
     high: &Expression,
     high_read: &Read,
 ) -> Result<(), NoMemory>
-    ensures { OnOk result (found.new ≡ found.old ++ bounds_judged known.now t low.now low_read.now high.now high_read.now) }
+    ensures { OnOk result
+        (found.new
+        ≡ found.old ++ bounds_judged known.now t low.now low_read.now high.now high_read.now) }
 {
     pair_judged(found, known, t, low, low_read, high, high_read)?;
     expected(found, Asked::ForValue, Some(t), low_read)?;
@@ -183,7 +190,9 @@ fn bounds_with_ranges(
     low: &Expression,
     high: &Expression,
 ) -> Result<(), NoMemory>
-    ensures { OnOk result (found.new ≡ found.old ++ cond (has_ranges t) (bounds_found t low.now high.now known.now) []) }
+    ensures { OnOk result
+        (found.new
+        ≡ found.old ++ cond (has_ranges t) (bounds_found t low.now high.now known.now) []) }
 {
     if has_ranges(t) {
         bounds_found(alloc, found, known, t, low, high)

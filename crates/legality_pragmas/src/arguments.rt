@@ -54,21 +54,12 @@ fn plain_word(form: &ExpressionForm<Expression>) -> Option<&[u8]>
     ensures { option_copied result ≡ plain_word form.now }
 {
     match form {
-        ExpressionForm::Logical { .. } => None,
-        ExpressionForm::Relational { .. } => None,
-        ExpressionForm::Adding { .. } => None,
-        ExpressionForm::Signed { .. } => None,
-        ExpressionForm::Multiplying { .. } => None,
-        ExpressionForm::Highest { .. } => None,
-        ExpressionForm::Number { .. } => None,
-        ExpressionForm::Text { .. } => None,
-        ExpressionForm::Null { .. } => None,
-        ExpressionForm::Bracketed { .. } => None,
         ExpressionForm::Named {
             name,
             attribute,
             arguments,
         } => plain_name(name, attribute, arguments.as_slice()),
+        _ => None,
     }
 }
 
@@ -85,7 +76,10 @@ pub(crate) fn word_in(argument: &Argument<Expression>) -> Option<&[u8]>
 
 /// The number that a literal without a point is.
 fn whole_number(literal: &[u8]) -> Result<Option<i128>, NoMemory>
-    ensures { IfOk result (λ n. n ≡ cond (nothing_there (decimals_of literal.now)) (Some (pos (whole_of literal.now))) None) }
+    ensures { IfOk result
+        (λ n.
+        n
+        ≡ cond (nothing_there (decimals_of literal.now)) (Some (pos (whole_of literal.now))) None) }
 {
     if decimals(literal).is_empty() {
         match whole_value(literal) {
@@ -180,7 +174,8 @@ fn end_of_range(attribute: Attribute, range: Constraint) -> Option<i128>
 
 /// The number of minus a literal.
 fn negative_number(operand: &Expression) -> Result<Option<i128>, NoMemory>
-    ensures { IfOk result (λ n. n ≡ option_map neg_ℤ (whole_literal (out-Expression operand.now).form)) }
+    ensures { IfOk result
+        (λ n. n ≡ option_map neg_ℤ (whole_literal (out-Expression operand.now).form)) }
 {
     match whole_literal(operand.form.get())? {
         None => Ok(None),

@@ -100,7 +100,8 @@ fn range_of_pragma(last: u8, pragma: &Pragma) -> Result<Option<Span>, NoMemory>
 
 /// Whether a range meets that of one of these pragmas.
 fn meets_any(last: u8, before: &[Pragma], range: Option<Span>) -> Result<bool, NoMemory>
-    ensures { IfOk result (λ meets. meets ≡ list_any (λ q. meet range (range_of_pragma last q)) before.now) }
+    ensures { IfOk result
+        (λ meets. meets ≡ list_any (λ q. meet range (range_of_pragma last q)) before.now) }
 {
     for earlier in before {
         if meet(range, range_of_pragma(last, earlier)?) {
@@ -120,7 +121,8 @@ fn overlaps_before(last: u8, before: &[Pragma], pragma: &Pragma) -> Result<bool,
 }
 
 fn any_for_some(pragmas: &[Pragma]) -> bool
-    ensures { result ≡ list_any (is_pragma_named (codes "priority_specific_dispatching")) pragmas.now }
+    ensures { result
+        ≡ list_any (is_pragma_named (codes "priority_specific_dispatching")) pragmas.now }
 {
     pragmas.iter().any(|pragma| is_for_some(pragma))
 }
@@ -141,7 +143,8 @@ fn is_wrong_pragma(
     before: &[Pragma],
     pragma: &Pragma,
 ) -> Result<bool, NoMemory>
-    ensures { IfOk result (λ wrong. wrong ≡ is_wrong_pragma last pragmas.now before.now pragma.now) }
+    ensures { IfOk result
+        (λ wrong. wrong ≡ is_wrong_pragma last pragmas.now before.now pragma.now) }
 {
     let is_of_profile = is_pragma_of_profile(last, pragma)?;
     let overlaps = overlaps_before(last, before, pragma)?;

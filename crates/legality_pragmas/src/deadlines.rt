@@ -66,7 +66,9 @@ fn put_given(
     last: u8,
     pragma: &Pragma,
 ) -> Result<(), NoMemory>
-    ensures { OnOk result (ranges.new ≡ ranges.old ++ flat_map (told pragma.now.place) (ranges_of_pragma last pragma.now)) }
+    ensures { OnOk result
+        (ranges.new
+        ≡ ranges.old ++ flat_map (told pragma.now.place) (ranges_of_pragma last pragma.now)) }
 {
     let policies = policies_of(alloc, last, std::slice::from_ref(pragma))?;
     put_ranges(ranges, pragma.place, policies.dispatching.as_slice())

@@ -25,7 +25,8 @@ fn no_abort_statements(pragmas: &[Pragma]) -> bool
 
 /// Whether No_Dynamic_Priorities is given.
 fn no_dynamic_priorities(pragmas: &[Pragma]) -> bool
-    ensures { result ≡ is_given (restriction_arguments pragmas.now) (codes "no_dynamic_priorities") }
+    ensures { result
+        ≡ is_given (restriction_arguments pragmas.now) (codes "no_dynamic_priorities") }
 {
     is_given(pragmas, b"no_dynamic_priorities".as_slice())
 }
@@ -46,7 +47,8 @@ fn no_select_statements(pragmas: &[Pragma]) -> bool
 
 /// Whether No_Terminate_Alternatives is given.
 fn no_terminate_alternatives(pragmas: &[Pragma]) -> bool
-    ensures { result ≡ is_given (restriction_arguments pragmas.now) (codes "no_terminate_alternatives") }
+    ensures { result
+        ≡ is_given (restriction_arguments pragmas.now) (codes "no_terminate_alternatives") }
 {
     is_given(pragmas, b"no_terminate_alternatives".as_slice())
 }
@@ -60,21 +62,29 @@ fn simple_barriers(pragmas: &[Pragma]) -> bool
 
 /// The least Max_Task_Entries that is given.
 fn max_task_entries(pragmas: &[Pragma]) -> Result<Option<i128>, NoMemory>
-    ensures { IfOk result (λ least. least ≡ least_limit_in (codes "max_task_entries") (restriction_arguments pragmas.now)) }
+    ensures { IfOk result
+        (λ least.
+        least ≡ least_limit_in (codes "max_task_entries") (restriction_arguments pragmas.now)) }
 {
     least_limit_in(pragmas, b"max_task_entries".as_slice())
 }
 
 /// The least Max_Protected_Entries that is given.
 fn max_protected_entries(pragmas: &[Pragma]) -> Result<Option<i128>, NoMemory>
-    ensures { IfOk result (λ least. least ≡ least_limit_in (codes "max_protected_entries") (restriction_arguments pragmas.now)) }
+    ensures { IfOk result
+        (λ least.
+        least
+        ≡ least_limit_in (codes "max_protected_entries") (restriction_arguments pragmas.now)) }
 {
     least_limit_in(pragmas, b"max_protected_entries".as_slice())
 }
 
 /// The least Max_Select_Alternatives that is given.
 fn max_select_alternatives(pragmas: &[Pragma]) -> Result<Option<i128>, NoMemory>
-    ensures { IfOk result (λ least. least ≡ least_limit_in (codes "max_select_alternatives") (restriction_arguments pragmas.now)) }
+    ensures { IfOk result
+        (λ least.
+        least
+        ≡ least_limit_in (codes "max_select_alternatives") (restriction_arguments pragmas.now)) }
 {
     least_limit_in(pragmas, b"max_select_alternatives".as_slice())
 }
@@ -86,7 +96,9 @@ fn in_force_with(
     has_longest_queue: bool,
     has_deadlines: bool,
 ) -> Result<InForce, NoMemory>
-    ensures { IfOk result (λ force. force ≡ in_force_with (restriction_arguments pragmas.now) has_longest_queue has_deadlines) }
+    ensures { IfOk result
+        (λ force.
+        force ≡ in_force_with (restriction_arguments pragmas.now) has_longest_queue has_deadlines) }
 {
     let max_task_entries = max_task_entries(pragmas)?;
     let max_protected_entries = max_protected_entries(pragmas)?;

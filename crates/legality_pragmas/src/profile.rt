@@ -47,7 +47,9 @@ fn is_limit(number: Option<i128>) -> bool
 
 /// Whether a restriction of this name has such a number.
 fn is_limited_by(name: &Identifier, number: Option<i128>) -> bool
-    ensures { result ≡ list_any (bytes_eq name.now.text) restrictions_with_number && lies_between (pos 0) (pos 2147483647) number }
+    ensures { result
+        ≡ list_any (bytes_eq name.now.text) restrictions_with_number
+        && lies_between (pos 0) (pos 2147483647) number }
 {
     is_limiting(name.text.as_slice()) && is_limit(number)
 }

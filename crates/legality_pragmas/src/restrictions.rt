@@ -143,7 +143,8 @@ fn least_before(name: &[u8], pragma: &Pragma, later: Option<i128>) -> Result<Opt
 /// The least limit that these pragmas give. The last pragma's is looked at first.
 #[tactic(auto, using(crate::proofs::Limits::pragma_laws))]
 pub(crate) fn least_limit_in(pragmas: &[Pragma], name: &[u8]) -> Result<Option<i128>, NoMemory>
-    ensures { IfOk result (λ least. least ≡ least_limit_in name.now (restriction_arguments pragmas.now)) }
+    ensures { IfOk result
+        (λ least. least ≡ least_limit_in name.now (restriction_arguments pragmas.now)) }
 {
     let mut least = None;
     let mut place = pragmas.len();

@@ -22,7 +22,8 @@ pub fn declaration_noted(
     name: &Identifier,
     place: Place,
 ) -> Result<(), NoMemory>
-    ensures { OnOk result (found.new ≡ found.old ++ declaration_noted known.now kind name.now place) }
+    ensures { OnOk result
+        (found.new ≡ found.old ++ declaration_noted known.now kind name.now place) }
 {
     match entity_denoted(known.names.get(), name.place) {
         None => Ok(()),
@@ -103,7 +104,8 @@ pub fn entry_body_profile_judged(
     parameters: &[Parameter],
     entity: Option<u32>,
 ) -> Result<(), NoMemory>
-    ensures { OnOk result (found.new ≡ found.old ++ entry_body_profile_judged known.now parameters.now entity) }
+    ensures { OnOk result
+        (found.new ≡ found.old ++ entry_body_profile_judged known.now parameters.now entity) }
 {
     match entity {
         None => Ok(()),
@@ -129,7 +131,8 @@ pub fn accept_conforms(
     parameters: &[Parameter],
     entity: Option<u32>,
 ) -> Result<(), NoMemory>
-    ensures { OnOk result (found.new ≡ found.old ++ accept_conforms known.now place parameters.now entity) }
+    ensures { OnOk result
+        (found.new ≡ found.old ++ accept_conforms known.now place parameters.now entity) }
 {
     match entity {
         None => Ok(()),

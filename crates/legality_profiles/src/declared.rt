@@ -22,7 +22,8 @@ fn specification_in<'t>(
     entity: u32,
     occurrence: Occurrence<'t>,
 ) -> Option<&'t SubprogramSpecification>
-    ensures { option_copied result ≡ specification_in names.now entity (occurrence_shown occurrence.entry) }
+    ensures { option_copied result
+        ≡ specification_in names.now entity (occurrence_shown occurrence.entry) }
 {
     match occurrence {
         Occurrence::DeclareSubprogram {
@@ -45,7 +46,8 @@ fn specification_among<'t>(
     entity: u32,
     occurrences: &[Occurrence<'t>],
 ) -> Option<&'t SubprogramSpecification>
-    ensures { option_copied result ≡ specification_of names.now entity (map occurrence_shown occurrences.now) }
+    ensures { option_copied result
+        ≡ specification_of names.now entity (map occurrence_shown occurrences.now) }
 {
     for occurrence in occurrences {
         match specification_in(names, entity, *occurrence) {
@@ -93,7 +95,8 @@ fn entry_among<'t>(
     entity: u32,
     occurrences: &[Occurrence<'t>],
 ) -> Option<&'t [Parameter]>
-    ensures { option_copied result ≡ entry_declared_as names.now entity (map occurrence_shown occurrences.now) }
+    ensures { option_copied result
+        ≡ entry_declared_as names.now entity (map occurrence_shown occurrences.now) }
 {
     for occurrence in occurrences {
         match entry_in(names, entity, *occurrence) {

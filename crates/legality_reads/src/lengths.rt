@@ -58,7 +58,8 @@ fn length_of_image(names: &Names<'_>, t: AdaType) -> usize
 
 /// The subtype that a name denotes, if it denotes one.
 fn mark_named(known: &Known<'_, '_>, name: &Name) -> Option<Subtype>
-    ensures { result ≡ and_then (denoted_by known.now.names name.now) (mark_denoted known.now.names) }
+    ensures { result
+        ≡ and_then (denoted_by known.now.names name.now) (mark_denoted known.now.names) }
 {
     match denoted_by(known.names.get(), name) {
         None => None,

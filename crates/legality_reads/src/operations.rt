@@ -61,7 +61,10 @@ fn operator_before(
     operator: UnaryOperator,
     read: &Read,
 ) -> Result<(), NoMemory>
-    ensures { OnOk result (found.new ≡ found.old ++ (as_operand read.now ++ operation_of_one_judged place operator read.now.typed)) }
+    ensures { OnOk result
+        (found.new
+        ≡ found.old
+        ++ (as_operand read.now ++ operation_of_one_judged place operator read.now.typed)) }
 {
     as_operand(found, read)?;
     operation_of_one_judged(found, place, operator, read.typed)

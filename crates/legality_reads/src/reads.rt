@@ -45,7 +45,8 @@ pub(crate) fn is_number(shape: Shape) -> bool
 
 /// The type of a number.
 fn type_of_number(text: &[u8]) -> Typed
-    ensures { result ≡ cond (nothing_there (decimals_of text.now)) typing.OfWholeNumber typing.OfPointedNumber }
+    ensures { result
+        ≡ cond (nothing_there (decimals_of text.now)) typing.OfWholeNumber typing.OfPointedNumber }
 {
     if decimals(text).is_empty() {
         Typed::OfWholeNumber
@@ -108,7 +109,9 @@ fn negative_literal(place: Place, literal: Option<Literal>) -> Option<Literal>
 
 /// Minus a number.
 fn negative_read(place: Place, operand: Read) -> Read
-    ensures { result ≡ record (plain_read place operand.typed) { literal = option_map (with_minus place) operand.literal } }
+    ensures { result
+        ≡ record (plain_read place operand.typed)
+        { literal = option_map (with_minus place) operand.literal } }
 {
     let mut read = plain_read(place, operand.typed);
     read.literal = negative_literal(place, operand.literal);

@@ -40,7 +40,8 @@ fn private_found(
     known: &Known<'_, '_>,
     declarations: &Option<Items<Declaration<Sequence>>>,
 ) -> Result<(), NoMemory>
-    ensures { OnOk result (found.new ≡ found.old ++ found_if part_found declarations.now known.now) }
+    ensures { OnOk result
+        (found.new ≡ found.old ++ found_if part_found declarations.now known.now) }
 {
     match declarations {
         None => Ok(()),
@@ -56,7 +57,8 @@ fn package_declaration_found(
     known: &Known<'_, '_>,
     declared: &PackageDeclaration,
 ) -> Result<(), NoMemory>
-    ensures { OnOk result (found.new ≡ found.old ++ package_declaration_found declared.now known.now) }
+    ensures { OnOk result
+        (found.new ≡ found.old ++ package_declaration_found declared.now known.now) }
 {
     let inside = with_around(known, Around::Package)?;
     part_found(alloc, found, &inside, declared.declarations.as_slice())?;
@@ -114,7 +116,8 @@ fn packages_found(
     known: &Known<'_, '_>,
     packages: &[LibraryPackage],
 ) -> Result<(), NoMemory>
-    ensures { OnOk result (found.new ≡ found.old ++ all_found library_package_found packages.now known.now) }
+    ensures { OnOk result
+        (found.new ≡ found.old ++ all_found library_package_found packages.now known.now) }
 {
     for unit in packages {
         library_package_found(alloc, found, known, unit)?;
@@ -147,7 +150,8 @@ fn main_priority_noted(
     aspects: &[AspectPart],
     place: Place,
 ) -> Result<(), NoMemory>
-    ensures { OnOk result (found.new ≡ found.old ++ main_priority_noted last aspects.now place ∷ []) }
+    ensures { OnOk result
+        (found.new ≡ found.old ++ main_priority_noted last aspects.now place ∷ []) }
 {
     note(
         found,

@@ -143,7 +143,8 @@ fn assignment_judged(
     target: Typed,
     read: &Read,
 ) -> Result<(), NoMemory>
-    ensures { OnOk result (found.new ≡ found.old ++ assignment_judged known.now name.now target read.now) }
+    ensures { OnOk result
+        (found.new ≡ found.old ++ assignment_judged known.now name.now target read.now) }
 {
     let broken = is_wrong_target(known, name, target, read);
     broken_if(found, Rule::AssignedVariable, broken, place_of(name))?;

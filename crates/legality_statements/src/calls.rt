@@ -77,7 +77,12 @@ fn procedure_called(
     actuals: &[ActualPart],
     denoted: Denoted,
 ) -> Result<(), NoMemory>
-    ensures { OnOk result (found.new ≡ found.old ++ (line_if_put place actuals.now denoted ++ actuals_judged known.now place (formals_denoted known.now actuals.now denoted) actuals.now)) }
+    ensures { OnOk result
+        (found.new
+        ≡ found.old
+        ++ (line_if_put place actuals.now denoted
+        ++ actuals_judged known.now place (formals_denoted known.now actuals.now denoted)
+        actuals.now)) }
 {
     line_if_put(found, place, actuals, denoted)?;
     let formals = formals_denoted(alloc, known, actuals, denoted)?;
@@ -94,7 +99,8 @@ fn call_judged(
     actuals: &[ActualPart],
     denoted: Denoted,
 ) -> Result<(), NoMemory>
-    ensures { OnOk result (found.new ≡ found.old ++ call_judged known.now place actuals.now denoted) }
+    ensures { OnOk result
+        (found.new ≡ found.old ++ call_judged known.now place actuals.now denoted) }
 {
     if denotes_procedure(known, denoted) {
         procedure_called(alloc, found, known, place, actuals, denoted)
@@ -112,7 +118,10 @@ fn call_judged_if(
     actuals: &[ActualPart],
     denoted: Option<Denoted>,
 ) -> Result<(), NoMemory>
-    ensures { OnOk result (found.new ≡ found.old ++ unwrap_or (option_map (call_judged known.now place actuals.now) denoted) []) }
+    ensures { OnOk result
+        (found.new
+        ≡ found.old
+        ++ unwrap_or (option_map (call_judged known.now place actuals.now) denoted) []) }
 {
     match denoted {
         None => Ok(()),

@@ -129,7 +129,8 @@ fn condition_if(
     known: &Known<'_, '_>,
     condition: &Option<Expression>,
 ) -> Result<(), NoMemory>
-    ensures { OnOk result (found.new ≡ found.old ++ found_if condition_found condition.now known.now) }
+    ensures { OnOk result
+        (found.new ≡ found.old ++ found_if condition_found condition.now known.now) }
 {
     match condition {
         None => Ok(()),
@@ -228,7 +229,8 @@ fn return_judged(
     has_value: bool,
     function: Option<SubprogramAround>,
 ) -> Result<(), NoMemory>
-    ensures { OnOk result (found.new ≡ found.old ++ return_judged known.now place has_value function) }
+    ensures { OnOk result
+        (found.new ≡ found.old ++ return_judged known.now place has_value function) }
 {
     let kept = same_truth(has_value, function.is_some()) && !stands_in_package(known);
     broken_unless(found, Rule::ReturnStatement, kept, place)?;

@@ -108,7 +108,10 @@ fn for_found(
     low: &Expression,
     high: &Expression,
 ) -> Result<(), NoMemory>
-    ensures { OnOk result (found.new ≡ found.old ++ iteration_found place (iteration.For place name.now false low.now high.now) known.now) }
+    ensures { OnOk result
+        (found.new
+        ≡ found.old
+        ++ iteration_found place (iteration.For place name.now false low.now high.now) known.now) }
 {
     cells_noted(found, known, name, place)?;
     let first = low.read(alloc, found, known)?;

@@ -60,7 +60,8 @@ fn unless_value(
     known: &Known<'_, '_>,
     name: &Name,
 ) -> Result<(), NoMemory>
-    ensures { OnOk result (found.new ≡ found.old ++ unless_denoted (denotes_value known.now) known.now name.now) }
+    ensures { OnOk result
+        (found.new ≡ found.old ++ unless_denoted (denotes_value known.now) known.now name.now) }
 {
     let kept = names_value(known, name);
     broken_unless(found, Rule::KindOfName, kept, place_of(name))
@@ -72,7 +73,10 @@ fn unless_values(
     known: &Known<'_, '_>,
     names: &OneOrMore<Name>,
 ) -> Result<(), NoMemory>
-    ensures { OnOk result (found.new ≡ found.old ++ flat_map (unless_denoted (denotes_value known.now) known.now) (all_of names.now)) }
+    ensures { OnOk result
+        (found.new
+        ≡ found.old
+        ++ flat_map (unless_denoted (denotes_value known.now) known.now) (all_of names.now)) }
 {
     unless_value(found, known, &names.first)?;
     for name in names.others.as_slice() {
@@ -103,7 +107,8 @@ pub fn abort_found(
     place: Place,
     names: &OneOrMore<Name>,
 ) -> Result<(), NoMemory>
-    ensures { OnOk result (found.new ≡ found.old ++ abort_found place (all_of names.now) known.now) }
+    ensures { OnOk result
+        (found.new ≡ found.old ++ abort_found place (all_of names.now) known.now) }
 {
     let broken = known.in_force.no_abort_statements;
     broken_if(found, Rule::Restriction, broken, place)?;
@@ -214,7 +219,9 @@ fn type_of_formal(formal: &Formal) -> Option<AdaType>
 
 /// Two formals have one mode and one type.
 fn same_formal(a: &Formal, b: &Formal) -> bool
-    ensures { result ≡ (same_mode a.now.mode b.now.mode && same_type_if (type_of_formal a.now) (type_of_formal b.now)) }
+    ensures { result
+        ≡ (same_mode a.now.mode b.now.mode
+        && same_type_if (type_of_formal a.now) (type_of_formal b.now)) }
 {
     same_mode(a.mode, b.mode) && same_type_if(type_of_formal(a), type_of_formal(b))
 }
@@ -293,7 +300,8 @@ fn formals_of_name<'n>(known: &'n Known<'_, '_>, name: &Name) -> Option<&'n [For
 
 /// The formals of the entry with this entity.
 fn formals_of_entity<'n>(known: &'n Known<'_, '_>, entity: Option<u32>) -> Option<&'n [Formal]>
-    ensures { option_copied result ≡ and_then (and_then entity (kind_at known.now.names)) formals_of_entry }
+    ensures { option_copied result
+        ≡ and_then (and_then entity (kind_at known.now.names)) formals_of_entry }
 {
     match entity {
         None => None,
@@ -315,7 +323,10 @@ fn nothing_there<T>(items: &[T]) -> bool
 
 /// The entry of the requeue's accept statement or entry body has the same formals.
 fn own_entry_has(known: &Known<'_, '_>, own: Option<u32>, target: &[Formal]) -> bool
-    ensures { result ≡ unwrap_or (option_map (same_formals target.now) (and_then (and_then own (kind_at known.now.names)) formals_of_entry)) false }
+    ensures { result
+        ≡ unwrap_or
+        (option_map (same_formals target.now)
+        (and_then (and_then own (kind_at known.now.names)) formals_of_entry)) false }
 {
     match formals_of_entity(known, own) {
         None => false,
@@ -326,7 +337,9 @@ fn own_entry_has(known: &Known<'_, '_>, own: Option<u32>, target: &[Formal]) -> 
 /// The target has no formals, or the same as the entry of the requeue's accept statement or entry body.
 #[tactic(auto, unfolding(ada_legality::specs::SimpleStatements::formals_fit))]
 fn target_fits(known: &Known<'_, '_>, name: &Name, own: Option<u32>) -> bool
-    ensures { result ≡ formals_fit (and_then (kind_of_name known.now name.now) formals_of_entry) (and_then (and_then own (kind_at known.now.names)) formals_of_entry) }
+    ensures { result
+        ≡ formals_fit (and_then (kind_of_name known.now name.now) formals_of_entry)
+        (and_then (and_then own (kind_at known.now.names)) formals_of_entry) }
 {
     match formals_of_name(known, name) {
         None => false,

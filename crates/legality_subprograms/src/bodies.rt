@@ -72,7 +72,8 @@ pub fn subprogram_body_judged(
     specification: &SubprogramSpecification,
     unit: Option<u32>,
 ) -> Result<(), NoMemory>
-    ensures { OnOk result (found.new ≡ found.old ++ subprogram_body_judged specification.now unit known.now) }
+    ensures { OnOk result
+        (found.new ≡ found.old ++ subprogram_body_judged specification.now unit known.now) }
 {
     body_noted(found, known, BodyKind::Subprogram, &specification.name)?;
     function_noted(found, specification)?;

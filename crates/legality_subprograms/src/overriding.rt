@@ -127,7 +127,9 @@ fn is_specified_name(known: &Known<'_, '_>, name: &Identifier) -> bool
 
 /// An entity is declared at a place.
 fn is_declared_at(names: &Names<'_>, entity: u32, place: Place) -> bool
-    ensures { result ≡ unwrap_or (option_map (λ x. same_place x.place place) (entity_at names.now entity)) false }
+    ensures { result
+        ≡ unwrap_or (option_map (λ x. same_place x.place place) (entity_at names.now entity))
+        false }
 {
     match entity_at(names, entity) {
         None => false,
@@ -221,7 +223,8 @@ pub(crate) fn overriding_judged(
     specification: &SubprogramSpecification,
     unit: Option<u32>,
 ) -> Result<(), NoMemory>
-    ensures { OnOk result (found.new ≡ found.old ++ overriding_judged known.now specification.now unit) }
+    ensures { OnOk result
+        (found.new ≡ found.old ++ overriding_judged known.now specification.now unit) }
 {
     let broken = overrides_wrongly(known, specification, unit)?;
     let place = place_of_specification(specification);

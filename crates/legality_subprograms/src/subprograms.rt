@@ -73,7 +73,10 @@ fn result_found(
     known: &Known<'_, '_>,
     result_of: &Option<SubtypeIndication>,
 ) -> Result<(), NoMemory>
-    ensures { OnOk result (found.new ≡ found.old ++ found_if (indication_found IndicationUse.ForResult) result_of.now known.now) }
+    ensures { OnOk result
+        (found.new
+        ≡ found.old
+        ++ found_if (indication_found IndicationUse.ForResult) result_of.now known.now) }
 {
     match result_of {
         None => Ok(()),
@@ -92,7 +95,8 @@ fn aspects_alone(
     place: Place,
     aspects: &[Aspect],
 ) -> Result<(), NoMemory>
-    ensures { OnOk result (found.new ≡ found.old ++ (aspects_found owner place aspects.now known.now).1) }
+    ensures { OnOk result
+        (found.new ≡ found.old ++ (aspects_found owner place aspects.now known.now).1) }
 {
     aspects_found(alloc, found, known, owner, place, aspects)?;
     Ok(())
@@ -107,7 +111,8 @@ pub fn specification_found(
     specification: &SubprogramSpecification,
     unit: Option<u32>,
 ) -> Result<(), NoMemory>
-    ensures { OnOk result (found.new ≡ found.old ++ specification_found specification.now unit known.now) }
+    ensures { OnOk result
+        (found.new ≡ found.old ++ specification_found specification.now unit known.now) }
 {
     let in_unit = unit.is_some() && specification.result.is_none();
     let overrides = is_overriding(known, &specification.name)?;

@@ -41,7 +41,8 @@ fn found_before(
     names: &Names<'_>,
     occurrence: Occurrence<'_>,
 ) -> Result<(), NoMemory>
-    ensures { OnOk result (found.new ≡ found.old ++ found_before names.now (occurrence_shown occurrence.entry)) }
+    ensures { OnOk result
+        (found.new ≡ found.old ++ found_before names.now (occurrence_shown occurrence.entry)) }
 {
     match occurrence {
         Occurrence::Complete { name, .. } => long_name(alloc, found, names, name),
@@ -71,7 +72,8 @@ fn found_behind(
     names: &Names<'_>,
     occurrence: Occurrence<'_>,
 ) -> Result<(), NoMemory>
-    ensures { OnOk result (found.new ≡ found.old ++ found_behind names.now (occurrence_shown occurrence.entry)) }
+    ensures { OnOk result
+        (found.new ≡ found.old ++ found_behind names.now (occurrence_shown occurrence.entry)) }
 {
     match occurrence {
         Occurrence::Mention { name } => unit_unseen(found, names, name),
@@ -87,7 +89,8 @@ fn found_along<'t>(
     names: &mut Names<'t>,
     occurrences: &[Occurrence<'t>],
 ) -> Result<(), NoMemory>
-    ensures { OnOk result (found.new ≡ found.old ++ found_along (map occurrence_shown occurrences.now) names.old) }
+    ensures { OnOk result
+        (found.new ≡ found.old ++ found_along (map occurrence_shown occurrences.now) names.old) }
 {
     for occurrence in occurrences {
         found_before(alloc, found, names, *occurrence)?;
@@ -118,7 +121,9 @@ pub fn units_used(
     occurrences: &Occurrences<'_>,
 ) -> Result<(), NoMemory>
     // It stands behind what was found before.
-    ensures { OnOk result (found.new ≡ found.old ++ found_from occurrences.now (nothing_known (last_priority_of pragmas.now))) }
+    ensures { OnOk result
+        (found.new
+        ≡ found.old ++ found_from occurrences.now (nothing_known (last_priority_of pragmas.now))) }
 {
     let mut names = nothing_known(alloc, last_priority_of(pragmas))?;
     found_from(alloc, found, &mut names, occurrences)

@@ -40,7 +40,9 @@ impl Tally {
     ///
     /// Errors: memory ran out for its text, or a count is no number of 64 bits any more.
     pub fn piece(&mut self, piece: &[u8]) -> Result<(), NoMemory>
-        ensures { OnOk result ((before lines : List Line) → Tallies self.old before → length lines ≤ 1 → ArePrintable lines → piece.now ≡ text_of lines → Tallies self.new (before ++ lines)) }
+        ensures { OnOk result
+            ((before lines : List Line) → Tallies self.old before → length lines ≤ 1
+            → ArePrintable lines → piece.now ≡ text_of lines → Tallies self.new (before ++ lines)) }
     {
         match read_line(piece) {
             Ok(read) => self.line(event_word(&read.1), piece),
@@ -50,7 +52,8 @@ impl Tally {
 
     /// Counts a line of this event word and with this text.
     fn line(&mut self, word: Word, text: &[u8]) -> Result<(), NoMemory>
-        ensures counts { OnOk result (self.new.counts.items ≡ map (counted word) self.old.counts.items) }
+        ensures counts { OnOk result
+            (self.new.counts.items ≡ map (counted word) self.old.counts.items) }
         ensures last { OnOk result (self.new.last.items ≡ text.now) }
     {
         count_word(&mut self.counts, word)?;
@@ -61,7 +64,8 @@ impl Tally {
 
     /// The summary of the lines that are counted.
     pub fn text(&self, alloc: Global) -> Result<Vec<u8>, NoMemory>
-        ensures { IfOk result (λ text. (lines : List Line) → Tallies self.now lines → text.items ≡ summary_of lines) }
+        ensures { IfOk result
+            (λ text. (lines : List Line) → Tallies self.now lines → text.items ≡ summary_of lines) }
     {
         let mut text = Vec::new(alloc);
         for count in self.counts.iter() {

@@ -20,10 +20,15 @@ pub fn read_file<S: Shelf>(
     name: &[u8],
     most: usize,
 ) -> Result<Vec<u8>, OrMemory<Failed>>
-    ensures read { IfOk result (λ bytes. WhereTold (told (S.files shelf.old) name.now) (λ file. bytes.items ≡ take most file)) }
+    ensures read { IfOk result
+        (λ bytes.
+        WhereTold (told (S.files shelf.old) name.now) (λ file. bytes.items ≡ take most file)) }
     ensures files { S.files shelf.new ≡ S.files shelf.old }
     ensures monotone { S.faults shelf.old ≤ S.faults shelf.new }
-    ensures cause { IfErr result (OfFault (λ _. Lacks (S.files shelf.old) name.now (Rose (S.faults shelf.old) (S.faults shelf.new)))) }
+    ensures cause { IfErr result
+        (OfFault
+        (λ _.
+        Lacks (S.files shelf.old) name.now (Rose (S.faults shelf.old) (S.faults shelf.new)))) }
 {
     match shelf.pick(name) {
         Ok(()) => read_picked(alloc, shelf, most),
@@ -38,7 +43,10 @@ fn read_picked<S: Shelf>(
     most: usize,
 ) -> Result<Vec<u8>, OrMemory<Failed>>
     requires { S.picked shelf.old ≡ true }
-    ensures read { IfOk result (λ bytes. IfSome (left_of (S.files shelf.old) (S.at shelf.old)) (λ left. bytes.items ≡ take most left)) }
+    ensures read { IfOk result
+        (λ bytes.
+        IfSome (left_of (S.files shelf.old) (S.at shelf.old))
+        (λ left. bytes.items ≡ take most left)) }
     ensures files { S.files shelf.new ≡ S.files shelf.old }
     ensures monotone { S.faults shelf.old ≤ S.faults shelf.new }
     ensures cause { IfErr result (OfFault (λ _. Rose (S.faults shelf.old) (S.faults shelf.new))) }

@@ -22,10 +22,12 @@ pub fn write_all<K: Sink>(sink: &mut K, piece: &[u8]) -> Result<(), Failed>
 
 /// Writes two pieces, the second where the first was written whole. After a failure a prefix of both was written.
 pub fn write_two<K: Sink>(sink: &mut K, first: &[u8], second: &[u8]) -> Result<(), Failed>
-    ensures written { OnOk result (K.held sink.new ≡ extended (K.held sink.old) (first.now ++ second.now)) }
+    ensures written { OnOk result
+        (K.held sink.new ≡ extended (K.held sink.old) (first.now ++ second.now)) }
     ensures monotone { K.faults sink.old ≤ K.faults sink.new }
     ensures cause { OnErr result (Rose (K.faults sink.old) (K.faults sink.new)) }
-    ensures prefix { OnErr result (HoldsPrefix (K.held sink.old) (K.held sink.new) (first.now ++ second.now)) }
+    ensures prefix { OnErr result
+        (HoldsPrefix (K.held sink.old) (K.held sink.new) (first.now ++ second.now)) }
 {
     write_all(sink, first)?;
     write_all(sink, second)
@@ -39,10 +41,14 @@ pub fn write_four<K: Sink>(
     third: &[u8],
     fourth: &[u8],
 ) -> Result<(), Failed>
-    ensures written { OnOk result (K.held sink.new ≡ extended (K.held sink.old) ((first.now ++ second.now) ++ (third.now ++ fourth.now))) }
+    ensures written { OnOk result
+        (K.held sink.new
+        ≡ extended (K.held sink.old) ((first.now ++ second.now) ++ (third.now ++ fourth.now))) }
     ensures monotone { K.faults sink.old ≤ K.faults sink.new }
     ensures cause { OnErr result (Rose (K.faults sink.old) (K.faults sink.new)) }
-    ensures prefix { OnErr result (HoldsPrefix (K.held sink.old) (K.held sink.new) ((first.now ++ second.now) ++ (third.now ++ fourth.now))) }
+    ensures prefix { OnErr result
+        (HoldsPrefix (K.held sink.old) (K.held sink.new)
+        ((first.now ++ second.now) ++ (third.now ++ fourth.now))) }
 {
     write_two(sink, first, second)?;
     write_two(sink, third, fourth)

@@ -67,7 +67,8 @@ pub fn ticks_are_charged()
 /// Where the test of a history computes to true the law holds of it, and nowhere else.
 #[tactic(auto, using(crate::proofs::TestLemmas::releases_told))]
 pub fn tests_tell()
-    ensures { (p : Image) (a : Account) (passages : List Passage) → (IsTrue (follows_releases p a passages) ↔ HistoryOk p a passages) }
+    ensures { (p : Image) (a : Account) (passages : List Passage)
+        → (IsTrue (follows_releases p a passages) ↔ HistoryOk p a passages) }
 {}
 
 /// A program with a handler of each cause keeps the law on the profile machine. It breaks it on a machine that never fires a

@@ -163,8 +163,10 @@ fn serve_image<K: Sink>(alloc: Global, work: Work, image: Image, out: &mut K) ->
 
 /// Writes that a source is accepted. After a failure a prefix of it was written.
 fn accepted<K: Sink>(out: &mut K) -> Result<(), Failed>
-    ensures written { OnOk result (K.held out.new ≡ extended (K.held out.old) (codes "accepted\n")) }
-    ensures prefix { OnErr result (HoldsPrefix (K.held out.old) (K.held out.new) (codes "accepted\n")) }
+    ensures written { OnOk result
+        (K.held out.new ≡ extended (K.held out.old) (codes "accepted\n")) }
+    ensures prefix { OnErr result
+        (HoldsPrefix (K.held out.old) (K.held out.new) (codes "accepted\n")) }
     ensures monotone { K.faults out.old ≤ K.faults out.new }
     ensures cause { OnErr result (Rose (K.faults out.old) (K.faults out.new)) }
 {

@@ -93,7 +93,8 @@ pub fn pass(clocks: &mut [Clock], passing: &Passing)
 
 /// Sees to a clock of the base priority that a line gives to a task.
 pub fn add_clock(clocks: &mut Vec<Clock>, event: &Event) -> Result<(), NoMemory>
-    ensures added { OnOk result (clocks.new.items ≡ with_clock (level_given event.now) clocks.old.items) }
+    ensures added { OnOk result
+        (clocks.new.items ≡ with_clock (level_given event.now) clocks.old.items) }
     ensures unchanged { OnErr result (clocks.new.items ≡ clocks.old.items) }
 {
     match level_given(event) {

@@ -158,8 +158,12 @@ pub fn note_place(
     event: &Event,
     place: usize,
 ) -> Result<(), NoMemory>
-    ensures noted { OnOk result ((number : ℕ) → get nat_cmp places.new number ≡ noted (created_number event.now) place number (get nat_cmp places.old number)) }
-    ensures unchanged { OnErr result ((number : ℕ) → get nat_cmp places.new number ≡ get nat_cmp places.old number) }
+    ensures noted { OnOk result
+        ((number : ℕ)
+        → get nat_cmp places.new number
+        ≡ noted (created_number event.now) place number (get nat_cmp places.old number)) }
+    ensures unchanged { OnErr result
+        ((number : ℕ) → get nat_cmp places.new number ≡ get nat_cmp places.old number) }
 {
     match created_number(event) {
         None => Ok(()),
@@ -176,7 +180,8 @@ pub fn place_at(
     places: &BTreeMap<u32, usize>,
     number: Option<u32>,
 ) -> Option<usize>
-    requires { (number place : ℕ) → place_in number items.now ≡ Some place → get nat_cmp places.now number ≡ Some place }
+    requires { (number place : ℕ) → place_in number items.now ≡ Some place
+        → get nat_cmp places.now number ≡ Some place }
     ensures { result ≡ place_at number items.now }
 {
     match number {
@@ -186,7 +191,8 @@ pub fn place_at(
 }
 
 fn place_in(items: &[Dated], places: &BTreeMap<u32, usize>, number: u32) -> Option<usize>
-    requires { (number place : ℕ) → place_in number items.now ≡ Some place → get nat_cmp places.now number ≡ Some place }
+    requires { (number place : ℕ) → place_in number items.now ≡ Some place
+        → get nat_cmp places.now number ≡ Some place }
     ensures { result ≡ place_in number items.now }
 {
     checked_place(items, places.get(&number).copied(), number)

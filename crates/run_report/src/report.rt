@@ -73,7 +73,9 @@ impl Model for Report {
       idle = report.idle;
     } };
 
-    ghost invariant = { λ report. IsReport report.lines report.most report.agent_run report.idle (vec_len report.items) report.items.items report.clocks.items (get nat_cmp report.places) };
+    ghost invariant = { λ report.
+        IsReport report.lines report.most report.agent_run report.idle (vec_len report.items)
+        report.items.items report.clocks.items (get nat_cmp report.places) };
 }
 
 impl Report {
@@ -100,8 +102,10 @@ impl Report {
     /// might pass its type, after 18,000,000,000 lines at the earliest, is answered as want of memory. An error changes
     /// nothing.
     pub fn line(&mut self, now: u64, event: &Event) -> Result<(), OrMemory<Malformed>>
-        ensures malformed { (lines : List Line) → Formed lines → StandsFor self.old lines → (IsFault result ↔ (Formed (with_line lines now event.now) → ⊥)) }
-        ensures stands { (lines : List Line) → StandsFor self.old lines → OnOk result (StandsFor self.new (with_line lines now event.now)) }
+        ensures malformed { (lines : List Line) → Formed lines → StandsFor self.old lines
+            → (IsFault result ↔ (Formed (with_line lines now event.now) → ⊥)) }
+        ensures stands { (lines : List Line) → StandsFor self.old lines
+            → OnOk result (StandsFor self.new (with_line lines now event.now)) }
         ensures unchanged { OnErr result (self.new ≡ self.old) }
     {
         accounts_tell();
@@ -168,7 +172,8 @@ impl Report {
     /// The account of the task at this place, in the order of the `new` lines, counted from 0; None exactly past the last.
     pub fn account(&self, place: u32) -> Option<Account>
         ensures kept { result ≡ slice_get (accounts_in self.now) place }
-        ensures account { (lines : List Line) → Formed lines → StandsFor self.now lines → result ≡ slice_get (accounts_of lines) place }
+        ensures account { (lines : List Line) → Formed lines → StandsFor self.now lines
+            → result ≡ slice_get (accounts_of lines) place }
     {
         accounts_tell();
         self.account_at(place)
@@ -184,7 +189,8 @@ impl Report {
     /// The ticks in which the agent ran.
     pub fn agent_run(&self) -> u64
         ensures kept { result ≡ self.now.agent_run }
-        ensures agent_run { (lines : List Line) → Formed lines → StandsFor self.now lines → result ≡ run_of subject.Agent lines }
+        ensures agent_run { (lines : List Line) → Formed lines → StandsFor self.now lines
+            → result ≡ run_of subject.Agent lines }
     {
         accounts_tell();
         self.agent_run
@@ -193,7 +199,8 @@ impl Report {
     /// The ticks in which nobody ran.
     pub fn idle(&self) -> u64
         ensures kept { result ≡ self.now.idle }
-        ensures idle { (lines : List Line) → Formed lines → StandsFor self.now lines → result ≡ idle_of lines }
+        ensures idle { (lines : List Line) → Formed lines → StandsFor self.now lines
+            → result ≡ idle_of lines }
     {
         accounts_tell();
         self.idle
@@ -202,7 +209,8 @@ impl Report {
     /// The last line's tick, 0 without lines.
     pub fn ticks(&self) -> u64
         ensures kept { result ≡ self.now.seen.tick }
-        ensures ticks { (lines : List Line) → StandsFor self.now lines → result ≡ last_from 0 lines }
+        ensures ticks { (lines : List Line) → StandsFor self.now lines
+            → result ≡ last_from 0 lines }
     {
         accounts_tell();
         self.lines.last()
@@ -300,9 +308,13 @@ fn prepare(
     requires last { last ≤ 1000000000 }
     requires fit { AllByRecursion (IsFit clocks.old.items last) items.old.items }
     requires known { IsKnown items.old.items (get nat_cmp places.old) }
-    requires created { (number : ℕ) → created_number event.now ≡ Some number → place_in number items.old.items ≡ None }
-    ensures same { IsSame last items.old.items clocks.old.items items.new.items clocks.new.items (get nat_cmp places.new) }
-    ensures ready { OnOk result (IsReady event.now passing.now last items.new.items clocks.new.items (get nat_cmp places.new)) }
+    requires created { (number : ℕ) → created_number event.now ≡ Some number
+        → place_in number items.old.items ≡ None }
+    ensures same { IsSame last items.old.items clocks.old.items items.new.items clocks.new.items
+        (get nat_cmp places.new) }
+    ensures ready { OnOk result
+        (IsReady event.now passing.now last items.new.items clocks.new.items
+        (get nat_cmp places.new)) }
     ensures room { OnOk result (vec_len items.new < vec_capacity items.new) }
     ensures len { vec_len items.new ≡ vec_len items.old }
 {
@@ -345,7 +357,9 @@ fn advance(
     requires once { IsEachOnce items.old.items }
     requires known { IsKnown items.old.items (get nat_cmp places.now) }
     requires room { vec_len items.old < vec_capacity items.old }
-    ensures items { items.new.items ≡ map (followed clocks.old.items last passing.now now event.now) items.old.items ++ newly_dated now event.now }
+    ensures items { items.new.items
+        ≡ map (followed clocks.old.items last passing.now now event.now) items.old.items
+        ++ newly_dated now event.now }
     ensures clocks { clocks.new.items ≡ map (passed passing.now) clocks.old.items }
     ensures len { vec_len items.new ≤ vec_len items.old + 1 }
 {
@@ -408,7 +422,8 @@ fn step_for(
     requires within { AllByRecursion (IsWithin ROOM) items.now }
     requires shown { AllByRecursion (IsShown 1000000000) clocks.now }
     requires known { IsKnown items.now (get nat_cmp places.now) }
-    ensures { result ≡ step_at clocks.now last passing.now now event.now (place_at number items.now) items.now }
+    ensures { result
+        ≡ step_at clocks.now last passing.now now event.now (place_at number items.now) items.now }
 {
     let place = place_at(items, places, number);
     step_at(items, clocks, last, passing, now, event, place)

@@ -116,7 +116,9 @@ impl Tally {
 
     // Whether another subject is chosen, and the task runs, is ready, and was not placed behind all of its level.
     fn is_put_off(&self, task: TaskNo, runs: bool, now: u64, event: &Event) -> bool
-        ensures { result ≡ chooses_another task event.now && runs && is_some self.now.since && not (is_tick now self.now.tail) }
+        ensures { result
+            ≡ chooses_another task event.now && runs && is_some self.now.since
+            && not (is_tick now self.now.tail) }
     {
         chooses_another(task, event) && runs && self.since.is_some() && !is_tick(now, self.tail)
     }

@@ -15,12 +15,17 @@ use trace_text::tests_tell;
 /// What is kept of a formed list are the accounts of its tasks, as the definitions on lists say them, and whether the list
 /// stays formed shows in it.
 pub fn accounts_tell()
-    ensures accounts { (lines : List Line) → Formed lines → accounts_in (reported_of lines) ≡ accounts_of lines }
-    ensures agent_run { (lines : List Line) → Formed lines → (reported_of lines).agent_run ≡ run_of subject.Agent lines }
+    ensures accounts { (lines : List Line) → Formed lines
+        → accounts_in (reported_of lines) ≡ accounts_of lines }
+    ensures agent_run { (lines : List Line) → Formed lines
+        → (reported_of lines).agent_run ≡ run_of subject.Agent lines }
     ensures idle { (lines : List Line) → Formed lines → (reported_of lines).idle ≡ idle_of lines }
     ensures ticks { (lines : List Line) → (reported_of lines).seen.tick ≡ last_from 0 lines }
-    ensures more { (lines : List Line) (tick : ℕ) (event : Event) → reported_of (with_line lines tick event) ≡ report_line (reported_of lines) (tick, event) }
-    ensures formed { (lines : List Line) (tick : ℕ) (event : Event) → Formed lines → (IsTrue (is_formed_after (reported_of lines).seen tick event) ↔ Formed (with_line lines tick event)) }
+    ensures more { (lines : List Line) (tick : ℕ) (event : Event)
+        → reported_of (with_line lines tick event) ≡ report_line (reported_of lines) (tick, event) }
+    ensures formed { (lines : List Line) (tick : ℕ) (event : Event) → Formed lines
+        → (IsTrue (is_formed_after (reported_of lines).seen tick event)
+        ↔ Formed (with_line lines tick event)) }
 {
     facts_tell();
     tests_tell();

@@ -25,10 +25,12 @@ pub fn run<K: Sink>(
 ) -> Result<Stop, OrMemory<Failed>>
     requires positive { 0 < ticks }
     requires bounded { ticks ≤ MOST_TICKS }
-    ensures written { OnOk result (K.held out.new ≡ extended (K.held out.old) (text_of_run image ticks)) }
+    ensures written { OnOk result
+        (K.held out.new ≡ extended (K.held out.old) (text_of_run image ticks)) }
     ensures printable { OnOk result (ArePrintable (lines_of_run image [] ticks)) }
     ensures stop { IfOk result (λ stop. stop ≡ stop_of image ticks) }
-    ensures prefix { OnErr result (HoldsPrefix (K.held out.old) (K.held out.new) (text_of_run image ticks)) }
+    ensures prefix { OnErr result
+        (HoldsPrefix (K.held out.old) (K.held out.new) (text_of_run image ticks)) }
     ensures monotone { K.faults out.old ≤ K.faults out.new }
     ensures cause { IfErr result (OfFault (λ _. Rose (K.faults out.old) (K.faults out.new))) }
 {
@@ -49,10 +51,12 @@ pub fn run_under<K: Sink>(
 ) -> Result<Stop, OrMemory<Failed>>
     requires positive { 0 < ticks }
     requires bounded { ticks ≤ MOST_TICKS }
-    ensures written { OnOk result (K.held out.new ≡ extended (K.held out.old) (text_under items image ticks)) }
+    ensures written { OnOk result
+        (K.held out.new ≡ extended (K.held out.old) (text_under items image ticks)) }
     ensures printable { OnOk result (ArePrintable (lines_of_run image items ticks)) }
     ensures stop { IfOk result (λ stop. stop ≡ stop_under items image ticks) }
-    ensures prefix { OnErr result (HoldsPrefix (K.held out.old) (K.held out.new) (text_under items image ticks)) }
+    ensures prefix { OnErr result
+        (HoldsPrefix (K.held out.old) (K.held out.new) (text_under items image ticks)) }
     ensures monotone { K.faults out.old ≤ K.faults out.new }
     ensures cause { IfErr result (OfFault (λ _. Rose (K.faults out.old) (K.faults out.new))) }
 {

@@ -30,9 +30,11 @@ pub fn summarize<K: Sink>(
 ) -> Result<Stop, OrMemory<Failed>>
     requires positive { 0 < ticks }
     requires bounded { ticks ≤ MOST_TICKS }
-    ensures written { OnOk result (K.held out.new ≡ extended (K.held out.old) (summary_under [] image ticks)) }
+    ensures written { OnOk result
+        (K.held out.new ≡ extended (K.held out.old) (summary_under [] image ticks)) }
     ensures stop { IfOk result (λ stop. stop ≡ stop_of image ticks) }
-    ensures prefix { OnErr result (HoldsPrefix (K.held out.old) (K.held out.new) (summary_under [] image ticks)) }
+    ensures prefix { OnErr result
+        (HoldsPrefix (K.held out.old) (K.held out.new) (summary_under [] image ticks)) }
     ensures monotone { K.faults out.old ≤ K.faults out.new }
     ensures cause { IfErr result (OfFault (λ _. Rose (K.faults out.old) (K.faults out.new))) }
 {
@@ -50,9 +52,11 @@ fn summarize_under<K: Sink>(
 ) -> Result<Stop, OrMemory<Failed>>
     requires positive { 0 < ticks }
     requires bounded { ticks ≤ MOST_TICKS }
-    ensures written { OnOk result (K.held out.new ≡ extended (K.held out.old) (summary_under items image ticks)) }
+    ensures written { OnOk result
+        (K.held out.new ≡ extended (K.held out.old) (summary_under items image ticks)) }
     ensures stop { IfOk result (λ stop. stop ≡ stop_under items image ticks) }
-    ensures prefix { OnErr result (HoldsPrefix (K.held out.old) (K.held out.new) (summary_under items image ticks)) }
+    ensures prefix { OnErr result
+        (HoldsPrefix (K.held out.old) (K.held out.new) (summary_under items image ticks)) }
     ensures monotone { K.faults out.old ≤ K.faults out.new }
     ensures cause { IfErr result (OfFault (λ _. Rose (K.faults out.old) (K.faults out.new))) }
 {

@@ -70,7 +70,8 @@ pub fn busy(table: &Table) -> Option<u32>
 fn before_next_deadline(duty: &Duty, window: u32) -> u32
     requires duty { IsDuty duty.now }
     requires window { window ≤ LONGEST }
-    ensures { window + result + 1 ≡ duty.now.deadline + deadlines_in window duty.now * duty.now.period }
+    ensures { window + result + 1
+        ≡ duty.now.deadline + deadlines_in window duty.now * duty.now.period }
 {
     if window < duty.deadline {
         duty.deadline - window - 1
@@ -86,7 +87,8 @@ fn add_due(due: &mut [u64], duty: &Duty, base: u32)
     requires short { length due.old ≤ CHUNK }
     requires room { EachIndex due.old (λ k. slice_index due.old k + LONGEST < 2 ^ 64) }
     ensures due { HasDueOf base duty.now due.old due.new }
-    ensures bounded { EachIndex due.new (λ k. slice_index due.new k ≤ slice_index due.old k + LONGEST) }
+    ensures bounded { EachIndex due.new
+        (λ k. slice_index due.new k ≤ slice_index due.old k + LONGEST) }
 {
     let cost = duty.cost as u64;
     let period = duty.period as usize;

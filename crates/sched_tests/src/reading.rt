@@ -57,7 +57,8 @@ fn are_fields(words: &Words<'_>) -> bool
 
 /// Six words, with one space between two of them.
 fn six_words(text: &[u8]) -> Option<Words<'_>>
-    ensures { MatchOption result (six_words (words_of text.now) ≡ None) (λ words. six_words (words_of text.now) ≡ Some (words_in words)) }
+    ensures { MatchOption result (six_words (words_of text.now) ≡ None)
+        (λ words. six_words (words_of text.now) ≡ Some (words_in words)) }
 {
     let (name, rest) = next_word(text)?;
     let (cost, rest) = next_word(rest)?;
@@ -139,7 +140,8 @@ fn is_silent(text: &[u8]) -> bool
 fn add_duty(duties: &mut Vec<Duty>, number: u32, duty: Duty) -> Result<(), OrMemory<TableFault>>
     requires table { IsTable duties.old.items }
     requires limits { IsDuty duty }
-    ensures added { AnswersAs (λ _. duties.new.items) result (at_line number (with_duty duties.old.items (Ok duty))) }
+    ensures added { AnswersAs (λ _. duties.new.items) result
+        (at_line number (with_duty duties.old.items (Ok duty))) }
     ensures table { OnOk result (IsTable duties.new.items) }
 {
     if is_taken(duties.as_slice(), duty.name.as_bytes()) {
@@ -161,7 +163,8 @@ fn add_duty(duties: &mut Vec<Duty>, number: u32, duty: Duty) -> Result<(), OrMem
 /// Adds what a line says; nothing is read past a line that is refused.
 fn read_line(duties: &mut Vec<Duty>, line: TextLine<'_>) -> Result<(), OrMemory<TableFault>>
     requires { IsTable duties.old.items }
-    ensures read { AnswersAs (λ _. duties.new.items) result (read_line (Ok duties.old.items) (line_in line.entry)) }
+    ensures read { AnswersAs (λ _. duties.new.items) result
+        (read_line (Ok duties.old.items) (line_in line.entry)) }
     ensures table { OnOk result (IsTable duties.new.items) }
     ensures short { OnOk result (line.entry.stop ≤ TABLE_BYTES) }
 {

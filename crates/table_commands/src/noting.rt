@@ -102,10 +102,12 @@ fn note_trace<K: Sink>(notes: &mut K, line: u64, status: u8) -> u8
 
 /// Writes `source refused LINE:COLUMN CODE` and a line feed. After a failure a prefix of it was written.
 fn write_refusal<K: Sink>(notes: &mut K, refusal: Refusal) -> Result<(), Failed>
-    ensures written { OnOk result (K.held notes.new ≡ extended (K.held notes.old) (refusal_text refusal)) }
+    ensures written { OnOk result
+        (K.held notes.new ≡ extended (K.held notes.old) (refusal_text refusal)) }
     ensures monotone { K.faults notes.old ≤ K.faults notes.new }
     ensures cause { OnErr result (Rose (K.faults notes.old) (K.faults notes.new)) }
-    ensures prefix { OnErr result (HoldsPrefix (K.held notes.old) (K.held notes.new) (refusal_text refusal)) }
+    ensures prefix { OnErr result
+        (HoldsPrefix (K.held notes.old) (K.held notes.new) (refusal_text refusal)) }
 {
     let (mut line, mut column, mut number) = (Buffer::new(), Buffer::new(), Buffer::new());
     let line = line.format(refusal.place.line).as_bytes();
@@ -117,10 +119,12 @@ fn write_refusal<K: Sink>(notes: &mut K, refusal: Refusal) -> Result<(), Failed>
 
 /// Writes `script refused LINE KIND` and a line feed. After a failure a prefix of it was written.
 fn write_script_fault<K: Sink>(notes: &mut K, fault: ScriptFault) -> Result<(), Failed>
-    ensures written { OnOk result (K.held notes.new ≡ extended (K.held notes.old) (script_note fault)) }
+    ensures written { OnOk result
+        (K.held notes.new ≡ extended (K.held notes.old) (script_note fault)) }
     ensures monotone { K.faults notes.old ≤ K.faults notes.new }
     ensures cause { OnErr result (Rose (K.faults notes.old) (K.faults notes.new)) }
-    ensures prefix { OnErr result (HoldsPrefix (K.held notes.old) (K.held notes.new) (script_note fault)) }
+    ensures prefix { OnErr result
+        (HoldsPrefix (K.held notes.old) (K.held notes.new) (script_note fault)) }
 {
     let (mut line, mut kind) = (Buffer::new(), Buffer::new());
     let line = line.format(fault.line).as_bytes();
@@ -130,10 +134,12 @@ fn write_script_fault<K: Sink>(notes: &mut K, fault: ScriptFault) -> Result<(), 
 
 /// Writes `table refused LINE KIND` and a line feed. After a failure a prefix of it was written.
 fn write_table_fault<K: Sink>(notes: &mut K, fault: TableFault) -> Result<(), Failed>
-    ensures written { OnOk result (K.held notes.new ≡ extended (K.held notes.old) (table_note fault)) }
+    ensures written { OnOk result
+        (K.held notes.new ≡ extended (K.held notes.old) (table_note fault)) }
     ensures monotone { K.faults notes.old ≤ K.faults notes.new }
     ensures cause { OnErr result (Rose (K.faults notes.old) (K.faults notes.new)) }
-    ensures prefix { OnErr result (HoldsPrefix (K.held notes.old) (K.held notes.new) (table_note fault)) }
+    ensures prefix { OnErr result
+        (HoldsPrefix (K.held notes.old) (K.held notes.new) (table_note fault)) }
 {
     let (mut line, mut kind) = (Buffer::new(), Buffer::new());
     let line = line.format(fault.line).as_bytes();
@@ -143,10 +149,12 @@ fn write_table_fault<K: Sink>(notes: &mut K, fault: TableFault) -> Result<(), Fa
 
 /// Writes `trace refused LINE` and a line feed. After a failure a prefix of it was written.
 fn write_trace_fault<K: Sink>(notes: &mut K, line: u64) -> Result<(), Failed>
-    ensures written { OnOk result (K.held notes.new ≡ extended (K.held notes.old) (trace_note line)) }
+    ensures written { OnOk result
+        (K.held notes.new ≡ extended (K.held notes.old) (trace_note line)) }
     ensures monotone { K.faults notes.old ≤ K.faults notes.new }
     ensures cause { OnErr result (Rose (K.faults notes.old) (K.faults notes.new)) }
-    ensures prefix { OnErr result (HoldsPrefix (K.held notes.old) (K.held notes.new) (trace_note line)) }
+    ensures prefix { OnErr result
+        (HoldsPrefix (K.held notes.old) (K.held notes.new) (trace_note line)) }
 {
     let mut digits = Buffer::new();
     write_words(notes, b"trace refused", digits.format(line).as_bytes())

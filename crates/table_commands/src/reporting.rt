@@ -16,11 +16,13 @@ use sched_tests::{LONGEST, Table, busy, first_over, response};
 /// Writes the response time of each duty, line by line in the order of the table, and answers whether one of them
 /// misses. After a failure a prefix of the lines was written.
 pub fn write_responses<K: Sink>(out: &mut K, table: &Table) -> Result<bool, Failed>
-    ensures written { OnOk result (K.held out.new ≡ extended (K.held out.old) (rta_text table.now)) }
+    ensures written { OnOk result
+        (K.held out.new ≡ extended (K.held out.old) (rta_text table.now)) }
     ensures missed { IfOk result (λ missed. is_missed table.now 0 table.now ≡ missed) }
     ensures monotone { K.faults out.old ≤ K.faults out.new }
     ensures cause { OnErr result (Rose (K.faults out.old) (K.faults out.new)) }
-    ensures prefix { OnErr result (HoldsPrefix (K.held out.old) (K.held out.new) (rta_text table.now)) }
+    ensures prefix { OnErr result
+        (HoldsPrefix (K.held out.old) (K.held out.new) (rta_text table.now)) }
 {
     let mut missed = false;
     for place in 0..table.len() {
@@ -45,10 +47,14 @@ fn write_duty<K: Sink>(
     place: u32,
     time: Option<u32>,
 ) -> Result<(), Failed>
-    ensures written { OnOk result (IfSome (slice_get table.now place) (λ duty. K.held out.new ≡ extended (K.held out.old) (response_line duty.name time))) }
+    ensures written { OnOk result
+        (IfSome (slice_get table.now place)
+        (λ duty. K.held out.new ≡ extended (K.held out.old) (response_line duty.name time))) }
     ensures monotone { K.faults out.old ≤ K.faults out.new }
     ensures cause { OnErr result (Rose (K.faults out.old) (K.faults out.new)) }
-    ensures prefix { OnErr result (IfSome (slice_get table.now place) (λ duty. HoldsPrefix (K.held out.old) (K.held out.new) (response_line duty.name time))) }
+    ensures prefix { OnErr result
+        (IfSome (slice_get table.now place)
+        (λ duty. HoldsPrefix (K.held out.old) (K.held out.new) (response_line duty.name time))) }
 {
     match table.duty(place) {
         Some(duty) => write_response(out, duty.name.as_bytes(), time),
@@ -58,10 +64,12 @@ fn write_duty<K: Sink>(
 
 /// Writes the line of a duty: its name, and its response time or that it misses.
 fn write_response<K: Sink>(out: &mut K, name: &[u8], time: Option<u32>) -> Result<(), Failed>
-    ensures written { OnOk result (K.held out.new ≡ extended (K.held out.old) (response_line name.now time)) }
+    ensures written { OnOk result
+        (K.held out.new ≡ extended (K.held out.old) (response_line name.now time)) }
     ensures monotone { K.faults out.old ≤ K.faults out.new }
     ensures cause { OnErr result (Rose (K.faults out.old) (K.faults out.new)) }
-    ensures prefix { OnErr result (HoldsPrefix (K.held out.old) (K.held out.new) (response_line name.now time)) }
+    ensures prefix { OnErr result
+        (HoldsPrefix (K.held out.old) (K.held out.new) (response_line name.now time)) }
 {
     match time {
         None => write_words(out, name, b"miss"),
@@ -75,12 +83,14 @@ fn write_response<K: Sink>(out: &mut K, name: &[u8], time: Option<u32>) -> Resul
 /// Writes what the demand test tells, and answers whether a window is overrun. Where a busy period is written, no
 /// window of any length is overrun. After a failure a prefix of it was written.
 pub fn write_demand<K: Sink>(out: &mut K, table: &Table) -> Result<bool, Failed>
-    ensures written { OnOk result (K.held out.new ≡ extended (K.held out.old) (demand_text table.now)) }
+    ensures written { OnOk result
+        (K.held out.new ≡ extended (K.held out.old) (demand_text table.now)) }
     ensures over { IfOk result (λ over. is_some (first_over_of table.now) ≡ over) }
     ensures beyond { OnOk result (HoldsBeyond test.Demand table.now) }
     ensures monotone { K.faults out.old ≤ K.faults out.new }
     ensures cause { OnErr result (Rose (K.faults out.old) (K.faults out.new)) }
-    ensures prefix { OnErr result (HoldsPrefix (K.held out.old) (K.held out.new) (demand_text table.now)) }
+    ensures prefix { OnErr result
+        (HoldsPrefix (K.held out.old) (K.held out.new) (demand_text table.now)) }
 {
     match first_over(table) {
         Some((window, demand)) => {
@@ -96,10 +106,15 @@ pub fn write_demand<K: Sink>(out: &mut K, table: &Table) -> Result<bool, Failed>
 
 /// Writes the first window that is overrun, with its demand.
 fn write_over<K: Sink>(out: &mut K, window: u32, demand: u64) -> Result<(), Failed>
-    ensures written { OnOk result (K.held out.new ≡ extended (K.held out.old) (codes "over " ++ decimal window ++ 32 ∷ (decimal demand ++ 10 ∷ []))) }
+    ensures written { OnOk result
+        (K.held out.new
+        ≡ extended (K.held out.old)
+        (codes "over " ++ decimal window ++ 32 ∷ (decimal demand ++ 10 ∷ []))) }
     ensures monotone { K.faults out.old ≤ K.faults out.new }
     ensures cause { OnErr result (Rose (K.faults out.old) (K.faults out.new)) }
-    ensures prefix { OnErr result (HoldsPrefix (K.held out.old) (K.held out.new) (codes "over " ++ decimal window ++ 32 ∷ (decimal demand ++ 10 ∷ []))) }
+    ensures prefix { OnErr result
+        (HoldsPrefix (K.held out.old) (K.held out.new)
+        (codes "over " ++ decimal window ++ 32 ∷ (decimal demand ++ 10 ∷ []))) }
 {
     let (mut length, mut asked) = (Buffer::new(), Buffer::new());
     let length = length.format(window).as_bytes();
@@ -109,10 +124,15 @@ fn write_over<K: Sink>(out: &mut K, window: u32, demand: u64) -> Result<(), Fail
 
 /// Writes that no window up to the longest one is overrun, and the busy period.
 fn write_within<K: Sink>(out: &mut K, busy: Option<u32>) -> Result<(), Failed>
-    ensures written { OnOk result (K.held out.new ≡ extended (K.held out.old) (codes "within " ++ decimal LONGEST ++ 10 ∷ (codes "busy " ++ busy_text busy ++ 10 ∷ []))) }
+    ensures written { OnOk result
+        (K.held out.new
+        ≡ extended (K.held out.old)
+        (codes "within " ++ decimal LONGEST ++ 10 ∷ (codes "busy " ++ busy_text busy ++ 10 ∷ []))) }
     ensures monotone { K.faults out.old ≤ K.faults out.new }
     ensures cause { OnErr result (Rose (K.faults out.old) (K.faults out.new)) }
-    ensures prefix { OnErr result (HoldsPrefix (K.held out.old) (K.held out.new) (codes "within " ++ decimal LONGEST ++ 10 ∷ (codes "busy " ++ busy_text busy ++ 10 ∷ []))) }
+    ensures prefix { OnErr result
+        (HoldsPrefix (K.held out.old) (K.held out.new)
+        (codes "within " ++ decimal LONGEST ++ 10 ∷ (codes "busy " ++ busy_text busy ++ 10 ∷ []))) }
 {
     let mut digits = Buffer::new();
     write_words(out, b"within", digits.format(LONGEST).as_bytes())?;
@@ -121,10 +141,13 @@ fn write_within<K: Sink>(out: &mut K, busy: Option<u32>) -> Result<(), Failed>
 
 /// Writes the busy period, or that there is none.
 fn write_busy<K: Sink>(out: &mut K, busy: Option<u32>) -> Result<(), Failed>
-    ensures written { OnOk result (K.held out.new ≡ extended (K.held out.old) (codes "busy " ++ busy_text busy ++ 10 ∷ [])) }
+    ensures written { OnOk result
+        (K.held out.new ≡ extended (K.held out.old) (codes "busy " ++ busy_text busy ++ 10 ∷ [])) }
     ensures monotone { K.faults out.old ≤ K.faults out.new }
     ensures cause { OnErr result (Rose (K.faults out.old) (K.faults out.new)) }
-    ensures prefix { OnErr result (HoldsPrefix (K.held out.old) (K.held out.new) (codes "busy " ++ busy_text busy ++ 10 ∷ [])) }
+    ensures prefix { OnErr result
+        (HoldsPrefix (K.held out.old) (K.held out.new)
+        (codes "busy " ++ busy_text busy ++ 10 ∷ [])) }
 {
     match busy {
         None => write_words(out, b"busy", b"none"),

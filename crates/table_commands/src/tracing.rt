@@ -124,10 +124,14 @@ fn tell_verdict<K: Sink>(out: &mut K, verdict: Verdict) -> Outcome
 
 /// Writes `lawful LINES` and a line feed. After a failure a prefix of it was written.
 fn write_lawful<K: Sink>(out: &mut K, count: u64) -> Result<(), Failed>
-    ensures written { OnOk result (K.held out.new ≡ extended (K.held out.old) (codes "lawful " ++ (decimal count ++ 10 ∷ []))) }
+    ensures written { OnOk result
+        (K.held out.new
+        ≡ extended (K.held out.old) (codes "lawful " ++ (decimal count ++ 10 ∷ []))) }
     ensures monotone { K.faults out.old ≤ K.faults out.new }
     ensures cause { OnErr result (Rose (K.faults out.old) (K.faults out.new)) }
-    ensures prefix { OnErr result (HoldsPrefix (K.held out.old) (K.held out.new) (codes "lawful " ++ (decimal count ++ 10 ∷ []))) }
+    ensures prefix { OnErr result
+        (HoldsPrefix (K.held out.old) (K.held out.new)
+        (codes "lawful " ++ (decimal count ++ 10 ∷ []))) }
 {
     let mut digits = Buffer::new();
     write_words(out, b"lawful", digits.format(count).as_bytes())
@@ -135,10 +139,15 @@ fn write_lawful<K: Sink>(out: &mut K, count: u64) -> Result<(), Failed>
 
 /// Writes `broken LINE LAW` and a line feed. After a failure a prefix of it was written.
 fn write_broken<K: Sink>(out: &mut K, line: u64, law: Law) -> Result<(), Failed>
-    ensures written { OnOk result (K.held out.new ≡ extended (K.held out.old) (codes "broken " ++ (decimal line ++ 32 ∷ (law_word law ++ 10 ∷ [])))) }
+    ensures written { OnOk result
+        (K.held out.new
+        ≡ extended (K.held out.old)
+        (codes "broken " ++ (decimal line ++ 32 ∷ (law_word law ++ 10 ∷ [])))) }
     ensures monotone { K.faults out.old ≤ K.faults out.new }
     ensures cause { OnErr result (Rose (K.faults out.old) (K.faults out.new)) }
-    ensures prefix { OnErr result (HoldsPrefix (K.held out.old) (K.held out.new) (codes "broken " ++ (decimal line ++ 32 ∷ (law_word law ++ 10 ∷ [])))) }
+    ensures prefix { OnErr result
+        (HoldsPrefix (K.held out.old) (K.held out.new)
+        (codes "broken " ++ (decimal line ++ 32 ∷ (law_word law ++ 10 ∷ [])))) }
 {
     let mut number = Buffer::new();
     let number = number.format(line).as_bytes();

@@ -60,7 +60,8 @@ pub fn line_at(bytes: &[u8], number: u32, start: usize) -> TextLine<'_>
 
 /// The word before the first space, and what stands behind it; none where there is no space.
 pub fn next_word(text: &[u8]) -> Option<(&[u8], &[u8])>
-    ensures { MatchOption result (words_of text.now ≡ text.now ∷ []) (λ cut. words_of text.now ≡ cut.0.now ∷ words_of cut.1.now) }
+    ensures { MatchOption result (words_of text.now ≡ text.now ∷ [])
+        (λ cut. words_of text.now ≡ cut.0.now ∷ words_of cut.1.now) }
 {
     let place = place_of(text, b' ')?;
     Some((&text[..place], rest_from(text, place + 1)))

@@ -25,7 +25,8 @@ pub fn is_numeral(word: &[u8]) -> bool
 /// The number of digits; none where it is above the most.
 fn numeral_up_to(word: &[u8], most: u32) -> Option<u32>
     requires { IsTrue (list_all is_digit word.now) }
-    ensures { MatchOption result (most < numeral_value word.now) (λ value. (value ≡ numeral_value word.now) × (value ≤ most)) }
+    ensures { MatchOption result (most < numeral_value word.now)
+        (λ value. (value ≡ numeral_value word.now) × (value ≤ most)) }
 {
     let mut value = 0;
     for digit in word {

@@ -29,7 +29,8 @@ impl Model for Agenda {
 
     ghost view = { λ a. a.appointments.items };
 
-    ghost invariant = { λ a. (vec_len a.appointments ≤ APPOINTMENTS) × (APPOINTMENTS ≤ vec_capacity a.appointments)
+    ghost invariant = { λ a.
+        (vec_len a.appointments ≤ APPOINTMENTS) × (APPOINTMENTS ≤ vec_capacity a.appointments)
         × IsEachOnce a.appointments.items };
 }
 
@@ -91,7 +92,8 @@ impl Agenda {
     /// Sets a timing event for a moment, behind all that is set; an earlier setting of it is taken out (D.15).
     pub fn set_event(&mut self, event: u32, at: Moment)
         requires room { is_set (Event event) self.old ≡ false → length self.old < APPOINTMENTS }
-        ensures set { self.new ≡ without (Event event) self.old ++ record { what = Event event; at = at } ∷ [] }
+        ensures set { self.new
+            ≡ without (Event event) self.old ++ record { what = Event event; at = at } ∷ [] }
         ensures ahead { let rest = without (Event event) (ahead self.old) in
             ahead self.new ≡ put (record { what = Event event; at = at }) rest }
     {
@@ -195,7 +197,8 @@ fn take_out(appointments: &mut Vec<Appointment>, what: Due)
     ensures items { appointments.new.items ≡ without what appointments.old.items }
     ensures capacity { vec_capacity appointments.new ≡ vec_capacity appointments.old }
     ensures shorter { vec_len appointments.new ≤ vec_len appointments.old }
-    ensures room { is_set what appointments.old.items ≡ true → vec_len appointments.new < vec_len appointments.old }
+    ensures room { is_set what appointments.old.items ≡ true
+        → vec_len appointments.new < vec_len appointments.old }
 {
     appointments.retain(|a| !a.what.is_same(what));
 }

@@ -72,13 +72,15 @@ impl TraceFile {
         requires sound { IsSound self.old }
         ensures next { IfOk result (λ next. (rest : List ℕ) →
             IsLeft self.old (left_of (S.files shelf.old) (S.at shelf.old)) rest →
-            GoesOn self.old.before rest next self.new (left_of (S.files shelf.new) (S.at shelf.new))) }
+            GoesOn self.old.before rest next self.new
+            (left_of (S.files shelf.new) (S.at shelf.new))) }
         ensures counted { IfOk result (λ next. Counted self.old self.new next) }
         ensures sound { IsSound self.new }
         ensures files { S.files shelf.new ≡ S.files shelf.old }
         ensures picked { S.picked shelf.new ≡ true }
         ensures monotone { S.faults shelf.old ≤ S.faults shelf.new }
-        ensures cause { IfErr result (OfFault (λ _. Rose (S.faults shelf.old) (S.faults shelf.new))) }
+        ensures cause { IfErr result
+            (OfFault (λ _. Rose (S.faults shelf.old) (S.faults shelf.new))) }
     {
         long_texts_are_bad();
         if !self.lines.next(shelf, &mut self.text, LINE_BYTES + 1)? {

@@ -9,8 +9,10 @@ use trace_text::tests_tell;
 /// The lines of a trace are answered exactly where each of its texts is a line, they are formed, and they are within the
 /// most bytes.
 pub fn lines_tell()
-    ensures formed { (bytes : List ℕ) (lines : List Line) → formed_lines bytes ≡ Ok lines → IsFormedTrace (texts_in bytes) lines }
-    ensures only { (bytes : List ℕ) (lines : List Line) → IsFormedTrace (texts_in bytes) lines → formed_lines bytes ≡ Ok lines }
+    ensures formed { (bytes : List ℕ) (lines : List Line) → formed_lines bytes ≡ Ok lines
+        → IsFormedTrace (texts_in bytes) lines }
+    ensures only { (bytes : List ℕ) (lines : List Line) → IsFormedTrace (texts_in bytes) lines
+        → formed_lines bytes ≡ Ok lines }
 {
     tests_tell();
 }

@@ -22,8 +22,10 @@ pub fn write_report<K: Sink>(
     out: &mut K,
     report: &Report,
 ) -> Result<(), OrMemory<Failed>>
-    ensures written { OnOk result (K.held out.new ≡ extended (K.held out.old) (text_in report.now)) }
-    ensures prefix { OnErr result (HoldsPrefix (K.held out.old) (K.held out.new) (text_in report.now)) }
+    ensures written { OnOk result
+        (K.held out.new ≡ extended (K.held out.old) (text_in report.now)) }
+    ensures prefix { OnErr result
+        (HoldsPrefix (K.held out.old) (K.held out.new) (text_in report.now)) }
     ensures monotone { K.faults out.old ≤ K.faults out.new }
     ensures cause { IfErr result (OfFault (λ _. Rose (K.faults out.old) (K.faults out.new))) }
 {
@@ -46,7 +48,8 @@ pub fn write_report<K: Sink>(
 // Appends the line of the account at a place.
 fn push_account(report: &Report, place: u32, buffer: &mut LineBuffer)
     requires { length buffer.old + REPORT_BYTES ≤ BUFFER_BYTES }
-    ensures { IfSome (slice_get (accounts_in report.now) place) (λ account. buffer.new ≡ buffer.old ++ account_text account) }
+    ensures { IfSome (slice_get (accounts_in report.now) place)
+        (λ account. buffer.new ≡ buffer.old ++ account_text account) }
 {
     match report.account(place) {
         Some(account) => write_account(&account, buffer),

@@ -138,7 +138,8 @@ fn is_below_ceiling(lines: &Lines, event: &Event) -> bool
 
 // The agent runs only where a release is being served.
 fn is_agent_serving(runner: Option<Who>, serving: Option<u32>) -> bool
-    ensures { result ≡ (not (somebody_eq runner (Some Who.Agent)) || length (option_to_list serving) == 1) }
+    ensures { result
+        ≡ (not (somebody_eq runner (Some Who.Agent)) || length (option_to_list serving) == 1) }
 {
     match runner {
         Some(Who::Agent) => serving.is_some(),
@@ -190,9 +191,15 @@ impl Laws {
     /// `Broken` exactly where it stays formed and breaks a law, with the first one in their order.
     /// An error changes nothing.
     pub fn line(&mut self, now: u64, event: &Event) -> Result<(), OrMemory<LawFault>>
-        ensures answer { (lines : List Line) → Formed lines → KeepsLaws lines → StandsFor self.old lines → Answers result (answer_of (with_line lines now event.now)) }
-        ensures stands { (lines : List Line) → StandsFor self.old lines → OnOk result (StandsFor self.new (with_line lines now event.now)) }
-        ensures lawful { (lines : List Line) → Formed lines → KeepsLaws lines → StandsFor self.old lines → OnOk result (Formed (with_line lines now event.now) × KeepsLaws (with_line lines now event.now)) }
+        ensures answer { (lines : List Line) → Formed lines → KeepsLaws lines
+            → StandsFor self.old lines
+            → Answers result (answer_of (with_line lines now event.now)) }
+        ensures stands { (lines : List Line) → StandsFor self.old lines
+            → OnOk result (StandsFor self.new (with_line lines now event.now)) }
+        ensures lawful { (lines : List Line) → Formed lines → KeepsLaws lines
+            → StandsFor self.old lines
+            → OnOk result
+            (Formed (with_line lines now event.now) × KeepsLaws (with_line lines now event.now)) }
         ensures unchanged { OnErr result (self.new ≡ self.old) }
     {
         answers_tell();

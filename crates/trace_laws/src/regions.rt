@@ -95,7 +95,8 @@ impl Regions {
 
     // The object is the next of the region to be finalized.
     fn is_next_final(&self, object: u32, region: u32) -> Result<bool, NoMemory>
-        ensures { IfOk result (λ is_next. is_next ≡ is_next_final_in (leavings_in self.now) object region) }
+        ensures { IfOk result
+            (λ is_next. is_next ≡ is_next_final_in (leavings_in self.now) object region) }
     {
         if !self.is_open(region) {
             return Ok(false);
@@ -108,7 +109,10 @@ impl Regions {
 
     // The object is the next to be finalized, in each of its regions.
     fn is_next_in_each(&self, object: u32) -> Result<bool, NoMemory>
-        ensures { IfOk result (λ is_next. is_next ≡ list_all (is_next_final_of (leavings_in self.now) object) self.now.inits.items) }
+        ensures { IfOk result
+            (λ is_next.
+            is_next
+            ≡ list_all (is_next_final_of (leavings_in self.now) object) self.now.inits.items) }
     {
         for init in &self.inits {
             if object == init.object && !self.is_next_final(object, init.region)? {
@@ -120,7 +124,11 @@ impl Regions {
 
     // All objects of the region were finalized, in the reverse of their order.
     fn are_finals_done(&self, region: u32) -> Result<bool, NoMemory>
-        ensures { IfOk result (λ are_done. are_done ≡ is_front_of (objects_in region self.now.inits.items) (finals_in (objects_in region self.now.inits.items) self.now.finals.items)) }
+        ensures { IfOk result
+            (λ are_done.
+            are_done
+            ≡ is_front_of (objects_in region self.now.inits.items)
+            (finals_in (objects_in region self.now.inits.items) self.now.finals.items)) }
     {
         let objects = objects_in(self.alloc, region, self.inits.as_slice())?;
         let finals = finals_in(self.alloc, objects.as_slice(), self.finals.as_slice())?;
@@ -129,7 +137,8 @@ impl Regions {
 
     /// Whether a line is as the law of leaving says.
     pub fn is_left_rightly(&self, event: &Event) -> Result<bool, NoMemory>
-        ensures { IfOk result (λ is_right. is_right ≡ is_left_rightly (leavings_in self.now) event.now) }
+        ensures { IfOk result
+            (λ is_right. is_right ≡ is_left_rightly (leavings_in self.now) event.now) }
     {
         match event {
             Event::Leave { region, .. } => Ok(!has(self.leaves.as_slice(), region.0)),

@@ -16,9 +16,12 @@ use trace_text::tests_tell;
 /// What is answered by the facts of a list that is formed and keeps the laws is what is to be answered of the list with the
 /// further line; where nothing is wrong, the longer list is formed and keeps the laws.
 pub fn answers_tell()
-    ensures answer { (lines : List Line) (tick : ℕ) (event : Event) → Formed lines → KeepsLaws lines → answer_after (watched_of lines) tick event ≡ answer_of (with_line lines tick event) }
-    ensures more { (lines : List Line) (tick : ℕ) (event : Event) → watched_of (with_line lines tick event) ≡ watch_line (watched_of lines) (tick, event) }
-    ensures lawful { (lines : List Line) → answer_of lines ≡ Ok tt → Formed lines × KeepsLaws lines }
+    ensures answer { (lines : List Line) (tick : ℕ) (event : Event) → Formed lines → KeepsLaws lines
+        → answer_after (watched_of lines) tick event ≡ answer_of (with_line lines tick event) }
+    ensures more { (lines : List Line) (tick : ℕ) (event : Event)
+        → watched_of (with_line lines tick event) ≡ watch_line (watched_of lines) (tick, event) }
+    ensures lawful { (lines : List Line) → answer_of lines ≡ Ok tt
+        → Formed lines × KeepsLaws lines }
 {
     facts_tell();
     tests_tell();
@@ -28,7 +31,8 @@ pub fn answers_tell()
 /// breaks a law or is refused, behind lines that are formed and keep the laws. Of no other answer this is true.
 pub fn verdicts_tell()
     ensures says { (bytes : List ℕ) → Says (texts_in bytes) (laws_answer bytes) }
-    ensures only { (bytes : List ℕ) (verdict : Verdict) → Says (texts_in bytes) verdict → laws_answer bytes ≡ verdict }
+    ensures only { (bytes : List ℕ) (verdict : Verdict) → Says (texts_in bytes) verdict
+        → laws_answer bytes ≡ verdict }
 {
     answers_tell();
     tests_tell();

@@ -10,12 +10,21 @@ use trace_text::tests_tell;
 /// Each fact that is kept of a list is what the definition on lists says, and whether a list stays formed shows in the facts.
 pub fn facts_tell()
     ensures tick { (lines : List Line) → (seen_of lines).tick ≡ last_from 0 lines }
-    ensures runner { (lines : List Line) → (seen_of lines).runner ≡ (seen_from see nothing_seen lines).runner }
-    ensures queue { (lines : List Line) → (seen_of lines).queue ≡ (seen_from see nothing_seen lines).queue }
-    ensures base { (number : ℕ) (lines : List Line) → level_of number (seen_of lines).bases ≡ level_of number (seen_from see_levels no_levels lines).bases }
-    ensures ceiling { (number : ℕ) (lines : List Line) → level_of number (seen_of lines).ceilings ≡ level_of number (seen_from see_levels no_levels lines).ceilings }
-    ensures more { (lines : List Line) (tick : ℕ) (event : Event) → seen_of (with_line lines tick event) ≡ see_line (seen_of lines) (tick, event) }
-    ensures formed { (lines : List Line) (tick : ℕ) (event : Event) → Formed lines → (IsTrue (is_formed_after (seen_of lines) tick event) ↔ Formed (with_line lines tick event)) }
+    ensures runner { (lines : List Line)
+        → (seen_of lines).runner ≡ (seen_from see nothing_seen lines).runner }
+    ensures queue { (lines : List Line)
+        → (seen_of lines).queue ≡ (seen_from see nothing_seen lines).queue }
+    ensures base { (number : ℕ) (lines : List Line)
+        → level_of number (seen_of lines).bases
+        ≡ level_of number (seen_from see_levels no_levels lines).bases }
+    ensures ceiling { (number : ℕ) (lines : List Line)
+        → level_of number (seen_of lines).ceilings
+        ≡ level_of number (seen_from see_levels no_levels lines).ceilings }
+    ensures more { (lines : List Line) (tick : ℕ) (event : Event)
+        → seen_of (with_line lines tick event) ≡ see_line (seen_of lines) (tick, event) }
+    ensures formed { (lines : List Line) (tick : ℕ) (event : Event) → Formed lines
+        → (IsTrue (is_formed_after (seen_of lines) tick event)
+        ↔ Formed (with_line lines tick event)) }
 {
     tests_tell();
 }

@@ -10,7 +10,8 @@ use std::collections::BTreeMap;
 
 /// A level is set for a number.
 pub fn set(levels: &mut BTreeMap<u32, Level>, number: u32, level: Level) -> Result<(), NoMemory>
-    ensures set { OnOk result (levels.new.entries ≡ insert_entry nat_cmp levels.old.entries number level) }
+    ensures set { OnOk result
+        (levels.new.entries ≡ insert_entry nat_cmp levels.old.entries number level) }
     ensures unchanged { OnErr result (levels.new.entries ≡ levels.old.entries) }
 {
     levels.insert(number, level)?;

@@ -77,8 +77,10 @@ impl Lines {
     /// `Malformed` exactly where the list that this stands for is formed and does not stay so with this line.
     /// An error changes nothing.
     pub fn take(&mut self, now: u64, event: &Event) -> Result<(), OrMemory<Malformed>>
-        ensures malformed { (lines : List Line) → Formed lines → StandsFor self.old lines → (IsFault result ↔ (Formed (with_line lines now event.now) → ⊥)) }
-        ensures stands { (lines : List Line) → StandsFor self.old lines → OnOk result (StandsFor self.new (with_line lines now event.now)) }
+        ensures malformed { (lines : List Line) → Formed lines → StandsFor self.old lines
+            → (IsFault result ↔ (Formed (with_line lines now event.now) → ⊥)) }
+        ensures stands { (lines : List Line) → StandsFor self.old lines
+            → OnOk result (StandsFor self.new (with_line lines now event.now)) }
         ensures fault { IsFault result ↔ (is_formed_after self.old now event.now ≡ false) }
         ensures taken { OnOk result (self.new ≡ see_line self.old (now, event.now)) }
         ensures unchanged { OnErr result (self.new ≡ self.old) }

@@ -57,7 +57,9 @@ impl Model for ReadyQueue {
 
     ghost view = { λ queue. values_of queue.entries.entries };
 
-    ghost invariant = { λ queue. IsKept queue.entries.entries (get nat_cmp queue.places) (get rank_cmp queue.ranks) queue.first queue.next };
+    ghost invariant = { λ queue.
+        IsKept queue.entries.entries (get nat_cmp queue.places) (get rank_cmp queue.ranks)
+        queue.first queue.next };
 }
 
 impl ReadyQueue {
@@ -174,13 +176,25 @@ fn put_in(
 ) -> Result<Option<u64>, NoMemory>
     requires unused { lookup (is_at (nat_cmp place)) entries.old.entries ≡ None }
     requires unranked { get rank_cmp ranks.old (rank_of place entry) ≡ None }
-    ensures before { IfOk result (λ before. before ≡ get nat_cmp places.old (subject_number entry.who)) }
-    ensures entries { OnOk result (entries.new.entries ≡ insert_entry nat_cmp entries.old.entries place entry) }
-    ensures places { OnOk result ((number : ℕ) → get nat_cmp places.new number ≡ cond (is_at (nat_cmp (subject_number entry.who)) number) (Some place) (get nat_cmp places.old number)) }
-    ensures ranks { OnOk result ((rank : Rank) → get rank_cmp ranks.new rank ≡ cond (is_at (rank_cmp (rank_of place entry)) rank) (Some entry) (get rank_cmp ranks.old rank)) }
+    ensures before { IfOk result
+        (λ before. before ≡ get nat_cmp places.old (subject_number entry.who)) }
+    ensures entries { OnOk result
+        (entries.new.entries ≡ insert_entry nat_cmp entries.old.entries place entry) }
+    ensures places { OnOk result
+        ((number : ℕ)
+        → get nat_cmp places.new number
+        ≡ cond (is_at (nat_cmp (subject_number entry.who)) number) (Some place)
+        (get nat_cmp places.old number)) }
+    ensures ranks { OnOk result
+        ((rank : Rank)
+        → get rank_cmp ranks.new rank
+        ≡ cond (is_at (rank_cmp (rank_of place entry)) rank) (Some entry)
+        (get rank_cmp ranks.old rank)) }
     ensures entries_stay { OnErr result (entries.new.entries ≡ entries.old.entries) }
-    ensures places_stay { OnErr result ((number : ℕ) → get nat_cmp places.new number ≡ get nat_cmp places.old number) }
-    ensures ranks_stay { OnErr result ((rank : Rank) → get rank_cmp ranks.new rank ≡ get rank_cmp ranks.old rank) }
+    ensures places_stay { OnErr result
+        ((number : ℕ) → get nat_cmp places.new number ≡ get nat_cmp places.old number) }
+    ensures ranks_stay { OnErr result
+        ((rank : Rank) → get rank_cmp ranks.new rank ≡ get rank_cmp ranks.old rank) }
 {
     put_ranked(entries, ranks, place, entry)?;
     match places.insert(number_of(entry.who), place) {
@@ -202,10 +216,16 @@ fn put_ranked(
 ) -> Result<(), NoMemory>
     requires unused { lookup (is_at (nat_cmp place)) entries.old.entries ≡ None }
     requires unranked { get rank_cmp ranks.old (rank_of place entry) ≡ None }
-    ensures entries { OnOk result (entries.new.entries ≡ insert_entry nat_cmp entries.old.entries place entry) }
-    ensures ranks { OnOk result ((rank : Rank) → get rank_cmp ranks.new rank ≡ cond (is_at (rank_cmp (rank_of place entry)) rank) (Some entry) (get rank_cmp ranks.old rank)) }
+    ensures entries { OnOk result
+        (entries.new.entries ≡ insert_entry nat_cmp entries.old.entries place entry) }
+    ensures ranks { OnOk result
+        ((rank : Rank)
+        → get rank_cmp ranks.new rank
+        ≡ cond (is_at (rank_cmp (rank_of place entry)) rank) (Some entry)
+        (get rank_cmp ranks.old rank)) }
     ensures entries_stay { OnErr result (entries.new.entries ≡ entries.old.entries) }
-    ensures ranks_stay { OnErr result ((rank : Rank) → get rank_cmp ranks.new rank ≡ get rank_cmp ranks.old rank) }
+    ensures ranks_stay { OnErr result
+        ((rank : Rank) → get rank_cmp ranks.new rank ≡ get rank_cmp ranks.old rank) }
 {
     entries.insert(place, entry)?;
     match ranks.insert(rank_of(place, entry), entry) {
@@ -224,7 +244,9 @@ fn take_out(
     place: Option<u64>,
 )
     ensures entries { entries.new.entries ≡ without_place place entries.old.entries }
-    ensures ranks { (rank : Rank) → get rank_cmp ranks.new rank ≡ unranked place (entry_at place entries.old.entries) rank (get rank_cmp ranks.old rank) }
+    ensures ranks { (rank : Rank)
+        → get rank_cmp ranks.new rank
+        ≡ unranked place (entry_at place entries.old.entries) rank (get rank_cmp ranks.old rank) }
 {
     if let Some(place) = place {
         if let Some(entry) = entries.remove(&place) {

@@ -22,7 +22,9 @@ pub struct Rank {
 }
 
 impl Ord for Rank {
-    ghost cmp = { then_cmp (flip_args (on (λ r. r.level) nat_cmp)) (then_cmp (on (λ r. r.is_undated) bool_cmp) (then_cmp (on (λ r. r.deadline) int_cmp) (on (λ r. r.place) nat_cmp))) };
+    ghost cmp = { then_cmp (flip_args (on (λ r. r.level) nat_cmp))
+        (then_cmp (on (λ r. r.is_undated) bool_cmp)
+        (then_cmp (on (λ r. r.deadline) int_cmp) (on (λ r. r.place) nat_cmp))) };
 
     ghost total = { Prim.search (comparing, rules) depth 9 };
 
@@ -41,7 +43,10 @@ impl Ord for Rank {
 }
 
 impl PartialOrd for Rank {
-    ghost partial_cmp = { as_partial_cmp (then_cmp (flip_args (on (λ r. r.level) nat_cmp)) (then_cmp (on (λ r. r.is_undated) bool_cmp) (then_cmp (on (λ r. r.deadline) int_cmp) (on (λ r. r.place) nat_cmp)))) };
+    ghost partial_cmp = { as_partial_cmp
+        (then_cmp (flip_args (on (λ r. r.level) nat_cmp))
+        (then_cmp (on (λ r. r.is_undated) bool_cmp)
+        (then_cmp (on (λ r. r.deadline) int_cmp) (on (λ r. r.place) nat_cmp)))) };
 
     ghost laws = { partial_order_from_own_ties (Prim.search (comparing, rules) depth 9) (Prim.search (comparing, rules) depth 9) };
 

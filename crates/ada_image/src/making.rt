@@ -18,7 +18,6 @@ pub struct FirstAction {
 }
 
 /// What has been made so far. An expression and a statement are named by their numbers here, from 0.
-#[derive(Drop)]
 pub struct Lists {
     /// The expressions (clause 4).
     pub expressions: Sequence<Expression>,
@@ -26,6 +25,17 @@ pub struct Lists {
     pub statements: List<Statement>,
     /// The first actions of scopes, the newest first.
     pub firsts: List<FirstAction>,
+}
+
+// Written out, so that it is proved once, and not by each function that drops one.
+impl Drop for Lists {
+    fn drop(self) {
+        let Lists {
+            expressions: _,
+            statements: _,
+            firsts: _,
+        } = self;
+    }
 }
 
 /// What has numbers of its own and expressions.

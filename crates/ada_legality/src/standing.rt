@@ -158,7 +158,6 @@ impl<'n, 't> OccurrencesOf<'n, 't> {
 }
 
 /// What is known where a construct stands.
-#[derive(Drop)]
 pub struct Known<'n, 't> {
     /// What names denote.
     pub names: NamesOf<'n, 't>,
@@ -172,4 +171,18 @@ pub struct Known<'n, 't> {
     pub in_force: InForce,
     /// The names of the whole source.
     pub occurrences: OccurrencesOf<'n, 't>,
+}
+
+// Written out, so that it is proved once, and not by each function that drops one.
+impl Drop for Known<'_, '_> {
+    fn drop(self) {
+        let Known {
+            names: _,
+            around: _,
+            loops: _,
+            indexes: _,
+            in_force: _,
+            occurrences: _,
+        } = self;
+    }
 }

@@ -21,7 +21,6 @@ pub struct Binding {
 
 /// A region that is open. Each time that a region is opened is a part of its own: the declaration of a package and its
 /// body are two.
-#[derive(Drop)]
 pub struct Frame {
     /// The region.
     pub region: u32,
@@ -39,6 +38,22 @@ pub struct Frame {
     pub components: Option<ComponentOwner>,
     /// The part.
     pub part: u32,
+}
+
+// Written out, so that it is proved once, and not by each function that drops one.
+impl Drop for Frame {
+    fn drop(self) {
+        let Frame {
+            region: _,
+            owner: _,
+            scope: _,
+            is_accept: _,
+            name: _,
+            exports: _,
+            components: _,
+            part: _,
+        } = self;
+    }
 }
 
 /// What a declaration takes from the frame in which it stands.
@@ -194,7 +209,6 @@ pub struct NumberedEntry<'t> {
 }
 
 /// The table of the names of a text.
-#[derive(Drop)]
 pub struct Names<'t> {
     /// The last value of System.Priority.
     pub last_priority: u8,
@@ -238,4 +252,33 @@ pub struct Names<'t> {
     pub entries: List<NumberedEntry<'t>>,
     /// The earliest fault in the text.
     pub fault: Option<NameFault>,
+}
+
+// Written out, so that it is proved once, and not by each function that drops one.
+impl Drop for Names<'_> {
+    fn drop(self) {
+        let Names {
+            last_priority: _,
+            regions: _,
+            frames: _,
+            parts: _,
+            bindings: _,
+            uses: _,
+            withs: _,
+            contexts: _,
+            entities: _,
+            bodies: _,
+            denotations: _,
+            declarations: _,
+            scopes: _,
+            subprograms: _,
+            arrays: _,
+            enumerations: _,
+            task_units: _,
+            protected_units: _,
+            controlled_types: _,
+            entries: _,
+            fault: _,
+        } = self;
+    }
 }

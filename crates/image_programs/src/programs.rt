@@ -20,6 +20,7 @@ use image_units::{
 };
 use profile_machine::{Image, MainProcedure, Sequence, Statement};
 use std::alloc::Global;
+use std::mem::replace;
 use world_tables::List;
 
 /// All that has numbers of its own is made: the actions, the deadlines of task units, the barriers, and the initial values.
@@ -84,23 +85,20 @@ fn program_with(
     alloc: Global,
     names: &Names<'_>,
     unit: &Unit,
-    lists: Lists,
+    mut lists: Lists,
     made: MadeLists,
 ) -> Result<Image, NoMemory>
     ensures { IfOk result (λ program. program ≡ program_with names.now unit.now lists made) }
 {
-    let Lists {
-        expressions,
-        statements,
-        firsts,
-    } = lists;
+    let expressions = replace(&mut lists.expressions, Sequence::new(alloc));
+    let statements = replace(&mut lists.statements, List::new(alloc));
     let MadeLists {
         task_units,
         entries,
         declarations,
     } = made;
     let statements = sequence_of(alloc, statements)?;
-    let scopes = scopes_made(alloc, names, &firsts)?;
+    let scopes = scopes_made(alloc, names, &lists.firsts)?;
     let subprograms = subprograms_made(alloc, names)?;
     let protected_units = protected_units_made(alloc, names)?;
     let controlled_types = controlled_types_made(alloc, names)?;

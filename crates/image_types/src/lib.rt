@@ -6,5 +6,4 @@
 mod operators;
 mod typing;
 
-pub use operators::type_of_operation;
 pub use typing::is_span;

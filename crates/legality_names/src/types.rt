@@ -11,13 +11,13 @@ use ada_legality::{Known, Typed};
 use ada_regions::{AdaType, Denoted, EntityKind, Names, Operation, PredefinedUnit, Subtype};
 use ada_tree::Name;
 use image_layout::array_of;
-use image_types::type_of_operation;
 use legality_entities::{
     constant_type, denoted_kind, is_entry_kind, is_function_kind, is_function_operation,
     is_literal_kind, is_object_kind, is_predefined_constant, is_procedure_kind, operation_denoted,
     operation_of, subtype_of_entity, type_of_constant,
 };
 use legality_types::{typed_as, typed_by, typed_if};
+use operation_types::type_of_operation;
 use profile_machine::Constraint;
 
 /// An object, a literal or a constant.

@@ -13,7 +13,7 @@ use Rattle.profile_machine.specs.Calls.{next_by, next_call}
 use Rattle.profile_machine.specs.Program.{form_of}
 use Rattle.profile_machine.specs.Rendezvous.{queue_of_accept, queues_of_accepts}
 use Rattle.profile_machine.specs.Words.{first_of_list}
-use Rattle.machine_exclusion.specs.Heads.{next_with}
+use Rattle.machine_barriers.specs.Heads.{next_with}
 
 empty-by : (policy : Queuing) (w : World) → next_by policy w ([] ∷ []) ≡ None
 empty-by queuing.Fifo w = refl

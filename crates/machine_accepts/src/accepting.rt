@@ -12,9 +12,9 @@ use machine_exclusion::begin_call;
 use machine_frames::{
     Effect, goes, has_room, in_protected, new_frame, push, raises, says, waiting_of,
 };
-use machine_operators::{Program, form_of, marks_of, next_of, scope_of};
+use machine_program::{Program, form_of, marks_of, next_of, scope_of};
 use machine_queues::{copied_call, next_of_queue, parameters_of, place_of_entry, queue_of};
-use machine_values::{begin_scope, innermost, next_id};
+use machine_scopes::{begin_scope, innermost, next_id};
 use profile_machine::world::{
     AcceptMark, Beginning, Call, Cause, Line, Mark, MeetingEnd, Outcome, Owner, Part, ScopeId,
     Waiting, World,

@@ -5,9 +5,8 @@ ghost use Rattle.profile_machine.specs.Rendezvous.{is_open, open_alternatives, o
 ghost use Rattle.machine_accepts.specs.Parts.{item_in, open_kind, accept_in, delay_in};
 
 use ann_base::{Moment, NoMemory, OrMemory, Raised};
-use machine_operators::form_of;
-use machine_statements::relative_moment;
-use machine_values::{Seen, condition, moment};
+use machine_program::form_of;
+use machine_values::{Seen, condition, moment, relative_moment};
 use profile_machine::world::DelayMoment;
 use profile_machine::{ExprNo, SelectAlternative, SelectKind, StatementForm, StatementNo};
 use std::alloc::Global;

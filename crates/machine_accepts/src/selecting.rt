@@ -10,10 +10,11 @@ use crate::alternatives::{
     has_terminate, is_closed, least_delay, open_accepts, open_alternatives, open_delays,
 };
 use ann_base::{CallNo, Moment, NoMemory, OrMemory, Raised};
-use machine_dispatching::{appoint, block, has_come};
-use machine_exclusion::next_with;
+use machine_appointments::{appoint, has_come};
+use machine_barriers::next_with;
+use machine_dispatching::block;
 use machine_frames::{Effect, goes, in_protected, raises, set_state};
-use machine_operators::{Program, form_of, next_of, policies};
+use machine_program::{Program, form_of, next_of, policies};
 use machine_queues::{call_of, place_of_entry, queue_of};
 use machine_values::seen_by;
 use profile_machine::world::{DelayMoment, Due, Owner, Part, State, Waiting, World};

@@ -1,5 +1,4 @@
 mod DepthLemmas
 mod EndingLemmas
 mod OkLemmas
-mod StruckLemmas
 mod UnwindLemmas

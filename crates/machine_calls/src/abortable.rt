@@ -11,7 +11,7 @@ use crate::marks::{set_triggered_at, strike_at};
 use crate::onward::onward_when_done;
 use ann_base::{CallNo, NoMemory, TaskNo};
 use machine_frames::{Effect, goes, leaves, leaving_of, pass_on, pop, raises, says, task_at};
-use machine_operators::Program;
+use machine_program::Program;
 use machine_queues::{call_of, forget_call};
 use profile_machine::world::{AbortableMark, Frame, Line, Mark, Outcome, Part, World};
 use profile_machine::{Leaving, StatementNo};

@@ -2,7 +2,7 @@
 ghost use Rattle.std.specs.Prelude.{◌≡◌};
 ghost use Rattle.profile_machine.specs.CallEnds.{call_in, onward_when_done, otherwise_in, onward_when_cancelled};
 
-use machine_operators::{Program, form_of, next_of};
+use machine_program::{Program, form_of, next_of};
 use profile_machine::{StatementForm, StatementNo};
 
 /// The entry call that a statement makes: itself, or the one in it.

@@ -12,9 +12,10 @@ use crate::operations::{
 use crate::registration::{next_number, registered_object};
 use ann_base::{NoMemory, Raised};
 use machine_frames::{Effect, leaves, pop, raises};
-use machine_operators::{Program, declaration_of};
 use machine_parameters::cells_from;
-use machine_values::{CONTROLLED_CELLS, put_cells, scope_mut};
+use machine_program::{Program, declaration_of};
+use machine_scopes::{put_cells, scope_mut};
+use machine_values::CONTROLLED_CELLS;
 use profile_machine::world::{AssignMark, AssignStep, Located, Part, Registered, Variable, World};
 use profile_machine::{Leaving, SubprogramNo};
 use std::alloc::Global;

@@ -6,7 +6,7 @@ ghost use Rattle.machine_frames.specs.Did.{Did};
 use crate::registration::{registered_at, same_located};
 use ann_base::{NoMemory, Raised};
 use machine_frames::{Effect, goes, has_room, new_frame, push, raises, says};
-use machine_operators::{Program, next_of};
+use machine_program::{Program, next_of};
 use machine_values::{located, seen_by};
 use profile_machine::world::{AssignMark, AssignStep, Line, Located, Mark, Part, Registered};
 use profile_machine::{DeclNo, StatementNo};

@@ -10,7 +10,7 @@ use crate::objects::{declare_protected, located_here, set_thing};
 use crate::timing::{budget_declared, event_declared, timer_declared};
 use ann_base::{NoMemory, OrMemory, Raised};
 use machine_frames::{Effect, goes, raises};
-use machine_operators::{Program, controlled_of, declaration_of, next_of};
+use machine_program::{Program, controlled_of, declaration_of, next_of};
 use machine_values::{CONTROLLED_CELLS, object_cell, or_raised, seen_by};
 use profile_machine::world::{Part, World};
 use profile_machine::{

@@ -12,7 +12,7 @@ use crate::registration::no_longer_registered;
 use ann_base::{NoMemory, RegionNo};
 use machine_costs::of_region;
 use machine_frames::{Effect, new_frame, pass_on, pop, push, says, top_of};
-use machine_operators::Program;
+use machine_program::Program;
 use profile_machine::world::{Line, Located, Mark, Part, Registered, Task, World};
 use profile_machine::{Leaving, SubprogramNo};
 use std::alloc::Global;

@@ -9,12 +9,10 @@ ghost use Rattle.machine_controlled.specs.FirstValues.{first_value, written, fir
 ghost use Rattle.machine_parameters.specs.Becomes.{Becomes};
 
 use ann_base::{NoMemory, OrMemory, Raised};
-use machine_operators::{Program, declaration_of, initial_cells, scope_of};
 use machine_parameters::{checked_for, copy_cells};
-use machine_values::{
-    Seen, component_at, object_cell, or_raised, put_cells, scope_in_use, scope_mut, seen_by, value,
-    write_cell,
-};
+use machine_program::{Program, declaration_of, initial_cells, scope_of};
+use machine_scopes::{put_cells, scope_in_use, scope_mut, write_cell};
+use machine_values::{Seen, component_at, object_cell, or_raised, seen_by, value};
 use profile_machine::world::{Located, Variable, World};
 use profile_machine::{DeclNo, DeclarationKind, ExprNo, Initial, Value};
 use std::alloc::Global;

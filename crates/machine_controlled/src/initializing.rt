@@ -7,7 +7,7 @@ use crate::operations::{has_room_to_finalize, initialize_of, open_operation};
 use crate::registration::register;
 use ann_base::{NoMemory, Raised};
 use machine_frames::{Effect, goes, new_frame, pass_on, pop, push, raises};
-use machine_operators::{Program, next_of};
+use machine_program::{Program, next_of};
 use machine_values::{located, seen_by};
 use profile_machine::world::{Located, Mark, Part};
 use profile_machine::{DeclNo, Leaving, StatementNo, SubprogramNo};

@@ -7,11 +7,11 @@ ghost use Rattle.machine_frames.specs.Did.{Did};
 
 use ann_base::NoMemory;
 use machine_frames::{Effect, has_room};
-use machine_operators::{
+use machine_program::{
     Program, controlled_of, declaration_of, form_of, marks_of, opens_handled, scope_of,
     subprogram_of,
 };
-use machine_values::{home, innermost, open_scope, read_cell};
+use machine_scopes::{home, innermost, open_scope, read_cell};
 use profile_machine::world::{Beginning, Located, Purpose, ResultTo, ScopeId, World};
 use profile_machine::{DeclarationKind, Scope, SubprogramNo};
 use std::alloc::Global;

@@ -7,7 +7,7 @@ ghost use Rattle.machine_parameters.specs.Becomes.{Becomes};
 use crate::objects::{located_here, set_thing};
 use crate::registration::next_number;
 use ann_base::{NoMemory, OrMemory, Raised, TaskNo};
-use machine_operators::Program;
+use machine_program::Program;
 use machine_values::{Seen, first_cell, home_of, or_raised, seen_by, task_in};
 use profile_machine::world::{Budget, Drawn, Timer, World};
 use profile_machine::{DeclNo, Value};

@@ -4,7 +4,7 @@ ghost use Rattle.profile_machine.specs.Cost.{of_region, has_registered, cost_of_
 
 use ann_base::RegionNo;
 use machine_frames::top_of;
-use machine_operators::{Program, statement_of};
+use machine_program::{Program, statement_of};
 use profile_machine::world::{AssignStep, Frame, Mark, Registered, World};
 use profile_machine::{Statement, StatementForm, StatementNo};
 use trace_text::Who;

@@ -1,3 +1,2 @@
 mod LevelLemmas
 mod OrderLemmas
-mod PlaceLemmas

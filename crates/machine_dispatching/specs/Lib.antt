@@ -1,3 +1,2 @@
-pub mod Appointments
 pub mod Blocking
 pub mod Settling

@@ -3,12 +3,12 @@ ghost use Rattle.std.specs.Prelude.{◌≡◌, OnOk, int_lt, pos};
 ghost use Rattle.profile_machine.specs.Statements.{wait_until, delay_to};
 ghost use Rattle.machine_frames.specs.Did.{Did};
 
-use crate::appointments::appoint;
 use crate::blocking::block;
 use crate::placing::to_tail;
 use ann_base::{Moment, NoMemory};
+use machine_appointments::appoint;
 use machine_frames::Effect;
-use machine_operators::Program;
+use machine_program::Program;
 use profile_machine::world::{Due, Part, Waiting};
 use trace_text::Who;
 

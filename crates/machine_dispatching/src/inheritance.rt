@@ -9,7 +9,7 @@ use crate::levels::active_of;
 use crate::placing::to_head;
 use ann_base::{Level, NoMemory};
 use machine_frames::{Effect, task_mut};
-use machine_operators::Program;
+use machine_program::Program;
 use profile_machine::world::{Cause, Inherited, Part, World};
 use trace_text::Who;
 use world_tables::List;

@@ -6,7 +6,7 @@ ghost use Rattle.profile_machine.specs.Words.{greatest_of};
 
 use ann_base::{Level, Moment};
 use machine_frames::{TIME_LAST, task_at};
-use machine_operators::{Program, edf_low};
+use machine_program::{Program, edf_low};
 use profile_machine::world::{Inherited, Task, World};
 use trace_text::Who;
 use world_tables::List;

@@ -3,7 +3,6 @@
 //! counterpart.
 #![tactic(auto)]
 
-mod appointments;
 mod blocking;
 mod delays;
 mod inheritance;
@@ -15,9 +14,6 @@ mod queues;
 mod rivals;
 mod settling;
 
-pub use appointments::{
-    DueOf, appoint, drop_appointment, drop_delay, first_due, has_come, is_appointed,
-};
 pub use blocking::{block, says_waits, word_of};
 pub use delays::{delay_to, is_ahead};
 pub use inheritance::{inherit, inherit_running, lose, lose_running};

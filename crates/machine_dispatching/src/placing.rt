@@ -10,7 +10,7 @@ use crate::levels::{active, active_of, deadline_of, greatest_inherited};
 use crate::rivals::edf_level;
 use ann_base::{Level, Moment, NoMemory};
 use machine_frames::{Effect, says, set_state, task_at, task_mut};
-use machine_operators::{Program, edf_low, is_edf_level, is_robin_level};
+use machine_program::{Program, edf_low, is_edf_level, is_robin_level};
 use profile_machine::world::{Line, Part, State, Task, World};
 use trace_text::{QueueEnd, Who};
 use world_tables::List;

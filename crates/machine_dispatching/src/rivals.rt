@@ -7,7 +7,7 @@ ghost use Rattle.profile_machine.specs.Tasks.{is_runnable, is_who};
 use crate::levels::{active, deadline_of};
 use ann_base::{Level, Moment};
 use machine_frames::{is_runnable, same_who};
-use machine_operators::Program;
+use machine_program::Program;
 use profile_machine::world::{Object, Task, World};
 use trace_text::Who;
 use world_tables::List;

@@ -9,7 +9,7 @@ ghost use Rattle.machine_entry_calls.specs.Making.{call_number, add_numbered, Le
 
 use ann_base::{CallNo, NoMemory, Raised};
 use machine_frames::{Effect, goes, has_room, raises};
-use machine_operators::{Program, next_of};
+use machine_program::{Program, next_of};
 use machine_queues::{call_drawn, copy_of_call, forget_call, says_call};
 use profile_machine::world::{Call, CallKind, Part, World};
 use trace_text::Who;

@@ -7,12 +7,13 @@ ghost use Rattle.machine_entry_calls.specs.Objects.{enters, starts, fails, exits
 
 use crate::making::{end_at_once, has_room_if_queued, make_call};
 use ann_base::{NoMemory, ObjectNo, Raised};
+use machine_barriers::is_barrier_open;
 use machine_exclusion::{
     begin_action_on, begin_call, body_opens, body_scope_of, entering, find_held, has_room_for_body,
-    is_barrier_open, marks_of_action,
+    marks_of_action,
 };
 use machine_frames::{Effect, has_room, raises, says};
-use machine_operators::{Program, scope_of};
+use machine_program::{Program, scope_of};
 use machine_queues::{enqueue, is_full};
 use machine_sending::not_accepted;
 use profile_machine::world::{Call, Entering, Line, MeetingEnd, Part, World};

@@ -5,8 +5,9 @@ ghost use Rattle.profile_machine.specs.Scopes.{scope_in_use};
 
 use ann_base::{ObjectNo, Raised, TaskNo};
 use machine_frames::number_of;
-use machine_operators::{entry_of, task_unit_of};
-use machine_values::{Seen, home, own_object, scope_in_use, task_in, thing, thing_number};
+use machine_program::{entry_of, task_unit_of};
+use machine_scopes::{home, scope_in_use};
+use machine_values::{Seen, own_object, task_in, thing, thing_number};
 use profile_machine::world::{Owner, ScopeId, World};
 use profile_machine::{EntryNo, EntryOwner, EntryUnit, Value};
 

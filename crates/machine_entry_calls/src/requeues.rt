@@ -6,10 +6,9 @@ ghost use Rattle.machine_frames.specs.Did.{Did};
 
 use crate::owners::owner_of_entry;
 use ann_base::{CallNo, NoMemory};
-use machine_frames::{Effect, leaves, raises};
-use machine_operators::Program;
+use machine_frames::{Effect, call_returned, leaves, raises};
+use machine_program::Program;
 use machine_queues::call_mut;
-use machine_statements::call_returned;
 use machine_values::seen_by;
 use profile_machine::world::{Owner, Part, Sending, World};
 use profile_machine::{EntryNo, EntryOwner, Leaving};

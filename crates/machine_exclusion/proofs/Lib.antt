@@ -1,3 +1,2 @@
 pub mod ActionLemmas
-pub mod HeadLemmas
 pub mod PlaceLemmas

@@ -7,9 +7,9 @@ ghost use Rattle.machine_frames.specs.Did.{Did};
 use ann_base::{CallNo, Level, NoMemory, ObjectNo};
 use machine_dispatching::inherit_running;
 use machine_frames::{Effect, new_frame, object_of, push, says};
-use machine_operators::{Program, scope_of};
+use machine_program::{Program, scope_of};
 use machine_queues::object_mut;
-use machine_values::home;
+use machine_scopes::home;
 use profile_machine::world::{
     Action, Beginning, Cause, Line, Located, Mark, Part, ProtectedMark, ScopeId, World,
 };

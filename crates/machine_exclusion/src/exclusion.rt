@@ -9,7 +9,7 @@ ghost use Rattle.machine_frames.specs.Did.{Did};
 use ann_base::{Level, NoMemory, ObjectNo};
 use machine_dispatching::{active_of, to_tail};
 use machine_frames::{Effect, object_of, same_who, says, task_at};
-use machine_operators::{Program, has_edf};
+use machine_program::{Program, has_edf};
 use profile_machine::world::{Action, Entering, Line, Object, Part, World};
 use trace_text::{Mode, Who};
 use world_tables::List;

@@ -1,17 +1,15 @@
-//! Protected objects as protected actions find them: who may begin one, ceilings, barriers and the call that is
-//! served next, the bodies of entries, and what a body's parameters leave to its call (ISO/IEC 8652:2012, 9.5.1,
-//! 9.5.2, 9.5.3, D.3, D.4). Each function has the name of the machine's definition of which it is the counterpart.
+//! Protected objects as protected actions find them: who may begin one, ceilings, the bodies of entries, and what a
+//! body's parameters leave to its call (ISO/IEC 8652:2012, 9.5.1, 9.5.2, 9.5.3, D.3). Each function has the name of
+//! the machine's definition of which it is the counterpart.
 #![tactic(auto)]
 
 mod actions;
-mod barriers;
 mod bodies;
 mod exclusion;
 mod finishing;
 mod parameters;
 
 pub use actions::{begin_action_on, body_of_object, ceiling_of, outer_of_body};
-pub use barriers::{is_barrier_open, next_with, served_next};
 pub use bodies::{begin_call, body_opens, body_scope_of, has_room_for_body, marks_of_action};
 pub use exclusion::{base_of, entering, find_held, has_open, is_action_of};
 pub use finishing::says_finish;

@@ -8,9 +8,9 @@ ghost use Rattle.machine_exclusion.specs.Values.{with_item};
 
 use ann_base::{CallNo, NoMemory};
 use machine_frames::Effect;
-use machine_operators::Program;
+use machine_program::Program;
 use machine_queues::{call_mut, call_of, formals_count};
-use machine_values::scope_in_use;
+use machine_scopes::scope_in_use;
 use profile_machine::world::{Call, ScopeId, World};
 use profile_machine::{Leaving, Value};
 use std::alloc::Global;

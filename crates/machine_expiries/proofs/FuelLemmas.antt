@@ -6,8 +6,8 @@ use Rattle.profile_machine.specs.declared.world.appointments.Appointment.{Appoin
 use Rattle.profile_machine.specs.declared.world.appointments.Due.{Due}
 use Rattle.profile_machine.specs.declared.world.lines.Said.{Said}
 use Rattle.profile_machine.specs.Steps.{Step, done, goes_on_with}
-use Rattle.machine_dispatching.specs.declared.appointments.DueOf.{DueOf}
-use Rattle.machine_dispatching.specs.Appointments.{is_due_of}
+use Rattle.machine_appointments.specs.declared.appointments.DueOf.{DueOf}
+use Rattle.machine_appointments.specs.Appointments.{is_due_of}
 use Rattle.profile_machine.specs.Appointments.{first_due, drop_appointment}
 use Rattle.profile_machine.specs.Instant.{all_due, take_due, come_due, is_the_same_due, items_due, take_item}
 

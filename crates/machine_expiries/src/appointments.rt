@@ -6,14 +6,15 @@ ghost use Rattle.profile_machine.specs.Tasks.{waiting_of};
 ghost use Rattle.profile_machine.specs.Steps.{looks};
 ghost use Rattle.profile_machine.specs.Appointments.{first_due};
 ghost use Rattle.machine_frames.specs.Did.{Did};
-ghost use Rattle.machine_dispatching.specs.Appointments.{is_due_of};
+ghost use Rattle.machine_appointments.specs.Appointments.{is_due_of};
 ghost use Rattle.machine_expiries.specs.Moved.{Moved};
 
 use ann_base::{CallNo, NoMemory};
+use machine_appointments::{DueOf, drop_appointment, first_due};
 use machine_calls::{deliver, trigger_at, unwind};
-use machine_dispatching::{DueOf, drop_appointment, first_due, ready, settle};
+use machine_dispatching::{ready, settle};
 use machine_frames::{Effect, goes, open_sequence, says, waiting_of};
-use machine_operators::{Program, next_of};
+use machine_program::{Program, next_of};
 use machine_queues::{copied_call, unqueued};
 use machine_releases::release;
 use profile_machine::world::{Due, Line, Outcome, Part, Waiting, World};

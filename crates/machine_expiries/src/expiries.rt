@@ -11,7 +11,7 @@ ghost use Rattle.machine_expiries.specs.Moved.{Moved};
 use ann_base::NoMemory;
 use machine_dispatching::{active, settle, to_tail};
 use machine_frames::{Effect, any_protected, is_runnable, says, task_at};
-use machine_operators::{Program, is_robin_level};
+use machine_program::{Program, is_robin_level};
 use machine_releases::{clear_timer, release};
 use machine_values::{budget_of, timer_of};
 use profile_machine::world::{Line, Part, Task, TimerSetting, World};

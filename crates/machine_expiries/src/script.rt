@@ -7,9 +7,10 @@ ghost use Rattle.machine_frames.specs.Did.{Did};
 ghost use Rattle.machine_expiries.specs.Moved.{Moved};
 
 use ann_base::NoMemory;
-use machine_dispatching::{has_come, settle};
+use machine_appointments::has_come;
+use machine_dispatching::settle;
 use machine_frames::{Effect, says};
-use machine_operators::Program;
+use machine_program::Program;
 use machine_releases::interrupt;
 use profile_machine::Item;
 use profile_machine::world::{Line, Part, World};

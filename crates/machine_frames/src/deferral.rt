@@ -1,5 +1,5 @@
 //! Marks that defer abort, and whether a task is inside a protected action (ISO/IEC 8652:2012, 9.5.1, 9.8, D.6).
-ghost use Rattle.std.specs.Prelude.{◌≡◌};
+ghost use Rattle.std.specs.Prelude.{◌≡◌, ◌||◌};
 ghost use Rattle.profile_machine.specs.Frames.{defers, any_defers, is_protected, any_protected, in_protected, is_deferred};
 
 use crate::tasks::task_at;
@@ -82,4 +82,11 @@ pub fn is_deferred(world: &World, name: Who) -> bool
         Some(task) => any_defers(&task.frames),
         None => false,
     }
+}
+
+/// No task is created or activated inside a protected action, and wherever abort is deferred.
+pub fn bars_tasks(world: &World, name: Who) -> bool
+    ensures { result ≡ (in_protected world.now name || is_deferred world.now name) }
+{
+    in_protected(world, name) || is_deferred(world, name)
 }

@@ -8,7 +8,7 @@ ghost use Rattle.machine_frames.specs.Did.{Did};
 use crate::effects::Effect;
 use crate::tasks::{task_at, task_mut};
 use ann_base::{NoMemory, Raised};
-use machine_operators::{Program, form_of, next_of};
+use machine_program::{Program, form_of, next_of};
 use profile_machine::world::{Frame, Line, Mark, Part, Purpose, Said, World};
 use profile_machine::{Leaving, StatementForm, StatementNo};
 use trace_text::Who;

@@ -4,15 +4,20 @@
 
 mod deferral;
 mod effects;
+mod faults;
 mod frames;
 mod objects;
 mod regions;
 mod room;
 mod sequences;
+mod served;
 mod tasks;
 
-pub use deferral::{any_defers, any_protected, defers, in_protected, is_deferred, is_protected};
+pub use deferral::{
+    any_defers, any_protected, bars_tasks, defers, in_protected, is_deferred, is_protected,
+};
 pub use effects::Effect;
+pub use faults::refused;
 pub use frames::{
     exit_loop, goes, leaves, leaving_of, new_frame, onward_of, pass_on, pop, push, raises, says,
     stands_in, statement_of_mark, top_of, within_of,
@@ -21,6 +26,7 @@ pub use objects::object_of;
 pub use regions::region_of_mark;
 pub use room::{frame_count, has_room};
 pub use sequences::{open_at, open_handled, open_if_ready, open_sequence};
+pub use served::call_returned;
 pub use tasks::{
     TIME_LAST, found_task, found_task_mut, is_made, is_runnable, may_run, new_task, number_of,
     same_who, set_state, set_ticks, task_at, task_mut, waiting_in, waiting_of,

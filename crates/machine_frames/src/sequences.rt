@@ -8,7 +8,7 @@ use crate::frames::{goes, new_frame, onward_of, push, raises};
 use crate::room::has_room;
 use crate::tasks::may_run;
 use ann_base::{NoMemory, Raised};
-use machine_operators::{Program, form_of, next_of};
+use machine_program::{Program, form_of, next_of};
 use profile_machine::world::{Mark, Part};
 use profile_machine::{StatementForm, StatementNo};
 use trace_text::Who;

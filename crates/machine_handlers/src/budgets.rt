@@ -9,10 +9,9 @@ ghost use Rattle.machine_handlers.specs.SettingSteps.{budget_changes, budget_is_
 use crate::events::answer;
 use crate::settings::{Named, handler_named, is_interrupt_handler, thing_named};
 use ann_base::{Moment, NoMemory, OrMemory, Raised};
-use machine_frames::{Effect, goes};
-use machine_operators::{Program, next_of};
+use machine_frames::{Effect, goes, refused};
+use machine_program::{Program, next_of};
 use machine_releases::{has_room_for_release, load, raise_by, set_handler};
-use machine_statements::refused;
 use machine_values::{Seen, budget_of, moment, number_of_thing, or_raised, seen_by};
 use profile_machine::world::{HandlerOf, World};
 use profile_machine::{DeclNo, ExprNo, HandlerName, StatementNo, VariableName};

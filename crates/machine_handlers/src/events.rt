@@ -6,12 +6,12 @@ ghost use Rattle.machine_handlers.specs.SettingSteps.{event_is_set, event_is_can
 
 use crate::settings::{Named, Set, event_setting, thing_named};
 use ann_base::{Moment, NoMemory};
-use machine_calls::store;
-use machine_dispatching::{DueOf, appoint, drop_appointment, is_ahead, is_appointed};
-use machine_frames::{Effect, goes};
-use machine_operators::{Program, next_of};
+use machine_appointments::{DueOf, appoint, drop_appointment, is_appointed};
+use machine_dispatching::is_ahead;
+use machine_frames::{Effect, goes, refused};
+use machine_program::{Program, next_of};
 use machine_releases::release;
-use machine_statements::refused;
+use machine_results::store;
 use machine_values::seen_by;
 use profile_machine::world::{Due, HandlerOf, Part, Variable};
 use profile_machine::{DeclNo, HandlerName, Setting, StatementNo, Value, VariableName};

@@ -8,9 +8,8 @@ ghost use Rattle.machine_handlers.specs.Settings.{member_named};
 ghost use Rattle.machine_handlers.specs.SettingSteps.{member_changes};
 
 use ann_base::{NoMemory, OrMemory, Raised};
-use machine_frames::{Effect, goes, raises, task_mut};
-use machine_operators::{Program, next_of};
-use machine_statements::refused;
+use machine_frames::{Effect, goes, raises, refused, task_mut};
+use machine_program::{Program, next_of};
 use machine_values::{Seen, live_task, number_of_thing, or_raised, seen_by, task_in, value};
 use profile_machine::world::{Part, Task, World};
 use profile_machine::{DeclNo, ExprNo, StatementNo};

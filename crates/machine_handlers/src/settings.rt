@@ -6,8 +6,9 @@ ghost use Rattle.machine_handlers.specs.Settings.{set_with, event_setting, timer
 
 use ann_base::{Moment, OrMemory, Raised};
 use machine_exclusion::ceiling_of;
-use machine_operators::{Program, interrupt_priority};
-use machine_releases::{has_room_for_release, held_behind};
+use machine_operators::held_behind;
+use machine_program::{Program, interrupt_priority};
+use machine_releases::has_room_for_release;
 use machine_values::{
     Seen, live_task, moment, number_of_thing, object_number, or_raised, timer_of, variable,
 };

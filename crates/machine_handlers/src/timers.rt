@@ -7,10 +7,9 @@ ghost use Rattle.machine_handlers.specs.SettingSteps.{timer_is_set, timer_is_can
 use crate::events::answer;
 use crate::settings::{Named, Set, timer_named, timer_setting};
 use ann_base::{Moment, NoMemory};
-use machine_frames::{Effect, goes};
-use machine_operators::{Program, next_of};
+use machine_frames::{Effect, goes, refused};
+use machine_program::{Program, next_of};
 use machine_releases::{clear_timer, release, set_in};
-use machine_statements::refused;
 use machine_values::{seen_by, timer_of};
 use profile_machine::world::{HandlerOf, Part, TimerSetting, World};
 use profile_machine::{DeclNo, HandlerName, Setting, StatementNo, VariableName};

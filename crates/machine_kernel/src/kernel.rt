@@ -1,23 +1,24 @@
 //! The kernel: it opens a run, and goes on by at most one line a call.
 ghost use Rattle.std.specs.Prelude.{◌≡◌, ◌≤◌, ◌<◌, ◌+◌, ℕ, [], Some, None, true, false, IsTrue, length};
-ghost use Rattle.trace_text.specs.declared.buffer.TheConstants.{BUFFER_BYTES};
-ghost use Rattle.trace_text.specs.declared.write.TheConstants.{LINE_BYTES};
+ghost use Rattle.line_writing.specs.declared.buffer.TheConstants.{BUFFER_BYTES};
+ghost use Rattle.trace_text.specs.declared.lines.TheConstants.{LINE_BYTES};
 ghost use Rattle.machine_kernel.specs.Reached.{is_in_time};
 ghost use Rattle.machine_ticks.specs.declared.stops.Stopped.TheVariants as stopped;
 
 use crate::idle::skip_idle_ticks;
 use ann_base::{Moment, NoMemory};
+use line_writing::{LineBuffer, write_line};
 use machine_frames::Effect;
 use machine_laws::runs::idle_stretches_say_nothing;
 use machine_laws::time::{instants_take_no_time, runs_begin_at_0, tocks_take_one_tick};
 use machine_lines::{ended_by, event_of, tick_event};
-use machine_operators::Program;
+use machine_program::Program;
 use machine_run::instant;
 use machine_ticks::{Stopped, TickLine, opening, stop, tock};
 use profile_machine::world::Line;
 use profile_machine::{Image, Item};
 use std::alloc::Global;
-use trace_text::{Ended, Event, LineBuffer, write_line};
+use trace_text::{Ended, Event};
 use world_tables::List;
 
 /// Why a run ends.
@@ -70,9 +71,9 @@ impl Drop for Kernel {
 }
 
 impl Kernel {
-    ghost use Rattle.std.specs.Prelude.{◌++◌, OnOk, IfOk, OnErr};
-    ghost use Rattle.trace_text.specs.Text.{ArePrintable, text_of};
-    ghost use Rattle.machine_kernel.specs.Kernel.{shown, future, stop_to_come, left_to_do};
+    ghost use Rattle.std.specs.Prelude.{◌++◌, OnOk, IfOk, IfSome, OnErr};
+    ghost use Rattle.trace_text.specs.Text.{ArePrintable, IsPrintable, text_of};
+    ghost use Rattle.machine_kernel.specs.Kernel.{shown, future, stop_to_come, left_to_do, Takes};
     ghost use Rattle.machine_kernel.specs.Next.{IfGoing, IfEnded};
     ghost use Rattle.machine_kernel.specs.Future.{advanced, opened, goes_by, after_instant, after_tock, unless_stopped, written_of, first_line};
     ghost use Rattle.profile_machine.specs.Instant.{instant};
@@ -142,63 +143,60 @@ impl Kernel {
         ensures ended { IfOk result
             (IfEnded (λ why. ((shown self.old).owed ≡ []) × ((shown self.old).stop ≡ Some why))) }
     {
+        match self.take_owed()? {
+            Some(event) => {
+                write_line(self.told_at, &event, out);
+                Ok(Next::Going)
+            }
+            None => self.go_on(),
+        }
+    }
+
+    /// Takes the first line that is owed, if there is one: first those of an instant.
+    fn take_owed(&mut self) -> Result<Option<Event>, NoMemory>
+        ensures taken { IfOk result (λ event. Takes event self.old self.new) }
+        ensures printable { IfOk result (λ event. IfSome event IsPrintable) }
+    {
         match self.said.front() {
             Some(line) => {
                 let event = event_of(self.alloc, &self.program, line)?;
                 self.said.pop_front();
-                write_line(self.told_at, &event, out);
-                Ok(Next::Going)
+                Ok(Some(event))
             }
-            None => self.tell_tick(out),
+            None => self.take_of_tick(),
         }
     }
 
-    /// A line of a tock is told, where none of an instant is owed.
-    fn tell_tick(&mut self, out: &mut LineBuffer) -> Result<Next, NoMemory>
-        requires room { length out.old + LINE_BYTES ≤ BUFFER_BYTES }
-        requires said { self.old.said ≡ [] }
-        ensures step { OnOk result (shown self.new ≡ advanced (shown self.old)) }
-        ensures told { OnOk result (out.new ≡ out.old ++ written_of (shown self.old).owed) }
-        ensures printable { OnOk result (ArePrintable (first_line (shown self.old).owed)) }
-        ensures err { OnErr result (out.new ≡ out.old) }
-        ensures going { IfOk result
-            (IfGoing ((shown self.old).owed ≡ [] → (shown self.old).stop ≡ None)) }
-        ensures ended { IfOk result
-            (IfEnded (λ why. ((shown self.old).owed ≡ []) × ((shown self.old).stop ≡ Some why))) }
+    /// Takes the first line of a tock that is owed, or else the last line of the run.
+    fn take_of_tick(&mut self) -> Result<Option<Event>, NoMemory>
+        requires { self.old.said ≡ [] }
+        ensures taken { IfOk result (λ event. Takes event self.old self.new) }
+        ensures printable { IfOk result (λ event. IfSome event IsPrintable) }
     {
         match self.ticks.front() {
             Some(line) => {
                 let event = tick_event(*line);
                 self.ticks.pop_front();
-                write_line(self.told_at, &event, out);
-                Ok(Next::Going)
+                Ok(Some(event))
             }
-            None => self.tell_last(out),
+            None => self.take_last(),
         }
     }
 
-    /// The last line of the run is told, where no other is owed.
-    fn tell_last(&mut self, out: &mut LineBuffer) -> Result<Next, NoMemory>
-        requires room { length out.old + LINE_BYTES ≤ BUFFER_BYTES }
+    /// Takes the last line of the run, if it is owed.
+    fn take_last(&mut self) -> Result<Option<Event>, NoMemory>
         requires said { self.old.said ≡ [] }
         requires ticks { self.old.ticks ≡ [] }
-        ensures step { OnOk result (shown self.new ≡ advanced (shown self.old)) }
-        ensures told { OnOk result (out.new ≡ out.old ++ written_of (shown self.old).owed) }
-        ensures printable { OnOk result (ArePrintable (first_line (shown self.old).owed)) }
-        ensures err { OnErr result (out.new ≡ out.old) }
-        ensures going { IfOk result
-            (IfGoing ((shown self.old).owed ≡ [] → (shown self.old).stop ≡ None)) }
-        ensures ended { IfOk result
-            (IfEnded (λ why. ((shown self.old).owed ≡ []) × ((shown self.old).stop ≡ Some why))) }
+        ensures taken { IfOk result (λ event. Takes event self.old self.new) }
+        ensures printable { IfOk result (λ event. IfSome event IsPrintable) }
     {
         match self.last {
             Some(stopped) => {
                 let why = ended_by(&self.program, stopped)?;
                 self.last = None;
-                write_line(self.told_at, &Event::End { why }, out);
-                Ok(Next::Going)
+                Ok(Some(Event::End { why }))
             }
-            None => self.go_on(),
+            None => Ok(None),
         }
     }
 

@@ -11,7 +11,7 @@ ghost use Rattle.machine_ticks.specs.Stops.{ended_by};
 ghost use Rattle.machine_ticks.specs.Ticks.{tick_event};
 
 use ann_base::{CallNo, Level, Name, NoMemory, Raised, RegionNo, TaskNo};
-use machine_operators::{Program, declaration_of, entry_of, main_procedure, subprogram_of};
+use machine_program::{Program, declaration_of, entry_of, main_procedure, subprogram_of};
 use machine_ticks::{Stopped, TickLine};
 use profile_machine::world::{HandlerOf, Line, MeetingEnd, Owner};
 use profile_machine::{DeclNo, EntryNo};

@@ -7,7 +7,7 @@ ghost use Rattle.machine_frames.specs.Did.{Did};
 use ann_base::{NoMemory, Raised};
 use machine_dispatching::{lose, part_of, ready};
 use machine_frames::{Effect, open_sequence, raises, same_who, task_at, task_mut, waiting_of};
-use machine_operators::Program;
+use machine_program::Program;
 use profile_machine::world::{Cause, Part, Task, Waiting, World};
 use trace_text::Who;
 

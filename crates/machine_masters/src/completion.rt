@@ -12,7 +12,7 @@ use ann_base::{CallNo, NoMemory, Raised};
 use machine_calls::{end_call, gone};
 use machine_dispatching::part_of;
 use machine_frames::{Effect, task_at, task_mut};
-use machine_operators::Program;
+use machine_program::Program;
 use profile_machine::Leaving;
 use profile_machine::world::{Call, Frame, Outcome, World};
 use std::alloc::Global;

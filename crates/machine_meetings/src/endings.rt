@@ -12,10 +12,10 @@ use machine_calls::{deliver, gone};
 use machine_dispatching::lose_running;
 use machine_exclusion::{copied_cells, keeps_sending, says_finish, with_values};
 use machine_frames::{Effect, found_task, pass_on, pop, says};
-use machine_operators::Program;
+use machine_program::Program;
 use machine_queues::{call_mut, copied_call, enqueue, formals_count};
+use machine_scopes::end_scope;
 use machine_sending::{send_on, sent_not_begun};
-use machine_values::end_scope;
 use profile_machine::world::{
     AcceptMark, Call, Cause, Line, MeetingEnd, Outcome, Owner, Part, Sending, World,
 };

@@ -16,7 +16,7 @@ use machine_entry_calls::{
     call_object, end_at_once, has_room_if_queued, make_call, owner_of_entry,
 };
 use machine_frames::{Effect, in_protected, is_deferred, raises};
-use machine_operators::{Program, entry_of, form_of};
+use machine_program::{Program, entry_of, form_of};
 use machine_queues::{enqueue, is_full};
 use machine_sending::{is_triggering, not_accepted};
 use machine_values::{Seen, or_raised, seen_by};

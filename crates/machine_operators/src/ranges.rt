@@ -1,5 +1,5 @@
 //! Ends of the numbers, and ranges (ISO/IEC 8652:2012, 3.5).
-ghost use Rattle.std.specs.Prelude.{◌≡◌, MatchOption, Ok, Err};
+ghost use Rattle.std.specs.Prelude.{◌≡◌, ◌+ℤ◌, pos, MatchOption, Ok, Err};
 ghost use Rattle.ann_base.specs.declared.exceptions.Raised.TheVariants as exception;
 ghost use Rattle.profile_machine.specs.declared.values.Value.TheVariants.{Whole};
 ghost use Rattle.profile_machine.specs.Operators.{whole, ticks, held_moment, is_in, checked, place_in, component_place};
@@ -45,6 +45,27 @@ pub fn held_moment(n: Moment) -> Moment
     } else {
         n
     }
+}
+
+// A number of ticks that would be beyond an end of all times is that end.
+fn held(n: i128) -> Moment
+    ensures { result ≡ held_moment n }
+{
+    n.clamp(i128::from(TIME_FIRST), i128::from(TIME_LAST)) as Moment
+}
+
+/// A span behind a moment from the start of the run, held between the ends of all times.
+pub fn held_behind(base: u64, span: Moment) -> Moment
+    ensures { result ≡ held_moment (pos base +ℤ span) }
+{
+    held(i128::from(base) + i128::from(span))
+}
+
+/// A sum of spans, held between the ends of all times.
+pub fn held_sum(a: Moment, b: Moment) -> Moment
+    ensures { result ≡ held_moment (a +ℤ b) }
+{
+    held(i128::from(a) + i128::from(b))
 }
 
 /// Whether the value lies in the range.

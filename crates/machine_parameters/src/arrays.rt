@@ -5,8 +5,9 @@ ghost use Rattle.profile_machine.specs.Program.{declaration_of};
 ghost use Rattle.profile_machine.specs.Statements.{cells_from, copy_cells};
 
 use ann_base::{NoMemory, Raised};
-use machine_operators::{Program, checked, declaration_of};
-use machine_values::{put_cells, scope_in_use, scope_mut};
+use machine_operators::checked;
+use machine_program::{Program, declaration_of};
+use machine_scopes::{put_cells, scope_in_use, scope_mut};
 use profile_machine::Value;
 use profile_machine::world::{Variable, World};
 use std::alloc::Global;

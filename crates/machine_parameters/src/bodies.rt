@@ -6,8 +6,8 @@ ghost use Rattle.machine_parameters.specs.Beginnings.{body_beginning};
 
 use ann_base::{NoMemory, ObjectNo};
 use machine_frames::{Effect, goes};
-use machine_operators::{Program, next_of, subprogram_of};
-use machine_values::open_scope;
+use machine_program::{Program, next_of, subprogram_of};
+use machine_scopes::open_scope;
 use profile_machine::world::{Beginning, Handed, Purpose, ResultTo, ScopeId};
 use profile_machine::{StatementNo, SubprogramNo};
 use std::alloc::Global;

@@ -10,7 +10,8 @@ ghost use Rattle.machine_priorities.specs.Continued.{target_given, deadline_give
 use ann_base::{Moment, NoMemory, OrMemory, Raised};
 use machine_dispatching::{active_of, delay_to, part_of, placing_of, to_tail};
 use machine_frames::{Effect, goes, in_protected, is_runnable, raises, says, task_at, task_mut};
-use machine_operators::{Program, has_edf, held_moment, is_edf_level, next_of};
+use machine_operators::held_moment;
+use machine_program::{Program, has_edf, is_edf_level, next_of};
 use machine_values::{Seen, live_task, moment, optional_task, or_raised, seen_by};
 use profile_machine::world::{Line, Part, Task, World};
 use profile_machine::{ExprNo, StatementNo};

@@ -14,7 +14,7 @@ use crate::reprioritizing::{call_waited_for, reprioritize_awaited};
 use ann_base::{Level, Moment, NoMemory, OrMemory, Raised, TaskNo};
 use machine_dispatching::{part_of, placing_of, to_tail};
 use machine_frames::{Effect, found_task, goes, in_protected, raises, says, task_at, task_mut};
-use machine_operators::{Program, edf_low, interrupt_priority, next_of};
+use machine_program::{Program, edf_low, interrupt_priority, next_of};
 use machine_values::{Seen, optional_task, seen_by, value, whole_in};
 use profile_machine::world::{Line, Part, State, World};
 use profile_machine::{ExprNo, StatementNo};

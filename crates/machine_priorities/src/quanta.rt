@@ -12,7 +12,7 @@ ghost use Rattle.machine_priorities.specs.Continued.{quantum_given, ticks_given,
 use crate::ranges::priority_in_range;
 use ann_base::{Level, Moment, NoMemory, OrMemory, Raised};
 use machine_frames::{Effect, goes, raises};
-use machine_operators::{Program, is_robin_level, next_of, policies};
+use machine_program::{Program, is_robin_level, next_of, policies};
 use machine_values::{moment, seen_by, value, whole_in};
 use profile_machine::world::{Part, World};
 use profile_machine::{ExprNo, StatementNo, Value};

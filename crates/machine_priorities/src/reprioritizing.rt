@@ -9,7 +9,7 @@ ghost use Rattle.machine_frames.specs.Did.{Did};
 use ann_base::{CallNo, Level, NoMemory};
 use machine_dispatching::active_of;
 use machine_frames::Effect;
-use machine_operators::{Program, policies};
+use machine_program::{Program, policies};
 use machine_queues::{call_mut, copied_call, place_of_entry};
 use profile_machine::Queuing;
 use profile_machine::world::{Call, Waiting, World};

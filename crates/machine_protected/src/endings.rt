@@ -12,7 +12,7 @@ use ann_base::{CallNo, NoMemory, Raised};
 use machine_calls::deliver;
 use machine_exclusion::says_finish;
 use machine_frames::{Effect, task_mut};
-use machine_operators::Program;
+use machine_program::Program;
 use machine_queues::{copied_call, enqueue};
 use machine_sending::send_on;
 use profile_machine::Leaving;

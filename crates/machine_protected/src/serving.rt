@@ -6,10 +6,11 @@ ghost use Rattle.machine_protected.specs.Turns.{serving, turn, Leads};
 
 use crate::releases::release_object;
 use ann_base::{CallNo, NoMemory, Raised};
+use machine_barriers::served_next;
 use machine_calls::deliver;
-use machine_exclusion::{begin_call, body_opens, has_room_for_body, served_next};
+use machine_exclusion::{begin_call, body_opens, has_room_for_body};
 use machine_frames::{Effect, says};
-use machine_operators::Program;
+use machine_program::Program;
 use machine_queues::copied_call;
 use machine_sending::{begin_abortable, sent_not_begun};
 use profile_machine::world::{Call, Line, MeetingEnd, Outcome, Part, ProtectedMark};

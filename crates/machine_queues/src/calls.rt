@@ -12,7 +12,7 @@ ghost use Rattle.machine_frames.specs.Did.{Did};
 
 use ann_base::{CallNo, Level, NoMemory};
 use machine_frames::{Effect, says};
-use machine_operators::{Program, entry_of};
+use machine_program::{Program, entry_of};
 use profile_machine::Value;
 use profile_machine::world::{Call, Drawn, Line, Part, World};
 use std::alloc::Global;

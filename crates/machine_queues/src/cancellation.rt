@@ -7,7 +7,7 @@ use crate::calls::call_mut;
 use crate::queues::unqueued;
 use ann_base::{CallNo, NoMemory};
 use machine_frames::{Effect, says};
-use machine_operators::Program;
+use machine_program::Program;
 use profile_machine::world::{Call, Line, Part, World};
 
 /// Whether a call is queued, and was not last sent on by a requeue without abort.

@@ -3,7 +3,7 @@ ghost use Rattle.std.specs.Prelude.{◌≡◌, ◌∷◌, []};
 ghost use Rattle.profile_machine.specs.Calls.{next_call};
 
 use ann_base::CallNo;
-use machine_operators::Program;
+use machine_program::Program;
 use profile_machine::world::World;
 use world_tables::List;
 

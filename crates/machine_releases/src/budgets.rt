@@ -3,8 +3,8 @@ ghost use Rattle.std.specs.Prelude.{◌≡◌};
 ghost use Rattle.profile_machine.specs.Handlers.{loaded, raised_by, with_handler};
 ghost use Rattle.profile_machine.specs.Words.{edit_at};
 
-use crate::moments::held_sum;
 use ann_base::Moment;
+use machine_operators::held_sum;
 use profile_machine::world::{Budget, HandlerOf};
 use world_tables::List;
 

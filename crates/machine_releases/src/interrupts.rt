@@ -8,7 +8,7 @@ ghost use Rattle.machine_frames.specs.Did.{Did};
 use crate::releases::release;
 use ann_base::NoMemory;
 use machine_frames::{Effect, says};
-use machine_operators::{Program, protected_unit_of};
+use machine_program::{Program, protected_unit_of};
 use profile_machine::world::{HandlerOf, Line, Object, Part};
 use profile_machine::{Attachment, SubprogramNo};
 use world_tables::List;

@@ -5,14 +5,12 @@
 
 mod budgets;
 mod interrupts;
-mod moments;
 mod releases;
 mod ticks;
 mod timers;
 
 pub use budgets::{load, raise_by, set_handler};
 pub use interrupts::interrupt;
-pub use moments::held_behind;
 pub use releases::{has_room_for_release, release};
 pub use ticks::charge;
 pub use timers::{clear_timer, set_in};

@@ -7,7 +7,7 @@ ghost use Rattle.machine_frames.specs.Did.{Did};
 use ann_base::NoMemory;
 use machine_dispatching::ready;
 use machine_frames::{Effect, says};
-use machine_operators::Program;
+use machine_program::Program;
 use profile_machine::world::{HandlerOf, Line, Part, Release, State, World};
 use trace_text::Who;
 

@@ -9,7 +9,7 @@ ghost use Rattle.machine_releases.specs.Ticks.{timer_in, reached_in};
 
 use ann_base::{Moment, NoMemory, TaskNo};
 use machine_frames::{task_at, task_mut};
-use machine_operators::{Program, is_robin_level};
+use machine_program::{Program, is_robin_level};
 use machine_values::budget_of;
 use profile_machine::world::{Budget, Task, Timer, TimerSetting, World};
 use trace_text::Who;

@@ -9,6 +9,7 @@ use crate::marks::end_top_mark;
 use ann_base::NoMemory;
 use machine_accepts::{accept, selective_accept};
 use machine_controlled::{assign_controlled, declare, initialize};
+use machine_creation::create;
 use machine_entry_calls::requeue;
 use machine_frames::{Effect, goes, raises, top_of};
 use machine_handlers::{
@@ -16,14 +17,15 @@ use machine_handlers::{
     remove_member, replenish, set_budget, set_event, set_timer,
 };
 use machine_meetings::{asynchronous_select, entry_call};
-use machine_operators::{Program, form_of};
 use machine_priorities::{delay_and_set_deadline, set_deadline_of, set_priority, set_quantum};
+use machine_program::{Program, form_of};
+use machine_returns::{return_statement, return_value};
 use machine_statements::{
     assign, assign_array, block_statement, case_statement, delay_statement, delay_until_statement,
     exit_statement, first_turn, for_bounds, if_statement, later_turn, null, put_line, raise_again,
-    return_statement, return_value, while_turn,
+    while_turn,
 };
-use machine_tasking::{abort_statement, activate, create, end_own_activation};
+use machine_tasking::{abort_statement, activate, end_own_activation};
 use profile_machine::world::{CallKind, Part};
 use profile_machine::{StatementForm, StatementNo};
 use std::alloc::Global;

@@ -5,10 +5,10 @@ ghost use Rattle.machine_frames.specs.Did.{Did};
 
 use ann_base::{NoMemory, Raised};
 use machine_frames::{Effect, goes, has_room, raises};
-use machine_operators::{Program, main_procedure, marks_of, next_of, scope_of};
+use machine_program::{Program, main_procedure, marks_of, next_of, scope_of};
 use machine_protected::{call_operation, call_own_operation};
+use machine_scopes::{innermost, open_scope, plainly};
 use machine_statements::call_subprogram;
-use machine_values::{innermost, open_scope, plainly};
 use profile_machine::world::{Part, Purpose, ResultTo};
 use profile_machine::{Actual, Callee, Destination, StatementNo};
 use std::alloc::Global;

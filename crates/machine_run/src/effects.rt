@@ -9,7 +9,7 @@ use crate::acting::act;
 use ann_base::NoMemory;
 use machine_dispatching::settle;
 use machine_frames::{Effect, open_if_ready, set_ticks, task_at};
-use machine_operators::Program;
+use machine_program::Program;
 use machine_tasking::{take_terminates, unwind_all};
 use profile_machine::world::{Line, World};
 use std::alloc::Global;

@@ -8,7 +8,7 @@ ghost use Rattle.machine_frames.specs.Did.{Did};
 
 use ann_base::{NoMemory, Raised};
 use machine_frames::{Effect, goes, pass_on, pop, task_mut};
-use machine_operators::{Program, form_of};
+use machine_program::{Program, form_of};
 use profile_machine::world::{Mark, World};
 use profile_machine::{ExceptionChoice, Handler, Leaving, StatementForm, StatementNo};
 use trace_text::Who;

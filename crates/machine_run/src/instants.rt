@@ -7,7 +7,7 @@ use crate::effects::finish_action;
 use ann_base::NoMemory;
 use machine_expiries::{appointments_due, budgets_due, quantum_spent, script_items, timers_due};
 use machine_frames::Effect;
-use machine_operators::Program;
+use machine_program::Program;
 use profile_machine::world::Line;
 use std::alloc::Global;
 use world_tables::List;

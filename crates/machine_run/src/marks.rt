@@ -9,7 +9,7 @@ use ann_base::NoMemory;
 use machine_controlled::{end_in_assign, end_in_finalize, end_in_initialize};
 use machine_frames::{Effect, leaving_of, top_of};
 use machine_meetings::end_in_accept;
-use machine_operators::Program;
+use machine_program::Program;
 use machine_protected::end_in_protected;
 use machine_tasking::end_scope_mark;
 use profile_machine::world::{CopyBack, Mark, Purpose, ScopeMark};

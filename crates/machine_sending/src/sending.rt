@@ -10,7 +10,7 @@ use ann_base::{CallNo, NoMemory, TaskNo};
 use machine_calls::{abortable_depth, deliver, waits_for_call};
 use machine_dispatching::ready;
 use machine_frames::{Effect, has_room, says};
-use machine_operators::Program;
+use machine_program::Program;
 use machine_queues::{call_mut, call_of, copied_call, unqueued};
 use profile_machine::StatementNo;
 use profile_machine::world::{Call, CallKind, Line, Outcome, Part, Sending, World};

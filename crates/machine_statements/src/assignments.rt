@@ -6,12 +6,11 @@ ghost use Rattle.machine_frames.specs.Did.{Did};
 ghost use Rattle.machine_parameters.specs.Becomes.{Becomes};
 ghost use Rattle.machine_statements.specs.Parts.{assigned};
 
-use crate::faults::refused;
 use ann_base::{NoMemory, OrMemory, Raised};
-use machine_calls::store;
-use machine_frames::{Effect, goes};
-use machine_operators::{Program, next_of};
+use machine_frames::{Effect, goes, refused};
 use machine_parameters::copy_cells;
+use machine_program::{Program, next_of};
+use machine_results::store;
 use machine_values::{object_cell, seen_by, value, variable};
 use profile_machine::world::World;
 use profile_machine::{ExprNo, ObjectName, StatementNo, VariableName};

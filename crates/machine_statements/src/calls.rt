@@ -5,12 +5,12 @@ ghost use Rattle.profile_machine.specs.Subprograms.{begin_body, beginning_of, ca
 ghost use Rattle.machine_frames.specs.Did.{Did};
 ghost use Rattle.machine_statements.specs.Parts.{outer_of_body};
 
-use crate::faults::refused;
 use ann_base::{NoMemory, Raised};
-use machine_frames::{Effect, has_room, raises};
-use machine_operators::{Program, marks_of, scope_of, subprogram_of};
+use machine_frames::{Effect, has_room, raises, refused};
 use machine_parameters::{begin_body, handed, result_to};
-use machine_values::{Seen, home, seen_by};
+use machine_program::{Program, marks_of, scope_of, subprogram_of};
+use machine_scopes::home;
+use machine_values::{Seen, seen_by};
 use profile_machine::world::{Handed, Part, ResultTo, ScopeId};
 use profile_machine::{Actual, Destination, StatementNo, SubprogramNo};
 use std::alloc::Global;

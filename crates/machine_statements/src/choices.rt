@@ -3,10 +3,10 @@ ghost use Rattle.std.specs.Prelude.{◌≡◌, OnOk};
 ghost use Rattle.profile_machine.specs.Statements.{if_statement, case_statement, go_to_alternative, chosen_alternative, any_chosen, is_chosen, branch};
 ghost use Rattle.machine_frames.specs.Did.{Did};
 
-use crate::faults::refused;
 use ann_base::{NoMemory, Raised};
-use machine_frames::{Effect, goes, raises};
-use machine_operators::{Program, is_less, same_value};
+use machine_frames::{Effect, goes, raises, refused};
+use machine_operators::{is_less, same_value};
+use machine_program::Program;
 use machine_values::{condition, seen_by, value};
 use profile_machine::world::Part;
 use profile_machine::{CaseAlternative, Choice, ExprNo, StatementNo, Value};

@@ -10,11 +10,12 @@ ghost use Rattle.machine_parameters.specs.Becomes.{Becomes};
 ghost use Rattle.machine_statements.specs.Parts.{finds_empty, is_at_last};
 
 use crate::choices::branch;
-use crate::faults::refused;
 use ann_base::{NoMemory, OrMemory, Raised};
-use machine_frames::{Effect, exit_loop, goes};
-use machine_operators::{Program, declaration_of, is_less, next_of, same_value};
-use machine_values::{Seen, condition, home_of, or_raised, read, seen_by, value, write_cell};
+use machine_frames::{Effect, exit_loop, goes, refused};
+use machine_operators::{is_less, same_value};
+use machine_program::{Program, declaration_of, next_of};
+use machine_scopes::write_cell;
+use machine_values::{Seen, condition, home_of, or_raised, read, seen_by, value};
 use profile_machine::world::{Variable, World};
 use profile_machine::{DeclNo, ExprNo, StatementNo, Value};
 use trace_text::Who;

@@ -5,8 +5,9 @@ ghost use Rattle.machine_frames.specs.Did.{Did};
 
 use ann_base::{NoMemory, Raised};
 use machine_frames::{Effect, goes, has_room, raises, task_at};
-use machine_operators::{Program, marks_of, next_of, scope_of};
-use machine_values::{Seen, home, innermost, open_scope, plainly, same_id, seen_by};
+use machine_program::{Program, marks_of, next_of, scope_of};
+use machine_scopes::{home, innermost, open_scope, plainly, same_id};
+use machine_values::{Seen, seen_by};
 use profile_machine::world::{Frame, Mark, Part, Purpose, ScopeId, World};
 use profile_machine::{ScopeNo, StatementNo};
 use std::alloc::Global;

@@ -5,12 +5,10 @@ ghost use Rattle.profile_machine.specs.Statements.{put_line, piece_text, text_of
 ghost use Rattle.machine_frames.specs.Did.{Did};
 ghost use Rattle.machine_statements.specs.Texts.{text_behind};
 
-use crate::faults::refused;
 use ann_base::{NoMemory, OrMemory, Raised};
-use machine_frames::{Effect, goes, says};
-use machine_operators::{
-    Program, literals_of, next_of, text_of_literal, text_of_truth, text_of_whole,
-};
+use machine_frames::{Effect, goes, refused, says};
+use machine_operators::{text_of_literal, text_of_truth, text_of_whole};
+use machine_program::{Program, literals_of, next_of};
 use machine_values::{Seen, seen_by, value};
 use profile_machine::world::{Line, Part};
 use profile_machine::{Piece, StatementNo};

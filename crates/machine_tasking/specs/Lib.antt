@@ -1,3 +1,2 @@
 pub mod Aborted
-pub mod Created
 pub mod KeptTasks

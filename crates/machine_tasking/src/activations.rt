@@ -6,14 +6,13 @@ ghost use Rattle.profile_machine.specs.Tasking.{region_of_frames, top_region_of_
 ghost use Rattle.machine_frames.specs.Did.{Did};
 
 use crate::beginning::{activate_all, all_to_activate};
-use crate::creation::bars_tasks;
 use crate::falling::fall_from;
 use ann_base::{NoMemory, Raised, RegionNo};
 use machine_controlled::region_or_none;
 use machine_dispatching::{active_of, block};
-use machine_frames::{Effect, goes, raises, region_of_mark, task_at, task_mut};
+use machine_frames::{Effect, bars_tasks, goes, raises, region_of_mark, task_at, task_mut};
 use machine_masters::{end_activation, has_activating, has_group_failed};
-use machine_operators::{Program, next_of};
+use machine_program::{Program, next_of};
 use profile_machine::StatementNo;
 use profile_machine::world::{Frame, Part, Waiting, World};
 use std::alloc::Global;

@@ -8,7 +8,7 @@ ghost use Rattle.machine_frames.specs.Did.{Did};
 use ann_base::{Level, NoMemory};
 use machine_dispatching::{active_of, to_head};
 use machine_frames::Effect;
-use machine_operators::Program;
+use machine_program::Program;
 use profile_machine::world::Part;
 use trace_text::Who;
 

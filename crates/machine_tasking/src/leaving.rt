@@ -15,7 +15,7 @@ use machine_controlled::set_being_left;
 use machine_dispatching::{active_of, block};
 use machine_frames::{Effect, is_made, says, task_mut};
 use machine_masters::{complete, has_dependents, terminate};
-use machine_operators::Program;
+use machine_program::Program;
 use profile_machine::Leaving;
 use profile_machine::world::{Line, Part, Purpose, ScopeMark, Task, Waiting, World};
 use std::alloc::Global;

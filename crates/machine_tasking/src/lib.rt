@@ -1,4 +1,4 @@
-//! Tasks: how they are created and activated, how scopes are left that have dependents or
+//! Tasks: how they are activated, how scopes are left that have dependents or
 //! controlled objects, how tasks end, and how they are aborted. Each function has the name of the
 //! machine's definition of which it is the counterpart. A number that its type cannot hold is
 //! answered as want of memory.
@@ -7,7 +7,6 @@
 mod aborts;
 mod activations;
 mod beginning;
-mod creation;
 mod endings;
 mod falling;
 mod kept;
@@ -16,6 +15,5 @@ mod settling;
 
 pub use aborts::abort_statement;
 pub use activations::{activate, end_own_activation};
-pub use creation::create;
 pub use endings::end_scope_mark;
 pub use settling::{take_terminates, unwind_all};

@@ -7,10 +7,10 @@ ghost use Rattle.machine_dispatching.specs.Settling.{written};
 use ann_base::{Level, Moment, NoMemory, TaskNo};
 use machine_dispatching::{settle, to_tail};
 use machine_frames::{Effect, new_task, open_sequence, says};
-use machine_operators::{
+use machine_program::{
     Program, environment as environment_scope, interrupt_priority, main_procedure,
 };
-use machine_values::{open_scope, plainly};
+use machine_scopes::{open_scope, plainly};
 use profile_machine::Item;
 use profile_machine::world::{Drawn, Line, Part, Purpose, State, Task, Waiting, World};
 use std::alloc::Global;

@@ -11,7 +11,7 @@ use ann_base::NoMemory;
 use machine_costs::cost;
 use machine_dispatching::choose;
 use machine_frames::{same_who, set_ticks, task_at, task_mut};
-use machine_operators::Program;
+use machine_program::Program;
 use machine_releases::charge;
 use profile_machine::world::World;
 use trace_text::Who;

@@ -1,3 +1,1 @@
-pub mod CellLemmas
-pub mod OutwardsLemmas
 pub mod ValueLemmas

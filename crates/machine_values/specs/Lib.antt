@@ -1,4 +1,2 @@
 pub mod Asked
-pub mod Lends
 pub mod Sights
-pub mod Sought

@@ -34,7 +34,7 @@ pub fn event_moment(world: &World, event: u32) -> Moment
 }
 
 /// The timer with this number.
-#[tactic(auto, using(crate::proofs::CellLemmas::none_read))]
+#[tactic(auto, using(machine_scopes::proofs::CellLemmas::none_read))]
 pub fn timer_of(world: &World, number: u32) -> Timer
     ensures { result ≡ timer_of world.now number }
 {
@@ -64,7 +64,7 @@ pub fn time_left(setting: Option<TimerSetting>, clock: u64) -> Result<Moment, No
 }
 
 /// The group budget with this number.
-#[tactic(auto, using(crate::proofs::CellLemmas::none_read))]
+#[tactic(auto, using(machine_scopes::proofs::CellLemmas::none_read))]
 pub fn budget_of(world: &World, number: u32) -> Budget
     ensures { result ≡ budget_of world.now number }
 {
@@ -77,7 +77,7 @@ pub fn budget_of(world: &World, number: u32) -> Budget
     }
 }
 
-#[tactic(auto, using(crate::proofs::CellLemmas::none_read))]
+#[tactic(auto, using(machine_scopes::proofs::CellLemmas::none_read))]
 fn port_at(ports: &List<i32>, place: u32) -> i32
     ensures { result ≡ slice_index_or ports.now place (pos 0) }
 {

@@ -6,11 +6,12 @@ ghost use Rattle.profile_machine.specs.Scopes.{scope_in_use};
 ghost use Rattle.profile_machine.specs.Values.{own_object, home_of, first_cell, declared_already, thing, thing_number, number_of_thing, task_in, object_number, located_in, subject_of, is_parameter_kind, is_parameter, located, component_at, object_of, component_of_own, object_cell, shifted, component_cell, read};
 
 use crate::answers::or_raised;
-use crate::scopes::{Sought, first_outwards, home, is_of_unit, read_cell, scope_in_use};
 use crate::seen::Seen;
 use ann_base::{NoMemory, ObjectNo, OrMemory, Raised, TaskNo};
 use machine_frames::object_of;
-use machine_operators::{Program, component_place, declaration_of};
+use machine_operators::component_place;
+use machine_program::{Program, declaration_of};
+use machine_scopes::{Sought, first_outwards, home, is_of_unit, read_cell, scope_in_use};
 use profile_machine::world::{Located, ScopeId, Variable, World};
 use profile_machine::{DeclNo, DeclarationKind, ObjectName, ProtectedUnitNo, Value};
 

@@ -2,9 +2,9 @@
 ghost use Rattle.std.specs.Prelude.{◌≡◌};
 ghost use Rattle.profile_machine.specs.Values.{seen_by};
 
-use crate::scopes::innermost;
 use ann_base::ObjectNo;
-use machine_operators::Program;
+use machine_program::Program;
+use machine_scopes::innermost;
 use profile_machine::world::{ScopeId, World};
 use std::marker::Model;
 use trace_text::Who;

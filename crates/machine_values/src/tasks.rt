@@ -51,7 +51,7 @@ pub fn moment_at(ticks: u64) -> Result<Moment, NoMemory>
     }
 }
 
-#[tactic(auto, using(crate::proofs::CellLemmas::none_read))]
+#[tactic(auto, using(machine_scopes::proofs::CellLemmas::none_read))]
 fn queue_length(queues: &List<List<CallNo>>, place: u32) -> usize
     ensures { result ≡ length (queue_at queues.now place) }
 {

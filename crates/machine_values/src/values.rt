@@ -11,9 +11,8 @@ use crate::names::{component_cell, number_of_thing, object_cell, read, task_in, 
 use crate::seen::Seen;
 use crate::tasks::{count_of_entry, live_task, moment_at, number_of};
 use ann_base::{Moment, OrMemory, Raised, TaskNo};
-use machine_operators::{
-    binary_value, decides, entry_of, expression_count, expression_of, ticks, unary_value,
-};
+use machine_operators::{binary_value, decides, ticks, unary_value};
+use machine_program::{entry_of, expression_count, expression_of};
 use profile_machine::world::{Task, Variable};
 use profile_machine::{BinaryOperator, DeclNo, EntryNo, ExprNo, Expression, Value, VariableName};
 

@@ -47,7 +47,6 @@ pub enum DeclarationKind {
 
 /// A declaration. Its cells stand in the cells of its scope from `place` on; those of a component from `place`
 /// on behind the first of its object's components.
-#[derive(Drop)]
 pub struct Declaration {
     /// The simple name in lower case.
     pub name: Text,
@@ -64,8 +63,23 @@ pub struct Declaration {
     pub index: Option<Constraint>,
 }
 
+// Written out, so that it is proved once, and not by each function that drops one.
+impl Drop for Declaration {
+    fn drop(self) {
+        let Declaration {
+            name: _,
+            expanded: _,
+            kind: _,
+            scope: _,
+            place: _,
+            cells: _,
+            constraint: _,
+            index: _,
+        } = self;
+    }
+}
+
 /// A scope of the text.
-#[derive(Drop)]
 pub struct Scope {
     /// The scope that stands round it; none for the environment's.
     pub outer: Option<ScopeNo>,
@@ -84,6 +98,19 @@ pub struct Scope {
     pub first: Option<StatementNo>,
 }
 
+// Written out, so that it is proved once, and not by each function that drops one.
+impl Drop for Scope {
+    fn drop(self) {
+        let Scope {
+            outer: _,
+            size: _,
+            cells: _,
+            kept: _,
+            first: _,
+        } = self;
+    }
+}
+
 /// A formal parameter of a subprogram or an entry. The n-th stands in cell n of its scope, counted from 0.
 #[derive(Clone, Copy, Debug, PartialEq, Eq)]
 pub struct Formal {
@@ -93,7 +120,6 @@ pub struct Formal {
 }
 
 /// A subprogram. The scope of a function has a last cell more, which keeps its result.
-#[derive(Drop)]
 pub struct Subprogram {
     /// The simple name in lower case.
     pub name: Text,
@@ -105,8 +131,20 @@ pub struct Subprogram {
     pub unit: Option<ProtectedUnitNo>,
 }
 
+// Written out, so that it is proved once, and not by each function that drops one.
+impl Drop for Subprogram {
+    fn drop(self) {
+        let Subprogram {
+            name: _,
+            scope: _,
+            formals: _,
+            result: _,
+            unit: _,
+        } = self;
+    }
+}
+
 /// A task unit.
-#[derive(Drop)]
 pub struct TaskUnit {
     /// The scope of its body.
     pub scope: ScopeNo,
@@ -118,6 +156,18 @@ pub struct TaskUnit {
     pub entries: Sequence<EntryNo>,
 }
 
+// Written out, so that it is proved once, and not by each function that drops one.
+impl Drop for TaskUnit {
+    fn drop(self) {
+        let TaskUnit {
+            scope: _,
+            priority: _,
+            relative_deadline: _,
+            entries: _,
+        } = self;
+    }
+}
+
 /// A procedure that is attached to an interrupt (C.3.1).
 #[derive(Clone, Copy, Debug, PartialEq, Eq)]
 pub struct Attachment {
@@ -126,13 +176,24 @@ pub struct Attachment {
 }
 
 /// A protected unit. The components of its objects stand behind 16 cells of their own.
-#[derive(Drop)]
 pub struct ProtectedUnit {
     pub ceiling: Level,
     /// Its entries in the order of the text.
     pub entries: Sequence<EntryNo>,
     pub components: Sequence<DeclNo>,
     pub attached: Sequence<Attachment>,
+}
+
+// Written out, so that it is proved once, and not by each function that drops one.
+impl Drop for ProtectedUnit {
+    fn drop(self) {
+        let ProtectedUnit {
+            ceiling: _,
+            entries: _,
+            components: _,
+            attached: _,
+        } = self;
+    }
 }
 
 /// The unit of an entry.
@@ -150,7 +211,6 @@ pub struct EntryBody {
 }
 
 /// An entry.
-#[derive(Drop)]
 pub struct Entry {
     /// The simple name in lower case.
     pub name: Text,
@@ -162,14 +222,38 @@ pub struct Entry {
     pub body: Option<EntryBody>,
 }
 
+// Written out, so that it is proved once, and not by each function that drops one.
+impl Drop for Entry {
+    fn drop(self) {
+        let Entry {
+            name: _,
+            unit: _,
+            place: _,
+            formals: _,
+            body: _,
+        } = self;
+    }
+}
+
 /// A controlled type with the operations that it overrides (7.6). The components of its objects stand behind one
 /// cell of their own.
-#[derive(Drop)]
 pub struct ControlledType {
     pub components: Sequence<DeclNo>,
     pub initialize: Option<SubprogramNo>,
     pub finalize: Option<SubprogramNo>,
     pub adjust: Option<SubprogramNo>,
+}
+
+// Written out, so that it is proved once, and not by each function that drops one.
+impl Drop for ControlledType {
+    fn drop(self) {
+        let ControlledType {
+            components: _,
+            initialize: _,
+            finalize: _,
+            adjust: _,
+        } = self;
+    }
 }
 
 /// An enumeration type: its literals in upper case, as 'Image gives them (3.5).

@@ -33,7 +33,6 @@ pub enum Queuing {
 }
 
 /// What the pragmas of a source ask for at run time (D.2.2, D.4, D.7).
-#[derive(Drop)]
 pub struct Policies {
     /// The ranges that have a policy; every other priority is of FIFO_Within_Priorities.
     pub dispatching: Sequence<DispatchingRange>,
@@ -44,8 +43,19 @@ pub struct Policies {
     pub last_priority: Level,
 }
 
+// Written out, so that it is proved once, and not by each function that drops one.
+impl Drop for Policies {
+    fn drop(self) {
+        let Policies {
+            dispatching: _,
+            queuing: _,
+            longest_queue: _,
+            last_priority: _,
+        } = self;
+    }
+}
+
 /// The main procedure (10.2).
-#[derive(Drop)]
 pub struct MainProcedure {
     /// The name in lower case.
     pub name: Text,
@@ -54,8 +64,18 @@ pub struct MainProcedure {
     pub scope: ScopeNo,
 }
 
+// Written out, so that it is proved once, and not by each function that drops one.
+impl Drop for MainProcedure {
+    fn drop(self) {
+        let MainProcedure {
+            name: _,
+            priority: _,
+            scope: _,
+        } = self;
+    }
+}
+
 /// A program whose names are numbers. The items of its lists name one another by their numbers.
-#[derive(Drop)]
 pub struct Image {
     pub declarations: Sequence<Declaration>,
     pub expressions: Sequence<Expression>,
@@ -71,4 +91,25 @@ pub struct Image {
     /// The environment's scope, whose first action is the first of the elaboration of the library packages.
     pub environment: ScopeNo,
     pub main: MainProcedure,
+}
+
+// Written out, so that it is proved once, and not by each function that drops one.
+impl Drop for Image {
+    fn drop(self) {
+        let Image {
+            declarations: _,
+            expressions: _,
+            statements: _,
+            scopes: _,
+            subprograms: _,
+            task_units: _,
+            protected_units: _,
+            entries: _,
+            controlled_types: _,
+            enumerations: _,
+            policies: _,
+            environment: _,
+            main: _,
+        } = self;
+    }
 }

@@ -15,13 +15,23 @@ use ann_base::{Level, Raised};
 /// branch, an alternative or a turn names the action with which the task goes on, be it inside the statement or
 /// behind it. Where there is none, what was opened around the statement ends: a scope, a sequence with handlers,
 /// an accept or an abortable part.
-#[derive(Drop)]
 pub struct Statement {
     pub form: StatementForm,
     /// The number of operator signs and of calls of predefined functions in its expressions.
     pub signs: u32,
     /// What comes next, once it has been left normally.
     pub next: Option<StatementNo>,
+}
+
+// Written out, so that it is proved once, and not by each function that drops one.
+impl Drop for Statement {
+    fn drop(self) {
+        let Statement {
+            form: _,
+            signs: _,
+            next: _,
+        } = self;
+    }
 }
 
 /// A choice of a case statement (5.4).

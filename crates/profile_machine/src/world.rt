@@ -40,7 +40,6 @@ pub struct Drawn {
 }
 
 /// The world of a run.
-#[derive(Drop)]
 pub struct World {
     /// The present moment, in ticks.
     pub time: u64,
@@ -88,4 +87,36 @@ pub struct World {
     /// The release that is served.
     pub serving: Option<Release>,
     pub drawn: Drawn,
+}
+
+// Written out, so that it is proved once, and not by each function that drops one.
+impl Drop for World {
+    fn drop(self) {
+        let World {
+            time: _,
+            ran: _,
+            script: _,
+            ports: _,
+            masked: _,
+            kept_interrupts: _,
+            tasks: _,
+            agent: _,
+            places: _,
+            quanta: _,
+            ended: _,
+            scopes: _,
+            objects: _,
+            calls: _,
+            appointments: _,
+            timers: _,
+            timers_set: _,
+            timers_due: _,
+            budgets: _,
+            budget_due: _,
+            registered: _,
+            releases: _,
+            serving: _,
+            drawn: _,
+        } = self;
+    }
 }

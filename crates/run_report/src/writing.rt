@@ -1,11 +1,11 @@
 //! The lines of a report.
 ghost use Rattle.std.specs.Prelude.{◌≡◌, ◌≤◌, ◌+◌, ◌++◌, decimal, length};
-ghost use Rattle.trace_text.specs.declared.buffer.TheConstants.{BUFFER_BYTES};
+ghost use Rattle.line_writing.specs.declared.buffer.TheConstants.{BUFFER_BYTES};
 ghost use Rattle.run_report.specs.Texts.{account_text, totals_text};
 
 use crate::accounts::Account;
 use itoa::Buffer;
-use trace_text::LineBuffer;
+use line_writing::LineBuffer;
 
 /// The most bytes that a line of a report has, and that its last three lines have.
 pub const REPORT_BYTES: usize = 1_300;

@@ -9,11 +9,11 @@ ghost use Rattle.commands.specs.Runs.{text_of_run, stop_of, text_under, stop_und
 
 use ann_base::{Failed, Moment, OrMemory, Sink};
 use commands::MOST_TICKS;
+use line_writing::LineBuffer;
 use machine_kernel::{Next, Stop, boot};
 use outside_bytes::write_all;
 use profile_machine::{Image, Item};
 use std::alloc::Global;
-use trace_text::LineBuffer;
 use world_tables::List;
 
 /// Writes the run of an image without a script up to so many ticks, as `run_under` does with no items.

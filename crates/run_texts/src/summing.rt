@@ -10,11 +10,11 @@ ghost use Rattle.commands.specs.Runs.{stop_of, summary_under, stop_under};
 use crate::running::write_line;
 use ann_base::{Failed, Moment, NoMemory, OrMemory, Sink};
 use commands::MOST_TICKS;
+use line_writing::LineBuffer;
 use load_runs::Tally;
 use machine_kernel::{Next, Stop, boot};
 use profile_machine::{Image, Item};
 use std::alloc::Global;
-use trace_text::LineBuffer;
 use world_tables::List;
 
 /// Writes the summary of the run of an image without a script up to so many ticks, and answers why the run stopped. The

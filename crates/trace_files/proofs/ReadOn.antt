@@ -1,7 +1,7 @@
 -- How a trace goes on, from the bytes that were read of its next text.
 use Rattle.std.proofs.Common.{◌≡◌, ◌≤◌, ◌<◌, ◌⊎◌, inl, inr, ◌+◌, ◌-◌, ℕ, suc, true, false, List, [], ◌∷◌, Option, Some, None, length, take, drop, ap, sym, subst, ◌∙◌, arith}
 use Rattle.std.proofs.lemmas.List.{take_all, length-take, drop-take}
-use Rattle.trace_text.specs.declared.write.TheConstants.{LINE_BYTES}
+use Rattle.trace_text.specs.declared.lines.TheConstants.{LINE_BYTES}
 use Rattle.trace_reading.specs.Lines.{line_in}
 use Rattle.trace_laws.specs.declared.verdicts.TheConstants.{TRACE_BYTES}
 use Rattle.trace_laws.specs.Verdicts.{texts_in}

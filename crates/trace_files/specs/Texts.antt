@@ -1,7 +1,7 @@
 -- What is still to be read of a trace in a file, and how it goes on.
 use Rattle.std.specs.Prelude.{◌≡◌, ◌≤◌, ◌<◌, ◌⊎◌, ◌+◌, ◌-◌, ℕ, List, [], ◌∷◌, Option, Some, None, length, take}
 use Rattle.trace_text.specs.declared.events.Event.{Event}
-use Rattle.trace_text.specs.declared.write.TheConstants.{LINE_BYTES}
+use Rattle.trace_text.specs.declared.lines.TheConstants.{LINE_BYTES}
 use Rattle.trace_reading.specs.Lines.{line_in}
 use Rattle.trace_laws.specs.declared.verdicts.TheConstants.{TRACE_BYTES}
 use Rattle.trace_laws.specs.Verdicts.{texts_in}

@@ -4,16 +4,16 @@ ghost use Rattle.std.specs.List.{slice_get};
 ghost use Rattle.ann_base.specs.Answers.{OfFault};
 ghost use Rattle.ann_base.specs.Outside.{Rose, extended};
 ghost use Rattle.outside_bytes.specs.Pieces.{HoldsPrefix};
-ghost use Rattle.trace_text.specs.declared.buffer.TheConstants.{BUFFER_BYTES};
+ghost use Rattle.line_writing.specs.declared.buffer.TheConstants.{BUFFER_BYTES};
 ghost use Rattle.run_report.specs.declared.writing.TheConstants.{REPORT_BYTES};
 ghost use Rattle.run_report.specs.Kept.{accounts_in};
 ghost use Rattle.run_report.specs.Texts.{account_text, text_in};
 
 use ann_base::{Failed, OrMemory, Sink};
+use line_writing::LineBuffer;
 use outside_bytes::write_all;
 use run_report::{Report, write_account, write_totals};
 use std::alloc::Global;
-use trace_text::LineBuffer;
 
 /// Writes a report: a line for each task in the order of the `new` lines, and three for the whole. After a failure a prefix
 /// of it was written.

@@ -17,7 +17,7 @@ use Rattle.trace_text.specs.declared.events.Event.{Event}
 use Rattle.trace_text.specs.declared.events.Event.TheVariants.{New, Ready, Block, Run, Idle, Base, Deadline, Quantum, Done, Raise, Put, Call, Start, Finish, Cancel, Gone, Enter, Exit, Held, Abort, Trigger, Leave, Init, Final, Left, Replace, Release, Serve, Served, Interrupt, Port, Mask, Unmask, Masked, End}
 use Rattle.trace_text.specs.declared.words.Word.{Word}
 use Rattle.trace_text.specs.declared.words.Word.TheVariants as word
-use Rattle.trace_text.specs.declared.write.TheConstants.{LINE_BYTES}
+use Rattle.trace_text.specs.declared.lines.TheConstants.{LINE_BYTES}
 use Rattle.trace_text.specs.Text.{queue_end_text, waits_text, mode_text, leaves_text}
 use Rattle.trace_text.specs.Words.{word_text, all_words}
 use Rattle.trace_reading.specs.declared.read.Lead.TheVariants as lead

@@ -2,7 +2,7 @@
 ghost use Rattle.std.specs.Prelude.{◌≡◌, ◌<◌, ℕ, List, None, length};
 ghost use Rattle.trace_text.specs.declared.events.Event.{Event};
 ghost use Rattle.trace_text.specs.Text.{IsPrintableLine, ArePrintable, line_text, text_of};
-ghost use Rattle.trace_text.specs.declared.write.TheConstants.{LINE_BYTES};
+ghost use Rattle.trace_text.specs.declared.lines.TheConstants.{LINE_BYTES};
 ghost use Rattle.trace_text.specs.Queue.{Line};
 ghost use Rattle.trace_reading.specs.Lines.{line_in};
 

@@ -1,19 +1,17 @@
 //! The lines of a trace: what each says, its text, and the laws that a list of lines keeps.
 #![tactic(auto)]
 
-mod buffer;
 mod events;
 mod laws;
+mod lines;
 mod words;
-mod write;
 
-pub use buffer::{BUFFER_BYTES, LineBuffer};
 pub use events::{
     Action, Created, Ended, Entry, EntryName, Event, Finished, Leaves, Mode, QueueEnd, Waits, Who,
 };
 pub use laws::tests_tell;
+pub use lines::LINE_BYTES;
 pub use words::{
     EVENT_WORDS, Word, event_word, leaves_bytes, mode_bytes, queue_end_bytes, waits_bytes,
     word_bytes,
 };
-pub use write::{LINE_BYTES, write_line};

@@ -47,7 +47,6 @@ pub struct Sending {
 }
 
 /// A call that has not been resumed by its caller (9.5.3).
-#[derive(Drop)]
 pub struct Call {
     pub number: CallNo,
     pub caller: TaskNo,
@@ -72,6 +71,30 @@ pub struct Call {
     pub results: List<Option<Variable>>,
     pub sending: Option<Sending>,
     pub outcome: Option<Outcome>,
+}
+
+// Written out, so that it is proved once, and not by each function that drops one.
+impl Drop for Call {
+    fn drop(self) {
+        let Call {
+            number: _,
+            caller: _,
+            kind: _,
+            statement: _,
+            owner: _,
+            entry: _,
+            priority: _,
+            begun: _,
+            firm: _,
+            sent_with_abort: _,
+            attempted: _,
+            moment: _,
+            values: _,
+            results: _,
+            sending: _,
+            outcome: _,
+        } = self;
+    }
 }
 
 /// The entry call in a statement.

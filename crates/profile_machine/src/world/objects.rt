@@ -13,7 +13,6 @@ pub struct Action {
 }
 
 /// A protected object (9.4).
-#[derive(Drop)]
 pub struct Object {
     pub number: ObjectNo,
     pub unit: ProtectedUnitNo,
@@ -24,6 +23,20 @@ pub struct Object {
     pub actions: List<Action>,
     /// The calls that are queued on each of its entries.
     pub queues: List<List<CallNo>>,
+}
+
+// Written out, so that it is proved once, and not by each function that drops one.
+impl Drop for Object {
+    fn drop(self) {
+        let Object {
+            number: _,
+            unit: _,
+            located: _,
+            ceiling: _,
+            actions: _,
+            queues: _,
+        } = self;
+    }
 }
 
 /// Whether a protected action may begin (9.5.1, D.3).

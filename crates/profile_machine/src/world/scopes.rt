@@ -26,7 +26,6 @@ pub struct Variable {
 }
 
 /// A scope in use (3.1, 8.2).
-#[derive(Drop)]
 pub struct ScopeInUse {
     pub id: ScopeId,
     pub scope: ScopeNo,
@@ -39,6 +38,21 @@ pub struct ScopeInUse {
     /// The controlled object on which the operation works whose body it is.
     pub subject: Option<Located>,
     pub cells: List<Value>,
+}
+
+// Written out, so that it is proved once, and not by each function that drops one.
+impl Drop for ScopeInUse {
+    fn drop(self) {
+        let ScopeInUse {
+            id: _,
+            scope: _,
+            outer: _,
+            owner: _,
+            object: _,
+            subject: _,
+            cells: _,
+        } = self;
+    }
 }
 
 /// How a scope begins in a run: what stands round it in the text, the object or the controlled object that it

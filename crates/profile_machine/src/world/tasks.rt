@@ -57,7 +57,6 @@ pub struct Inherited {
 }
 
 /// A task that has not terminated, or the agent.
-#[derive(Drop)]
 pub struct Task {
     pub who: Who,
     /// Its declaration; the environment task and the agent have none.
@@ -100,6 +99,38 @@ pub struct Task {
     pub budget: Option<u32>,
     /// The calls that are queued on each of its entries.
     pub queues: List<List<CallNo>>,
+}
+
+// Written out, so that it is proved once, and not by each function that drops one.
+impl Drop for Task {
+    fn drop(self) {
+        let Task {
+            who: _,
+            declared: _,
+            unit: _,
+            outer: _,
+            state: _,
+            frames: _,
+            ticks_left: _,
+            base: _,
+            inherited: _,
+            kept_level: _,
+            deadline: _,
+            relative_deadline: _,
+            quantum: _,
+            cpu_ticks: _,
+            master: _,
+            declarative_part: _,
+            activator: _,
+            group_failed: _,
+            completed: _,
+            abnormal: _,
+            deferred_base: _,
+            deferred_deadline: _,
+            budget: _,
+            queues: _,
+        } = self;
+    }
 }
 
 /// An entry of the ready queues: the level at which it was placed, and on an EDF level the deadline.

@@ -1,6 +1,6 @@
 use Rattle.std.proofs.Common.{sym, ◌∙◌, not}
 use Rattle.profile_machine.specs.Steps.{is_above}
-use Rattle.machine_dispatching.proofs.PlaceLemmas.{place-le, insert-found, push-none, put_at_head-is}
+use Rattle.machine_appointments.proofs.PlaceLemmas.{place-le, insert-found, push-none, put_at_head-is}
 use Rattle.machine_dispatching.proofs.queues.put_at_head.Goals as goal
 
 pub insert-requires : goal.insert-requires

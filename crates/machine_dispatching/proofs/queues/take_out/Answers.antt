@@ -1,7 +1,7 @@
 use Rattle.std.proofs.Common.{length, sym, ap, ◌∙◌, arith}
 use Rattle.profile_machine.specs.Words.{same_who}
 use Rattle.profile_machine.specs.Words.{without}
-use Rattle.machine_dispatching.proofs.PlaceLemmas.{remove-lt, without-found, without-none}
+use Rattle.machine_appointments.proofs.PlaceLemmas.{remove-lt, without-found, without-none}
 use Rattle.machine_dispatching.proofs.queues.take_out.Goals as goal
 
 pub loop-place-smaller : goal.loop-place-smaller

@@ -1,4 +1,0 @@
-use Rattle.machine_values.proofs.scopes.+outwards.Given as goal
-
-abbrev pub decreases-outwards : goal.decreases-outwards
-decreases-outwards l = l.more

@@ -5,7 +5,7 @@ use machine_frames::{
     number_of, onward_of, open_if_ready, pass_on, pop, push, raises, set_state, set_ticks, task_at,
     top_of, waiting_of,
 };
-use machine_operators::Program;
+use machine_program::Program;
 use profile_machine::world::{Drawn, Mark, Part, State, Waiting, World};
 use profile_machine::{
     Image, Leaving, MainProcedure, Policies, Queuing, ScopeNo, Sequence, Statement, StatementForm,

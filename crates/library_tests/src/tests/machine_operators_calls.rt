@@ -1,6 +1,7 @@
 //! Operators by the tables of the standard, and the calls that take memory.
 use ann_base::Raised;
-use machine_operators::{binary_value, initial_cells, text_of_whole, unary_value};
+use machine_operators::{binary_value, text_of_whole, unary_value};
+use machine_program::initial_cells;
 use profile_machine::{BinaryOperator, CellRun, Scope, Sequence, UnaryOperator, Value};
 use std::test::Fail;
 

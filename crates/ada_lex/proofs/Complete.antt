@@ -15,6 +15,7 @@ use Rattle.ada_lex.specs.Lexed.{is_run, is_fraction, IsNumber, IsToken, IsWithin
 use Rattle.ada_lex.proofs.Loops.{run_in_list}
 use Rattle.ada_lex.proofs.Runs.{both, both_are, run_longest, run_is, begins_in_front, begins_in_whole}
 use Rattle.ada_lex.proofs.Longest.{fraction_fits, fraction_is, number_longest, whole_in_front, behind_front, map_some, plus_two, plus_one, two_or, delimiter_fits, delimiter_first, delimiter_longest}
+use Rattle.ada_lex.specs.declared.scan.TheConstants.{MAX_WORD}
 
 -- a token of n bytes stands at the front, and no longer one
 pub record Stands (kind : Kind) (n : ℕ) (bytes : List ℕ) : Type 0 where
@@ -28,9 +29,9 @@ begins_pos : (test : ℕ → Bool) (n : ℕ) (bytes : List ℕ) → begins_with 
 begins_pos test zero bytes e = absurd (false≢true e)
 begins_pos test (suc n) bytes e = omega arith
 
-no_fault : (n : ℕ) (rest : List ℕ) → n ≤ 80 → begins_with (λ b. eqb b 95) rest ≡ false → fault_in_word n rest ≡ None
-no_fault n [] le e = rw (le-ltb 80 n le) refl
-no_fault n (b ∷ rest) le e = rw (le-ltb 80 n le, e) refl
+no_fault : (n : ℕ) (rest : List ℕ) → n ≤ MAX_WORD → begins_with (λ b. eqb b 95) rest ≡ false → fault_in_word n rest ≡ None
+no_fault n [] le e = rw (le-ltb MAX_WORD n le) refl
+no_fault n (b ∷ rest) le e = rw (le-ltb MAX_WORD n le, e) refl
 
 pub word_stands : (place : Place) (n : ℕ) (bytes : List ℕ) → Stands kinds.Word n bytes → word_at place bytes ≡ Ok n
 unfolding word_at

@@ -17,6 +17,7 @@ use Rattle.ada_lex.specs.Lexed.{is_run, is_fraction, IsNumber, IsToken, IsWithin
 use Rattle.ada_lex.proofs.Loops.{run_in_list}
 use Rattle.ada_lex.proofs.Pieces.{unless_bad_ok, number_ok, delimiter_some}
 use Rattle.ada_lex.proofs.Runs.{both, both_are, run_longest, run_is, run_stop, begins_in_front, begins_in_whole}
+use Rattle.ada_lex.specs.declared.scan.TheConstants.{MAX_WORD}
 
 -- what is known of a token of n bytes at the front
 pub record IsRead (kind : Kind) (n : ℕ) (bytes : List ℕ) : Type 0 where
@@ -36,14 +37,14 @@ longest_by kind n bytes le bound =
     omega (arith, some, at_most)
 
 -- words
-word_fine : (m : ℕ) (rest : List ℕ) → fault_in_word m rest ≡ None → (m ≤ 80) × (begins_with (λ b. eqb b 95) rest ≡ false)
-word_fine m [] e = (elim (ltb 80 m) as (λ v. ltb 80 m ≡ v → cond {A = Option ℕ} v (Some 80) None ≡ None → m ≤ 80) [ true ↦ λ t f. absurd cc | false ↦ λ t f. ltb-false 80 m t ] refl e, refl)
-word_fine m (b ∷ rest) e = from_test (ltb 80 m) (eqb b 95) refl refl e
+word_fine : (m : ℕ) (rest : List ℕ) → fault_in_word m rest ≡ None → (m ≤ MAX_WORD) × (begins_with (λ b. eqb b 95) rest ≡ false)
+word_fine m [] e = (elim (ltb MAX_WORD m) as (λ v. ltb MAX_WORD m ≡ v → cond {A = Option ℕ} v (Some MAX_WORD) None ≡ None → m ≤ MAX_WORD) [ true ↦ λ t f. absurd cc | false ↦ λ t f. ltb-false MAX_WORD m t ] refl e, refl)
+word_fine m (b ∷ rest) e = from_test (ltb MAX_WORD m) (eqb b 95) refl refl e
   where
-    from_test : (v w : Bool) → ltb 80 m ≡ v → eqb b 95 ≡ w → cond {A = Option ℕ} v (Some 80) (cond {A = Option ℕ} w (Some (min 80 (cond (begins_with (λ c. eqb c 95) rest) (m + 1) m))) None) ≡ None → (m ≤ 80) × (eqb b 95 ≡ false)
+    from_test : (v w : Bool) → ltb MAX_WORD m ≡ v → eqb b 95 ≡ w → cond {A = Option ℕ} v (Some MAX_WORD) (cond {A = Option ℕ} w (Some (min MAX_WORD (cond (begins_with (λ c. eqb c 95) rest) (m + 1) m))) None) ≡ None → (m ≤ MAX_WORD) × (eqb b 95 ≡ false)
     from_test true w t u f = absurd cc
     from_test false true t u f = absurd cc
-    from_test false false t u f = (ltb-false 80 m t, u)
+    from_test false false t u f = (ltb-false MAX_WORD m t, u)
 
 pub word_read : (place : Place) (bytes : List ℕ) (n : ℕ) → begins_with is_ascii_alphabetic bytes ≡ true → 0 < n → word_at place bytes ≡ Ok n → IsRead kinds.Word n bytes
 unfolding word_at

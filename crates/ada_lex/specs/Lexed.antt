@@ -2,6 +2,7 @@
 use Rattle.std.specs.Prelude.{◌≡◌, ℕ, ◌-◌, ◌^◌, ◌<◌, ◌≤◌, Bool, true, false, ◌&&◌, not, ◌==◌, if◌then◌else◌, List, [], ◌∷◌, ◌++◌, length, take, drop, Option, Some, None, position}
 use Rattle.std.specs.Char.{is_ascii_digit, is_ascii_alphabetic}
 use Rattle.ada_lex.specs.declared.lexing.TheConstants.{MAX_SOURCE}
+use Rattle.ada_lex.specs.declared.scan.TheConstants.{MAX_WORD}
 use Rattle.ada_lex.specs.declared.scan.Run.{Run}
 use Rattle.ada_lex.specs.declared.scan.Run.TheVariants.{Letters, Whole, Decimals}
 use Rattle.ada_lex.specs.declared.scan.Spot.{Spot}
@@ -51,9 +52,9 @@ IsToken kinds.Number bytes = IsNumber bytes
 IsToken kinds.Text bytes = IsText bytes
 IsToken kinds.Delimiter bytes = IsDelimiter bytes
 
--- the limits of the profile: 80 bytes of a word, a whole part below 2 to the power of 128, bytes that a text may hold
+-- the limits of the profile: MAX_WORD bytes of a word, a whole part below 2 to the power of 128, bytes that a text may hold
 abbrev pub IsWithin : Kind → List ℕ → Type 0
-IsWithin kinds.Word bytes = length bytes ≤ 80
+IsWithin kinds.Word bytes = length bytes ≤ MAX_WORD
 IsWithin kinds.Number bytes = whole_of bytes < 2 ^ 128
 IsWithin kinds.Text bytes = position is_no_text bytes ≡ None
 IsWithin kinds.Delimiter bytes = Unit {0}

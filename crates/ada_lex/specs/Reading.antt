@@ -3,6 +3,7 @@ use Rattle.std.specs.Prelude.{ℕ, zero, suc, ◌+◌, ◌-◌, ◌^◌, Bool, t
 use Rattle.std.specs.Char.{is_ascii_digit, is_ascii_alphabetic}
 use Rattle.ann_base.specs.declared.places.Place.{Place}
 use Rattle.ada_lex.specs.declared.lexing.TheConstants.{MAX_SOURCE}
+use Rattle.ada_lex.specs.declared.scan.TheConstants.{MAX_WORD}
 use Rattle.ada_lex.specs.declared.scan.Run.TheVariants.{Letters, Whole, Decimals}
 use Rattle.ada_lex.specs.declared.scan.Spot.{Spot}
 use Rattle.ada_lex.specs.declared.tokens.Kind.{Kind}
@@ -34,13 +35,13 @@ behind_all (b ∷ rest) spot = behind_all rest (behind spot b)
 abbrev pub start : Spot
 start = record { offset = 0; place = record { line = 1; column = 1 } }
 
--- A word ends before the first byte that cannot go on. It may not be longer than 80 bytes, and no underscore may
+-- A word ends before the first byte that cannot go on. It may not be longer than MAX_WORD bytes, and no underscore may
 -- follow it: of two the second is wrong, since a letter could have followed the first.
 abbrev pub fault_in_word : ℕ → List ℕ → Option ℕ
-fault_in_word n [] = if nat_lt 80 n then Some 80 else None
+fault_in_word n [] = if nat_lt MAX_WORD n then Some MAX_WORD else None
 fault_in_word n (b ∷ rest) =
-    if nat_lt 80 n then Some 80
-    else (if b == 95 then Some (min 80 (if begins_with (λ c. c == 95) rest then n + 1 else n)) else None)
+    if nat_lt MAX_WORD n then Some MAX_WORD
+    else (if b == 95 then Some (min MAX_WORD (if begins_with (λ c. c == 95) rest then n + 1 else n)) else None)
 
 abbrev pub unless_bad : Option ℕ → Place → ℕ → Result ℕ LexFault
 unless_bad None place n = Ok n

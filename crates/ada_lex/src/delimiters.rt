@@ -5,7 +5,7 @@ ghost use Rattle.ada_lex.specs.declared.delimiters.Delimiter.{Delimiter};
 ghost use Rattle.ada_lex.specs.DelimiterLetters.{letters};
 
 /// A delimiter of this profile.
-#[derive(Clone, Copy, Debug, PartialEq, Eq)]
+#[derive(Clone, Copy, PartialEq, Eq)]
 pub enum Delimiter {
     /// `=>`
     Arrow,

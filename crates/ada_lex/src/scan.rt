@@ -3,6 +3,7 @@ ghost use Rattle.std.specs.Prelude.{◌≡◌, ◌+◌, ◌-◌, ◌^◌, ◌<�
 ghost use Rattle.std.specs.Option.{SomeIff};
 ghost use Rattle.std.specs.Result.{result_map_both};
 ghost use Rattle.ada_lex.specs.declared.lexing.TheConstants.{MAX_SOURCE};
+ghost use Rattle.ada_lex.specs.declared.scan.TheConstants.{MAX_WORD};
 ghost use Rattle.ada_lex.specs.Shapes.{begins_with, goes_on, run_length, value_of, text_length, is_no_text, is_delimiter, is_double_delimiter, is_separator, delimiter_length, gap_length};
 ghost use Rattle.ada_lex.specs.Reading.{behind, behind_all, spoils_number, fraction_length, fault_in_word, kind_of, word_at, number_at, text_at, token_at, piece_at};
 
@@ -134,7 +135,7 @@ fn place_on(place: Place, n: usize) -> Place
 fn fault_in_word(n: usize, rest: &[u8]) -> Option<usize>
     requires { n < 2 ^ 32 }
     ensures fault { result ≡ fault_in_word n rest.now }
-    ensures small { IfSome result (λ k. k ≤ 80) }
+    ensures small { IfSome result (λ k. k ≤ MAX_WORD) }
 {
     match rest {
         _ if n > MAX_WORD => Some(MAX_WORD),

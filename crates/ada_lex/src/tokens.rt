@@ -3,7 +3,7 @@ use ann_base::Place;
 use thiserror::Error;
 
 /// What a token is.
-#[derive(Clone, Copy, Debug, PartialEq, Eq)]
+#[derive(Clone, Copy, PartialEq, Eq)]
 pub enum Kind {
     /// An identifier or a reserved word (2.3, 2.9).
     Word,
@@ -16,7 +16,7 @@ pub enum Kind {
 }
 
 /// A token: its kind, the bytes `first .. end` of the source that spell it, and the place of its first byte.
-#[derive(Clone, Copy, Debug, PartialEq, Eq)]
+#[derive(Clone, Copy, PartialEq, Eq)]
 pub struct Token {
     pub kind: Kind,
     /// The offset of its first byte.

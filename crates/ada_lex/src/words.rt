@@ -6,7 +6,7 @@ ghost use Rattle.ada_lex.specs.ReservedLetters.{letters};
 ghost use Rattle.ada_lex.specs.Reserved.{is_reserved};
 
 /// A reserved word.
-#[derive(Clone, Copy, Debug, PartialEq, Eq)]
+#[derive(Clone, Copy, PartialEq, Eq)]
 pub enum Reserved {
     Abort,
     Abs,

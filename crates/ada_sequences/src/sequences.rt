@@ -8,8 +8,8 @@ ghost use Rattle.ada_grammar.specs.ReadingStatements.{begins_statement};
 ghost use Rattle.ada_grammar.specs.ReadingSequences.{declarations_of, given_handlers_of, handled_behind_of, handler_of, handlers_of, inside_of, made, parts_of, plain_of, statement_of, statements_of, whole_body_of};
 
 use crate::bodies::begins_declaration;
-use ada_clauses::handled_exceptions;
 use ada_grammar::{Cursor, Stuck};
+use ada_simple_statements::handled_exceptions;
 use ada_statements::{StatementReader, begins_statement};
 use ada_tree::{Declaration, Handler, OneOrMore, Sequence, SequenceParts, SequenceRole, Statement};
 use ann_base::{NoMemory, OrMemory};

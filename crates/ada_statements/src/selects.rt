@@ -7,9 +7,9 @@ ghost use Rattle.ada_grammar.specs.ReadingStatements.{accept_alternative_of, acc
 ghost use Rattle.ada_grammar.specs.ReadingSequences.{inside_of, sequence_of};
 
 use crate::statements::StatementReader;
-use ada_clauses::{call, delay};
 use ada_expressions::expression;
 use ada_grammar::{Cursor, Stuck};
+use ada_simple_statements::{call, delay};
 use ada_tree::{
     Accept, Alternative, AsynchronousSelect, Call, ConditionalEntryCall, Delay, Guard, OneOrMore,
     SelectAlternative, SelectForm, SelectStatement, SelectiveAccept, Sequence, SequenceRole,

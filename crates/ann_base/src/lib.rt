@@ -5,18 +5,14 @@
 
 mod exceptions;
 mod faults;
-mod host;
 mod identities;
-mod memory;
 mod names;
 mod outside;
 mod places;
 
 pub use exceptions::Raised;
 pub use faults::{Failed, Full, NoMemory, OrMemory};
-pub use host::{HostShelf, HostSink};
-pub use identities::{CallNo, Level, Moment, ObjectNo, RegionNo, SLOTS, Slot, TaskNo};
-pub use memory::{MemShelf, MemSink};
+pub use identities::{CallNo, Level, Moment, ObjectNo, RegionNo, SLOTS, Slot, TaskNo, next_number};
 pub use names::{NAME_BYTES, Name};
 pub use outside::{Shelf, Sink};
 pub use places::Place;

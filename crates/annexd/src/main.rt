@@ -1,12 +1,15 @@
-//! annexd: the timed run of an Ada program, as an exact trace.
+//! annexd: the timed run of an Ada program, as an exact trace. All that it does is one call, `top`, whose clauses say what
+//! is promised of the program; `main` hands it the host's arguments, files and streams.
 #![tactic(auto)]
 
-use ann_base::{HostShelf, HostSink};
+mod whole;
+
 use commands::Outcome;
-use interpreter::top;
+use outside_host::{HostShelf, HostSink};
 use std::process::ExitCode;
 use std::{env, io};
 use table_commands::conclude;
+use whole::top;
 
 /// Passes the words behind the program's name to `top`, with the host's files and streams. Words that are not UTF-8 are
 /// refused, as words that are not asked for are; where memory runs out for the words the status is 9, as it is behind

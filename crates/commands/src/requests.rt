@@ -1,13 +1,14 @@
 //! Requests.
+use trace_text::LAST_TICK;
 
 /// How many ticks a run takes at most where the words do not say it.
 pub const DEFAULT_TICKS: u64 = 1_000_000;
 
-/// The most ticks that the words may say.
-pub const MOST_TICKS: u64 = 1_000_000_000;
+/// The most ticks that the words may say: up to the last one that a line of a trace can have.
+pub const MOST_TICKS: u64 = LAST_TICK;
 
 /// What is asked of a source.
-#[derive(Clone, Copy, Debug)]
+#[derive(Clone, Copy)]
 pub enum Work {
     /// `run`: the trace of its run up to this many ticks, from 1 to `MOST_TICKS`.
     Run { ticks: u64 },
@@ -18,7 +19,7 @@ pub enum Work {
 }
 
 /// What is asked of a table of duties.
-#[derive(Clone, Copy, Debug)]
+#[derive(Clone, Copy)]
 pub enum TableTest {
     /// `rta`: the response time of each duty under fixed priorities.
     ResponseTimes,
@@ -27,7 +28,7 @@ pub enum TableTest {
 }
 
 /// What is asked of a trace.
-#[derive(Clone, Copy, Debug)]
+#[derive(Clone, Copy)]
 pub enum TraceWork {
     /// `laws`: whether it keeps the five laws, or which line breaks which.
     Laws,
@@ -36,7 +37,7 @@ pub enum TraceWork {
 }
 
 /// What the words of a command ask for. Files are named as the words name them.
-#[derive(Clone, Copy, Debug)]
+#[derive(Clone, Copy)]
 pub enum Request<'a> {
     /// `run SOURCE`, also with `--ticks N` at the end, and `accept SOURCE`.
     Source {

@@ -7,7 +7,7 @@ ghost use Rattle.legality_beside.specs.Passing.{told_of, cells_with, passing_fro
 
 use ada_legality::{Finding, Rule};
 use ada_regions::{Names, NumberedDeclaration};
-use ann_base::NoMemory;
+use ann_base::{NoMemory, next_number};
 use image_layout::{cells_of_declaration, is_in_scope};
 use legality_types::broken_if;
 use world_tables::List;
@@ -87,15 +87,6 @@ fn cells_behind(
         counted(before, cells)
     } else {
         Ok(before)
-    }
-}
-
-fn next_number(number: u32) -> Result<u32, NoMemory>
-    ensures { IfOk result (λ next. next ≡ number + 1) }
-{
-    match number.checked_add(1) {
-        None => Err(NoMemory),
-        Some(next) => Ok(next),
     }
 }
 

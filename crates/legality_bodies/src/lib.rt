@@ -6,3 +6,6 @@ mod bodies;
 mod sequences;
 
 pub use sequences::WithDeclarations;
+
+// What stands below, for the crates above.
+pub use legality_compounds;

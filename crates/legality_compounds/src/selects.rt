@@ -13,10 +13,10 @@ use ada_tree::{
     SelectForm, SelectStatement, SelectiveAccept, TimedEntryCall,
 };
 use ann_base::{NoMemory, Place};
-use legality_choices::selective_accept_judged;
-use legality_entities::with_around;
+use legality_handlers::legality_entities::with_around;
+use legality_handlers::legality_types::broken_if;
+use legality_leaving::legality_choices::selective_accept_judged;
 use legality_statements::{delay_found, entry_call_found, guard_found, trigger_found};
-use legality_types::broken_if;
 use profile_machine::Sequence;
 use std::alloc::Global;
 use world_tables::List;

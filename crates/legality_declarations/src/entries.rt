@@ -8,9 +8,9 @@ ghost use Rattle.ada_legality.specs.Declarations.{entries_judged, entries_noted,
 use ada_legality::{BodyKind, Finding, InForce, Known, Rule};
 use ada_tree::{EntryDeclaration, ProtectedOperation, TaskDefinition};
 use ann_base::NoMemory;
-use legality_parts::parameters_found;
-use legality_profiles::declaration_noted;
-use legality_types::broken_if;
+use legality_subprograms::legality_parts::parameters_found;
+use legality_subprograms::legality_profiles::declaration_noted;
+use legality_subprograms::legality_types::broken_if;
 use profile_machine::Sequence;
 use std::alloc::Global;
 use std::marker::Model;

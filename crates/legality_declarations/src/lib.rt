@@ -14,3 +14,10 @@ pub use heads::{barrier_found, entry_body_judged, unit_body_judged, unit_here, u
 pub use objects::object_found;
 pub use types::definition_found;
 pub use units::{protected_found, task_found};
+
+// What stands below, for the crates above.
+pub use legality_subprograms;
+pub use legality_subprograms::{
+    legality_choices, legality_entities, legality_expressions, legality_parts, legality_types,
+    legality_values,
+};

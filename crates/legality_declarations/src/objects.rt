@@ -10,10 +10,12 @@ use ada_legality::{Finding, IndicationUse, Known, ProtectedObject, Rule};
 use ada_regions::AdaType;
 use ada_tree::{Constraint as Indicated, Identifier, ObjectDeclaration, OneOrMore};
 use ann_base::{NoMemory, Place};
-use legality_entities::entity_of_name;
-use legality_names::is_library_entity;
-use legality_parts::{cells_noted, indication_found, type_of_mark, value_alone_found_if};
-use legality_types::{
+use legality_subprograms::legality_entities::entity_of_name;
+use legality_subprograms::legality_names::is_library_entity;
+use legality_subprograms::legality_parts::{
+    cells_noted, indication_found, type_of_mark, value_alone_found_if,
+};
+use legality_subprograms::legality_types::{
     broken_if, has_no_values, is_event_timer_or_budget, is_task_id, is_timer, note,
 };
 use std::alloc::Global;

@@ -9,8 +9,10 @@ use ada_regions::{AdaType, Names, NumberedEntry};
 use ada_tree::Identifier;
 use ann_base::{NoMemory, Place};
 use image_layout::same_entry_unit;
-use legality_entities::{is_library_object, kind_of_identifier, type_of_unit_kind};
-use legality_types::{broken_if, is_task_unit};
+use legality_subprograms::legality_entities::{
+    is_library_object, kind_of_identifier, type_of_unit_kind,
+};
+use legality_subprograms::legality_types::{broken_if, is_task_unit};
 use profile_machine::EntryUnit;
 use world_tables::List;
 

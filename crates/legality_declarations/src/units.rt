@@ -13,11 +13,13 @@ use crate::tasks::single_task_judged;
 use ada_legality::{AspectOwner, AspectPart, BodyKind, Ceiling, Finding, Known};
 use ada_tree::{Component, Identifier, ProtectedDeclaration, ProtectedOperation, TaskDeclaration};
 use ann_base::{NoMemory, Place};
-use legality_choices::{is_other_ceiling, place_of_priority, stated_level, stated_value};
-use legality_parts::{aspects_found, cells_noted};
-use legality_profiles::declaration_noted;
+use legality_subprograms::legality_choices::{
+    is_other_ceiling, place_of_priority, stated_level, stated_value,
+};
+use legality_subprograms::legality_parts::{aspects_found, cells_noted};
+use legality_subprograms::legality_profiles::declaration_noted;
+use legality_subprograms::legality_types::note;
 use legality_subprograms::subprogram_found;
-use legality_types::note;
 use sqlite_items::Items;
 use std::alloc::Global;
 use world_tables::List;

@@ -3,16 +3,14 @@
 #![tactic(auto)]
 
 mod attributed;
-mod barriers;
 mod chains;
 mod forms;
 mod readable;
-mod values;
 
 pub use attributed::is_unclear_mark;
 pub use forms::{arguments_read, typed_expression};
 pub use readable::Readable;
-pub use values::{
-    component_owner, index_fits, is_declared_object, is_unclear_object, names_object,
-    owner_of_name, place_of,
-};
+
+// What stands below, for the crates above.
+pub use legality_values;
+pub use legality_values::{legality_entities, legality_names, legality_reads, legality_types};

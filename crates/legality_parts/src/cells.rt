@@ -8,8 +8,8 @@ use ada_legality::{Finding, Known};
 use ada_regions::EntityKind;
 use ada_tree::Identifier;
 use ann_base::{NoMemory, Place};
-use legality_entities::kind_of_identifier;
-use legality_types::note;
+use legality_expressions::legality_entities::kind_of_identifier;
+use legality_expressions::legality_types::note;
 use profile_machine::DeclNo;
 use world_tables::List;
 

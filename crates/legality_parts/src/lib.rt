@@ -17,3 +17,11 @@ pub use values::{
     bounds_if, bounds_judged, condition_found, not_static, value_alone_found, value_alone_found_if,
     value_found, value_found_if,
 };
+
+// What stands below, for the crates above.
+pub use legality_choices;
+pub use legality_expressions;
+pub use legality_expressions::{
+    legality_entities, legality_names, legality_reads, legality_types, legality_values,
+};
+pub use legality_numbers;

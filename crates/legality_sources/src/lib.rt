@@ -5,3 +5,6 @@
 mod units;
 
 pub use units::units_found;
+
+// What stands below, for the crates above.
+pub use legality_contexts;

@@ -4,12 +4,12 @@
 
 mod assignments;
 mod calls;
-mod leaving;
 mod loops;
-mod requeues;
 
 pub use assignments::{assignment_found, delay_found};
 pub use calls::call_found;
-pub use leaving::{exit_found, raise_found, return_found};
 pub use loops::{entry_call_found, guard_found, iteration_found, trigger_found, with_iteration};
-pub use requeues::{abort_found, names_entry, requeue_found};
+
+// What stands below, for the crates above.
+pub use legality_requeues;
+pub use legality_requeues::legality_profiles;

@@ -5,18 +5,19 @@ ghost use Rattle.ada_legality.specs.SimpleStatements.{range_if_static, loop_para
 
 use crate::assignments::delay_found;
 use crate::calls::call_found;
-use crate::requeues::names_entry;
 use ada_entities::entity_denoted;
 use ada_legality::{Asked, Finding, Known, LoopParameter, Rule};
 use ada_regions::{AdaType, Subtype};
 use ada_subtypes::{range_between, static_value};
 use ada_tree::{Call, Expression, Guard, Identifier, Iteration, Trigger};
 use ann_base::{NoMemory, Place};
-use legality_entities::{copy_of, with_loop};
-use legality_expressions::{Readable, place_of, typed_expression};
+use legality_parts::legality_expressions::{Readable, typed_expression};
 use legality_parts::{cells_noted, condition_found};
-use legality_reads::expected;
-use legality_types::{broken_unless, type_of_bounds};
+use legality_requeues::legality_entities::{copy_of, with_loop};
+use legality_requeues::legality_reads::expected;
+use legality_requeues::legality_types::{broken_unless, type_of_bounds};
+use legality_requeues::legality_values::place_of;
+use legality_requeues::names_entry;
 use profile_machine::Constraint;
 use std::alloc::Global;
 use world_tables::List;

@@ -2,7 +2,7 @@
 use ann_base::Moment;
 
 /// What a task brings to a level of any kind.
-#[derive(Clone, Copy, Debug, PartialEq, Eq)]
+#[derive(Clone, Copy, PartialEq, Eq)]
 pub struct AnyKey {
     /// The ticks left of its round-robin quantum (ISO/IEC 8652:2012, D.2.5).
     pub quantum: u32,
@@ -11,7 +11,7 @@ pub struct AnyKey {
 }
 
 /// The policy by which a level orders its tasks.
-#[derive(Clone, Copy, Debug, PartialEq, Eq)]
+#[derive(Clone, Copy, PartialEq, Eq)]
 pub enum LevelKind {
     /// FIFO_Within_Priorities (D.2.3).
     Fifo,

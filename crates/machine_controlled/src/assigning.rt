@@ -9,8 +9,8 @@ use crate::marks::set_step;
 use crate::operations::{
     adjust_of, finalize_of, first_place, has_room_to_adjust, has_room_to_finalize, open_operation,
 };
-use crate::registration::{next_number, registered_object};
-use ann_base::{NoMemory, Raised};
+use crate::registration::registered_object;
+use ann_base::{NoMemory, Raised, next_number};
 use machine_frames::{Effect, leaves, pop, raises};
 use machine_parameters::cells_from;
 use machine_program::{Program, declaration_of};

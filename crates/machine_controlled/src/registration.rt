@@ -1,11 +1,11 @@
 //! Registered controlled objects (ISO/IEC 8652:2012, 7.6), the newest first.
-ghost use Rattle.std.specs.Prelude.{◌≡◌, ◌+◌, ◌^◌, ◌≤◌, suc, IfOk, OnOk, OnErr, find, option_copied};
+ghost use Rattle.std.specs.Prelude.{◌≡◌, OnOk, find, option_copied};
 ghost use Rattle.profile_machine.specs.Words.{without};
 ghost use Rattle.profile_machine.specs.Controlled.{region_or_none, top_region, controlled_drawn, registered_as, register, is_number, no_longer_registered, same_located, is_located, registered_at, registered_object};
 ghost use Rattle.machine_frames.specs.Did.{Did};
 
 use crate::operations::first_place;
-use ann_base::{NoMemory, RegionNo};
+use ann_base::{NoMemory, RegionNo, next_number};
 use machine_frames::{Effect, region_of_mark, says, top_of};
 use machine_program::Program;
 use machine_scopes::{same_id, write_cell};
@@ -31,17 +31,6 @@ pub fn top_region(world: &World, name: Who) -> RegionNo
     match top_of(world, name) {
         Some(frame) => region_or_none(region_of_mark(&frame.mark)),
         None => RegionNo(0),
-    }
-}
-
-/// The number behind this one. One beyond the last of 32 bits is in no memory.
-pub(crate) fn next_number(number: u32) -> Result<u32, NoMemory>
-    ensures ok { IfOk result (λ next. next ≡ suc number) }
-    ensures err { OnErr result (2 ^ 32 ≤ number + 1) }
-{
-    match number.checked_add(1) {
-        Some(next) => Ok(next),
-        None => Err(NoMemory),
     }
 }
 

@@ -1,12 +1,13 @@
 //! The creation of a task (ISO/IEC 8652:2012, 9.1).
 ghost use Rattle.std.specs.Prelude.{◌≡◌, IfOk, OnOk, leb, length};
 ghost use Rattle.ann_base.specs.Answers.{Answers};
-ghost use Rattle.profile_machine.specs.Tasking.{unit_of_kind, unit_of_declaration, optional_span, outer_of_task, created_task, task_drawn, add_task, create_task, create};
+ghost use Rattle.profile_machine.specs.Tasking.{unit_of_kind, unit_of_declaration, optional_span, outer_of_task, created_task, task_drawn, add_task, create_task, most_live_tasks, create};
 ghost use Rattle.machine_frames.specs.Did.{Did};
 ghost use Rattle.machine_creation.specs.Created.{span_given, asks_span, last_drawn, names_object};
 
 use ann_base::{Moment, NoMemory, OrMemory, Raised, TaskNo};
-use machine_controlled::{no_calls, set_thing, top_region};
+use machine_controlled::top_region;
+use machine_declarations::{no_calls, set_thing};
 use machine_exclusion::base_of;
 use machine_frames::{Effect, bars_tasks, goes, new_task, raises, says};
 use machine_program::{Program, declaration_of, next_of, scope_of, task_unit_of};
@@ -195,7 +196,7 @@ fn asks_span(
 
 // Whether as many tasks are live as may be.
 fn is_full(world: &World) -> bool
-    ensures { result ≡ leb 256 (length world.now.tasks) }
+    ensures { result ≡ leb most_live_tasks (length world.now.tasks) }
 {
     TASKS <= world.tasks.len()
 }

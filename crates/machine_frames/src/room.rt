@@ -1,6 +1,6 @@
 //! Room (own): 1,000 marks of a task, 65,536 marks in all, and 65,536 cells.
 ghost use Rattle.std.specs.Prelude.{◌≡◌, ◌+◌, leb, length, sum_by};
-ghost use Rattle.profile_machine.specs.Frames.{frames_of, marks_in_use, cells_in_use, has_room};
+ghost use Rattle.profile_machine.specs.Frames.{frames_of, marks_in_use, cells_in_use, most_marks_of_task, most_marks, most_cells, has_room};
 
 use crate::tasks::task_at;
 use profile_machine::world::{ScopeInUse, Task, World};
@@ -53,14 +53,14 @@ fn cells_fit(scopes: &List<ScopeInUse>, room: usize) -> bool
 }
 
 fn task_has_room(world: &World, name: Who, marks: u32) -> bool
-    ensures { result ≡ leb (length (frames_of world.now name) + marks) 1000 }
+    ensures { result ≡ leb (length (frames_of world.now name) + marks) most_marks_of_task }
 {
     let more = marks as usize;
     more <= MARKS_OF_A_TASK && frame_count(world, name) <= MARKS_OF_A_TASK - more
 }
 
 fn marks_have_room(world: &World, marks: u32) -> bool
-    ensures { result ≡ leb (marks_in_use world.now + marks) 65536 }
+    ensures { result ≡ leb (marks_in_use world.now + marks) most_marks }
 {
     let of_agent = world.agent.frames.len();
     let more = marks as usize;
@@ -68,7 +68,7 @@ fn marks_have_room(world: &World, marks: u32) -> bool
 }
 
 fn cells_have_room(world: &World, cells: u32) -> bool
-    ensures { result ≡ leb (cells_in_use world.now + cells) 65536 }
+    ensures { result ≡ leb (cells_in_use world.now + cells) most_cells }
 {
     let more = cells as usize;
     more <= CELLS && cells_fit(&world.scopes, CELLS - more)

@@ -1,10 +1,10 @@
 //! Releases of handlers (ISO/IEC 8652:2012, C.3, D.15).
-ghost use Rattle.std.specs.Prelude.{◌≡◌, ◌+◌, ◌^◌, ◌≤◌, IfOk, OnOk, OnErr};
+ghost use Rattle.std.specs.Prelude.{◌≡◌, OnOk};
 ghost use Rattle.profile_machine.specs.Handlers.{add_release, says_release, wake_agent, release, has_room_for_release};
 ghost use Rattle.profile_machine.specs.Steps.{looks};
 ghost use Rattle.machine_frames.specs.Did.{Did};
 
-use ann_base::NoMemory;
+use ann_base::{NoMemory, next_number};
 use machine_dispatching::ready;
 use machine_frames::{Effect, says};
 use machine_program::Program;
@@ -12,17 +12,6 @@ use profile_machine::world::{HandlerOf, Line, Part, Release, State, World};
 use trace_text::Who;
 
 const RELEASES: usize = 65_536;
-
-// A number beyond the last of 32 bits is in no memory.
-fn next_number(number: u32) -> Result<u32, NoMemory>
-    ensures ok { IfOk result (λ next. next ≡ number + 1) }
-    ensures err { OnErr result (2 ^ 32 ≤ number + 1) }
-{
-    match number.checked_add(1) {
-        Some(next) => Ok(next),
-        None => Err(NoMemory),
-    }
-}
 
 fn add_release(world: &mut World, handler: HandlerOf, argument: Option<u32>) -> Result<(), NoMemory>
     ensures { OnOk result (world.new ≡ add_release handler argument world.old) }

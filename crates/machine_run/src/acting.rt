@@ -8,8 +8,9 @@ use crate::calls::{call, call_main};
 use crate::marks::end_top_mark;
 use ann_base::NoMemory;
 use machine_accepts::{accept, selective_accept};
-use machine_controlled::{assign_controlled, declare, initialize};
+use machine_controlled::{assign_controlled, initialize};
 use machine_creation::create;
+use machine_declarations::declare;
 use machine_entry_calls::requeue;
 use machine_frames::{Effect, goes, raises, top_of};
 use machine_handlers::{

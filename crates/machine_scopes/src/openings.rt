@@ -6,7 +6,7 @@ ghost use Rattle.profile_machine.specs.Scopes.{plainly, put_cells, next_id, scop
 ghost use Rattle.profile_machine.specs.Words.{is_empty, without};
 
 use crate::scopes::{put_cells, same_id};
-use ann_base::{CallNo, NoMemory, RegionNo};
+use ann_base::{CallNo, NoMemory, RegionNo, next_number};
 use machine_frames::{new_frame, push};
 use machine_program::{Program, initial_cells, scope_of};
 use profile_machine::world::{
@@ -34,17 +34,6 @@ pub fn next_id(world: &World) -> ScopeId
     ensures { result ≡ next_id world.now }
 {
     ScopeId(world.drawn.scopes)
-}
-
-// A number beyond the last of 32 bits is in no memory.
-fn next_number(number: u32) -> Result<u32, NoMemory>
-    ensures ok { IfOk result (λ next. next ≡ number + 1) }
-    ensures err { OnErr result (2 ^ 32 ≤ number + 1) }
-{
-    match number.checked_add(1) {
-        Some(next) => Ok(next),
-        None => Err(NoMemory),
-    }
 }
 
 fn scope_drawn(drawn: &mut Drawn) -> Result<(), NoMemory>

@@ -128,7 +128,11 @@ with_budget w = record w { budgets = w.budgets ++ no_budget ∷ [] }
 abbrev pub budget_declared : Seen → DeclNo → Valued World
 budget_declared q d = located_here q d >>= λ l. Ok (set_thing q.program l (Thing (length q.world.budgets)) (with_budget q.world))
 
--- a timer of Null_Task_Id raises Program_Error; while 256 exist Timer_Resource_Error is raised (D.14.1; own)
+-- how many timers there are at most (own)
+abbrev pub most_timers : ℕ
+most_timers = 256
+
+-- a timer of Null_Task_Id raises Program_Error; while so many exist Timer_Resource_Error is raised (D.14.1; own)
 abbrev pub must_identify : Option TaskNo → Valued TaskNo
 must_identify None = Err exception.Program
 must_identify (Some t) = Ok t
@@ -141,7 +145,7 @@ with_timer t w = record w { timers = w.timers ++ record { task = t; setting = No
 
 abbrev pub timer_declared : Seen → DeclNo → DeclNo → Valued World
 timer_declared q d task =
-    timed_task q task >>= λ t. unless (not (leb 256 (length q.world.timers))) exception.TimerResource t >>= λ u.
+    timed_task q task >>= λ t. unless (not (leb most_timers (length q.world.timers))) exception.TimerResource t >>= λ u.
     located_here q d >>= λ l. Ok (set_thing q.program l (Thing (length q.world.timers)) (with_timer u q.world))
 
 abbrev pub declared : Seen → DeclNo → DeclarationKind → Valued World

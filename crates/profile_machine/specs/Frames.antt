@@ -90,10 +90,19 @@ marks_in_use w = sum_by (λ t. length t.frames) w.tasks + length w.agent.frames
 abbrev pub cells_in_use : World → ℕ
 cells_in_use w = sum_by (λ s. length s.cells) w.scopes
 
--- 1,000 marks of a task, 65,536 in all, and 65,536 cells
+-- how many marks a task has at most, how many there are in all, and how many cells
+abbrev pub most_marks_of_task : ℕ
+most_marks_of_task = 1000
+
+abbrev pub most_marks : ℕ
+most_marks = 65536
+
+abbrev pub most_cells : ℕ
+most_cells = 65536
+
 abbrev pub has_room : World → Who → ℕ → ℕ → Bool
 has_room w name marks cells =
-    leb (length (frames_of w name) + marks) 1000 && leb (marks_in_use w + marks) 65536 && leb (cells_in_use w + cells) 65536
+    leb (length (frames_of w name) + marks) most_marks_of_task && leb (marks_in_use w + marks) most_marks && leb (cells_in_use w + cells) most_cells
 
 -- ---- sequences with handlers (11.2)
 

@@ -73,9 +73,13 @@ unfoldable pub release : Image → Part → HandlerOf → Option ℕ → Step
 release p part h argument =
     changes (add_release h argument) ▷ says_release part h ▷ looks (λ w. wake_agent p part w.agent.state)
 
--- while 65,536 releases are pending there is no room for one (own)
+-- how many releases are pending at most (own)
+abbrev pub most_releases : ℕ
+most_releases = 65536
+
+-- while so many are pending there is no room for one
 abbrev pub has_room_for_release : World → Bool
-has_room_for_release w = not (leb 65536 (length w.releases))
+has_room_for_release w = not (leb most_releases (length w.releases))
 
 abbrev pub with_room_for_release : Who → Bool → Step → Step
 with_room_for_release name needed step =

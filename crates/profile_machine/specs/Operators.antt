@@ -40,8 +40,14 @@ abbrev pub time_first : ℤ
 time_first = neg_ℤ (pos 4611686018427387904)
 
 -- Integer has 32 bits
+abbrev pub integer_first : ℤ
+integer_first = negsuc 2147483647
+
+abbrev pub integer_last : ℤ
+integer_last = pos 2147483647
+
 abbrev pub whole : ℤ → Valued Value
-whole n = unless (int_le (negsuc 2147483647) n && int_le n (pos 2147483647)) exception.Constraint (Whole n)
+whole n = unless (int_le integer_first n && int_le n integer_last) exception.Constraint (Whole n)
 
 -- times and spans lie between their ends
 abbrev pub ticks : ℤ → Valued Value

@@ -150,8 +150,11 @@ set_priority p name s e task =
 
 -- ---- Set_Quantum (D.2.5)
 
+abbrev pub quantum_last : ℤ
+quantum_last = pos 1000000000
+
 abbrev pub quantum_in_range : ℤ → Bool
-quantum_in_range n = int_le (pos 1) n && int_le n (pos 1000000000)
+quantum_in_range n = int_le (pos 1) n && int_le n quantum_last
 
 abbrev pub quantum_of : Image → ℕ → ℤ → Valued ℕ
 quantum_of p level n = unless (is_robin_level p level && quantum_in_range n) exception.DispatchingPolicy (nat_abs n)

@@ -3,7 +3,7 @@ use crate::numbers::StatementNo;
 use ann_base::Raised;
 
 /// How an open construct is left (7.6.1).
-#[derive(Clone, Copy, Debug, PartialEq, Eq)]
+#[derive(Clone, Copy, PartialEq, Eq)]
 pub enum Leaving {
     /// Its statements ended.
     End,
@@ -20,7 +20,7 @@ pub enum Leaving {
 }
 
 /// An item of a script.
-#[derive(Clone, Copy, Debug, PartialEq, Eq)]
+#[derive(Clone, Copy, PartialEq, Eq)]
 pub enum Item {
     /// An interrupt comes, 0 to 15.
     Interrupt(u8),

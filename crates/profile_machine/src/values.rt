@@ -2,7 +2,7 @@
 use ann_base::{Moment, TaskNo};
 
 /// The value of a cell or an expression.
-#[derive(Clone, Copy, Debug, PartialEq, Eq)]
+#[derive(Clone, Copy, PartialEq, Eq)]
 pub enum Value {
     /// An Integer (3.5.4).
     Whole(i32),
@@ -20,7 +20,7 @@ pub enum Value {
 }
 
 /// The range of a scalar subtype (3.5). A value of another kind than the bounds' is in no range.
-#[derive(Clone, Copy, Debug, PartialEq, Eq)]
+#[derive(Clone, Copy, PartialEq, Eq)]
 pub enum Constraint {
     /// Every value: Time, Time_Span, CPU_Time, Task_Id, and objects that are no scalars.
     Free,
@@ -35,7 +35,7 @@ pub enum Constraint {
 }
 
 /// Cells of a scope that do not begin as `Whole(0)`: `count` of them from `place` on begin with `value`.
-#[derive(Clone, Copy, Debug, PartialEq, Eq)]
+#[derive(Clone, Copy, PartialEq, Eq)]
 pub struct CellRun {
     pub place: u32,
     pub count: u32,

@@ -7,6 +7,7 @@ use Rattle.std.specs.Map.{keys_of}
 use Rattle.std.proofs.lemmas.Bool.{eq-eqb, le-leb, leb-true, and_from, and_parts}
 use Rattle.std.proofs.lemmas.List.{map-append}
 use Rattle.ann_base.specs.declared.identities.TaskNo.{TaskNo}
+use Rattle.trace_text.specs.declared.lines.TheConstants.{LAST_TICK}
 use Rattle.trace_text.specs.declared.events.Who.TheVariants as subject
 use Rattle.trace_text.specs.declared.events.Created.TheVariants as created
 use Rattle.trace_text.specs.declared.events.Event.{Event}
@@ -32,7 +33,7 @@ use Rattle.run_report.proofs.Places.{placed_mapped, once_mapped, task_followed, 
 
 -- ---- no figure passes its type
 
-within_room : (clocks : List Clock) (last : ℕ) (one : Dated) → last ≤ 1000000000 → IsWithin ROOM one → IsFit clocks last one → has_room (tally_at clocks last one) ≡ true
+within_room : (clocks : List Clock) (last : ℕ) (one : Dated) → last ≤ LAST_TICK → IsWithin ROOM one → IsFit clocks last one → has_room (tally_at clocks last one) ≡ true
 within_room clocks last one small within fit =
     let tally = tally_at clocks last one in
     let low : tally.lower ≤ ROOM = omega (arith, told_low clocks last one fit, small) in
@@ -43,7 +44,7 @@ within_room clocks last one small within fit =
     let five = and_from (nat_le tally.jobs ROOM && nat_le tally.sum ROOM && nat_le tally.run ROOM && nat_le tally.preempted ROOM) (nat_le tally.lower ROOM) four (le-leb tally.lower ROOM low) in
     and_from (nat_le tally.jobs ROOM && nat_le tally.sum ROOM && nat_le tally.run ROOM && nat_le tally.preempted ROOM && nat_le tally.lower ROOM) (nat_le tally.streak ROOM) five (le-leb tally.streak ROOM short)
 
-pub room_told : (clocks : List Clock) (last : ℕ) (one : Dated) → last ≤ 1000000000 → IsWithin ROOM one → IsFit clocks last one → has_room (tally_at clocks last one) ≡ true
+pub room_told : (clocks : List Clock) (last : ℕ) (one : Dated) → last ≤ LAST_TICK → IsWithin ROOM one → IsFit clocks last one → has_room (tally_at clocks last one) ≡ true
 room_told = within_room
 
 response_most : (move : Move) (tick : ℕ) (since : Option ℕ) → or_zero (response_at move tick since) ≤ tick
@@ -55,7 +56,7 @@ response_most Stays tick since = omega arith
 within_more : (most more : ℕ) (one : Dated) → most ≤ more → IsWithin most one → IsWithin more one
 within_more most more one less within = record { jobs = omega (arith, less, within.jobs); sum = omega (arith, less, within.sum); run = omega (arith, less, within.run); preempted = omega (arith, less, within.preempted) }
 
-within_stepped : (clocks : List Clock) (last : ℕ) (passing : Passing) (tick : ℕ) (event : Event) (one : Dated) (most : ℕ) → passing.elapsed ≤ 1000000000 → tick ≤ 1000000000 → IsWithin most one → IsWithin (most + 1000000000) (stepped clocks last passing tick event one)
+within_stepped : (clocks : List Clock) (last : ℕ) (passing : Passing) (tick : ℕ) (event : Event) (one : Dated) (most : ℕ) → passing.elapsed ≤ LAST_TICK → tick ≤ LAST_TICK → IsWithin most one → IsWithin (most + LAST_TICK) (stepped clocks last passing tick event one)
 within_stepped clocks last passing tick event one most few small within =
     let tally = tally_at clocks last one in
     let response = response_at (move_of one.kept.task event) tick tally.since in
@@ -135,20 +136,20 @@ within_newly : (event : Event) (tick most : ℕ) → AllByRecursion (IsWithin mo
 within_newly (New (created.Task task) name level) tick most = (record { jobs = omega arith; sum = omega arith; run = omega arith; preempted = omega arith }, tt)
 within_newly event tick most = tt
 
-within_by_test : (clocks : List Clock) (passing : Passing) (last tick : ℕ) (event : Event) (one : Dated) (most : ℕ) (b : Bool) → passing.elapsed ≤ 1000000000 → tick ≤ 1000000000 → IsWithin most one
-    → IsWithin (most + 1000000000) (if b then stepped clocks last passing tick event one else one)
+within_by_test : (clocks : List Clock) (passing : Passing) (last tick : ℕ) (event : Event) (one : Dated) (most : ℕ) (b : Bool) → passing.elapsed ≤ LAST_TICK → tick ≤ LAST_TICK → IsWithin most one
+    → IsWithin (most + LAST_TICK) (if b then stepped clocks last passing tick event one else one)
 within_by_test clocks passing last tick event one most true few small within = within_stepped clocks last passing tick event one most few small within
-within_by_test clocks passing last tick event one most false few small within = within_more most (most + 1000000000) one (omega arith) within
+within_by_test clocks passing last tick event one most false few small within = within_more most (most + LAST_TICK) one (omega arith) within
 
-pub kept_line : (clocks : List Clock) (passing : Passing) (last tick most : ℕ) (event : Event) (items : List Dated) → tick ≡ last + passing.elapsed → passing.elapsed ≤ 1000000000 → tick ≤ 1000000000 → HasClock clocks (level_given event) → IsKept last most items clocks
-    → IsKept tick (most + 1000000000) (map (followed clocks last passing tick event) items ++ newly_dated tick event) (map (passed passing) clocks)
+pub kept_line : (clocks : List Clock) (passing : Passing) (last tick most : ℕ) (event : Event) (items : List Dated) → tick ≡ last + passing.elapsed → passing.elapsed ≤ LAST_TICK → tick ≤ LAST_TICK → HasClock clocks (level_given event) → IsKept last most items clocks
+    → IsKept tick (most + LAST_TICK) (map (followed clocks last passing tick event) items ++ newly_dated tick event) (map (passed passing) clocks)
 kept_line clocks passing last tick most event items gone few small given kept = record {
   fit = all_append (IsFit (map (passed passing) clocks) tick) (map (followed clocks last passing tick event) items) (newly_dated tick event)
       (all_mapped (IsFit clocks last) (IsFit (map (passed passing) clocks) tick) (followed clocks last passing tick event) items (λ one fit. fit_by_test clocks passing last tick event one (is_told passing event one.kept.task.0) gone given fit) kept.fit)
       (fit_newly event tick (map (passed passing) clocks) (given_passed (level_given event) passing clocks given));
-  within = all_append (IsWithin (most + 1000000000)) (map (followed clocks last passing tick event) items) (newly_dated tick event)
-      (all_mapped (IsWithin most) (IsWithin (most + 1000000000)) (followed clocks last passing tick event) items (λ one within. within_by_test clocks passing last tick event one most (is_told passing event one.kept.task.0) few small within) kept.within)
-      (within_newly event tick (most + 1000000000));
+  within = all_append (IsWithin (most + LAST_TICK)) (map (followed clocks last passing tick event) items) (newly_dated tick event)
+      (all_mapped (IsWithin most) (IsWithin (most + LAST_TICK)) (followed clocks last passing tick event) items (λ one within. within_by_test clocks passing last tick event one most (is_told passing event one.kept.task.0) few small within) kept.within)
+      (within_newly event tick (most + LAST_TICK));
   shown = shown_passed passing last tick clocks gone kept.shown;
 }
 
@@ -251,14 +252,14 @@ created_absent seen event number formed e = cc
 
 subject_formed : (seen : Seen) (tick : ℕ) (event : Event) → is_formed_after seen tick event ≡ true → is_subject_formed (shape_of seen) event ≡ true
 subject_formed seen tick event formed =
-    let parts = and_parts (nat_le seen.tick tick && nat_le tick 1000000000) (is_formed_next (shape_of seen) event) formed in
+    let parts = and_parts (nat_le seen.tick tick && nat_le tick LAST_TICK) (is_formed_next (shape_of seen) event) formed in
     (and_parts (not seen.is_ended) (is_subject_formed (shape_of seen) event) parts.1).1
 
-pub rises_tick : (seen : Seen) (tick : ℕ) (event : Event) → is_formed_after seen tick event ≡ true → (seen.tick ≤ tick) × (tick ≤ 1000000000)
+pub rises_tick : (seen : Seen) (tick : ℕ) (event : Event) → is_formed_after seen tick event ≡ true → (seen.tick ≤ tick) × (tick ≤ LAST_TICK)
 rises_tick seen tick event formed =
-    let parts = and_parts (nat_le seen.tick tick && nat_le tick 1000000000) (is_formed_next (shape_of seen) event) formed in
-    let ticks = and_parts (nat_le seen.tick tick) (nat_le tick 1000000000) parts.0 in
-    (leb-true seen.tick tick ticks.0, leb-true tick 1000000000 ticks.1)
+    let parts = and_parts (nat_le seen.tick tick && nat_le tick LAST_TICK) (is_formed_next (shape_of seen) event) formed in
+    let ticks = and_parts (nat_le seen.tick tick) (nat_le tick LAST_TICK) parts.0 in
+    (leb-true seen.tick tick ticks.0, leb-true tick LAST_TICK ticks.1)
 
 pub created_new : (seen : Seen) (tick : ℕ) (event : Event) (items : List Dated) (places : ℕ → Option ℕ) → is_formed_after seen tick event ≡ true → IsFound items places seen.bases → (number : ℕ) → created_number event ≡ Some number → place_in number items ≡ None
 created_new seen tick event items places formed found number e =
@@ -345,8 +346,8 @@ line_told seen tick event items clocks formed fit quiet =
     told_line clocks (passing_in seen tick) seen.tick tick event items (gone_ticks seen.tick tick (rises_tick seen tick event formed).0) fit quiet
 
 pub report_after : (seen : Seen) (tick : ℕ) (event : Event) (most agent_run idle len agent_run' idle' len' : ℕ) (items : List Dated) (clocks : List Clock) (places : ℕ → Option ℕ) → is_formed_after seen tick event ≡ true
-    → IsReport seen most agent_run idle len items clocks places → IsReady event (passing_in seen tick) seen.tick items clocks places → len' ≤ MOST_TASKS → agent_run' ≤ most + 1000000000 → idle' ≤ most + 1000000000
-    → IsReport (see_line seen (tick, event)) (most + 1000000000) agent_run' idle' len' (map (followed clocks seen.tick (passing_in seen tick) tick event) items ++ newly_dated tick event) (map (passed (passing_in seen tick)) clocks) places
+    → IsReport seen most agent_run idle len items clocks places → IsReady event (passing_in seen tick) seen.tick items clocks places → len' ≤ MOST_TASKS → agent_run' ≤ most + LAST_TICK → idle' ≤ most + LAST_TICK
+    → IsReport (see_line seen (tick, event)) (most + LAST_TICK) agent_run' idle' len' (map (followed clocks seen.tick (passing_in seen tick) tick event) items ++ newly_dated tick event) (map (passed (passing_in seen tick)) clocks) places
 report_after seen tick event most agent_run idle len agent_run' idle' len' items clocks places formed report ready count most_agent most_idle =
     let rises = rises_tick seen tick event formed in
     record {
@@ -354,14 +355,14 @@ report_after seen tick event most agent_run idle len agent_run' idle' len' items
       tick = rises.1;
       most_agent = most_agent;
       most_idle = most_idle;
-      kept = kept_line clocks (passing_in seen tick) seen.tick tick most event items (gone_ticks seen.tick tick rises.0) (few_ticks seen.tick tick 1000000000 rises.1) rises.1 ready.given report.kept;
+      kept = kept_line clocks (passing_in seen tick) seen.tick tick most event items (gone_ticks seen.tick tick rises.0) (few_ticks seen.tick tick LAST_TICK rises.1) rises.1 ready.given report.kept;
       found = found_line clocks seen.tick (passing_in seen tick) tick event items places seen.bases report.found (created_new seen tick event items places formed report.found) ready.noted_now;
     }
 
 pub report_fit : (seen : Seen) (most agent_run idle len : ℕ) (items : List Dated) (clocks : List Clock) (places : ℕ → Option ℕ) → IsReport seen most agent_run idle len items clocks places → AllByRecursion (IsFit clocks seen.tick) items
 report_fit seen most agent_run idle len items clocks places report = report.kept.fit
 
-pub report_tick : (seen : Seen) (most agent_run idle len : ℕ) (items : List Dated) (clocks : List Clock) (places : ℕ → Option ℕ) → IsReport seen most agent_run idle len items clocks places → seen.tick ≤ 1000000000
+pub report_tick : (seen : Seen) (most agent_run idle len : ℕ) (items : List Dated) (clocks : List Clock) (places : ℕ → Option ℕ) → IsReport seen most agent_run idle len items clocks places → seen.tick ≤ LAST_TICK
 report_tick seen most agent_run idle len items clocks places report = report.tick
 
 pub report_stays : (seen : Seen) (most agent_run idle len len' : ℕ) (items items' : List Dated) (clocks clocks' : List Clock) (places places' : ℕ → Option ℕ) → IsReport seen most agent_run idle len items clocks places → IsSame seen.tick items clocks items' clocks' places'
@@ -420,7 +421,7 @@ added_line seen seen' tick event agent_run idle agent_ticks idle_ticks last pass
 pub added_kept : (seen seen' : Seen) (tick : ℕ) (event : Event) (most agent_run idle agent_run' idle' last len len' : ℕ) (passing : Passing) (items items' items'' : List Dated) (clocks clocks' clocks'' : List Clock) (places places' : ℕ → Option ℕ) → is_formed_after seen tick event ≡ true
     → seen' ≡ see_line seen (tick, event) → last ≡ seen.tick → passing ≡ passing_in seen tick → items'' ≡ map (followed clocks' last passing tick event) items' ++ newly_dated tick event → clocks'' ≡ map (passed passing) clocks'
     → IsReport seen most agent_run idle len items clocks places → IsSame last items clocks items' clocks' places' → IsReady event passing last items' clocks' places'
-    → len' ≤ MOST_TASKS → agent_run' ≤ most + 1000000000 → idle' ≤ most + 1000000000 → IsReport seen' (most + 1000000000) agent_run' idle' len' items'' clocks'' places'
+    → len' ≤ MOST_TASKS → agent_run' ≤ most + LAST_TICK → idle' ≤ most + LAST_TICK → IsReport seen' (most + LAST_TICK) agent_run' idle' len' items'' clocks'' places'
 added_kept seen seen' tick event most agent_run idle agent_run' idle' last len len' passing items items' items'' clocks clocks' clocks'' places places' formed seen_is last_is passing_is items_are clocks_are report same ready count most_agent most_idle =
     let same_here = subst (λ n. IsSame n items clocks items' clocks' places') last_is same in
     let ready_here = subst (λ p. IsReady event p seen.tick items' clocks' places') passing_is (subst (λ n. IsReady event passing n items' clocks' places') last_is ready) in
@@ -428,9 +429,9 @@ added_kept seen seen' tick event most agent_run idle agent_run' idle' last len l
     let after = report_after seen tick event most agent_run idle len agent_run' idle' len' items' clocks' places' formed report_here ready_here count most_agent most_idle in
     let items_here = items_are ∙ ap (λ n. map (followed clocks' n passing tick event) items' ++ newly_dated tick event) last_is ∙ ap (λ p. map (followed clocks' seen.tick p tick event) items' ++ newly_dated tick event) passing_is in
     let clocks_here = clocks_are ∙ ap (λ p. map (passed p) clocks') passing_is in
-    subst (λ s. IsReport s (most + 1000000000) agent_run' idle' len' items'' clocks'' places') (sym seen_is)
-    (subst (λ xs. IsReport (see_line seen (tick, event)) (most + 1000000000) agent_run' idle' len' xs clocks'' places') (sym items_here)
-    (subst (λ cs. IsReport (see_line seen (tick, event)) (most + 1000000000) agent_run' idle' len' (map (followed clocks' seen.tick (passing_in seen tick) tick event) items' ++ newly_dated tick event) cs places') (sym clocks_here) after))
+    subst (λ s. IsReport s (most + LAST_TICK) agent_run' idle' len' items'' clocks'' places') (sym seen_is)
+    (subst (λ xs. IsReport (see_line seen (tick, event)) (most + LAST_TICK) agent_run' idle' len' xs clocks'' places') (sym items_here)
+    (subst (λ cs. IsReport (see_line seen (tick, event)) (most + LAST_TICK) agent_run' idle' len' (map (followed clocks' seen.tick (passing_in seen tick) tick event) items' ++ newly_dated tick event) cs places') (sym clocks_here) after))
 
-pub few_more : (most n more ticks now : ℕ) → n ≤ most → more ≤ ticks → ticks ≤ now → now ≤ 1000000000 → n + more ≤ most + 1000000000
+pub few_more : (most n more ticks now : ℕ) → n ≤ most → more ≤ ticks → ticks ≤ now → now ≤ LAST_TICK → n + more ≤ most + LAST_TICK
 few_more most n more ticks now a b c d = omega (arith, a, b, c, d)

@@ -6,6 +6,7 @@ use Rattle.std.specs.Option.{option_map}
 use Rattle.std.specs.Ordering.{nat_cmp}
 use Rattle.std.specs.BTreeMap.{is_at}
 use Rattle.std.specs.Map.{keys_of}
+use Rattle.trace_text.specs.declared.lines.TheConstants.{LAST_TICK}
 use Rattle.trace_text.specs.declared.events.Who.{Who}
 use Rattle.trace_text.specs.declared.events.Who.TheVariants as subject
 use Rattle.trace_text.specs.declared.events.Created.TheVariants as created
@@ -254,7 +255,7 @@ pub record IsKept (tick most : ℕ) (items : List Dated) (clocks : List Clock) :
 
 pub record IsReport (seen : Seen) (most agent_run idle len : ℕ) (items : List Dated) (clocks : List Clock) (places : ℕ → Option ℕ) : Type 0 where
   pub count : len ≤ MOST_TASKS
-  pub tick : seen.tick ≤ 1000000000
+  pub tick : seen.tick ≤ LAST_TICK
   pub most_agent : agent_run ≤ most
   pub most_idle : idle ≤ most
   pub kept : IsKept seen.tick most items clocks

@@ -2,6 +2,7 @@
 //! costs no pass over the tasks.
 ghost use Rattle.std.specs.Prelude.{◌≡◌, ◌≤◌, ◌++◌, Some, map, OnOk, OnErr};
 ghost use Rattle.std.specs.List.{AllByRecursion, list_all};
+ghost use Rattle.trace_text.specs.declared.lines.TheConstants.{LAST_TICK};
 ghost use Rattle.run_report.specs.Clocks.{clock_of, clock_at, passed, goes_on, level_given, with_clock, new_clock, waited_by, IsShown};
 
 use crate::tallies::{Passing, is_lower, streak_after, ticks_if};
@@ -9,7 +10,7 @@ use ann_base::{Level, NoMemory};
 use trace_text::{Created, Event};
 
 /// How long tasks of one base priority waited, if they were ready, while a task of lower base priority ran.
-#[derive(Clone, Copy, Debug, PartialEq, Eq)]
+#[derive(Clone, Copy, PartialEq, Eq)]
 pub struct Clock {
     pub level: Level,
     /// All ticks of such waiting since the clock is there.
@@ -21,8 +22,8 @@ pub struct Clock {
 impl Clock {
     /// With these ticks more.
     pub fn passed(&self, passing: &Passing) -> Clock
-        requires shown { IsShown 1000000000 self.now }
-        requires elapsed { passing.now.elapsed ≤ 1000000000 }
+        requires shown { IsShown LAST_TICK self.now }
+        requires elapsed { passing.now.elapsed ≤ LAST_TICK }
         ensures { result ≡ passed passing.now self.now }
     {
         let waits = is_lower(passing.base, Some(self.level));
@@ -82,8 +83,8 @@ pub fn go_on(clocks: &[Clock], passing: &Passing) -> bool
 
 /// Each clock shows these ticks.
 pub fn pass(clocks: &mut [Clock], passing: &Passing)
-    requires shown { AllByRecursion (IsShown 1000000000) clocks.old }
-    requires elapsed { passing.now.elapsed ≤ 1000000000 }
+    requires shown { AllByRecursion (IsShown LAST_TICK) clocks.old }
+    requires elapsed { passing.now.elapsed ≤ LAST_TICK }
     ensures { clocks.new ≡ map (passed passing.now) clocks.old }
 {
     for clock in clocks.iter_mut() {

@@ -3,6 +3,7 @@ ghost use Rattle.std.specs.Prelude.{◌≡◌, ◌≤◌, ◌+◌, ℕ, Some, ma
 ghost use Rattle.std.specs.List.{AllByRecursion};
 ghost use Rattle.std.specs.Ordering.{nat_cmp};
 ghost use Rattle.std.specs.BTreeMap.{get};
+ghost use Rattle.trace_text.specs.declared.lines.TheConstants.{LAST_TICK};
 ghost use Rattle.run_report.specs.Clocks.{clock_at, wait_level, lower_by, streak_by, tally_at, dated, settled, next_waited, number_in, named_by, created_number, noted, place_in, place_at, place_if, checked_place, step_of, step_at, written, written_at, IsFit, IsWithin, IsShown};
 ghost use Rattle.run_report.specs.declared.tallies.TheConstants.{ROOM};
 
@@ -24,7 +25,7 @@ pub struct Dated {
 }
 
 /// What a line leaves of the task at a place.
-#[derive(Clone, Copy, Debug, PartialEq, Eq)]
+#[derive(Clone, Copy, PartialEq, Eq)]
 pub struct Step {
     pub place: usize,
     pub tally: Tally,
@@ -45,7 +46,7 @@ fn wait_level(tally: &Tally) -> Option<Level>
 /// The tally of a task at the last line.
 pub fn tally_at(clocks: &[Clock], last: u64, one: &Dated) -> Tally
     requires fit { IsFit clocks.now last one.now }
-    requires tick { last ≤ 1000000000 }
+    requires tick { last ≤ LAST_TICK }
     ensures { result ≡ tally_at clocks.now last one.now }
 {
     let mut tally = one.kept.tally;
@@ -63,7 +64,7 @@ pub fn tally_at(clocks: &[Clock], last: u64, one: &Dated) -> Tally
 }
 
 fn lower_by(clock: Option<Clock>, waited: u64, lower: u64) -> u64
-    requires { lower_by clock waited lower ≤ 1000000000 }
+    requires { lower_by clock waited lower ≤ LAST_TICK }
     ensures { result ≡ lower_by clock waited lower }
 {
     match clock {
@@ -73,7 +74,7 @@ fn lower_by(clock: Option<Clock>, waited: u64, lower: u64) -> u64
 }
 
 fn streak_by(clock: Option<Clock>, gone: u64, waited: u64, streak: u64) -> u64
-    requires { streak + gone ≤ 1000000000 }
+    requires { streak + gone ≤ LAST_TICK }
     ensures { result ≡ streak_by clock gone waited streak }
 {
     match clock {
@@ -91,7 +92,7 @@ fn streak_by(clock: Option<Clock>, gone: u64, waited: u64, streak: u64) -> u64
 /// Each task is told as of the last line.
 pub fn settle(items: &mut [Dated], clocks: &[Clock], last: u64)
     requires fit { AllByRecursion (IsFit clocks.now last) items.old }
-    requires tick { last ≤ 1000000000 }
+    requires tick { last ≤ LAST_TICK }
     ensures { items.new ≡ map (settled clocks.now last) items.old }
 {
     for one in items.iter_mut() {
@@ -101,7 +102,7 @@ pub fn settle(items: &mut [Dated], clocks: &[Clock], last: u64)
 
 fn settle_one(one: &mut Dated, clocks: &[Clock], last: u64)
     requires fit { IsFit clocks.now last one.old }
-    requires tick { last ≤ 1000000000 }
+    requires tick { last ≤ LAST_TICK }
     ensures { one.new ≡ settled clocks.now last one.old }
 {
     let tally = tally_at(clocks, last, one);
@@ -229,10 +230,10 @@ pub fn step_at(
 ) -> Option<Step>
     requires fit { AllByRecursion (IsFit clocks.now last) items.now }
     requires within { AllByRecursion (IsWithin ROOM) items.now }
-    requires shown { AllByRecursion (IsShown 1000000000) clocks.now }
-    requires last { last ≤ 1000000000 }
-    requires elapsed { passing.now.elapsed ≤ 1000000000 }
-    requires tick { now ≤ 1000000000 }
+    requires shown { AllByRecursion (IsShown LAST_TICK) clocks.now }
+    requires last { last ≤ LAST_TICK }
+    requires elapsed { passing.now.elapsed ≤ LAST_TICK }
+    requires tick { now ≤ LAST_TICK }
     ensures { result ≡ step_at clocks.now last passing.now now event.now place items.now }
 {
     match place {
@@ -255,10 +256,10 @@ fn step_of(
 ) -> Step
     requires fit { IsFit clocks.now last one.now }
     requires within { IsWithin ROOM one.now }
-    requires shown { AllByRecursion (IsShown 1000000000) clocks.now }
-    requires last { last ≤ 1000000000 }
-    requires elapsed { passing.now.elapsed ≤ 1000000000 }
-    requires tick { now ≤ 1000000000 }
+    requires shown { AllByRecursion (IsShown LAST_TICK) clocks.now }
+    requires last { last ≤ LAST_TICK }
+    requires elapsed { passing.now.elapsed ≤ LAST_TICK }
+    requires tick { now ≤ LAST_TICK }
     ensures { Some result ≡ step_of clocks.now last passing.now now event.now place (Some one.now) }
 {
     let tally = tally_at(clocks, last, one).after(one.kept.task, passing, now, event);
@@ -271,8 +272,8 @@ fn step_of(
 
 // What the clock of a task shows behind the line.
 fn next_waited(clocks: &[Clock], passing: &Passing, tally: &Tally) -> u64
-    requires shown { AllByRecursion (IsShown 1000000000) clocks.now }
-    requires elapsed { passing.now.elapsed ≤ 1000000000 }
+    requires shown { AllByRecursion (IsShown LAST_TICK) clocks.now }
+    requires elapsed { passing.now.elapsed ≤ LAST_TICK }
     ensures { result ≡ next_waited clocks.now passing.now tally.now }
 {
     match clock_at(wait_level(tally), clocks) {

@@ -3,6 +3,7 @@ ghost use Rattle.std.specs.Prelude.{◌≡◌, ◌↔◌, ℕ, ◌<◌, ◌≤�
 ghost use Rattle.std.specs.List.{AllByRecursion, slice_get};
 ghost use Rattle.std.specs.Ordering.{nat_cmp};
 ghost use Rattle.std.specs.BTreeMap.{get};
+ghost use Rattle.trace_text.specs.declared.lines.TheConstants.{LAST_TICK};
 ghost use Rattle.trace_text.specs.declared.events.Who.TheVariants as subject;
 ghost use Rattle.trace_text.specs.Queue.{Line, last_from, somebody_eq};
 ghost use Rattle.trace_text.specs.Laws.{Formed};
@@ -24,13 +25,10 @@ use std::alloc::Global;
 use std::collections::BTreeMap;
 use std::marker::Model;
 use trace_lines::{Lines, Malformed, is_same};
-use trace_text::{Created, Event, Who};
+use trace_text::{Created, Event, LAST_TICK, Who};
 
 /// The most tasks of a trace: each has a number of 32 bits, and they are counted in as many.
 const MOST_TASKS: usize = 4_294_967_295;
-
-/// The most ticks that pass between two lines: the greatest tick of a formed list.
-const MOST_TICKS: u64 = 1_000_000_000;
 
 /// What is kept of one task.
 #[derive(Drop)]
@@ -158,7 +156,7 @@ impl Report {
         let idle_ticks = ticks_if(is_nobody(passing.runner), passing.elapsed);
         self.agent_run += agent_ticks;
         self.idle += idle_ticks;
-        self.most += MOST_TICKS;
+        self.most += LAST_TICK;
         Ok(())
     }
 
@@ -220,7 +218,7 @@ impl Report {
 // The account of the task at a place, at the last line.
 fn told_at(items: &[Dated], clocks: &[Clock], last: u64, place: usize) -> Option<Account>
     requires fit { AllByRecursion (IsFit clocks.now last) items.now }
-    requires tick { last ≤ 1000000000 }
+    requires tick { last ≤ LAST_TICK }
     ensures { result ≡ slice_get (map account_in (map (told clocks.now last) items.now)) place }
 {
     match items.get(place) {
@@ -231,7 +229,7 @@ fn told_at(items: &[Dated], clocks: &[Clock], last: u64, place: usize) -> Option
 
 fn told_account(one: &Dated, clocks: &[Clock], last: u64) -> Account
     requires fit { IsFit clocks.now last one.now }
-    requires tick { last ≤ 1000000000 }
+    requires tick { last ≤ LAST_TICK }
     ensures { result ≡ account_in (told clocks.now last one.now) }
 {
     account_in(&one.kept, &tally_at(clocks, last, one))
@@ -305,7 +303,7 @@ fn prepare(
     passing: &Passing,
     event: &Event,
 ) -> Result<(), NoMemory>
-    requires last { last ≤ 1000000000 }
+    requires last { last ≤ LAST_TICK }
     requires fit { AllByRecursion (IsFit clocks.old.items last) items.old.items }
     requires known { IsKnown items.old.items (get nat_cmp places.old) }
     requires created { (number : ℕ) → created_number event.now ≡ Some number
@@ -327,7 +325,7 @@ fn prepare(
 
 // No waiting that is not told yet ends while these ticks pass.
 fn make_quiet(items: &mut Vec<Dated>, clocks: &[Clock], last: u64, passing: &Passing)
-    requires last { last ≤ 1000000000 }
+    requires last { last ≤ LAST_TICK }
     requires fit { AllByRecursion (IsFit clocks.now last) items.old.items }
     ensures items { items.new.items ≡ made_quiet clocks.now last passing.now items.old.items }
     ensures capacity { vec_capacity items.new ≡ vec_capacity items.old }
@@ -348,12 +346,12 @@ fn advance(
     now: u64,
     event: &Event,
 )
-    requires last { last ≤ 1000000000 }
-    requires elapsed { passing.now.elapsed ≤ 1000000000 }
-    requires tick { now ≤ 1000000000 }
+    requires last { last ≤ LAST_TICK }
+    requires elapsed { passing.now.elapsed ≤ LAST_TICK }
+    requires tick { now ≤ LAST_TICK }
     requires fit { AllByRecursion (IsFit clocks.old.items last) items.old.items }
     requires within { AllByRecursion (IsWithin ROOM) items.old.items }
-    requires shown { AllByRecursion (IsShown 1000000000) clocks.old.items }
+    requires shown { AllByRecursion (IsShown LAST_TICK) clocks.old.items }
     requires once { IsEachOnce items.old.items }
     requires known { IsKnown items.old.items (get nat_cmp places.now) }
     requires room { vec_len items.old < vec_capacity items.old }
@@ -378,12 +376,12 @@ fn follow(
     now: u64,
     event: &Event,
 )
-    requires last { last ≤ 1000000000 }
-    requires elapsed { passing.now.elapsed ≤ 1000000000 }
-    requires tick { now ≤ 1000000000 }
+    requires last { last ≤ LAST_TICK }
+    requires elapsed { passing.now.elapsed ≤ LAST_TICK }
+    requires tick { now ≤ LAST_TICK }
     requires fit { AllByRecursion (IsFit clocks.now last) items.old }
     requires within { AllByRecursion (IsWithin ROOM) items.old }
-    requires shown { AllByRecursion (IsShown 1000000000) clocks.now }
+    requires shown { AllByRecursion (IsShown LAST_TICK) clocks.now }
     requires once { IsEachOnce items.old }
     requires known { IsKnown items.old (get nat_cmp places.now) }
     ensures { items.new ≡ map (followed clocks.now last passing.now now event.now) items.old }
@@ -415,12 +413,12 @@ fn step_for(
     event: &Event,
     number: Option<u32>,
 ) -> Option<Step>
-    requires last { last ≤ 1000000000 }
-    requires elapsed { passing.now.elapsed ≤ 1000000000 }
-    requires tick { now ≤ 1000000000 }
+    requires last { last ≤ LAST_TICK }
+    requires elapsed { passing.now.elapsed ≤ LAST_TICK }
+    requires tick { now ≤ LAST_TICK }
     requires fit { AllByRecursion (IsFit clocks.now last) items.now }
     requires within { AllByRecursion (IsWithin ROOM) items.now }
-    requires shown { AllByRecursion (IsShown 1000000000) clocks.now }
+    requires shown { AllByRecursion (IsShown LAST_TICK) clocks.now }
     requires known { IsKnown items.now (get nat_cmp places.now) }
     ensures { result
         ≡ step_at clocks.now last passing.now now event.now (place_at number items.now) items.now }

@@ -1,5 +1,6 @@
 //! The tally of a task, line by line.
 ghost use Rattle.std.specs.Prelude.{◌≡◌, ◌≤◌, ◌&&◌, not, true, is_some, Some};
+ghost use Rattle.trace_text.specs.declared.lines.TheConstants.{LAST_TICK};
 ghost use Rattle.trace_text.specs.declared.events.Who.TheVariants as subject;
 ghost use Rattle.trace_text.specs.Queue.{somebody_eq};
 ghost use Rattle.run_report.specs.Accounts.{is_lower, is_tick, chooses_another};
@@ -7,10 +8,10 @@ ghost use Rattle.run_report.specs.Kept.{fresh, ticks_if, is_waiting, streak_afte
 
 use ann_base::{Level, TaskNo};
 use trace_lines::is_same;
-use trace_text::{Created, Event, QueueEnd, Who};
+use trace_text::{Created, Event, LAST_TICK, QueueEnd, Who};
 
 /// What is kept of one task: the figures of its account, and what they go on with.
-#[derive(Clone, Copy, Debug, PartialEq, Eq)]
+#[derive(Clone, Copy, PartialEq, Eq)]
 pub struct Tally {
     pub jobs: u64,
     pub worst: u64,
@@ -30,7 +31,7 @@ pub struct Tally {
 }
 
 /// The ticks that pass between two lines: how many, who runs, and with which base priority, where it is a task.
-#[derive(Clone, Copy, Debug, PartialEq, Eq)]
+#[derive(Clone, Copy, PartialEq, Eq)]
 pub struct Passing {
     pub elapsed: u64,
     pub runner: Option<Who>,
@@ -38,7 +39,7 @@ pub struct Passing {
 }
 
 /// Whether a line places a task in the ready queue or takes it out.
-#[derive(Clone, Copy, Debug, PartialEq, Eq)]
+#[derive(Clone, Copy, PartialEq, Eq)]
 pub enum Move {
     Enters(QueueEnd),
     Leaves,
@@ -46,7 +47,7 @@ pub enum Move {
 }
 
 /// The most that a figure may be for a line more: the ticks of a trace may be added, and no sum passes 64 bits.
-pub const ROOM: u64 = u64::MAX - 1_000_000_000;
+pub const ROOM: u64 = u64::MAX - LAST_TICK;
 
 impl Tally {
     /// Of a task that is created with this base priority.
@@ -83,8 +84,8 @@ impl Tally {
     /// The tally of a task with one line more.
     pub fn after(&self, task: TaskNo, passing: &Passing, now: u64, event: &Event) -> Tally
         requires room { has_room self.now ≡ true }
-        requires elapsed { passing.now.elapsed ≤ 1000000000 }
-        requires tick { now ≤ 1000000000 }
+        requires elapsed { passing.now.elapsed ≤ LAST_TICK }
+        requires tick { now ≤ LAST_TICK }
         ensures { result ≡ tally_after task passing.now now event.now self.now }
     {
         let step = move_of(task, event);
@@ -183,7 +184,7 @@ fn or_zero(ticks: Option<u64>) -> u64
 /// For how many ticks directly before the line it waits.
 pub fn streak_after(elapsed: u64, waits: bool, streak: u64) -> u64
     requires room { streak ≤ ROOM }
-    requires within { elapsed ≤ 1000000000 }
+    requires within { elapsed ≤ LAST_TICK }
     ensures { result ≡ streak_after elapsed waits streak }
 {
     if elapsed == 0 {

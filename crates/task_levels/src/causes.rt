@@ -2,7 +2,7 @@
 use ann_base::{CallNo, ObjectNo};
 
 /// The cause of an inherited priority (ISO/IEC 8652:2012, D.1).
-#[derive(Clone, Copy, Debug, PartialEq, Eq)]
+#[derive(Clone, Copy, PartialEq, Eq)]
 pub enum Cause {
     /// The task is being activated, and inherits its activator's active priority.
     Activation,

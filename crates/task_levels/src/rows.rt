@@ -8,7 +8,7 @@ use crate::causes::Cause;
 use ann_base::{Level, Slot};
 
 /// What a task has by itself.
-#[derive(Clone, Copy, Debug)]
+#[derive(Clone, Copy)]
 pub struct Own {
     pub base: Level,
     pub deferred: Option<Level>,
@@ -16,7 +16,7 @@ pub struct Own {
 }
 
 /// What a task inherits.
-#[derive(Clone, Copy, Debug)]
+#[derive(Clone, Copy)]
 pub struct Inherited {
     pub slot: Slot,
     pub cause: Cause,

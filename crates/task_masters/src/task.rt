@@ -6,7 +6,7 @@ ghost use Rattle.task_masters.specs.Dependence.{is_owner};
 use ann_base::{RegionNo, Slot, TaskNo};
 
 /// The master of a task (9.3), and who owns it.
-#[derive(Clone, Copy, Debug, PartialEq, Eq)]
+#[derive(Clone, Copy, PartialEq, Eq)]
 pub struct Home {
     /// The slot of the task that made the task, whose region the master is.
     pub creator: Slot,
@@ -19,7 +19,7 @@ pub struct Home {
 }
 
 /// How far a task has come.
-#[derive(Clone, Copy, Debug, PartialEq, Eq)]
+#[derive(Clone, Copy, PartialEq, Eq)]
 pub enum Stage {
     /// Made, and not yet activated.
     Made,
@@ -30,7 +30,7 @@ pub enum Stage {
 }
 
 /// An activation that has begun and not ended (9.2).
-#[derive(Clone, Copy, Debug, PartialEq, Eq)]
+#[derive(Clone, Copy, PartialEq, Eq)]
 pub struct Activation {
     /// The slot of the task that waits for the group.
     pub activator: Slot,
@@ -41,7 +41,7 @@ pub struct Activation {
 }
 
 /// A live task.
-#[derive(Clone, Copy, Debug, PartialEq, Eq)]
+#[derive(Clone, Copy, PartialEq, Eq)]
 pub struct Task {
     /// Its slot, which no other live task has.
     pub slot: Slot,

@@ -5,7 +5,7 @@ ghost use Rattle.time_events.specs.Appointments.{is_same, is_event};
 use ann_base::{CallNo, Moment, Slot};
 
 /// What comes due at a moment.
-#[derive(Clone, Copy, Debug, PartialEq, Eq)]
+#[derive(Clone, Copy, PartialEq, Eq)]
 pub enum Due {
     /// The timing event of this number (D.15).
     Event(u32),
@@ -19,7 +19,7 @@ pub enum Due {
 }
 
 /// Something that is set for a moment.
-#[derive(Clone, Copy, Debug, PartialEq, Eq)]
+#[derive(Clone, Copy, PartialEq, Eq)]
 pub struct Appointment {
     /// What is set.
     pub what: Due,

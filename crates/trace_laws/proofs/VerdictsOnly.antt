@@ -2,6 +2,7 @@
 use Rattle.std.proofs.Common.{◌≡◌, ◌≤◌, ◌<◌, ◌⊎◌, ◌||◌, ℕ, ◌+◌, Bool, true, false, not, ◌&&◌, cond, ltb, leb, if◌then◌else◌, List, [], ◌∷◌, ◌++◌, length, Some, None, Result, Ok, Err, refl, ap, sym, subst, ◌∙◌, append_assoc, arith, inl, inr}
 use Rattle.std.proofs.lemmas.List.{append-nil}
 use Rattle.std.proofs.lemmas.Bool.{lt-ltb, le-ltb}
+use Rattle.trace_text.specs.declared.lines.TheConstants.{LAST_TICK}
 use Rattle.trace_text.specs.declared.events.Event.{Event}
 use Rattle.trace_text.specs.Queue.{Line, see, nothing_seen, somebody_eq, who_of, head_of, follows_ticks, follows_lines}
 use Rattle.trace_text.specs.Laws.{Formed, KeepsLaws, see_shape, is_formed_next, no_shape, see_levels, is_below_ceiling, no_levels, actions_after, is_exclusive, see_releases, is_in_order, no_releases, is_agent_right, remember, is_rightly_left, follows_order, follows_form, follows_dispatch, follows_ceilings, follows_exclusion, follows_handlers, follows_leaving}
@@ -42,7 +43,7 @@ front_ticks see right tick s (line ∷ front) back e =
 
 front_order : (tick : ℕ) (front back : List Line) → follows_order tick (front ++ back) ≡ true → follows_order tick front ≡ true
 front_order tick [] back e = refl
-front_order tick (line ∷ front) back e = third_by (leb tick line.0) (leb line.0 1000000000) (follows_order line.0 (front ++ back)) (follows_order line.0 front) e (front_order line.0 front back)
+front_order tick (line ∷ front) back e = third_by (leb tick line.0) (leb line.0 LAST_TICK) (follows_order line.0 (front ++ back)) (follows_order line.0 front) e (front_order line.0 front back)
 
 -- the answer by its tests
 abbrev answer_by : (form dispatch ceilings exclusion handlers leaving : Bool) → Result (Unit {0}) LawFault

@@ -18,7 +18,7 @@ use trace_lines::{Lines, is_same};
 use trace_text::{Action, Entry, Event, Who};
 
 /// A law on the lines of a trace, in the order in which they are asked.
-#[derive(Clone, Copy, Debug, PartialEq, Eq)]
+#[derive(Clone, Copy, PartialEq, Eq)]
 pub enum Law {
     /// At each tick the head of the highest nonempty ready queue runs, and nobody where all are empty (D.2.1, D.2.6).
     Dispatch,
@@ -33,7 +33,7 @@ pub enum Law {
 }
 
 /// Why a line is not taken.
-#[derive(Clone, Copy, Debug, PartialEq, Eq)]
+#[derive(Clone, Copy, PartialEq, Eq)]
 pub enum LawFault {
     /// The list does not stay formed with it.
     Malformed,

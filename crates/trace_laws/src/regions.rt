@@ -10,7 +10,7 @@ use std::alloc::Global;
 use trace_text::Event;
 
 /// An object was initialized in a region.
-#[derive(Clone, Copy, Debug, PartialEq, Eq)]
+#[derive(Clone, Copy, PartialEq, Eq)]
 pub struct Registration {
     pub object: u32,
     pub region: u32,

@@ -5,7 +5,7 @@ use crate::laws::Law;
 pub const TRACE_BYTES: usize = 67_108_864;
 
 /// What is answered of the bytes of a trace. Lines count from 1.
-#[derive(Clone, Copy, Debug, PartialEq, Eq)]
+#[derive(Clone, Copy, PartialEq, Eq)]
 pub enum Verdict {
     /// All lines, so many, are formed and break no law.
     Lawful(u64),

@@ -2,6 +2,7 @@
 use Rattle.std.proofs.Common.{◌≡◌, ℕ, Bool, true, false, not, ◌&&◌, ◌||◌, eqb, leb, List, [], ◌∷◌, ◌++◌, refl, ap, sym, ◌∙◌, inl, inr}
 use Rattle.std.specs.Map.{keys_of}
 use Rattle.std.proofs.lemmas.Bool.Decides.{eqb_tells}
+use Rattle.trace_text.specs.declared.lines.TheConstants.{LAST_TICK}
 use Rattle.trace_text.specs.declared.events.Who.{Who}
 use Rattle.trace_text.specs.declared.events.Who.TheVariants as subject
 use Rattle.trace_text.specs.declared.events.Created.TheVariants as created
@@ -123,11 +124,11 @@ follows_lines-append see lawful s (first ∷ lines) line =
     ap (λ b. lawful s first.1 && b) (follows_lines-append see lawful (see s first.1) lines line)
     ∙ and_and (lawful s first.1) (follows_lines see lawful (see s first.1) lines) (lawful (seen_from see (see s first.1) lines) line.1)
 
-pub follows_order-append : (tick : ℕ) (lines : List Line) (line : Line) → follows_order tick (lines ++ line ∷ []) ≡ (follows_order tick lines && (leb (last_from tick lines) line.0 && leb line.0 1000000000))
-follows_order-append tick [] line = and_true (leb tick line.0 && leb line.0 1000000000)
+pub follows_order-append : (tick : ℕ) (lines : List Line) (line : Line) → follows_order tick (lines ++ line ∷ []) ≡ (follows_order tick lines && (leb (last_from tick lines) line.0 && leb line.0 LAST_TICK))
+follows_order-append tick [] line = and_true (leb tick line.0 && leb line.0 LAST_TICK)
 follows_order-append tick (first ∷ lines) line =
-    ap (λ b. leb tick first.0 && leb first.0 1000000000 && b) (follows_order-append first.0 lines line)
-    ∙ and_and (leb tick first.0 && leb first.0 1000000000) (follows_order first.0 lines) (leb (last_from first.0 lines) line.0 && leb line.0 1000000000)
+    ap (λ b. leb tick first.0 && leb first.0 LAST_TICK && b) (follows_order-append first.0 lines line)
+    ∙ and_and (leb tick first.0 && leb first.0 LAST_TICK) (follows_order first.0 lines) (leb (last_from first.0 lines) line.0 && leb line.0 LAST_TICK)
 
 nothing_same : Same no_shape (shape_of nothing_kept)
 nothing_same = record { queue = refl; tasks = λ number. refl; objects = λ number. refl; is_ended = refl }
@@ -135,8 +136,8 @@ nothing_same = record { queue = refl; tasks = λ number. refl; objects = λ numb
 pub form_shows : (lines : List Line) (tick : ℕ) (event : Event) → follows_form lines ≡ true → is_formed_after (seen_of lines) tick event ≡ follows_form (with_line lines tick event)
 form_shows lines tick event e =
     let parts = both (follows_order 0 lines) (follows_lines see_shape is_formed_next no_shape lines) e in
-    let order : follows_order 0 (with_line lines tick event) ≡ (leb (last_from 0 lines) tick && leb tick 1000000000) =
-    follows_order-append 0 lines (tick, event) ∙ ap (λ b. b && (leb (last_from 0 lines) tick && leb tick 1000000000)) parts.0 in
+    let order : follows_order 0 (with_line lines tick event) ≡ (leb (last_from 0 lines) tick && leb tick LAST_TICK) =
+    follows_order-append 0 lines (tick, event) ∙ ap (λ b. b && (leb (last_from 0 lines) tick && leb tick LAST_TICK)) parts.0 in
     let shapes : follows_lines see_shape is_formed_next no_shape (with_line lines tick event) ≡ is_formed_next (seen_from see_shape no_shape lines) event =
     follows_lines-append see_shape is_formed_next no_shape lines (tick, event) ∙ ap (λ b. b && is_formed_next (seen_from see_shape no_shape lines) event) parts.1 in
     let next : is_formed_next (seen_from see_shape no_shape lines) event ≡ is_formed_next (shape_of (seen_of lines)) event =

@@ -5,6 +5,7 @@ use Rattle.std.specs.BTreeMap.{insert_entry}
 use Rattle.std.specs.Map.{keys_of}
 use Rattle.ann_base.specs.declared.faults.OrMemory.{OrMemory}
 use Rattle.ann_base.specs.declared.faults.OrMemory.TheVariants as answer
+use Rattle.trace_text.specs.declared.lines.TheConstants.{LAST_TICK}
 use Rattle.trace_text.specs.declared.events.Who.{Who}
 use Rattle.trace_text.specs.declared.events.Entry.{Entry}
 use Rattle.trace_text.specs.declared.events.Created.TheVariants as created
@@ -71,7 +72,7 @@ shape_of seen = record { queue = seen.queue; tasks = keys_of seen.bases; objects
 
 -- a formed list stays formed with this line
 abbrev pub is_formed_after : Seen → ℕ → Event → Bool
-is_formed_after seen tick event = nat_le seen.tick tick && nat_le tick 1000000000 && is_formed_next (shape_of seen) event
+is_formed_after seen tick event = nat_le seen.tick tick && nat_le tick LAST_TICK && is_formed_next (shape_of seen) event
 
 -- the answer is the call's own fault
 abbrev pub IsFault : {X F : Type 0} → Result X (OrMemory F) → Type 0

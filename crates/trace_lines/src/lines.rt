@@ -11,7 +11,7 @@ use ann_base::{Level, Moment, NoMemory, ObjectNo, OrMemory, TaskNo};
 use std::alloc::Global;
 use std::collections::BTreeMap;
 use std::marker::Model;
-use trace_text::{Created, Entry, Event, Who};
+use trace_text::{Created, Entry, Event, LAST_TICK, Who};
 
 /// No formed list goes on with this line.
 #[derive(Clone, Copy, Debug, PartialEq, Eq)]
@@ -97,7 +97,7 @@ impl Lines {
     pub fn keeps_form(&self, now: u64, event: &Event) -> bool
         ensures { result ≡ is_formed_after self.now now event.now }
     {
-        self.tick <= now && now <= 1_000_000_000 && !self.is_ended && self.is_subject_formed(event)
+        self.tick <= now && now <= LAST_TICK && !self.is_ended && self.is_subject_formed(event)
     }
 
     // Whether what a line names was created before, and what it creates was not.

@@ -2,6 +2,7 @@
 use Rattle.std.proofs.Common.{◌≡◌, ℕ, ◌<◌, ◌≤◌, Bool, true, false, cond, ◌&&◌, ◌||◌, leb, List, [], ◌∷◌, ◌++◌, Option, Some, None, IsTrue, refl, eq-eqb, ap, subst, arith, inl, inr}
 use Rattle.std.proofs.lemmas.Bool.{cases_lt, le-leb, leb-true, eqb-true}
 use Rattle.std.proofs.lemmas.Bool.Decides.{nat_tests}
+use Rattle.trace_text.specs.declared.lines.TheConstants.{LAST_TICK}
 use Rattle.trace_text.specs.declared.events.Event.{Event}
 use Rattle.trace_text.specs.declared.events.Who.{Who}
 use Rattle.trace_text.specs.declared.events.Who.TheVariants as subject
@@ -101,14 +102,14 @@ tells_lines see lawful s lines = (lines_hold see lawful s lines, lines_followed 
 pub ticks_rise : (tick : ℕ) (lines : List Line) → follows_order tick lines ≡ true → RisesFrom tick lines
 ticks_rise tick [] e = tt
 ticks_rise tick (line ∷ lines) e =
-    let parts = both (leb tick line.0 && leb line.0 1000000000) (follows_order line.0 lines) e in
-    (leb-true tick line.0 (both (leb tick line.0) (leb line.0 1000000000) parts.0).0, ticks_rise line.0 lines parts.1)
+    let parts = both (leb tick line.0 && leb line.0 LAST_TICK) (follows_order line.0 lines) e in
+    (leb-true tick line.0 (both (leb tick line.0) (leb line.0 LAST_TICK) parts.0).0, ticks_rise line.0 lines parts.1)
 
 pub ticks_bounded : (tick : ℕ) (lines : List Line) → follows_order tick lines ≡ true → AreTicksBounded lines
 ticks_bounded tick [] e = tt
 ticks_bounded tick (line ∷ lines) e =
-    let parts = both (leb tick line.0 && leb line.0 1000000000) (follows_order line.0 lines) e in
-    ((both (leb tick line.0) (leb line.0 1000000000) parts.0).1, ticks_bounded line.0 lines parts.1)
+    let parts = both (leb tick line.0 && leb line.0 LAST_TICK) (follows_order line.0 lines) e in
+    ((both (leb tick line.0) (leb line.0 LAST_TICK) parts.0).1, ticks_bounded line.0 lines parts.1)
 
 pub order_followed : (tick : ℕ) (lines : List Line) → RisesFrom tick lines → AreTicksBounded lines → follows_order tick lines ≡ true
 order_followed tick [] r b = refl

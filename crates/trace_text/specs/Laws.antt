@@ -1,6 +1,7 @@
 -- The laws that the lines of a run keep, as laws on lists of lines, and beside each a test that computes.
 use Rattle.std.specs.Prelude.{◌≡◌, ℕ, ◌+◌, Bool, true, false, not, ◌&&◌, ◌||◌, ◌==◌, if◌then◌else◌, nat_lt, nat_le, IsTrue, List, [], ◌∷◌, ◌++◌, Option, Some, None, length, ℤ}
 use Rattle.std.specs.List.{list_all, list_any}
+use Rattle.trace_text.specs.declared.lines.TheConstants.{LAST_TICK}
 use Rattle.trace_text.specs.declared.events.Who.{Who}
 use Rattle.trace_text.specs.declared.events.Entry.{Entry}
 use Rattle.trace_text.specs.declared.events.Action.{Action}
@@ -301,7 +302,7 @@ is_formed_next shape event = not shape.is_ended && is_subject_formed shape event
 -- no tick is above the greatest
 abbrev pub AreTicksBounded : List Line → Type 0
 AreTicksBounded [] = Unit {0}
-AreTicksBounded (line ∷ lines) = IsTrue (nat_le line.0 1000000000) × AreTicksBounded lines
+AreTicksBounded (line ∷ lines) = IsTrue (nat_le line.0 LAST_TICK) × AreTicksBounded lines
 
 pub record Formed (lines : List Line) : Type 0 where
   pub rises : RisesFrom 0 lines
@@ -310,7 +311,7 @@ pub record Formed (lines : List Line) : Type 0 where
 
 abbrev pub follows_order : ℕ → List Line → Bool
 follows_order tick [] = true
-follows_order tick (line ∷ lines) = nat_le tick line.0 && nat_le line.0 1000000000 && follows_order line.0 lines
+follows_order tick (line ∷ lines) = nat_le tick line.0 && nat_le line.0 LAST_TICK && follows_order line.0 lines
 
 abbrev pub follows_form : List Line → Bool
 follows_form lines = follows_order 0 lines && follows_lines see_shape is_formed_next no_shape lines

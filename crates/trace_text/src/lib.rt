@@ -10,7 +10,7 @@ pub use events::{
     Action, Created, Ended, Entry, EntryName, Event, Finished, Leaves, Mode, QueueEnd, Waits, Who,
 };
 pub use laws::tests_tell;
-pub use lines::LINE_BYTES;
+pub use lines::{LAST_TICK, LINE_BYTES};
 pub use words::{
     EVENT_WORDS, Word, event_word, leaves_bytes, mode_bytes, queue_end_bytes, waits_bytes,
     word_bytes,

@@ -51,43 +51,60 @@ fn tokens(rt: HostRuntime) -> Result<(), Fail> {
     assert_eq!(rt; found.len(), 10);
     for ((kind, first, end, line, column), token) in rows.into_iter().zip(found) {
         let place = Place { line, column };
-        assert_eq!(rt;
-            token,
-            Token {
-                kind,
-                first,
-                end,
-                place
-            }
+        assert!(rt;
+            token
+                == Token {
+                    kind,
+                    first,
+                    end,
+                    place
+                }
         );
     }
     Ok(())
 }
 
 #[test]
-fn meanings(rt: HostRuntime) -> Result<(), Fail> {
-    assert_eq!(rt; reserved_word(b"BeGin"), Some(Reserved::Begin));
-    assert_eq!(rt; reserved_word(b"xor"), Some(Reserved::Xor));
-    assert_eq!(rt; reserved_word(b"First"), None);
-    assert!(rt; is_reserved(b"nULL"));
-    assert!(rt; !is_reserved(b"Integer"));
-    assert_eq!(rt; delimiter_of(b":="), Some(Delimiter::Becomes));
-    assert_eq!(rt; delimiter_of(b"|"), Some(Delimiter::Bar));
-    assert_eq!(rt; delimiter_of(b"-"), Some(Delimiter::Minus));
-    assert_eq!(rt; delimiter_of(b"--"), None);
-    assert!(rt; same_word(b"Put_Line", b"PUT_LINE"));
-    assert!(rt; !same_word(b"Put_Line", b"PutLine"));
-    assert_eq!(rt;
-        lower_case(rt.alloc(), b"Put_Line")?.as_slice(),
-        b"put_line".as_slice()
-    );
-    assert_eq!(rt; whole_value(b"1_000.25"), Some(1000));
-    assert_eq!(rt; decimals(b"1_000.25"), b"25".as_slice());
-    assert_eq!(rt; decimals(b"1_000"), b"".as_slice());
-    assert_eq!(rt;
-        text_value(rt.alloc(), b"\"a\"\"b\"")?.as_slice(),
-        b"a\"b".as_slice()
-    );
+fn words_and_delimiters(rt: HostRuntime) {
+    let words: [(&[u8], Option<Reserved>); 4] = [
+        (b"BeGin", Some(Reserved::Begin)),
+        (b"xor", Some(Reserved::Xor)),
+        (b"First", None),
+        (b"Integer", None),
+    ];
+    for (word, wanted) in words {
+        assert!(rt; reserved_word(word) == wanted);
+        assert_eq!(rt; is_reserved(word), wanted.is_some());
+    }
+    let delimiters: [(&[u8], Option<Delimiter>); 4] = [
+        (b":=", Some(Delimiter::Becomes)),
+        (b"|", Some(Delimiter::Bar)),
+        (b"-", Some(Delimiter::Minus)),
+        (b"--", None),
+    ];
+    for (text, wanted) in delimiters {
+        assert!(rt; delimiter_of(text) == wanted);
+    }
+    for (other, is_same) in [(b"PUT_LINE".as_slice(), true), (b"PutLine", false)] {
+        assert_eq!(rt; same_word(b"Put_Line", other), is_same);
+    }
+}
+
+#[test]
+fn numbers_and_texts(rt: HostRuntime) -> Result<(), Fail> {
+    let alloc = rt.alloc();
+    let numbers: [(&[u8], Option<u128>, &[u8]); 2] = [
+        (b"1_000.25", Some(1000), b"25"),
+        (b"1_000", Some(1000), b""),
+    ];
+    for (literal, whole, behind_point) in numbers {
+        assert_eq!(rt; whole_value(literal), whole);
+        assert_eq!(rt; decimals(literal), behind_point);
+    }
+    let lower = lower_case(alloc, b"Put_Line")?;
+    assert_eq!(rt; lower.as_slice(), b"put_line".as_slice());
+    let text = text_value(alloc, b"\"a\"\"b\"")?;
+    assert_eq!(rt; text.as_slice(), b"a\"b".as_slice());
     let token = Token {
         kind: Kind::Word,
         first: 1,

@@ -1,5 +1,7 @@
 //! Shelves and sinks in memory and of the host, and names.
-use ann_base::{Failed, HostShelf, HostSink, MemShelf, MemSink, Name, Shelf, Sink};
+use ann_base::{Failed, Name, Shelf, Sink};
+use outside_host::{HostShelf, HostSink};
+use outside_memory::{MemShelf, MemSink};
 use std::alloc::{AllocError, Global};
 use std::test::Fail;
 

@@ -112,23 +112,23 @@ fn constructs_of_a_task(rt: HostRuntime) -> Result<(), Fail> {
     )?;
     open_if_ready(&p, &mut effect, name)?;
     assert_eq!(rt; frame_count(&effect.world, name), 2);
-    assert_eq!(rt; onward_of(&effect.world, name), Some(StatementNo(1)));
+    assert!(rt; onward_of(&effect.world, name) == Some(StatementNo(1)));
     assert!(rt; has_room(&effect.world, name, 998, 65_536));
     assert!(rt; !has_room(&effect.world, name, 999, 0));
     assert!(rt; !has_room(&effect.world, name, 0, 65_537));
     assert!(rt; is_deferred(&effect.world, name) && !in_protected(&effect.world, name));
     raises(&mut effect, Part::Own, name, Raised::Storage)?;
     assert_eq!(rt; effect.said.len(), 1);
-    assert_eq!(rt; onward_of(&effect.world, name), None);
-    assert_eq!(rt;
-        top_of(&effect.world, name).map(|frame| frame.left_as),
-        Some(Some(Leaving::Exception(Raised::Storage)))
+    assert!(rt; onward_of(&effect.world, name) == None);
+    assert!(rt;
+        top_of(&effect.world, name).map(|frame| frame.left_as)
+            == Some(Some(Leaving::Exception(Raised::Storage)))
     );
     pop(&mut effect.world, name);
-    assert_eq!(rt; onward_of(&effect.world, name), Some(StatementNo(2)));
+    assert!(rt; onward_of(&effect.world, name) == Some(StatementNo(2)));
     goes(&mut effect, name, Some(StatementNo(3)));
     pass_on(&p, &mut effect, name, Leaving::Exit(StatementNo(0)));
-    assert_eq!(rt; onward_of(&effect.world, name), Some(StatementNo(2)));
+    assert!(rt; onward_of(&effect.world, name) == Some(StatementNo(2)));
     set_ticks(&mut effect.world, name, Some(4));
     set_state(&mut effect.world, name, State::Blocked(Waiting::Moment));
     assert!(rt; !may_run(&effect.world, name) && waiting_of(&effect.world, name).is_some());

@@ -31,28 +31,26 @@ fn operators_of_integers(rt: HostRuntime) {
     ];
     for (operator, left, right, wanted) in table {
         let value = binary_value(operator, Value::Whole(left), Value::Whole(right));
-        assert_eq!(rt; value, wanted.map(Value::Whole).ok_or(Raised::Constraint));
+        assert!(rt; value == wanted.map(Value::Whole).ok_or(Raised::Constraint));
     }
 }
 
 #[test]
 fn other_operators(rt: HostRuntime) {
     let last = Value::Ticks(4_611_686_018_427_387_903);
-    assert_eq!(rt;
-        binary_value(BinaryOperator::Plus, last, Value::Ticks(1)),
-        Err(Raised::Constraint)
+    assert!(rt;
+        binary_value(BinaryOperator::Plus, last, Value::Ticks(1)) == Err(Raised::Constraint)
     );
-    assert_eq!(rt;
-        binary_value(BinaryOperator::Times, Value::Whole(-3), Value::Ticks(20)),
-        Ok(Value::Ticks(-60))
+    assert!(rt;
+        binary_value(BinaryOperator::Times, Value::Whole(-3), Value::Ticks(20))
+            == Ok(Value::Ticks(-60))
     );
-    assert_eq!(rt;
-        binary_value(BinaryOperator::Xor, Value::Truth(true), Value::Truth(true)),
-        Ok(Value::Truth(false))
+    assert!(rt;
+        binary_value(BinaryOperator::Xor, Value::Truth(true), Value::Truth(true))
+            == Ok(Value::Truth(false))
     );
-    assert_eq!(rt;
-        unary_value(UnaryOperator::Abs, Value::Whole(-2_147_483_648)),
-        Err(Raised::Constraint)
+    assert!(rt;
+        unary_value(UnaryOperator::Abs, Value::Whole(-2_147_483_648)) == Err(Raised::Constraint)
     );
 }
 

@@ -1,7 +1,8 @@
 //! Whole files and whole pieces, read and written three and two bytes at a time.
 use super::shelves::shelf;
-use ann_base::{Failed, MemSink, OrMemory};
+use ann_base::{Failed, OrMemory};
 use outside_bytes::{read_file, write_four};
+use outside_memory::MemSink;
 use std::test::Fail;
 
 const BYTES: &[u8] = b"hello world";

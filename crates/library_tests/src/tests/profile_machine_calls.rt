@@ -19,10 +19,7 @@ fn lists_take_what_is_pushed(rt: HostRuntime) -> Result<(), AllocError> {
         })?;
     }
     assert_eq!(rt; sequence.as_slice().last().copied(), Some(5));
-    assert_eq!(rt;
-        actuals.as_slice().last().copied(),
-        Some(Actual::In(ExprNo(5)))
-    );
+    assert!(rt; actuals.as_slice().last().copied() == Some(Actual::In(ExprNo(5))));
     assert!(rt; alternatives.as_slice().len() == 6);
     Ok(())
 }

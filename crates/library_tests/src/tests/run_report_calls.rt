@@ -1,5 +1,5 @@
 //! Reports of worked traces.
-use ann_base::{OrMemory, TaskNo};
+use ann_base::OrMemory;
 use run_report::{Account, Report, accounts_tell};
 use std::alloc::Global;
 use std::test::Fail;
@@ -53,16 +53,17 @@ fn figures(account: &Account) -> [u64; 7] {
 fn a_report_tells_of_each_task(rt: HostRuntime) -> Result<(), Fail> {
     let report = report(rt.alloc(), &LOWER)?;
     assert_eq!(rt; report.len(), 2);
-    let main = report.account(0).ok_or("no account")?;
-    assert_eq!(rt; main.task, TaskNo(0));
-    assert_eq!(rt; main.name.as_bytes(), b"main".as_slice());
-    assert_eq!(rt; figures(&main), [2, 5, 8, 5, 0, 3, 3]);
-    let other = report.account(1).ok_or("no account")?;
-    assert_eq!(rt; figures(&other), [1, 9, 9, 7, 1, 0, 0]);
-    assert!(rt; report.account(2).is_none());
-    assert_eq!(rt; report.agent_run(), 0);
-    assert_eq!(rt; report.idle(), 0);
-    assert_eq!(rt; report.ticks(), 12);
+    let accounts: [(u32, &[u8], [u64; 7]); 2] = [
+        (0, b"main", [2, 5, 8, 5, 0, 3, 3]),
+        (1, b"main.t", [1, 9, 9, 7, 1, 0, 0]),
+    ];
+    for (place, name, wanted) in accounts {
+        let account = report.account(place).ok_or("no account")?;
+        assert_eq!(rt; account.name.as_bytes(), name);
+        assert_eq!(rt; figures(&account), wanted);
+    }
+    let all = [report.agent_run(), report.idle(), report.ticks()];
+    assert_eq!(rt; all, [0, 0, 12]);
     accounts_tell();
     Ok(())
 }

@@ -1,7 +1,7 @@
 //! What several tests read from.
 ghost use Rattle.std.specs.Prelude.{◌<◌};
 
-use ann_base::MemShelf;
+use outside_memory::MemShelf;
 use std::alloc::{AllocError, Global};
 
 /// A shelf with one file, of this name and these bytes, that moves so many bytes at a time and fails at the listed calls.

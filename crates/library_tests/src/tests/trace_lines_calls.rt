@@ -54,17 +54,17 @@ fn facts_follow_lines(rt: HostRuntime) -> Result<(), Fail> {
             Err(OrMemory::Fault(Malformed))
         )
     );
-    assert_eq!(rt; lines.runner(), None);
+    assert!(rt; lines.runner() == None);
     assert!(rt; matches!(lines.take(3, &Event::Run { who }), Ok(())));
-    assert_eq!(rt; lines.runner(), Some(who));
-    assert_eq!(rt; lines.head(), Some(who));
+    assert!(rt; lines.runner() == Some(who));
+    assert!(rt; lines.head() == Some(who));
     assert_eq!(rt; lines.level(who), Some(16));
     assert_eq!(rt; lines.deadline(who), Some(-5));
     assert_eq!(rt; lines.base(task), Some(15));
     assert_eq!(rt; lines.ceiling(object), Some(20));
     assert_eq!(rt; lines.last(), 3);
     assert!(rt; matches!(lines.take(3, &Event::Done { task }), Ok(())));
-    assert_eq!(rt; lines.head(), None);
+    assert!(rt; lines.head() == None);
     assert!(rt; lines.entry(who).is_none());
     Ok(())
 }

@@ -54,10 +54,7 @@ fn each_policy_through_its_bound(rt: HostRuntime) -> Result<(), Fail> {
         two_ticks::<EdfLevel>(&rt, rt.alloc(), -500)?,
         (false, false, -500)
     );
-    assert_eq!(rt;
-        two_ticks::<AnyLevel>(&rt, rt.alloc(), key)?,
-        (false, false, spent)
-    );
+    assert!(rt; two_ticks::<AnyLevel>(&rt, rt.alloc(), key)? == (false, false, spent));
     Ok(())
 }
 

@@ -62,9 +62,6 @@ fn each_call_over_each_policy(rt: HostRuntime) -> Result<(), Fail> {
     assert_eq!(rt; run::<FifoLevel>(&rt, rt.alloc(), ())?, (false, false, ()));
     assert_eq!(rt; run::<RobinLevel>(&rt, rt.alloc(), 2)?, (false, true, 0));
     assert_eq!(rt; run::<EdfLevel>(&rt, rt.alloc(), 500)?, (false, false, 500));
-    assert_eq!(rt;
-        run::<AnyLevel>(&rt, rt.alloc(), key)?,
-        (false, false, spent)
-    );
+    assert!(rt; run::<AnyLevel>(&rt, rt.alloc(), key)? == (false, false, spent));
     Ok(())
 }

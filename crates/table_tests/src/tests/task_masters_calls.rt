@@ -13,7 +13,7 @@ use std::test::Fail;
 use task_masters::Masters;
 
 /// A call, with the answer that is wanted. Tasks are named by their numbers.
-#[derive(Clone, Copy, Debug)]
+#[derive(Clone, Copy)]
 enum Step {
     /// A new sequence, on a table with the environment task alone.
     Begin,

@@ -8,7 +8,7 @@ use std::test::Fail;
 use time_events::{APPOINTMENTS, Agenda, Due};
 
 /// A call, with the answer that is wanted.
-#[derive(Clone, Copy, Debug)]
+#[derive(Clone, Copy)]
 enum Step {
     /// A new sequence, on an empty agenda.
     Begin,

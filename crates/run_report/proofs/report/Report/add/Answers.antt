@@ -8,6 +8,7 @@ use Rattle.run_report.specs.Kept.{ticks_if}
 use Rattle.run_report.specs.Clocks.{IsSame}
 use Rattle.run_report.proofs.Lines.{rises_tick, shown_more, report_stays, all_within, added_line, added_kept, few_more}
 use Rattle.run_report.proofs.report.Report.add.Goals as goal
+use Rattle.trace_text.specs.declared.lines.TheConstants.{LAST_TICK}
 
 pub invariant_of-self : goal.invariant_of-self
 invariant_of-self c =
@@ -32,7 +33,7 @@ pub advance-requires-clause-shown : goal.advance-requires-clause-shown
 advance-requires-clause-shown c =
     let old = c.self.inside in
     let same = subst (λ n. IsSame n old.items.items old.clocks.items c.prepare.new.items.items c.prepare.new.clocks.items (get nat_cmp c.prepare.new.places)) c.last-last.ensures c.prepare.ensures.same in
-    shown_more old.lines.tick 1000000000 c.prepare.new.clocks.items c.self.invariant.tick (same.shown c.self.invariant.kept.shown)
+    shown_more old.lines.tick LAST_TICK c.prepare.new.clocks.items c.self.invariant.tick (same.shown c.self.invariant.kept.shown)
 
 pub invariant_of-self-2 : goal.invariant_of-self-2
 invariant_of-self-2 c =

@@ -1,0 +1,11 @@
+//! Exits, returns and raises (ISO/IEC 8652:2012, 5.7, 6.5, 11.3). Each function has the name of the definition of
+//! `ada_legality` of which it is the counterpart.
+#![tactic(auto)]
+
+mod leaving;
+
+pub use leaving::{exit_found, raise_found, return_found};
+
+// What stands below, for the crates above.
+pub use legality_parts;
+pub use legality_parts::{legality_choices, legality_expressions};

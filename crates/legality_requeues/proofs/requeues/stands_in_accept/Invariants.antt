@@ -1,0 +1,8 @@
+use Rattle.std.proofs.Common.{◌≡◌}
+use Rattle.std.specs.VecDeque.Iter.{deque_iter_rest}
+use Rattle.ada_legality.specs.Words.{any_in_body, is_accept}
+use Rattle.legality_requeues.proofs.requeues.stands_in_accept.Given as goal
+
+-- the constructs further out give what all of them give
+abbrev pub invariant-loop-around : goal.invariant-loop-around
+invariant-loop-around l = any_in_body is_accept (deque_iter_rest l.around-iterator) ≡ any_in_body is_accept l.outer

@@ -1,0 +1,14 @@
+//! Aborts and requeues (ISO/IEC 8652:2012, 9.5.4, 9.8, D.7). Each function has the name of the definition of
+//! `ada_legality` of which it is the counterpart.
+#![tactic(auto)]
+
+mod requeues;
+
+pub use requeues::{abort_found, names_entry, requeue_found};
+
+// What stands below, for the crates above.
+pub use legality_profiles;
+pub use legality_values;
+pub use legality_values::{
+    legality_calls, legality_entities, legality_names, legality_reads, legality_types,
+};

@@ -1,9 +1,0 @@
-use Rattle.std.proofs.Common.{◌≡◌}
-use Rattle.std.specs.VecDeque.Iter.{deque_iter_rest}
-use Rattle.ada_legality.specs.Words.{any_in_sequence}
-use Rattle.ada_legality.specs.SimpleStatements.{is_loop_named}
-use Rattle.legality_statements.proofs.leaving.stands_in_loop_named.Given as goal
-
--- the constructs further out give what all of them give
-abbrev pub invariant-loop-around : goal.invariant-loop-around
-invariant-loop-around l = any_in_sequence (is_loop_named l.entity) (deque_iter_rest l.around-iterator) ≡ any_in_sequence (is_loop_named l.entity) l.outer

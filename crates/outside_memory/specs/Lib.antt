@@ -1,0 +1,3 @@
+pub mod MemoryState
+pub mod Files
+pub mod Memory

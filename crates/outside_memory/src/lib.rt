@@ -1,4 +1,4 @@
-//! Files and a sink in memory, over which the tests run the program.
+//! Files and a sink in memory, over which the crates that read and write are tested.
 #![tactic(auto)]
 
 mod memory;

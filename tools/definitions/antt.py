@@ -232,7 +232,10 @@ def constant(root, path, name):
     found = re.search(CONST.format(name), text, re.S)
     if not found: raise NameError(f"{name} in {file}")
     value = " ".join(found[2].split())
+    value = re.sub(r" as [ui](?:8|16|32|64|128|size)$", "", value)  # (each such type holds the value)
     if re.fullmatch(r"[A-Z][A-Z0-9_]*", value): return brought_in(root, text, value)
+    named = re.fullmatch(r"(\w+)::([A-Z][A-Z0-9_]*)", value)
+    if named and os.path.isdir(os.path.join(root, "crates", named[1])): return constant_of_crate(root, named[1], named[2])
     return constant_value(value)
 
 
@@ -242,6 +245,10 @@ CONST = r"\bconst {}\s*:\s*((?:[^;=\[]|\[[^\]]*\])*)=\s*(.*?);\n"
 def brought_in(root, text, name):
     """A constant that another crate has, and that this text brings in by a use line."""
     crate = re.search(rf"(?m)^use (\w+)::(?:{name}|\{{[^}}]*\b{name}\b[^}}]*\}});", text)[1]
+    return constant_of_crate(root, crate, name)
+
+
+def constant_of_crate(root, crate, name):
     folder = os.path.join(root, "crates", crate, "src")
     for file in sorted(os.listdir(folder)):
         with open(os.path.join(folder, file), encoding="utf-8") as f:
@@ -250,9 +257,17 @@ def brought_in(root, text, name):
     raise NameError(f"{name} in {folder}")
 
 
+def end_of_type(sign, bits, end):
+    """The least or the greatest number of a type of Rust."""
+    if sign == "u": return 0 if end == "MIN" else 2**bits - 1
+    return -(2 ** (bits - 1)) if end == "MIN" else 2 ** (bits - 1) - 1
+
+
 def constant_value(e):
     if e.startswith("&"): e = e[1:].strip()
     if e.startswith("["): return tuple(constant_value(x.strip()) for x in e[1:-1].split(",") if x.strip())
+    end = re.fullmatch(r"([ui])(\d+)::(MIN|MAX)", e)
+    if end: return end_of_type(end[1], int(end[2]), end[3])
     if re.fullmatch(r"[\d_]+(?:[ui](?:8|16|32|64|128|size))?", e): return int(re.match(r"[\d_]+", e)[0])
     if re.fullmatch(r"\w+::\w+", e): return Con(e.split("::")[1])
     raise SyntaxError(f"constant {e[:80]}")

@@ -1,7 +1,7 @@
 -- The laws of what is read hold of what is accepted.
 use Rattle.std.proofs.Common.{ap, ◌∙◌}
 use Rattle.ada_image.specs.NothingLost.{image_reads}
-use Rattle.scope_laws.proofs.Own.{nothing_read_is_lost}
+use Rattle.accepted_laws.proofs.Own.{nothing_read_is_lost}
 use Rattle.source_laws.proofs.Unbroken.{unbroken_names_by_position}
 use Rattle.accepted_laws.specs.AcceptedLaws.{NothingAcceptedIsLost, AcceptedNamesByPosition}
 use Rattle.accepted_laws.proofs.Read.{tree_read}

@@ -1,2 +1,12 @@
 pub mod Read
 pub mod Kept
+pub mod Numbering
+pub mod Beginning
+pub mod ScopeFolds
+pub mod Counting
+pub mod Statements
+pub mod Sequences
+pub mod Units
+pub mod Positions
+pub mod Lines
+pub mod Own

@@ -1,1 +1,2 @@
 pub mod AcceptedLaws
+pub mod ScopeLaws

@@ -5,9 +5,8 @@ ghost use Rattle.ada_grammar.specs.ReadingDeclarations.{array_of, component_of, 
 ghost use Rattle.ada_grammar.specs.Reading.{items_from, sees_identifier};
 ghost use Rattle.ada_grammar.specs.Reads.{Reads};
 
-use ada_expressions::{expression, identifiers, name};
+use ada_expressions::{below, bounds, expression, identifiers, name, subtype_indication};
 use ada_grammar::{Cursor, Stuck};
-use ada_indications::{below, bounds, subtype_indication};
 use ada_tree::{
     Component, Declaration, Expression, Identifier, ObjectDeclaration, OneOrMore, Sequence,
     SubtypeDeclaration, TypeDeclaration, TypeDefinition,

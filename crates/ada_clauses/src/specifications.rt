@@ -7,9 +7,8 @@ ghost use Rattle.ada_grammar.specs.Reading.{behind_delimiter_of, items_from, see
 ghost use Rattle.ada_grammar.specs.Reads.{Reads};
 
 use crate::declarations::add_components;
-use ada_expressions::expression;
+use ada_expressions::{expression, first_before, parameters, subtype_indication};
 use ada_grammar::{Cursor, Stuck};
-use ada_indications::{first_before, parameters, subtype_indication};
 use ada_tree::{
     Aspect, Component, Declaration, EntryDeclaration, EntryHead, Expression, ProtectedDeclaration,
     ProtectedOperation, Sequence, SubprogramSpecification, TaskDeclaration, TaskDefinition,

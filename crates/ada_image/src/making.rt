@@ -9,7 +9,7 @@ use std::marker::Model;
 use world_tables::List;
 
 /// The first action of a scope.
-#[derive(Clone, Copy, PartialEq, Eq)]
+#[derive(Clone, Copy)]
 pub struct FirstAction {
     /// The scope.
     pub scope: u32,
@@ -50,7 +50,7 @@ pub struct MadeLists {
 }
 
 /// A loop that is open (ISO/IEC 8652:2012, 5.5).
-#[derive(Clone, Copy, PartialEq, Eq)]
+#[derive(Clone, Copy)]
 pub struct OpenLoop {
     /// The entity of its label, where it has one.
     pub label: Option<u32>,
@@ -113,7 +113,7 @@ pub struct Within<'n, 't> {
 }
 
 /// Where a sequence of statements stands: what is made of it depends on that.
-#[derive(Clone, Copy, PartialEq, Eq)]
+#[derive(Clone, Copy)]
 pub enum SequencePlace {
     /// The statements of a compound statement (clause 5).
     StatementsAlone,

@@ -8,6 +8,7 @@ use Rattle.ada_lex.specs.Meaning.{decimals_of, whole_of}
 use Rattle.ada_regions.specs.Numbered.{last_priority_of}
 use Rattle.ada_regions.specs.PredefinedUnits.{item_in}
 use Rattle.ada_regions.specs.Statics.{subtype_of_item}
+use Rattle.profile_machine.specs.Operators.{integer_last}
 use Rattle.ada_regions.specs.Words.{all_of, and_then, entry_named, nothing_there}
 use Rattle.ada_regions.specs.declared.types.Subtype.{Subtype}
 use Rattle.ada_tree.specs.declared.expressions.Argument.{Argument}
@@ -136,7 +137,7 @@ restrictions_with_number =
 abbrev pub is_numbered_restriction : Argument Expression → Identifier → Bool
 is_numbered_restriction a i =
     list_any (bytes_eq i.text) restrictions_with_number
-    && lies_between (pos 0) (pos 2147483647) (number_in a)
+    && lies_between (pos 0) integer_last (number_in a)
 
 -- a restriction of the profile
 unfoldable pub is_restriction : Argument Expression → Bool

@@ -2,9 +2,8 @@
 ghost use Rattle.std.specs.Prelude.{◌≡◌};
 
 use ada_image::NamesOf;
-use ada_regions::{AdaType, Subtype};
+use ada_regions::{AdaType, Occurrences, Subtype};
 use ann_base::Place;
-use occurrence_lists::Occurrences;
 use std::marker::Model;
 use world_tables::List;
 

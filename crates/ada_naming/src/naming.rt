@@ -4,7 +4,7 @@ ghost use Rattle.ada_regions.specs.Occurrences.{a_subprogram};
 ghost use Rattle.ada_regions.specs.Declaring.{library_frame, declared};
 ghost use Rattle.ada_regions.specs.Regions.{ended, library_unit, withed};
 ghost use Rattle.ada_regions.specs.Numbered.{last_priority_of, nothing_known, behind, behind_all, names_of, name_fault_of};
-ghost use Rattle.occurrence_lists.specs.Shown.{occurrence_shown};
+ghost use Rattle.ada_regions.specs.Shown.{occurrence_shown};
 
 use crate::beginnings::{
     begin_accept, begin_block, begin_context, begin_context_of, begin_entry_body,
@@ -24,11 +24,10 @@ use ada_declarations::{
 use ada_entities::{enclosure_here, ended};
 use ada_occurrences::occurrences_of;
 use ada_predefined::last_priority_of;
-use ada_regions::{Frame, NameFault, Names, NumberedScope};
+use ada_regions::{Frame, NameFault, Names, NumberedScope, Occurrence};
 use ada_tree::{Identifier, Name, SubprogramSpecification, Unit};
 use ada_visibility::{name_resolved, resolved};
 use ann_base::{NoMemory, Place};
-use occurrence_lists::Occurrence;
 use std::alloc::Global;
 use world_tables::{List, Table};
 

@@ -5,6 +5,7 @@ ghost use Rattle.ada_regions.specs.NamesInDeclarations.{names_in_definition, nam
 
 use crate::statements::{hide_all, tell_body, tell_parameters};
 use crate::telling::{Tell, TellSequence, tell_each};
+use ada_regions::{Occurrence, Occurrences};
 use ada_tree::{
     Aspect, Body, Component, Declaration, EntryDeclaration, EntryHead, Expression, Identifier,
     ObjectDeclaration, OneOrMore, OperationBody, ProtectedBody, ProtectedDeclaration,
@@ -12,7 +13,6 @@ use ada_tree::{
     TaskDeclaration, TaskDefinition, TypeDeclaration, TypeDefinition,
 };
 use ann_base::NoMemory;
-use occurrence_lists::{Occurrence, Occurrences};
 use sqlite_items::Items;
 
 /// Declares the objects of a declaration.

@@ -2,9 +2,9 @@
 ghost use Rattle.std.specs.Prelude.{◌≡◌, ◌++◌, OnOk};
 
 use crate::telling::{Tell, tell_each};
+use ada_regions::{Occurrence, Occurrences};
 use ada_tree::{Addend, Argument, Expression, ExpressionForm, Multiplied, Operand};
 use ann_base::NoMemory;
-use occurrence_lists::{Occurrence, Occurrences};
 
 impl<E: Tell> Tell for Operand<E> {
     ghost use Rattle.ada_regions.specs.NamesInExpressions.{names_in_operand};

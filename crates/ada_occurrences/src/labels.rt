@@ -5,12 +5,12 @@ ghost use Rattle.ada_regions.specs.Occurrences.{if_there};
 ghost use Rattle.ada_regions.specs.NamesInStatements.{labels_in, declares_label};
 
 use crate::telling::TellSequence;
+use ada_regions::{Occurrence, Occurrences};
 use ada_tree::{
     Accept, AcceptBody, Alternative, CaseAlternative, Elsif, Handler, If, Label, OneOrMore,
     SelectAlternative, SelectForm, Statement,
 };
 use ann_base::NoMemory;
-use occurrence_lists::{Occurrence, Occurrences};
 use sqlite_items::Items;
 
 /// What declares labels.

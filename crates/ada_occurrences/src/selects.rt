@@ -1,9 +1,9 @@
 //! The names in select statements (ISO/IEC 8652:2012, 9.7).
 use crate::statements::tell_optional;
 use crate::telling::{Tell, TellSequence};
+use ada_regions::{Occurrence, Occurrences};
 use ada_tree::{Alternative, Guard, SelectAlternative, SelectForm, Trigger};
 use ann_base::NoMemory;
-use occurrence_lists::{Occurrence, Occurrences};
 
 impl Tell for Guard {
     ghost use Rattle.ada_regions.specs.NamesInStatements.{names_in_guard};

@@ -5,13 +5,13 @@ ghost use Rattle.std.specs.List.{flat_map};
 ghost use Rattle.ada_regions.specs.NamesInStatements.{names_in_parameter, names_in_parameters, names_in_statements, label_name};
 
 use crate::telling::{Tell, TellSequence, tell_each};
+use ada_regions::{Occurrence, Occurrences};
 use ada_tree::{
     Accept, AcceptBody, Assignment, Block, Call, Case, CaseAlternative, Choice, Constraint, Delay,
     Elsif, Exit, Expression, HandledExceptions, Handler, Identifier, If, Iteration, Label, Loop,
     Name, OneOrMore, Parameter, Statement, SubtypeIndication,
 };
 use ann_base::{NoMemory, Place};
-use occurrence_lists::{Occurrence, Occurrences};
 use sqlite_items::Items;
 
 /// A name that is used.

@@ -2,9 +2,9 @@
 ghost use Rattle.std.specs.Prelude.{◌≡◌, ◌++◌, OnOk};
 ghost use Rattle.std.specs.List.{flat_map};
 
+use ada_regions::{Occurrence, Occurrences};
 use ada_tree::OneOrMore;
 use ann_base::NoMemory;
-use occurrence_lists::{Occurrence, Occurrences};
 use sqlite_items::Items;
 
 /// What tells the names in it.

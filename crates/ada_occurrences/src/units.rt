@@ -6,12 +6,12 @@ ghost use Rattle.ada_regions.specs.NamesInUnits.{clause_with, names_in_part, nam
 use crate::labels::{TellLabels, tell_labels_of_each};
 use crate::statements::tell_body;
 use crate::telling::{Tell, TellSequence, tell_each};
+use ada_regions::{Occurrence, Occurrences};
 use ada_tree::{
     ContextClause, Declaration, LibraryPackage, MainProcedure, Name, OneOrMore, Package,
     PackageBody, PackageDeclaration, Sequence, SequenceParts, Unit,
 };
 use ann_base::NoMemory;
-use occurrence_lists::{Occurrence, Occurrences};
 use sqlite_items::Items;
 use std::alloc::Global;
 

@@ -5,7 +5,7 @@ ghost use Rattle.ada_regions.specs.PredefinedUnits.{item_in, free, integers, who
 
 use ada_regions::{AdaType, Operation, Predefined, PredefinedUnit, Subtype};
 use ann_base::{Moment, Raised};
-use profile_machine::{Constraint, Value};
+use profile_machine::{Constraint, TIME_FIRST, TIME_LAST, Value};
 
 /// A type whose values have no range.
 fn free(of_type: AdaType) -> Predefined
@@ -60,8 +60,8 @@ fn whole_duration() -> Subtype
     Subtype {
         of_type: AdaType::Duration,
         range: Constraint::Ticks {
-            low: -4_611_686_018_427_387_904,
-            high: 4_611_686_018_427_387_903,
+            low: TIME_FIRST,
+            high: TIME_LAST,
         },
     }
 }
@@ -98,9 +98,9 @@ fn item_in_standard(name: &[u8]) -> Option<Predefined>
     if name == b"integer".as_slice() {
         Some(Predefined::Mark(whole_integer()))
     } else if name == b"natural".as_slice() {
-        Some(integers(0, 2_147_483_647))
+        Some(integers(0, i32::MAX))
     } else if name == b"positive".as_slice() {
-        Some(integers(1, 2_147_483_647))
+        Some(integers(1, i32::MAX))
     } else if name == b"boolean".as_slice() {
         Some(Predefined::Mark(whole_boolean()))
     } else if name == b"false".as_slice() {
@@ -167,7 +167,7 @@ fn item_in_real_time(name: &[u8]) -> Option<Predefined>
     } else if name == b"time_first".as_slice() {
         Some(moment(AdaType::Time, 0))
     } else if name == b"time_last".as_slice() {
-        Some(moment(AdaType::Time, 4_611_686_018_427_387_903))
+        Some(moment(AdaType::Time, TIME_LAST))
     } else if name == b"time_span_zero".as_slice() {
         Some(moment(AdaType::TimeSpan, 0))
     } else if name == b"clock".as_slice() {

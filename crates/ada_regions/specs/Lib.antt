@@ -14,3 +14,4 @@ pub mod Declaring
 pub mod Completions
 pub mod Regions
 pub mod Numbered
+pub mod Shown

@@ -1,7 +1,9 @@
 -- The predefined units, as one table: which units stand in which, and what each declares (annex A, C.7.1, annex D). The
 -- numbers that the standard leaves open are this profile's: 31 levels of Priority, or 98 where the range is wide, and
 -- times of 2^62 microseconds on both sides of the start.
-use Rattle.std.specs.Prelude.{ℕ, suc, ℤ, pos, negsuc, Bool, true, false, cond, List, [], ◌∷◌, Option, Some, None, codes, eqb}
+use Rattle.std.specs.Prelude.{ℕ, suc, ℤ, pos, Bool, true, false, cond, List, [], ◌∷◌, Option, Some, None, codes, eqb}
+use Rattle.profile_machine.specs.Operators.{time_first, integer_first, integer_last}
+use Rattle.profile_machine.specs.Tasks.{time_last}
 use Rattle.ann_base.specs.declared.exceptions.Raised.TheVariants as raised
 use Rattle.profile_machine.specs.declared.values.Value.TheVariants as value
 use Rattle.profile_machine.specs.declared.values.Constraint.{Constraint}
@@ -104,13 +106,13 @@ abbrev pub integers : ℤ → ℤ → Predefined
 integers low high = items.Mark (subtype_with types.Integer (constraint.Whole low high))
 
 abbrev pub whole_integer : Subtype
-whole_integer = subtype_with types.Integer (constraint.Whole (negsuc 2147483647) (pos 2147483647))
+whole_integer = subtype_with types.Integer (constraint.Whole integer_first integer_last)
 
 abbrev pub whole_boolean : Subtype
 whole_boolean = subtype_with types.Boolean (constraint.Truth false true)
 
 abbrev pub whole_duration : Subtype
-whole_duration = subtype_with types.Duration (constraint.Ticks (negsuc 4611686018427387903) (pos 4611686018427387903))
+whole_duration = subtype_with types.Duration (constraint.Ticks time_first time_last)
 
 -- ---- what each unit declares, where the last Priority is given
 
@@ -119,7 +121,7 @@ default_priority last = cond (eqb last 97) 48 15
 
 unfoldable pub declared_in_standard : List (List ℕ × Predefined)
 declared_in_standard =
-    (codes "integer", items.Mark whole_integer) ∷ (codes "natural", integers (pos 0) (pos 2147483647)) ∷ (codes "positive", integers (pos 1) (pos 2147483647))
+    (codes "integer", items.Mark whole_integer) ∷ (codes "natural", integers (pos 0) integer_last) ∷ (codes "positive", integers (pos 1) integer_last)
     ∷ (codes "boolean", items.Mark whole_boolean) ∷ (codes "false", items.Truth false) ∷ (codes "true", items.Truth true)
     ∷ (codes "duration", items.Mark whole_duration) ∷ (codes "constraint_error", items.Exception raised.Constraint)
     ∷ (codes "program_error", items.Exception raised.Program) ∷ (codes "storage_error", items.Exception raised.Storage)
@@ -137,7 +139,7 @@ declared_in_text_io = (codes "put_line", items.Operation operations.PutLine) ∷
 unfoldable pub declared_in_real_time : List (List ℕ × Predefined)
 declared_in_real_time =
     (codes "time", free types.Time) ∷ (codes "time_span", free types.TimeSpan) ∷ (codes "time_first", items.Constant types.Time (value.Ticks (pos 0)))
-    ∷ (codes "time_last", items.Constant types.Time (value.Ticks (pos 4611686018427387903)))
+    ∷ (codes "time_last", items.Constant types.Time (value.Ticks time_last))
     ∷ (codes "time_span_zero", items.Constant types.TimeSpan (value.Ticks (pos 0))) ∷ (codes "clock", items.Operation operations.Clock)
     ∷ (codes "microseconds", items.Operation operations.Microseconds) ∷ (codes "milliseconds", items.Operation operations.Milliseconds)
     ∷ (codes "seconds", items.Operation operations.Seconds) ∷ (codes "minutes", items.Operation operations.Minutes)

@@ -56,18 +56,25 @@ negated (value.Ticks n) = value.Ticks (neg_ℤ n)
 negated (value.Task t) = value.Task t
 negated (value.Thing n) = value.Thing n
 
+-- the last Integer, and the last value of Duration in ticks; the first of each is one further below 0
+abbrev pub last_integer : ℕ
+last_integer = 2147483647
+
+abbrev pub last_duration : ℕ
+last_duration = 4611686018427387903
+
 -- a literal, or its negative, that lies in Integer (3.5.4) or in Duration (9.6); one that does not is refused itself
 abbrev pub in_integer : ℕ → Option Value
-in_integer n = cond (leb n 2147483647) (Some (value.Whole (pos n))) None
+in_integer n = cond (leb n last_integer) (Some (value.Whole (pos n))) None
 
 abbrev pub in_duration : ℕ → Option Value
-in_duration n = cond (leb n 4611686018427387903) (Some (value.Ticks (pos n))) None
+in_duration n = cond (leb n last_duration) (Some (value.Ticks (pos n))) None
 
 abbrev pub negative_in_integer : ℕ → Option Value
-negative_in_integer n = cond (leb n 2147483648) (Some (value.Whole (neg_ℤ (pos n)))) None
+negative_in_integer n = cond (leb n (last_integer + 1)) (Some (value.Whole (neg_ℤ (pos n)))) None
 
 abbrev pub negative_in_duration : ℕ → Option Value
-negative_in_duration n = cond (leb n 4611686018427387904) (Some (value.Ticks (neg_ℤ (pos n)))) None
+negative_in_duration n = cond (leb n (last_duration + 1)) (Some (value.Ticks (neg_ℤ (pos n)))) None
 
 unfoldable pub static_literal : List ℕ → Option Value
 static_literal literal = cond (nothing_there (decimals_of literal)) (in_integer (whole_of literal)) (in_duration (micros_of literal))

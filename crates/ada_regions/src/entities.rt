@@ -8,7 +8,7 @@ use profile_machine::{
 };
 
 /// What a name denotes.
-#[derive(Clone, Copy, PartialEq, Eq)]
+#[derive(Clone, Copy)]
 pub enum Denoted {
     /// An entity that the source declares, by its number in the order of the declarations.
     Entity(u32),
@@ -44,7 +44,7 @@ pub enum UnitKind {
 }
 
 /// Of which objects something is a component.
-#[derive(Clone, Copy, PartialEq, Eq)]
+#[derive(Clone, Copy)]
 pub enum ComponentOwner {
     /// Those of a protected unit (9.4).
     Protected(ProtectedUnitNo),

@@ -1,9 +1,10 @@
-//! What the names of a source denote (ISO/IEC 8652:2012, clause 8): the plain data of declared entities and of the table
-//! that a source gives, and, in `specs/`, the definitions of regions, visibility and that table.
+//! What the names of a source denote (ISO/IEC 8652:2012, clause 8): the plain data of declared entities, of the
+//! occurrences of names and of the table that a source gives, and, in `specs/`, the definitions of regions, visibility and that table.
 #![tactic(auto)]
 
 mod entities;
 mod faults;
+mod occurrences;
 mod parts;
 mod predefined;
 mod table;
@@ -11,6 +12,7 @@ mod types;
 
 pub use entities::{ComponentOwner, Denoted, Entity, EntityKind, Sought, UnitKind};
 pub use faults::NameFault;
+pub use occurrences::{Occurrence, Occurrences};
 pub use parts::{AspectsOf, ExpressionOf};
 pub use predefined::{Operation, Predefined, PredefinedUnit};
 pub use table::{

@@ -4,7 +4,7 @@ use ann_base::Raised;
 use profile_machine::Value;
 
 /// A predefined library unit of the profile.
-#[derive(Clone, Copy, PartialEq, Eq)]
+#[derive(Clone, Copy)]
 pub enum PredefinedUnit {
     /// Standard (A.1).
     Standard,
@@ -41,7 +41,7 @@ pub enum PredefinedUnit {
 }
 
 /// A predefined subprogram.
-#[derive(Clone, Copy, PartialEq, Eq)]
+#[derive(Clone, Copy)]
 pub enum Operation {
     /// Ada.Text_IO.Put_Line (A.10.7).
     PutLine,
@@ -108,7 +108,7 @@ pub enum Operation {
 }
 
 /// What a name of a predefined unit denotes.
-#[derive(Clone, Copy, PartialEq, Eq)]
+#[derive(Clone, Copy)]
 pub enum Predefined {
     /// A type or a subtype.
     Mark(Subtype),

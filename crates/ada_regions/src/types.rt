@@ -2,7 +2,7 @@
 use profile_machine::{Constraint, ControlledNo, EnumerationNo, ProtectedUnitNo, TaskUnitNo, Text};
 
 /// A type of the profile (3.2).
-#[derive(Clone, Copy, PartialEq, Eq)]
+#[derive(Clone, Copy)]
 pub enum AdaType {
     /// Integer (3.5.4).
     Integer,
@@ -41,7 +41,7 @@ pub enum AdaType {
 }
 
 /// A type with a range of its values (3.2.2, 3.5).
-#[derive(Clone, Copy, PartialEq, Eq)]
+#[derive(Clone, Copy)]
 pub struct Subtype {
     /// The type.
     pub of_type: AdaType,
@@ -50,7 +50,7 @@ pub struct Subtype {
 }
 
 /// An array type (3.6).
-#[derive(Clone, Copy, PartialEq, Eq)]
+#[derive(Clone, Copy)]
 pub struct ArrayType {
     /// The range of its index.
     pub index: Constraint,
@@ -59,7 +59,7 @@ pub struct ArrayType {
 }
 
 /// A mode of a formal parameter (6.1).
-#[derive(Clone, Copy, PartialEq, Eq)]
+#[derive(Clone, Copy)]
 pub enum Mode {
     In,
     Out,

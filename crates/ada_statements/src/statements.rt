@@ -9,9 +9,8 @@ ghost use Rattle.ada_statements.specs.Inside.{ReadsInside};
 ghost use Rattle.ada_grammar.specs.ReadingStatements.{accept_body_of, accept_of, begin_of, begins_block, begins_compound, begins_loop, begins_simple, begins_statement, block_end_of, block_of, case_alternative_of, case_alternatives_of, case_of, compound_of, declare_of, else_of, elsif_of, if_of, labelled_of, loop_of, named_statement_of, optional_statements_of, sees_label, simple_statement_of, statement_inside_of};
 ghost use Rattle.ada_grammar.specs.ReadingSequences.{inside_of, sequence_of};
 
-use ada_expressions::expression;
+use ada_expressions::{expression, parameters};
 use ada_grammar::{Cursor, Stuck};
-use ada_indications::parameters;
 use ada_simple_statements::{
     abort_statement, choice, delay, exit_statement, iteration, label_end, null_statement,
     raise_statement, requeue_statement, return_statement, simple_statement,

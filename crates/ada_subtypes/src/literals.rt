@@ -6,13 +6,13 @@ ghost use Rattle.ada_regions.specs.Statics.{digit_at, six_digits, micros_of, in_
 
 use ada_lex::{decimals, whole_value};
 use ann_base::Moment;
-use profile_machine::Value;
+use profile_machine::{TIME_LAST, Value};
 
 /// The last Integer (3.5.4; this profile's choice).
-const LAST_INTEGER: u128 = 2_147_483_647;
+pub const LAST_INTEGER: u128 = i32::MAX as u128;
 
 /// The last value of Duration, in ticks (9.6; this profile's choice).
-const LAST_DURATION: u128 = 4_611_686_018_427_387_903;
+pub const LAST_DURATION: u128 = TIME_LAST as u128;
 
 /// The digit at a place behind the point; 0 where none stands there.
 fn digit_at(digits: &[u8], place: usize) -> u64

@@ -6,7 +6,7 @@ use ann_base::Place;
 
 /// Why a source is refused. Each has a letter and a number, which are printed: F for the form of a source, L for its
 /// legality.
-#[derive(Clone, Copy, PartialEq, Eq)]
+#[derive(Clone, Copy)]
 pub enum Code {
     /// F1: a byte that no token, separator or comment has there (2.1, 2.2).
     BadByte,
@@ -69,7 +69,7 @@ impl Code {
 }
 
 /// A refusal of a source: its reason, and the place where it stands.
-#[derive(Clone, Copy, PartialEq, Eq)]
+#[derive(Clone, Copy)]
 pub struct Refusal {
     pub place: Place,
     pub code: Code,

@@ -11,19 +11,19 @@ pub struct Slot(pub u16);
 pub const SLOTS: usize = 257;
 
 /// A task, numbered in order of creation; 0 is the environment task (ISO/IEC 8652:2012, 10.2).
-#[derive(Clone, Copy, Debug, PartialEq, Eq, PartialOrd, Ord)]
+#[derive(Clone, Copy, PartialEq, Eq)]
 pub struct TaskNo(pub u32);
 
 /// An entry call, numbered from 1 in the order in which calls are made (9.5.3).
-#[derive(Clone, Copy, PartialEq, Eq, PartialOrd, Ord)]
+#[derive(Clone, Copy, PartialEq, Eq)]
 pub struct CallNo(pub u32);
 
 /// A protected object, numbered from 1 in order of creation (9.4).
-#[derive(Clone, Copy, PartialEq, Eq, PartialOrd, Ord)]
+#[derive(Clone, Copy, PartialEq, Eq)]
 pub struct ObjectNo(pub u32);
 
 /// The region of a kept scope, numbered from 1 in the order in which such scopes begin (7.6.1, 9.3).
-#[derive(Clone, Copy, PartialEq, Eq, PartialOrd, Ord)]
+#[derive(Clone, Copy, PartialEq, Eq)]
 pub struct RegionNo(pub u32);
 
 /// A moment or a span of virtual time, in ticks of one microsecond.

@@ -4,11 +4,10 @@
 
 mod whole;
 
-use commands::Outcome;
+use commands::{Outcome, conclude};
 use outside_host::{HostShelf, HostSink};
 use std::process::ExitCode;
 use std::{env, io};
-use table_commands::conclude;
 use whole::top;
 
 /// Passes the words behind the program's name to `top`, with the host's files and streams. Words that are not UTF-8 are

@@ -11,6 +11,7 @@ ghost use Rattle.commands.specs.Statuses.{Headline, HeadlineUnder, LoadTold, Acc
 
 use ann_base::{Shelf, Sink};
 use ceiling_places::runs_keep_the_law_of_ceilings;
+use commands::conclude;
 use exit_laws::runs_keep_exclusion;
 use handler_laws::runs_keep_handlers;
 use leaving_laws::runs_leave_rightly;
@@ -18,7 +19,6 @@ use machine_laws::dispatching::runs_dispatch;
 use policy_laws::deadlines_are_below_interrupts;
 use run_commands::perform;
 use std::alloc::Global;
-use table_commands::conclude;
 use tick_lines::{
     runs_are_in_tick_order, runs_are_rightly_stuck, runs_release_in_order, runs_switch,
 };

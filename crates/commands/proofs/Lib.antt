@@ -8,3 +8,6 @@ pub mod TracesTold
 pub mod DoneTold
 pub mod FaultsTold
 pub mod Told
+pub mod NoteTexts
+pub mod ResponseLines
+pub mod WordTexts

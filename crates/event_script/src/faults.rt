@@ -11,7 +11,7 @@ pub const SCRIPT_BYTES: usize = 8_388_608;
 pub const MOST_ITEMS: usize = 100_000;
 
 /// The last tick at which an item comes, and the longest period.
-pub const LAST_TICK: u32 = 1_000_000_000;
+pub const LAST_TICK: u32 = trace_text::LAST_TICK as u32;
 
 /// The highest number of an interrupt, and of a port.
 pub const MOST_NUMBER: u32 = 15;

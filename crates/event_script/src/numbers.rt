@@ -6,8 +6,8 @@ ghost use Rattle.event_script.specs.declared.faults.TheConstants.{LAST_TICK, MOS
 use crate::faults::{LAST_TICK, MOST_NUMBER, ScriptFaultKind};
 use text_lines::{is_numeral, number_in};
 
-/// The greatest value of a port.
-const MOST_VALUE: u32 = 2_147_483_647;
+/// The greatest value of a port, which is the last Integer.
+const MOST_VALUE: u32 = i32::MAX as u32;
 
 /// The tick that a word is.
 pub fn tick_in(word: &[u8]) -> Option<u32>

@@ -11,12 +11,12 @@ ghost use Rattle.ada_image.specs.ImageOfProcedures.{formal_is, is_called, moment
 
 use crate::handlers::handler_of;
 use crate::procedures::thing_of;
+use crate::typing::is_span;
 use ada_image::{Lists, Within};
 use ada_tree::{Argument, Expression, Identifier};
 use ann_base::NoMemory;
 use image_actuals::value_or_none;
 use image_layout::{action_put, argument_from};
-use image_types::is_span;
 use profile_machine::{ExprNo, Setting, StatementForm, StatementNo};
 
 fn formal_is(name: &[u8], formal: &Option<Identifier>) -> bool

@@ -1,2 +1,4 @@
 pub mod Drops
 pub mod Parts
+pub mod Before
+pub mod OneByOne

@@ -4,13 +4,13 @@ ghost use Rattle.ada_image.specs.Made.{Made};
 ghost use Rattle.ada_regions.specs.PredefinedUnits.{default_priority};
 ghost use Rattle.ada_image.specs.ImageOfUnits.{all_made, main_of, program_with, program_from};
 
+use crate::declarations::declarations_made;
 use crate::elaboration::actions_made;
 use ada_entities::copy;
 use ada_image::{Lists, MadeLists, Within};
 use ada_regions::Names;
 use ada_tree::Unit;
 use ann_base::{Level, NoMemory};
-use image_declarations::declarations_made;
 use image_layout::{enumerations_made, nothing_made, outermost};
 use image_policies::policies_of;
 use image_scopes::{scope_no, scopes_made, subprograms_made};

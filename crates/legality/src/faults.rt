@@ -4,17 +4,16 @@ ghost use Rattle.ada_legality.specs.Faults.{faults_where, first_fault_in, found_
 ghost use Rattle.ada_legality.specs.Units.{known_with, units_found};
 ghost use Rattle.legality.specs.Behind.{found_behind};
 
+use crate::units::units_found;
 use ada_legality::{Fault, Finding, InForce};
 use ada_occurrences::occurrences_of;
-use ada_regions::{AdaType, Names};
+use ada_regions::{AdaType, Names, Occurrences};
 use ada_tree::Unit;
 use ann_base::NoMemory;
 use legality_beside::{first_fault_in, found_beside, packages_judged};
+use legality_contexts::{indexes_of, known_with};
 use legality_pragmas::{deadline_ranges_of, in_force_by, pragmas_judged};
-use legality_sources::legality_contexts::{indexes_of, known_with};
-use legality_sources::units_found;
 use legality_units::units_used;
-use occurrence_lists::Occurrences;
 use profile_machine::Sequence;
 use std::alloc::Global;
 use world_tables::List;

@@ -7,7 +7,7 @@ use crate::findings::before_place;
 use ada_entities::same_place;
 use ada_legality::{Attached, Finding, ProtectedObject, Rule};
 use ann_base::{NoMemory, Place};
-use legality_numbers::same_number;
+use legality_choices::same_number;
 use legality_types::broken_if;
 use world_tables::List;
 

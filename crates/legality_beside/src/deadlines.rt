@@ -6,7 +6,7 @@ ghost use Rattle.ada_legality.specs.WholeSource.{lies_in_range, is_lowest, has_a
 use crate::attached::has_attached;
 use ada_legality::{Ceiling, DeadlineRange, Finding, Rule};
 use ann_base::NoMemory;
-use legality_numbers::same_number;
+use legality_choices::same_number;
 use legality_types::{broken_if, broken_unless};
 use world_tables::List;
 

@@ -3,6 +3,7 @@ ghost use Rattle.std.specs.Prelude.{◌≡◌, ◌++◌, OnOk};
 ghost use Rattle.ada_legality.specs.Declarations.{entry_body_found, subprogram_body_found, task_body_found};
 
 use crate::sequences::WithDeclarations;
+use crate::units::{protected_found, task_found};
 use ada_entities::entity_denoted;
 use ada_legality::{Around, BodyKind, Finding, IndicationUse, Known};
 use ada_regions::UnitKind;
@@ -13,13 +14,13 @@ use ann_base::NoMemory;
 use legality_compounds::{Judge, judge_each};
 use legality_declarations::legality_entities::with_around;
 use legality_declarations::legality_parts::{indication_found, parameters_found};
-use legality_declarations::legality_subprograms::{
+use legality_declarations::{
+    barrier_found, definition_found, entry_body_judged, object_found, unit_body_judged, unit_here,
+    use_found,
+};
+use legality_subprograms::{
     specification_found, subprogram_body_judged, subprogram_found, subprogram_here,
     unit_of_operation,
-};
-use legality_declarations::{
-    barrier_found, definition_found, entry_body_judged, object_found, protected_found, task_found,
-    unit_body_judged, unit_here, use_found,
 };
 use std::alloc::Global;
 use world_tables::List;

@@ -35,7 +35,7 @@ impl Judge<WithDeclarations> for Sequence {
 
     ghost judged = { sequence_found };
 
-    #[tactic(auto, using(crate::proofs::SequenceFolds::sequence_finds))]
+    #[tactic(auto, using(ada_legality::proofs::SequenceFolds::sequence_finds))]
     fn judge(
         &self,
         alloc: Global,

@@ -9,9 +9,8 @@ use ada_legality::{Asked, ChoicePart, Finding, Known, Read, Rule, Span, Typed};
 use ada_regions::AdaType;
 use ada_tree::{Choice, Expression, OneOrMore};
 use ann_base::{NoMemory, Place};
-use legality_parts::legality_choices::{others_not_last, wrong_choices};
+use legality_parts::legality_choices::{others_not_last, static_number, wrong_choices};
 use legality_parts::legality_expressions::Readable;
-use legality_parts::legality_numbers::static_number;
 use legality_parts::legality_reads::{
     call_inside, expected, integer_literal, is_discrete_or_refused, literal_in,
     other_pointed_literal,

@@ -3,6 +3,7 @@ ghost use Rattle.std.specs.Prelude.{◌≡◌, ◌++◌, ◌∷◌, ◌≤◌, [
 ghost use Rattle.ada_legality.specs.Aspects.{asks_cpu, asks_priority, attached_as, has_point, wrong_priority, wrong_cpu, is_span_or_refused, is_deadline, wrong_deadline, wrong_interrupt, priority_judged, attachment_noted, interrupt_judged, aspect_judged, aspects_from};
 ghost use Rattle.legality_choices.specs.OneByOne.{aspects_along};
 
+use crate::lies_between;
 use crate::owners::{
     asks_cpu, asks_priority, attaches_again, attaches_to, is_attach_name, is_cpu_name,
     is_deadline_name, is_priority_name, is_task_owner, may_have_aspect,
@@ -13,7 +14,6 @@ use crate::priorities::{
 use ada_legality::{AspectOwner, AspectPart, Attached, Finding, Rule, Typed};
 use ada_regions::AdaType;
 use ann_base::{NoMemory, Place};
-use legality_numbers::lies_between;
 use legality_types::{broken_if, broken_unless, fits, has_type, is_pointed, note};
 use world_tables::List;
 

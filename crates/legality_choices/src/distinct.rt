@@ -3,9 +3,9 @@ ghost use Rattle.std.specs.Prelude.{◌≡◌, ◌++◌, [], None, OnOk};
 ghost use Rattle.ada_legality.specs.Choices.{kept_range, meets_before, others_not_last, repeated_choices};
 ghost use Rattle.legality_choices.specs.OneByOne.{others_behind, others_here, others_place, repeated_along};
 
+use crate::meet;
 use ada_legality::{ChoicePart, Finding, Rule, Span};
 use ann_base::{NoMemory, Place};
-use legality_numbers::meet;
 use legality_types::broken_if;
 use std::alloc::Global;
 use world_tables::List;

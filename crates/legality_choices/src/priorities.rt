@@ -2,10 +2,10 @@
 ghost use Rattle.std.specs.Prelude.{◌≡◌, ◌&&◌, find, option_copied};
 ghost use Rattle.ada_legality.specs.Aspects.{is_attach_name, is_cpu_name, is_deadline_name, is_priority_name, is_priority_value, stands_before_in, priority_aspect, stated_value, place_of_priority, level_named, is_plain_priority, is_interrupt_priority, stated_level, is_other_ceiling};
 
+use crate::lies_between;
 use crate::owners::{is_attach_name, is_cpu_name, is_deadline_name, is_priority_name};
 use ada_legality::{AspectName, AspectPart};
 use ann_base::Place;
-use legality_numbers::lies_between;
 
 /// The value of a priority's aspect is one of its subtype.
 #[tactic(auto, unfolding(ada_legality::specs::Aspects::is_priority_value))]

@@ -2,9 +2,9 @@
 ghost use Rattle.std.specs.Prelude.{◌≡◌, ◌-◌, [], length, pos, slice_get, unwrap_or};
 ghost use Rattle.ada_legality.specs.Choices.{whole_range_of, range_typed};
 
+use crate::{ends_of, span};
 use ada_legality::{Span, Typed};
 use ada_regions::{AdaType, Names};
-use legality_numbers::{ends_of, span};
 
 /// The last position of an enumeration type.
 fn last_literal(names: &Names<'_>, enumeration: usize) -> i128
@@ -23,7 +23,7 @@ pub fn whole_range_of(names: &Names<'_>, t: AdaType) -> Span
     ensures { result ≡ whole_range_of names.now t }
 {
     match t {
-        AdaType::Integer => span(-2_147_483_648, 2_147_483_647),
+        AdaType::Integer => span(i128::from(i32::MIN), i128::from(i32::MAX)),
         AdaType::Boolean => span(0, 1),
         AdaType::Enumeration(enumeration) => {
             span(0, last_literal(names, enumeration.0 as usize))

@@ -1,17 +1,16 @@
 //! The types of the indexes of array types (ISO/IEC 8652:2012, 3.6): each array type stands behind those that its bounds name.
 ghost use Rattle.std.specs.Prelude.{◌≡◌, IfOk, OnOk, map};
-ghost use Rattle.occurrence_lists.specs.Shown.{occurrence_shown};
+ghost use Rattle.ada_regions.specs.Shown.{occurrence_shown};
 ghost use Rattle.ada_legality.specs.Units.{indexes_of, known_with, type_between};
 ghost use Rattle.legality_contexts.specs.Along.{index_put, indexes_along};
 
 use ada_image::NamesOf;
 use ada_legality::{InForce, IndexesOf, Known, OccurrencesOf};
-use ada_regions::{AdaType, Names};
+use ada_regions::{AdaType, Names, Occurrence, Occurrences};
 use ada_tree::Expression;
 use ann_base::NoMemory;
 use legality_declarations::legality_expressions::typed_expression;
 use legality_declarations::legality_types::type_of_bounds;
-use occurrence_lists::{Occurrence, Occurrences};
 use std::alloc::Global;
 use world_tables::List;
 

@@ -6,7 +6,7 @@ ghost use Rattle.ada_legality.specs.Declarations.{component_found, components_fo
 use ada_legality::{Finding, IndicationUse, Known};
 use ada_tree::{Component, OneOrMore};
 use ann_base::NoMemory;
-use legality_subprograms::legality_parts::{indication_found, type_of_mark, value_found_if};
+use legality_parts::{indication_found, type_of_mark, value_found_if};
 use std::alloc::Global;
 use world_tables::List;
 
@@ -71,7 +71,7 @@ fn protected_component_found(
 }
 
 /// The components of a protected unit.
-pub(crate) fn protected_components_found(
+pub fn protected_components_found(
     alloc: Global,
     found: &mut List<Finding>,
     known: &Known<'_, '_>,

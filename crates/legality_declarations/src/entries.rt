@@ -8,9 +8,9 @@ ghost use Rattle.ada_legality.specs.Declarations.{entries_judged, entries_noted,
 use ada_legality::{BodyKind, Finding, InForce, Known, Rule};
 use ada_tree::{EntryDeclaration, ProtectedOperation, TaskDefinition};
 use ann_base::NoMemory;
-use legality_subprograms::legality_parts::parameters_found;
-use legality_subprograms::legality_profiles::declaration_noted;
-use legality_subprograms::legality_types::broken_if;
+use legality_parts::legality_types::broken_if;
+use legality_parts::parameters_found;
+use legality_profiles::declaration_noted;
 use profile_machine::Sequence;
 use std::alloc::Global;
 use std::marker::Model;
@@ -18,7 +18,7 @@ use world_tables::List;
 
 /// An entry declaration of the tree. Contracts see the declaration.
 #[derive(Drop)]
-pub(crate) struct EntryOf<'t> {
+pub struct EntryOf<'t> {
     entry: &'t EntryDeclaration,
 }
 
@@ -64,7 +64,7 @@ fn add_entries<'t>(
 }
 
 /// The entries of a task's definition.
-pub(crate) fn entries_of_definition<'t>(
+pub fn entries_of_definition<'t>(
     alloc: Global,
     definition: &'t Option<TaskDefinition>,
 ) -> Result<Sequence<EntryOf<'t>>, NoMemory>
@@ -97,7 +97,7 @@ fn add_operation<'t>(
 }
 
 /// The entries among operations.
-pub(crate) fn entries_of_operations<'t>(
+pub fn entries_of_operations<'t>(
     alloc: Global,
     operations: &'t [ProtectedOperation],
 ) -> Result<Sequence<EntryOf<'t>>, NoMemory>
@@ -111,7 +111,7 @@ pub(crate) fn entries_of_operations<'t>(
 }
 
 /// An entry declaration.
-pub(crate) fn entry_found(
+pub fn entry_found(
     alloc: Global,
     found: &mut List<Finding>,
     known: &Known<'_, '_>,
@@ -124,7 +124,7 @@ pub(crate) fn entry_found(
 }
 
 /// All entry declarations.
-pub(crate) fn entries_found(
+pub fn entries_found(
     alloc: Global,
     found: &mut List<Finding>,
     known: &Known<'_, '_>,
@@ -248,7 +248,7 @@ fn beyond_restriction(
 
 /// The entries of a unit: 64 at most (this profile's own).
 #[tactic(auto, unfolding(ada_legality::specs::Declarations::entries_judged))]
-pub(crate) fn entries_judged(
+pub fn entries_judged(
     found: &mut List<Finding>,
     known: &Known<'_, '_>,
     of_task: bool,

@@ -11,13 +11,12 @@ use ada_legality::{Asked, BodyKind, Finding, Known, Read, Rule, Shape, UnitAroun
 use ada_regions::{AdaType, UnitKind};
 use ada_tree::{EntryHead, Expression, Identifier, Name, Parameter};
 use ann_base::NoMemory;
-use legality_subprograms::legality_entities::is_unit_name;
-use legality_subprograms::legality_expressions::Readable;
-use legality_subprograms::legality_names::is_own_entry;
-use legality_subprograms::legality_profiles::{body_noted, entry_body_profile_judged};
-use legality_subprograms::legality_reads::expected;
-use legality_subprograms::legality_types::{broken_if, broken_unless};
-use legality_subprograms::legality_values::place_of;
+use legality_parts::legality_entities::is_unit_name;
+use legality_parts::legality_expressions::{Readable, place_of};
+use legality_parts::legality_names::is_own_entry;
+use legality_parts::legality_reads::expected;
+use legality_parts::legality_types::{broken_if, broken_unless};
+use legality_profiles::{body_noted, entry_body_profile_judged};
 use std::alloc::Global;
 use world_tables::List;
 

@@ -10,14 +10,12 @@ use ada_legality::{Finding, IndicationUse, Known, ProtectedObject, Rule};
 use ada_regions::AdaType;
 use ada_tree::{Constraint as Indicated, Identifier, ObjectDeclaration, OneOrMore};
 use ann_base::{NoMemory, Place};
-use legality_subprograms::legality_entities::entity_of_name;
-use legality_subprograms::legality_names::is_library_entity;
-use legality_subprograms::legality_parts::{
-    cells_noted, indication_found, type_of_mark, value_alone_found_if,
-};
-use legality_subprograms::legality_types::{
+use legality_parts::legality_entities::entity_of_name;
+use legality_parts::legality_names::is_library_entity;
+use legality_parts::legality_types::{
     broken_if, has_no_values, is_event_timer_or_budget, is_task_id, is_timer, note,
 };
+use legality_parts::{cells_noted, indication_found, type_of_mark, value_alone_found_if};
 use std::alloc::Global;
 use world_tables::List;
 
@@ -33,7 +31,7 @@ fn protected_number(t: AdaType) -> Option<u32>
 
 /// The protected unit of which an identifier is an object or the type.
 #[tactic(auto, unfolding(ada_legality::specs::Declarations::protected_unit_of_name))]
-pub(crate) fn protected_unit_of_name(known: &Known<'_, '_>, name: &Identifier) -> Option<u32>
+pub fn protected_unit_of_name(known: &Known<'_, '_>, name: &Identifier) -> Option<u32>
     ensures { result ≡ protected_unit_of_name known.now name.now }
 {
     match type_of_identifier(known, name) {
@@ -44,7 +42,7 @@ pub(crate) fn protected_unit_of_name(known: &Known<'_, '_>, name: &Identifier) -
 
 /// An object, where it is a protected one.
 #[tactic(auto, unfolding(ada_legality::specs::Declarations::protected_noted))]
-pub(crate) fn protected_noted(
+pub fn protected_noted(
     found: &mut List<Finding>,
     known: &Known<'_, '_>,
     single: bool,

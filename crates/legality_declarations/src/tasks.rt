@@ -9,10 +9,8 @@ use ada_regions::{AdaType, Names, NumberedEntry};
 use ada_tree::Identifier;
 use ann_base::{NoMemory, Place};
 use image_layout::same_entry_unit;
-use legality_subprograms::legality_entities::{
-    is_library_object, kind_of_identifier, type_of_unit_kind,
-};
-use legality_subprograms::legality_types::{broken_if, is_task_unit};
+use legality_parts::legality_entities::{is_library_object, kind_of_identifier, type_of_unit_kind};
+use legality_parts::legality_types::{broken_if, is_task_unit};
 use profile_machine::EntryUnit;
 use world_tables::List;
 
@@ -113,7 +111,7 @@ pub(crate) fn task_judged(
 }
 
 /// A single task is an object.
-pub(crate) fn single_task_judged(
+pub fn single_task_judged(
     found: &mut List<Finding>,
     known: &Known<'_, '_>,
     name: &Identifier,

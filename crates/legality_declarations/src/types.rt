@@ -10,13 +10,12 @@ use ada_regions::AdaType;
 use ada_subtypes::mark_denoted;
 use ada_tree::{Component, Expression, Name, OneOrMore, SubtypeIndication, TypeDefinition};
 use ann_base::{NoMemory, Place};
-use legality_subprograms::legality_expressions::Readable;
-use legality_subprograms::legality_numbers::static_number;
-use legality_subprograms::legality_parts::{bounds_judged, indication_found, type_of_mark};
-use legality_subprograms::legality_types::{
+use legality_parts::legality_choices::static_number;
+use legality_parts::legality_expressions::{Readable, place_of};
+use legality_parts::legality_types::{
     broken_if, broken_unless, is_root_controlled, is_scalar, type_of_bounds,
 };
-use legality_subprograms::legality_values::place_of;
+use legality_parts::{bounds_judged, indication_found, type_of_mark};
 use std::alloc::Global;
 use world_tables::List;
 

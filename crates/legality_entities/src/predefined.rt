@@ -2,8 +2,8 @@
 ghost use Rattle.std.specs.Prelude.{◌≡◌};
 ghost use Rattle.ada_legality.specs.Values.{is_function_operation, type_of_constant, operation_of, operation_denoted, constant_type, is_predefined_constant};
 
+use ada_image::type_of_operation;
 use ada_regions::{AdaType, Denoted, Operation, Predefined};
-use operation_types::type_of_operation;
 
 /// A predefined function.
 pub fn is_function_operation(operation: Operation) -> bool

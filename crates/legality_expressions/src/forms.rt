@@ -7,7 +7,12 @@ use crate::attributed::{attribute_judged, attribute_read};
 use crate::chains::{
     adding_expression, logical_expression, multiplying_expression, relational_expression,
 };
+use crate::legality_reads::{
+    bracketed_read, call_inside, highest_read, number_read, operation_of_one_judged, plain_read,
+    signed_judged, signed_read, text_read,
+};
 use crate::readable::{Readable, operand_read};
+use crate::{name_judged, name_read};
 use ada_entities::copy;
 use ada_legality::{ActualPart, Finding, Known, Read, Typed};
 use ada_tree::{
@@ -16,11 +21,6 @@ use ada_tree::{
 };
 use ann_base::{NoMemory, Place};
 use image_layout::highest_operator;
-use legality_values::legality_reads::{
-    bracketed_read, call_inside, highest_read, number_read, operation_of_one_judged, plain_read,
-    signed_judged, signed_read, text_read,
-};
-use legality_values::{name_judged, name_read};
 use profile_machine::{Sequence, Text};
 use std::alloc::Global;
 use world_tables::List;

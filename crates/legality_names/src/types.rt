@@ -7,6 +7,7 @@ ghost use Rattle.ada_legality.specs.declared.reading.Typed.TheVariants as typing
 ghost use Rattle.ada_legality.specs.Values.{denotes_value, denotes_object, denotes_function, denotes_procedure, component_subtype, subtype_with_index, unless_index, typed_constant, typed_value, result_of_kind, typed_operation_call, typed_call, typed_denoted, typed_name};
 
 use ada_entities::denoted_by;
+use ada_image::type_of_operation;
 use ada_legality::{Known, Typed};
 use ada_regions::{AdaType, Denoted, EntityKind, Names, Operation, PredefinedUnit, Subtype};
 use ada_tree::Name;
@@ -17,7 +18,6 @@ use legality_entities::{
     operation_of, subtype_of_entity, type_of_constant,
 };
 use legality_types::{typed_as, typed_by, typed_if};
-use operation_types::type_of_operation;
 use profile_machine::Constraint;
 
 /// An object, a literal or a constant.

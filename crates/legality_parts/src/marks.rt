@@ -10,13 +10,12 @@ use ada_regions::AdaType;
 use ada_subtypes::indicated_subtype;
 use ada_tree::{Constraint as Indicated, Name, Parameter, SubtypeIndication};
 use ann_base::NoMemory;
-use legality_expressions::is_unclear_mark;
 use legality_expressions::legality_entities::kind_of_name;
 use legality_expressions::legality_types::{
     broken_if, broken_unless, has_ranges, is_controlled_type, is_event_timer_or_budget,
     is_root_controlled, is_scalar, is_scalar_or_array, is_timer,
 };
-use legality_expressions::legality_values::place_of;
+use legality_expressions::{is_unclear_mark, place_of};
 use std::alloc::Global;
 use world_tables::List;
 

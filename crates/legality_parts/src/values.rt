@@ -7,10 +7,10 @@ use ada_legality::{Asked, Finding, Known, Read, Rule};
 use ada_regions::AdaType;
 use ada_tree::Expression;
 use ann_base::{NoMemory, Place};
+use legality_choices::{number_of_expression, static_number};
 use legality_expressions::Readable;
 use legality_expressions::legality_reads::{expected, fitted};
 use legality_expressions::legality_types::{broken_if, broken_unless, has_ranges};
-use legality_numbers::{number_of_expression, static_number};
 use std::alloc::Global;
 use world_tables::List;
 

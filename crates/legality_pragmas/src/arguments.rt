@@ -17,7 +17,7 @@ use ada_tree::{
     Argument, Attribute, AttributeDesignator, Expression, ExpressionForm, Identifier, Name, Sign,
 };
 use ann_base::NoMemory;
-use legality_numbers::ends_of;
+use legality_choices::ends_of;
 use profile_machine::Constraint;
 
 /// The word that a name without a point is.

@@ -13,7 +13,7 @@ use ada_legality::{Finding, Rule, Span};
 use ada_predefined::last_priority_of;
 use ada_tree::Pragma;
 use ann_base::NoMemory;
-use legality_numbers::{meet, span};
+use legality_choices::{meet, span};
 use legality_types::broken_if;
 use world_tables::List;
 

@@ -1,5 +1,6 @@
 //! Pragmas of the profile, with their arguments (ISO/IEC 8652:2012, 2.8, 13.12, D.2.2, D.3, D.4, D.7).
 ghost use Rattle.std.specs.Prelude.{◌≡◌, ◌&&◌, pos, IfOk};
+ghost use Rattle.profile_machine.specs.Operators.{integer_last};
 ghost use Rattle.std.specs.List.{list_all, list_any};
 ghost use Rattle.std.specs.Str.{bytes_eq};
 ghost use Rattle.ada_regions.specs.Words.{all_of};
@@ -37,11 +38,11 @@ fn is_limiting(word: &[u8]) -> bool
 
 /// Whether a number that is known is one that limits.
 fn is_limit(number: Option<i128>) -> bool
-    ensures { result ≡ lies_between (pos 0) (pos 2147483647) number }
+    ensures { result ≡ lies_between (pos 0) integer_last number }
 {
     match number {
         None => false,
-        Some(number) => 0 <= number && number <= 2_147_483_647,
+        Some(number) => 0 <= number && number <= i128::from(i32::MAX),
     }
 }
 
@@ -49,7 +50,7 @@ fn is_limit(number: Option<i128>) -> bool
 fn is_limited_by(name: &Identifier, number: Option<i128>) -> bool
     ensures { result
         ≡ list_any (bytes_eq name.now.text) restrictions_with_number
-        && lies_between (pos 0) (pos 2147483647) number }
+        && lies_between (pos 0) integer_last number }
 {
     is_limiting(name.text.as_slice()) && is_limit(number)
 }

@@ -1,13 +1,12 @@
 //! Declarations of subprograms and entries, by the names of the whole source (ISO/IEC 8652:2012, 6.1, 9.5.2).
 ghost use Rattle.std.specs.Prelude.{◌≡◌, map, option_copied};
-ghost use Rattle.occurrence_lists.specs.Shown.{occurrence_shown};
+ghost use Rattle.ada_regions.specs.Shown.{occurrence_shown};
 ghost use Rattle.ada_legality.specs.Profiles.{declares_entity, entry_declared_as, entry_in, specification_in, specification_of};
 
 use ada_entities::entity_denoted;
-use ada_regions::Names;
+use ada_regions::{Names, Occurrence, Occurrences};
 use ada_tree::{Identifier, Parameter, SubprogramSpecification};
 use legality_entities::is_entity;
-use occurrence_lists::{Occurrence, Occurrences};
 
 /// Whether an identifier denotes this entity.
 pub fn declares_entity(names: &Names<'_>, entity: u32, name: &Identifier) -> bool

@@ -8,8 +8,8 @@ use ada_legality::Span;
 use ada_regions::{Mode, Names};
 use ada_subtypes::{indicated_subtype, mode_of};
 use ada_tree::{Constraint, Parameter, SubtypeIndication};
+use legality_choices::{ends_of, same_number};
 use legality_entities::same_named;
-use legality_numbers::{ends_of, same_number};
 
 fn same_ends(a: Span, b: Span) -> bool
     ensures { result ≡ same_ends a b }

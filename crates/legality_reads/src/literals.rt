@@ -5,15 +5,10 @@ ghost use Rattle.ada_legality.specs.Reading.{nowhere, no_literal, literal_in, li
 
 use ada_legality::{Finding, Literal, Read, Rule};
 use ada_lex::{decimals, whole_value};
-use ada_subtypes::micros_of;
+use ada_subtypes::{LAST_DURATION, LAST_INTEGER, micros_of};
 use ann_base::{NoMemory, Place};
 use legality_types::{broken_if, broken_unless};
 use world_tables::List;
-
-/// The last value of Integer, and of Duration in ticks (this profile's choice).
-const LAST_INTEGER: u128 = 2_147_483_647;
-
-const LAST_DURATION: u128 = 4_611_686_018_427_387_903;
 
 fn no_literal() -> Literal
     ensures { result ≡ no_literal }

@@ -10,12 +10,11 @@ use ada_legality::{ActualPart, Finding, Known, Read, Rule};
 use ada_regions::{Denoted, Operation, Predefined};
 use ada_tree::{Call, Name};
 use ann_base::{NoMemory, Place};
-use legality_parts::legality_expressions::arguments_read;
+use legality_parts::legality_expressions::{arguments_read, place_of};
 use legality_requeues::legality_calls::{actual_from, actuals_judged, formals_denoted};
 use legality_requeues::legality_names::denotes_procedure;
 use legality_requeues::legality_reads::{literal_in, other_pointed_literal};
 use legality_requeues::legality_types::{broken_unless, is_pointed};
-use legality_requeues::legality_values::place_of;
 use std::alloc::Global;
 use world_tables::List;
 

@@ -12,7 +12,7 @@ pub use subprograms::{specification_found, subprogram_found, unit_of_operation};
 // What stands below, for the crates above.
 pub use legality_parts;
 pub use legality_parts::{
-    legality_choices, legality_entities, legality_expressions, legality_names, legality_numbers,
-    legality_reads, legality_types, legality_values,
+    legality_choices, legality_entities, legality_expressions, legality_names, legality_reads,
+    legality_types,
 };
 pub use legality_profiles;

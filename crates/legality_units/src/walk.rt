@@ -1,6 +1,6 @@
 //! The way through the names of a source.
 ghost use Rattle.std.specs.Prelude.{◌≡◌, ◌++◌, OnOk, map};
-ghost use Rattle.occurrence_lists.specs.Shown.{occurrence_shown};
+ghost use Rattle.ada_regions.specs.Shown.{occurrence_shown};
 ghost use Rattle.ada_regions.specs.Numbered.{last_priority_of, nothing_known};
 ghost use Rattle.ada_legality.specs.UnitsUsed.{found_before, found_behind, found_from, long_name};
 ghost use Rattle.legality_units.specs.Along.{found_along};
@@ -10,11 +10,10 @@ use ada_entities::expanded;
 use ada_legality::{Finding, Rule};
 use ada_naming::{behind, nothing_known};
 use ada_predefined::last_priority_of;
-use ada_regions::Names;
+use ada_regions::{Names, Occurrence, Occurrences};
 use ada_tree::{Identifier, Pragma};
 use ann_base::NoMemory;
 use legality_types::broken_if;
-use occurrence_lists::{Occurrence, Occurrences};
 use std::alloc::Global;
 use world_tables::List;
 

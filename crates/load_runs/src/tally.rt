@@ -12,7 +12,7 @@ use trace_reading::read_line;
 use trace_text::{EVENT_WORDS, Word, event_word, word_bytes};
 
 /// How often an event word occurred.
-#[derive(Clone, Copy, PartialEq, Eq)]
+#[derive(Clone, Copy)]
 pub struct Count {
     pub word: Word,
     pub count: u64,

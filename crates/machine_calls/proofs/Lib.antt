@@ -2,3 +2,4 @@ mod DepthLemmas
 mod EndingLemmas
 mod OkLemmas
 mod UnwindLemmas
+mod StruckLemmas

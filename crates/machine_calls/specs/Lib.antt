@@ -2,3 +2,4 @@ pub mod Depths
 pub mod Endings
 pub mod UnwindingSteps
 pub mod Unwindings
+pub mod Struck

@@ -14,7 +14,7 @@ use machine_dispatching::ready;
 use machine_frames::{Effect, goes, leaves, open_sequence, raises, says, waiting_of};
 use machine_program::Program;
 use machine_queues::{call_mut, copied_call, forget_call, unqueued};
-use machine_results::with_results;
+use machine_scopes::with_results;
 use profile_machine::world::{Call, Line, Outcome, Part, Waiting, World};
 use profile_machine::{Leaving, StatementNo};
 use trace_text::Who;

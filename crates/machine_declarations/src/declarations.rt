@@ -3,7 +3,7 @@ ghost use Rattle.std.specs.Prelude.{OnOk};
 ghost use Rattle.profile_machine.specs.Declarations.{object_declared, controlled_declared, declared, declare_quietly, declare_by, declare};
 ghost use Rattle.profile_machine.specs.Values.{seen_by};
 ghost use Rattle.machine_frames.specs.Did.{Did};
-ghost use Rattle.machine_parameters.specs.Becomes.{Becomes};
+ghost use Rattle.machine_values.specs.Becomes.{Becomes};
 
 use crate::initial_values::{components_initialized, initialized};
 use crate::objects::{declare_protected, located_here, set_thing};

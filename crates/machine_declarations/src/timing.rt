@@ -2,7 +2,7 @@
 ghost use Rattle.std.specs.Prelude.{◌≡◌, ◌^◌, ◌≤◌, length, IfOk, OnOk, OnErr};
 ghost use Rattle.profile_machine.specs.Declarations.{event_drawn, event_declared, with_budget, budget_declared, must_identify, timed_task, with_timer, timer_declared};
 ghost use Rattle.profile_machine.specs.Values.{seen_by};
-ghost use Rattle.machine_parameters.specs.Becomes.{Becomes};
+ghost use Rattle.machine_values.specs.Becomes.{Becomes};
 
 use crate::objects::{located_here, set_thing};
 use ann_base::{NoMemory, OrMemory, Raised, TaskNo, next_number};

@@ -5,8 +5,9 @@ ghost use Rattle.profile_machine.specs.Tasks.{task_of};
 ghost use Rattle.profile_machine.specs.Words.{greatest_of};
 
 use ann_base::{Level, Moment};
-use machine_frames::{TIME_LAST, task_at};
+use machine_frames::task_at;
 use machine_program::{Program, edf_low};
+use profile_machine::TIME_LAST;
 use profile_machine::world::{Inherited, Task, World};
 use trace_text::Who;
 use world_tables::List;

@@ -28,6 +28,6 @@ pub use room::{frame_count, has_room};
 pub use sequences::{open_at, open_handled, open_if_ready, open_sequence};
 pub use served::call_returned;
 pub use tasks::{
-    TIME_LAST, found_task, found_task_mut, is_made, is_runnable, may_run, new_task, number_of,
-    same_who, set_state, set_ticks, task_at, task_mut, waiting_in, waiting_of,
+    found_task, found_task_mut, is_made, is_runnable, may_run, new_task, number_of, same_who,
+    set_state, set_ticks, task_at, task_mut, waiting_in, waiting_of,
 };

@@ -8,13 +8,11 @@ ghost use Rattle.profile_machine.specs.Words.{same_who};
 ghost use Rattle.machine_frames.specs.Lends.{lends_found, lends_task};
 
 use ann_base::{Level, Moment, TaskNo};
+use profile_machine::TIME_LAST;
 use profile_machine::world::{State, Task, Waiting, World};
 use std::alloc::Global;
 use trace_text::Who;
 use world_tables::List;
-
-/// The last moment of Time (D.8), a quarter of the way to the last of 64 bits.
-pub const TIME_LAST: Moment = 4_611_686_018_427_387_903;
 
 /// A task, or the agent, as it begins. It takes no memory.
 pub fn new_task(alloc: Global, who: Who, base: Level, state: State) -> Task

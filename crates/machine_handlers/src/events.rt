@@ -11,7 +11,7 @@ use machine_dispatching::is_ahead;
 use machine_frames::{Effect, goes, refused};
 use machine_program::{Program, next_of};
 use machine_releases::release;
-use machine_results::store;
+use machine_scopes::store;
 use machine_values::seen_by;
 use profile_machine::world::{Due, HandlerOf, Part, Variable};
 use profile_machine::{DeclNo, HandlerName, Setting, StatementNo, Value, VariableName};

@@ -5,7 +5,7 @@ ghost use Rattle.profile_machine.specs.declared.values.Value.TheVariants.{Whole}
 ghost use Rattle.profile_machine.specs.Operators.{whole, ticks, held_moment, is_in, checked, place_in, component_place};
 
 use ann_base::{Moment, Raised};
-use profile_machine::{Constraint, Value};
+use profile_machine::{Constraint, TIME_FIRST, TIME_LAST, Value};
 
 /// The Integer of this value, where it has 32 bits (3.5.4).
 pub fn whole(n: i64) -> Result<Value, Raised>
@@ -16,12 +16,6 @@ pub fn whole(n: i64) -> Result<Value, Raised>
         Err(_) => Err(Raised::Constraint),
     }
 }
-
-/// The first moment of all times.
-const TIME_FIRST: Moment = -4_611_686_018_427_387_904;
-
-/// The last one.
-const TIME_LAST: Moment = 4_611_686_018_427_387_903;
 
 /// The time or span of this many ticks, where it lies between the ends of all times.
 pub fn ticks(n: Moment) -> Result<Value, Raised>

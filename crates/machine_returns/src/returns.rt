@@ -3,15 +3,14 @@ ghost use Rattle.std.specs.Prelude.{◌≡◌, OnOk};
 ghost use Rattle.profile_machine.specs.Subprograms.{result_place, result_kept, return_result, return_value, without_sending, drop_sending, return, cell_in, last_cell, copy_parameters, falls_through, store_result, end_subprogram};
 ghost use Rattle.profile_machine.specs.Values.{seen_by};
 ghost use Rattle.machine_frames.specs.Did.{Did};
-ghost use Rattle.machine_parameters.specs.Becomes.{Becomes};
+ghost use Rattle.machine_values.specs.Becomes.{Becomes};
 
 use ann_base::{CallNo, NoMemory, OrMemory, Raised};
 use machine_frames::{Effect, call_returned, leaves, raises, refused};
 use machine_operators::checked;
 use machine_program::{Program, scope_of, subprogram_of};
 use machine_queues::call_mut;
-use machine_results::store;
-use machine_scopes::{home, innermost, write_cell};
+use machine_scopes::{home, innermost, store, write_cell};
 use machine_values::{or_raised, seen_by, value};
 use profile_machine::world::{Call, CopyBack, Part, ResultTo, World};
 use profile_machine::{ExprNo, Leaving, SubprogramNo, Value};

@@ -3,15 +3,14 @@ ghost use Rattle.std.specs.Prelude.{◌≡◌, OnOk};
 ghost use Rattle.profile_machine.specs.Statements.{assign, assign_array, array_copied};
 ghost use Rattle.profile_machine.specs.Values.{seen_by};
 ghost use Rattle.machine_frames.specs.Did.{Did};
-ghost use Rattle.machine_parameters.specs.Becomes.{Becomes};
+ghost use Rattle.machine_values.specs.Becomes.{Becomes};
 ghost use Rattle.machine_statements.specs.Parts.{assigned};
 
 use ann_base::{NoMemory, OrMemory, Raised};
 use machine_frames::{Effect, goes, refused};
-use machine_parameters::copy_cells;
 use machine_program::{Program, next_of};
-use machine_results::store;
-use machine_values::{object_cell, seen_by, value, variable};
+use machine_scopes::store;
+use machine_values::{copy_cells, object_cell, seen_by, value, variable};
 use profile_machine::world::World;
 use profile_machine::{ExprNo, ObjectName, StatementNo, VariableName};
 use std::alloc::Global;

@@ -6,7 +6,7 @@ ghost use Rattle.profile_machine.specs.declared.values.Value.TheVariants.{Litera
 ghost use Rattle.profile_machine.specs.Statements.{while_turn, loop_cell, put, first_bound, last_bound, bounds_set, for_bounds, is_past, first_turn, stepped, advance, later_turn, exit_where, exit_statement};
 ghost use Rattle.profile_machine.specs.Values.{seen_by};
 ghost use Rattle.machine_frames.specs.Did.{Did};
-ghost use Rattle.machine_parameters.specs.Becomes.{Becomes};
+ghost use Rattle.machine_values.specs.Becomes.{Becomes};
 ghost use Rattle.machine_statements.specs.Parts.{finds_empty, is_at_last};
 
 use crate::choices::branch;

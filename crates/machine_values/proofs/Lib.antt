@@ -1,1 +1,4 @@
 pub mod ValueLemmas
+pub mod CellLemmas
+pub mod ListLemmas
+pub mod ParameterLemmas

@@ -1,2 +1,4 @@
 pub mod Asked
 pub mod Sights
+pub mod Becomes
+pub mod Beginnings

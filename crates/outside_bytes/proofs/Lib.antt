@@ -1,2 +1,5 @@
 pub mod FilesRead
 pub mod PiecesWritten
+pub mod BytesByLines
+pub mod HandedOn
+pub mod Refilled

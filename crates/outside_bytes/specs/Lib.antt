@@ -1,2 +1,4 @@
 pub mod Files
 pub mod Pieces
+pub mod Bytes
+pub mod Lines

@@ -5,3 +5,4 @@ pub mod TextLemmas
 pub mod Puts
 pub mod Runs
 pub mod Tests
+pub mod BoundLemmas

@@ -12,7 +12,7 @@ use ann_base::{Level, Raised};
 pub type Text = Sequence<u8>;
 
 /// The initial value of an object or component.
-#[derive(Clone, Copy, PartialEq, Eq)]
+#[derive(Clone, Copy)]
 pub enum Initial {
     /// None is given: it begins as its cells stand in their scope.
     Default,
@@ -23,7 +23,7 @@ pub enum Initial {
 }
 
 /// What a declaration declares.
-#[derive(Clone, Copy, PartialEq, Eq)]
+#[derive(Clone, Copy)]
 pub enum DeclarationKind {
     /// A scalar, a Task_Id or an array, or a constant of these; a component too.
     Object(Initial),
@@ -112,7 +112,7 @@ impl Drop for Scope {
 }
 
 /// A formal parameter of a subprogram or an entry. The n-th stands in cell n of its scope, counted from 0.
-#[derive(Clone, Copy, PartialEq, Eq)]
+#[derive(Clone, Copy)]
 pub struct Formal {
     pub constraint: Constraint,
     /// What it holds where nothing is copied in.
@@ -169,7 +169,7 @@ impl Drop for TaskUnit {
 }
 
 /// A procedure that is attached to an interrupt (C.3.1).
-#[derive(Clone, Copy, PartialEq, Eq)]
+#[derive(Clone, Copy)]
 pub struct Attachment {
     pub interrupt: u8,
     pub handler: SubprogramNo,
@@ -197,14 +197,14 @@ impl Drop for ProtectedUnit {
 }
 
 /// The unit of an entry.
-#[derive(Clone, Copy, PartialEq, Eq)]
+#[derive(Clone, Copy)]
 pub enum EntryUnit {
     Task(TaskUnitNo),
     Protected(ProtectedUnitNo),
 }
 
 /// The body of a protected entry (9.5.2).
-#[derive(Clone, Copy, PartialEq, Eq)]
+#[derive(Clone, Copy)]
 pub struct EntryBody {
     pub barrier: ExprNo,
     pub scope: ScopeNo,
@@ -263,7 +263,7 @@ pub struct Enumeration {
 }
 
 /// What a handler handles (11.2).
-#[derive(Clone, Copy, PartialEq, Eq)]
+#[derive(Clone, Copy)]
 pub enum ExceptionChoice {
     Named(Raised),
     Others,

@@ -4,7 +4,7 @@ use crate::values::Value;
 use ann_base::Moment;
 
 /// The name of an object that has cells of values: a scalar, a Task_Id or a whole array.
-#[derive(Clone, Copy, PartialEq, Eq)]
+#[derive(Clone, Copy)]
 pub enum ObjectName {
     /// A declared object, a parameter or a loop parameter.
     Declared(DeclNo),
@@ -21,14 +21,14 @@ pub enum ObjectName {
 }
 
 /// The name of one cell of values: an object that has one, or a component of an array (4.1.1).
-#[derive(Clone, Copy, PartialEq, Eq)]
+#[derive(Clone, Copy)]
 pub struct VariableName {
     pub object: ObjectName,
     pub index: Option<ExprNo>,
 }
 
 /// An operator with one operand (4.5.4, 4.5.6).
-#[derive(Clone, Copy, PartialEq, Eq)]
+#[derive(Clone, Copy)]
 pub enum UnaryOperator {
     Plus,
     Minus,
@@ -37,7 +37,7 @@ pub enum UnaryOperator {
 }
 
 /// An operator with two operands, or a short-circuit form (4.5).
-#[derive(Clone, Copy, PartialEq, Eq)]
+#[derive(Clone, Copy)]
 pub enum BinaryOperator {
     And,
     Or,
@@ -59,7 +59,7 @@ pub enum BinaryOperator {
 }
 
 /// An expression. Brackets leave no trace; a minus before a literal is part of the value.
-#[derive(Clone, Copy, PartialEq, Eq)]
+#[derive(Clone, Copy)]
 pub enum Expression {
     /// A value that the text gives: a literal, First and Last, predefined constants, Null_Task_Id.
     Known(Value),

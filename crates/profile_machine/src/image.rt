@@ -10,7 +10,7 @@ use crate::statements::Statement;
 use ann_base::Level;
 
 /// A task dispatching policy (D.2.2).
-#[derive(Clone, Copy, PartialEq, Eq)]
+#[derive(Clone, Copy)]
 pub enum Dispatching {
     FifoWithinPriorities,
     RoundRobinWithinPriorities,
@@ -18,7 +18,7 @@ pub enum Dispatching {
 }
 
 /// A range of priorities with its policy.
-#[derive(Clone, Copy, PartialEq, Eq)]
+#[derive(Clone, Copy)]
 pub struct DispatchingRange {
     pub policy: Dispatching,
     pub first: Level,
@@ -26,7 +26,7 @@ pub struct DispatchingRange {
 }
 
 /// An entry queuing policy (D.4).
-#[derive(Clone, Copy, PartialEq, Eq)]
+#[derive(Clone, Copy)]
 pub enum Queuing {
     Fifo,
     Priority,

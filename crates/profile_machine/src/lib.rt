@@ -30,4 +30,4 @@ pub use statements::{
     Actual, Callee, CaseAlternative, Choice, Destination, EntryOwner, HandlerName, Piece,
     SelectAlternative, SelectKind, Setting, Statement, StatementForm,
 };
-pub use values::{CellRun, Constraint, Value};
+pub use values::{CellRun, Constraint, TIME_FIRST, TIME_LAST, Value};

@@ -1,15 +1,14 @@
-//! Lists of an image that are mostly short, and then take no memory of their own.
+//! The short lists of an image.
 ghost use Rattle.std.specs.Prelude.{◌≡◌, ◌++◌, ◌∷◌, [], IfErr, OnErr, OnOk};
 
 use crate::statements::{Actual, SelectAlternative};
-use smallvec::SmallVec;
 use std::alloc::{AllocFailed, Global};
 use std::marker::Model;
 
 /// The actual parameters of a call, in the order of the formals; contracts see the list itself.
 #[derive(Drop)]
 pub struct Actuals {
-    items: SmallVec<Actual, 4>,
+    items: Vec<Actual>,
 }
 
 impl Model for Actuals {
@@ -27,7 +26,7 @@ impl Actuals {
         ensures { result ≡ [] }
     {
         Actuals {
-            items: SmallVec::new(alloc),
+            items: Vec::new(alloc),
         }
     }
 
@@ -51,7 +50,7 @@ impl Actuals {
 /// The alternatives of a selective accept, in the order of the text; contracts see the list itself.
 #[derive(Drop)]
 pub struct SelectAlternatives {
-    items: SmallVec<SelectAlternative, 4>,
+    items: Vec<SelectAlternative>,
 }
 
 impl Model for SelectAlternatives {
@@ -69,7 +68,7 @@ impl SelectAlternatives {
         ensures { result ≡ [] }
     {
         SelectAlternatives {
-            items: SmallVec::new(alloc),
+            items: Vec::new(alloc),
         }
     }
 

@@ -35,7 +35,7 @@ impl Drop for Statement {
 }
 
 /// A choice of a case statement (5.4).
-#[derive(Clone, Copy, PartialEq, Eq)]
+#[derive(Clone, Copy)]
 pub enum Choice {
     Single(Value),
     Range { low: Value, high: Value },
@@ -50,7 +50,7 @@ pub struct CaseAlternative {
 }
 
 /// An actual parameter (6.4.1).
-#[derive(Clone, Copy, PartialEq, Eq)]
+#[derive(Clone, Copy)]
 pub enum Actual {
     /// Of mode `in`: copied in.
     In(ExprNo),
@@ -74,7 +74,7 @@ impl Default for Actual {
 }
 
 /// What a call calls.
-#[derive(Clone, Copy, PartialEq, Eq)]
+#[derive(Clone, Copy)]
 pub enum Callee {
     /// A subprogram that is no protected operation.
     Subprogram(SubprogramNo),
@@ -88,7 +88,7 @@ pub enum Callee {
 }
 
 /// Where the result of a function's call goes.
-#[derive(Clone, Copy, PartialEq, Eq)]
+#[derive(Clone, Copy)]
 pub enum Destination {
     /// A procedure has none.
     Nowhere,
@@ -101,7 +101,7 @@ pub enum Destination {
 }
 
 /// Whose entry is named.
-#[derive(Clone, Copy, PartialEq, Eq)]
+#[derive(Clone, Copy)]
 pub enum EntryOwner {
     /// That of a task or protected object.
     Object(DeclNo),
@@ -111,7 +111,7 @@ pub enum EntryOwner {
 
 /// An alternative of a selective accept (9.7.1). An accept or a delay is named by its statement, whose next is
 /// the first statement behind it.
-#[derive(Clone, Copy, PartialEq, Eq)]
+#[derive(Clone, Copy)]
 pub enum SelectKind {
     Accept(StatementNo),
     Delay(StatementNo),
@@ -119,7 +119,7 @@ pub enum SelectKind {
 }
 
 /// An alternative of a selective accept with its guard.
-#[derive(Clone, Copy, PartialEq, Eq)]
+#[derive(Clone, Copy)]
 pub struct SelectAlternative {
     pub guard: Option<ExprNo>,
     pub kind: SelectKind,
@@ -155,14 +155,14 @@ pub enum Piece {
 }
 
 /// A handler as the value of 'Access: a procedure of a protected object.
-#[derive(Clone, Copy, PartialEq, Eq)]
+#[derive(Clone, Copy)]
 pub struct HandlerName {
     pub object: DeclNo,
     pub procedure: SubprogramNo,
 }
 
 /// Whether a Set_Handler names a moment or a span from now on.
-#[derive(Clone, Copy, PartialEq, Eq)]
+#[derive(Clone, Copy)]
 pub enum Setting {
     At(ExprNo),
     In(ExprNo),

@@ -1,6 +1,13 @@
 //! Values, and the ranges that subtypes put on them.
 use ann_base::{Moment, TaskNo};
 
+/// The first moment of Time, and the first value of Duration, in ticks (9.6, D.8; this profile's choice): a quarter of the way
+/// to the first of 64 bits, so that a sum of two has room.
+pub const TIME_FIRST: Moment = -4_611_686_018_427_387_904;
+
+/// The last moment of Time, and the last value of Duration, in ticks (9.6, D.8; this profile's choice).
+pub const TIME_LAST: Moment = 4_611_686_018_427_387_903;
+
 /// The value of a cell or an expression.
 #[derive(Clone, Copy, PartialEq, Eq)]
 pub enum Value {
@@ -20,7 +27,7 @@ pub enum Value {
 }
 
 /// The range of a scalar subtype (3.5). A value of another kind than the bounds' is in no range.
-#[derive(Clone, Copy, PartialEq, Eq)]
+#[derive(Clone, Copy)]
 pub enum Constraint {
     /// Every value: Time, Time_Span, CPU_Time, Task_Id, and objects that are no scalars.
     Free,
@@ -35,7 +42,7 @@ pub enum Constraint {
 }
 
 /// Cells of a scope that do not begin as `Whole(0)`: `count` of them from `place` on begin with `value`.
-#[derive(Clone, Copy, PartialEq, Eq)]
+#[derive(Clone, Copy)]
 pub struct CellRun {
     pub place: u32,
     pub count: u32,

@@ -6,10 +6,10 @@ use Rattle.std.proofs.lemmas.List.{map-set, get_or-map, length-map}
 use Rattle.std.proofs.Math.Seq.{map-set_same}
 use Rattle.std.proofs.Math.Seq.{take-append_seam}
 use Rattle.ann_base.specs.declared.identities.Slot.{Slot}
-use Rattle.level_policies.specs.Entries.{Entry, IsSlot, IsOrdered, holds, head_of, placed_tail, placed_head, removed, rekeyed}
-use Rattle.level_policies.specs.Disciplines.{Discipline, is_spent_at}
-use Rattle.level_policies.proofs.EntryLemmas.{removed-absent, holds-removed, holds-rekeyed}
-use Rattle.level_policies.proofs.RankLemmas.{holds-placed_tail, holds-placed_head, IsOrdered-placed_tail, IsOrdered-placed_head, IsOrdered-removed, IsOrdered-rekeyed}
+use Rattle.ready_queues.specs.Entries.{Entry, IsSlot, IsOrdered, holds, head_of, placed_tail, placed_head, removed, rekeyed}
+use Rattle.ready_queues.specs.Disciplines.{Discipline, is_spent_at}
+use Rattle.ready_queues.proofs.EntryLemmas.{removed-absent, holds-removed, holds-rekeyed}
+use Rattle.ready_queues.proofs.RankLemmas.{holds-placed_tail, holds-placed_head, IsOrdered-placed_tail, IsOrdered-placed_head, IsOrdered-removed, IsOrdered-rekeyed}
 use Rattle.ready_queues.specs.Queues.{is_ready, level_of, entries_at, no_discipline, discipline_at, tail_at, head_at, out_of_all, charged_at, is_spent_on, or_else, chosen, is_place, Agrees, AreOrdered, AreEmpty, IsTable}
 
 -- one level is changed by f of its discipline and its entries

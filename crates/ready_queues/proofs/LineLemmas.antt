@@ -2,8 +2,8 @@
 use Rattle.std.proofs.Common.{◌≡◌, ℕ, ℤ, zero, suc, ◌+◌, ◌<◌, Bool, true, false, eqb, ltb, ◌||◌, ◌&&◌, List, [], ◌∷◌, ◌++◌, length, set, refl, sym, ap, ◌∙◌, arith}
 use Rattle.std.specs.Prelude.{int_lt}
 use Rattle.ann_base.specs.declared.identities.Slot.{Slot}
-use Rattle.level_policies.specs.Entries.{Entry, head_of, placed_tail, placed_head, removed}
-use Rattle.level_policies.specs.Disciplines.{Discipline}
+use Rattle.ready_queues.specs.Entries.{Entry, head_of, placed_tail, placed_head, removed}
+use Rattle.ready_queues.specs.Disciplines.{Discipline}
 use Rattle.ready_queues.specs.Queues.{entries_at, tail_at, head_at, out_of_all, or_else, chosen}
 use Rattle.ready_queues.specs.Order.{Standing, standing_at, line_from, line_out, line_tail, line_head, line_first, rank_on}
 

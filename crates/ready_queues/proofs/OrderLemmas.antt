@@ -3,8 +3,8 @@ use Rattle.std.proofs.Common.{◌≡◌, ℕ, ℤ, zero, suc, ◌<◌, Bool, tru
 use Rattle.std.specs.Prelude.{int_lt, ◌<ℤ◌, ◌≤ℤ◌, ◌⊎◌, IfSome}
 use Rattle.std.proofs.lemmas.Int.{ints}
 use Rattle.ann_base.specs.declared.identities.Slot.{Slot}
-use Rattle.level_policies.specs.Entries.{Entry, head_of, NoneBelow, IsRanked}
-use Rattle.level_policies.specs.Disciplines.{Discipline}
+use Rattle.ready_queues.specs.Entries.{Entry, head_of, NoneBelow, IsRanked}
+use Rattle.ready_queues.specs.Disciplines.{Discipline}
 use Rattle.ready_queues.specs.Queues.{entries_at, or_else, chosen, AreOrdered}
 use Rattle.ready_queues.specs.Order.{rank_on, at_place, IsBefore, Precedes, StandsByOrder, IsBeforeAll}
 

@@ -1,8 +1,8 @@
 -- Who stands before whom among all who are ready (ISO/IEC 8652:2012, D.2.1, D.2.3, D.2.6).
 use Rattle.std.specs.Prelude.{◌≡◌, ◌<◌, ◌+◌, ◌⊎◌, ◌<ℤ◌, ◌↔◌, ℕ, ℤ, ◌==◌, ◌||◌, ◌&&◌, nat_lt, int_lt, if◌then◌else◌, List, [], ◌∷◌, ◌++◌, Option, Some, None, zero, suc}
 use Rattle.ann_base.specs.declared.identities.Slot.{Slot}
-use Rattle.level_policies.specs.Entries.{Entry}
-use Rattle.level_policies.specs.Disciplines.{Discipline}
+use Rattle.ready_queues.specs.Entries.{Entry}
+use Rattle.ready_queues.specs.Disciplines.{Discipline}
 use Rattle.ready_queues.specs.Queues.{entries_at, discipline_at}
 
 -- the rank of a key on a level

@@ -3,8 +3,8 @@ use Rattle.std.specs.Prelude.{◌≡◌, ◌+◌, ℕ, pos, Bool, false, ◌==�
 use Rattle.ann_base.specs.declared.identities.Slot.{Slot}
 use Rattle.ann_base.specs.declared.identities.TheConstants.{SLOTS}
 use Rattle.ready_queues.specs.declared.queues.TheConstants.{LEVELS}
-use Rattle.level_policies.specs.Entries.{Entry, IsSlot, IsOrdered, holds, head_of, placed_tail, placed_head, removed, rekeyed}
-use Rattle.level_policies.specs.Disciplines.{Discipline, is_spent_at}
+use Rattle.ready_queues.specs.Entries.{Entry, IsSlot, IsOrdered, holds, head_of, placed_tail, placed_head, removed, rekeyed}
+use Rattle.ready_queues.specs.Disciplines.{Discipline, is_spent_at}
 
 -- whether t is ready, at whatever level
 abbrev pub is_ready : {K : Type 0} → Slot → List (List (Entry K)) → Bool

@@ -1,10 +1,10 @@
 //! Changes of one level among all.
 ghost use Rattle.std.specs.Prelude.{◌≡◌, ◌<◌, true, false, ◌&&◌, not, map, length, slice_set};
-ghost use Rattle.level_policies.specs.Entries.{IsSlot, holds, removed};
+ghost use Rattle.ready_queues.specs.Entries.{IsSlot, holds, removed};
 ghost use Rattle.ready_queues.specs.Queues.{entries_at, tail_at, head_at, charged_at, is_spent_on, chosen};
 
+use crate::LevelPolicy;
 use ann_base::{Level, Slot};
-use level_policies::LevelPolicy;
 
 /// Puts `t` at the tail of its rank on this level.
 pub fn put_tail<L: LevelPolicy>(levels: &mut [L], level: Level, t: Slot, key: L::Key)

@@ -15,13 +15,12 @@ use ada_front::{accept, long_sources_are_refused};
 use ada_lex::MAX_SOURCE;
 use ada_verdicts::Refusal;
 use ann_base::{Failed, OrMemory, Shelf, Sink};
-use commands::{DEFAULT_TICKS, Outcome, Request, Work, asked};
+use commands::{DEFAULT_TICKS, Outcome, Request, Work, asked, serve_table, serve_trace};
 use load_runs::load_source;
 use outside_bytes::{read_file, write_all};
 use profile_machine::Image;
 use run_texts::{run, summarize};
 use std::alloc::Global;
-use table_commands::{serve_table, serve_trace};
 
 /// How many bytes of a source are read: one more than it may have, so that one that is too long is seen to be.
 pub const SOURCE_READ: usize = MAX_SOURCE + 1;

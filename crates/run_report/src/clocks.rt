@@ -10,7 +10,7 @@ use ann_base::{Level, NoMemory};
 use trace_text::{Created, Event};
 
 /// How long tasks of one base priority waited, if they were ready, while a task of lower base priority ran.
-#[derive(Clone, Copy, PartialEq, Eq)]
+#[derive(Clone, Copy)]
 pub struct Clock {
     pub level: Level,
     /// All ticks of such waiting since the clock is there.

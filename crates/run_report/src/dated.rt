@@ -25,7 +25,7 @@ pub struct Dated {
 }
 
 /// What a line leaves of the task at a place.
-#[derive(Clone, Copy, PartialEq, Eq)]
+#[derive(Clone, Copy)]
 pub struct Step {
     pub place: usize,
     pub tally: Tally,

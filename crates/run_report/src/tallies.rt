@@ -11,7 +11,7 @@ use trace_lines::is_same;
 use trace_text::{Created, Event, LAST_TICK, QueueEnd, Who};
 
 /// What is kept of one task: the figures of its account, and what they go on with.
-#[derive(Clone, Copy, PartialEq, Eq)]
+#[derive(Clone, Copy)]
 pub struct Tally {
     pub jobs: u64,
     pub worst: u64,
@@ -31,7 +31,7 @@ pub struct Tally {
 }
 
 /// The ticks that pass between two lines: how many, who runs, and with which base priority, where it is a task.
-#[derive(Clone, Copy, PartialEq, Eq)]
+#[derive(Clone, Copy)]
 pub struct Passing {
     pub elapsed: u64,
     pub runner: Option<Who>,
@@ -39,7 +39,7 @@ pub struct Passing {
 }
 
 /// Whether a line places a task in the ready queue or takes it out.
-#[derive(Clone, Copy, PartialEq, Eq)]
+#[derive(Clone, Copy)]
 pub enum Move {
     Enters(QueueEnd),
     Leaves,

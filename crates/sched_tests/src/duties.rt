@@ -41,7 +41,7 @@ pub struct Duty {
 }
 
 /// Why a line of a table is refused.
-#[derive(Clone, Copy, Debug, PartialEq, Eq, Error)]
+#[derive(Clone, Copy, Debug, Error)]
 pub enum TableFaultKind {
     /// It is not a name and five words with single spaces.
     #[error("not a name and five numbers")]
@@ -76,7 +76,7 @@ impl TableFaultKind {
 }
 
 /// The first line of a text that is refused, and why.
-#[derive(Clone, Copy, Debug, PartialEq, Eq, Error)]
+#[derive(Clone, Copy, Debug, Error)]
 #[error("line {line} of the table: {kind}")]
 pub struct TableFault {
     /// The line's number, from 1; 0 where the whole table has no duty.

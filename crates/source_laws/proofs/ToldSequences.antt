@@ -35,7 +35,7 @@ use Rattle.ada_legality.specs.SimpleStatements.{with_around}
 use Rattle.ada_legality.specs.Profiles.{declaration_noted, body_noted}
 use Rattle.ada_legality.specs.Statements.{handler_found, statement_found}
 use Rattle.ada_legality.specs.Declarations.{task_found, protected_found, unit_here, is_unit_of, unit_body_judged, subprogram_here, entry_body_judged, barrier_found, subprogram_body_found, entry_body_found, operation_body_found, protected_body_found, task_body_found, declaration_found, parts_found, sequence_found}
-use Rattle.legality_bodies.proofs.SequenceFolds.{sequence_finds}
+use Rattle.ada_legality.proofs.SequenceFolds.{sequence_finds}
 use Rattle.ada_regions.specs.declared.entities.UnitKind.{UnitKind}
 use Rattle.ada_regions.specs.declared.entities.UnitKind.TheVariants as unit
 use Rattle.ada_regions.specs.Names.{entity_denoted}

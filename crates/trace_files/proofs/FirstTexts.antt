@@ -1,6 +1,6 @@
 -- The first text of bytes, and of the first of them.
 use Rattle.std.proofs.Common.{◌≡◌, ℕ, zero, suc, Bool, true, false, ◌==◌, if◌then◌else◌, List, [], ◌∷◌, length, take, drop, refl, ap, sym, ◌∙◌}
-use Rattle.file_lines.specs.Bytes.{first_line, is_some_byte}
+use Rattle.outside_bytes.specs.Bytes.{first_line, is_some_byte}
 use Rattle.trace_laws.specs.Verdicts.{with_byte, texts_in}
 
 one_text : (byte : ℕ) (b : Bool) → (byte ∷ []) ∷ [] ≡ (if b then byte ∷ [] else byte ∷ []) ∷ texts_in (drop (length (if b then byte ∷ [] else byte ∷ [])) (byte ∷ []))

@@ -5,7 +5,7 @@ use Rattle.trace_text.specs.declared.lines.TheConstants.{LINE_BYTES}
 use Rattle.trace_reading.specs.Lines.{line_in}
 use Rattle.trace_laws.specs.declared.verdicts.TheConstants.{TRACE_BYTES}
 use Rattle.trace_laws.specs.Verdicts.{texts_in}
-use Rattle.file_lines.specs.Lines.{to_come}
+use Rattle.outside_bytes.specs.Lines.{to_come}
 use Rattle.trace_files.specs.declared.texts.TraceFile.{TraceFile}
 use Rattle.trace_files.specs.declared.texts.Next.{Next}
 use Rattle.trace_files.specs.declared.texts.Next.TheVariants as next

@@ -17,7 +17,7 @@ use ann_base::{CallNo, ObjectNo, RegionNo, TaskNo};
 use trace_text::{Created, Ended, Event, Who, Word};
 
 /// No moment and printable event have this line.
-#[derive(Clone, Copy, Debug, PartialEq, Eq)]
+#[derive(Clone, Copy, Debug)]
 pub struct BadLine;
 
 // What a line begins with, behind its tick: its subject, or its word where it has none.

@@ -11,7 +11,7 @@ pub enum Who {
 }
 
 /// What is created by a `new` line.
-#[derive(Clone, Copy, PartialEq, Eq)]
+#[derive(Clone, Copy)]
 pub enum Created {
     /// A task, `tN`.
     Task(TaskNo),
@@ -20,7 +20,7 @@ pub enum Created {
 }
 
 /// The end of a ready queue at which a task is placed (D.2.1).
-#[derive(Clone, Copy, PartialEq, Eq)]
+#[derive(Clone, Copy)]
 pub enum QueueEnd {
     /// Before all of its level.
     Head,
@@ -29,7 +29,7 @@ pub enum QueueEnd {
 }
 
 /// Why a task leaves the ready queues.
-#[derive(Clone, Copy, PartialEq, Eq)]
+#[derive(Clone, Copy)]
 pub enum Waits {
     /// For the tasks that it activates (9.2).
     Activation,
@@ -50,7 +50,7 @@ pub enum Waits {
 }
 
 /// Whether a protected action reads or writes (9.5.1).
-#[derive(Clone, Copy, PartialEq, Eq)]
+#[derive(Clone, Copy)]
 pub enum Mode {
     /// A call of a protected function.
     Read,
@@ -59,7 +59,7 @@ pub enum Mode {
 }
 
 /// What the last `ready` line of a subject says, while the subject is in a ready queue.
-#[derive(Clone, Copy, PartialEq, Eq)]
+#[derive(Clone, Copy)]
 pub struct Entry {
     /// The subject.
     pub who: Who,
@@ -70,7 +70,7 @@ pub struct Entry {
 }
 
 /// A protected action that is open: it was entered and not left.
-#[derive(Clone, Copy, PartialEq, Eq)]
+#[derive(Clone, Copy)]
 pub struct Action {
     /// The number of the protected object.
     pub object: u32,
@@ -81,7 +81,7 @@ pub struct Action {
 }
 
 /// How a kept scope is left (7.6.1).
-#[derive(Clone, Copy, PartialEq, Eq)]
+#[derive(Clone, Copy)]
 pub enum Leaves {
     /// Its statements ended.
     End,

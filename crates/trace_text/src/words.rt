@@ -7,7 +7,7 @@ ghost use Rattle.trace_text.specs.Words.{word_text};
 use crate::events::{Event, Leaves, Mode, QueueEnd, Waits};
 
 /// The word of a line that says what happened.
-#[derive(Clone, Copy, PartialEq, Eq)]
+#[derive(Clone, Copy)]
 pub enum Word {
     /// `new`.
     New,

@@ -1,7 +1,7 @@
 //! The lines of a file that is read three bytes at a time.
 use super::shelves::shelf;
 use ann_base::{Failed, OrMemory};
-use file_lines::Lines;
+use outside_bytes::Lines;
 use std::test::Fail;
 
 const BYTES: &[u8] = b"one\n\nthree, four\nlast";

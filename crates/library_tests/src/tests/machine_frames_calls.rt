@@ -133,6 +133,6 @@ fn constructs_of_a_task(rt: HostRuntime) -> Result<(), Fail> {
     set_state(&mut effect.world, name, State::Blocked(Waiting::Moment));
     assert!(rt; !may_run(&effect.world, name) && waiting_of(&effect.world, name).is_some());
     assert!(rt; task_at(&effect.world, Who::Task(TaskNo(1))).is_none());
-    assert_eq!(rt; number_of(name), Some(TaskNo(0)));
+    assert!(rt; number_of(name) == Some(TaskNo(0)));
     Ok(())
 }

@@ -19,7 +19,7 @@ fn lists_take_what_is_pushed(rt: HostRuntime) -> Result<(), AllocError> {
         })?;
     }
     assert_eq!(rt; sequence.as_slice().last().copied(), Some(5));
-    assert!(rt; actuals.as_slice().last().copied() == Some(Actual::In(ExprNo(5))));
+    assert!(rt; matches!(actuals.as_slice().last(), Some(Actual::In(ExprNo(5)))));
     assert!(rt; alternatives.as_slice().len() == 6);
     Ok(())
 }

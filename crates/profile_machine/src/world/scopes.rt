@@ -7,7 +7,7 @@ use trace_text::Who;
 use world_tables::List;
 
 /// A scope in use, by number: scopes are numbered from 0, the environment's, in the order in which they begin.
-#[derive(Clone, Copy, PartialEq, Eq)]
+#[derive(Clone, Copy)]
 pub struct ScopeId(pub u32);
 
 /// The cells of a declared object: the scope in use that holds them, and the declaration.

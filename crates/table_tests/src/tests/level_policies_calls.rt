@@ -1,6 +1,6 @@
 //! Worked rows of the policies, and each call once at each policy through its bound.
 use ann_base::{Level, Moment, Slot};
-use level_policies::{
+use ready_queues::{
     AnyKey, AnyLevel, EdfLevel, FifoLevel, LevelKind, LevelPolicy, RobinLevel, edf_level,
 };
 use std::alloc::Global;

@@ -3,8 +3,7 @@ ghost use Rattle.std.specs.Prelude.{◌≡◌, IfOk, length, map};
 ghost use Rattle.ready_queues.specs.Queues.{AreEmpty};
 
 use ann_base::{NoMemory, Slot};
-use level_policies::{AnyKey, AnyLevel, EdfLevel, FifoLevel, LevelPolicy, RobinLevel};
-use ready_queues::{LEVELS, Ready};
+use ready_queues::{AnyKey, AnyLevel, EdfLevel, FifoLevel, LEVELS, LevelPolicy, Ready, RobinLevel};
 use std::alloc::Global;
 use std::process::Abort;
 use std::test::Fail;

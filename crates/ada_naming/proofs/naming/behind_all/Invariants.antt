@@ -1,6 +1,6 @@
 use Rattle.std.proofs.Common.{◌≡◌, drop, map}
 use Rattle.ada_regions.specs.Numbered.{behind_all}
-use Rattle.occurrence_lists.specs.Shown.{occurrence_shown}
+use Rattle.ada_regions.specs.Shown.{occurrence_shown}
 use Rattle.ada_naming.proofs.naming.behind_all.Given as goal
 
 -- what the occurrences that are to come lead to is what all lead to

@@ -1,5 +1,5 @@
 use Rattle.std.proofs.Common.{◌≡◌, drop, map}
-use Rattle.occurrence_lists.specs.Shown.{occurrence_shown}
+use Rattle.ada_regions.specs.Shown.{occurrence_shown}
 use Rattle.legality_contexts.specs.Along.{indexes_along}
 use Rattle.legality_contexts.proofs.indexes.indexes_along.Given as goal
 

@@ -1,6 +1,6 @@
 use Rattle.std.proofs.Common.{◌≡◌, drop, map}
 use Rattle.ada_legality.specs.Profiles.{specification_of}
-use Rattle.occurrence_lists.specs.Shown.{occurrence_shown}
+use Rattle.ada_regions.specs.Shown.{occurrence_shown}
 use Rattle.legality_profiles.proofs.declared.specification_among.Given as goal
 
 -- the occurrences that are to come declare what all of them declare

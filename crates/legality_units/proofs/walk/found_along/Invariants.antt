@@ -1,5 +1,5 @@
 use Rattle.std.proofs.Common.{◌≡◌, ◌++◌, drop, map}
-use Rattle.occurrence_lists.specs.Shown.{occurrence_shown}
+use Rattle.ada_regions.specs.Shown.{occurrence_shown}
 use Rattle.legality_units.specs.Along.{found_along}
 use Rattle.legality_units.proofs.walk.found_along.Given as goal
 

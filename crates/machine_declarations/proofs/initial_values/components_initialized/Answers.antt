@@ -2,7 +2,7 @@ use Rattle.std.proofs.Common.{subst, sym}
 use Rattle.profile_machine.specs.declared.world.World.{World}
 use Rattle.profile_machine.specs.Operators.{Valued}
 use Rattle.profile_machine.specs.Values.{seen_by}
-use Rattle.machine_parameters.specs.Becomes.{Becomes}
+use Rattle.machine_values.specs.Becomes.{Becomes}
 use Rattle.machine_declarations.proofs.FirstValueLemmas.{components_by}
 use Rattle.machine_declarations.proofs.initial_values.components_initialized.Goals as goal
 

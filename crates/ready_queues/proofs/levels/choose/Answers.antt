@@ -1,5 +1,5 @@
 use Rattle.std.proofs.Common.{arith, sym, ap, ◌∙◌}
-use Rattle.level_policies.specs.Entries.{head_of}
+use Rattle.ready_queues.specs.Entries.{head_of}
 use Rattle.ready_queues.proofs.LevelLemmas.{chosen-found, chosen-none}
 use Rattle.ready_queues.proofs.levels.choose.Goals as goal
 

@@ -1,4 +1,4 @@
-use Rattle.level_policies.specs.Entries.{placed_tail}
+use Rattle.ready_queues.specs.Entries.{placed_tail}
 use Rattle.ready_queues.proofs.LevelLemmas.{level-changed, disciplines-same}
 use Rattle.ready_queues.proofs.levels.put_tail.Goals as goal
 

@@ -1,4 +1,4 @@
-use Rattle.level_policies.specs.Entries.{removed}
+use Rattle.ready_queues.specs.Entries.{removed}
 use Rattle.ready_queues.proofs.LevelLemmas.{level-changed, disciplines-same}
 use Rattle.ready_queues.proofs.levels.remove.Goals as goal
 

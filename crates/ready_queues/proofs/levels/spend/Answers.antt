@@ -1,6 +1,6 @@
 use Rattle.std.proofs.Common.{ap, ◌∙◌}
 use Rattle.std.specs.Prelude.{not, ◌&&◌}
-use Rattle.level_policies.specs.Entries.{rekeyed}
+use Rattle.ready_queues.specs.Entries.{rekeyed}
 use Rattle.ready_queues.proofs.LevelLemmas.{level-changed, spent-on, disciplines-same}
 use Rattle.ready_queues.proofs.levels.spend.Goals as goal
 

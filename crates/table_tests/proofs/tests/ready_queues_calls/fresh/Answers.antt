@@ -1,5 +1,5 @@
 use Rattle.std.proofs.Common.{◌≡◌, ◌+◌, ap, ◌∙◌, List, length, length-append, [], ◌∷◌, ◌++◌, map}
-use Rattle.level_policies.specs.Entries.{Entry}
+use Rattle.ready_queues.specs.Entries.{Entry}
 use Rattle.ready_queues.specs.Queues.{AreEmpty}
 use Rattle.table_tests.proofs.tests.ready_queues_calls.fresh.Goals as goal
 

@@ -1,6 +1,6 @@
 use Rattle.std.proofs.Common.{◌≡◌, false, List, [], ◌∷◌, map, refl, ◌∙◌}
 use Rattle.ann_base.specs.declared.identities.Slot.{Slot}
-use Rattle.level_policies.specs.Entries.{Entry}
+use Rattle.ready_queues.specs.Entries.{Entry}
 use Rattle.ready_queues.specs.Queues.{is_ready, AreEmpty}
 use Rattle.table_tests.proofs.tests.ready_queues_calls.run.Goals as goal
 

@@ -1,7 +1,7 @@
 use Rattle.std.proofs.Common.{◌+◌, subst, refl}
 use Rattle.outside_bytes.specs.Files.{left_of}
 use Rattle.trace_text.specs.declared.lines.TheConstants.{LINE_BYTES}
-use Rattle.file_lines.specs.Lines.{to_come, HandsOn}
+use Rattle.outside_bytes.specs.Lines.{to_come, HandsOn}
 use Rattle.trace_files.proofs.ReadOn.{text_taken}
 use Rattle.trace_files.proofs.texts.TraceFile.next.Goals as goal
 

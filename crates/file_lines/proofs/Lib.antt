@@ -1,3 +1,0 @@
-pub mod BytesByLines
-pub mod HandedOn
-pub mod Refilled

@@ -1,3 +1,0 @@
-pub mod EdfLevelLemmas
-pub mod EntryLemmas
-pub mod RankLemmas

@@ -1,4 +1,0 @@
-pub mod Disciplines
-pub mod EdfLevels
-pub mod Entries
-pub mod Kinds

@@ -1,3 +1,0 @@
-pub mod CellLemmas
-pub mod ListLemmas
-pub mod ParameterLemmas

@@ -1,2 +1,0 @@
-pub mod Becomes
-pub mod Beginnings

@@ -1,3 +1,0 @@
-pub mod NoteTexts
-pub mod ResponseLines
-pub mod WordTexts

@@ -4,6 +4,7 @@
 //! hold is answered as want of memory.
 #![tactic(auto)]
 
+mod actions;
 mod call_statements;
 mod handlers;
 mod operators;

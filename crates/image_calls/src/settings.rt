@@ -9,8 +9,8 @@ ghost use Rattle.ada_image.specs.ImageOfExpressions.{actuals_for};
 ghost use Rattle.ada_image.specs.TypesOfExpressions.{is_span};
 ghost use Rattle.ada_image.specs.ImageOfProcedures.{formal_is, is_called, moment_of, is_in_time, setting_with, setting_made, set_event_put, set_timer_put};
 
+use crate::actions::thing_of;
 use crate::handlers::handler_of;
-use crate::procedures::thing_of;
 use crate::typing::is_span;
 use ada_image::{Lists, Within};
 use ada_tree::{Argument, Expression, Identifier};

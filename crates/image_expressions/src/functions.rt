@@ -3,8 +3,7 @@
 ghost use Rattle.std.specs.Prelude.{◌≡◌, option_copied, option_map};
 ghost use Rattle.ada_regions.specs.PredefinedUnits.{names_of_formals};
 ghost use Rattle.ada_image.specs.Made.{Made};
-ghost use Rattle.ada_image.specs.ImageOfExpressions.{actuals_for, image_or_none, optional_made, span_made, same_ticks_made, of_task_made, port_made, name_in, of_thing_made, thing_in, images_for, function_made};
-ghost use Rattle.profile_machine.specs.declared.expressions.Expression.TheVariants as valuation;
+ghost use Rattle.ada_image.specs.ImageOfExpressions.{actuals_for, image_or_none, optional_made, span_made, name_in, thing_in, images_for, function_made};
 
 use crate::images::Imaged;
 use crate::names::thing_in;
@@ -63,79 +62,6 @@ fn span_made<E: Imaged>(
     value_put(lists, Expression::Span { ticks, count })
 }
 
-/// To_Duration and To_Time_Span (D.8).
-#[tactic(auto, unfolding(ada_image::specs::ImageOfExpressions::same_ticks_made))]
-fn same_ticks_made<E: Imaged>(
-    lists: &mut Lists,
-    actual: Option<&E>,
-    within: &Within<'_, '_>,
-) -> Result<ExprNo, NoMemory>
-    ensures { Made (same_ticks_made (option_map E.image (option_copied actual.entry)) within.now)
-        lists.old lists.new result }
-{
-    let span = image_or_none(lists, actual, within)?;
-    value_put(lists, Expression::SameTicks(span))
-}
-
-/// The processor time of a task (D.14).
-#[tactic(auto, unfolding(ada_image::specs::ImageOfExpressions::of_task_made))]
-fn execution_time_made<E: Imaged>(
-    lists: &mut Lists,
-    actual: Option<&E>,
-    within: &Within<'_, '_>,
-) -> Result<ExprNo, NoMemory>
-    ensures { Made
-        (of_task_made valuation.ExecutionTime (option_map E.image (option_copied actual.entry))
-        within.now) lists.old lists.new result }
-{
-    let task = optional_made(lists, actual, within)?;
-    value_put(lists, Expression::ExecutionTime(task))
-}
-
-/// The base priority of a task (D.5.1).
-#[tactic(auto, unfolding(ada_image::specs::ImageOfExpressions::of_task_made))]
-fn priority_made<E: Imaged>(
-    lists: &mut Lists,
-    actual: Option<&E>,
-    within: &Within<'_, '_>,
-) -> Result<ExprNo, NoMemory>
-    ensures { Made
-        (of_task_made valuation.Priority (option_map E.image (option_copied actual.entry))
-        within.now) lists.old lists.new result }
-{
-    let task = optional_made(lists, actual, within)?;
-    value_put(lists, Expression::Priority(task))
-}
-
-/// The deadline of a task (D.2.6).
-#[tactic(auto, unfolding(ada_image::specs::ImageOfExpressions::of_task_made))]
-fn deadline_made<E: Imaged>(
-    lists: &mut Lists,
-    actual: Option<&E>,
-    within: &Within<'_, '_>,
-) -> Result<ExprNo, NoMemory>
-    ensures { Made
-        (of_task_made valuation.Deadline (option_map E.image (option_copied actual.entry))
-        within.now) lists.old lists.new result }
-{
-    let task = optional_made(lists, actual, within)?;
-    value_put(lists, Expression::Deadline(task))
-}
-
-/// The value of a port of the script.
-#[tactic(auto, unfolding(ada_image::specs::ImageOfExpressions::port_made))]
-fn port_made<E: Imaged>(
-    lists: &mut Lists,
-    actual: Option<&E>,
-    within: &Within<'_, '_>,
-) -> Result<ExprNo, NoMemory>
-    ensures { Made (port_made (option_map E.image (option_copied actual.entry)) within.now)
-        lists.old lists.new result }
-{
-    let port = image_or_none(lists, actual, within)?;
-    value_put(lists, Expression::PortValue(port))
-}
-
 /// The event, timer or budget that an actual names.
 fn thing_of_actual<E: Imaged>(within: &Within<'_, '_>, actual: Option<&E>) -> DeclNo
     ensures { result
@@ -147,68 +73,8 @@ fn thing_of_actual<E: Imaged>(within: &Within<'_, '_>, actual: Option<&E>) -> De
     }
 }
 
-/// The time of the event that an actual names (D.15).
-#[tactic(auto, unfolding(ada_image::specs::ImageOfExpressions::of_thing_made))]
-fn time_of_event_made<E: Imaged>(
-    lists: &mut Lists,
-    actual: Option<&E>,
-    within: &Within<'_, '_>,
-) -> Result<ExprNo, NoMemory>
-    ensures { Made
-        (of_thing_made valuation.TimeOfEvent (option_map E.image (option_copied actual.entry))
-        within.now) lists.old lists.new result }
-{
-    let event = thing_of_actual(within, actual);
-    value_put(lists, Expression::TimeOfEvent(event))
-}
-
-/// The time that remains of the timer that an actual names (D.14.1).
-#[tactic(auto, unfolding(ada_image::specs::ImageOfExpressions::of_thing_made))]
-fn time_remaining_made<E: Imaged>(
-    lists: &mut Lists,
-    actual: Option<&E>,
-    within: &Within<'_, '_>,
-) -> Result<ExprNo, NoMemory>
-    ensures { Made
-        (of_thing_made valuation.TimeRemaining (option_map E.image (option_copied actual.entry))
-        within.now) lists.old lists.new result }
-{
-    let timer = thing_of_actual(within, actual);
-    value_put(lists, Expression::TimeRemaining(timer))
-}
-
-/// Whether the group budget that an actual names has expired (D.14.2).
-#[tactic(auto, unfolding(ada_image::specs::ImageOfExpressions::of_thing_made))]
-fn budget_has_expired_made<E: Imaged>(
-    lists: &mut Lists,
-    actual: Option<&E>,
-    within: &Within<'_, '_>,
-) -> Result<ExprNo, NoMemory>
-    ensures { Made
-        (of_thing_made valuation.BudgetHasExpired (option_map E.image (option_copied actual.entry))
-        within.now) lists.old lists.new result }
-{
-    let budget = thing_of_actual(within, actual);
-    value_put(lists, Expression::BudgetHasExpired(budget))
-}
-
-/// What remains of the group budget that an actual names (D.14.2).
-#[tactic(auto, unfolding(ada_image::specs::ImageOfExpressions::of_thing_made))]
-fn budget_remaining_made<E: Imaged>(
-    lists: &mut Lists,
-    actual: Option<&E>,
-    within: &Within<'_, '_>,
-) -> Result<ExprNo, NoMemory>
-    ensures { Made
-        (of_thing_made valuation.BudgetRemaining (option_map E.image (option_copied actual.entry))
-        within.now) lists.old lists.new result }
-{
-    let budget = thing_of_actual(within, actual);
-    value_put(lists, Expression::BudgetRemaining(budget))
-}
-
 /// A call of a predefined function.
-#[tactic(auto, unfolding(ada_image::specs::ImageOfExpressions::function_made, ada_image::specs::ImageOfExpressions::actuals_for, ada_image::specs::ImageOfExpressions::arguments_from))]
+#[tactic(auto, unfolding(ada_image::specs::ImageOfExpressions::function_made, ada_image::specs::ImageOfExpressions::same_ticks_made, ada_image::specs::ImageOfExpressions::of_task_made, ada_image::specs::ImageOfExpressions::of_thing_made, ada_image::specs::ImageOfExpressions::port_made, ada_image::specs::ImageOfExpressions::actuals_for, ada_image::specs::ImageOfExpressions::arguments_from))]
 pub(crate) fn function_made<E: Imaged>(
     lists: &mut Lists,
     operation: Operation,
@@ -236,47 +102,59 @@ pub(crate) fn function_made<E: Imaged>(
             span_made(lists, 60_000_000, argument_from(0, b"m", arguments), within)
         }
         Operation::ToDuration => {
-            same_ticks_made(lists, argument_from(0, b"ts", arguments), within)
+            let span = image_or_none(lists, argument_from(0, b"ts", arguments), within)?;
+            value_put(lists, Expression::SameTicks(span))
         }
         Operation::ToTimeSpan => {
-            same_ticks_made(lists, argument_from(0, b"d", arguments), within)
+            let duration = image_or_none(lists, argument_from(0, b"d", arguments), within)?;
+            value_put(lists, Expression::SameTicks(duration))
         }
         Operation::SetEvent => no_value(lists),
         Operation::CancelEvent => no_value(lists),
         Operation::TimeOfEvent => {
-            time_of_event_made(lists, argument_from(0, b"event", arguments), within)
+            let event = thing_of_actual(within, argument_from(0, b"event", arguments));
+            value_put(lists, Expression::TimeOfEvent(event))
         }
         Operation::ExecutionClock => {
-            execution_time_made(lists, argument_from(0, b"t", arguments), within)
+            let task = optional_made(lists, argument_from(0, b"t", arguments), within)?;
+            value_put(lists, Expression::ExecutionTime(task))
         }
         Operation::SetTimer => no_value(lists),
         Operation::CancelTimer => no_value(lists),
         Operation::TimeRemaining => {
-            time_remaining_made(lists, argument_from(0, b"tm", arguments), within)
+            let timer = thing_of_actual(within, argument_from(0, b"tm", arguments));
+            value_put(lists, Expression::TimeRemaining(timer))
         }
         Operation::AddTask => no_value(lists),
         Operation::RemoveTask => no_value(lists),
         Operation::Replenish => no_value(lists),
         Operation::Add => no_value(lists),
         Operation::BudgetHasExpired => {
-            budget_has_expired_made(lists, argument_from(0, b"gb", arguments), within)
+            let budget = thing_of_actual(within, argument_from(0, b"gb", arguments));
+            value_put(lists, Expression::BudgetHasExpired(budget))
         }
         Operation::BudgetRemaining => {
-            budget_remaining_made(lists, argument_from(0, b"gb", arguments), within)
+            let budget = thing_of_actual(within, argument_from(0, b"gb", arguments));
+            value_put(lists, Expression::BudgetRemaining(budget))
         }
         Operation::SetBudget => no_value(lists),
         Operation::CancelBudget => no_value(lists),
         Operation::SetPriority => no_value(lists),
         Operation::GetPriority => {
-            priority_made(lists, argument_from(0, b"t", arguments), within)
+            let task = optional_made(lists, argument_from(0, b"t", arguments), within)?;
+            value_put(lists, Expression::Priority(task))
         }
         Operation::CurrentTask => value_put(lists, Expression::CurrentTask),
         Operation::SetQuantum => no_value(lists),
         Operation::SetDeadline => no_value(lists),
         Operation::GetDeadline => {
-            deadline_made(lists, argument_from(0, b"t", arguments), within)
+            let task = optional_made(lists, argument_from(0, b"t", arguments), within)?;
+            value_put(lists, Expression::Deadline(task))
         }
         Operation::DelayUntilAndSetDeadline => no_value(lists),
-        Operation::PortValue => port_made(lists, argument_from(0, b"n", arguments), within),
+        Operation::PortValue => {
+            let port = image_or_none(lists, argument_from(0, b"n", arguments), within)?;
+            value_put(lists, Expression::PortValue(port))
+        }
     }
 }

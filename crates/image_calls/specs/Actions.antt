@@ -1,0 +1,39 @@
+-- The actions of predefined procedures that differ in nothing but in what they make of like arguments (ISO/IEC 8652:2012, D.2.5,
+-- D.2.6, D.5.1, D.14.1, D.14.2, D.15).
+use Rattle.profile_machine.specs.declared.numbers.DeclNo.{DeclNo}
+use Rattle.profile_machine.specs.declared.numbers.ExprNo.{ExprNo}
+use Rattle.std.specs.Prelude.{Option}
+use Rattle.profile_machine.specs.declared.expressions.VariableName.{VariableName}
+use Rattle.profile_machine.specs.declared.statements.StatementForm.{StatementForm}
+use Rattle.profile_machine.specs.declared.statements.StatementForm.TheVariants as action
+use Rattle.image_calls.specs.declared.actions.Cancelling.{Cancelling}
+use Rattle.image_calls.specs.declared.actions.Cancelling.TheVariants as cancelling
+use Rattle.image_calls.specs.declared.actions.Budgeting.{Budgeting}
+use Rattle.image_calls.specs.declared.actions.Budgeting.TheVariants as budgeting
+use Rattle.image_calls.specs.declared.actions.OfTask.{OfTask}
+use Rattle.image_calls.specs.declared.actions.OfTask.TheVariants as of_task
+use Rattle.image_calls.specs.declared.actions.OfValues.{OfValues}
+use Rattle.image_calls.specs.declared.actions.OfValues.TheVariants as of_values
+
+-- whose handler Cancel_Handler takes away
+abbrev pub cancel_action : Cancelling → DeclNo → VariableName → StatementForm
+cancel_action cancelling.Event = action.CancelEvent
+cancel_action cancelling.Timer = action.CancelTimer
+cancel_action cancelling.Budget = action.CancelBudget
+
+-- what is done with a group budget and a value
+abbrev pub budget_action : Budgeting → DeclNo → ExprNo → StatementForm
+budget_action budgeting.AddTask = action.AddTask
+budget_action budgeting.RemoveTask = action.RemoveTask
+budget_action budgeting.Replenish = action.Replenish
+budget_action budgeting.Add = action.AddToBudget
+
+-- what is set of a task
+abbrev pub task_action : OfTask → ExprNo → Option ExprNo → StatementForm
+task_action of_task.Priority = action.SetPriority
+task_action of_task.Deadline = action.SetDeadline
+
+-- what is done with two values
+abbrev pub values_action : OfValues → ExprNo → ExprNo → StatementForm
+values_action of_values.Quantum = action.SetQuantum
+values_action of_values.DelayUntilAndDeadline = action.DelayUntilAndSetDeadline

@@ -1,0 +1,259 @@
+//! Actions of predefined procedures that differ in nothing but in what they make of like arguments (ISO/IEC 8652:2012,
+//! D.2.5, D.2.6, D.5.1, D.14.1, D.14.2, D.15).
+ghost use Rattle.std.specs.Prelude.{◌≡◌, ◌∷◌, [], option_copied};
+ghost use Rattle.ada_image.specs.Made.{Made};
+ghost use Rattle.ada_image.specs.ImageOfProcedures.{thing_of, variable_of, optional_value, cancel_put, budget_put, task_put, values_put};
+ghost use Rattle.image_calls.specs.Actions.{cancel_action, budget_action, task_action, values_action};
+
+use ada_image::{Lists, Within};
+use ada_tree::Expression;
+use ann_base::NoMemory;
+use image_actuals::{no_variable, value_or_none, variable_in};
+use image_expressions::{expression_made, named, thing_in};
+use image_layout::action_put;
+use profile_machine::{DeclNo, ExprNo, StatementForm, StatementNo, VariableName};
+
+/// The event, timer or budget that an actual names.
+#[tactic(auto, unfolding(ada_image::specs::ImageOfProcedures::thing_of))]
+pub(crate) fn thing_of(within: &Within<'_, '_>, actual: Option<&Expression>) -> DeclNo
+    ensures { result ≡ thing_of within.now (option_copied actual.entry) }
+{
+    match actual {
+        None => thing_in(within, None),
+        Some(actual) => thing_in(within, named(actual)),
+    }
+}
+
+#[tactic(auto, unfolding(ada_image::specs::ImageOfProcedures::variable_of))]
+fn variable_of(
+    lists: &mut Lists,
+    within: &Within<'_, '_>,
+    actual: Option<&Expression>,
+) -> Result<VariableName, NoMemory>
+    ensures { Made (variable_of within.now (option_copied actual.entry)) lists.old lists.new
+        result }
+{
+    match actual {
+        None => Ok(no_variable()),
+        Some(actual) => variable_in(lists, within, actual),
+    }
+}
+
+/// The value of an actual that may be missing.
+#[tactic(auto, unfolding(ada_image::specs::ImageOfProcedures::optional_value))]
+fn optional_value(
+    lists: &mut Lists,
+    within: &Within<'_, '_>,
+    actual: Option<&Expression>,
+) -> Result<Option<ExprNo>, NoMemory>
+    ensures { Made (optional_value within.now (option_copied actual.entry)) lists.old lists.new
+        result }
+{
+    match actual {
+        None => Ok(None),
+        Some(actual) => Ok(Some(expression_made(lists, actual, within)?)),
+    }
+}
+
+/// Whose handler Cancel_Handler takes away.
+#[derive(Clone, Copy)]
+pub(crate) enum Cancelling {
+    /// A timing event's (D.15).
+    Event,
+    /// A timer's (D.14.1).
+    Timer,
+    /// A group budget's (D.14.2).
+    Budget,
+}
+
+impl Cancelling {
+    fn action(self, thing: DeclNo, cancelled: VariableName) -> StatementForm
+        ensures { result ≡ cancel_action self thing cancelled }
+    {
+        match self {
+            Cancelling::Event => StatementForm::CancelEvent {
+                event: thing,
+                cancelled,
+            },
+            Cancelling::Timer => StatementForm::CancelTimer {
+                timer: thing,
+                cancelled,
+            },
+            Cancelling::Budget => StatementForm::CancelBudget {
+                budget: thing,
+                cancelled,
+            },
+        }
+    }
+}
+
+/// Cancel_Handler (D.14.1, D.14.2, D.15).
+#[tactic(auto, unfolding(ada_image::specs::ImageOfProcedures::cancel_put))]
+pub(crate) fn cancel_put(
+    lists: &mut Lists,
+    within: &Within<'_, '_>,
+    cancelling: Cancelling,
+    thing: Option<&Expression>,
+    cancelled: Option<&Expression>,
+    signs: u32,
+    next: Option<StatementNo>,
+) -> Result<Option<StatementNo>, NoMemory>
+    ensures { Made
+        (cancel_put (cancel_action cancelling) within.now
+        (option_copied thing.entry ∷ option_copied cancelled.entry ∷ []) signs next) lists.old
+        lists.new result }
+{
+    let thing = thing_of(within, thing);
+    let cancelled = variable_of(lists, within, cancelled)?;
+    action_put(lists, cancelling.action(thing, cancelled), signs, next)
+}
+
+/// What is done with a group budget and a value (D.14.2).
+#[derive(Clone, Copy)]
+pub(crate) enum Budgeting {
+    /// Add_Task.
+    AddTask,
+    /// Remove_Task.
+    RemoveTask,
+    /// Replenish.
+    Replenish,
+    /// Add.
+    Add,
+}
+
+impl Budgeting {
+    fn action(self, budget: DeclNo, value: ExprNo) -> StatementForm
+        ensures { result ≡ budget_action self budget value }
+    {
+        match self {
+            Budgeting::AddTask => StatementForm::AddTask {
+                budget,
+                task: value,
+            },
+            Budgeting::RemoveTask => StatementForm::RemoveTask {
+                budget,
+                task: value,
+            },
+            Budgeting::Replenish => StatementForm::Replenish { budget, to: value },
+            Budgeting::Add => StatementForm::AddToBudget {
+                budget,
+                interval: value,
+            },
+        }
+    }
+}
+
+/// A call of Group_Budgets with a budget and a value (D.14.2).
+#[tactic(auto, unfolding(ada_image::specs::ImageOfProcedures::budget_put))]
+pub(crate) fn budget_put(
+    lists: &mut Lists,
+    within: &Within<'_, '_>,
+    budgeting: Budgeting,
+    budget: Option<&Expression>,
+    value: Option<&Expression>,
+    signs: u32,
+    next: Option<StatementNo>,
+) -> Result<Option<StatementNo>, NoMemory>
+    ensures { Made
+        (budget_put (budget_action budgeting) within.now
+        (option_copied budget.entry ∷ option_copied value.entry ∷ []) signs next) lists.old
+        lists.new result }
+{
+    let budget = thing_of(within, budget);
+    let value = value_or_none(lists, within, value)?;
+    action_put(lists, budgeting.action(budget, value), signs, next)
+}
+
+/// What is set of a task.
+#[derive(Clone, Copy)]
+pub(crate) enum OfTask {
+    /// Its base priority (D.5.1).
+    Priority,
+    /// Its deadline (D.2.6).
+    Deadline,
+}
+
+impl OfTask {
+    fn action(self, value: ExprNo, task: Option<ExprNo>) -> StatementForm
+        ensures { result ≡ task_action self value task }
+    {
+        match self {
+            OfTask::Priority => StatementForm::SetPriority {
+                priority: value,
+                task,
+            },
+            OfTask::Deadline => StatementForm::SetDeadline {
+                deadline: value,
+                task,
+            },
+        }
+    }
+}
+
+/// A call that sets something of a task, of the calling one where none is given (D.2.6, D.5.1).
+#[tactic(auto, unfolding(ada_image::specs::ImageOfProcedures::task_put))]
+pub(crate) fn task_put(
+    lists: &mut Lists,
+    within: &Within<'_, '_>,
+    of_task: OfTask,
+    value: Option<&Expression>,
+    task: Option<&Expression>,
+    signs: u32,
+    next: Option<StatementNo>,
+) -> Result<Option<StatementNo>, NoMemory>
+    ensures { Made
+        (task_put (task_action of_task) within.now
+        (option_copied value.entry ∷ option_copied task.entry ∷ []) signs next) lists.old
+        lists.new result }
+{
+    let value = value_or_none(lists, within, value)?;
+    let task = optional_value(lists, within, task)?;
+    action_put(lists, of_task.action(value, task), signs, next)
+}
+
+/// What is done with two values.
+#[derive(Clone, Copy)]
+pub(crate) enum OfValues {
+    /// The quantum of a level is set (D.2.5).
+    Quantum,
+    /// Delay_Until_And_Set_Deadline (D.2.6).
+    DelayUntilAndDeadline,
+}
+
+impl OfValues {
+    fn action(self, first: ExprNo, second: ExprNo) -> StatementForm
+        ensures { result ≡ values_action self first second }
+    {
+        match self {
+            OfValues::Quantum => StatementForm::SetQuantum {
+                level: first,
+                quantum: second,
+            },
+            OfValues::DelayUntilAndDeadline => StatementForm::DelayUntilAndSetDeadline {
+                until: first,
+                offset: second,
+            },
+        }
+    }
+}
+
+/// A call with two values (D.2.5, D.2.6).
+#[tactic(auto, unfolding(ada_image::specs::ImageOfProcedures::values_put))]
+pub(crate) fn values_put(
+    lists: &mut Lists,
+    within: &Within<'_, '_>,
+    of_values: OfValues,
+    first: Option<&Expression>,
+    second: Option<&Expression>,
+    signs: u32,
+    next: Option<StatementNo>,
+) -> Result<Option<StatementNo>, NoMemory>
+    ensures { Made
+        (values_put (values_action of_values) within.now
+        (option_copied first.entry ∷ option_copied second.entry ∷ []) signs next) lists.old
+        lists.new result }
+{
+    let first = value_or_none(lists, within, first)?;
+    let second = value_or_none(lists, within, second)?;
+    action_put(lists, of_values.action(first, second), signs, next)
+}

@@ -4,8 +4,12 @@
     tools/gate_times.py watch FILE     while a gate runs: each second, notes what each process of the prover has used
     tools/gate_times.py table FILE     processor minutes of proof, tests and edits of each crate, the most memory that one
                                        process took, and the longest chain of crates that stand on one another
+    tools/gate_times.py functions FOLDER [ROWS]
+                                       seconds that the last check of a crate spent on each of its functions, and on which part
+                                       of the proof: FOLDER is the crate's, after `rt check` from nothing. It goes by the moments
+                                       at which the prover wrote its files, so it is told most by a check alone on the machine
 
-A process that is seen for less than a second is not counted. Works on Linux, and reads /proc."""
+A process that is seen for less than a second is not counted. `watch` works on Linux, and reads /proc."""
 import collections
 import os
 import pathlib
@@ -96,7 +100,44 @@ def table(path):
     print(f"\nThe longest chain, {length:.1f} minutes of proof: " + ", ".join(chain))
 
 
+# The parts of a function's proof: what the borrow checker asks of it, the types that its signature reaches, its goals.
+PARTS = {"Lts": "borrows", "Layout": "types", "Named": "types", "Kinds": "types", "Tie": "types", "Proof": "goals", "Answers": "goals", "Invariants": "goals"}
+# A longer gap between two files is no work on the second: the machine did something else.
+LONGEST_GAP = 600
+
+
+def written_files(folder):
+    """(moment, path of words) of each file that the prover wrote of the crate, the oldest first."""
+    crate = pathlib.Path(folder).resolve().name
+    front = f"Rattle-{crate}-"
+    found = pathlib.Path(folder).glob(f"out/incremental/*/{front}*.oantt")
+    return sorted((file.stat().st_mtime, file.name[len(front) : -len(".oantt")].split(".")) for file in found)
+
+
+def functions(folder, rows=20):
+    spent, last = collections.defaultdict(lambda: collections.defaultdict(float)), None
+    for moment, words in written_files(folder):
+        if last is not None and moment - last < LONGEST_GAP:
+            part = next((PARTS[word] for word in reversed(words) if word in PARTS), "rest")
+            name = "::".join(word for word in words if word not in PARTS and word != "proofs")
+            spent[name][part] += moment - last
+        last = moment
+    if not spent:
+        sys.exit(f"nothing is kept of {folder}: run rt check there first")
+    in_all = collections.Counter()
+    for parts in spent.values():
+        in_all.update(parts)
+    shown = lambda parts: ", ".join(f"{part} {seconds:.1f}" for part, seconds in sorted(parts.items(), key=lambda item: -item[1]))
+    print(f"{sum(in_all.values()):.0f} s in all: {shown(in_all)}")
+    for name, parts in sorted(spent.items(), key=lambda item: -sum(item[1].values()))[:rows]:
+        print(f"{sum(parts.values()):8.1f}  {name}: {shown(parts)}")
+
+
 if __name__ == "__main__":
-    if len(sys.argv) != 3 or sys.argv[1] not in ("watch", "table"):
+    words = sys.argv[1:]
+    if len(words) == 2 and words[0] in ("watch", "table"):
+        {"watch": watch, "table": table}[words[0]](words[1])
+    elif words[:1] == ["functions"] and len(words) in (2, 3):
+        functions(words[1], *map(int, words[2:]))
+    else:
         sys.exit(__doc__)
-    {"watch": watch, "table": table}[sys.argv[1]](sys.argv[2])

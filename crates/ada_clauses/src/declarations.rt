@@ -8,7 +8,7 @@ ghost use Rattle.ada_grammar.specs.Reads.{Reads};
 use ada_expressions::{below, bounds, expression, identifiers, name, subtype_indication};
 use ada_grammar::{Cursor, Stuck};
 use ada_tree::{
-    Component, Declaration, Expression, Identifier, ObjectDeclaration, OneOrMore, Sequence,
+    Component, Declaration, Expression, Identifier, ObjectDeclaration, OneOrMore,
     SubtypeDeclaration, TypeDeclaration, TypeDefinition,
 };
 use ann_base::OrMemory;
@@ -34,12 +34,12 @@ fn initial_value(
 
 /// `[aliased] [constant] SUBTYPE [:= EXPRESSION];`, behind the names and the colon (3.3.1)
 #[tactic(auto, unfolding(ada_grammar::specs::ReadingDeclarations::object_of))]
-fn object_declaration(
+fn object_declaration<Q>(
     alloc: Global,
     cursor: &mut Cursor<'_>,
     left: usize,
     names: OneOrMore<Identifier>,
-) -> Result<Declaration<Sequence>, OrMemory<Stuck>>
+) -> Result<Declaration<Q>, OrMemory<Stuck>>
     ensures { Reads result cursor.new (object_of left names cursor.old) }
 {
     let aliased = cursor.flag(b"aliased")?;
@@ -58,10 +58,10 @@ fn object_declaration(
 
 /// `exception;`, behind the names and the colon (11.1)
 #[tactic(auto, unfolding(ada_grammar::specs::ReadingDeclarations::exception_of))]
-fn exception_declaration(
+fn exception_declaration<Q>(
     cursor: &mut Cursor<'_>,
     names: OneOrMore<Identifier>,
-) -> Result<Declaration<Sequence>, OrMemory<Stuck>>
+) -> Result<Declaration<Q>, OrMemory<Stuck>>
     ensures { Reads result cursor.new (exception_of names cursor.old) }
 {
     cursor.word(b"exception")?;
@@ -71,11 +71,11 @@ fn exception_declaration(
 
 /// An object declaration, or an exception declaration (3.3.1, 11.1).
 #[tactic(auto, unfolding(ada_grammar::specs::ReadingDeclarations::named_declaration_of))]
-pub fn named_declaration(
+pub fn named_declaration<Q>(
     alloc: Global,
     cursor: &mut Cursor<'_>,
     left: usize,
-) -> Result<Declaration<Sequence>, OrMemory<Stuck>>
+) -> Result<Declaration<Q>, OrMemory<Stuck>>
     ensures { Reads result cursor.new (named_declaration_of left cursor.old) }
 {
     let names = identifiers(alloc, cursor)?;
@@ -243,11 +243,11 @@ fn type_definition(
 
 /// `type NAME is DEFINITION;` (3.2.1)
 #[tactic(auto, unfolding(ada_grammar::specs::ReadingDeclarations::type_of))]
-pub fn type_declaration(
+pub fn type_declaration<Q>(
     alloc: Global,
     cursor: &mut Cursor<'_>,
     left: usize,
-) -> Result<Declaration<Sequence>, OrMemory<Stuck>>
+) -> Result<Declaration<Q>, OrMemory<Stuck>>
     ensures { Reads result cursor.new (type_of left cursor.old) }
 {
     let place = cursor.word(b"type")?;
@@ -264,11 +264,11 @@ pub fn type_declaration(
 
 /// `subtype NAME is SUBTYPE;` (3.2.2)
 #[tactic(auto, unfolding(ada_grammar::specs::ReadingDeclarations::subtype_of))]
-pub fn subtype_declaration(
+pub fn subtype_declaration<Q>(
     alloc: Global,
     cursor: &mut Cursor<'_>,
     left: usize,
-) -> Result<Declaration<Sequence>, OrMemory<Stuck>>
+) -> Result<Declaration<Q>, OrMemory<Stuck>>
     ensures { Reads result cursor.new (subtype_of left cursor.old) }
 {
     let place = cursor.word(b"subtype")?;
@@ -285,10 +285,10 @@ pub fn subtype_declaration(
 
 /// `use NAME;` (8.4)
 #[tactic(auto, unfolding(ada_grammar::specs::ReadingDeclarations::use_of))]
-pub fn use_clause(
+pub fn use_clause<Q>(
     alloc: Global,
     cursor: &mut Cursor<'_>,
-) -> Result<Declaration<Sequence>, OrMemory<Stuck>>
+) -> Result<Declaration<Q>, OrMemory<Stuck>>
     ensures { Reads result cursor.new (use_of cursor.old) }
 {
     let place = cursor.word(b"use")?;

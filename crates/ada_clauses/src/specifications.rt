@@ -11,7 +11,7 @@ use ada_expressions::{expression, first_before, parameters, subtype_indication};
 use ada_grammar::{Cursor, Stuck};
 use ada_tree::{
     Aspect, Component, Declaration, EntryDeclaration, EntryHead, Expression, ProtectedDeclaration,
-    ProtectedOperation, Sequence, SubprogramSpecification, TaskDeclaration, TaskDefinition,
+    ProtectedOperation, SubprogramSpecification, TaskDeclaration, TaskDefinition,
 };
 use ann_base::{OrMemory, Place};
 use sqlite_items::Items;
@@ -265,12 +265,12 @@ fn task_definition(
 
 /// `[type] NAME [ASPECTS] [DEFINITION];`, behind the `task` at this place (9.1)
 #[tactic(auto, unfolding(ada_grammar::specs::ReadingDeclarations::task_of))]
-pub fn task_declaration(
+pub fn task_declaration<Q>(
     alloc: Global,
     cursor: &mut Cursor<'_>,
     left: usize,
     place: Place,
-) -> Result<Declaration<Sequence>, OrMemory<Stuck>>
+) -> Result<Declaration<Q>, OrMemory<Stuck>>
     ensures { Reads result cursor.new (task_of left place cursor.old) }
 {
     let is_type = cursor.flag(b"type")?;
@@ -362,12 +362,12 @@ fn private_part(
 
 /// `[type] NAME [ASPECTS] is {OPERATION} [private {COMPONENT}] end [NAME];`, behind the `protected` at this place (9.4)
 #[tactic(auto, unfolding(ada_grammar::specs::ReadingDeclarations::protected_of, ada_grammar::specs::Reading::items_of, ada_grammar::specs::Reading::end_name_of))]
-pub fn protected_declaration(
+pub fn protected_declaration<Q>(
     alloc: Global,
     cursor: &mut Cursor<'_>,
     left: usize,
     place: Place,
-) -> Result<Declaration<Sequence>, OrMemory<Stuck>>
+) -> Result<Declaration<Q>, OrMemory<Stuck>>
     ensures { Reads result cursor.new (protected_of left place cursor.old) }
 {
     let is_type = cursor.flag(b"type")?;

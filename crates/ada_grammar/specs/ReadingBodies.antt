@@ -1,7 +1,6 @@
 -- Reading bodies, and all declarations (clauses 3.11, 6.3, 9.1, 9.4, 9.5.2).
 use Rattle.std.specs.Prelude.{ℕ, Bool, ◌||◌, List, codes}
 use Rattle.ann_base.specs.declared.places.Place.{Place}
-use Rattle.ada_tree.specs.declared.statements.Sequence.{Sequence}
 use Rattle.ada_tree.specs.declared.statements.SequenceRole.{SequenceRole}
 use Rattle.ada_tree.specs.declared.statements.SequenceRole.TheVariants as role
 use Rattle.ada_tree.specs.declared.declarations.Declaration.{Declaration}
@@ -16,9 +15,9 @@ use Rattle.ada_grammar.specs.ReadingDeclarations.{begins_operation, begins_speci
 
 -- ---- bodies, given how a sequence is read one level further in
 
-module _ (left : ℕ) (sequence : SequenceRole → Parser Sequence) where
+module _ {Q : Type 0} (left : ℕ) (sequence : SequenceRole → Parser Q) where
   -- "is" body "end" [NAME] ";"
-  unfoldable pub body_of : List ℕ → Parser (Body Sequence)
+  unfoldable pub body_of : List ℕ → Parser (Body Q)
   body_of name = do
     opening_is_of left
     inside ← sequence role.Body
@@ -27,49 +26,49 @@ module _ (left : ℕ) (sequence : SequenceRole → Parser Sequence) where
     the_delimiter (codes ";")
     pure (record { sequence = inside; named_at_end = named })
 
-  unfoldable pub subprogram_operation_of : Parser (OperationBody Sequence)
+  unfoldable pub subprogram_operation_of : Parser (OperationBody Q)
   subprogram_operation_of = do
     specification ← specification_of left
     body ← body_of specification.name.text
     pure (bodies.Subprogram specification body)
 
-  unfoldable pub entry_operation_of : Parser (OperationBody Sequence)
+  unfoldable pub entry_operation_of : Parser (OperationBody Q)
   entry_operation_of = do
     head ← entry_head_of left
     body ← body_of head.name.text
     pure (bodies.Entry head body)
 
-  unfoldable pub operation_body_of : Parser (OperationBody Sequence)
+  unfoldable pub operation_body_of : Parser (OperationBody Q)
   operation_body_of = choose (sees_word (codes "entry")) entry_operation_of subprogram_operation_of
 
   -- specification ";" | specification body
-  unfoldable pub subprogram_body_of : SubprogramSpecification → Parser (Declaration Sequence)
+  unfoldable pub subprogram_body_of : SubprogramSpecification → Parser (Declaration Q)
   subprogram_body_of specification = do
     body ← body_of specification.name.text
     pure (declarations.SubprogramBody specification body)
 
-  unfoldable pub subprogram_of : Parser (Declaration Sequence)
+  unfoldable pub subprogram_of : Parser (Declaration Q)
   subprogram_of = do
     specification ← specification_of left
     choose (sees_delimiter (codes ";")) (the_delimiter (codes ";") >> pure (declarations.Subprogram specification)) (subprogram_body_of specification)
 
   -- "body" NAME body, behind "task"
-  unfoldable pub task_body_of : Place → Parser (Declaration Sequence)
+  unfoldable pub task_body_of : Place → Parser (Declaration Q)
   task_body_of place = do
     the_word (codes "body")
     name ← an_identifier
     body ← body_of name.text
     pure (declarations.TaskBody place name body)
 
-  unfoldable pub any_task_of : Parser (Declaration Sequence)
+  unfoldable pub any_task_of : Parser (Declaration Q)
   any_task_of = do
     place ← the_word (codes "task")
     choose (sees_word (codes "body")) (task_body_of place) (task_of left place)
 
 -- the operations of a protected body are one level further in, and their sequences two
-module _ (left : ℕ) (sequence : SequenceRole → Parser Sequence) (deeper : SequenceRole → Parser Sequence) where
+module _ {Q : Type 0} (left : ℕ) (sequence : SequenceRole → Parser Q) (deeper : SequenceRole → Parser Q) where
   -- "body" NAME "is" {operation body} "end" [NAME] ";", behind "protected"
-  unfoldable pub protected_body_of : Place → Parser (Declaration Sequence)
+  unfoldable pub protected_body_of : Place → Parser (Declaration Q)
   protected_body_of place = do
     the_word (codes "body")
     name ← an_identifier
@@ -80,13 +79,13 @@ module _ (left : ℕ) (sequence : SequenceRole → Parser Sequence) (deeper : Se
     the_delimiter (codes ";")
     pure (declarations.ProtectedBody (record { place = place; name = name; operations = operation_bodies; named_at_end = named }))
 
-  unfoldable pub any_protected_of : Parser (Declaration Sequence)
+  unfoldable pub any_protected_of : Parser (Declaration Q)
   any_protected_of = do
     place ← the_word (codes "protected")
     choose (sees_word (codes "body")) (protected_body_of place) (protected_of left place)
 
   -- all declarations (3.1)
-  unfoldable pub declaration_of : Parser (Declaration Sequence)
+  unfoldable pub declaration_of : Parser (Declaration Q)
   declaration_of =
       choose sees_identifier (named_declaration_of left)
       (choose (sees_word (codes "type")) (type_of left)

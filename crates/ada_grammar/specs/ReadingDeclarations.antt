@@ -4,7 +4,6 @@ use Rattle.ann_base.specs.declared.places.Place.{Place}
 use Rattle.ada_tree.specs.declared.names.Identifier.{Identifier}
 use Rattle.ada_tree.specs.declared.names.OneOrMore.{OneOrMore}
 use Rattle.ada_tree.specs.declared.expressions.Expression.{Expression}
-use Rattle.ada_tree.specs.declared.statements.Sequence.{Sequence}
 use Rattle.ada_tree.specs.declared.declarations.Declaration.{Declaration}
 use Rattle.ada_tree.specs.declared.declarations.Component.{Component}
 use Rattle.ada_tree.specs.declared.declarations.TypeDefinition.{TypeDefinition}
@@ -29,7 +28,7 @@ unfoldable pub initial_of : ℕ → Parser (Option Expression)
 initial_of left = choose (sees_delimiter (codes ":=")) (do the_delimiter (codes ":="); value ← expression_of left; pure (Some value)) (pure None)
 
 -- ["aliased"] ["constant"] subtype [":=" expression] ";", behind the names and the colon
-unfoldable pub object_of : ℕ → OneOrMore Identifier → Parser (Declaration Sequence)
+unfoldable pub object_of : {Q : Type 0} → ℕ → OneOrMore Identifier → Parser (Declaration Q)
 object_of left names = do
   aliased ← flag_of (codes "aliased")
   constant ← flag_of (codes "constant")
@@ -38,13 +37,13 @@ object_of left names = do
   the_delimiter (codes ";")
   pure (declarations.Object (record { names = names; aliased = aliased; constant = constant; subtype = subtype; initial = initial }))
 
-unfoldable pub exception_of : OneOrMore Identifier → Parser (Declaration Sequence)
+unfoldable pub exception_of : {Q : Type 0} → OneOrMore Identifier → Parser (Declaration Q)
 exception_of names = do
   the_word (codes "exception")
   the_delimiter (codes ";")
   pure (declarations.Exception names)
 
-unfoldable pub named_declaration_of : ℕ → Parser (Declaration Sequence)
+unfoldable pub named_declaration_of : {Q : Type 0} → ℕ → Parser (Declaration Q)
 named_declaration_of left = do
   names ← identifiers_of
   the_delimiter (codes ":")
@@ -111,7 +110,7 @@ unfoldable pub definition_of : ℕ → Parser TypeDefinition
 definition_of left = choose (sees_delimiter (codes "(")) (enumeration_of left) (choose (sees_word (codes "array")) (array_of left) (derived_of left))
 
 -- "type" NAME "is" definition ";"
-unfoldable pub type_of : ℕ → Parser (Declaration Sequence)
+unfoldable pub type_of : {Q : Type 0} → ℕ → Parser (Declaration Q)
 type_of left = do
   place ← the_word (codes "type")
   name ← an_identifier
@@ -121,7 +120,7 @@ type_of left = do
   pure (declarations.Type (record { place = place; name = name; definition = definition }))
 
 -- "subtype" NAME "is" subtype ";"
-unfoldable pub subtype_of : ℕ → Parser (Declaration Sequence)
+unfoldable pub subtype_of : {Q : Type 0} → ℕ → Parser (Declaration Q)
 subtype_of left = do
   place ← the_word (codes "subtype")
   name ← an_identifier
@@ -131,7 +130,7 @@ subtype_of left = do
   pure (declarations.Subtype (record { place = place; name = name; subtype = subtype }))
 
 -- "use" name ";"
-unfoldable pub use_of : Parser (Declaration Sequence)
+unfoldable pub use_of : {Q : Type 0} → Parser (Declaration Q)
 use_of = do
   place ← the_word (codes "use")
   name ← name_of
@@ -210,7 +209,7 @@ task_definition_of left name =
     (pure None)
 
 -- ["type"] NAME [aspects] [definition] ";", behind "task"
-unfoldable pub task_of : ℕ → Place → Parser (Declaration Sequence)
+unfoldable pub task_of : {Q : Type 0} → ℕ → Place → Parser (Declaration Q)
 task_of left place = do
   is_type ← flag_of (codes "type")
   name ← an_identifier
@@ -237,7 +236,7 @@ private_of left =
     choose (sees_word (codes "private")) (do the_word (codes "private"); components ← items_of sees_identifier (component_of left); pure (Some components)) (pure None)
 
 -- ["type"] NAME [aspects] "is" {operation} ["private" {component}] "end" [NAME] ";", behind "protected"
-unfoldable pub protected_of : ℕ → Place → Parser (Declaration Sequence)
+unfoldable pub protected_of : {Q : Type 0} → ℕ → Place → Parser (Declaration Q)
 protected_of left place = do
   is_type ← flag_of (codes "type")
   name ← an_identifier

@@ -15,7 +15,6 @@ use Rattle.ada_tree.specs.declared.statements.Choice.{Choice}
 use Rattle.ada_tree.specs.declared.statements.Label.{Label}
 use Rattle.ada_tree.specs.declared.statements.Iteration.{Iteration}
 use Rattle.ada_tree.specs.declared.statements.HandledExceptions.{HandledExceptions}
-use Rattle.ada_tree.specs.declared.statements.Sequence.{Sequence}
 use Rattle.ada_tree.specs.declared.statements.Statement.TheVariants as statements
 use Rattle.ada_tree.specs.declared.statements.Choice.TheVariants as choices
 use Rattle.ada_tree.specs.declared.statements.Iteration.TheVariants as iterations
@@ -97,7 +96,7 @@ index_of (a ∷ []) = only_index_of a.formal a.value
 index_of (a ∷ b ∷ more) = nothing
 
 -- name ["(" expression ")"] ":=" expression ";" (5.2), from ":=" on
-unfoldable pub assignment_behind_of : ℕ → Name → List (Argument Expression) → Parser (Statement Sequence)
+unfoldable pub assignment_behind_of : {Q : Type 0} → ℕ → Name → List (Argument Expression) → Parser (Statement Q)
 assignment_behind_of left target arguments = do
   index ← index_of arguments
   the_delimiter (codes ":=")
@@ -105,12 +104,12 @@ assignment_behind_of left target arguments = do
   the_delimiter (codes ";")
   pure (statements.Assignment (record { target = target; index = index; value = value }))
 
-unfoldable pub call_behind_of : Name → List (Argument Expression) → Parser (Statement Sequence)
+unfoldable pub call_behind_of : {Q : Type 0} → Name → List (Argument Expression) → Parser (Statement Q)
 call_behind_of name arguments = do
   the_delimiter (codes ";")
   pure (statements.Call (record { name = name; arguments = arguments }))
 
-unfoldable pub simple_of : ℕ → Parser (Statement Sequence)
+unfoldable pub simple_of : {Q : Type 0} → ℕ → Parser (Statement Q)
 simple_of left = do
   name ← name_of
   arguments ← all_arguments_of left
@@ -173,7 +172,7 @@ loop_name_of = choose sees_identifier (an_identifier >>= λ name. pure (Some nam
 unfoldable pub when_of : ℕ → Parser (Option Expression)
 when_of left = choose (sees_word (codes "when")) (do the_word (codes "when"); condition ← expression_of left; pure (Some condition)) (pure None)
 
-unfoldable pub exit_of : ℕ → Parser (Statement Sequence)
+unfoldable pub exit_of : {Q : Type 0} → ℕ → Parser (Statement Q)
 exit_of left = do
   place ← the_word (codes "exit")
   loop_name ← loop_name_of
@@ -181,7 +180,7 @@ exit_of left = do
   the_delimiter (codes ";")
   pure (statements.Exit (record { place = place; loop_name = loop_name; condition = condition }))
 
-unfoldable pub null_of : Parser (Statement Sequence)
+unfoldable pub null_of : {Q : Type 0} → Parser (Statement Q)
 null_of = do
   place ← the_word (codes "null")
   the_delimiter (codes ";")
@@ -191,7 +190,7 @@ null_of = do
 unfoldable pub result_value_of : ℕ → Parser (Option Expression)
 result_value_of left = choose (sees_delimiter (codes ";")) (pure None) (expression_of left >>= λ value. pure (Some value))
 
-unfoldable pub return_of : ℕ → Parser (Statement Sequence)
+unfoldable pub return_of : {Q : Type 0} → ℕ → Parser (Statement Q)
 return_of left = do
   place ← the_word (codes "return")
   value ← result_value_of left
@@ -202,7 +201,7 @@ return_of left = do
 unfoldable pub exception_name_of : Parser (Option Name)
 exception_name_of = choose sees_identifier (name_of >>= λ name. pure (Some name)) (pure None)
 
-unfoldable pub raise_of : Parser (Statement Sequence)
+unfoldable pub raise_of : {Q : Type 0} → Parser (Statement Q)
 raise_of = do
   place ← the_word (codes "raise")
   exception ← exception_name_of
@@ -210,7 +209,7 @@ raise_of = do
   pure (statements.Raise place exception)
 
 -- "abort" name {"," name} ";" (9.8)
-unfoldable pub abort_of : Parser (Statement Sequence)
+unfoldable pub abort_of : {Q : Type 0} → Parser (Statement Q)
 abort_of = do
   place ← the_word (codes "abort")
   tasks ← names_of (codes ",")
@@ -221,7 +220,7 @@ abort_of = do
 unfoldable pub with_abort_of : Parser Bool
 with_abort_of = choose (sees_word (codes "with")) (do the_word (codes "with"); the_word (codes "abort"); pure true) (pure false)
 
-unfoldable pub requeue_of : Parser (Statement Sequence)
+unfoldable pub requeue_of : {Q : Type 0} → Parser (Statement Q)
 requeue_of = do
   place ← the_word (codes "requeue")
   entry ← name_of

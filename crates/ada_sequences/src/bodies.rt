@@ -6,7 +6,7 @@ ghost use Rattle.ada_grammar.specs.Reads.{Reads};
 ghost use Rattle.ada_grammar.specs.ReadingDeclarations.{begins_operation};
 ghost use Rattle.ada_statements.specs.Inside.{ReadsInside};
 ghost use Rattle.ada_grammar.specs.ReadingBodies.{any_protected_of, any_task_of, begins_declaration, begins_unit, body_of, declaration_of, entry_operation_of, operation_body_of, protected_body_of, subprogram_body_of, subprogram_of, subprogram_operation_of, task_body_of};
-ghost use Rattle.ada_grammar.specs.ReadingSequences.{inside_of};
+ghost use Rattle.ada_grammar.specs.ReadingSequences.{inside_of, sequence_of};
 
 use crate::sequences::SequenceReader;
 use ada_clauses::{
@@ -64,7 +64,8 @@ impl<
         cursor: &mut Cursor<'_>,
         name: &Identifier,
     ) -> Result<Body<Sequence>, OrMemory<Stuck>>
-        requires reads { ReadsInside self.now.left (F.pre self.now.read) (F.post self.now.read) }
+        requires reads { ReadsInside sequence_of self.now.left (F.pre self.now.read)
+            (F.post self.now.read) }
         requires lower { map to_ascii_lowercase name.now.text ≡ name.now.text }
         ensures { Reads result cursor.new
             (body_of self.now.left (inside_of self.now.left) name.now.text cursor.old) }
@@ -86,7 +87,8 @@ impl<
         &self,
         cursor: &mut Cursor<'_>,
     ) -> Result<OperationBody<Sequence>, OrMemory<Stuck>>
-        requires reads { ReadsInside self.now.left (F.pre self.now.read) (F.post self.now.read) }
+        requires reads { ReadsInside sequence_of self.now.left (F.pre self.now.read)
+            (F.post self.now.read) }
         ensures { Reads result cursor.new
             (subprogram_operation_of self.now.left (inside_of self.now.left) cursor.old) }
     {
@@ -104,7 +106,8 @@ impl<
         &self,
         cursor: &mut Cursor<'_>,
     ) -> Result<OperationBody<Sequence>, OrMemory<Stuck>>
-        requires reads { ReadsInside self.now.left (F.pre self.now.read) (F.post self.now.read) }
+        requires reads { ReadsInside sequence_of self.now.left (F.pre self.now.read)
+            (F.post self.now.read) }
         ensures { Reads result cursor.new
             (entry_operation_of self.now.left (inside_of self.now.left) cursor.old) }
     {
@@ -119,7 +122,8 @@ impl<
         &self,
         cursor: &mut Cursor<'_>,
     ) -> Result<OperationBody<Sequence>, OrMemory<Stuck>>
-        requires reads { ReadsInside self.now.left (F.pre self.now.read) (F.post self.now.read) }
+        requires reads { ReadsInside sequence_of self.now.left (F.pre self.now.read)
+            (F.post self.now.read) }
         ensures { Reads result cursor.new
             (operation_body_of self.now.left (inside_of self.now.left) cursor.old) }
     {
@@ -137,7 +141,8 @@ impl<
         cursor: &mut Cursor<'_>,
         specification: SubprogramSpecification,
     ) -> Result<Declaration<Sequence>, OrMemory<Stuck>>
-        requires reads { ReadsInside self.now.left (F.pre self.now.read) (F.post self.now.read) }
+        requires reads { ReadsInside sequence_of self.now.left (F.pre self.now.read)
+            (F.post self.now.read) }
         requires lower { map to_ascii_lowercase specification.name.text ≡ specification.name.text }
         ensures { Reads result cursor.new
             (subprogram_body_of self.now.left (inside_of self.now.left) specification cursor.old) }
@@ -152,7 +157,8 @@ impl<
     /// A subprogram declaration or a subprogram body (6.1, 6.3).
     #[tactic(auto, unfolding(ada_grammar::specs::ReadingBodies::subprogram_of))]
     fn subprogram(&self, cursor: &mut Cursor<'_>) -> Result<Declaration<Sequence>, OrMemory<Stuck>>
-        requires reads { ReadsInside self.now.left (F.pre self.now.read) (F.post self.now.read) }
+        requires reads { ReadsInside sequence_of self.now.left (F.pre self.now.read)
+            (F.post self.now.read) }
         ensures { Reads result cursor.new
             (subprogram_of self.now.left (inside_of self.now.left) cursor.old) }
     {
@@ -172,7 +178,8 @@ impl<
         cursor: &mut Cursor<'_>,
         place: Place,
     ) -> Result<Declaration<Sequence>, OrMemory<Stuck>>
-        requires reads { ReadsInside self.now.left (F.pre self.now.read) (F.post self.now.read) }
+        requires reads { ReadsInside sequence_of self.now.left (F.pre self.now.read)
+            (F.post self.now.read) }
         ensures { Reads result cursor.new
             (task_body_of self.now.left (inside_of self.now.left) place cursor.old) }
     {
@@ -185,7 +192,8 @@ impl<
     /// A task declaration or a task body (9.1).
     #[tactic(auto, unfolding(ada_grammar::specs::ReadingBodies::any_task_of))]
     fn any_task(&self, cursor: &mut Cursor<'_>) -> Result<Declaration<Sequence>, OrMemory<Stuck>>
-        requires reads { ReadsInside self.now.left (F.pre self.now.read) (F.post self.now.read) }
+        requires reads { ReadsInside sequence_of self.now.left (F.pre self.now.read)
+            (F.post self.now.read) }
         ensures { Reads result cursor.new
             (any_task_of self.now.left (inside_of self.now.left) cursor.old) }
     {
@@ -202,7 +210,8 @@ impl<
         &self,
         cursor: &mut Cursor<'_>,
     ) -> Result<OperationBody<Sequence>, OrMemory<Stuck>>
-        requires reads { ReadsInside self.now.left (F.pre self.now.read) (F.post self.now.read) }
+        requires reads { ReadsInside sequence_of self.now.left (F.pre self.now.read)
+            (F.post self.now.read) }
         ensures { Reads result cursor.new
             (operation_body_of (below self.now.left) (inside_of (below self.now.left)) cursor.old) }
     {
@@ -220,7 +229,8 @@ impl<
         &self,
         cursor: &mut Cursor<'_>,
     ) -> Result<Items<OperationBody<Sequence>>, OrMemory<Stuck>>
-        requires reads { ReadsInside self.now.left (F.pre self.now.read) (F.post self.now.read) }
+        requires reads { ReadsInside sequence_of self.now.left (F.pre self.now.read)
+            (F.post self.now.read) }
         ensures { Reads result cursor.new
             (items_of begins_operation
             (operation_body_of (below self.now.left) (inside_of (below self.now.left)))
@@ -243,7 +253,8 @@ impl<
         cursor: &mut Cursor<'_>,
         place: Place,
     ) -> Result<Declaration<Sequence>, OrMemory<Stuck>>
-        requires reads { ReadsInside self.now.left (F.pre self.now.read) (F.post self.now.read) }
+        requires reads { ReadsInside sequence_of self.now.left (F.pre self.now.read)
+            (F.post self.now.read) }
         ensures { Reads result cursor.new
             (protected_body_of self.now.left (inside_of self.now.left)
             (inside_of (below self.now.left)) place cursor.old) }
@@ -269,7 +280,8 @@ impl<
         &self,
         cursor: &mut Cursor<'_>,
     ) -> Result<Declaration<Sequence>, OrMemory<Stuck>>
-        requires reads { ReadsInside self.now.left (F.pre self.now.read) (F.post self.now.read) }
+        requires reads { ReadsInside sequence_of self.now.left (F.pre self.now.read)
+            (F.post self.now.read) }
         ensures { Reads result cursor.new
             (any_protected_of self.now.left (inside_of self.now.left)
             (inside_of (below self.now.left)) cursor.old) }
@@ -288,7 +300,8 @@ impl<
         &self,
         cursor: &mut Cursor<'_>,
     ) -> Result<Declaration<Sequence>, OrMemory<Stuck>>
-        requires reads { ReadsInside self.now.left (F.pre self.now.read) (F.post self.now.read) }
+        requires reads { ReadsInside sequence_of self.now.left (F.pre self.now.read)
+            (F.post self.now.read) }
         ensures { Reads result cursor.new
             (declaration_of self.now.left (inside_of self.now.left)
             (inside_of (below self.now.left)) cursor.old) }

@@ -5,7 +5,7 @@ ghost use Rattle.ada_grammar.specs.Reads.{Reads};
 ghost use Rattle.ada_statements.specs.Inside.{ReadsInside};
 ghost use Rattle.ada_grammar.specs.ReadingBodies.{begins_declaration};
 ghost use Rattle.ada_grammar.specs.ReadingStatements.{begins_statement};
-ghost use Rattle.ada_grammar.specs.ReadingSequences.{declarations_of, given_handlers_of, handled_behind_of, handler_of, handlers_of, inside_of, made, parts_of, plain_of, statement_of, statements_of, whole_body_of};
+ghost use Rattle.ada_grammar.specs.ReadingSequences.{declarations_of, given_handlers_of, handled_behind_of, handler_of, handlers_of, inside_of, made, parts_of, plain_of, sequence_of, statement_of, statements_of, whole_body_of};
 
 use crate::bodies::begins_declaration;
 use ada_grammar::{Cursor, Stuck};
@@ -68,7 +68,8 @@ impl<
         cursor: &mut Cursor<'_>,
         role: SequenceRole,
     ) -> Result<Sequence, OrMemory<Stuck>>
-        requires reads { ReadsInside self.now.left (F.pre self.now.read) (F.post self.now.read) }
+        requires reads { ReadsInside sequence_of self.now.left (F.pre self.now.read)
+            (F.post self.now.read) }
         ensures { Reads result cursor.new (inside_of self.now.left role cursor.old) }
     {
         match self.left {
@@ -80,7 +81,8 @@ impl<
     /// A statement, which takes a level (5.1).
     #[tactic(auto, unfolding(ada_grammar::specs::ReadingSequences::statement_of))]
     fn statement(&self, cursor: &mut Cursor<'_>) -> Result<Statement<Sequence>, OrMemory<Stuck>>
-        requires reads { ReadsInside self.now.left (F.pre self.now.read) (F.post self.now.read) }
+        requires reads { ReadsInside sequence_of self.now.left (F.pre self.now.read)
+            (F.post self.now.read) }
         ensures { Reads result cursor.new
             (statement_of self.now.left (inside_of self.now.left) (inside_of (below self.now.left))
             cursor.old) }
@@ -108,7 +110,8 @@ impl<
         &self,
         cursor: &mut Cursor<'_>,
     ) -> Result<Items<Statement<Sequence>>, OrMemory<Stuck>>
-        requires reads { ReadsInside self.now.left (F.pre self.now.read) (F.post self.now.read) }
+        requires reads { ReadsInside sequence_of self.now.left (F.pre self.now.read)
+            (F.post self.now.read) }
         ensures { Reads result cursor.new
             (items_of begins_statement
             (statement_of self.now.left (inside_of self.now.left) (inside_of (below self.now.left)))
@@ -130,7 +133,8 @@ impl<
         &self,
         cursor: &mut Cursor<'_>,
     ) -> Result<OneOrMore<Statement<Sequence>>, OrMemory<Stuck>>
-        requires reads { ReadsInside self.now.left (F.pre self.now.read) (F.post self.now.read) }
+        requires reads { ReadsInside sequence_of self.now.left (F.pre self.now.read)
+            (F.post self.now.read) }
         ensures { Reads result cursor.new
             (statements_of self.now.left (inside_of self.now.left) (inside_of (below self.now.left))
             cursor.old) }
@@ -143,7 +147,8 @@ impl<
     /// Statements alone (5.1).
     #[tactic(auto, unfolding(ada_grammar::specs::ReadingSequences::plain_of))]
     fn plain(&self, cursor: &mut Cursor<'_>) -> Result<Sequence, OrMemory<Stuck>>
-        requires reads { ReadsInside self.now.left (F.pre self.now.read) (F.post self.now.read) }
+        requires reads { ReadsInside sequence_of self.now.left (F.pre self.now.read)
+            (F.post self.now.read) }
         ensures { Reads result cursor.new
             (plain_of self.now.left (inside_of self.now.left) (inside_of (below self.now.left))
             cursor.old) }
@@ -155,7 +160,8 @@ impl<
     /// A handler (11.2).
     #[tactic(auto, unfolding(ada_grammar::specs::ReadingSequences::handler_of))]
     fn handler(&self, cursor: &mut Cursor<'_>) -> Result<Handler<Sequence>, OrMemory<Stuck>>
-        requires reads { ReadsInside self.now.left (F.pre self.now.read) (F.post self.now.read) }
+        requires reads { ReadsInside sequence_of self.now.left (F.pre self.now.read)
+            (F.post self.now.read) }
         ensures { Reads result cursor.new
             (handler_of self.now.left (inside_of self.now.left) (inside_of (below self.now.left))
             cursor.old) }
@@ -177,7 +183,8 @@ impl<
         &self,
         cursor: &mut Cursor<'_>,
     ) -> Result<Items<Handler<Sequence>>, OrMemory<Stuck>>
-        requires reads { ReadsInside self.now.left (F.pre self.now.read) (F.post self.now.read) }
+        requires reads { ReadsInside sequence_of self.now.left (F.pre self.now.read)
+            (F.post self.now.read) }
         ensures { Reads result cursor.new
             (items_of (sees_word (codes "when"))
             (handler_of self.now.left (inside_of self.now.left) (inside_of (below self.now.left)))
@@ -199,7 +206,8 @@ impl<
         &self,
         cursor: &mut Cursor<'_>,
     ) -> Result<Items<Handler<Sequence>>, OrMemory<Stuck>>
-        requires reads { ReadsInside self.now.left (F.pre self.now.read) (F.post self.now.read) }
+        requires reads { ReadsInside sequence_of self.now.left (F.pre self.now.read)
+            (F.post self.now.read) }
         ensures { Reads result cursor.new
             (given_handlers_of self.now.left (inside_of self.now.left)
             (inside_of (below self.now.left)) cursor.old) }
@@ -216,7 +224,8 @@ impl<
     /// `[exception HANDLER {HANDLER}]` (11.2)
     #[tactic(auto, unfolding(ada_grammar::specs::ReadingSequences::handlers_of))]
     fn handlers(&self, cursor: &mut Cursor<'_>) -> Result<Items<Handler<Sequence>>, OrMemory<Stuck>>
-        requires reads { ReadsInside self.now.left (F.pre self.now.read) (F.post self.now.read) }
+        requires reads { ReadsInside sequence_of self.now.left (F.pre self.now.read)
+            (F.post self.now.read) }
         ensures { Reads result cursor.new
             (handlers_of self.now.left (inside_of self.now.left) (inside_of (below self.now.left))
             cursor.old) }
@@ -234,7 +243,8 @@ impl<
         &self,
         cursor: &mut Cursor<'_>,
     ) -> Result<Items<Declaration<Sequence>>, OrMemory<Stuck>>
-        requires reads { ReadsInside self.now.left (F.pre self.now.read) (F.post self.now.read) }
+        requires reads { ReadsInside sequence_of self.now.left (F.pre self.now.read)
+            (F.post self.now.read) }
         ensures { Reads result cursor.new
             (declarations_of self.now.left (inside_of self.now.left)
             (inside_of (below self.now.left)) cursor.old) }
@@ -256,7 +266,8 @@ impl<
         cursor: &mut Cursor<'_>,
         declarations: Items<Declaration<Sequence>>,
     ) -> Result<Sequence, OrMemory<Stuck>>
-        requires reads { ReadsInside self.now.left (F.pre self.now.read) (F.post self.now.read) }
+        requires reads { ReadsInside sequence_of self.now.left (F.pre self.now.read)
+            (F.post self.now.read) }
         ensures { Reads result cursor.new
             (handled_behind_of self.now.left (inside_of self.now.left)
             (inside_of (below self.now.left)) declarations cursor.old) }
@@ -269,7 +280,8 @@ impl<
     /// Declarations, statements and handlers (3.11).
     #[tactic(auto, unfolding(ada_grammar::specs::ReadingSequences::whole_body_of))]
     fn whole_body(&self, cursor: &mut Cursor<'_>) -> Result<Sequence, OrMemory<Stuck>>
-        requires reads { ReadsInside self.now.left (F.pre self.now.read) (F.post self.now.read) }
+        requires reads { ReadsInside sequence_of self.now.left (F.pre self.now.read)
+            (F.post self.now.read) }
         ensures { Reads result cursor.new
             (whole_body_of self.now.left (inside_of self.now.left) (inside_of (below self.now.left))
             cursor.old) }
@@ -285,7 +297,8 @@ impl<
         cursor: &mut Cursor<'_>,
         role: SequenceRole,
     ) -> Result<Sequence, OrMemory<Stuck>>
-        requires reads { ReadsInside self.now.left (F.pre self.now.read) (F.post self.now.read) }
+        requires reads { ReadsInside sequence_of self.now.left (F.pre self.now.read)
+            (F.post self.now.read) }
         ensures { Reads result cursor.new
             (parts_of self.now.left (inside_of self.now.left) (inside_of (below self.now.left)) role
             cursor.old) }

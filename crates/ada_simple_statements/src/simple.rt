@@ -8,7 +8,7 @@ use ada_expressions::{arguments, bounds, expression, name, name_list};
 use ada_grammar::{Cursor, Stuck};
 use ada_tree::{
     Argument, Assignment, Call, Choice, Delay, Exit, Expression, HandledExceptions, Identifier,
-    Iteration, Label, Name, Sequence, Statement,
+    Iteration, Label, Name, Statement,
 };
 use ann_base::OrMemory;
 use sqlite_items::Items;
@@ -35,13 +35,13 @@ fn index(
 
 /// `:= EXPRESSION;`, behind the target of an assignment (5.2)
 #[tactic(auto, unfolding(ada_grammar::specs::ReadingSimple::assignment_behind_of))]
-fn assignment_behind(
+fn assignment_behind<Q>(
     alloc: Global,
     cursor: &mut Cursor<'_>,
     left: usize,
     target: Name,
     arguments: Items<Argument<Expression>>,
-) -> Result<Statement<Sequence>, OrMemory<Stuck>>
+) -> Result<Statement<Q>, OrMemory<Stuck>>
     ensures { Reads result cursor.new (assignment_behind_of left target arguments cursor.old) }
 {
     let index = index(cursor, arguments)?;
@@ -57,11 +57,11 @@ fn assignment_behind(
 
 /// `;`, behind the arguments of a call (6.4)
 #[tactic(auto, unfolding(ada_grammar::specs::ReadingSimple::call_behind_of))]
-fn call_behind(
+fn call_behind<Q>(
     cursor: &mut Cursor<'_>,
     name: Name,
     arguments: Items<Argument<Expression>>,
-) -> Result<Statement<Sequence>, OrMemory<Stuck>>
+) -> Result<Statement<Q>, OrMemory<Stuck>>
     ensures { Reads result cursor.new (call_behind_of name arguments cursor.old) }
 {
     cursor.delimiter(b";")?;
@@ -70,11 +70,11 @@ fn call_behind(
 
 /// An assignment, or a call of a procedure or an entry (5.2, 6.4, 9.5.3).
 #[tactic(auto, unfolding(ada_grammar::specs::ReadingSimple::simple_of))]
-pub fn simple_statement(
+pub fn simple_statement<Q>(
     alloc: Global,
     cursor: &mut Cursor<'_>,
     left: usize,
-) -> Result<Statement<Sequence>, OrMemory<Stuck>>
+) -> Result<Statement<Q>, OrMemory<Stuck>>
     ensures { Reads result cursor.new (simple_of left cursor.old) }
 {
     let name = name(alloc, cursor)?;
@@ -253,11 +253,11 @@ fn exit_condition(
 
 /// `exit [NAME] [when EXPRESSION];` (5.7)
 #[tactic(auto, unfolding(ada_grammar::specs::ReadingSimple::exit_of))]
-pub fn exit_statement(
+pub fn exit_statement<Q>(
     alloc: Global,
     cursor: &mut Cursor<'_>,
     left: usize,
-) -> Result<Statement<Sequence>, OrMemory<Stuck>>
+) -> Result<Statement<Q>, OrMemory<Stuck>>
     ensures { Reads result cursor.new (exit_of left cursor.old) }
 {
     let place = cursor.word(b"exit")?;
@@ -273,7 +273,7 @@ pub fn exit_statement(
 
 /// `null;` (5.1)
 #[tactic(auto, unfolding(ada_grammar::specs::ReadingSimple::null_of))]
-pub fn null_statement(cursor: &mut Cursor<'_>) -> Result<Statement<Sequence>, OrMemory<Stuck>>
+pub fn null_statement<Q>(cursor: &mut Cursor<'_>) -> Result<Statement<Q>, OrMemory<Stuck>>
     ensures { Reads result cursor.new (null_of cursor.old) }
 {
     let place = cursor.word(b"null")?;
@@ -299,11 +299,11 @@ fn result_value(
 
 /// `return [EXPRESSION];` (6.5)
 #[tactic(auto, unfolding(ada_grammar::specs::ReadingSimple::return_of))]
-pub fn return_statement(
+pub fn return_statement<Q>(
     alloc: Global,
     cursor: &mut Cursor<'_>,
     left: usize,
-) -> Result<Statement<Sequence>, OrMemory<Stuck>>
+) -> Result<Statement<Q>, OrMemory<Stuck>>
     ensures { Reads result cursor.new (return_of left cursor.old) }
 {
     let place = cursor.word(b"return")?;
@@ -326,10 +326,10 @@ fn exception_name(alloc: Global, cursor: &mut Cursor<'_>) -> Result<Option<Name>
 
 /// `raise [NAME];` (11.3)
 #[tactic(auto, unfolding(ada_grammar::specs::ReadingSimple::raise_of))]
-pub fn raise_statement(
+pub fn raise_statement<Q>(
     alloc: Global,
     cursor: &mut Cursor<'_>,
-) -> Result<Statement<Sequence>, OrMemory<Stuck>>
+) -> Result<Statement<Q>, OrMemory<Stuck>>
     ensures { Reads result cursor.new (raise_of cursor.old) }
 {
     let place = cursor.word(b"raise")?;
@@ -340,10 +340,10 @@ pub fn raise_statement(
 
 /// `abort NAME {, NAME};` (9.8)
 #[tactic(auto, unfolding(ada_grammar::specs::ReadingSimple::abort_of))]
-pub fn abort_statement(
+pub fn abort_statement<Q>(
     alloc: Global,
     cursor: &mut Cursor<'_>,
-) -> Result<Statement<Sequence>, OrMemory<Stuck>>
+) -> Result<Statement<Q>, OrMemory<Stuck>>
     ensures { Reads result cursor.new (abort_of cursor.old) }
 {
     let place = cursor.word(b"abort")?;
@@ -368,10 +368,10 @@ fn with_abort(cursor: &mut Cursor<'_>) -> Result<bool, OrMemory<Stuck>>
 
 /// `requeue NAME [with abort];` (9.5.4)
 #[tactic(auto, unfolding(ada_grammar::specs::ReadingSimple::requeue_of))]
-pub fn requeue_statement(
+pub fn requeue_statement<Q>(
     alloc: Global,
     cursor: &mut Cursor<'_>,
-) -> Result<Statement<Sequence>, OrMemory<Stuck>>
+) -> Result<Statement<Q>, OrMemory<Stuck>>
     ensures { Reads result cursor.new (requeue_of cursor.old) }
 {
     let place = cursor.word(b"requeue")?;

@@ -2,25 +2,26 @@
 ghost use Rattle.std.specs.Prelude.{◌≡◌, suc, codes};
 ghost use Rattle.ada_grammar.specs.Reading.{items_of, sees_word};
 ghost use Rattle.ada_grammar.specs.Reads.{Reads};
-ghost use Rattle.ada_statements.specs.Inside.{ReadsInside};
+ghost use Rattle.ada_statements.specs.Inside.{ReadsInside, further_in};
 ghost use Rattle.ada_grammar.specs.ReadingStatements.{accept_alternative_of, accept_opened_of, alternative_of, asynchronous_of, behind_call_of, call_opened_of, call_select_of, conditional_of, delay_alternative_of, delay_opened_of, delay_select_of, guard_of, next_alternative_of, select_alternative_of, select_form_of, select_of, selective_of, terminate_of, timed_of};
-ghost use Rattle.ada_grammar.specs.ReadingSequences.{inside_of, sequence_of};
 
+use crate::nested::Nested;
 use crate::statements::StatementReader;
 use ada_expressions::expression;
 use ada_grammar::{Cursor, Stuck};
 use ada_simple_statements::{call, delay};
 use ada_tree::{
     Accept, Alternative, AsynchronousSelect, Call, ConditionalEntryCall, Delay, Guard, OneOrMore,
-    SelectAlternative, SelectForm, SelectStatement, SelectiveAccept, Sequence, SequenceRole,
-    Statement, TimedEntryCall, Trigger,
+    SelectAlternative, SelectForm, SelectStatement, SelectiveAccept, SequenceRole, Statement,
+    TimedEntryCall, Trigger,
 };
 use ann_base::OrMemory;
 use sqlite_items::Items;
 use std::alloc::Global;
 
 impl<
-    F: Fn(Global, &mut Cursor<'_>, usize, SequenceRole) -> Result<Sequence, OrMemory<Stuck>> + Copy,
+    Q: Nested,
+    F: Fn(Global, &mut Cursor<'_>, usize, SequenceRole) -> Result<Q, OrMemory<Stuck>> + Copy,
 > StatementReader<F> {
     /// An entry call in a select statement, which takes a level.
     #[tactic(auto, unfolding(ada_grammar::specs::ReadingStatements::call_opened_of))]
@@ -57,11 +58,11 @@ impl<
     }
 
     /// An accept statement in a select statement, which takes a level.
-    fn opened_accept(&self, cursor: &mut Cursor<'_>) -> Result<Accept<Sequence>, OrMemory<Stuck>>
-        requires reads { ReadsInside (suc self.now.left) (F.pre self.now.read)
+    fn opened_accept(&self, cursor: &mut Cursor<'_>) -> Result<Accept<Q>, OrMemory<Stuck>>
+        requires reads { ReadsInside Q.reading (suc self.now.left) (F.pre self.now.read)
             (F.post self.now.read) }
         ensures { Reads result cursor.new
-            (accept_opened_of self.now.left (inside_of self.now.left) cursor.old) }
+            (accept_opened_of self.now.left (further_in Q.reading self.now.left) cursor.old) }
     {
         match self.left {
             0 => {
@@ -82,15 +83,12 @@ impl<
 
     /// An accept alternative (9.7.1).
     #[tactic(auto, unfolding(ada_grammar::specs::ReadingStatements::accept_alternative_of))]
-    fn accept_alternative(
-        &self,
-        cursor: &mut Cursor<'_>,
-    ) -> Result<Alternative<Sequence>, OrMemory<Stuck>>
-        requires reads { ReadsInside (suc self.now.left) (F.pre self.now.read)
+    fn accept_alternative(&self, cursor: &mut Cursor<'_>) -> Result<Alternative<Q>, OrMemory<Stuck>>
+        requires reads { ReadsInside Q.reading (suc self.now.left) (F.pre self.now.read)
             (F.post self.now.read) }
         ensures { Reads result cursor.new
-            (accept_alternative_of self.now.left (sequence_of self.now.left)
-            (inside_of self.now.left) cursor.old) }
+            (accept_alternative_of self.now.left (Q.reading self.now.left)
+            (further_in Q.reading self.now.left) cursor.old) }
     {
         let accept = self.opened_accept(cursor)?;
         let statements = self.optional_statements(cursor)?;
@@ -99,15 +97,12 @@ impl<
 
     /// A delay alternative (9.7.1).
     #[tactic(auto, unfolding(ada_grammar::specs::ReadingStatements::delay_alternative_of))]
-    fn delay_alternative(
-        &self,
-        cursor: &mut Cursor<'_>,
-    ) -> Result<Alternative<Sequence>, OrMemory<Stuck>>
-        requires reads { ReadsInside (suc self.now.left) (F.pre self.now.read)
+    fn delay_alternative(&self, cursor: &mut Cursor<'_>) -> Result<Alternative<Q>, OrMemory<Stuck>>
+        requires reads { ReadsInside Q.reading (suc self.now.left) (F.pre self.now.read)
             (F.post self.now.read) }
         ensures { Reads result cursor.new
-            (delay_alternative_of self.now.left (sequence_of self.now.left)
-            (inside_of self.now.left) cursor.old) }
+            (delay_alternative_of self.now.left (Q.reading self.now.left)
+            (further_in Q.reading self.now.left) cursor.old) }
     {
         let delay = self.opened_delay(cursor)?;
         let statements = self.optional_statements(cursor)?;
@@ -119,10 +114,10 @@ impl<
     fn terminate_alternative(
         &self,
         cursor: &mut Cursor<'_>,
-    ) -> Result<Alternative<Sequence>, OrMemory<Stuck>>
+    ) -> Result<Alternative<Q>, OrMemory<Stuck>>
         ensures { Reads result cursor.new
-            (terminate_of self.now.left (sequence_of self.now.left) (inside_of self.now.left)
-            cursor.old) }
+            (terminate_of self.now.left (Q.reading self.now.left)
+            (further_in Q.reading self.now.left) cursor.old) }
     {
         let place = cursor.word(b"terminate")?;
         cursor.delimiter(b";")?;
@@ -131,12 +126,12 @@ impl<
 
     /// What an alternative waits for (9.7.1).
     #[tactic(auto, unfolding(ada_grammar::specs::ReadingStatements::alternative_of))]
-    fn alternative(&self, cursor: &mut Cursor<'_>) -> Result<Alternative<Sequence>, OrMemory<Stuck>>
-        requires reads { ReadsInside (suc self.now.left) (F.pre self.now.read)
+    fn alternative(&self, cursor: &mut Cursor<'_>) -> Result<Alternative<Q>, OrMemory<Stuck>>
+        requires reads { ReadsInside Q.reading (suc self.now.left) (F.pre self.now.read)
             (F.post self.now.read) }
         ensures { Reads result cursor.new
-            (alternative_of self.now.left (sequence_of self.now.left) (inside_of self.now.left)
-            cursor.old) }
+            (alternative_of self.now.left (Q.reading self.now.left)
+            (further_in Q.reading self.now.left) cursor.old) }
     {
         if cursor.is_word(b"accept") {
             self.accept_alternative(cursor)
@@ -151,7 +146,7 @@ impl<
     #[tactic(auto, unfolding(ada_grammar::specs::ReadingStatements::guard_of))]
     fn guard(&self, cursor: &mut Cursor<'_>) -> Result<Option<Guard>, OrMemory<Stuck>>
         ensures { Reads result cursor.new
-            (guard_of self.now.left (sequence_of self.now.left) (inside_of self.now.left)
+            (guard_of self.now.left (Q.reading self.now.left) (further_in Q.reading self.now.left)
             cursor.old) }
     {
         if cursor.is_word(b"when") {
@@ -169,12 +164,12 @@ impl<
     fn select_alternative(
         &self,
         cursor: &mut Cursor<'_>,
-    ) -> Result<SelectAlternative<Sequence>, OrMemory<Stuck>>
-        requires reads { ReadsInside (suc self.now.left) (F.pre self.now.read)
+    ) -> Result<SelectAlternative<Q>, OrMemory<Stuck>>
+        requires reads { ReadsInside Q.reading (suc self.now.left) (F.pre self.now.read)
             (F.post self.now.read) }
         ensures { Reads result cursor.new
-            (select_alternative_of self.now.left (sequence_of self.now.left)
-            (inside_of self.now.left) cursor.old) }
+            (select_alternative_of self.now.left (Q.reading self.now.left)
+            (further_in Q.reading self.now.left) cursor.old) }
     {
         let guard = self.guard(cursor)?;
         let alternative = self.alternative(cursor)?;
@@ -186,12 +181,12 @@ impl<
     fn next_alternative(
         &self,
         cursor: &mut Cursor<'_>,
-    ) -> Result<SelectAlternative<Sequence>, OrMemory<Stuck>>
-        requires reads { ReadsInside (suc self.now.left) (F.pre self.now.read)
+    ) -> Result<SelectAlternative<Q>, OrMemory<Stuck>>
+        requires reads { ReadsInside Q.reading (suc self.now.left) (F.pre self.now.read)
             (F.post self.now.read) }
         ensures { Reads result cursor.new
-            (next_alternative_of self.now.left (sequence_of self.now.left) (inside_of self.now.left)
-            cursor.old) }
+            (next_alternative_of self.now.left (Q.reading self.now.left)
+            (further_in Q.reading self.now.left) cursor.old) }
     {
         cursor.word(b"or")?;
         self.select_alternative(cursor)
@@ -202,13 +197,13 @@ impl<
     fn next_alternatives(
         &self,
         cursor: &mut Cursor<'_>,
-    ) -> Result<Items<SelectAlternative<Sequence>>, OrMemory<Stuck>>
-        requires reads { ReadsInside (suc self.now.left) (F.pre self.now.read)
+    ) -> Result<Items<SelectAlternative<Q>>, OrMemory<Stuck>>
+        requires reads { ReadsInside Q.reading (suc self.now.left) (F.pre self.now.read)
             (F.post self.now.read) }
         ensures { Reads result cursor.new
             (items_of (sees_word (codes "or"))
-            (next_alternative_of self.now.left (sequence_of self.now.left)
-            (inside_of self.now.left)) cursor.old) }
+            (next_alternative_of self.now.left (Q.reading self.now.left)
+            (further_in Q.reading self.now.left)) cursor.old) }
     {
         let mut found = Items::new(self.alloc);
         for _turn in 0..cursor.remaining() {
@@ -225,13 +220,13 @@ impl<
     fn selective_accept(
         &self,
         cursor: &mut Cursor<'_>,
-        first: SelectAlternative<Sequence>,
-    ) -> Result<SelectForm<Sequence>, OrMemory<Stuck>>
-        requires reads { ReadsInside (suc self.now.left) (F.pre self.now.read)
+        first: SelectAlternative<Q>,
+    ) -> Result<SelectForm<Q>, OrMemory<Stuck>>
+        requires reads { ReadsInside Q.reading (suc self.now.left) (F.pre self.now.read)
             (F.post self.now.read) }
         ensures { Reads result cursor.new
-            (selective_of self.now.left (sequence_of self.now.left) (inside_of self.now.left) first
-            cursor.old) }
+            (selective_of self.now.left (Q.reading self.now.left)
+            (further_in Q.reading self.now.left) first cursor.old) }
     {
         let others = self.next_alternatives(cursor)?;
         let otherwise = self.otherwise(cursor)?;
@@ -247,13 +242,13 @@ impl<
         &self,
         cursor: &mut Cursor<'_>,
         trigger: Trigger,
-        statements: Option<Sequence>,
-    ) -> Result<SelectForm<Sequence>, OrMemory<Stuck>>
-        requires reads { ReadsInside (suc self.now.left) (F.pre self.now.read)
+        statements: Option<Q>,
+    ) -> Result<SelectForm<Q>, OrMemory<Stuck>>
+        requires reads { ReadsInside Q.reading (suc self.now.left) (F.pre self.now.read)
             (F.post self.now.read) }
         ensures { Reads result cursor.new
-            (asynchronous_of self.now.left (sequence_of self.now.left) (inside_of self.now.left)
-            trigger statements cursor.old) }
+            (asynchronous_of self.now.left (Q.reading self.now.left)
+            (further_in Q.reading self.now.left) trigger statements cursor.old) }
     {
         cursor.word(b"then")?;
         cursor.word(b"abort")?;
@@ -271,13 +266,13 @@ impl<
         &self,
         cursor: &mut Cursor<'_>,
         call: Call,
-        statements: Option<Sequence>,
-    ) -> Result<SelectForm<Sequence>, OrMemory<Stuck>>
-        requires reads { ReadsInside (suc self.now.left) (F.pre self.now.read)
+        statements: Option<Q>,
+    ) -> Result<SelectForm<Q>, OrMemory<Stuck>>
+        requires reads { ReadsInside Q.reading (suc self.now.left) (F.pre self.now.read)
             (F.post self.now.read) }
         ensures { Reads result cursor.new
-            (timed_of self.now.left (sequence_of self.now.left) (inside_of self.now.left) call
-            statements cursor.old) }
+            (timed_of self.now.left (Q.reading self.now.left) (further_in Q.reading self.now.left)
+            call statements cursor.old) }
     {
         cursor.word(b"or")?;
         let delay = self.opened_delay(cursor)?;
@@ -296,13 +291,13 @@ impl<
         &self,
         cursor: &mut Cursor<'_>,
         call: Call,
-        statements: Option<Sequence>,
-    ) -> Result<SelectForm<Sequence>, OrMemory<Stuck>>
-        requires reads { ReadsInside (suc self.now.left) (F.pre self.now.read)
+        statements: Option<Q>,
+    ) -> Result<SelectForm<Q>, OrMemory<Stuck>>
+        requires reads { ReadsInside Q.reading (suc self.now.left) (F.pre self.now.read)
             (F.post self.now.read) }
         ensures { Reads result cursor.new
-            (conditional_of self.now.left (sequence_of self.now.left) (inside_of self.now.left) call
-            statements cursor.old) }
+            (conditional_of self.now.left (Q.reading self.now.left)
+            (further_in Q.reading self.now.left) call statements cursor.old) }
     {
         cursor.word(b"else")?;
         let otherwise = self.sequence(cursor, SequenceRole::Statements)?;
@@ -319,13 +314,13 @@ impl<
         &self,
         cursor: &mut Cursor<'_>,
         call: Call,
-        statements: Option<Sequence>,
-    ) -> Result<SelectForm<Sequence>, OrMemory<Stuck>>
-        requires reads { ReadsInside (suc self.now.left) (F.pre self.now.read)
+        statements: Option<Q>,
+    ) -> Result<SelectForm<Q>, OrMemory<Stuck>>
+        requires reads { ReadsInside Q.reading (suc self.now.left) (F.pre self.now.read)
             (F.post self.now.read) }
         ensures { Reads result cursor.new
-            (behind_call_of self.now.left (sequence_of self.now.left) (inside_of self.now.left) call
-            statements cursor.old) }
+            (behind_call_of self.now.left (Q.reading self.now.left)
+            (further_in Q.reading self.now.left) call statements cursor.old) }
     {
         if cursor.is_word(b"or") {
             self.timed_entry_call(cursor, call, statements)
@@ -338,12 +333,12 @@ impl<
 
     /// A select statement that begins with a call.
     #[tactic(auto, unfolding(ada_grammar::specs::ReadingStatements::call_select_of))]
-    fn call_select(&self, cursor: &mut Cursor<'_>) -> Result<SelectForm<Sequence>, OrMemory<Stuck>>
-        requires reads { ReadsInside (suc self.now.left) (F.pre self.now.read)
+    fn call_select(&self, cursor: &mut Cursor<'_>) -> Result<SelectForm<Q>, OrMemory<Stuck>>
+        requires reads { ReadsInside Q.reading (suc self.now.left) (F.pre self.now.read)
             (F.post self.now.read) }
         ensures { Reads result cursor.new
-            (call_select_of self.now.left (sequence_of self.now.left) (inside_of self.now.left)
-            cursor.old) }
+            (call_select_of self.now.left (Q.reading self.now.left)
+            (further_in Q.reading self.now.left) cursor.old) }
     {
         let call = self.opened_call(cursor)?;
         let statements = self.optional_statements(cursor)?;
@@ -352,12 +347,12 @@ impl<
 
     /// A select statement that begins with a delay.
     #[tactic(auto, unfolding(ada_grammar::specs::ReadingStatements::delay_select_of))]
-    fn delay_select(&self, cursor: &mut Cursor<'_>) -> Result<SelectForm<Sequence>, OrMemory<Stuck>>
-        requires reads { ReadsInside (suc self.now.left) (F.pre self.now.read)
+    fn delay_select(&self, cursor: &mut Cursor<'_>) -> Result<SelectForm<Q>, OrMemory<Stuck>>
+        requires reads { ReadsInside Q.reading (suc self.now.left) (F.pre self.now.read)
             (F.post self.now.read) }
         ensures { Reads result cursor.new
-            (delay_select_of self.now.left (sequence_of self.now.left) (inside_of self.now.left)
-            cursor.old) }
+            (delay_select_of self.now.left (Q.reading self.now.left)
+            (further_in Q.reading self.now.left) cursor.old) }
     {
         let delay = self.opened_delay(cursor)?;
         let statements = self.optional_statements(cursor)?;
@@ -374,12 +369,12 @@ impl<
 
     /// What stands between `select` and its `end`.
     #[tactic(auto, unfolding(ada_grammar::specs::ReadingStatements::select_form_of))]
-    fn select_form(&self, cursor: &mut Cursor<'_>) -> Result<SelectForm<Sequence>, OrMemory<Stuck>>
-        requires reads { ReadsInside (suc self.now.left) (F.pre self.now.read)
+    fn select_form(&self, cursor: &mut Cursor<'_>) -> Result<SelectForm<Q>, OrMemory<Stuck>>
+        requires reads { ReadsInside Q.reading (suc self.now.left) (F.pre self.now.read)
             (F.post self.now.read) }
         ensures { Reads result cursor.new
-            (select_form_of self.now.left (sequence_of self.now.left) (inside_of self.now.left)
-            cursor.old) }
+            (select_form_of self.now.left (Q.reading self.now.left)
+            (further_in Q.reading self.now.left) cursor.old) }
     {
         if cursor.is_identifier() {
             self.call_select(cursor)
@@ -393,14 +388,11 @@ impl<
 
     /// A select statement.
     #[tactic(auto, unfolding(ada_grammar::specs::ReadingStatements::select_of))]
-    pub(crate) fn select(
-        &self,
-        cursor: &mut Cursor<'_>,
-    ) -> Result<Statement<Sequence>, OrMemory<Stuck>>
-        requires reads { ReadsInside (suc self.now.left) (F.pre self.now.read)
+    pub(crate) fn select(&self, cursor: &mut Cursor<'_>) -> Result<Statement<Q>, OrMemory<Stuck>>
+        requires reads { ReadsInside Q.reading (suc self.now.left) (F.pre self.now.read)
             (F.post self.now.read) }
         ensures { Reads result cursor.new
-            (select_of self.now.left (sequence_of self.now.left) (inside_of self.now.left)
+            (select_of self.now.left (Q.reading self.now.left) (further_in Q.reading self.now.left)
             cursor.old) }
     {
         let place = cursor.word(b"select")?;

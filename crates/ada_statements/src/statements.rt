@@ -5,10 +5,10 @@ ghost use Rattle.std.specs.Char.{to_ascii_lowercase};
 ghost use Rattle.ada_grammar.specs.Reading.{behind_delimiter_of, end_name_of, items_of, sees_delimiter, sees_word, separated_of};
 ghost use Rattle.ada_grammar.specs.Reads.{Reads};
 ghost use Rattle.ada_grammar.specs.ReadingSimple.{choice_of};
-ghost use Rattle.ada_statements.specs.Inside.{ReadsInside};
+ghost use Rattle.ada_statements.specs.Inside.{ReadsInside, further_in};
 ghost use Rattle.ada_grammar.specs.ReadingStatements.{accept_body_of, accept_of, begin_of, begins_block, begins_compound, begins_loop, begins_simple, begins_statement, block_end_of, block_of, case_alternative_of, case_alternatives_of, case_of, compound_of, declare_of, else_of, elsif_of, if_of, labelled_of, loop_of, named_statement_of, optional_statements_of, sees_label, simple_statement_of, statement_inside_of};
-ghost use Rattle.ada_grammar.specs.ReadingSequences.{inside_of, sequence_of};
 
+use crate::nested::Nested;
 use ada_expressions::{expression, parameters};
 use ada_grammar::{Cursor, Stuck};
 use ada_simple_statements::{
@@ -17,7 +17,7 @@ use ada_simple_statements::{
 };
 use ada_tree::{
     Accept, AcceptBody, Block, Case, CaseAlternative, Choice, Elsif, Identifier, If, Loop,
-    OneOrMore, Sequence, SequenceRole, Statement,
+    OneOrMore, SequenceRole, Statement,
 };
 use ann_base::{OrMemory, Place};
 use sqlite_items::Items;
@@ -92,28 +92,29 @@ pub struct StatementReader<F> {
 }
 
 impl<
-    F: Fn(Global, &mut Cursor<'_>, usize, SequenceRole) -> Result<Sequence, OrMemory<Stuck>> + Copy,
+    Q: Nested,
+    F: Fn(Global, &mut Cursor<'_>, usize, SequenceRole) -> Result<Q, OrMemory<Stuck>> + Copy,
 > StatementReader<F> {
     /// The sequence inside a statement.
     pub(crate) fn sequence(
         &self,
         cursor: &mut Cursor<'_>,
         role: SequenceRole,
-    ) -> Result<Sequence, OrMemory<Stuck>>
-        requires reads { ReadsInside (suc self.now.left) (F.pre self.now.read)
+    ) -> Result<Q, OrMemory<Stuck>>
+        requires reads { ReadsInside Q.reading (suc self.now.left) (F.pre self.now.read)
             (F.post self.now.read) }
-        ensures { Reads result cursor.new (sequence_of self.now.left role cursor.old) }
+        ensures { Reads result cursor.new (Q.reading self.now.left role cursor.old) }
     {
         (self.read)(self.alloc, cursor, self.left, role)
     }
 
     /// `elsif EXPRESSION then STATEMENTS` (5.3)
     #[tactic(auto, unfolding(ada_grammar::specs::ReadingStatements::elsif_of))]
-    fn elsif(&self, cursor: &mut Cursor<'_>) -> Result<Elsif<Sequence>, OrMemory<Stuck>>
-        requires reads { ReadsInside (suc self.now.left) (F.pre self.now.read)
+    fn elsif(&self, cursor: &mut Cursor<'_>) -> Result<Elsif<Q>, OrMemory<Stuck>>
+        requires reads { ReadsInside Q.reading (suc self.now.left) (F.pre self.now.read)
             (F.post self.now.read) }
         ensures { Reads result cursor.new
-            (elsif_of self.now.left (sequence_of self.now.left) cursor.old) }
+            (elsif_of self.now.left (Q.reading self.now.left) cursor.old) }
     {
         let place = cursor.word(b"elsif")?;
         let condition = expression(self.alloc, cursor, self.left)?;
@@ -128,12 +129,12 @@ impl<
 
     /// `{elsif EXPRESSION then STATEMENTS}` (5.3)
     #[tactic(auto, unfolding(ada_grammar::specs::Reading::items_of))]
-    fn elsifs(&self, cursor: &mut Cursor<'_>) -> Result<Items<Elsif<Sequence>>, OrMemory<Stuck>>
-        requires reads { ReadsInside (suc self.now.left) (F.pre self.now.read)
+    fn elsifs(&self, cursor: &mut Cursor<'_>) -> Result<Items<Elsif<Q>>, OrMemory<Stuck>>
+        requires reads { ReadsInside Q.reading (suc self.now.left) (F.pre self.now.read)
             (F.post self.now.read) }
         ensures { Reads result cursor.new
             (items_of (sees_word (codes "elsif"))
-            (elsif_of self.now.left (sequence_of self.now.left)) cursor.old) }
+            (elsif_of self.now.left (Q.reading self.now.left)) cursor.old) }
     {
         let mut found = Items::new(self.alloc);
         for _turn in 0..cursor.remaining() {
@@ -147,14 +148,11 @@ impl<
 
     /// `[else STATEMENTS]` (5.3, 9.7.1)
     #[tactic(auto, unfolding(ada_grammar::specs::ReadingStatements::else_of))]
-    pub(crate) fn otherwise(
-        &self,
-        cursor: &mut Cursor<'_>,
-    ) -> Result<Option<Sequence>, OrMemory<Stuck>>
-        requires reads { ReadsInside (suc self.now.left) (F.pre self.now.read)
+    pub(crate) fn otherwise(&self, cursor: &mut Cursor<'_>) -> Result<Option<Q>, OrMemory<Stuck>>
+        requires reads { ReadsInside Q.reading (suc self.now.left) (F.pre self.now.read)
             (F.post self.now.read) }
         ensures { Reads result cursor.new
-            (else_of self.now.left (sequence_of self.now.left) cursor.old) }
+            (else_of self.now.left (Q.reading self.now.left) cursor.old) }
     {
         if cursor.is_word(b"else") {
             cursor.word(b"else")?;
@@ -167,11 +165,11 @@ impl<
 
     /// An if statement (5.3).
     #[tactic(auto, unfolding(ada_grammar::specs::ReadingStatements::if_of))]
-    fn if_statement(&self, cursor: &mut Cursor<'_>) -> Result<Statement<Sequence>, OrMemory<Stuck>>
-        requires reads { ReadsInside (suc self.now.left) (F.pre self.now.read)
+    fn if_statement(&self, cursor: &mut Cursor<'_>) -> Result<Statement<Q>, OrMemory<Stuck>>
+        requires reads { ReadsInside Q.reading (suc self.now.left) (F.pre self.now.read)
             (F.post self.now.read) }
         ensures { Reads result cursor.new
-            (if_of self.now.left (sequence_of self.now.left) cursor.old) }
+            (if_of self.now.left (Q.reading self.now.left) cursor.old) }
     {
         let place = cursor.word(b"if")?;
         let condition = expression(self.alloc, cursor, self.left)?;
@@ -234,11 +232,11 @@ impl<
     fn case_alternative(
         &self,
         cursor: &mut Cursor<'_>,
-    ) -> Result<CaseAlternative<Sequence>, OrMemory<Stuck>>
-        requires reads { ReadsInside (suc self.now.left) (F.pre self.now.read)
+    ) -> Result<CaseAlternative<Q>, OrMemory<Stuck>>
+        requires reads { ReadsInside Q.reading (suc self.now.left) (F.pre self.now.read)
             (F.post self.now.read) }
         ensures { Reads result cursor.new
-            (case_alternative_of self.now.left (sequence_of self.now.left) cursor.old) }
+            (case_alternative_of self.now.left (Q.reading self.now.left) cursor.old) }
     {
         let place = cursor.word(b"when")?;
         let choices = self.choices(cursor)?;
@@ -256,12 +254,12 @@ impl<
     fn next_case_alternatives(
         &self,
         cursor: &mut Cursor<'_>,
-    ) -> Result<Items<CaseAlternative<Sequence>>, OrMemory<Stuck>>
-        requires reads { ReadsInside (suc self.now.left) (F.pre self.now.read)
+    ) -> Result<Items<CaseAlternative<Q>>, OrMemory<Stuck>>
+        requires reads { ReadsInside Q.reading (suc self.now.left) (F.pre self.now.read)
             (F.post self.now.read) }
         ensures { Reads result cursor.new
             (items_of (sees_word (codes "when"))
-            (case_alternative_of self.now.left (sequence_of self.now.left)) cursor.old) }
+            (case_alternative_of self.now.left (Q.reading self.now.left)) cursor.old) }
     {
         let mut found = Items::new(self.alloc);
         for _turn in 0..cursor.remaining() {
@@ -278,11 +276,11 @@ impl<
     fn case_alternatives(
         &self,
         cursor: &mut Cursor<'_>,
-    ) -> Result<OneOrMore<CaseAlternative<Sequence>>, OrMemory<Stuck>>
-        requires reads { ReadsInside (suc self.now.left) (F.pre self.now.read)
+    ) -> Result<OneOrMore<CaseAlternative<Q>>, OrMemory<Stuck>>
+        requires reads { ReadsInside Q.reading (suc self.now.left) (F.pre self.now.read)
             (F.post self.now.read) }
         ensures { Reads result cursor.new
-            (case_alternatives_of self.now.left (sequence_of self.now.left) cursor.old) }
+            (case_alternatives_of self.now.left (Q.reading self.now.left) cursor.old) }
     {
         let first = self.case_alternative(cursor)?;
         let others = self.next_case_alternatives(cursor)?;
@@ -291,14 +289,11 @@ impl<
 
     /// A case statement (5.4).
     #[tactic(auto, unfolding(ada_grammar::specs::ReadingStatements::case_of))]
-    fn case_statement(
-        &self,
-        cursor: &mut Cursor<'_>,
-    ) -> Result<Statement<Sequence>, OrMemory<Stuck>>
-        requires reads { ReadsInside (suc self.now.left) (F.pre self.now.read)
+    fn case_statement(&self, cursor: &mut Cursor<'_>) -> Result<Statement<Q>, OrMemory<Stuck>>
+        requires reads { ReadsInside Q.reading (suc self.now.left) (F.pre self.now.read)
             (F.post self.now.read) }
         ensures { Reads result cursor.new
-            (case_of self.now.left (sequence_of self.now.left) cursor.old) }
+            (case_of self.now.left (Q.reading self.now.left) cursor.old) }
     {
         let place = cursor.word(b"case")?;
         let selector = expression(self.alloc, cursor, self.left)?;
@@ -320,12 +315,12 @@ impl<
         &self,
         cursor: &mut Cursor<'_>,
         name: Option<Identifier>,
-    ) -> Result<Statement<Sequence>, OrMemory<Stuck>>
-        requires reads { ReadsInside (suc self.now.left) (F.pre self.now.read)
+    ) -> Result<Statement<Q>, OrMemory<Stuck>>
+        requires reads { ReadsInside Q.reading (suc self.now.left) (F.pre self.now.read)
             (F.post self.now.read) }
         requires lower { IfSome name (λ name. map to_ascii_lowercase name.text ≡ name.text) }
         ensures { Reads result cursor.new
-            (loop_of self.now.left (sequence_of self.now.left) name cursor.old) }
+            (loop_of self.now.left (Q.reading self.now.left) name cursor.old) }
     {
         let iteration = iteration(self.alloc, cursor, self.left)?;
         let place = cursor.word(b"loop")?;
@@ -350,11 +345,11 @@ impl<
         name: Option<Identifier>,
         place: Place,
         declare: bool,
-        sequence: Sequence,
-    ) -> Result<Statement<Sequence>, OrMemory<Stuck>>
+        sequence: Q,
+    ) -> Result<Statement<Q>, OrMemory<Stuck>>
         requires lower { IfSome name (λ name. map to_ascii_lowercase name.text ≡ name.text) }
         ensures { Reads result cursor.new
-            (block_end_of self.now.left (sequence_of self.now.left) name place declare sequence
+            (block_end_of self.now.left (Q.reading self.now.left) name place declare sequence
             cursor.old) }
     {
         cursor.word(b"end")?;
@@ -374,12 +369,12 @@ impl<
         &self,
         cursor: &mut Cursor<'_>,
         name: Option<Identifier>,
-    ) -> Result<Statement<Sequence>, OrMemory<Stuck>>
-        requires reads { ReadsInside (suc self.now.left) (F.pre self.now.read)
+    ) -> Result<Statement<Q>, OrMemory<Stuck>>
+        requires reads { ReadsInside Q.reading (suc self.now.left) (F.pre self.now.read)
             (F.post self.now.read) }
         requires lower { IfSome name (λ name. map to_ascii_lowercase name.text ≡ name.text) }
         ensures { Reads result cursor.new
-            (declare_of self.now.left (sequence_of self.now.left) name cursor.old) }
+            (declare_of self.now.left (Q.reading self.now.left) name cursor.old) }
     {
         let place = cursor.word(b"declare")?;
         let sequence = self.sequence(cursor, SequenceRole::Body)?;
@@ -392,12 +387,12 @@ impl<
         &self,
         cursor: &mut Cursor<'_>,
         name: Option<Identifier>,
-    ) -> Result<Statement<Sequence>, OrMemory<Stuck>>
-        requires reads { ReadsInside (suc self.now.left) (F.pre self.now.read)
+    ) -> Result<Statement<Q>, OrMemory<Stuck>>
+        requires reads { ReadsInside Q.reading (suc self.now.left) (F.pre self.now.read)
             (F.post self.now.read) }
         requires lower { IfSome name (λ name. map to_ascii_lowercase name.text ≡ name.text) }
         ensures { Reads result cursor.new
-            (begin_of self.now.left (sequence_of self.now.left) name cursor.old) }
+            (begin_of self.now.left (Q.reading self.now.left) name cursor.old) }
     {
         let place = cursor.word(b"begin")?;
         let sequence = self.sequence(cursor, SequenceRole::Handled)?;
@@ -410,12 +405,12 @@ impl<
         &self,
         cursor: &mut Cursor<'_>,
         name: Option<Identifier>,
-    ) -> Result<Statement<Sequence>, OrMemory<Stuck>>
-        requires reads { ReadsInside (suc self.now.left) (F.pre self.now.read)
+    ) -> Result<Statement<Q>, OrMemory<Stuck>>
+        requires reads { ReadsInside Q.reading (suc self.now.left) (F.pre self.now.read)
             (F.post self.now.read) }
         requires lower { IfSome name (λ name. map to_ascii_lowercase name.text ≡ name.text) }
         ensures { Reads result cursor.new
-            (block_of self.now.left (sequence_of self.now.left) name cursor.old) }
+            (block_of self.now.left (Q.reading self.now.left) name cursor.old) }
     {
         if cursor.is_word(b"declare") {
             self.declare_block(cursor, name)
@@ -426,11 +421,11 @@ impl<
 
     /// A loop or a block with a name (5.5, 5.6).
     #[tactic(auto, unfolding(ada_grammar::specs::ReadingStatements::labelled_of))]
-    fn labelled(&self, cursor: &mut Cursor<'_>) -> Result<Statement<Sequence>, OrMemory<Stuck>>
-        requires reads { ReadsInside (suc self.now.left) (F.pre self.now.read)
+    fn labelled(&self, cursor: &mut Cursor<'_>) -> Result<Statement<Q>, OrMemory<Stuck>>
+        requires reads { ReadsInside Q.reading (suc self.now.left) (F.pre self.now.read)
             (F.post self.now.read) }
         ensures { Reads result cursor.new
-            (labelled_of self.now.left (sequence_of self.now.left) cursor.old) }
+            (labelled_of self.now.left (Q.reading self.now.left) cursor.old) }
     {
         let name = cursor.identifier(self.alloc)?;
         cursor.delimiter(b":")?;
@@ -447,12 +442,12 @@ impl<
         &self,
         cursor: &mut Cursor<'_>,
         name: &Identifier,
-    ) -> Result<Option<AcceptBody<Sequence>>, OrMemory<Stuck>>
-        requires reads { ReadsInside (suc self.now.left) (F.pre self.now.read)
+    ) -> Result<Option<AcceptBody<Q>>, OrMemory<Stuck>>
+        requires reads { ReadsInside Q.reading (suc self.now.left) (F.pre self.now.read)
             (F.post self.now.read) }
         requires lower { map to_ascii_lowercase name.now.text ≡ name.now.text }
         ensures { Reads result cursor.new
-            (accept_body_of self.now.left (sequence_of self.now.left) name.now.text cursor.old) }
+            (accept_body_of self.now.left (Q.reading self.now.left) name.now.text cursor.old) }
     {
         if cursor.is_word(b"do") {
             cursor.word(b"do")?;
@@ -470,14 +465,11 @@ impl<
 
     /// An accept statement (9.5.2).
     #[tactic(auto, unfolding(ada_grammar::specs::ReadingStatements::accept_of))]
-    pub(crate) fn accept(
-        &self,
-        cursor: &mut Cursor<'_>,
-    ) -> Result<Accept<Sequence>, OrMemory<Stuck>>
-        requires reads { ReadsInside (suc self.now.left) (F.pre self.now.read)
+    pub(crate) fn accept(&self, cursor: &mut Cursor<'_>) -> Result<Accept<Q>, OrMemory<Stuck>>
+        requires reads { ReadsInside Q.reading (suc self.now.left) (F.pre self.now.read)
             (F.post self.now.read) }
         ensures { Reads result cursor.new
-            (accept_of self.now.left (sequence_of self.now.left) cursor.old) }
+            (accept_of self.now.left (Q.reading self.now.left) cursor.old) }
     {
         let place = cursor.word(b"accept")?;
         let entry = cursor.identifier(self.alloc)?;
@@ -497,11 +489,11 @@ impl<
     pub(crate) fn optional_statements(
         &self,
         cursor: &mut Cursor<'_>,
-    ) -> Result<Option<Sequence>, OrMemory<Stuck>>
-        requires reads { ReadsInside (suc self.now.left) (F.pre self.now.read)
+    ) -> Result<Option<Q>, OrMemory<Stuck>>
+        requires reads { ReadsInside Q.reading (suc self.now.left) (F.pre self.now.read)
             (F.post self.now.read) }
         ensures { Reads result cursor.new
-            (optional_statements_of self.now.left (sequence_of self.now.left) cursor.old) }
+            (optional_statements_of self.now.left (Q.reading self.now.left) cursor.old) }
     {
         if begins_statement(cursor) {
             let statements = self.sequence(cursor, SequenceRole::Statements)?;
@@ -513,15 +505,12 @@ impl<
 
     /// A statement that begins with a name.
     #[tactic(auto, unfolding(ada_grammar::specs::ReadingStatements::named_statement_of))]
-    fn named_statement(
-        &self,
-        cursor: &mut Cursor<'_>,
-    ) -> Result<Statement<Sequence>, OrMemory<Stuck>>
-        requires reads { ReadsInside (suc self.now.left) (F.pre self.now.read)
+    fn named_statement(&self, cursor: &mut Cursor<'_>) -> Result<Statement<Q>, OrMemory<Stuck>>
+        requires reads { ReadsInside Q.reading (suc self.now.left) (F.pre self.now.read)
             (F.post self.now.read) }
         ensures { Reads result cursor.new
-            (named_statement_of self.now.left (sequence_of self.now.left) (inside_of self.now.left)
-            cursor.old) }
+            (named_statement_of self.now.left (Q.reading self.now.left)
+            (further_in Q.reading self.now.left) cursor.old) }
     {
         if cursor.is_identifier_before(b":") {
             self.labelled(cursor)
@@ -532,12 +521,12 @@ impl<
 
     /// A statement that holds others, and has no name (5.1).
     #[tactic(auto, unfolding(ada_grammar::specs::ReadingStatements::compound_of))]
-    fn compound(&self, cursor: &mut Cursor<'_>) -> Result<Statement<Sequence>, OrMemory<Stuck>>
-        requires reads { ReadsInside (suc self.now.left) (F.pre self.now.read)
+    fn compound(&self, cursor: &mut Cursor<'_>) -> Result<Statement<Q>, OrMemory<Stuck>>
+        requires reads { ReadsInside Q.reading (suc self.now.left) (F.pre self.now.read)
             (F.post self.now.read) }
         ensures { Reads result cursor.new
-            (compound_of self.now.left (sequence_of self.now.left) (inside_of self.now.left)
-            cursor.old) }
+            (compound_of self.now.left (Q.reading self.now.left)
+            (further_in Q.reading self.now.left) cursor.old) }
     {
         if cursor.is_word(b"if") {
             self.if_statement(cursor)
@@ -557,12 +546,12 @@ impl<
 
     /// Another statement, or one with a name (5.1).
     #[tactic(auto, unfolding(ada_grammar::specs::ReadingStatements::simple_statement_of))]
-    fn simple(&self, cursor: &mut Cursor<'_>) -> Result<Statement<Sequence>, OrMemory<Stuck>>
-        requires reads { ReadsInside (suc self.now.left) (F.pre self.now.read)
+    fn simple(&self, cursor: &mut Cursor<'_>) -> Result<Statement<Q>, OrMemory<Stuck>>
+        requires reads { ReadsInside Q.reading (suc self.now.left) (F.pre self.now.read)
             (F.post self.now.read) }
         ensures { Reads result cursor.new
-            (simple_statement_of self.now.left (sequence_of self.now.left) (inside_of self.now.left)
-            cursor.old) }
+            (simple_statement_of self.now.left (Q.reading self.now.left)
+            (further_in Q.reading self.now.left) cursor.old) }
     {
         if cursor.is_word(b"null") {
             null_statement(cursor)
@@ -586,12 +575,12 @@ impl<
 
     /// A statement (5.1).
     #[tactic(auto, unfolding(ada_grammar::specs::ReadingStatements::statement_inside_of))]
-    pub fn statement(&self, cursor: &mut Cursor<'_>) -> Result<Statement<Sequence>, OrMemory<Stuck>>
-        requires reads { ReadsInside (suc self.now.left) (F.pre self.now.read)
+    pub fn statement(&self, cursor: &mut Cursor<'_>) -> Result<Statement<Q>, OrMemory<Stuck>>
+        requires reads { ReadsInside Q.reading (suc self.now.left) (F.pre self.now.read)
             (F.post self.now.read) }
         ensures { Reads result cursor.new
-            (statement_inside_of self.now.left (sequence_of self.now.left) (inside_of self.now.left)
-            cursor.old) }
+            (statement_inside_of self.now.left (Q.reading self.now.left)
+            (further_in Q.reading self.now.left) cursor.old) }
     {
         if begins_compound(cursor) {
             self.compound(cursor)

@@ -14,19 +14,19 @@ pub local_initial : (left : ℕ) → Local (initial_of left)
 unfolding initial_of
 local_initial left = local_choose (head_starts _) (local_then (local_delimiter _) (λ _. local_then (local_expression left) (λ value. local_pure _))) (local_pure _)
 
-pub local_object : (left : ℕ) (names : OneOrMore Identifier) → Local (object_of left names)
+pub local_object : {Q : Type 0} (left : ℕ) (names : OneOrMore Identifier) → Local (object_of {Q = Q} left names)
 unfolding object_of
 local_object left names = local_then (local_flag _) (λ aliased. local_then (local_flag _) (λ constant. local_then (local_subtype_indication left) (λ subtype. local_then (local_initial left) (λ initial. local_then (local_delimiter _) (λ _. local_pure _)))))
 
-pub local_exception : (names : OneOrMore Identifier) → Local (exception_of names)
+pub local_exception : {Q : Type 0} (names : OneOrMore Identifier) → Local (exception_of {Q = Q} names)
 unfolding exception_of
 local_exception names = local_then (local_word _) (λ _. local_then (local_delimiter _) (λ _. local_pure _))
 
-pub local_named_declaration : (left : ℕ) → Local (named_declaration_of left)
+pub local_named_declaration : {Q : Type 0} (left : ℕ) → Local (named_declaration_of {Q = Q} left)
 unfolding named_declaration_of
 local_named_declaration left = local_then local_identifiers (λ names. local_then (local_delimiter _) (λ _. local_choose (head_starts _) (local_exception names) (local_object left names)))
 
-pub eats_named_declaration : (left : ℕ) → Eats (named_declaration_of left)
+pub eats_named_declaration : {Q : Type 0} (left : ℕ) → Eats (named_declaration_of {Q = Q} left)
 unfolding named_declaration_of
 eats_named_declaration left = eats_first eats_identifiers (λ names. local_then (local_delimiter _) (λ _. local_choose (head_starts _) (local_exception names) (local_object left names)))
 
@@ -66,27 +66,27 @@ pub local_definition : (left : ℕ) → Local (definition_of left)
 unfolding definition_of
 local_definition left = local_choose (head_starts _) (local_enumeration left) (local_choose (head_starts _) (local_array left) (local_derived left))
 
-pub local_type : (left : ℕ) → Local (type_of left)
+pub local_type : {Q : Type 0} (left : ℕ) → Local (type_of {Q = Q} left)
 unfolding type_of
 local_type left = local_then (local_word _) (λ place. local_then local_identifier (λ name. local_then (local_word _) (λ _. local_then (local_definition left) (λ definition. local_then (local_delimiter _) (λ _. local_pure _)))))
 
-pub eats_type : (left : ℕ) → Eats (type_of left)
+pub eats_type : {Q : Type 0} (left : ℕ) → Eats (type_of {Q = Q} left)
 unfolding type_of
 eats_type left = eats_first (eats_word _) (λ place. local_then local_identifier (λ name. local_then (local_word _) (λ _. local_then (local_definition left) (λ definition. local_then (local_delimiter _) (λ _. local_pure _)))))
 
-pub local_subtype : (left : ℕ) → Local (subtype_of left)
+pub local_subtype : {Q : Type 0} (left : ℕ) → Local (subtype_of {Q = Q} left)
 unfolding subtype_of
 local_subtype left = local_then (local_word _) (λ place. local_then local_identifier (λ name. local_then (local_word _) (λ _. local_then (local_subtype_indication left) (λ subtype. local_then (local_delimiter _) (λ _. local_pure _)))))
 
-pub eats_subtype : (left : ℕ) → Eats (subtype_of left)
+pub eats_subtype : {Q : Type 0} (left : ℕ) → Eats (subtype_of {Q = Q} left)
 unfolding subtype_of
 eats_subtype left = eats_first (eats_word _) (λ place. local_then local_identifier (λ name. local_then (local_word _) (λ _. local_then (local_subtype_indication left) (λ subtype. local_then (local_delimiter _) (λ _. local_pure _)))))
 
-pub local_use : Local use_of
+pub local_use : {Q : Type 0} → Local (use_of {Q = Q})
 unfolding use_of
 local_use = local_then (local_word _) (λ place. local_then local_name (λ name. local_then (local_delimiter _) (λ _. local_pure _)))
 
-pub eats_use : Eats use_of
+pub eats_use : {Q : Type 0} → Eats (use_of {Q = Q})
 unfolding use_of
 eats_use = eats_first (eats_word _) (λ place. local_then local_name (λ name. local_then (local_delimiter _) (λ _. local_pure _)))
 
@@ -149,7 +149,7 @@ pub local_task_definition : (left : ℕ) (name : List ℕ) → Local (task_defin
 unfolding task_definition_of
 local_task_definition left name = local_choose (head_starts _) (local_then (local_word _) (λ _. local_then (local_items (head_starts _) (local_entry left) (eats_entry left)) (λ entries. local_then (local_word _) (λ _. local_then (local_end_name _) (λ named. local_pure _))))) (local_pure _)
 
-pub local_task : (left : ℕ) (place : Place) → Local (task_of left place)
+pub local_task : {Q : Type 0} (left : ℕ) (place : Place) → Local (task_of {Q = Q} left place)
 unfolding task_of
 local_task left place = local_then (local_flag _) (λ is_type. local_then local_identifier (λ name. local_then (local_aspects left) (λ aspects. local_then (local_task_definition left name.text) (λ definition. local_then (local_delimiter _) (λ _. local_pure _)))))
 
@@ -176,7 +176,7 @@ pub local_private : (left : ℕ) → Local (private_of left)
 unfolding private_of
 local_private left = local_choose (head_starts _) (local_then (local_word _) (λ _. local_then (local_items (head_starts _) (local_component left) (eats_component left)) (λ components. local_pure _))) (local_pure _)
 
-pub local_protected : (left : ℕ) (place : Place) → Local (protected_of left place)
+pub local_protected : {Q : Type 0} (left : ℕ) (place : Place) → Local (protected_of {Q = Q} left place)
 unfolding protected_of
 local_protected left place = local_then (local_flag _) (λ is_type. local_then local_identifier (λ name. local_then (local_aspects left) (λ aspects. local_then (local_word _) (λ _. local_then (local_items head_begins_operation (local_operation left) (eats_operation left)) (λ named_operations. local_then (local_private left) (λ components. local_then (local_word _) (λ _. local_then (local_end_name _) (λ named. local_then (local_delimiter _) (λ _. local_pure _)))))))))
 

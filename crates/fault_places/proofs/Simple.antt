@@ -56,19 +56,19 @@ local_index [] = local_pure _
 local_index (a ∷ []) = local_only_index a.formal a.value
 local_index (a ∷ b ∷ more) = local_nothing
 
-pub local_assignment_behind : (left : ℕ) (target : Name) (arguments : List (Argument Expression)) → Local (assignment_behind_of left target arguments)
+pub local_assignment_behind : {Q : Type 0} (left : ℕ) (target : Name) (arguments : List (Argument Expression)) → Local (assignment_behind_of {Q = Q} left target arguments)
 unfolding assignment_behind_of
 local_assignment_behind left target arguments = local_then (local_index arguments) (λ index. local_then (local_delimiter _) (λ _. local_then (local_expression left) (λ value. local_then (local_delimiter _) (λ _. local_pure _))))
 
-pub local_call_behind : (name : Name) (arguments : List (Argument Expression)) → Local (call_behind_of name arguments)
+pub local_call_behind : {Q : Type 0} (name : Name) (arguments : List (Argument Expression)) → Local (call_behind_of {Q = Q} name arguments)
 unfolding call_behind_of
 local_call_behind name arguments = local_then (local_delimiter _) (λ _. local_pure _)
 
-pub local_simple : (left : ℕ) → Local (simple_of left)
+pub local_simple : {Q : Type 0} (left : ℕ) → Local (simple_of {Q = Q} left)
 unfolding simple_of
 local_simple left = local_then local_name (λ name. local_then (local_all_arguments left) (λ arguments. local_choose (head_starts _) (local_assignment_behind left name arguments) (local_call_behind name arguments)))
 
-pub eats_simple : (left : ℕ) → Eats (simple_of left)
+pub eats_simple : {Q : Type 0} (left : ℕ) → Eats (simple_of {Q = Q} left)
 unfolding simple_of
 eats_simple left = eats_first eats_name (λ name. local_then (local_all_arguments left) (λ arguments. local_choose (head_starts _) (local_assignment_behind left name arguments) (local_call_behind name arguments)))
 
@@ -116,19 +116,19 @@ pub local_when : (left : ℕ) → Local (when_of left)
 unfolding when_of
 local_when left = local_choose (head_starts _) (local_then (local_word _) (λ _. local_then (local_expression left) (λ condition. local_pure _))) (local_pure _)
 
-pub local_exit : (left : ℕ) → Local (exit_of left)
+pub local_exit : {Q : Type 0} (left : ℕ) → Local (exit_of {Q = Q} left)
 unfolding exit_of
 local_exit left = local_then (local_word _) (λ place. local_then local_loop_name (λ loop_name. local_then (local_when left) (λ condition. local_then (local_delimiter _) (λ _. local_pure _))))
 
-pub eats_exit : (left : ℕ) → Eats (exit_of left)
+pub eats_exit : {Q : Type 0} (left : ℕ) → Eats (exit_of {Q = Q} left)
 unfolding exit_of
 eats_exit left = eats_first (eats_word _) (λ place. local_then local_loop_name (λ loop_name. local_then (local_when left) (λ condition. local_then (local_delimiter _) (λ _. local_pure _))))
 
-pub local_null : Local null_of
+pub local_null : {Q : Type 0} → Local (null_of {Q = Q})
 unfolding null_of
 local_null = local_then (local_word _) (λ place. local_then (local_delimiter _) (λ _. local_pure _))
 
-pub eats_null : Eats null_of
+pub eats_null : {Q : Type 0} → Eats (null_of {Q = Q})
 unfolding null_of
 eats_null = eats_first (eats_word _) (λ place. local_then (local_delimiter _) (λ _. local_pure _))
 
@@ -136,11 +136,11 @@ pub local_result_value : (left : ℕ) → Local (result_value_of left)
 unfolding result_value_of
 local_result_value left = local_choose (head_starts _) (local_pure _) (local_then (local_expression left) (λ value. local_pure _))
 
-pub local_return : (left : ℕ) → Local (return_of left)
+pub local_return : {Q : Type 0} (left : ℕ) → Local (return_of {Q = Q} left)
 unfolding return_of
 local_return left = local_then (local_word _) (λ place. local_then (local_result_value left) (λ value. local_then (local_delimiter _) (λ _. local_pure _)))
 
-pub eats_return : (left : ℕ) → Eats (return_of left)
+pub eats_return : {Q : Type 0} (left : ℕ) → Eats (return_of {Q = Q} left)
 unfolding return_of
 eats_return left = eats_first (eats_word _) (λ place. local_then (local_result_value left) (λ value. local_then (local_delimiter _) (λ _. local_pure _)))
 
@@ -148,19 +148,19 @@ pub local_exception_name : Local exception_name_of
 unfolding exception_name_of
 local_exception_name = local_choose (head_starts _) (local_then local_name (λ name. local_pure _)) (local_pure _)
 
-pub local_raise : Local raise_of
+pub local_raise : {Q : Type 0} → Local (raise_of {Q = Q})
 unfolding raise_of
 local_raise = local_then (local_word _) (λ place. local_then local_exception_name (λ exception. local_then (local_delimiter _) (λ _. local_pure _)))
 
-pub eats_raise : Eats raise_of
+pub eats_raise : {Q : Type 0} → Eats (raise_of {Q = Q})
 unfolding raise_of
 eats_raise = eats_first (eats_word _) (λ place. local_then local_exception_name (λ exception. local_then (local_delimiter _) (λ _. local_pure _)))
 
-pub local_abort : Local abort_of
+pub local_abort : {Q : Type 0} → Local (abort_of {Q = Q})
 unfolding abort_of
 local_abort = local_then (local_word _) (λ place. local_then (local_names _) (λ tasks. local_then (local_delimiter _) (λ _. local_pure _)))
 
-pub eats_abort : Eats abort_of
+pub eats_abort : {Q : Type 0} → Eats (abort_of {Q = Q})
 unfolding abort_of
 eats_abort = eats_first (eats_word _) (λ place. local_then (local_names _) (λ tasks. local_then (local_delimiter _) (λ _. local_pure _)))
 
@@ -168,11 +168,11 @@ pub local_with_abort : Local with_abort_of
 unfolding with_abort_of
 local_with_abort = local_choose (head_starts _) (local_then (local_word _) (λ _. local_then (local_word _) (λ _. local_pure _))) (local_pure _)
 
-pub local_requeue : Local requeue_of
+pub local_requeue : {Q : Type 0} → Local (requeue_of {Q = Q})
 unfolding requeue_of
 local_requeue = local_then (local_word _) (λ place. local_then local_name (λ entry. local_then local_with_abort (λ with_abort. local_then (local_delimiter _) (λ _. local_pure _))))
 
-pub eats_requeue : Eats requeue_of
+pub eats_requeue : {Q : Type 0} → Eats (requeue_of {Q = Q})
 unfolding requeue_of
 eats_requeue = eats_first (eats_word _) (λ place. local_then local_name (λ entry. local_then local_with_abort (λ with_abort. local_then (local_delimiter _) (λ _. local_pure _))))
 
@@ -180,6 +180,6 @@ pub local_exceptions : Local exceptions_of
 unfolding exceptions_of
 local_exceptions = local_choose (head_starts _) (local_then (local_word _) (λ place. local_pure _)) (local_then (local_names _) (λ names. local_pure _))
 
-pub passes_simple : (left : ℕ) → Passes (simple_of left)
+pub passes_simple : {Q : Type 0} (left : ℕ) → Passes (simple_of {Q = Q} left)
 unfolding simple_of
 passes_simple left = (takes_then passes_name (λ name. local_then (local_all_arguments left) (λ arguments. local_choose (head_starts _) (local_assignment_behind left name arguments) (local_call_behind name arguments))))

@@ -216,7 +216,7 @@ becomes_seen left target arguments m x r e =
     let f = (assignment_behind_exact left target arguments).sound m x r e in
     sees_delimiter_first (codes ":=") (expression_written f.item.value ++ semicolon) m r f.leads
 
-call_behind_exact : (name : Name) (arguments : List (Argument Expression)) → Rest (λ (u : Unit {0}). statements.Call (record { name = name; arguments = arguments })) Any (λ u. semicolon) shapeless always (call_behind_of name arguments)
+call_behind_exact : (name : Name) (arguments : List (Argument Expression)) → Rest {X = Statement Sequence} (λ (u : Unit {0}). statements.Call (record { name = name; arguments = arguments })) Any (λ u. semicolon) shapeless always (call_behind_of name arguments)
 unfolding call_behind_of
 call_behind_exact name arguments = delimiter_ends (λ (u : Unit {0}). statements.Call (record { name = name; arguments = arguments })) Any (codes ";") tt tt (λ u p. refl)
 
@@ -227,7 +227,7 @@ semicolon_seen name arguments m x r e =
     let f = (call_behind_exact name arguments).sound m x r e in
     first_is (sees_delimiter (codes ":=")) false (delimiter (codes ";")) (λ l ls. refl) [] m r f.leads
 
-pub assignment_complete : (left : ℕ) (a : Assignment) (ls r : List Lexeme) → assignment_fits left a ≡ true → Leads (assignment_written a) ls r → simple_of left ls ≡ done (statements.Assignment a) r
+pub assignment_complete : (left : ℕ) (a : Assignment) (ls r : List Lexeme) → assignment_fits left a ≡ true → Leads (assignment_written a) ls r → simple_of {Q = Sequence} left ls ≡ done (statements.Assignment a) r
 unfolding simple_of
 assignment_complete left a ls r okay l =
     carried name_of (λ name. all_arguments_of left >>= λ arguments. assignment_behind_of left name arguments) _ ls (statements.Assignment a) r
@@ -235,7 +235,7 @@ assignment_complete left a ls r okay l =
     (λ arguments n e. chosen_by (sees_delimiter (codes ":=")) (assignment_behind_of left name arguments) (call_behind_of name arguments) n (statements.Assignment a) r (becomes_seen left name arguments n (statements.Assignment a) r) e) e)
     ((assignment_statement_exact left).complete a ls r tt okay l refl)
 
-pub call_complete : (left : ℕ) (c : Call) (ls r : List Lexeme) → call_fits left c ≡ true → Leads (call_written c) ls r → simple_of left ls ≡ done (statements.Call c) r
+pub call_complete : (left : ℕ) (c : Call) (ls r : List Lexeme) → call_fits left c ≡ true → Leads (call_written c) ls r → simple_of {Q = Sequence} left ls ≡ done (statements.Call c) r
 unfolding simple_of
 call_complete left c ls r okay l =
     carried name_of (λ name. all_arguments_of left >>= λ arguments. call_behind_of name arguments) _ ls (statements.Call c) r

@@ -86,7 +86,7 @@ not_exception o ls r l =
     (λ ls r l. first_is (not_word (codes "exception")) true (word (codes "constant")) (λ l ls. refl) (indication_behind o) ls r l)
     (λ ls r l. identifier_no_exception ls (indication_begins o.subtype (initial_written o.initial) ls r l)) ls r l) ls r l
 
-pub object_exact : (left : ℕ) (names : OneOrMore Identifier) → Rest (λ (o : ObjectDeclaration). declarations.Object o) (λ o. Any o × (names ≡ o.names)) object_behind (object_fits left) always (object_of left names)
+pub object_exact : (left : ℕ) (names : OneOrMore Identifier) → Rest {X = Declaration Sequence} (λ (o : ObjectDeclaration). declarations.Object o) (λ o. Any o × (names ≡ o.names)) object_behind (object_fits left) always (object_of left names)
 unfolding object_of starts
 object_exact left names =
     plain object_made (λ o. Any o × (names ≡ o.names)) constant_behind _ always (λ o. o.aliased) (λ b. flag b (word (codes "aliased") ∷ [])) shapeless (not_word (codes "aliased")) (flag_of (codes "aliased")) _ (flag_exact (codes "aliased")) (λ a. refl)
@@ -104,7 +104,7 @@ object_exact left names =
 abbrev exception_made : OneOrMore Identifier → Declaration Sequence
 exception_made names = declarations.Exception names
 
-pub exception_exact : (names : OneOrMore Identifier) → Rest (λ (n : OneOrMore Identifier). declarations.Exception n) (λ n. Any n × (names ≡ n)) (λ n. word (codes "exception") ∷ semicolon) shapeless always (exception_of names)
+pub exception_exact : (names : OneOrMore Identifier) → Rest {X = Declaration Sequence} (λ (n : OneOrMore Identifier). declarations.Exception n) (λ n. Any n × (names ≡ n)) (λ n. word (codes "exception") ∷ semicolon) shapeless always (exception_of names)
 unfolding exception_of
 exception_exact names =
     word_then exception_made (λ n. Any n × (names ≡ n)) _ _ always (codes "exception") _
@@ -148,7 +148,7 @@ object_seen : (left : ℕ) (names : OneOrMore Identifier) (m : List Lexeme) (x :
 object_seen left names m x r e = let f = (object_exact left names).sound m x r e in not_true (sees_word (codes "exception") m) (not_exception f.item m r f.leads)
 
 pub exception_complete : (left : ℕ) (names : OneOrMore Identifier) (ls r : List Lexeme) → Leads (identifiers_written names ++ delimiter (codes ":") ∷ word (codes "exception") ∷ semicolon) ls r
-    → named_declaration_of left ls ≡ done (declarations.Exception names) r
+    → named_declaration_of {Q = Sequence} left ls ≡ done (declarations.Exception names) r
 unfolding named_declaration_of
 exception_complete left names ls r l =
     carried identifiers_of (λ names. the_delimiter (codes ":") >>= λ colon. exception_of names) _ ls (declarations.Exception names) r
@@ -156,7 +156,7 @@ exception_complete left names ls r l =
     (λ colon n e. chosen_by (sees_word (codes "exception")) (exception_of found) (object_of left found) n (declarations.Exception names) r (exception_seen found n (declarations.Exception names) r) e) e)
     (exception_whole_exact.complete names ls r tt refl l refl)
 
-pub object_complete : (left : ℕ) (o : ObjectDeclaration) (ls r : List Lexeme) → object_fits left o ≡ true → Leads (object_written o) ls r → named_declaration_of left ls ≡ done (declarations.Object o) r
+pub object_complete : (left : ℕ) (o : ObjectDeclaration) (ls r : List Lexeme) → object_fits left o ≡ true → Leads (object_written o) ls r → named_declaration_of {Q = Sequence} left ls ≡ done (declarations.Object o) r
 unfolding named_declaration_of
 object_complete left o ls r okay l =
     carried identifiers_of (λ names. the_delimiter (codes ":") >>= λ colon. object_of left names) _ ls (declarations.Object o) r
@@ -187,7 +187,7 @@ component_begins c ls r l = identifiers_begin c.names (delimiter (codes ":") ∷
 
 -- ---- uses
 
-pub use_exact : Rest (λ (x : Place × Name). declarations.Use x.0 x.1) Any (λ x. word_at x.0 (codes "use") ∷ (name_written x.1 ++ semicolon)) shapeless always use_of
+pub use_exact : Rest {X = Declaration Sequence} (λ (x : Place × Name). declarations.Use x.0 x.1) Any (λ x. word_at x.0 (codes "use") ∷ (name_written x.1 ++ semicolon)) shapeless always use_of
 unfolding use_of starts
 use_exact =
     let make : Place × Name → Declaration Sequence = λ x. declarations.Use x.0 x.1 in

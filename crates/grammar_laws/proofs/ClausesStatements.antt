@@ -237,7 +237,7 @@ no_loop_name condition ls r l =
     first_optional not_identifier true when_written semicolon (λ e ls m l. first_is not_identifier true (word (codes "when")) (λ l ls. refl) (expression_written e) ls m l)
     (λ ls r l. first_is not_identifier true (delimiter (codes ";")) (λ l ls. refl) [] ls r l) condition ls r l
 
-pub exit_exact : (left : ℕ) → Rest (λ (e : Exit). statements.Exit e) Any exit_written (exit_fits left) always (exit_of left)
+pub exit_exact : (left : ℕ) → Rest {X = Statement Sequence} (λ (e : Exit). statements.Exit e) Any exit_written (exit_fits left) always (exit_of left)
 unfolding exit_of starts
 exit_exact left =
     let make : Exit → Statement Sequence = λ e. statements.Exit e in
@@ -249,7 +249,7 @@ exit_exact left =
 
 -- ---- null, return, raise, abort, requeue
 
-pub null_exact : Rest (λ (p : Place). statements.Null p) Any (λ p. word_at p (codes "null") ∷ semicolon) shapeless always null_of
+pub null_exact : Rest {X = Statement Sequence} (λ (p : Place). statements.Null p) Any (λ p. word_at p (codes "null") ∷ semicolon) shapeless always null_of
 unfolding null_of
 null_exact =
     let make : Place → Statement Sequence = λ p. statements.Null p in
@@ -283,7 +283,7 @@ result_complete left (Some e) ls r okay l end =
 pub result_value_exact : (left : ℕ) → Exact (optional expression_written) (optional_fits (value_fits left)) ends_result (result_value_of left)
 result_value_exact left = record { sound = (result_sound left).by; complete = λ o ls r q okay l end. result_complete left o ls r okay l end }
 
-pub return_exact : (left : ℕ) → Rest (λ (x : Place × Option Expression). statements.Return x.0 x.1) Any (λ x. word_at x.0 (codes "return") ∷ (optional expression_written x.1 ++ semicolon)) (λ x. optional_fits (value_fits left) x.1) always (return_of left)
+pub return_exact : (left : ℕ) → Rest {X = Statement Sequence} (λ (x : Place × Option Expression). statements.Return x.0 x.1) Any (λ x. word_at x.0 (codes "return") ∷ (optional expression_written x.1 ++ semicolon)) (λ x. optional_fits (value_fits left) x.1) always (return_of left)
 unfolding return_of starts
 return_exact left =
     let make : Place × Option Expression → Statement Sequence = λ x. statements.Return x.0 x.1 in
@@ -301,7 +301,7 @@ exception_name_exact =
     (λ n ls r l. sees_identifier_first n.parts.first (each_written (behind (delimiter (codes ".")) one_identifier) n.parts.others) ls r l)
     (λ r e. not_true (sees_identifier r) (second_true (not_delimiter (codes ".") r) (not_identifier r) e))
 
-pub raise_exact : Rest (λ (x : Place × Option Name). statements.Raise x.0 x.1) Any (λ x. word_at x.0 (codes "raise") ∷ (optional name_written x.1 ++ semicolon)) shapeless always raise_of
+pub raise_exact : Rest {X = Statement Sequence} (λ (x : Place × Option Name). statements.Raise x.0 x.1) Any (λ x. word_at x.0 (codes "raise") ∷ (optional name_written x.1 ++ semicolon)) shapeless always raise_of
 unfolding raise_of starts
 raise_exact =
     let make : Place × Option Name → Statement Sequence = λ x. statements.Raise x.0 x.1 in
@@ -309,7 +309,7 @@ raise_exact =
     (λ place. plain_before make _ (delimiter (codes ";")) _ always (λ x. x.1) (optional name_written) (optional_fits shapeless) ends_name exception_name_of _ exception_name_exact (λ l ls. refl) _ optional_shapeless
     (λ exception. delimiter_ends make _ (codes ";") (place, exception) ((tt, refl), refl) (λ j p. rw (p.0.1, p.1) refl)))
 
-pub abort_exact : Rest (λ (x : Place × OneOrMore Name). statements.Abort x.0 x.1) Any (λ x. word_at x.0 (codes "abort") ∷ (separated (delimiter (codes ",")) name_written x.1 ++ semicolon)) shapeless always abort_of
+pub abort_exact : Rest {X = Statement Sequence} (λ (x : Place × OneOrMore Name). statements.Abort x.0 x.1) Any (λ x. word_at x.0 (codes "abort") ∷ (separated (delimiter (codes ",")) name_written x.1 ++ semicolon)) shapeless always abort_of
 unfolding abort_of starts
 abort_exact =
     let make : Place × OneOrMore Name → Statement Sequence = λ x. statements.Abort x.0 x.1 in
@@ -343,7 +343,7 @@ with_abort_complete false ls r l end = rw (l, not_true (sees_word (codes "with")
 pub with_abort_exact : Exact with_abort_written shapeless (not_word (codes "with")) with_abort_of
 with_abort_exact = record { sound = with_abort_sound.by; complete = λ b ls r q okay l end. with_abort_complete b ls r l end }
 
-pub requeue_exact : Rest (λ (x : Place × (Name × Bool)). statements.Requeue x.0 x.1.0 x.1.1) Any (λ x. word_at x.0 (codes "requeue") ∷ (name_written x.1.0 ++ (with_abort_written x.1.1 ++ semicolon))) shapeless always requeue_of
+pub requeue_exact : Rest {X = Statement Sequence} (λ (x : Place × (Name × Bool)). statements.Requeue x.0 x.1.0 x.1.1) Any (λ x. word_at x.0 (codes "requeue") ∷ (name_written x.1.0 ++ (with_abort_written x.1.1 ++ semicolon))) shapeless always requeue_of
 unfolding requeue_of starts
 requeue_exact =
     let make : Place × (Name × Bool) → Statement Sequence = λ x. statements.Requeue x.0 x.1.0 x.1.1 in

@@ -79,7 +79,7 @@ before_definition t ls r l =
     (λ d ls m l. first_is ends_aspects true (word (codes "is")) (λ l ls. refl) (each_written entry_written d.entries ++ word (codes "end") ∷ end_name_written d.named_at_end t.name) ls m l)
     (λ ls r l. first_is ends_aspects true (delimiter (codes ";")) (λ l ls. refl) [] ls r l) t.definition ls r l
 
-pub task_exact : (left : ℕ) (place : Place) → Rest (λ (t : TaskDeclaration). declarations.Task t) (λ t. Any t × (place ≡ t.place)) task_behind (task_fits left) always (task_of left place)
+pub task_exact : (left : ℕ) (place : Place) → Rest {X = Declaration Sequence} (λ (t : TaskDeclaration). declarations.Task t) (λ t. Any t × (place ≡ t.place)) task_behind (task_fits left) always (task_of left place)
 unfolding task_of starts
 task_exact left place =
     plain task_made (λ t. Any t × (place ≡ t.place)) (λ t. identifier_written t.name ∷ (aspects_written t.aspects ++ definition_behind t)) _ always (λ t. t.is_type) type_flag shapeless (not_word (codes "type")) (flag_of (codes "type")) _ (flag_exact (codes "type")) (λ a. refl)
@@ -195,7 +195,7 @@ behind_operations p ls r l =
     (λ xs ls m l. first_is ends_operations true (word (codes "private")) (λ l ls. refl) (each_written component_written xs) ls m l)
     (λ ls r l. first_is ends_operations true (word (codes "end")) (λ l ls. refl) (end_behind p) ls r l) p.components ls r l
 
-pub protected_exact : (left : ℕ) (place : Place) → Rest (λ (p : ProtectedDeclaration). declarations.Protected p) (λ p. Any p × (place ≡ p.place)) protected_behind (protected_fits left) always (protected_of left place)
+pub protected_exact : (left : ℕ) (place : Place) → Rest {X = Declaration Sequence} (λ (p : ProtectedDeclaration). declarations.Protected p) (λ p. Any p × (place ≡ p.place)) protected_behind (protected_fits left) always (protected_of left place)
 unfolding protected_of starts is_reserved letters
 protected_exact left place =
     plain protected_made (λ p. Any p × (place ≡ p.place)) (λ p. identifier_written p.name ∷ aspects_behind p) _ always (λ p. p.is_type) type_flag shapeless (not_word (codes "type")) (flag_of (codes "type")) _ (flag_exact (codes "type")) (λ a. refl)

@@ -195,7 +195,7 @@ definition_exact left = record { sound = (definition_sound left).by; complete = 
 
 -- ---- types and subtypes
 
-pub type_exact : (left : ℕ) → Rest (λ (t : TypeDeclaration). declarations.Type t) Any type_written (λ t. definition_fits left t.definition) always (type_of left)
+pub type_exact : (left : ℕ) → Rest {X = Declaration Sequence} (λ (t : TypeDeclaration). declarations.Type t) Any type_written (λ t. definition_fits left t.definition) always (type_of left)
 unfolding type_of starts
 type_exact left =
     let make : TypeDeclaration → Declaration Sequence = λ t. declarations.Type t in
@@ -205,7 +205,7 @@ type_exact left =
     (last_before make _ (delimiter (codes ";")) _ always (λ t. t.definition) definition_written (definition_fits left) ends_subtype (definition_of left) _ (definition_exact left) (λ l ls. refl)
     (λ definition. delimiter_ends make _ (codes ";") (record { place = place; name = name; definition = definition }) (((tt, refl), refl), refl) (λ j p. rw (p.0.0.1, p.0.1, p.1) refl)))))
 
-pub subtype_exact : (left : ℕ) → Rest (λ (s : SubtypeDeclaration). declarations.Subtype s) Any subtype_written (λ s. indication_fits left s.subtype) always (subtype_of left)
+pub subtype_exact : (left : ℕ) → Rest {X = Declaration Sequence} (λ (s : SubtypeDeclaration). declarations.Subtype s) Any subtype_written (λ s. indication_fits left s.subtype) always (subtype_of left)
 unfolding subtype_of starts
 subtype_exact left =
     let make : SubtypeDeclaration → Declaration Sequence = λ s. declarations.Subtype s in

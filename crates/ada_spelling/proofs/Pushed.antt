@@ -12,6 +12,10 @@ then_pushed : {V E : Type 0} (answer : Result V E) (before between after : List 
 then_pushed (Ok v) before between after first rest p q = rw (q, p, map-append spelt first rest) (append_assoc before (map spelt first) (map spelt rest))
 then_pushed (Err e) before between after first rest p q = tt
 
+-- what was pushed first, where the rest is still to come
+pub rest_to_push : (before between : List Spelt) (first rest : List Written) → between ≡ before ++ map spelt first → between ++ map spelt rest ≡ before ++ map spelt (first ++ rest)
+rest_to_push before between first rest p = rw (p, map-append spelt first rest) (append_assoc before (map spelt first) (map spelt rest))
+
 pub three_pushed : {V E : Type 0} (answer : Result V E) (t0 t1 t2 t3 : List Spelt) (a b c : List Written)
     → t1 ≡ t0 ++ map spelt a → t2 ≡ t1 ++ map spelt b → OnOk answer (t3 ≡ t2 ++ map spelt c) → OnOk answer (t3 ≡ t0 ++ map spelt (a ++ (b ++ c)))
 three_pushed answer t0 t1 t2 t3 a b c p q r = then_pushed answer t0 t1 t3 a (b ++ c) p (then_pushed answer t1 t2 t3 b c q r)

@@ -103,6 +103,78 @@ pub(crate) fn spell_each<T: Spell>(tokens: &mut Tokens, items: &[T]) -> Result<(
     Ok(())
 }
 
+/// An item behind a word or a delimiter.
+pub(crate) fn spell_after<T: Spell>(
+    tokens: &mut Tokens,
+    kind: Kind,
+    text: &[u8],
+    item: &T,
+) -> Result<(), NoMemory>
+    ensures { OnOk result
+        (tokens.new
+        ≡ tokens.old
+        ++ map spelt
+        (behind (record { kind = kind; text = text.now; identifier = false; place = None })
+        T.written item.now)) }
+{
+    tokens.push(kind, text)?;
+    item.spell(tokens)
+}
+
+/// An item between two words.
+pub(crate) fn spell_between<T: Spell>(
+    tokens: &mut Tokens,
+    opening: &[u8],
+    item: &T,
+    closing: &[u8],
+) -> Result<(), NoMemory>
+    ensures { OnOk result
+        (tokens.new
+        ≡ tokens.old
+        ++ map spelt (word opening.now ∷ (T.written item.now ++ word closing.now ∷ []))) }
+{
+    tokens.word(opening)?;
+    item.spell(tokens)?;
+    tokens.word(closing)
+}
+
+/// An item and a semicolon.
+pub(crate) fn spell_ended<T: Spell>(tokens: &mut Tokens, item: &T) -> Result<(), NoMemory>
+    ensures { OnOk result
+        (tokens.new ≡ tokens.old ++ map spelt (T.written item.now ++ delimiter (codes ";") ∷ [])) }
+{
+    item.spell(tokens)?;
+    tokens.delimiter(b";")
+}
+
+/// A word, an item and a semicolon.
+pub(crate) fn spell_clause<T: Spell>(
+    tokens: &mut Tokens,
+    text: &[u8],
+    item: &T,
+) -> Result<(), NoMemory>
+    ensures { OnOk result
+        (tokens.new
+        ≡ tokens.old
+        ++ map spelt (word text.now ∷ (T.written item.now ++ delimiter (codes ";") ∷ []))) }
+{
+    tokens.word(text)?;
+    spell_ended(tokens, item)
+}
+
+/// An item in brackets.
+pub(crate) fn spell_in_brackets<T: Spell>(tokens: &mut Tokens, item: &T) -> Result<(), NoMemory>
+    ensures { OnOk result
+        (tokens.new
+        ≡ tokens.old
+        ++ map spelt
+        (delimiter (codes "(") ∷ (T.written item.now ++ delimiter (codes ")") ∷ []))) }
+{
+    tokens.delimiter(b"(")?;
+    item.spell(tokens)?;
+    tokens.delimiter(b")")
+}
+
 /// Items with a word or a delimiter before each.
 pub(crate) fn spell_behind<T: Spell>(
     tokens: &mut Tokens,
@@ -119,8 +191,7 @@ pub(crate) fn spell_behind<T: Spell>(
         T.written) items.now)) }
 {
     for item in items {
-        tokens.push(kind, text)?;
-        item.spell(tokens)?;
+        spell_after(tokens, kind, text, item)?;
     }
     Ok(())
 }
@@ -235,10 +306,7 @@ pub(crate) fn spell_led<T: Spell>(
 {
     match item {
         None => Ok(()),
-        Some(item) => {
-            tokens.push(kind, text)?;
-            item.spell(tokens)
-        }
+        Some(item) => spell_after(tokens, kind, text, item),
     }
 }
 

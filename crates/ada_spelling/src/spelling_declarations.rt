@@ -6,10 +6,12 @@ ghost use Rattle.ada_tree.specs.SpellingStatements.{semicolon, indication_writte
 ghost use Rattle.ada_tree.specs.SpellingDeclarations.{becomes_written, extension_written, aspects_written, overriding_written, subprogram_word, task_definition_written, body_written};
 
 use crate::spelling::{
-    Spell, Tokens, spell_behind, spell_bracketed, spell_end_name, spell_flag, spell_led,
-    spell_separated,
+    Spell, Tokens, spell_after, spell_behind, spell_between, spell_bracketed, spell_clause,
+    spell_end_name, spell_ended, spell_flag, spell_led, spell_separated,
 };
-use crate::spelling_statements::{SpellSequence, spell_word_alone};
+use crate::spelling_statements::{
+    SpellSequence, spell_range, spell_sequence_after, spell_word_alone,
+};
 use ada_lex::Kind;
 use ada_tree::{
     Aspect, Body, Component, Declaration, EntryDeclaration, EntryHead, Expression, Identifier,
@@ -106,17 +108,13 @@ impl Spell for TypeDefinition {
             } => {
                 tokens.word(b"array")?;
                 tokens.delimiter(b"(")?;
-                low.spell(tokens)?;
-                tokens.delimiter(b"..")?;
-                high.spell(tokens)?;
+                spell_range(tokens, low, high)?;
                 tokens.delimiter(b")")?;
                 tokens.word(b"of")?;
                 component.spell(tokens)
             }
             TypeDefinition::Derived { parent, components } => {
-                tokens.word(b"new")?;
-                parent.spell(tokens)?;
-                tokens.word(b"with")?;
+                spell_between(tokens, b"new", parent, b"with")?;
                 spell_extension(tokens, components)
             }
         }
@@ -130,11 +128,8 @@ impl Spell for TypeDeclaration {
     ghost written = { type_written };
 
     fn spell(&self, tokens: &mut Tokens) -> Result<(), NoMemory> {
-        tokens.word(b"type")?;
-        self.name.spell(tokens)?;
-        tokens.word(b"is")?;
-        self.definition.spell(tokens)?;
-        tokens.delimiter(b";")
+        spell_between(tokens, b"type", &self.name, b"is")?;
+        spell_ended(tokens, &self.definition)
     }
 }
 
@@ -145,11 +140,8 @@ impl Spell for SubtypeDeclaration {
     ghost written = { subtype_written };
 
     fn spell(&self, tokens: &mut Tokens) -> Result<(), NoMemory> {
-        tokens.word(b"subtype")?;
-        self.name.spell(tokens)?;
-        tokens.word(b"is")?;
-        self.subtype.spell(tokens)?;
-        tokens.delimiter(b";")
+        spell_between(tokens, b"subtype", &self.name, b"is")?;
+        spell_ended(tokens, &self.subtype)
     }
 }
 
@@ -221,8 +213,7 @@ impl Spell for EntryDeclaration {
     ghost written = { entry_written };
 
     fn spell(&self, tokens: &mut Tokens) -> Result<(), NoMemory> {
-        tokens.word(b"entry")?;
-        self.name.spell(tokens)?;
+        spell_after(tokens, Kind::Word, b"entry", &self.name)?;
         spell_bracketed(tokens, b";", self.parameters.as_slice())?;
         tokens.delimiter(b";")
     }
@@ -256,18 +247,6 @@ pub(crate) fn spell_name_and_aspects(
 {
     name.spell(tokens)?;
     spell_aspects(tokens, aspects)
-}
-
-/// `body NAME is` (7.2, 9.1, 9.4)
-pub(crate) fn spell_body_name(tokens: &mut Tokens, name: &Identifier) -> Result<(), NoMemory>
-    ensures { OnOk result
-        (tokens.new
-        ≡ tokens.old
-        ++ map spelt (word (codes "body") ∷ identifier_written name.now ∷ word (codes "is") ∷ [])) }
-{
-    tokens.word(b"body")?;
-    name.spell(tokens)?;
-    tokens.word(b"is")
 }
 
 /// What stands behind the `is` of a task declaration (9.1).
@@ -313,10 +292,7 @@ impl Spell for ProtectedOperation {
 
     fn spell(&self, tokens: &mut Tokens) -> Result<(), NoMemory> {
         match self {
-            ProtectedOperation::Subprogram(specification) => {
-                specification.spell(tokens)?;
-                tokens.delimiter(b";")
-            }
+            ProtectedOperation::Subprogram(specification) => spell_ended(tokens, specification),
             ProtectedOperation::Entry(entry) => entry.spell(tokens),
         }
     }
@@ -346,11 +322,9 @@ impl Spell for EntryHead {
     ghost written = { entry_head_written };
 
     fn spell(&self, tokens: &mut Tokens) -> Result<(), NoMemory> {
-        tokens.word(b"entry")?;
-        self.name.spell(tokens)?;
+        spell_after(tokens, Kind::Word, b"entry", &self.name)?;
         spell_bracketed(tokens, b";", self.parameters.as_slice())?;
-        tokens.word(b"when")?;
-        self.barrier.spell(tokens)
+        spell_after(tokens, Kind::Word, b"when", &self.barrier)
     }
 }
 
@@ -363,8 +337,7 @@ pub(crate) fn spell_body<Q: SpellSequence>(
     ensures { OnOk result
         (tokens.new ≡ tokens.old ++ map spelt (body_written Q.written name.now body.now)) }
 {
-    tokens.word(b"is")?;
-    body.sequence.spell_as(SequenceRole::Body, tokens)?;
+    spell_sequence_after(tokens, b"is", SequenceRole::Body, &body.sequence)?;
     spell_named_end(tokens, body.named_at_end, name)
 }
 
@@ -399,7 +372,7 @@ impl<Q: SpellSequence> Spell for ProtectedBody<Q> {
 
     fn spell(&self, tokens: &mut Tokens) -> Result<(), NoMemory> {
         tokens.word(b"protected")?;
-        spell_body_name(tokens, &self.name)?;
+        spell_between(tokens, b"body", &self.name, b"is")?;
         self.operations.spell(tokens)?;
         spell_named_end(tokens, self.named_at_end, &self.name)
     }
@@ -421,10 +394,7 @@ impl<Q: SpellSequence> Spell for Declaration<Q> {
                 tokens.delimiter(b":")?;
                 spell_word_alone(tokens, b"exception")
             }
-            Declaration::Subprogram(specification) => {
-                specification.spell(tokens)?;
-                tokens.delimiter(b";")
-            }
+            Declaration::Subprogram(specification) => spell_ended(tokens, specification),
             Declaration::SubprogramBody {
                 specification,
                 body,
@@ -435,17 +405,12 @@ impl<Q: SpellSequence> Spell for Declaration<Q> {
             Declaration::Task(task) => task.spell(tokens),
             Declaration::TaskBody { name, body, .. } => {
                 tokens.word(b"task")?;
-                tokens.word(b"body")?;
-                name.spell(tokens)?;
+                spell_after(tokens, Kind::Word, b"body", name)?;
                 spell_body(tokens, name, body)
             }
             Declaration::Protected(declaration) => declaration.spell(tokens),
             Declaration::ProtectedBody(body) => body.spell(tokens),
-            Declaration::Use { name, .. } => {
-                tokens.word(b"use")?;
-                name.spell(tokens)?;
-                tokens.delimiter(b";")
-            }
+            Declaration::Use { name, .. } => spell_clause(tokens, b"use", name),
         }
     }
 }

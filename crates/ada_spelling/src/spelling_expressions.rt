@@ -1,10 +1,10 @@
 //! How expressions are spelt (ISO/IEC 8652:2012, 4.4, 4.5).
 ghost use Rattle.std.specs.Prelude.{◌≡◌, ◌++◌, ◌∷◌, [], map, OnOk};
-ghost use Rattle.ada_tree.specs.Written.{each_written, all_written};
+ghost use Rattle.ada_tree.specs.Written.{all_written};
 ghost use Rattle.ada_spelling.specs.Spelt.{spelt};
 ghost use Rattle.ada_tree.specs.SpellingExpressions.{logical_written, operand_written, relational_text, adding_text, sign_text, multiplying_written, highest_text, attribute_text, formal_written};
 
-use crate::spelling::{Spell, Tokens, spell_bracketed};
+use crate::spelling::{Spell, Tokens, spell_after, spell_bracketed, spell_in_brackets};
 use ada_lex::Kind;
 use ada_tree::{
     Addend, AddingOperator, Argument, Attribute, AttributeDesignator, Expression, ExpressionForm,
@@ -131,14 +131,15 @@ fn spell_operand<E: Spell>(
 fn spell_operands<E: Spell>(
     tokens: &mut Tokens,
     operator: LogicalOperator,
-    operands: &[Operand<E>],
+    operands: &OneOrMore<Operand<E>>,
 ) -> Result<(), NoMemory>
     ensures { OnOk result
         (tokens.new
         ≡ tokens.old
-        ++ map spelt (each_written (operand_written E.written operator) operands.now)) }
+        ++ map spelt (all_written (operand_written E.written operator) operands.now)) }
 {
-    for operand in operands {
+    spell_operand(tokens, operator, &operands.first)?;
+    for operand in operands.others.as_slice() {
         spell_operand(tokens, operator, operand)?;
     }
     Ok(())
@@ -150,8 +151,12 @@ impl<E: Spell> Spell for Addend<E> {
     ghost written = { addend_written E.written };
 
     fn spell(&self, tokens: &mut Tokens) -> Result<(), NoMemory> {
-        tokens.delimiter(adding_text(self.operator))?;
-        self.term.spell(tokens)
+        spell_after(
+            tokens,
+            Kind::Delimiter,
+            adding_text(self.operator),
+            &self.term,
+        )
     }
 }
 
@@ -199,8 +204,7 @@ impl<E: Spell> Spell for ExpressionForm<E> {
                 others,
             } => {
                 first.spell(tokens)?;
-                spell_operand(tokens, *operator, &others.first)?;
-                spell_operands(tokens, *operator, others.others.as_slice())
+                spell_operands(tokens, *operator, others)
             }
             ExpressionForm::Relational {
                 left,
@@ -209,16 +213,14 @@ impl<E: Spell> Spell for ExpressionForm<E> {
                 ..
             } => {
                 left.spell(tokens)?;
-                tokens.delimiter(relational_text(*operator))?;
-                right.spell(tokens)
+                spell_after(tokens, Kind::Delimiter, relational_text(*operator), right)
             }
             ExpressionForm::Adding { first, others } => {
                 first.spell(tokens)?;
                 others.spell(tokens)
             }
             ExpressionForm::Signed { sign, operand, .. } => {
-                tokens.delimiter(sign_text(*sign))?;
-                operand.spell(tokens)
+                spell_after(tokens, Kind::Delimiter, sign_text(*sign), operand)
             }
             ExpressionForm::Multiplying { first, others } => {
                 first.spell(tokens)?;
@@ -228,20 +230,13 @@ impl<E: Spell> Spell for ExpressionForm<E> {
                 operator,
                 operand,
                 ..
-            } => {
-                tokens.word(highest_text(*operator))?;
-                operand.spell(tokens)
-            }
+            } => { spell_after(tokens, Kind::Word, highest_text(*operator), operand) }
             ExpressionForm::Number { literal, .. } => {
                 tokens.push(Kind::Number, literal.as_slice())
             }
             ExpressionForm::Text { text, .. } => tokens.push(Kind::Text, text.as_slice()),
             ExpressionForm::Null { .. } => tokens.word(b"null"),
-            ExpressionForm::Bracketed { inner, .. } => {
-                tokens.delimiter(b"(")?;
-                inner.spell(tokens)?;
-                tokens.delimiter(b")")
-            }
+            ExpressionForm::Bracketed { inner, .. } => spell_in_brackets(tokens, inner),
             ExpressionForm::Named {
                 name,
                 attribute,

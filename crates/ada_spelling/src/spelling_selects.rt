@@ -1,7 +1,7 @@
 //! How select statements are spelt (ISO/IEC 8652:2012, 9.7).
-use crate::spelling::{Spell, Tokens, spell_behind};
+use crate::spelling::{Spell, Tokens, spell_after, spell_behind};
 use crate::spelling_statements::{
-    SpellSequence, spell_else, spell_end, spell_statements, spell_word_alone,
+    SpellSequence, spell_else, spell_end, spell_sequence_after, spell_statements, spell_word_alone,
 };
 use ada_lex::Kind;
 use ada_tree::{
@@ -82,22 +82,24 @@ impl<Q: SpellSequence> Spell for SelectForm<Q> {
             SelectForm::TimedEntryCall(select) => {
                 select.call.spell(tokens)?;
                 spell_statements(tokens, &select.statements)?;
-                tokens.word(b"or")?;
-                select.delay.spell(tokens)?;
+                spell_after(tokens, Kind::Word, b"or", &select.delay)?;
                 spell_statements(tokens, &select.delay_statements)
             }
             SelectForm::ConditionalEntryCall(select) => {
                 select.call.spell(tokens)?;
                 spell_statements(tokens, &select.statements)?;
-                tokens.word(b"else")?;
-                select.otherwise.spell_as(SequenceRole::Statements, tokens)
+                spell_sequence_after(tokens, b"else", SequenceRole::Statements, &select.otherwise)
             }
             SelectForm::AsynchronousSelect(select) => {
                 select.trigger.spell(tokens)?;
                 spell_statements(tokens, &select.statements)?;
                 tokens.word(b"then")?;
-                tokens.word(b"abort")?;
-                select.abortable.spell_as(SequenceRole::Statements, tokens)
+                spell_sequence_after(
+                    tokens,
+                    b"abort",
+                    SequenceRole::Statements,
+                    &select.abortable,
+                )
             }
         }
     }
@@ -110,8 +112,7 @@ impl<Q: SpellSequence> Spell for SelectStatement<Q> {
     ghost written = { select_written Q.written };
 
     fn spell(&self, tokens: &mut Tokens) -> Result<(), NoMemory> {
-        tokens.word(b"select")?;
-        self.form.spell(tokens)?;
+        spell_after(tokens, Kind::Word, b"select", &self.form)?;
         spell_end(tokens, b"select")
     }
 }

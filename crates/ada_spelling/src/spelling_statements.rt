@@ -1,11 +1,13 @@
 //! How statements are spelt (ISO/IEC 8652:2012, clauses 5, 9.5 to 9.8, 11).
 ghost use Rattle.std.specs.Prelude.{◌≡◌, ◌++◌, ◌∷◌, [], map, codes, OnOk};
-ghost use Rattle.ada_tree.specs.Written.{optional, word};
+ghost use Rattle.ada_tree.specs.Written.{optional, word, delimiter};
 ghost use Rattle.ada_spelling.specs.Spelt.{spelt};
+ghost use Rattle.ada_tree.specs.SpellingExpressions.{expression_written};
 ghost use Rattle.ada_tree.specs.SpellingStatements.{semicolon, index_written, label_end_written, with_abort_written, statements_written, else_written, block_opened, accept_body_written};
 
 use crate::spelling::{
-    Spell, Tokens, spell_bracketed, spell_end_name, spell_flag, spell_led, spell_separated,
+    Spell, Tokens, spell_after, spell_between, spell_bracketed, spell_clause, spell_end_name,
+    spell_ended, spell_flag, spell_in_brackets, spell_led, spell_separated,
 };
 use ada_lex::Kind;
 use ada_tree::{
@@ -29,6 +31,22 @@ pub(crate) trait SpellSequence {
         ensures { OnOk result (tokens.new ≡ tokens.old ++ map spelt (written self.now role)) };
 }
 
+/// `LOW .. HIGH` (3.5)
+pub(crate) fn spell_range(
+    tokens: &mut Tokens,
+    low: &Expression,
+    high: &Expression,
+) -> Result<(), NoMemory>
+    ensures { OnOk result
+        (tokens.new
+        ≡ tokens.old
+        ++ map spelt
+        (expression_written low.now ++ delimiter (codes "..") ∷ expression_written high.now)) }
+{
+    low.spell(tokens)?;
+    spell_after(tokens, Kind::Delimiter, b"..", high)
+}
+
 impl Spell for Constraint {
     ghost use Rattle.ada_tree.specs.SpellingStatements.{constraint_written};
 
@@ -45,9 +63,7 @@ impl Spell for Constraint {
             }
             Constraint::Range { low, high } => {
                 tokens.word(b"range")?;
-                low.spell(tokens)?;
-                tokens.delimiter(b"..")?;
-                high.spell(tokens)
+                spell_range(tokens, low, high)
             }
         }
     }
@@ -86,11 +102,7 @@ fn spell_index(tokens: &mut Tokens, index: &Option<Expression>) -> Result<(), No
 {
     match index {
         None => Ok(()),
-        Some(index) => {
-            tokens.delimiter(b"(")?;
-            index.spell(tokens)?;
-            tokens.delimiter(b")")
-        }
+        Some(index) => spell_in_brackets(tokens, index),
     }
 }
 
@@ -104,8 +116,7 @@ impl Spell for Assignment {
         self.target.spell(tokens)?;
         spell_index(tokens, &self.index)?;
         tokens.delimiter(b":=")?;
-        self.value.spell(tokens)?;
-        tokens.delimiter(b";")
+        spell_ended(tokens, &self.value)
     }
 }
 
@@ -131,8 +142,7 @@ impl Spell for Delay {
     fn spell(&self, tokens: &mut Tokens) -> Result<(), NoMemory> {
         tokens.word(b"delay")?;
         spell_flag(tokens, self.until, b"until")?;
-        self.value.spell(tokens)?;
-        tokens.delimiter(b";")
+        spell_ended(tokens, &self.value)
     }
 }
 
@@ -145,11 +155,7 @@ impl Spell for Choice {
     fn spell(&self, tokens: &mut Tokens) -> Result<(), NoMemory> {
         match self {
             Choice::Value(value) => value.spell(tokens),
-            Choice::Range { low, high } => {
-                low.spell(tokens)?;
-                tokens.delimiter(b"..")?;
-                high.spell(tokens)
-            }
+            Choice::Range { low, high } => spell_range(tokens, low, high),
             Choice::Others { .. } => tokens.word(b"others"),
         }
     }
@@ -199,8 +205,7 @@ impl Spell for Iteration {
         match self {
             Iteration::Forever => Ok(()),
             Iteration::While { condition, .. } => {
-                tokens.word(b"while")?;
-                condition.spell(tokens)
+                spell_after(tokens, Kind::Word, b"while", condition)
             }
             Iteration::For {
                 parameter,
@@ -209,13 +214,9 @@ impl Spell for Iteration {
                 high,
                 ..
             } => {
-                tokens.word(b"for")?;
-                parameter.spell(tokens)?;
-                tokens.word(b"in")?;
+                spell_between(tokens, b"for", parameter, b"in")?;
                 spell_flag(tokens, *reverse, b"reverse")?;
-                low.spell(tokens)?;
-                tokens.delimiter(b"..")?;
-                high.spell(tokens)
+                spell_range(tokens, low, high)
             }
         }
     }
@@ -292,6 +293,20 @@ pub(crate) fn spell_statements<Q: SpellSequence>(
     }
 }
 
+/// A sequence behind a word.
+pub(crate) fn spell_sequence_after<Q: SpellSequence>(
+    tokens: &mut Tokens,
+    text: &[u8],
+    role: SequenceRole,
+    sequence: &Q,
+) -> Result<(), NoMemory>
+    ensures { OnOk result
+        (tokens.new ≡ tokens.old ++ map spelt (word text.now ∷ Q.written sequence.now role)) }
+{
+    tokens.word(text)?;
+    sequence.spell_as(role, tokens)
+}
+
 /// `else` and its statements, where they stand there.
 pub(crate) fn spell_else<Q: SpellSequence>(
     tokens: &mut Tokens,
@@ -303,8 +318,7 @@ pub(crate) fn spell_else<Q: SpellSequence>(
     match otherwise {
         None => Ok(()),
         Some(statements) => {
-            tokens.word(b"else")?;
-            statements.spell_as(SequenceRole::Statements, tokens)
+            spell_sequence_after(tokens, b"else", SequenceRole::Statements, statements)
         }
     }
 }
@@ -315,9 +329,7 @@ impl<Q: SpellSequence> Spell for Elsif<Q> {
     ghost written = { elsif_written Q.written };
 
     fn spell(&self, tokens: &mut Tokens) -> Result<(), NoMemory> {
-        tokens.word(b"elsif")?;
-        self.condition.spell(tokens)?;
-        tokens.word(b"then")?;
+        spell_between(tokens, b"elsif", &self.condition, b"then")?;
         self.statements.spell_as(SequenceRole::Statements, tokens)
     }
 }
@@ -329,9 +341,7 @@ impl<Q: SpellSequence> Spell for If<Q> {
     ghost written = { if_written Q.written };
 
     fn spell(&self, tokens: &mut Tokens) -> Result<(), NoMemory> {
-        tokens.word(b"if")?;
-        self.condition.spell(tokens)?;
-        tokens.word(b"then")?;
+        spell_between(tokens, b"if", &self.condition, b"then")?;
         self.statements.spell_as(SequenceRole::Statements, tokens)?;
         self.elsifs.spell(tokens)?;
         spell_else(tokens, &self.otherwise)?;
@@ -359,9 +369,7 @@ impl<Q: SpellSequence> Spell for Case<Q> {
     ghost written = { case_written Q.written };
 
     fn spell(&self, tokens: &mut Tokens) -> Result<(), NoMemory> {
-        tokens.word(b"case")?;
-        self.selector.spell(tokens)?;
-        tokens.word(b"is")?;
+        spell_between(tokens, b"case", &self.selector, b"is")?;
         self.alternatives.spell(tokens)?;
         spell_end(tokens, b"case")
     }
@@ -376,8 +384,7 @@ impl<Q: SpellSequence> Spell for Loop<Q> {
     fn spell(&self, tokens: &mut Tokens) -> Result<(), NoMemory> {
         self.label.spell(tokens)?;
         self.iteration.spell(tokens)?;
-        tokens.word(b"loop")?;
-        self.statements.spell_as(SequenceRole::Statements, tokens)?;
+        spell_sequence_after(tokens, b"loop", SequenceRole::Statements, &self.statements)?;
         tokens.word(b"end")?;
         spell_loop_end(tokens, &self.label)
     }
@@ -394,11 +401,9 @@ fn spell_block_opened<Q: SpellSequence>(
         (tokens.new ≡ tokens.old ++ map spelt (block_opened Q.written declare place sequence.now)) }
 {
     if declare {
-        tokens.word(b"declare")?;
-        sequence.spell_as(SequenceRole::Body, tokens)
+        spell_sequence_after(tokens, b"declare", SequenceRole::Body, sequence)
     } else {
-        tokens.word(b"begin")?;
-        sequence.spell_as(SequenceRole::Handled, tokens)
+        spell_sequence_after(tokens, b"begin", SequenceRole::Handled, sequence)
     }
 }
 
@@ -444,8 +449,7 @@ fn spell_accept_body<Q: SpellSequence>(
     match body {
         None => Ok(()),
         Some(body) => {
-            tokens.word(b"do")?;
-            body.sequence.spell_as(SequenceRole::Handled, tokens)?;
+            spell_sequence_after(tokens, b"do", SequenceRole::Handled, &body.sequence)?;
             tokens.word(b"end")?;
             spell_end_name(tokens, body.named_at_end, entry)
         }
@@ -459,8 +463,7 @@ impl<Q: SpellSequence> Spell for Accept<Q> {
     ghost written = { accept_written Q.written };
 
     fn spell(&self, tokens: &mut Tokens) -> Result<(), NoMemory> {
-        tokens.word(b"accept")?;
-        self.entry.spell(tokens)?;
+        spell_after(tokens, Kind::Word, b"accept", &self.entry)?;
         spell_bracketed(tokens, b";", self.parameters.as_slice())?;
         spell_accept_body(tokens, &self.entry, &self.body)?;
         tokens.delimiter(b";")
@@ -484,16 +487,8 @@ impl<Q: SpellSequence> Spell for Statement<Q> {
             Statement::Loop(statement) => statement.spell(tokens),
             Statement::Exit(exit) => exit.spell(tokens),
             Statement::Block(block) => block.spell(tokens),
-            Statement::Return { value, .. } => {
-                tokens.word(b"return")?;
-                value.spell(tokens)?;
-                tokens.delimiter(b";")
-            }
-            Statement::Raise { exception, .. } => {
-                tokens.word(b"raise")?;
-                exception.spell(tokens)?;
-                tokens.delimiter(b";")
-            }
+            Statement::Return { value, .. } => spell_clause(tokens, b"return", value),
+            Statement::Raise { exception, .. } => spell_clause(tokens, b"raise", exception),
             Statement::Abort { tasks, .. } => {
                 tokens.word(b"abort")?;
                 spell_separated(tokens, b",", tasks)?;
@@ -505,8 +500,7 @@ impl<Q: SpellSequence> Spell for Statement<Q> {
                 with_abort,
                 ..
             } => {
-                tokens.word(b"requeue")?;
-                entry.spell(tokens)?;
+                spell_after(tokens, Kind::Word, b"requeue", entry)?;
                 spell_with_abort(tokens, *with_abort)?;
                 tokens.delimiter(b";")
             }

@@ -5,11 +5,11 @@ ghost use Rattle.ada_tree.specs.SpellingStatements.{handler_written};
 ghost use Rattle.ada_spelling.specs.Spelt.{spelt};
 ghost use Rattle.ada_tree.specs.Spelling.{handlers_written, handled_written, clause_text, package_statements_written, unit_written};
 
-use crate::spelling::{Spell, Spelt, Tokens, spell_each, spell_led, spell_separated};
-use crate::spelling_declarations::{
-    spell_body, spell_body_name, spell_name_and_aspects, spell_named_end,
+use crate::spelling::{
+    Spell, Spelt, Tokens, spell_after, spell_between, spell_each, spell_led, spell_separated,
 };
-use crate::spelling_statements::SpellSequence;
+use crate::spelling_declarations::{spell_body, spell_name_and_aspects, spell_named_end};
+use crate::spelling_statements::{SpellSequence, spell_sequence_after};
 use ada_lex::Kind;
 use ada_tree::{
     ContextClause, Handler, LibraryPackage, MainProcedure, Package, PackageBody,
@@ -107,8 +107,7 @@ impl Spell for Pragma {
     ghost written = { pragma_written };
 
     fn spell(&self, tokens: &mut Tokens) -> Result<(), NoMemory> {
-        tokens.word(b"pragma")?;
-        self.name.spell(tokens)?;
+        spell_after(tokens, Kind::Word, b"pragma", &self.name)?;
         tokens.delimiter(b"(")?;
         spell_separated(tokens, b",", &self.arguments)?;
         tokens.delimiter(b")")?;
@@ -142,9 +141,7 @@ impl Spell for PackageDeclaration {
     ghost written = { package_declaration_written };
 
     fn spell(&self, tokens: &mut Tokens) -> Result<(), NoMemory> {
-        tokens.word(b"package")?;
-        self.name.spell(tokens)?;
-        tokens.word(b"is")?;
+        spell_between(tokens, b"package", &self.name, b"is")?;
         self.declarations.spell(tokens)?;
         spell_led(tokens, Kind::Word, b"private", &self.private)?;
         spell_named_end(tokens, self.named_at_end, &self.name)
@@ -162,8 +159,7 @@ fn spell_package_statements(
     match sequence {
         None => Ok(()),
         Some(sequence) => {
-            tokens.word(b"begin")?;
-            sequence.spell_as(SequenceRole::Handled, tokens)
+            spell_sequence_after(tokens, b"begin", SequenceRole::Handled, sequence)
         }
     }
 }
@@ -176,7 +172,7 @@ impl Spell for PackageBody {
 
     fn spell(&self, tokens: &mut Tokens) -> Result<(), NoMemory> {
         tokens.word(b"package")?;
-        spell_body_name(tokens, &self.name)?;
+        spell_between(tokens, b"body", &self.name, b"is")?;
         self.declarations.spell(tokens)?;
         spell_package_statements(tokens, &self.sequence)?;
         spell_named_end(tokens, self.named_at_end, &self.name)

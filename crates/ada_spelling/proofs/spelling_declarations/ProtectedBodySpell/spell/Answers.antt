@@ -10,4 +10,4 @@ returns g c =
     let body = c.args.self.now in
     four_pushed _ _ _ _ _ _ (word (codes "protected") ∷ []) (word (codes "body") ∷ identifier_written body.name ∷ word (codes "is") ∷ [])
     (each_written (operation_body_written g.Q.SpellSequence.written) body.operations) (word (codes "end") ∷ (end_name_written body.named_at_end body.name ++ semicolon))
-    c.in_ok-word.ensures c.in_ok-spell_body_name.ensures c.in_ok-spell.ensures c.spell_named_end.ensures
+    c.in_ok-word.ensures c.in_ok-spell_between.ensures c.in_ok-spell.ensures c.spell_named_end.ensures

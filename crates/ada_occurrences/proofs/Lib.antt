@@ -2,3 +2,4 @@ pub mod ExpressionFolds
 pub mod LabelFolds
 pub mod StatementFolds
 pub mod SequenceFolds
+mod Told

@@ -1,10 +1,11 @@
 //! The names in declarations and bodies (ISO/IEC 8652:2012, clauses 3, 6, 9, 11).
 ghost use Rattle.std.specs.Prelude.{◌≡◌, ◌++◌, OnOk};
-ghost use Rattle.ada_regions.specs.Occurrences.{an_object, a_component, a_literal, an_exception, declares_all, if_there};
-ghost use Rattle.ada_regions.specs.NamesInDeclarations.{names_in_definition, names_in_profile, names_in_private, names_in_subprogram_body, names_in_entry_body};
+ghost use Rattle.ada_regions.specs.NamesInDeclarations.{names_in_profile, names_in_subprogram_body, names_in_entry_body};
 
-use crate::statements::{hide_all, tell_body, tell_parameters};
-use crate::telling::{Tell, TellSequence, tell_each};
+use crate::statements::{tell_body, tell_parameters};
+use crate::telling::{
+    Naming, Tell, TellSequence, tell_both, tell_names, tell_private, tell_region,
+};
 use ada_regions::{Occurrence, Occurrences};
 use ada_tree::{
     Aspect, Body, Component, Declaration, EntryDeclaration, EntryHead, Expression, Identifier,
@@ -13,26 +14,6 @@ use ada_tree::{
     TaskDeclaration, TaskDefinition, TypeDeclaration, TypeDefinition,
 };
 use ann_base::NoMemory;
-use sqlite_items::Items;
-
-/// Declares the objects of a declaration.
-fn declare_objects<'t>(
-    occurrences: &mut Occurrences<'t>,
-    object: &'t ObjectDeclaration,
-) -> Result<(), NoMemory>
-    ensures { OnOk result
-        (occurrences.new
-        ≡ occurrences.old ++ declares_all (an_object object.now) object.now.names) }
-{
-    occurrences.push(Occurrence::DeclareObject {
-        name: &object.names.first,
-        object,
-    })?;
-    for name in object.names.others.as_slice() {
-        occurrences.push(Occurrence::DeclareObject { name, object })?;
-    }
-    Ok(())
-}
 
 /// An object declaration (3.3.1).
 impl Tell for ObjectDeclaration {
@@ -41,30 +22,11 @@ impl Tell for ObjectDeclaration {
     ghost names = { names_in_object };
 
     fn tell<'t>(&'t self, occurrences: &mut Occurrences<'t>) -> Result<(), NoMemory> {
-        hide_all(occurrences, &self.names)?;
+        tell_names(occurrences, Naming::Hide, &self.names)?;
         self.subtype.tell(occurrences)?;
         self.initial.tell(occurrences)?;
-        declare_objects(occurrences, self)
+        tell_names(occurrences, Naming::Object(self), &self.names)
     }
-}
-
-/// Declares the components of a component declaration.
-fn declare_components<'t>(
-    occurrences: &mut Occurrences<'t>,
-    component: &'t Component,
-) -> Result<(), NoMemory>
-    ensures { OnOk result
-        (occurrences.new
-        ≡ occurrences.old ++ declares_all (a_component component.now) component.now.names) }
-{
-    occurrences.push(Occurrence::DeclareComponent {
-        name: &component.names.first,
-        component,
-    })?;
-    for name in component.names.others.as_slice() {
-        occurrences.push(Occurrence::DeclareComponent { name, component })?;
-    }
-    Ok(())
 }
 
 /// A component (3.8).
@@ -74,93 +36,48 @@ impl Tell for Component {
     ghost names = { names_in_component };
 
     fn tell<'t>(&'t self, occurrences: &mut Occurrences<'t>) -> Result<(), NoMemory> {
-        hide_all(occurrences, &self.names)?;
+        tell_names(occurrences, Naming::Hide, &self.names)?;
         self.subtype.tell(occurrences)?;
         self.initial.tell(occurrences)?;
-        declare_components(occurrences, self)
+        tell_names(occurrences, Naming::Component(self), &self.names)
     }
 }
 
-/// Declares the literals of an enumeration type.
-fn declare_literals<'t>(
-    occurrences: &mut Occurrences<'t>,
-    literals: &'t OneOrMore<Identifier>,
-) -> Result<(), NoMemory>
-    ensures { OnOk result
-        (occurrences.new ≡ occurrences.old ++ declares_all a_literal literals.now) }
-{
-    occurrences.push(Occurrence::DeclareLiteral {
-        name: &literals.first,
-    })?;
-    for name in literals.others.as_slice() {
-        occurrences.push(Occurrence::DeclareLiteral { name })?;
-    }
-    Ok(())
-}
-
-/// Declares exceptions (11.1).
-fn declare_exceptions<'t>(
-    occurrences: &mut Occurrences<'t>,
-    names: &'t OneOrMore<Identifier>,
-) -> Result<(), NoMemory>
-    ensures { OnOk result
-        (occurrences.new ≡ occurrences.old ++ declares_all an_exception names.now) }
-{
-    occurrences.push(Occurrence::DeclareException { name: &names.first })?;
-    for name in names.others.as_slice() {
-        occurrences.push(Occurrence::DeclareException { name })?;
-    }
-    Ok(())
-}
-
-/// How a type is defined, with its name.
-fn tell_definition<'t>(
-    occurrences: &mut Occurrences<'t>,
-    name: &'t Identifier,
-    definition: &'t TypeDefinition,
-) -> Result<(), NoMemory>
-    ensures { OnOk result
-        (occurrences.new ≡ occurrences.old ++ names_in_definition name.now definition.now) }
-{
-    match definition {
-        TypeDefinition::Enumeration { literals } => {
-            occurrences.push(Occurrence::DeclareEnumeration { name, literals })?;
-            declare_literals(occurrences, literals)
-        }
-        TypeDefinition::Array {
-            low,
-            high,
-            component,
-        } => {
-            occurrences.push(Occurrence::Hide { name })?;
-            low.tell(occurrences)?;
-            high.tell(occurrences)?;
-            component.tell(occurrences)?;
-            occurrences.push(Occurrence::DeclareArray {
-                name,
-                low,
-                high,
-                component,
-            })
-        }
-        TypeDefinition::Derived { parent, components } => {
-            occurrences.push(Occurrence::Hide { name })?;
-            occurrences.push(Occurrence::Mention { name: parent })?;
-            occurrences.push(Occurrence::DeclareDerivedType { name, parent })?;
-            occurrences.push(Occurrence::BeginRecord { name })?;
-            components.tell(occurrences)?;
-            occurrences.push(Occurrence::End)
-        }
-    }
-}
-
+/// A type declaration (3.2.1).
 impl Tell for TypeDeclaration {
     ghost use Rattle.ada_regions.specs.NamesInDeclarations.{names_in_type};
 
     ghost names = { names_in_type };
 
     fn tell<'t>(&'t self, occurrences: &mut Occurrences<'t>) -> Result<(), NoMemory> {
-        tell_definition(occurrences, &self.name, &self.definition)
+        let name = &self.name;
+        match &self.definition {
+            TypeDefinition::Enumeration { literals } => {
+                occurrences.push(Occurrence::DeclareEnumeration { name, literals })?;
+                tell_names(occurrences, Naming::Literal, literals)
+            }
+            TypeDefinition::Array {
+                low,
+                high,
+                component,
+            } => {
+                occurrences.push(Occurrence::Hide { name })?;
+                tell_both(occurrences, low, high)?;
+                component.tell(occurrences)?;
+                occurrences.push(Occurrence::DeclareArray {
+                    name,
+                    low,
+                    high,
+                    component,
+                })
+            }
+            TypeDefinition::Derived { parent, components } => {
+                occurrences.push(Occurrence::Hide { name })?;
+                parent.tell(occurrences)?;
+                occurrences.push(Occurrence::DeclareDerivedType { name, parent })?;
+                tell_region(occurrences, Occurrence::BeginRecord { name }, components)
+            }
+        }
     }
 }
 
@@ -263,9 +180,11 @@ impl Tell for TaskDeclaration {
             is_type: self.is_type,
             aspects: self.aspects.as_slice(),
         })?;
-        occurrences.push(Occurrence::BeginUnit { name: &self.name })?;
-        self.definition.tell(occurrences)?;
-        occurrences.push(Occurrence::End)
+        tell_region(
+            occurrences,
+            Occurrence::BeginUnit { name: &self.name },
+            &self.definition,
+        )
     }
 }
 
@@ -278,23 +197,6 @@ impl Tell for ProtectedOperation {
         match self {
             ProtectedOperation::Subprogram(specification) => specification.tell(occurrences),
             ProtectedOperation::Entry(entry) => entry.tell(occurrences),
-        }
-    }
-}
-
-/// The components of a protected unit, where `private` stands there (9.4).
-fn tell_private<'t>(
-    occurrences: &mut Occurrences<'t>,
-    components: &'t Option<Items<Component>>,
-) -> Result<(), NoMemory>
-    ensures { OnOk result
-        (occurrences.new ≡ occurrences.old ++ if_there names_in_private components.now) }
-{
-    match components {
-        None => Ok(()),
-        Some(components) => {
-            occurrences.push(Occurrence::PrivateFromHere)?;
-            components.tell(occurrences)
         }
     }
 }
@@ -401,9 +303,11 @@ impl<Q: TellSequence> Tell for ProtectedBody<Q> {
     ghost names = { names_in_protected_body Q.names_in };
 
     fn tell<'t>(&'t self, occurrences: &mut Occurrences<'t>) -> Result<(), NoMemory> {
-        occurrences.push(Occurrence::BeginProtectedBody { name: &self.name })?;
-        self.operations.tell(occurrences)?;
-        occurrences.push(Occurrence::End)
+        tell_region(
+            occurrences,
+            Occurrence::BeginProtectedBody { name: &self.name },
+            &self.operations,
+        )
     }
 }
 
@@ -418,21 +322,21 @@ impl<Q: TellSequence> Tell for Declaration<Q> {
             Declaration::Object(object) => object.tell(occurrences),
             Declaration::Type(declaration) => declaration.tell(occurrences),
             Declaration::Subtype(subtype) => subtype.tell(occurrences),
-            Declaration::Exception { names } => declare_exceptions(occurrences, names),
+            Declaration::Exception { names } => tell_names(occurrences, Naming::Exception, names),
             Declaration::Subprogram(specification) => specification.tell(occurrences),
             Declaration::SubprogramBody {
                 specification,
                 body,
             } => tell_subprogram_body(occurrences, specification, body),
             Declaration::Task(task) => task.tell(occurrences),
-            Declaration::TaskBody { place, name, body } => {
-                occurrences.push(Occurrence::BeginTaskBody {
+            Declaration::TaskBody { place, name, body } => tell_region(
+                occurrences,
+                Occurrence::BeginTaskBody {
                     name,
                     place: *place,
-                })?;
-                body.tell(occurrences)?;
-                occurrences.push(Occurrence::End)
-            }
+                },
+                body,
+            ),
             Declaration::Protected(protected) => protected.tell(occurrences),
             Declaration::ProtectedBody(protected) => protected.tell(occurrences),
             Declaration::Use { name, .. } => occurrences.push(Occurrence::UsePackage { name }),

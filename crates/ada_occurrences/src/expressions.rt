@@ -1,8 +1,8 @@
 //! The names in expressions (ISO/IEC 8652:2012, clause 4).
 ghost use Rattle.std.specs.Prelude.{◌≡◌, ◌++◌, OnOk};
 
-use crate::telling::{Tell, tell_each};
-use ada_regions::{Occurrence, Occurrences};
+use crate::telling::{Tell, tell_both};
+use ada_regions::Occurrences;
 use ada_tree::{Addend, Argument, Expression, ExpressionForm, Multiplied, Operand};
 use ann_base::NoMemory;
 
@@ -53,23 +53,11 @@ impl<E: Tell> Tell for ExpressionForm<E> {
 
     fn tell<'t>(&'t self, occurrences: &mut Occurrences<'t>) -> Result<(), NoMemory> {
         match self {
-            ExpressionForm::Logical { first, others, .. } => {
-                first.tell(occurrences)?;
-                others.tell(occurrences)
-            }
-            ExpressionForm::Relational { left, right, .. } => {
-                left.tell(occurrences)?;
-                right.tell(occurrences)
-            }
-            ExpressionForm::Adding { first, others } => {
-                first.tell(occurrences)?;
-                others.tell(occurrences)
-            }
+            ExpressionForm::Logical { first, others, .. } => tell_both(occurrences, first, others),
+            ExpressionForm::Relational { left, right, .. } => tell_both(occurrences, left, right),
+            ExpressionForm::Adding { first, others } => tell_both(occurrences, first, others),
             ExpressionForm::Signed { operand, .. } => operand.tell(occurrences),
-            ExpressionForm::Multiplying { first, others } => {
-                first.tell(occurrences)?;
-                others.tell(occurrences)
-            }
+            ExpressionForm::Multiplying { first, others } => tell_both(occurrences, first, others),
             ExpressionForm::Highest { operand, .. } => operand.tell(occurrences),
             ExpressionForm::Number { .. }
             | ExpressionForm::Text { .. }
@@ -79,10 +67,7 @@ impl<E: Tell> Tell for ExpressionForm<E> {
                 name,
                 arguments,
                 ..
-            } => {
-                occurrences.push(Occurrence::Mention { name })?;
-                tell_each(occurrences, arguments.as_slice())
-            }
+            } => { tell_both(occurrences, name, arguments) }
         }
     }
 }

@@ -4,11 +4,11 @@ ghost use Rattle.std.specs.List.{flat_map};
 ghost use Rattle.ada_regions.specs.Occurrences.{if_there};
 ghost use Rattle.ada_regions.specs.NamesInStatements.{labels_in, declares_label};
 
-use crate::telling::TellSequence;
+use crate::telling::{Part, TellSequence};
 use ada_regions::{Occurrence, Occurrences};
 use ada_tree::{
-    Accept, AcceptBody, Alternative, CaseAlternative, Elsif, Handler, If, Label, OneOrMore,
-    SelectAlternative, SelectForm, Statement,
+    AcceptBody, Alternative, CaseAlternative, Elsif, Handler, Label, OneOrMore, SelectAlternative,
+    SelectForm, Statement,
 };
 use ann_base::NoMemory;
 use sqlite_items::Items;
@@ -82,7 +82,7 @@ fn tell_optional_labels<'t, Q: TellSequence>(
 {
     match sequence {
         None => Ok(()),
-        Some(sequence) => sequence.tell_labels(occurrences),
+        Some(sequence) => sequence.tell_part(Part::Labels, occurrences),
     }
 }
 
@@ -105,19 +105,7 @@ impl<Q: TellSequence> TellLabels for Elsif<Q> {
     ghost labels = { labels_in_elsif Q.names_in };
 
     fn tell_labels<'t>(&'t self, occurrences: &mut Occurrences<'t>) -> Result<(), NoMemory> {
-        self.statements.tell_labels(occurrences)
-    }
-}
-
-impl<Q: TellSequence> TellLabels for If<Q> {
-    ghost use Rattle.ada_regions.specs.NamesInStatements.{labels_in_if};
-
-    ghost labels = { labels_in_if Q.names_in };
-
-    fn tell_labels<'t>(&'t self, occurrences: &mut Occurrences<'t>) -> Result<(), NoMemory> {
-        self.statements.tell_labels(occurrences)?;
-        self.elsifs.tell_labels(occurrences)?;
-        tell_optional_labels(occurrences, &self.otherwise)
+        self.statements.tell_part(Part::Labels, occurrences)
     }
 }
 
@@ -127,7 +115,7 @@ impl<Q: TellSequence> TellLabels for CaseAlternative<Q> {
     ghost labels = { labels_in_case_alternative Q.names_in };
 
     fn tell_labels<'t>(&'t self, occurrences: &mut Occurrences<'t>) -> Result<(), NoMemory> {
-        self.statements.tell_labels(occurrences)
+        self.statements.tell_part(Part::Labels, occurrences)
     }
 }
 
@@ -137,7 +125,7 @@ impl<Q: TellSequence> TellLabels for Handler<Q> {
     ghost labels = { labels_in_handler Q.names_in };
 
     fn tell_labels<'t>(&'t self, occurrences: &mut Occurrences<'t>) -> Result<(), NoMemory> {
-        self.statements.tell_labels(occurrences)
+        self.statements.tell_part(Part::Labels, occurrences)
     }
 }
 
@@ -147,17 +135,7 @@ impl<Q: TellSequence> TellLabels for AcceptBody<Q> {
     ghost labels = { labels_in_accept_body Q.names_in };
 
     fn tell_labels<'t>(&'t self, occurrences: &mut Occurrences<'t>) -> Result<(), NoMemory> {
-        self.sequence.tell_labels(occurrences)
-    }
-}
-
-impl<Q: TellSequence> TellLabels for Accept<Q> {
-    ghost use Rattle.ada_regions.specs.NamesInStatements.{labels_in_accept};
-
-    ghost labels = { labels_in_accept Q.names_in };
-
-    fn tell_labels<'t>(&'t self, occurrences: &mut Occurrences<'t>) -> Result<(), NoMemory> {
-        self.body.tell_labels(occurrences)
+        self.sequence.tell_part(Part::Labels, occurrences)
     }
 }
 
@@ -169,7 +147,7 @@ impl<Q: TellSequence> TellLabels for Alternative<Q> {
     fn tell_labels<'t>(&'t self, occurrences: &mut Occurrences<'t>) -> Result<(), NoMemory> {
         match self {
             Alternative::Accept { accept, statements } => {
-                accept.tell_labels(occurrences)?;
+                accept.body.tell_labels(occurrences)?;
                 tell_optional_labels(occurrences, statements)
             }
             Alternative::Delay { statements, .. } => tell_optional_labels(occurrences, statements),
@@ -205,11 +183,11 @@ impl<Q: TellSequence> TellLabels for SelectForm<Q> {
             }
             SelectForm::ConditionalEntryCall(select) => {
                 tell_optional_labels(occurrences, &select.statements)?;
-                select.otherwise.tell_labels(occurrences)
+                select.otherwise.tell_part(Part::Labels, occurrences)
             }
             SelectForm::AsynchronousSelect(select) => {
                 tell_optional_labels(occurrences, &select.statements)?;
-                select.abortable.tell_labels(occurrences)
+                select.abortable.tell_part(Part::Labels, occurrences)
             }
         }
     }
@@ -223,14 +201,18 @@ impl<Q: TellSequence> TellLabels for Statement<Q> {
 
     fn tell_labels<'t>(&'t self, occurrences: &mut Occurrences<'t>) -> Result<(), NoMemory> {
         match self {
-            Statement::If(statement) => statement.tell_labels(occurrences),
+            Statement::If(statement) => {
+                statement.statements.tell_part(Part::Labels, occurrences)?;
+                statement.elsifs.tell_labels(occurrences)?;
+                tell_optional_labels(occurrences, &statement.otherwise)
+            }
             Statement::Case(case) => case.alternatives.tell_labels(occurrences),
             Statement::Loop(statement) => {
                 tell_label(occurrences, &statement.label)?;
-                statement.statements.tell_labels(occurrences)
+                statement.statements.tell_part(Part::Labels, occurrences)
             }
             Statement::Block(block) => tell_label(occurrences, &block.label),
-            Statement::Accept(accept) => accept.tell_labels(occurrences),
+            Statement::Accept(accept) => accept.body.tell_labels(occurrences),
             Statement::Select(select) => select.form.tell_labels(occurrences),
             Statement::Null { .. }
             | Statement::Assignment(_)

@@ -1,7 +1,7 @@
 //! The names in select statements (ISO/IEC 8652:2012, 9.7).
-use crate::statements::tell_optional;
-use crate::telling::{Tell, TellSequence};
-use ada_regions::{Occurrence, Occurrences};
+use crate::statements::tell_with_statements;
+use crate::telling::{Part, Tell, TellSequence};
+use ada_regions::Occurrences;
 use ada_tree::{Alternative, Guard, SelectAlternative, SelectForm, Trigger};
 use ann_base::NoMemory;
 
@@ -36,12 +36,10 @@ impl<Q: TellSequence> Tell for Alternative<Q> {
     fn tell<'t>(&'t self, occurrences: &mut Occurrences<'t>) -> Result<(), NoMemory> {
         match self {
             Alternative::Accept { accept, statements } => {
-                accept.tell(occurrences)?;
-                tell_optional(occurrences, statements)
+                tell_with_statements(occurrences, accept, statements)
             }
             Alternative::Delay { delay, statements } => {
-                delay.tell(occurrences)?;
-                tell_optional(occurrences, statements)
+                tell_with_statements(occurrences, delay, statements)
             }
             Alternative::Terminate { .. } => Ok(()),
         }
@@ -68,24 +66,19 @@ impl<Q: TellSequence> Tell for SelectForm<Q> {
     fn tell<'t>(&'t self, occurrences: &mut Occurrences<'t>) -> Result<(), NoMemory> {
         match self {
             SelectForm::SelectiveAccept(select) => {
-                select.alternatives.tell(occurrences)?;
-                tell_optional(occurrences, &select.otherwise)
+                tell_with_statements(occurrences, &select.alternatives, &select.otherwise)
             }
             SelectForm::TimedEntryCall(select) => {
-                select.call.tell(occurrences)?;
-                tell_optional(occurrences, &select.statements)?;
-                select.delay.tell(occurrences)?;
-                tell_optional(occurrences, &select.delay_statements)
+                tell_with_statements(occurrences, &select.call, &select.statements)?;
+                tell_with_statements(occurrences, &select.delay, &select.delay_statements)
             }
             SelectForm::ConditionalEntryCall(select) => {
-                select.call.tell(occurrences)?;
-                tell_optional(occurrences, &select.statements)?;
-                select.otherwise.tell_statements(occurrences)
+                tell_with_statements(occurrences, &select.call, &select.statements)?;
+                select.otherwise.tell_part(Part::Statements, occurrences)
             }
             SelectForm::AsynchronousSelect(select) => {
-                select.trigger.tell(occurrences)?;
-                tell_optional(occurrences, &select.statements)?;
-                select.abortable.tell_statements(occurrences)
+                tell_with_statements(occurrences, &select.trigger, &select.statements)?;
+                select.abortable.tell_part(Part::Statements, occurrences)
             }
         }
     }

@@ -1,10 +1,10 @@
 //! The names in statements (ISO/IEC 8652:2012, clauses 5, 6.4, 9, 11).
 ghost use Rattle.std.specs.Prelude.{◌≡◌, ◌++◌, ◌∷◌, [], option_map, OnOk};
-ghost use Rattle.ada_regions.specs.Occurrences.{hides_all, a_parameter, declares_all, a_loop, a_block, begins, one, in_body, mentions, mentions_simply, if_there};
+ghost use Rattle.ada_regions.specs.Occurrences.{a_loop, a_block, begins, one, in_body, mentions, mentions_simply, if_there};
 ghost use Rattle.std.specs.List.{flat_map};
 ghost use Rattle.ada_regions.specs.NamesInStatements.{names_in_parameter, names_in_parameters, names_in_statements, label_name};
 
-use crate::telling::{Tell, TellSequence, tell_each};
+use crate::telling::{Naming, Part, Tell, TellSequence, tell_both, tell_names};
 use ada_regions::{Occurrence, Occurrences};
 use ada_tree::{
     Accept, AcceptBody, Assignment, Block, Call, Case, CaseAlternative, Choice, Constraint, Delay,
@@ -26,20 +26,6 @@ impl Tell for Name {
     }
 }
 
-/// Hides each name of a list.
-pub(crate) fn hide_all<'t>(
-    occurrences: &mut Occurrences<'t>,
-    names: &'t OneOrMore<Identifier>,
-) -> Result<(), NoMemory>
-    ensures { OnOk result (occurrences.new ≡ occurrences.old ++ hides_all names.now) }
-{
-    occurrences.push(Occurrence::Hide { name: &names.first })?;
-    for name in names.others.as_slice() {
-        occurrences.push(Occurrence::Hide { name })?;
-    }
-    Ok(())
-}
-
 impl Tell for Constraint {
     ghost use Rattle.ada_regions.specs.NamesInStatements.{names_in_constraint};
 
@@ -47,11 +33,8 @@ impl Tell for Constraint {
 
     fn tell<'t>(&'t self, occurrences: &mut Occurrences<'t>) -> Result<(), NoMemory> {
         match self {
-            Constraint::Access(name) => occurrences.push(Occurrence::Mention { name }),
-            Constraint::Range { low, high } => {
-                low.tell(occurrences)?;
-                high.tell(occurrences)
-            }
+            Constraint::Access(name) => name.tell(occurrences),
+            Constraint::Range { low, high } => tell_both(occurrences, low, high),
         }
     }
 }
@@ -62,35 +45,9 @@ impl Tell for SubtypeIndication {
     ghost names = { names_in_indication };
 
     fn tell<'t>(&'t self, occurrences: &mut Occurrences<'t>) -> Result<(), NoMemory> {
-        occurrences.push(Occurrence::Mention { name: &self.name })?;
+        self.name.tell(occurrences)?;
         self.constraint.tell(occurrences)
     }
-}
-
-/// Declares the parameters of a list.
-fn declare_parameters<'t>(
-    occurrences: &mut Occurrences<'t>,
-    with_cells: bool,
-    parameter: &'t Parameter,
-) -> Result<(), NoMemory>
-    ensures { OnOk result
-        (occurrences.new
-        ≡ occurrences.old
-        ++ declares_all (a_parameter with_cells parameter.now) parameter.now.names) }
-{
-    occurrences.push(Occurrence::DeclareParameter {
-        name: &parameter.names.first,
-        with_cells,
-        parameter,
-    })?;
-    for name in parameter.names.others.as_slice() {
-        occurrences.push(Occurrence::DeclareParameter {
-            name,
-            with_cells,
-            parameter,
-        })?;
-    }
-    Ok(())
 }
 
 /// Parameters with one subtype (6.1).
@@ -102,9 +59,16 @@ pub(crate) fn tell_parameter<'t>(
     ensures { OnOk result
         (occurrences.new ≡ occurrences.old ++ names_in_parameter with_cells parameter.now) }
 {
-    hide_all(occurrences, &parameter.names)?;
+    tell_names(occurrences, Naming::Hide, &parameter.names)?;
     parameter.subtype.tell(occurrences)?;
-    declare_parameters(occurrences, with_cells, parameter)
+    tell_names(
+        occurrences,
+        Naming::Parameter {
+            with_cells,
+            parameter,
+        },
+        &parameter.names,
+    )
 }
 
 /// The parameters of a construct that has cells for them, or of a declaration.
@@ -128,7 +92,7 @@ impl Tell for Assignment {
     ghost names = { names_in_assignment };
 
     fn tell<'t>(&'t self, occurrences: &mut Occurrences<'t>) -> Result<(), NoMemory> {
-        occurrences.push(Occurrence::Mention { name: &self.target })?;
+        self.target.tell(occurrences)?;
         self.index.tell(occurrences)?;
         self.value.tell(occurrences)
     }
@@ -140,8 +104,8 @@ impl Tell for Call {
     ghost names = { names_in_call };
 
     fn tell<'t>(&'t self, occurrences: &mut Occurrences<'t>) -> Result<(), NoMemory> {
-        occurrences.push(Occurrence::Mention { name: &self.name })?;
-        tell_each(occurrences, self.arguments.as_slice())
+        self.name.tell(occurrences)?;
+        self.arguments.tell(occurrences)
     }
 }
 
@@ -163,10 +127,7 @@ impl Tell for Choice {
     fn tell<'t>(&'t self, occurrences: &mut Occurrences<'t>) -> Result<(), NoMemory> {
         match self {
             Choice::Value(value) => value.tell(occurrences),
-            Choice::Range { low, high } => {
-                low.tell(occurrences)?;
-                high.tell(occurrences)
-            }
+            Choice::Range { low, high } => tell_both(occurrences, low, high),
             Choice::Others { .. } => Ok(()),
         }
     }
@@ -189,8 +150,7 @@ impl Tell for Iteration {
                 ..
             } => {
                 occurrences.push(Occurrence::Hide { name: parameter })?;
-                low.tell(occurrences)?;
-                high.tell(occurrences)?;
+                tell_both(occurrences, low, high)?;
                 occurrences.push(Occurrence::DeclareLoopParameter { name: parameter })
             }
         }
@@ -247,8 +207,23 @@ pub(crate) fn tell_optional<'t, Q: TellSequence>(
 {
     match sequence {
         None => Ok(()),
-        Some(sequence) => sequence.tell_statements(occurrences),
+        Some(sequence) => sequence.tell_part(Part::Statements, occurrences),
     }
+}
+
+/// An item, and the statements behind it where they stand there.
+pub(crate) fn tell_with_statements<'t, T: Tell, Q: TellSequence>(
+    occurrences: &mut Occurrences<'t>,
+    item: &'t T,
+    statements: &'t Option<Q>,
+) -> Result<(), NoMemory>
+    ensures { OnOk result
+        (occurrences.new
+        ≡ occurrences.old
+        ++ (T.names item.now ++ if_there (names_in_statements Q.names_in) statements.now)) }
+{
+    item.tell(occurrences)?;
+    tell_optional(occurrences, statements)
 }
 
 impl<Q: TellSequence> Tell for Elsif<Q> {
@@ -258,7 +233,7 @@ impl<Q: TellSequence> Tell for Elsif<Q> {
 
     fn tell<'t>(&'t self, occurrences: &mut Occurrences<'t>) -> Result<(), NoMemory> {
         self.condition.tell(occurrences)?;
-        self.statements.tell_statements(occurrences)
+        self.statements.tell_part(Part::Statements, occurrences)
     }
 }
 
@@ -270,8 +245,8 @@ impl<Q: TellSequence> Tell for If<Q> {
 
     fn tell<'t>(&'t self, occurrences: &mut Occurrences<'t>) -> Result<(), NoMemory> {
         self.condition.tell(occurrences)?;
-        self.statements.tell_statements(occurrences)?;
-        tell_each(occurrences, self.elsifs.as_slice())?;
+        self.statements.tell_part(Part::Statements, occurrences)?;
+        self.elsifs.tell(occurrences)?;
         tell_optional(occurrences, &self.otherwise)
     }
 }
@@ -283,7 +258,7 @@ impl<Q: TellSequence> Tell for CaseAlternative<Q> {
 
     fn tell<'t>(&'t self, occurrences: &mut Occurrences<'t>) -> Result<(), NoMemory> {
         self.choices.tell(occurrences)?;
-        self.statements.tell_statements(occurrences)
+        self.statements.tell_part(Part::Statements, occurrences)
     }
 }
 
@@ -340,7 +315,7 @@ impl<Q: TellSequence> Tell for Loop<Q> {
     fn tell<'t>(&'t self, occurrences: &mut Occurrences<'t>) -> Result<(), NoMemory> {
         begin_loop(occurrences, &self.label)?;
         self.iteration.tell(occurrences)?;
-        self.statements.tell_statements(occurrences)?;
+        self.statements.tell_part(Part::Statements, occurrences)?;
         occurrences.push(Occurrence::End)
     }
 }
@@ -352,9 +327,24 @@ pub(crate) fn tell_body<'t, Q: TellSequence>(
 ) -> Result<(), NoMemory>
     ensures { OnOk result (occurrences.new ≡ occurrences.old ++ in_body (Q.names_in sequence.now)) }
 {
-    sequence.tell_declarations(occurrences)?;
-    sequence.tell_labels(occurrences)?;
-    sequence.tell_statements(occurrences)
+    sequence.tell_part(Part::Declarations, occurrences)?;
+    sequence.tell_part(Part::Labels, occurrences)?;
+    sequence.tell_part(Part::Statements, occurrences)
+}
+
+/// A body, where it stands there.
+pub(crate) fn tell_optional_body<'t, Q: TellSequence>(
+    occurrences: &mut Occurrences<'t>,
+    sequence: &'t Option<Q>,
+) -> Result<(), NoMemory>
+    ensures { OnOk result
+        (occurrences.new
+        ≡ occurrences.old ++ if_there (λ sequence. in_body (Q.names_in sequence)) sequence.now) }
+{
+    match sequence {
+        None => Ok(()),
+        Some(sequence) => tell_body(occurrences, sequence),
+    }
 }
 
 /// A block (5.6).
@@ -378,7 +368,7 @@ impl<Q: TellSequence> Tell for Handler<Q> {
 
     fn tell<'t>(&'t self, occurrences: &mut Occurrences<'t>) -> Result<(), NoMemory> {
         self.exceptions.tell(occurrences)?;
-        self.statements.tell_statements(occurrences)
+        self.statements.tell_part(Part::Statements, occurrences)
     }
 }
 
@@ -388,7 +378,7 @@ impl<Q: TellSequence> Tell for AcceptBody<Q> {
     ghost names = { names_in_accept_body Q.names_in };
 
     fn tell<'t>(&'t self, occurrences: &mut Occurrences<'t>) -> Result<(), NoMemory> {
-        self.sequence.tell_statements(occurrences)
+        self.sequence.tell_part(Part::Statements, occurrences)
     }
 }
 
@@ -431,9 +421,7 @@ impl<Q: TellSequence> Tell for Statement<Q> {
             Statement::Raise { exception, .. } => exception.tell(occurrences),
             Statement::Abort { tasks, .. } => tasks.tell(occurrences),
             Statement::Accept(accept) => accept.tell(occurrences),
-            Statement::Requeue { entry, .. } => occurrences.push(Occurrence::Mention {
-                name: entry,
-            }),
+            Statement::Requeue { entry, .. } => entry.tell(occurrences),
             Statement::Select(select) => select.form.tell(occurrences),
         }
     }

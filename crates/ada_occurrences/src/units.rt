@@ -1,18 +1,16 @@
 //! The names in sequences, library units and a source (ISO/IEC 8652:2012, 3.11, 7.1, 7.2, 10.1).
 ghost use Rattle.std.specs.Prelude.{◌≡◌, ◌++◌, ◌∷◌, [], OnOk, IfOk};
-ghost use Rattle.ada_regions.specs.Occurrences.{in_all, if_there, one, within_region, package_region};
-ghost use Rattle.ada_regions.specs.NamesInUnits.{clause_with, names_in_part, names_in_private_part, names_in_package_statements, names_in_package_declaration, names_in_package_body, names_in_main, names_in_unit};
+ghost use Rattle.ada_regions.specs.NamesInUnits.{clause_with, names_in_package_declaration, names_in_package_body, names_in_main, names_in_unit};
 
-use crate::labels::{TellLabels, tell_labels_of_each};
-use crate::statements::tell_body;
-use crate::telling::{Tell, TellSequence, tell_each};
+use crate::labels::TellLabels;
+use crate::statements::tell_optional_body;
+use crate::telling::{Part, Tell, TellSequence, tell_each, tell_private, tell_region};
 use ada_regions::{Occurrence, Occurrences};
 use ada_tree::{
-    ContextClause, Declaration, LibraryPackage, MainProcedure, Name, OneOrMore, Package,
-    PackageBody, PackageDeclaration, Sequence, SequenceParts, Unit,
+    ContextClause, LibraryPackage, MainProcedure, Name, Package, PackageBody, PackageDeclaration,
+    Sequence, SequenceParts, Unit,
 };
 use ann_base::NoMemory;
-use sqlite_items::Items;
 use std::alloc::Global;
 
 impl<Q: TellSequence> TellSequence for SequenceParts<Q> {
@@ -20,18 +18,22 @@ impl<Q: TellSequence> TellSequence for SequenceParts<Q> {
 
     ghost names_in = { names_in_parts Q.names_in };
 
-    fn tell_declarations<'t>(&'t self, occurrences: &mut Occurrences<'t>) -> Result<(), NoMemory> {
-        self.declarations.tell(occurrences)
-    }
-
-    fn tell_labels<'t>(&'t self, occurrences: &mut Occurrences<'t>) -> Result<(), NoMemory> {
-        self.statements.tell_labels(occurrences)?;
-        tell_labels_of_each(occurrences, self.handlers.as_slice())
-    }
-
-    fn tell_statements<'t>(&'t self, occurrences: &mut Occurrences<'t>) -> Result<(), NoMemory> {
-        self.statements.tell(occurrences)?;
-        tell_each(occurrences, self.handlers.as_slice())
+    fn tell_part<'t>(
+        &'t self,
+        part: Part,
+        occurrences: &mut Occurrences<'t>,
+    ) -> Result<(), NoMemory> {
+        match part {
+            Part::Declarations => self.declarations.tell(occurrences),
+            Part::Labels => {
+                self.statements.tell_labels(occurrences)?;
+                self.handlers.tell_labels(occurrences)
+            }
+            Part::Statements => {
+                self.statements.tell(occurrences)?;
+                self.handlers.tell(occurrences)
+            }
+        }
     }
 }
 
@@ -42,20 +44,12 @@ impl TellSequence for Sequence {
 
     #[cycle(sequence)]
     #[tactic(auto, using(crate::proofs::SequenceFolds::sequence_tells))]
-    fn tell_declarations<'t>(&'t self, occurrences: &mut Occurrences<'t>) -> Result<(), NoMemory> {
-        self.parts.get().tell_declarations(occurrences)
-    }
-
-    #[cycle(sequence)]
-    #[tactic(auto, using(crate::proofs::SequenceFolds::sequence_tells))]
-    fn tell_labels<'t>(&'t self, occurrences: &mut Occurrences<'t>) -> Result<(), NoMemory> {
-        self.parts.get().tell_labels(occurrences)
-    }
-
-    #[cycle(sequence)]
-    #[tactic(auto, using(crate::proofs::SequenceFolds::sequence_tells))]
-    fn tell_statements<'t>(&'t self, occurrences: &mut Occurrences<'t>) -> Result<(), NoMemory> {
-        self.parts.get().tell_statements(occurrences)
+    fn tell_part<'t>(
+        &'t self,
+        part: Part,
+        occurrences: &mut Occurrences<'t>,
+    ) -> Result<(), NoMemory> {
+        self.parts.get().tell_part(part, occurrences)
     }
 }
 
@@ -75,67 +69,32 @@ fn tell_clause_name<'t>(
 }
 
 /// The names of a context clause.
-fn tell_clause_names<'t>(
-    occurrences: &mut Occurrences<'t>,
-    is_use: bool,
-    names: &'t OneOrMore<Name>,
-) -> Result<(), NoMemory>
-    ensures { OnOk result
-        (occurrences.new
-        ≡ occurrences.old ++ in_all (λ name. one (clause_with is_use name)) names.now) }
-{
-    tell_clause_name(occurrences, is_use, &names.first)?;
-    for name in names.others.as_slice() {
-        tell_clause_name(occurrences, is_use, name)?;
-    }
-    Ok(())
-}
-
 impl Tell for ContextClause {
     ghost use Rattle.ada_regions.specs.NamesInUnits.{names_in_clause};
 
     ghost names = { names_in_clause };
 
     fn tell<'t>(&'t self, occurrences: &mut Occurrences<'t>) -> Result<(), NoMemory> {
-        tell_clause_names(occurrences, self.is_use, &self.names)
-    }
-}
-
-/// The private part of a package, where it stands there (7.3).
-fn tell_private_part<'t>(
-    occurrences: &mut Occurrences<'t>,
-    declarations: &'t Option<Items<Declaration<Sequence>>>,
-) -> Result<(), NoMemory>
-    ensures { OnOk result
-        (occurrences.new ≡ occurrences.old ++ if_there names_in_private_part declarations.now) }
-{
-    match declarations {
-        None => Ok(()),
-        Some(declarations) => {
-            occurrences.push(Occurrence::PrivateFromHere)?;
-            declarations.tell(occurrences)
+        tell_clause_name(occurrences, self.is_use, &self.names.first)?;
+        for name in self.names.others.as_slice() {
+            tell_clause_name(occurrences, self.is_use, name)?;
         }
+        Ok(())
     }
 }
 
-/// The region of a package's declaration (7.1).
-fn tell_package_region<'t>(
-    occurrences: &mut Occurrences<'t>,
-    declaration: &'t PackageDeclaration,
-) -> Result<(), NoMemory>
-    ensures { OnOk result
-        (occurrences.new
-        ≡ occurrences.old
-        ++ within_region (package_region declaration.now.name)
-        (names_in_part declaration.now.declarations
-        ++ if_there names_in_private_part declaration.now.private)) }
-{
-    occurrences.push(Occurrence::BeginPackage {
-        name: &declaration.name,
-    })?;
-    declaration.declarations.tell(occurrences)?;
-    tell_private_part(occurrences, &declaration.private)?;
-    occurrences.push(Occurrence::End)
+/// What a package's declaration holds (7.1).
+impl Tell for PackageDeclaration {
+    ghost use Rattle.std.specs.Prelude.{◌++◌};
+    ghost use Rattle.ada_regions.specs.Occurrences.{if_there};
+    ghost use Rattle.ada_regions.specs.NamesInUnits.{names_in_part, names_in_private_part};
+
+    ghost names = { λ p. names_in_part p.declarations ++ if_there names_in_private_part p.private };
+
+    fn tell<'t>(&'t self, occurrences: &mut Occurrences<'t>) -> Result<(), NoMemory> {
+        self.declarations.tell(occurrences)?;
+        tell_private(occurrences, &self.private)
+    }
 }
 
 /// A package's declaration with its context (7.1).
@@ -153,22 +112,14 @@ fn tell_package_declaration<'t>(
     occurrences.push(Occurrence::DeclarePackage {
         name: &declaration.name,
     })?;
-    tell_package_region(occurrences, declaration)?;
+    tell_region(
+        occurrences,
+        Occurrence::BeginPackage {
+            name: &declaration.name,
+        },
+        declaration,
+    )?;
     occurrences.push(Occurrence::End)
-}
-
-/// The statements of a package's body, where they stand there.
-fn tell_package_statements<'t>(
-    occurrences: &mut Occurrences<'t>,
-    sequence: &'t Option<Sequence>,
-) -> Result<(), NoMemory>
-    ensures { OnOk result
-        (occurrences.new ≡ occurrences.old ++ if_there names_in_package_statements sequence.now) }
-{
-    match sequence {
-        None => Ok(()),
-        Some(sequence) => tell_body(occurrences, sequence),
-    }
 }
 
 /// A package's body with its context (7.2).
@@ -185,7 +136,7 @@ fn tell_package_body<'t>(
     tell_each(occurrences, context)?;
     occurrences.push(Occurrence::BeginPackageBody { name: &body.name })?;
     body.declarations.tell(occurrences)?;
-    tell_package_statements(occurrences, &body.sequence)?;
+    tell_optional_body(occurrences, &body.sequence)?;
     occurrences.push(Occurrence::End)?;
     occurrences.push(Occurrence::End)?;
     occurrences.push(Occurrence::End)
@@ -221,12 +172,14 @@ fn tell_main<'t>(
     tell_each(occurrences, context)?;
     main.aspects.tell(occurrences)?;
     occurrences.push(Occurrence::DeclareMain { name: &main.name })?;
-    occurrences.push(Occurrence::BeginMain {
-        name: &main.name,
-        place: main.place,
-    })?;
-    tell_body(occurrences, &main.body.sequence)?;
-    occurrences.push(Occurrence::End)?;
+    tell_region(
+        occurrences,
+        Occurrence::BeginMain {
+            name: &main.name,
+            place: main.place,
+        },
+        &main.body,
+    )?;
     occurrences.push(Occurrence::End)
 }
 

@@ -9,7 +9,7 @@ use ada_regions::{Occurrence, Occurrences};
 use ada_tree::{
     Accept, AcceptBody, Assignment, Block, Call, Case, CaseAlternative, Choice, Constraint, Delay,
     Elsif, Exit, Expression, HandledExceptions, Handler, Identifier, If, Iteration, Label, Loop,
-    Name, OneOrMore, Parameter, Statement, SubtypeIndication,
+    Name, Parameter, Statement, SubtypeIndication,
 };
 use ann_base::{NoMemory, Place};
 use sqlite_items::Items;

@@ -85,7 +85,10 @@ sequence_of zero = parts_of zero no_sequence no_sequence
 sequence_of (suc zero) = parts_of (suc zero) (sequence_of zero) no_sequence
 sequence_of (suc (suc left)) = parts_of (suc (suc left)) (sequence_of (suc left)) (sequence_of left)
 
--- one level further in
-unfoldable pub inside_of : ℕ → SequenceRole → Parser Sequence
-inside_of zero = no_sequence
-inside_of (suc left) = sequence_of left
+-- one level further in, given what reading gives where so many levels are left
+unfoldable pub further_in : {Q : Type 0} → (ℕ → SequenceRole → Parser Q) → ℕ → SequenceRole → Parser Q
+further_in sequence zero = λ r. nothing
+further_in sequence (suc left) = sequence left
+
+abbrev pub inside_of : ℕ → SequenceRole → Parser Sequence
+inside_of left = further_in sequence_of left

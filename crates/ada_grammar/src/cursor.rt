@@ -1,5 +1,5 @@
 //! Reading tokens one after another.
-ghost use Rattle.std.specs.Prelude.{◌≡◌, ◌∷◌, [], ℕ, List, length, map, IfOk};
+ghost use Rattle.std.specs.Prelude.{◌≡◌, [], List, length, map, IfOk};
 ghost use Rattle.std.specs.Char.{to_ascii_lowercase};
 ghost use Rattle.ada_lex.specs.Lexed.{IsTokenOf, AreTokensOf};
 ghost use Rattle.ada_tree.specs.Written.{lexeme_of, lexemes_of};

@@ -9,7 +9,8 @@ use Rattle.ada_grammar.specs.declared.stuck.Stuck.{Stuck}
 use Rattle.ada_grammar.specs.Reading.{Parser}
 use Rattle.ada_grammar.specs.ReadingSimple.{call_of, delay_of}
 use Rattle.ada_grammar.specs.ReadingStatements.{accept_of, accept_opened_of, call_opened_of, delay_opened_of}
-use Rattle.ada_statements.specs.Inside.{ReadsInside, further_in}
+use Rattle.ada_grammar.specs.ReadingSequences.{further_in}
+use Rattle.ada_statements.specs.Inside.{ReadsInside}
 
 pub less_one : (left : ℕ) → left ≡ suc left - 1
 less_one left = omega arith

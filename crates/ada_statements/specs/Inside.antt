@@ -6,7 +6,7 @@ use Rattle.ada_tree.specs.declared.statements.SequenceRole.{SequenceRole}
 use Rattle.ada_tree.specs.Written.{Lexeme}
 use Rattle.ann_base.specs.declared.faults.OrMemory.{OrMemory}
 use Rattle.ada_grammar.specs.declared.stuck.Stuck.{Stuck}
-use Rattle.ada_grammar.specs.Reading.{Parser, nothing}
+use Rattle.ada_grammar.specs.Reading.{Parser}
 use Rattle.ada_grammar.specs.Reads.{Reads}
 
 -- Given what reading gives where so many levels are left.
@@ -15,8 +15,3 @@ pub record ReadsInside {Q : Type 0} (sequence : ℕ → SequenceRole → Parser 
   pub callable : (alloc : Global) (old : MutBor (List Lexeme)) (m : ℕ) (r : SequenceRole) → m < left → pre alloc old m r
   pub reads : (alloc : Global) (old new : MutBor (List Lexeme)) (m : ℕ) (r : SequenceRole) (answer : Result Q (OrMemory Stuck)) → m < left → post alloc old m r answer new
       → Reads answer new.now (sequence m r old.now)
-
--- one level further in
-unfoldable pub further_in : {Q : Type 0} → (ℕ → SequenceRole → Parser Q) → ℕ → SequenceRole → Parser Q
-further_in sequence zero = λ r. nothing
-further_in sequence (suc left) = sequence left

@@ -1,8 +1,9 @@
 //! Select statements, as they are read (ISO/IEC 8652:2012, 9.7).
-ghost use Rattle.std.specs.Prelude.{◌≡◌, suc, codes};
+ghost use Rattle.std.specs.Prelude.{suc, codes};
 ghost use Rattle.ada_grammar.specs.Reading.{items_of, sees_word};
 ghost use Rattle.ada_grammar.specs.Reads.{Reads};
-ghost use Rattle.ada_statements.specs.Inside.{ReadsInside, further_in};
+ghost use Rattle.ada_statements.specs.Inside.{ReadsInside};
+ghost use Rattle.ada_grammar.specs.ReadingSequences.{further_in};
 ghost use Rattle.ada_grammar.specs.ReadingStatements.{accept_alternative_of, accept_opened_of, alternative_of, asynchronous_of, behind_call_of, call_opened_of, call_select_of, conditional_of, delay_alternative_of, delay_opened_of, delay_select_of, guard_of, next_alternative_of, select_alternative_of, select_form_of, select_of, selective_of, terminate_of, timed_of};
 
 use crate::nested::Nested;

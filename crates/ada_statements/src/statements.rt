@@ -5,8 +5,9 @@ ghost use Rattle.std.specs.Char.{to_ascii_lowercase};
 ghost use Rattle.ada_grammar.specs.Reading.{behind_delimiter_of, end_name_of, items_of, sees_delimiter, sees_word, separated_of};
 ghost use Rattle.ada_grammar.specs.Reads.{Reads};
 ghost use Rattle.ada_grammar.specs.ReadingSimple.{choice_of};
-ghost use Rattle.ada_statements.specs.Inside.{ReadsInside, further_in};
-ghost use Rattle.ada_grammar.specs.ReadingStatements.{accept_body_of, accept_of, begin_of, begins_block, begins_compound, begins_loop, begins_simple, begins_statement, block_end_of, block_of, case_alternative_of, case_alternatives_of, case_of, compound_of, declare_of, else_of, elsif_of, if_of, labelled_of, loop_of, named_statement_of, optional_statements_of, sees_label, simple_statement_of, statement_inside_of};
+ghost use Rattle.ada_statements.specs.Inside.{ReadsInside};
+ghost use Rattle.ada_grammar.specs.ReadingSequences.{further_in};
+ghost use Rattle.ada_grammar.specs.ReadingStatements.{accept_body_of, accept_of, begin_of, begins_block, begins_compound, begins_loop, begins_simple, begins_statement, block_end_of, block_of, case_alternative_of, case_alternatives_of, case_of, compound_of, declare_of, else_of, elsif_of, if_of, labelled_of, loop_of, named_statement_of, optional_statements_of, simple_statement_of, statement_inside_of};
 
 use crate::nested::Nested;
 use ada_expressions::{expression, parameters};

@@ -5,7 +5,7 @@ use Rattle.ada_tree.specs.declared.statements.SequenceRole.{SequenceRole}
 use Rattle.ada_tree.specs.declared.statements.SequenceRole.TheVariants as role
 use Rattle.ada_tree.specs.declared.declarations.Declaration.{Declaration}
 use Rattle.ada_grammar.specs.Reading.{Parser}
-use Rattle.ada_grammar.specs.ReadingSequences.{statement_at, statement_of, statements_of, handler_of, given_handlers_of, handlers_of, declarations_of, plain_of, handled_behind_of, whole_body_of, parts_of, no_sequence, sequence_of, inside_of}
+use Rattle.ada_grammar.specs.ReadingSequences.{statement_at, statement_of, statements_of, handler_of, given_handlers_of, handlers_of, declarations_of, plain_of, handled_behind_of, whole_body_of, parts_of, no_sequence, sequence_of, further_in, inside_of}
 use Rattle.fault_places.proofs.Local.{Local, Eats, local_pure, local_nothing, local_too_deep, local_then, local_choose, head_starts, local_word, local_delimiter, eats_nothing, eats_too_deep, eats_first, eats_choose, eats_word, local_items}
 use Rattle.fault_places.proofs.Passing.{Each}
 use Rattle.fault_places.proofs.Simple.{local_exceptions}
@@ -79,6 +79,6 @@ local_sequence (suc zero) r = local_parts (suc zero) (sequence_of zero) (local_s
 local_sequence (suc (suc left)) r = local_parts (suc (suc left)) (sequence_of (suc left)) (local_sequence (suc left)) (sequence_of left) (local_sequence left) r
 
 pub each_inside : (left : ℕ) → Each (inside_of left)
-unfolding inside_of
+unfolding further_in
 each_inside zero r = local_nothing
 each_inside (suc left) r = local_sequence left r

@@ -29,7 +29,7 @@ use Rattle.ada_grammar.specs.Reading.{Read, Parser, and_then, ◌>>=◌, pure, c
 use Rattle.ada_grammar.specs.ReadingSimple.{exceptions_of}
 use Rattle.ada_grammar.specs.ReadingStatements.{begins_statement}
 use Rattle.ada_grammar.specs.ReadingBodies.{begins_declaration, declaration_of}
-use Rattle.ada_grammar.specs.ReadingSequences.{made, statement_at, statement_of, statements_of, handler_of, given_handlers_of, handlers_of, declarations_of, plain_of, handled_behind_of, whole_body_of, parts_of, no_sequence, sequence_of, inside_of}
+use Rattle.ada_grammar.specs.ReadingSequences.{made, statement_at, statement_of, statements_of, handler_of, given_handlers_of, handlers_of, declarations_of, plain_of, handled_behind_of, whole_body_of, parts_of, no_sequence, sequence_of, further_in, inside_of}
 use Rattle.grammar_laws.specs.Leads.{Leads}
 use Rattle.grammar_laws.proofs.Leading.{leads_through}
 use Rattle.grammar_laws.proofs.Exact.{done, Rest, Any, itself, Exact, first_true, second_true, ready, field, plain, closing, first_is, listed}
@@ -323,6 +323,6 @@ sequence_exact (suc zero) at = parts_exact (suc zero) (sequence_of zero) no_sequ
 sequence_exact (suc (suc left)) at = parts_exact (suc (suc left)) (sequence_of (suc left)) (sequence_of left) (sequence_exact (suc left)) (sequence_exact left) at
 
 pub inside_exact : (left : ℕ) → ReadsDeeper left (inside_of left)
-unfolding inside_of
+unfolding further_in
 inside_exact zero = tt
 inside_exact (suc left) = sequence_exact left

@@ -2,4 +2,3 @@ mod DepthLemmas
 mod EndingLemmas
 mod OkLemmas
 mod UnwindLemmas
-mod StruckLemmas

@@ -2,4 +2,3 @@ pub mod Depths
 pub mod Endings
 pub mod UnwindingSteps
 pub mod Unwindings
-pub mod Struck

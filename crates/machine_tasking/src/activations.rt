@@ -1,6 +1,5 @@
 //! The activation of the tasks that a declarative part made (ISO/IEC 8652:2012, 9.2).
 ghost use Rattle.std.specs.Prelude.{◌≡◌, OnOk};
-ghost use Rattle.profile_machine.specs.Frames.{frames_of};
 ghost use Rattle.profile_machine.specs.Tasks.{edit_task};
 ghost use Rattle.profile_machine.specs.Tasking.{region_of_frames, top_region_of_scope, await_group, no_failure, activate_group, activate, end_own_activation};
 ghost use Rattle.machine_frames.specs.Did.{Did};

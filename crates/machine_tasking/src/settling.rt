@@ -11,11 +11,12 @@ ghost use Rattle.machine_tasking.specs.KeptTasks.{kept_of, task_kept, tasks_kept
 
 use crate::kept::{Kept, kept_of};
 use ann_base::NoMemory;
-use machine_calls::{any_struck, unwind};
+use machine_calls::unwind;
 use machine_dispatching::{says_waits, word_of};
 use machine_frames::{Effect, may_run, same_who, waiting_of};
 use machine_masters::{leave_by_terminate, may_terminate, waits_at_terminate};
 use machine_program::Program;
+use machine_striking::any_struck;
 use profile_machine::world::{Part, Task, World};
 use std::alloc::Global;
 use trace_text::Who;

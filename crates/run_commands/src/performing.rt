@@ -2,7 +2,6 @@
 ghost use Rattle.std.specs.Prelude.{◌≡◌, ◌≤◌, [], codes, Some, OnOk, OnErr};
 ghost use Rattle.ann_base.specs.Outside.{Rose, extended};
 ghost use Rattle.outside_bytes.specs.Pieces.{HoldsPrefix};
-ghost use Rattle.load_runs.specs.Source.{load_text};
 ghost use Rattle.commands.specs.declared.requests.TheConstants.{DEFAULT_TICKS};
 ghost use Rattle.commands.specs.declared.requests.Work.TheVariants as work;
 ghost use Rattle.commands.specs.Requests.{SourceAsked, LoadAsked, seen, HasTicks, IsWork, IsLoad};
@@ -10,7 +9,9 @@ ghost use Rattle.commands.specs.Asked.{asked_of};
 ghost use Rattle.commands.specs.Outside.{ShelfChange, shelf_of, sink_of};
 ghost use Rattle.commands.specs.Performed.{Performs, ServesBytes, ServesImage, without_image};
 
+use crate::running::run;
 use crate::scripting::serve_script;
+use crate::summing::summarize;
 use ada_front::{accept, long_sources_are_refused};
 use ada_lex::MAX_SOURCE;
 use ada_verdicts::Refusal;
@@ -19,7 +20,6 @@ use commands::{DEFAULT_TICKS, Outcome, Request, Work, asked, serve_table, serve_
 use load_runs::load_source;
 use outside_bytes::{read_file, write_all};
 use profile_machine::Image;
-use run_texts::{run, summarize};
 use std::alloc::Global;
 
 /// How many bytes of a source are read: one more than it may have, so that one that is too long is seen to be.

@@ -1,18 +1,18 @@
 //! Running a source under a script.
-ghost use Rattle.std.specs.Prelude.{◌≡◌, ◌≤◌, Some};
+ghost use Rattle.std.specs.Prelude.{◌≤◌, Some};
 ghost use Rattle.commands.specs.declared.requests.Work.TheVariants as work;
 ghost use Rattle.commands.specs.Requests.{ScriptAsked, IsTicks};
 ghost use Rattle.commands.specs.Outside.{shelf_of, sink_of};
 ghost use Rattle.commands.specs.Performed.{Performs, ReadsFile, ReadsScript, ServesImage, ServesScript, ServesUnder};
 
 use crate::performing::{SOURCE_READ, without_image};
+use crate::running::run_under;
 use ada_front::{accept, long_sources_are_refused};
 use ann_base::{Moment, OrMemory, Shelf, Sink};
 use commands::{NoItems, Outcome};
 use event_script::{SCRIPT_BYTES, cut_scripts_are_read_alike, read_script};
 use outside_bytes::read_file;
 use profile_machine::{Image, Item};
-use run_texts::run_under;
 use std::alloc::Global;
 use world_tables::List;
 

@@ -1,8 +1,8 @@
 use Rattle.std.proofs.Common.{◌≡◌}
 use Rattle.std.specs.VecDeque.Iter.{deque_iter_rest}
 use Rattle.profile_machine.specs.Unwinding.{may_leave_struck}
-use Rattle.machine_calls.specs.Struck.{may_leave_from}
-use Rattle.machine_calls.proofs.striking.may_leave_struck.Given as goal
+use Rattle.machine_striking.specs.Struck.{may_leave_from}
+use Rattle.machine_striking.proofs.striking.may_leave_struck.Given as goal
 
 -- those that are to come, behind what is known of those before, give what all of them give
 abbrev pub invariant-loop-frame : goal.invariant-loop-frame

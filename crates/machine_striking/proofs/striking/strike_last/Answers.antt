@@ -1,7 +1,7 @@
 use Rattle.std.proofs.Common.{◌≡◌, ◌+◌, length, sym, arith}
 use Rattle.profile_machine.specs.Unwinding.{struck_frame}
-use Rattle.machine_calls.proofs.StruckLemmas.{set_last, lost_last}
-use Rattle.machine_calls.proofs.striking.strike_last.Goals as goal
+use Rattle.machine_striking.proofs.StruckLemmas.{set_last, lost_last}
+use Rattle.machine_striking.proofs.striking.strike_last.Goals as goal
 
 pub returns-in-Some-get_mut : goal.returns-in-Some-get_mut
 returns-in-Some-get_mut c =

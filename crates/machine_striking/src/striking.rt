@@ -1,8 +1,8 @@
 //! Constructs that abort or a completed trigger has struck, and whether they may be left now
 //! (ISO/IEC 8652:2012, 9.8).
 ghost use Rattle.std.specs.Prelude.{◌≡◌};
-ghost use Rattle.profile_machine.specs.Unwinding.{struck_frame, edit_last, strike_outermost, any_struck, is_being_left, may_leave_struck, is_abort, is_unwinding, may_unwind};
-ghost use Rattle.machine_calls.specs.Struck.{may_leave_next};
+ghost use Rattle.profile_machine.specs.Unwinding.{struck_frame, edit_last, strike_outermost, any_struck, is_being_left, may_leave_struck, is_unwinding, may_unwind};
+ghost use Rattle.machine_striking.specs.Struck.{may_leave_next};
 
 use machine_frames::{defers, task_mut};
 use profile_machine::Leaving;

@@ -4,7 +4,7 @@ use Rattle.std.specs.List.{slice_get}
 use Rattle.profile_machine.specs.declared.world.marks.Frame.{Frame}
 use Rattle.profile_machine.specs.Frames.{defers}
 use Rattle.profile_machine.specs.Unwinding.{any_struck, is_being_left, may_leave_struck, edit_last}
-use Rattle.machine_calls.specs.Struck.{may_leave_next, may_leave_from}
+use Rattle.machine_striking.specs.Struck.{may_leave_next, may_leave_from}
 
 -- where none is struck, none may be left
 none_struck : (struck outer defer may left : Bool) → (outer ≡ false → may ≡ false) → cond struck true outer ≡ false → cond outer (not defer && may) (struck && not left) ≡ false

@@ -277,6 +277,24 @@ unfoldable pub signs_in_trigger : Within → Trigger → ℕ
 signs_in_trigger within (trigger.Call c) = signs_in_actuals within c.arguments
 signs_in_trigger within (trigger.Delay d) = signs_in within d.value
 
+-- the entity of a loop's label
+unfoldable pub label_of : {Q : Type 0} → Within → Loop Q → Option ℕ
+label_of within l = and_then l.label (λ x. entity_denoted within.names x.name.place)
+
+-- the declaration of a loop parameter
+unfoldable pub parameter_of : Within → Identifier → DeclNo
+parameter_of within i = unwrap_or (and_then (entity_denoted within.names i.place) (λ e. and_then (kind_at within.names e) loop_parameter_number)) no_declaration_no
+
+unfoldable pub signs_in_alternative : {Q : Type 0} → Within → Alternative Q → ℕ
+signs_in_alternative within (alternative.Accept a statements) = 0
+signs_in_alternative within (alternative.Delay d statements) = signs_in within d.value
+signs_in_alternative within (alternative.Terminate place) = 0
+
+unfoldable pub signs_in_alternatives : {Q : Type 0} → Within → List (SelectAlternative Q) → ℕ
+signs_in_alternatives within [] = 0
+signs_in_alternatives within (a ∷ rest) =
+    signs_if within (guard_of a.guard) + (signs_in_alternative within a.alternative + signs_in_alternatives within rest)
+
 -- ---- sequences: what is made of one depends on where it stands
 
 abbrev pub SequenceMaking : Type 0
@@ -325,9 +343,6 @@ module _ {Q : Type 0} (sequence : Q → SequenceMaking) where
 
   -- ---- loops (5.5): the body leads back to the loop's statement
 
-  unfoldable pub label_of : Within → Loop Q → Option ℕ
-  label_of within l = and_then l.label (λ x. entity_denoted within.names x.name.place)
-
   unfoldable pub loop_body : Within → Loop Q → StatementNo → StatementNo → Making (Option StatementNo)
   loop_body within l s turn = inside l.statements (in_loop (label_of within l) s within) (Some turn)
 
@@ -343,9 +358,6 @@ module _ {Q : Type 0} (sequence : Q → SequenceMaking) where
     body ← loop_body within l s s
     e ← expression_made c within
     put_at s (action.While e (the_action body) within.construct) (signs_in within c) next
-
-  unfoldable pub parameter_of : Within → Identifier → DeclNo
-  parameter_of within i = unwrap_or (and_then (entity_denoted within.names i.place) (λ e. and_then (kind_at within.names e) loop_parameter_number)) no_declaration_no
 
   unfoldable pub for_put : Within → Loop Q → DeclNo → Bool → Expression → Expression → Option StatementNo → Making (Option StatementNo)
   for_put within l d reverse low high next = do
@@ -423,16 +435,6 @@ module _ {Q : Type 0} (sequence : Q → SequenceMaking) where
     one ← select_alternative_put within a next
     others ← select_alternatives_put within rest next
     pure (one ∷ others)
-
-  unfoldable pub signs_in_alternative : Within → Alternative Q → ℕ
-  signs_in_alternative within (alternative.Accept a statements) = 0
-  signs_in_alternative within (alternative.Delay d statements) = signs_in within d.value
-  signs_in_alternative within (alternative.Terminate place) = 0
-
-  unfoldable pub signs_in_alternatives : Within → List (SelectAlternative Q) → ℕ
-  signs_in_alternatives within [] = 0
-  signs_in_alternatives within (a ∷ rest) =
-      signs_if within (guard_of a.guard) + (signs_in_alternative within a.alternative + signs_in_alternatives within rest)
 
   unfoldable pub else_put : Within → Option Q → Option StatementNo → Making (Option StatementNo)
   else_put within None next = pure None

@@ -134,18 +134,18 @@ module _ (f : Sequence → SequenceMaking) (within : Within) where
       ∙ ap (λ (t : Lists × List GuardedAlternative). (t.0, (select_alternative_put f within x next l).1 ∷ t.1)) (select_alternatives_of_map xs next (select_alternative_put f within x next l).0)
 
   signs_of_alternative : (x : SelectAlternative Sequence) (a : Alternative Sequence)
-      → signs_in_alternative same_making within (mapped_alternative f (record x { alternative = a })).alternative ≡ signs_in_alternative f within a
+      → signs_in_alternative within (mapped_alternative f (record x { alternative = a })).alternative ≡ signs_in_alternative within a
   unfolding signs_in_alternative
   signs_of_alternative x (alternative.Accept accept statements) = refl
   signs_of_alternative x (alternative.Delay delay statements) = refl
   signs_of_alternative x (alternative.Terminate place) = refl
 
-  signs_of_alternatives : (xs : List (SelectAlternative Sequence)) → signs_in_alternatives same_making within (map (mapped_alternative f) xs) ≡ signs_in_alternatives f within xs
+  signs_of_alternatives : (xs : List (SelectAlternative Sequence)) → signs_in_alternatives within (map (mapped_alternative f) xs) ≡ signs_in_alternatives within xs
   unfolding signs_in_alternatives
   signs_of_alternatives [] = refl
   signs_of_alternatives (x ∷ xs) =
-      ap (λ (k : ℕ). signs_if within (guard_of x.guard) + (k + signs_in_alternatives same_making within (map (mapped_alternative f) xs))) (signs_of_alternative x x.alternative)
-      ∙ ap (λ (k : ℕ). signs_if within (guard_of x.guard) + (signs_in_alternative f within x.alternative + k)) (signs_of_alternatives xs)
+      ap (λ (k : ℕ). signs_if within (guard_of x.guard) + (k + signs_in_alternatives within (map (mapped_alternative f) xs))) (signs_of_alternative x x.alternative)
+      ∙ ap (λ (k : ℕ). signs_if within (guard_of x.guard) + (signs_in_alternative within x.alternative + k)) (signs_of_alternatives xs)
 
   abbrev made : SelectiveAccept Sequence → Option StatementNo → Lists → Lists × List GuardedAlternative
   made s next l = select_alternatives_put f within (s.alternatives.first ∷ s.alternatives.others) next l
@@ -155,11 +155,11 @@ module _ (f : Sequence → SequenceMaking) (within : Within) where
       ≡ statement_put f within (statement.Select (record { place = place; form = select.SelectiveAccept (record s { otherwise = o }) })) next l
   unfolding statement_put select_put selective_accept_put else_put inside
   selective_of_map place s None next l =
-      ap (λ (r : Lists × List GuardedAlternative). action_put (action.SelectiveAccept r.1 None) (signs_in_alternatives same_making within (map (mapped_alternative f) (s.alternatives.first ∷ s.alternatives.others))) next r.0)
+      ap (λ (r : Lists × List GuardedAlternative). action_put (action.SelectiveAccept r.1 None) (signs_in_alternatives within (map (mapped_alternative f) (s.alternatives.first ∷ s.alternatives.others))) next r.0)
       (select_alternatives_of_map (s.alternatives.first ∷ s.alternatives.others) next l)
       ∙ ap (λ (k : ℕ). action_put (action.SelectiveAccept (made s next l).1 None) k next (made s next l).0) (signs_of_alternatives (s.alternatives.first ∷ s.alternatives.others))
   selective_of_map place s (Some q) next l =
-      ap (λ (r : Lists × List GuardedAlternative). action_put (action.SelectiveAccept r.1 (inside f q within next r.0).1) (signs_in_alternatives same_making within (map (mapped_alternative f) (s.alternatives.first ∷ s.alternatives.others))) next (inside f q within next r.0).0)
+      ap (λ (r : Lists × List GuardedAlternative). action_put (action.SelectiveAccept r.1 (inside f q within next r.0).1) (signs_in_alternatives within (map (mapped_alternative f) (s.alternatives.first ∷ s.alternatives.others))) next (inside f q within next r.0).0)
       (select_alternatives_of_map (s.alternatives.first ∷ s.alternatives.others) next l)
       ∙ ap (λ (k : ℕ). action_put (action.SelectiveAccept (made s next l).1 (inside f q within next (made s next l).0).1) k next (inside f q within next (made s next l).0).0)
       (signs_of_alternatives (s.alternatives.first ∷ s.alternatives.others))

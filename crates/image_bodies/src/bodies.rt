@@ -1,5 +1,5 @@
 //! Bodies among declarations (ISO/IEC 8652:2012, 6.3, 9.1, 9.4, 9.5.2).
-ghost use Rattle.std.specs.Prelude.{◌≡◌, false};
+ghost use Rattle.std.specs.Prelude.{false};
 ghost use Rattle.ada_image.specs.Made.{Made};
 ghost use Rattle.ada_image.specs.ImageOfDeclarations.{body_put, subprogram_declared_as, operation_body_put, operation_bodies_put, inner_body_put, inner_bodies_put};
 

@@ -1,29 +1,16 @@
 //! Loops (ISO/IEC 8652:2012, 5.5): the body leads back to the loop's statement.
-ghost use Rattle.std.specs.Prelude.{◌≡◌};
 ghost use Rattle.ada_image.specs.Made.{Made};
-ghost use Rattle.ada_image.specs.ImageOfStatements.{label_of, loop_body, forever_put, while_put, parameter_of, for_put, iteration_put, loop_put};
+ghost use Rattle.ada_image.specs.ImageOfStatements.{loop_body, forever_put, while_put, for_put, iteration_put, loop_put};
 
 use crate::branches::inside;
 use crate::making::MakeSequence;
-use ada_entities::{entity_denoted, kind_at};
 use ada_image::{Lists, Within};
-use ada_tree::{Expression, Identifier, Iteration, Loop};
+use ada_tree::{Expression, Iteration, Loop};
 use ann_base::NoMemory;
 use image_layout::{in_loop, put_at, reserved, the_action};
-use image_parts::{for_action, loop_parameter_number, while_action};
+use image_parts::{for_action, label_of, parameter_of, while_action};
 use profile_machine::{DeclNo, StatementForm, StatementNo};
 use std::alloc::Global;
-
-/// The entity of a loop's label, where it has one.
-#[tactic(auto, unfolding(ada_image::specs::ImageOfStatements::label_of))]
-fn label_of<Q: MakeSequence>(within: &Within<'_, '_>, statement: &Loop<Q>) -> Option<u32>
-    ensures { result ≡ label_of Q.making within.now statement.now }
-{
-    match &statement.label {
-        None => None,
-        Some(label) => entity_denoted(within.names.get(), label.name.place),
-    }
-}
 
 /// The statements of a loop lead to its next turn.
 #[tactic(auto, unfolding(ada_image::specs::ImageOfStatements::loop_body))]
@@ -77,20 +64,6 @@ fn while_put<Q: MakeSequence>(
     let s = reserved(lists)?;
     let body = loop_body(alloc, lists, within, statement, s, s)?;
     while_action(lists, within, s, condition, the_action(body), next)
-}
-
-/// The number of a loop parameter.
-#[tactic(auto, unfolding(ada_image::specs::ImageOfStatements::parameter_of))]
-fn parameter_of<Q: MakeSequence>(within: &Within<'_, '_>, identifier: &Identifier) -> DeclNo
-    ensures { result ≡ parameter_of Q.making within.now identifier.now }
-{
-    match entity_denoted(within.names.get(), identifier.place) {
-        None => DeclNo(0),
-        Some(entity) => match kind_at(within.names.get(), entity) {
-            None => DeclNo(0),
-            Some(kind) => loop_parameter_number(kind).unwrap_or(DeclNo(0)),
-        },
-    }
 }
 
 /// A for loop.
@@ -152,7 +125,7 @@ pub(crate) fn loop_put<Q: MakeSequence>(
             high,
             ..
         } => {
-            let parameter = parameter_of::<Q>(within, parameter);
+            let parameter = parameter_of(within, parameter);
             for_put(
                 alloc, lists, within, statement, parameter, *reverse, low, high, next,
             )

@@ -1,9 +1,8 @@
 //! Select statements (ISO/IEC 8652:2012, 9.7): an accept, a delay and a call have statements of their own, which lead to those
 //! behind them.
-ghost use Rattle.std.specs.Prelude.{◌≡◌, ◌∷◌, ◌+◌, IfOk};
+ghost use Rattle.std.specs.Prelude.{◌∷◌};
 ghost use Rattle.ada_image.specs.Made.{Made};
-ghost use Rattle.ada_image.specs.ImageOfExpressions.{signs_if};
-ghost use Rattle.ada_image.specs.ImageOfStatements.{guard_of, alternative_put, select_alternative_put, select_alternatives_put, signs_in_alternative, signs_in_alternatives, else_put, selective_accept_put, call_before, delay_before, timed_call_put, conditional_call_put, trigger_put, asynchronous_put, select_put};
+ghost use Rattle.ada_image.specs.ImageOfStatements.{guard_of, alternative_put, select_alternative_put, select_alternatives_put, signs_in_alternatives, else_put, selective_accept_put, call_before, delay_before, timed_call_put, conditional_call_put, trigger_put, asynchronous_put, select_put};
 
 use crate::blocks::accept_put;
 use crate::branches::{inside, inside_if};
@@ -15,9 +14,8 @@ use ada_tree::{
 };
 use ann_base::NoMemory;
 use image_calls::{call_statement_put, signs_in_actuals};
-use image_expressions::signs_in;
-use image_layout::{action_put, added, in_construct, put_at, reserved, the_action};
-use image_parts::{guard_of, signs_in_guard, signs_in_timed_call, signs_in_trigger};
+use image_layout::{action_put, in_construct, put_at, reserved, the_action};
+use image_parts::{guard_of, signs_in_alternatives, signs_in_timed_call, signs_in_trigger};
 use image_statements::{condition_made, delay_put};
 use profile_machine::{
     SelectAlternative as GuardedAlternative, SelectAlternatives, SelectKind, StatementForm,
@@ -90,56 +88,6 @@ fn select_alternatives_put<Q: MakeSequence>(
         made.push(one)?;
     }
     Ok(made)
-}
-
-#[tactic(auto, unfolding(ada_image::specs::ImageOfStatements::signs_in_alternative))]
-fn signs_in_alternative<Q: MakeSequence>(
-    within: &Within<'_, '_>,
-    alternative: &Alternative<Q>,
-) -> Result<u32, NoMemory>
-    ensures { IfOk result
-        (λ signs. signs ≡ signs_in_alternative Q.making within.now alternative.now) }
-{
-    match alternative {
-        Alternative::Accept { .. } => Ok(0),
-        Alternative::Delay { delay, .. } => signs_in(within, &delay.value),
-        Alternative::Terminate { .. } => Ok(0),
-    }
-}
-
-/// The signs in the guard and in the delay of an alternative.
-fn signs_in_guarded<Q: MakeSequence>(
-    within: &Within<'_, '_>,
-    alternative: &SelectAlternative<Q>,
-) -> Result<u32, NoMemory>
-    ensures { IfOk result
-        (λ signs.
-        signs
-        ≡ signs_if within.now (guard_of alternative.now.guard)
-        + signs_in_alternative Q.making within.now alternative.now.alternative) }
-{
-    let in_guard = signs_in_guard(within, &alternative.guard)?;
-    let in_alternative = signs_in_alternative(within, &alternative.alternative)?;
-    added(in_guard, in_alternative)
-}
-
-/// The signs in the guards and the delays of a selective accept.
-#[tactic(auto, unfolding(ada_image::specs::ImageOfStatements::signs_in_alternatives))]
-fn signs_in_alternatives<Q: MakeSequence>(
-    within: &Within<'_, '_>,
-    alternatives: &OneOrMore<SelectAlternative<Q>>,
-) -> Result<u32, NoMemory>
-    ensures { IfOk result
-        (λ signs.
-        signs
-        ≡ signs_in_alternatives Q.making within.now
-        (alternatives.now.first ∷ alternatives.now.others)) }
-{
-    let mut signs = signs_in_guarded(within, &alternatives.first)?;
-    for alternative in alternatives.others.as_slice() {
-        signs = added(signs, signs_in_guarded(within, alternative)?)?;
-    }
-    Ok(signs)
 }
 
 #[tactic(auto, unfolding(ada_image::specs::ImageOfStatements::else_put))]

@@ -1,5 +1,5 @@
 //! Statements, and lists of them, become actions (ISO/IEC 8652:2012, 5.1).
-ghost use Rattle.std.specs.Prelude.{◌≡◌, ◌∷◌};
+ghost use Rattle.std.specs.Prelude.{◌∷◌};
 ghost use Rattle.ada_image.specs.Made.{Made};
 ghost use Rattle.ada_image.specs.ImageOfStatements.{statement_put, statements_put};
 

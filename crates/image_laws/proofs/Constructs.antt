@@ -64,7 +64,7 @@ module _ {E : Type 0} (g : E → Sequence) (law : (e : E) → SequenceLaw (seque
 
   -- where the body of a loop stands
   abbrev around : Within → Loop E → StatementNo → Within
-  around within l s = in_loop (label_of same_making within (loop_made l)) s within
+  around within l s = in_loop (label_of within (loop_made l)) s within
 
   body-step : (l : Loop E) (within : Within) (s turn : StatementNo) → sequence_built (g l.statements) within.names ≡ true
       → Step (loop_body same_making within (loop_made l) s turn) (Inside g law l.statements (around within l s) (Some turn))
@@ -145,7 +145,7 @@ module _ {E : Type 0} (g : E → Sequence) (law : (e : E) → SequenceLaw (seque
   iteration-step l (iteration.While place c) next within b = let parts = and_parts _ _ b in while-step l c next within parts.0 parts.1
   iteration-step l (iteration.For place i reverse low high) next within b =
       let parts = and_parts _ _ b in let ends = and_parts _ _ parts.0 in
-      for-step l (parameter_of same_making within i) reverse low high next within ends.0 ends.1 parts.1
+      for-step l (parameter_of within i) reverse low high next within ends.0 ends.1 parts.1
 
   pub loop-step : (l : Loop E) (next : Option StatementNo) (within : Within) → (iteration_built l.iteration within.names && sequence_built (g l.statements) within.names) ≡ true
       → Step (loop_put same_making within (loop_made l) next) (λ p x. Stood p next (λ s f. loop_stands p same_sequence_reading within (loop_read p l) l.iteration s next f) x)

@@ -176,7 +176,7 @@ module _ {E : Type 0} (g : E → Sequence) (law : (e : E) → CountsLaw (sequenc
 
   body-counts : (l : Loop E) (within : Within) (s turn : StatementNo) → Counts (loop_body same_making within (loop_made l) s turn) (inner l.statements within)
   unfolding loop_body
-  body-counts l within s turn = inside-counts l.statements (in_loop (label_of same_making within (loop_made l)) s within) (Some turn)
+  body-counts l within s turn = inside-counts l.statements (in_loop (label_of within (loop_made l)) s within) (Some turn)
 
   forever-counts : (l : Loop E) (next : Option StatementNo) (within : Within) → Counts (forever_put same_making within (loop_made l) next) (1 + inner l.statements within)
   unfolding forever_put
@@ -227,7 +227,7 @@ module _ {E : Type 0} (g : E → Sequence) (law : (e : E) → CountsLaw (sequenc
   unfolding iteration_put
   iteration-counts l iteration.Forever next within = forever-counts l next within
   iteration-counts l (iteration.While place c) next within = while-counts l c next within
-  iteration-counts l (iteration.For place i reverse low high) next within = for-counts l (parameter_of same_making within i) reverse low high next within
+  iteration-counts l (iteration.For place i reverse low high) next within = for-counts l (parameter_of within i) reverse low high next within
 
   loop-counts : (l : Loop E) (next : Option StatementNo) (within : Within) → Counts (loop_put same_making within (loop_made l) next) (turns_actions same_actions l.iteration + inner l.statements within)
   unfolding loop_put

@@ -172,7 +172,7 @@ module _ {E : Type 0} (g : E → Sequence) (law : (e : E) → OpensLaw (sequence
 
   body-opens : (l : Loop E) (within : Within) (s turn : StatementNo) → Opens (loop_body same_making within (loop_made l) s turn) (inner l.statements within)
   unfolding loop_body
-  body-opens l within s turn = inside-opens l.statements (in_loop (label_of same_making within (loop_made l)) s within) (Some turn)
+  body-opens l within s turn = inside-opens l.statements (in_loop (label_of within (loop_made l)) s within) (Some turn)
 
   forever-opens : (l : Loop E) (next : Option StatementNo) (within : Within) → Opens (forever_put same_making within (loop_made l) next) (inner l.statements within)
   unfolding forever_put
@@ -221,7 +221,7 @@ module _ {E : Type 0} (g : E → Sequence) (law : (e : E) → OpensLaw (sequence
   unfolding iteration_put
   iteration-opens l iteration.Forever next within = forever-opens l next within
   iteration-opens l (iteration.While place c) next within = while-opens l c next within
-  iteration-opens l (iteration.For place i reverse low high) next within = for-opens l (parameter_of same_making within i) reverse low high next within
+  iteration-opens l (iteration.For place i reverse low high) next within = for-opens l (parameter_of within i) reverse low high next within
 
   loop-opens : (l : Loop E) (next : Option StatementNo) (within : Within) → Opens (loop_put same_making within (loop_made l) next) (inner l.statements within)
   unfolding loop_put

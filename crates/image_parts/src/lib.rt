@@ -8,6 +8,6 @@ mod scopes;
 mod selects;
 
 pub use branches::{case_action, if_action};
-pub use loops::{for_action, loop_parameter_number, while_action};
+pub use loops::{for_action, label_of, parameter_of, while_action};
 pub use scopes::{in_statement_scope, scope_action};
-pub use selects::{guard_of, signs_in_guard, signs_in_timed_call, signs_in_trigger};
+pub use selects::{guard_of, signs_in_alternatives, signs_in_timed_call, signs_in_trigger};

@@ -2,24 +2,50 @@
 ghost use Rattle.std.specs.Prelude.{◌≡◌, ◌+◌, IfOk};
 ghost use Rattle.ada_image.specs.Made.{Made};
 ghost use Rattle.ada_image.specs.ImageOfExpressions.{signs_in};
-ghost use Rattle.ada_image.specs.ImageOfStatements.{loop_parameter_number};
+ghost use Rattle.ada_image.specs.ImageOfStatements.{label_of, loop_parameter_number, parameter_of};
 ghost use Rattle.image_parts.specs.Parts.{for_action, turns_put, while_action};
 
+use ada_entities::{entity_denoted, kind_at};
 use ada_image::{Lists, Within};
 use ada_regions::EntityKind;
-use ada_tree::Expression;
+use ada_tree::{Expression, Identifier, Loop};
 use ann_base::NoMemory;
 use image_expressions::{expression_made, signs_in};
 use image_layout::{added, put_at};
 use profile_machine::{DeclNo, StatementForm, StatementNo};
 
 /// The number of a loop parameter, where the entity is one.
-pub fn loop_parameter_number(kind: &EntityKind) -> Option<DeclNo>
+fn loop_parameter_number(kind: &EntityKind) -> Option<DeclNo>
     ensures { result ≡ loop_parameter_number kind.now }
 {
     match kind {
         EntityKind::LoopParameter(declaration) => Some(*declaration),
         _ => None,
+    }
+}
+
+/// The number of a loop parameter.
+#[tactic(auto, unfolding(ada_image::specs::ImageOfStatements::parameter_of))]
+pub fn parameter_of(within: &Within<'_, '_>, identifier: &Identifier) -> DeclNo
+    ensures { result ≡ parameter_of within.now identifier.now }
+{
+    match entity_denoted(within.names.get(), identifier.place) {
+        None => DeclNo(0),
+        Some(entity) => match kind_at(within.names.get(), entity) {
+            None => DeclNo(0),
+            Some(kind) => loop_parameter_number(kind).unwrap_or(DeclNo(0)),
+        },
+    }
+}
+
+/// The entity of a loop's label, where it has one.
+#[tactic(auto, unfolding(ada_image::specs::ImageOfStatements::label_of))]
+pub fn label_of<Q>(within: &Within<'_, '_>, statement: &Loop<Q>) -> Option<u32>
+    ensures { result ≡ label_of within.now statement.now }
+{
+    match &statement.label {
+        None => None,
+        Some(label) => entity_denoted(within.names.get(), label.name.place),
     }
 }
 

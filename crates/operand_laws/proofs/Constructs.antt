@@ -120,7 +120,7 @@ module _ {E : Type 0} (g : E → Sequence) (law : (e : E) → KeepsAll (sequence
 
   body-keeps : (l : Loop E) (within : Within) (s turn : StatementNo) → Keeps (loop_body same_making within (loop_made l) s turn)
   unfolding loop_body
-  body-keeps l within s turn = inside-keeps l.statements (in_loop (label_of same_making within (loop_made l)) s within) (Some turn)
+  body-keeps l within s turn = inside-keeps l.statements (in_loop (label_of within (loop_made l)) s within) (Some turn)
 
   forever-keeps : (l : Loop E) (next : Option StatementNo) (within : Within) → Keeps (forever_put same_making within (loop_made l) next)
   unfolding forever_put
@@ -169,7 +169,7 @@ module _ {E : Type 0} (g : E → Sequence) (law : (e : E) → KeepsAll (sequence
   unfolding iteration_put
   iteration-keeps l iteration.Forever next within = forever-keeps l next within
   iteration-keeps l (iteration.While place c) next within = while-keeps l c next within
-  iteration-keeps l (iteration.For place i reverse low high) next within = for-keeps l (parameter_of same_making within i) reverse low high next within
+  iteration-keeps l (iteration.For place i reverse low high) next within = for-keeps l (parameter_of within i) reverse low high next within
 
   loop-keeps : (l : Loop E) (next : Option StatementNo) (within : Within) → Keeps (loop_put same_making within (loop_made l) next)
   unfolding loop_put

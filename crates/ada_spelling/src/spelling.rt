@@ -1,6 +1,6 @@
 //! How a tree is spelt.
-ghost use Rattle.std.specs.Prelude.{◌≡◌, ◌++◌, ◌∷◌, [], List, Option, None, false, map, codes, OnOk, IfOk};
-ghost use Rattle.ada_tree.specs.Written.{Written, word, delimiter, behind, each_written, separated, all_written, optional, enclosed, one_identifier, name_written, end_name_written, flag};
+ghost use Rattle.std.specs.Prelude.{◌≡◌, ◌++◌, ◌∷◌, [], List, Option, None, false, map, codes, OnOk};
+ghost use Rattle.ada_tree.specs.Written.{Written, word, delimiter, behind, each_written, separated, all_written, optional, enclosed, one_identifier, name_written, flag};
 ghost use Rattle.ada_spelling.specs.Spelt.{spelt};
 
 use ada_lex::Kind;
@@ -162,19 +162,6 @@ pub(crate) fn spell_clause<T: Spell>(
     spell_ended(tokens, item)
 }
 
-/// An item in brackets.
-pub(crate) fn spell_in_brackets<T: Spell>(tokens: &mut Tokens, item: &T) -> Result<(), NoMemory>
-    ensures { OnOk result
-        (tokens.new
-        ≡ tokens.old
-        ++ map spelt
-        (delimiter (codes "(") ∷ (T.written item.now ++ delimiter (codes ")") ∷ []))) }
-{
-    tokens.delimiter(b"(")?;
-    item.spell(tokens)?;
-    tokens.delimiter(b")")
-}
-
 /// Items with a word or a delimiter before each.
 pub(crate) fn spell_behind<T: Spell>(
     tokens: &mut Tokens,
@@ -310,18 +297,7 @@ pub(crate) fn spell_led<T: Spell>(
     }
 }
 
-/// The construct's name, where it stands behind `end`.
-pub(crate) fn spell_end_name(
-    tokens: &mut Tokens,
-    named: bool,
-    name: &Identifier,
-) -> Result<(), NoMemory>
-    ensures { OnOk result (tokens.new ≡ tokens.old ++ map spelt (end_name_written named name.now)) }
-{
-    if named { name.spell(tokens) } else { Ok(()) }
-}
-
-/// A word, where it stands there.
+/// A word, where it stands there: a flag of the tree says it, also of the name behind `end`.
 pub(crate) fn spell_flag(tokens: &mut Tokens, stands: bool, text: &[u8]) -> Result<(), NoMemory>
     ensures { OnOk result
         (tokens.new ≡ tokens.old ++ map spelt (flag stands (word text.now ∷ []))) }

@@ -3,21 +3,21 @@ ghost use Rattle.std.specs.Prelude.{◌≡◌, ◌++◌, ◌∷◌, [], map, cod
 ghost use Rattle.ada_tree.specs.Written.{optional, word, identifier_written, end_name_written};
 ghost use Rattle.ada_spelling.specs.Spelt.{spelt};
 ghost use Rattle.ada_tree.specs.SpellingStatements.{semicolon, indication_written};
-ghost use Rattle.ada_tree.specs.SpellingDeclarations.{becomes_written, extension_written, aspects_written, overriding_written, subprogram_word, task_definition_written, body_written};
+ghost use Rattle.ada_tree.specs.SpellingDeclarations.{becomes_written, aspects_written, overriding_written, body_written};
 
 use crate::spelling::{
     Spell, Tokens, spell_after, spell_behind, spell_between, spell_bracketed, spell_clause,
-    spell_end_name, spell_ended, spell_flag, spell_led, spell_separated,
+    spell_ended, spell_flag, spell_led, spell_separated,
 };
 use crate::spelling_statements::{
     SpellSequence, spell_range, spell_sequence_after, spell_word_alone,
 };
 use ada_lex::Kind;
 use ada_tree::{
-    Aspect, Body, Component, Declaration, EntryDeclaration, EntryHead, Expression, Identifier,
-    ObjectDeclaration, OneOrMore, OperationBody, ProtectedBody, ProtectedDeclaration,
-    ProtectedOperation, SequenceRole, SubprogramSpecification, SubtypeDeclaration,
-    SubtypeIndication, TaskDeclaration, TaskDefinition, TypeDeclaration, TypeDefinition,
+    Aspect, Body, Component, Declaration, EntryDeclaration, Expression, Identifier,
+    ObjectDeclaration, OperationBody, ProtectedBody, ProtectedDeclaration, ProtectedOperation,
+    SequenceRole, SubprogramSpecification, SubtypeDeclaration, SubtypeIndication, TaskDeclaration,
+    TypeDeclaration, TypeDefinition,
 };
 use ann_base::{NoMemory, Place};
 
@@ -66,28 +66,6 @@ impl Spell for Component {
     }
 }
 
-/// `null record`, or `record`, the components and `end record` (3.9.1).
-fn spell_extension(
-    tokens: &mut Tokens,
-    components: &Option<OneOrMore<Component>>,
-) -> Result<(), NoMemory>
-    ensures { OnOk result
-        (tokens.new ≡ tokens.old ++ map spelt (extension_written components.now)) }
-{
-    match components {
-        None => {
-            tokens.word(b"null")?;
-            tokens.word(b"record")
-        }
-        Some(components) => {
-            tokens.word(b"record")?;
-            components.spell(tokens)?;
-            tokens.word(b"end")?;
-            tokens.word(b"record")
-        }
-    }
-}
-
 /// How a type is defined (3.5.1, 3.6, 3.9.1).
 impl Spell for TypeDefinition {
     ghost use Rattle.ada_tree.specs.SpellingDeclarations.{definition_written};
@@ -110,12 +88,15 @@ impl Spell for TypeDefinition {
                 tokens.delimiter(b"(")?;
                 spell_range(tokens, low, high)?;
                 tokens.delimiter(b")")?;
-                tokens.word(b"of")?;
-                component.spell(tokens)
+                spell_after(tokens, Kind::Word, b"of", component)
             }
             TypeDefinition::Derived { parent, components } => {
                 spell_between(tokens, b"new", parent, b"with")?;
-                spell_extension(tokens, components)
+                match components {
+                    None => tokens.word(b"null")?,
+                    Some(components) => spell_between(tokens, b"record", components, b"end")?,
+                }
+                tokens.word(b"record")
             }
         }
     }
@@ -181,16 +162,7 @@ fn spell_overriding(tokens: &mut Tokens, overriding: Option<Place>) -> Result<()
     }
 }
 
-fn subprogram_word(subtype: &Option<SubtypeIndication>) -> &'static [u8]
-    ensures { result.now ≡ subprogram_word subtype.now }
-{
-    match subtype {
-        None => b"procedure",
-        Some(_) => b"function",
-    }
-}
-
-/// A subprogram's specification (6.1).
+/// A subprogram's specification: a function has a result, and a procedure has none (6.1).
 impl Spell for SubprogramSpecification {
     ghost use Rattle.ada_tree.specs.SpellingDeclarations.{specification_written};
 
@@ -198,8 +170,11 @@ impl Spell for SubprogramSpecification {
 
     fn spell(&self, tokens: &mut Tokens) -> Result<(), NoMemory> {
         spell_overriding(tokens, self.overriding)?;
-        tokens.word(subprogram_word(&self.result))?;
-        self.name.spell(tokens)?;
+        let text: &[u8] = match &self.result {
+            None => b"procedure",
+            Some(_) => b"function",
+        };
+        spell_after(tokens, Kind::Word, text, &self.name)?;
         spell_bracketed(tokens, b";", self.parameters.as_slice())?;
         spell_led(tokens, Kind::Word, b"return", &self.result)?;
         spell_aspects(tokens, self.aspects.as_slice())
@@ -231,7 +206,7 @@ pub(crate) fn spell_named_end(
         ++ map spelt (word (codes "end") ∷ (end_name_written named name.now ++ semicolon))) }
 {
     tokens.word(b"end")?;
-    spell_end_name(tokens, named, name)?;
+    spell_flag(tokens, named, name.text.as_slice())?;
     tokens.delimiter(b";")
 }
 
@@ -249,27 +224,6 @@ pub(crate) fn spell_name_and_aspects(
     spell_aspects(tokens, aspects)
 }
 
-/// What stands behind the `is` of a task declaration (9.1).
-fn spell_task_definition(
-    tokens: &mut Tokens,
-    name: &Identifier,
-    definition: &Option<TaskDefinition>,
-) -> Result<(), NoMemory>
-    ensures { OnOk result
-        (tokens.new
-        ≡ tokens.old ++ map spelt (optional (task_definition_written name.now) definition.now)) }
-{
-    match definition {
-        None => Ok(()),
-        Some(definition) => {
-            tokens.word(b"is")?;
-            definition.entries.spell(tokens)?;
-            tokens.word(b"end")?;
-            spell_end_name(tokens, definition.named_at_end, name)
-        }
-    }
-}
-
 /// A task declaration (9.1).
 impl Spell for TaskDeclaration {
     ghost use Rattle.ada_tree.specs.SpellingDeclarations.{task_written};
@@ -280,8 +234,13 @@ impl Spell for TaskDeclaration {
         tokens.word(b"task")?;
         spell_flag(tokens, self.is_type, b"type")?;
         spell_name_and_aspects(tokens, &self.name, self.aspects.as_slice())?;
-        spell_task_definition(tokens, &self.name, &self.definition)?;
-        tokens.delimiter(b";")
+        match &self.definition {
+            None => tokens.delimiter(b";"),
+            Some(definition) => {
+                spell_after(tokens, Kind::Word, b"is", &definition.entries)?;
+                spell_named_end(tokens, definition.named_at_end, &self.name)
+            }
+        }
     }
 }
 
@@ -315,19 +274,6 @@ impl Spell for ProtectedDeclaration {
     }
 }
 
-/// The head of an entry body (9.5.2).
-impl Spell for EntryHead {
-    ghost use Rattle.ada_tree.specs.SpellingDeclarations.{entry_head_written};
-
-    ghost written = { entry_head_written };
-
-    fn spell(&self, tokens: &mut Tokens) -> Result<(), NoMemory> {
-        spell_after(tokens, Kind::Word, b"entry", &self.name)?;
-        spell_bracketed(tokens, b";", self.parameters.as_slice())?;
-        spell_after(tokens, Kind::Word, b"when", &self.barrier)
-    }
-}
-
 /// A construct's body, from `is` on (3.11.1).
 pub(crate) fn spell_body<Q: SpellSequence>(
     tokens: &mut Tokens,
@@ -357,7 +303,9 @@ impl<Q: SpellSequence> Spell for OperationBody<Q> {
                 spell_body(tokens, &specification.name, body)
             }
             OperationBody::Entry { head, body } => {
-                head.spell(tokens)?;
+                spell_after(tokens, Kind::Word, b"entry", &head.name)?;
+                spell_bracketed(tokens, b";", head.parameters.as_slice())?;
+                spell_after(tokens, Kind::Word, b"when", &head.barrier)?;
                 spell_body(tokens, &head.name, body)
             }
         }

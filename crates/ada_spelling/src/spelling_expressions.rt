@@ -1,39 +1,17 @@
 //! How expressions are spelt (ISO/IEC 8652:2012, 4.4, 4.5).
-ghost use Rattle.std.specs.Prelude.{◌≡◌, ◌++◌, ◌∷◌, [], map, OnOk};
+ghost use Rattle.std.specs.Prelude.{◌≡◌, ◌++◌, map, OnOk};
 ghost use Rattle.ada_tree.specs.Written.{all_written};
 ghost use Rattle.ada_spelling.specs.Spelt.{spelt};
-ghost use Rattle.ada_tree.specs.SpellingExpressions.{logical_written, operand_written, relational_text, adding_text, sign_text, multiplying_written, highest_text, attribute_text, formal_written};
+ghost use Rattle.ada_tree.specs.SpellingExpressions.{operand_written, relational_text, sign_text, highest_text};
 
-use crate::spelling::{Spell, Tokens, spell_after, spell_bracketed, spell_in_brackets};
+use crate::spelling::{Spell, Tokens, spell_after, spell_bracketed};
 use ada_lex::Kind;
 use ada_tree::{
     Addend, AddingOperator, Argument, Attribute, AttributeDesignator, Expression, ExpressionForm,
-    HighestOperator, Identifier, LogicalOperator, Multiplied, MultiplyingOperator, OneOrMore,
-    Operand, RelationalOperator, Sign,
+    HighestOperator, LogicalOperator, Multiplied, MultiplyingOperator, OneOrMore, Operand,
+    RelationalOperator, Sign,
 };
-use ann_base::{NoMemory, Place};
-
-fn spell_logical(
-    tokens: &mut Tokens,
-    operator: LogicalOperator,
-    place: Place,
-) -> Result<(), NoMemory>
-    ensures { OnOk result (tokens.new ≡ tokens.old ++ map spelt (logical_written operator place)) }
-{
-    match operator {
-        LogicalOperator::And => tokens.word(b"and"),
-        LogicalOperator::Or => tokens.word(b"or"),
-        LogicalOperator::Xor => tokens.word(b"xor"),
-        LogicalOperator::AndThen => {
-            tokens.word(b"and")?;
-            tokens.word(b"then")
-        }
-        LogicalOperator::OrElse => {
-            tokens.word(b"or")?;
-            tokens.word(b"else")
-        }
-    }
-}
+use ann_base::NoMemory;
 
 fn relational_text(operator: RelationalOperator) -> &'static [u8]
     ensures { result.now ≡ relational_text operator }
@@ -48,38 +26,12 @@ fn relational_text(operator: RelationalOperator) -> &'static [u8]
     }
 }
 
-fn adding_text(operator: AddingOperator) -> &'static [u8]
-    ensures { result.now ≡ adding_text operator }
-{
-    match operator {
-        AddingOperator::Plus => b"+",
-        AddingOperator::Minus => b"-",
-        AddingOperator::Concatenation => b"&",
-    }
-}
-
 fn sign_text(sign: Sign) -> &'static [u8]
     ensures { result.now ≡ sign_text sign }
 {
     match sign {
         Sign::Plus => b"+",
         Sign::Minus => b"-",
-    }
-}
-
-fn spell_multiplying(
-    tokens: &mut Tokens,
-    operator: MultiplyingOperator,
-    place: Place,
-) -> Result<(), NoMemory>
-    ensures { OnOk result
-        (tokens.new ≡ tokens.old ++ map spelt (multiplying_written operator place ∷ [])) }
-{
-    match operator {
-        MultiplyingOperator::Times => tokens.delimiter(b"*"),
-        MultiplyingOperator::Divide => tokens.delimiter(b"/"),
-        MultiplyingOperator::Modulus => tokens.word(b"mod"),
-        MultiplyingOperator::Remainder => tokens.word(b"rem"),
     }
 }
 
@@ -92,19 +44,6 @@ fn highest_text(operator: HighestOperator) -> &'static [u8]
     }
 }
 
-fn attribute_text(attribute: Attribute) -> &'static [u8]
-    ensures { result.now ≡ attribute_text attribute }
-{
-    match attribute {
-        Attribute::First => b"first",
-        Attribute::Last => b"last",
-        Attribute::Image => b"image",
-        Attribute::Count => b"count",
-        Attribute::Identity => b"identity",
-        Attribute::Access => b"access",
-    }
-}
-
 impl Spell for AttributeDesignator {
     ghost use Rattle.ada_tree.specs.SpellingExpressions.{designator_written};
 
@@ -112,7 +51,14 @@ impl Spell for AttributeDesignator {
 
     fn spell(&self, tokens: &mut Tokens) -> Result<(), NoMemory> {
         tokens.delimiter(b"'")?;
-        tokens.word(attribute_text(self.attribute))
+        tokens.word(match self.attribute {
+            Attribute::First => b"first",
+            Attribute::Last => b"last",
+            Attribute::Image => b"image",
+            Attribute::Count => b"count",
+            Attribute::Identity => b"identity",
+            Attribute::Access => b"access",
+        })
     }
 }
 
@@ -124,7 +70,19 @@ fn spell_operand<E: Spell>(
     ensures { OnOk result
         (tokens.new ≡ tokens.old ++ map spelt (operand_written E.written operator operand.now)) }
 {
-    spell_logical(tokens, operator, operand.place)?;
+    match operator {
+        LogicalOperator::And => tokens.word(b"and")?,
+        LogicalOperator::Or => tokens.word(b"or")?,
+        LogicalOperator::Xor => tokens.word(b"xor")?,
+        LogicalOperator::AndThen => {
+            tokens.word(b"and")?;
+            tokens.word(b"then")?;
+        }
+        LogicalOperator::OrElse => {
+            tokens.word(b"or")?;
+            tokens.word(b"else")?;
+        }
+    }
     operand.relation.spell(tokens)
 }
 
@@ -151,12 +109,12 @@ impl<E: Spell> Spell for Addend<E> {
     ghost written = { addend_written E.written };
 
     fn spell(&self, tokens: &mut Tokens) -> Result<(), NoMemory> {
-        spell_after(
-            tokens,
-            Kind::Delimiter,
-            adding_text(self.operator),
-            &self.term,
-        )
+        let text: &[u8] = match self.operator {
+            AddingOperator::Plus => b"+",
+            AddingOperator::Minus => b"-",
+            AddingOperator::Concatenation => b"&",
+        };
+        spell_after(tokens, Kind::Delimiter, text, &self.term)
     }
 }
 
@@ -166,16 +124,14 @@ impl<E: Spell> Spell for Multiplied<E> {
     ghost written = { multiplied_written E.written };
 
     fn spell(&self, tokens: &mut Tokens) -> Result<(), NoMemory> {
-        spell_multiplying(tokens, self.operator, self.place)?;
-        self.factor.spell(tokens)
+        let (kind, text): (Kind, &[u8]) = match self.operator {
+            MultiplyingOperator::Times => (Kind::Delimiter, b"*"),
+            MultiplyingOperator::Divide => (Kind::Delimiter, b"/"),
+            MultiplyingOperator::Modulus => (Kind::Word, b"mod"),
+            MultiplyingOperator::Remainder => (Kind::Word, b"rem"),
+        };
+        spell_after(tokens, kind, text, &self.factor)
     }
-}
-
-fn spell_formal(tokens: &mut Tokens, formal: &Identifier) -> Result<(), NoMemory>
-    ensures { OnOk result (tokens.new ≡ tokens.old ++ map spelt (formal_written formal.now)) }
-{
-    formal.spell(tokens)?;
-    tokens.delimiter(b"=>")
 }
 
 impl<E: Spell> Spell for Argument<E> {
@@ -185,7 +141,8 @@ impl<E: Spell> Spell for Argument<E> {
 
     fn spell(&self, tokens: &mut Tokens) -> Result<(), NoMemory> {
         if let Some(formal) = &self.formal {
-            spell_formal(tokens, formal)?;
+            formal.spell(tokens)?;
+            tokens.delimiter(b"=>")?;
         }
         self.value.spell(tokens)
     }
@@ -236,7 +193,10 @@ impl<E: Spell> Spell for ExpressionForm<E> {
             }
             ExpressionForm::Text { text, .. } => tokens.push(Kind::Text, text.as_slice()),
             ExpressionForm::Null { .. } => tokens.word(b"null"),
-            ExpressionForm::Bracketed { inner, .. } => spell_in_brackets(tokens, inner),
+            ExpressionForm::Bracketed { inner, .. } => {
+                spell_after(tokens, Kind::Delimiter, b"(", inner)?;
+                tokens.delimiter(b")")
+            }
             ExpressionForm::Named {
                 name,
                 attribute,

@@ -5,21 +5,9 @@ use crate::spelling_statements::{
 };
 use ada_lex::Kind;
 use ada_tree::{
-    Alternative, Guard, SelectAlternative, SelectForm, SelectStatement, SequenceRole, Trigger,
+    Alternative, SelectAlternative, SelectForm, SelectStatement, SequenceRole, Trigger,
 };
 use ann_base::NoMemory;
-
-impl Spell for Guard {
-    ghost use Rattle.ada_tree.specs.SpellingStatements.{guard_written};
-
-    ghost written = { guard_written };
-
-    fn spell(&self, tokens: &mut Tokens) -> Result<(), NoMemory> {
-        tokens.word(b"when")?;
-        self.condition.spell(tokens)?;
-        tokens.delimiter(b"=>")
-    }
-}
 
 impl Spell for Trigger {
     ghost use Rattle.ada_tree.specs.SpellingStatements.{trigger_written};
@@ -34,13 +22,18 @@ impl Spell for Trigger {
     }
 }
 
-impl<Q: SpellSequence> Spell for Alternative<Q> {
-    ghost use Rattle.ada_tree.specs.SpellingStatements.{alternative_written};
+/// An alternative of a select statement, behind its guard (9.7.1).
+impl<Q: SpellSequence> Spell for SelectAlternative<Q> {
+    ghost use Rattle.ada_tree.specs.SpellingStatements.{select_alternative_written};
 
-    ghost written = { alternative_written Q.written };
+    ghost written = { select_alternative_written Q.written };
 
     fn spell(&self, tokens: &mut Tokens) -> Result<(), NoMemory> {
-        match self {
+        if let Some(guard) = &self.guard {
+            spell_after(tokens, Kind::Word, b"when", &guard.condition)?;
+            tokens.delimiter(b"=>")?;
+        }
+        match &self.alternative {
             Alternative::Accept { accept, statements } => {
                 accept.spell(tokens)?;
                 spell_statements(tokens, statements)
@@ -51,17 +44,6 @@ impl<Q: SpellSequence> Spell for Alternative<Q> {
             }
             Alternative::Terminate { .. } => spell_word_alone(tokens, b"terminate"),
         }
-    }
-}
-
-impl<Q: SpellSequence> Spell for SelectAlternative<Q> {
-    ghost use Rattle.ada_tree.specs.SpellingStatements.{select_alternative_written};
-
-    ghost written = { select_alternative_written Q.written };
-
-    fn spell(&self, tokens: &mut Tokens) -> Result<(), NoMemory> {
-        self.guard.spell(tokens)?;
-        self.alternative.spell(tokens)
     }
 }
 

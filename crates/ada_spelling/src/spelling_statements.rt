@@ -1,21 +1,21 @@
 //! How statements are spelt (ISO/IEC 8652:2012, clauses 5, 9.5 to 9.8, 11).
-ghost use Rattle.std.specs.Prelude.{◌≡◌, ◌++◌, ◌∷◌, [], map, codes, OnOk};
+ghost use Rattle.std.specs.Prelude.{◌≡◌, ◌++◌, ◌∷◌, map, codes, OnOk};
 ghost use Rattle.ada_tree.specs.Written.{optional, word, delimiter};
 ghost use Rattle.ada_spelling.specs.Spelt.{spelt};
 ghost use Rattle.ada_tree.specs.SpellingExpressions.{expression_written};
-ghost use Rattle.ada_tree.specs.SpellingStatements.{semicolon, index_written, label_end_written, with_abort_written, statements_written, else_written, block_opened, accept_body_written};
+ghost use Rattle.ada_tree.specs.SpellingStatements.{semicolon, label_end_written, with_abort_written, statements_written, else_written};
 
 use crate::spelling::{
-    Spell, Tokens, spell_after, spell_between, spell_bracketed, spell_clause, spell_end_name,
-    spell_ended, spell_flag, spell_in_brackets, spell_led, spell_separated,
+    Spell, Tokens, spell_after, spell_between, spell_bracketed, spell_clause, spell_ended,
+    spell_flag, spell_led, spell_separated,
 };
 use ada_lex::Kind;
 use ada_tree::{
-    Accept, AcceptBody, Assignment, Block, Call, Case, CaseAlternative, Choice, Constraint, Delay,
-    Elsif, Exit, Expression, HandledExceptions, Handler, Identifier, If, Iteration, Label, Loop,
-    Parameter, SequenceRole, Statement, SubtypeIndication,
+    Accept, Assignment, Block, Call, Case, CaseAlternative, Choice, Constraint, Delay, Elsif, Exit,
+    Expression, HandledExceptions, Handler, If, Iteration, Label, Loop, Parameter, SequenceRole,
+    Statement, SubtypeIndication,
 };
-use ann_base::{NoMemory, Place};
+use ann_base::NoMemory;
 
 /// What is a sequence.
 pub(crate) trait SpellSequence {
@@ -47,28 +47,6 @@ pub(crate) fn spell_range(
     spell_after(tokens, Kind::Delimiter, b"..", high)
 }
 
-impl Spell for Constraint {
-    ghost use Rattle.ada_tree.specs.SpellingStatements.{constraint_written};
-
-    ghost written = { constraint_written };
-
-    fn spell(&self, tokens: &mut Tokens) -> Result<(), NoMemory> {
-        match self {
-            Constraint::Access(name) => {
-                tokens.delimiter(b"(")?;
-                name.spell(tokens)?;
-                tokens.delimiter(b"'")?;
-                tokens.word(b"access")?;
-                tokens.delimiter(b")")
-            }
-            Constraint::Range { low, high } => {
-                tokens.word(b"range")?;
-                spell_range(tokens, low, high)
-            }
-        }
-    }
-}
-
 /// A subtype indication: a subtype mark and what restricts it (3.2.2).
 impl Spell for SubtypeIndication {
     ghost use Rattle.ada_tree.specs.SpellingStatements.{indication_written};
@@ -77,7 +55,19 @@ impl Spell for SubtypeIndication {
 
     fn spell(&self, tokens: &mut Tokens) -> Result<(), NoMemory> {
         self.name.spell(tokens)?;
-        self.constraint.spell(tokens)
+        match &self.constraint {
+            None => Ok(()),
+            Some(Constraint::Access(name)) => {
+                spell_after(tokens, Kind::Delimiter, b"(", name)?;
+                tokens.delimiter(b"'")?;
+                tokens.word(b"access")?;
+                tokens.delimiter(b")")
+            }
+            Some(Constraint::Range { low, high }) => {
+                tokens.word(b"range")?;
+                spell_range(tokens, low, high)
+            }
+        }
     }
 }
 
@@ -96,16 +86,6 @@ impl Spell for Parameter {
     }
 }
 
-fn spell_index(tokens: &mut Tokens, index: &Option<Expression>) -> Result<(), NoMemory>
-    ensures { OnOk result
-        (tokens.new ≡ tokens.old ++ map spelt (optional index_written index.now)) }
-{
-    match index {
-        None => Ok(()),
-        Some(index) => spell_in_brackets(tokens, index),
-    }
-}
-
 /// An assignment (5.2).
 impl Spell for Assignment {
     ghost use Rattle.ada_tree.specs.SpellingStatements.{assignment_written};
@@ -114,7 +94,10 @@ impl Spell for Assignment {
 
     fn spell(&self, tokens: &mut Tokens) -> Result<(), NoMemory> {
         self.target.spell(tokens)?;
-        spell_index(tokens, &self.index)?;
+        if let Some(index) = &self.index {
+            spell_after(tokens, Kind::Delimiter, b"(", index)?;
+            tokens.delimiter(b")")?;
+        }
         tokens.delimiter(b":=")?;
         spell_ended(tokens, &self.value)
     }
@@ -172,26 +155,15 @@ impl Spell for Label {
     }
 }
 
-/// A loop or a block's name behind `end`.
+/// A loop or a block's name, where it stands behind `end`, and a semicolon.
 fn spell_label_end(tokens: &mut Tokens, label: &Option<Label>) -> Result<(), NoMemory>
     ensures { OnOk result
-        (tokens.new ≡ tokens.old ++ map spelt (optional label_end_written label.now)) }
-{
-    match label {
-        None => Ok(()),
-        Some(label) => spell_end_name(tokens, label.named_at_end, &label.name),
-    }
-}
-
-/// `loop`, the loop's name and a semicolon, behind `end` (5.5).
-fn spell_loop_end(tokens: &mut Tokens, label: &Option<Label>) -> Result<(), NoMemory>
-    ensures { OnOk result
         (tokens.new
-        ≡ tokens.old
-        ++ map spelt (word (codes "loop") ∷ (optional label_end_written label.now ++ semicolon))) }
+        ≡ tokens.old ++ map spelt (optional label_end_written label.now ++ semicolon)) }
 {
-    tokens.word(b"loop")?;
-    spell_label_end(tokens, label)?;
+    if let Some(label) = label {
+        spell_flag(tokens, label.named_at_end, label.name.text.as_slice())?;
+    }
     tokens.delimiter(b";")
 }
 
@@ -233,19 +205,6 @@ impl Spell for Exit {
         self.loop_name.spell(tokens)?;
         spell_led(tokens, Kind::Word, b"when", &self.condition)?;
         tokens.delimiter(b";")
-    }
-}
-
-impl Spell for HandledExceptions {
-    ghost use Rattle.ada_tree.specs.SpellingStatements.{exceptions_written};
-
-    ghost written = { exceptions_written };
-
-    fn spell(&self, tokens: &mut Tokens) -> Result<(), NoMemory> {
-        match self {
-            HandledExceptions::Named(names) => spell_separated(tokens, b"|", names),
-            HandledExceptions::Others { .. } => tokens.word(b"others"),
-        }
     }
 }
 
@@ -386,28 +345,12 @@ impl<Q: SpellSequence> Spell for Loop<Q> {
         self.iteration.spell(tokens)?;
         spell_sequence_after(tokens, b"loop", SequenceRole::Statements, &self.statements)?;
         tokens.word(b"end")?;
-        spell_loop_end(tokens, &self.label)
+        tokens.word(b"loop")?;
+        spell_label_end(tokens, &self.label)
     }
 }
 
-/// `declare` and a body, or `begin` and statements (5.6).
-fn spell_block_opened<Q: SpellSequence>(
-    tokens: &mut Tokens,
-    declare: bool,
-    place: Place,
-    sequence: &Q,
-) -> Result<(), NoMemory>
-    ensures { OnOk result
-        (tokens.new ≡ tokens.old ++ map spelt (block_opened Q.written declare place sequence.now)) }
-{
-    if declare {
-        spell_sequence_after(tokens, b"declare", SequenceRole::Body, sequence)
-    } else {
-        spell_sequence_after(tokens, b"begin", SequenceRole::Handled, sequence)
-    }
-}
-
-/// A block (5.6).
+/// A block: `declare` and a body, or `begin` and statements (5.6).
 impl<Q: SpellSequence> Spell for Block<Q> {
     ghost use Rattle.ada_tree.specs.SpellingStatements.{block_written};
 
@@ -415,10 +358,13 @@ impl<Q: SpellSequence> Spell for Block<Q> {
 
     fn spell(&self, tokens: &mut Tokens) -> Result<(), NoMemory> {
         self.label.spell(tokens)?;
-        spell_block_opened(tokens, self.declare, self.place, &self.sequence)?;
+        if self.declare {
+            spell_sequence_after(tokens, b"declare", SequenceRole::Body, &self.sequence)?;
+        } else {
+            spell_sequence_after(tokens, b"begin", SequenceRole::Handled, &self.sequence)?;
+        }
         tokens.word(b"end")?;
-        spell_label_end(tokens, &self.label)?;
-        tokens.delimiter(b";")
+        spell_label_end(tokens, &self.label)
     }
 }
 
@@ -430,29 +376,12 @@ impl<Q: SpellSequence> Spell for Handler<Q> {
 
     fn spell(&self, tokens: &mut Tokens) -> Result<(), NoMemory> {
         tokens.word(b"when")?;
-        self.exceptions.spell(tokens)?;
+        match &self.exceptions {
+            HandledExceptions::Named(names) => spell_separated(tokens, b"|", names)?,
+            HandledExceptions::Others { .. } => tokens.word(b"others")?,
+        }
         tokens.delimiter(b"=>")?;
         self.statements.spell_as(SequenceRole::Statements, tokens)
-    }
-}
-
-/// What stands behind the `do` of an accept statement (9.5.2).
-fn spell_accept_body<Q: SpellSequence>(
-    tokens: &mut Tokens,
-    entry: &Identifier,
-    body: &Option<AcceptBody<Q>>,
-) -> Result<(), NoMemory>
-    ensures { OnOk result
-        (tokens.new
-        ≡ tokens.old ++ map spelt (optional (accept_body_written Q.written entry.now) body.now)) }
-{
-    match body {
-        None => Ok(()),
-        Some(body) => {
-            spell_sequence_after(tokens, b"do", SequenceRole::Handled, &body.sequence)?;
-            tokens.word(b"end")?;
-            spell_end_name(tokens, body.named_at_end, entry)
-        }
     }
 }
 
@@ -465,7 +394,11 @@ impl<Q: SpellSequence> Spell for Accept<Q> {
     fn spell(&self, tokens: &mut Tokens) -> Result<(), NoMemory> {
         spell_after(tokens, Kind::Word, b"accept", &self.entry)?;
         spell_bracketed(tokens, b";", self.parameters.as_slice())?;
-        spell_accept_body(tokens, &self.entry, &self.body)?;
+        if let Some(body) = &self.body {
+            spell_sequence_after(tokens, b"do", SequenceRole::Handled, &body.sequence)?;
+            tokens.word(b"end")?;
+            spell_flag(tokens, body.named_at_end, self.entry.text.as_slice())?;
+        }
         tokens.delimiter(b";")
     }
 }

@@ -1,9 +1,7 @@
 //! How sequences, library units and a source are spelt (ISO/IEC 8652:2012, 11.2, 3.11, 2.8, clause 7, 10.1).
-ghost use Rattle.std.specs.Prelude.{◌≡◌, ◌++◌, ◌∷◌, map, codes, OnOk, IfOk};
-ghost use Rattle.ada_tree.specs.Written.{word, each_written, optional};
-ghost use Rattle.ada_tree.specs.SpellingStatements.{handler_written};
+ghost use Rattle.std.specs.Prelude.{◌≡◌, ◌++◌, map, OnOk, IfOk};
 ghost use Rattle.ada_spelling.specs.Spelt.{spelt};
-ghost use Rattle.ada_tree.specs.Spelling.{handlers_written, handled_written, clause_text, package_statements_written, unit_written};
+ghost use Rattle.ada_tree.specs.Spelling.{handlers_written, handled_written, unit_written};
 
 use crate::spelling::{
     Spell, Spelt, Tokens, spell_after, spell_between, spell_each, spell_led, spell_separated,
@@ -18,34 +16,19 @@ use ada_tree::{
 use ann_base::NoMemory;
 use std::alloc::Global;
 
-/// The tokens that spell the tree, in order.
+/// The tokens that spell the tree of a source, in order (10.1).
 pub fn spell(alloc: Global, tree: &Unit) -> Result<Vec<Spelt>, NoMemory>
     ensures { IfOk result (λ v. v.items ≡ map spelt (unit_written tree.now)) }
 {
     let mut tokens = Tokens::new(alloc);
-    tree.spell(&mut tokens)?;
+    tree.pragmas.spell(&mut tokens)?;
+    tree.packages.spell(&mut tokens)?;
+    tree.context.spell(&mut tokens)?;
+    tree.main.spell(&mut tokens)?;
     Ok(tokens.into_vec())
 }
 
-/// `exception` and the handlers (11.2).
-fn spell_exception_part<Q: SpellSequence>(
-    tokens: &mut Tokens,
-    first: &Handler<Q>,
-    others: &[Handler<Q>],
-) -> Result<(), NoMemory>
-    ensures { OnOk result
-        (tokens.new
-        ≡ tokens.old
-        ++ map spelt
-        (word (codes "exception")
-        ∷ (handler_written Q.written first.now
-        ++ each_written (handler_written Q.written) others.now))) }
-{
-    tokens.word(b"exception")?;
-    first.spell(tokens)?;
-    spell_each(tokens, others)
-}
-
+/// `exception` and the handlers; nothing where there are none (11.2).
 fn spell_handlers<Q: SpellSequence>(
     tokens: &mut Tokens,
     handlers: &[Handler<Q>],
@@ -55,7 +38,10 @@ fn spell_handlers<Q: SpellSequence>(
 {
     match handlers {
         [] => Ok(()),
-        [first, others @ ..] => spell_exception_part(tokens, first, others),
+        [first, others @ ..] => {
+            spell_after(tokens, Kind::Word, b"exception", first)?;
+            spell_each(tokens, others)
+        }
     }
 }
 
@@ -115,12 +101,6 @@ impl Spell for Pragma {
     }
 }
 
-fn clause_text(is_use: bool) -> &'static [u8]
-    ensures { result.now ≡ clause_text is_use }
-{
-    if is_use { b"use" } else { b"with" }
-}
-
 /// A clause of a context (10.1.2, 8.4).
 impl Spell for ContextClause {
     ghost use Rattle.ada_tree.specs.Spelling.{clause_written};
@@ -128,7 +108,7 @@ impl Spell for ContextClause {
     ghost written = { clause_written };
 
     fn spell(&self, tokens: &mut Tokens) -> Result<(), NoMemory> {
-        tokens.word(clause_text(self.is_use))?;
+        tokens.word(if self.is_use { b"use" } else { b"with" })?;
         spell_separated(tokens, b",", &self.names)?;
         tokens.delimiter(b";")
     }
@@ -148,22 +128,6 @@ impl Spell for PackageDeclaration {
     }
 }
 
-/// `begin` and the statements of a package's body, where they stand there (7.2).
-fn spell_package_statements(
-    tokens: &mut Tokens,
-    sequence: &Option<Sequence>,
-) -> Result<(), NoMemory>
-    ensures { OnOk result
-        (tokens.new ≡ tokens.old ++ map spelt (optional package_statements_written sequence.now)) }
-{
-    match sequence {
-        None => Ok(()),
-        Some(sequence) => {
-            spell_sequence_after(tokens, b"begin", SequenceRole::Handled, sequence)
-        }
-    }
-}
-
 /// A package's body (7.2).
 impl Spell for PackageBody {
     ghost use Rattle.ada_tree.specs.Spelling.{package_body_written};
@@ -174,21 +138,10 @@ impl Spell for PackageBody {
         tokens.word(b"package")?;
         spell_between(tokens, b"body", &self.name, b"is")?;
         self.declarations.spell(tokens)?;
-        spell_package_statements(tokens, &self.sequence)?;
-        spell_named_end(tokens, self.named_at_end, &self.name)
-    }
-}
-
-impl Spell for Package {
-    ghost use Rattle.ada_tree.specs.Spelling.{package_written};
-
-    ghost written = { package_written };
-
-    fn spell(&self, tokens: &mut Tokens) -> Result<(), NoMemory> {
-        match self {
-            Package::Declaration(declaration) => declaration.spell(tokens),
-            Package::Body(body) => body.spell(tokens),
+        if let Some(sequence) = &self.sequence {
+            spell_sequence_after(tokens, b"begin", SequenceRole::Handled, sequence)?;
         }
+        spell_named_end(tokens, self.named_at_end, &self.name)
     }
 }
 
@@ -200,7 +153,10 @@ impl Spell for LibraryPackage {
 
     fn spell(&self, tokens: &mut Tokens) -> Result<(), NoMemory> {
         self.context.spell(tokens)?;
-        self.package.spell(tokens)
+        match &self.package {
+            Package::Declaration(declaration) => declaration.spell(tokens),
+            Package::Body(body) => body.spell(tokens),
+        }
     }
 }
 
@@ -214,19 +170,5 @@ impl Spell for MainProcedure {
         tokens.word(b"procedure")?;
         spell_name_and_aspects(tokens, &self.name, self.aspects.as_slice())?;
         spell_body(tokens, &self.name, &self.body)
-    }
-}
-
-/// A source (10.1).
-impl Spell for Unit {
-    ghost use Rattle.ada_tree.specs.Spelling.{unit_written};
-
-    ghost written = { unit_written };
-
-    fn spell(&self, tokens: &mut Tokens) -> Result<(), NoMemory> {
-        self.pragmas.spell(tokens)?;
-        self.packages.spell(tokens)?;
-        self.context.spell(tokens)?;
-        self.main.spell(tokens)
     }
 }

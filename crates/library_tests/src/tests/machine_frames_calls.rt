@@ -12,7 +12,6 @@ use profile_machine::{
     StatementNo,
 };
 use std::alloc::Global;
-use std::test::Fail;
 use trace_text::Who;
 use world_tables::List;
 
@@ -84,18 +83,20 @@ fn empty_world(alloc: Global) -> World {
 }
 
 #[test]
-fn constructs_of_a_task(rt: HostRuntime) -> Result<(), Fail> {
+fn constructs_of_a_task(rt: HostRuntime) {
     let alloc = rt.alloc();
     let name = Who::Task(TaskNo(0));
     let mut statements = Sequence::new(alloc);
-    statements.push(Statement {
-        form: StatementForm::Handled {
-            handlers: Sequence::new(alloc),
-            first: StatementNo(1),
-        },
-        signs: 0,
-        next: Some(StatementNo(2)),
-    })?;
+    statements
+        .push(Statement {
+            form: StatementForm::Handled {
+                handlers: Sequence::new(alloc),
+                first: StatementNo(1),
+            },
+            signs: 0,
+            next: Some(StatementNo(2)),
+        })
+        .expect(&rt, "memory");
     let p = program_of(alloc, statements);
     let mut effect = Effect {
         world: empty_world(alloc),
@@ -104,21 +105,26 @@ fn constructs_of_a_task(rt: HostRuntime) -> Result<(), Fail> {
     effect
         .world
         .tasks
-        .push_back(new_task(alloc, name, 15, State::Runnable))?;
+        .push_back(new_task(alloc, name, 15, State::Runnable))
+        .expect(&rt, "memory");
     push(
         &mut effect.world,
         name,
         new_frame(Mark::InFinalize(7), Some(StatementNo(0))),
-    )?;
-    open_if_ready(&p, &mut effect, name)?;
-    assert_eq!(rt; frame_count(&effect.world, name), 2);
+    )
+    .expect(&rt, "memory");
+    open_if_ready(&p, &mut effect, name).expect(&rt, "memory");
+    assert!(rt; frame_count(&effect.world, name) == 2);
     assert!(rt; onward_of(&effect.world, name) == Some(StatementNo(1)));
-    assert!(rt; has_room(&effect.world, name, 998, 65_536));
-    assert!(rt; !has_room(&effect.world, name, 999, 0));
-    assert!(rt; !has_room(&effect.world, name, 0, 65_537));
+    let have_room = [
+        has_room(&effect.world, name, 998, 65_536),
+        has_room(&effect.world, name, 999, 0),
+        has_room(&effect.world, name, 0, 65_537),
+    ];
+    assert!(rt; have_room == [true, false, false]);
     assert!(rt; is_deferred(&effect.world, name) && !in_protected(&effect.world, name));
-    raises(&mut effect, Part::Own, name, Raised::Storage)?;
-    assert_eq!(rt; effect.said.len(), 1);
+    raises(&mut effect, Part::Own, name, Raised::Storage).expect(&rt, "memory");
+    assert!(rt; effect.said.len() == 1);
     assert!(rt; onward_of(&effect.world, name) == None);
     assert!(rt;
         top_of(&effect.world, name).map(|frame| frame.left_as)
@@ -134,5 +140,4 @@ fn constructs_of_a_task(rt: HostRuntime) -> Result<(), Fail> {
     assert!(rt; !may_run(&effect.world, name) && waiting_of(&effect.world, name).is_some());
     assert!(rt; task_at(&effect.world, Who::Task(TaskNo(1))).is_none());
     assert!(rt; number_of(name) == Some(TaskNo(0)));
-    Ok(())
 }

@@ -3,7 +3,6 @@ use ann_base::Raised;
 use machine_operators::{binary_value, text_of_whole, unary_value};
 use machine_program::initial_cells;
 use profile_machine::{BinaryOperator, CellRun, Scope, Sequence, UnaryOperator, Value};
-use std::test::Fail;
 
 // ISO/IEC 8652:2012, 4.5.5 has the signs; the last rows are at the ends of Integer.
 #[test]
@@ -38,44 +37,58 @@ fn operators_of_integers(rt: HostRuntime) {
 #[test]
 fn other_operators(rt: HostRuntime) {
     let last = Value::Ticks(4_611_686_018_427_387_903);
-    assert!(rt;
-        binary_value(BinaryOperator::Plus, last, Value::Ticks(1)) == Err(Raised::Constraint)
-    );
-    assert!(rt;
-        binary_value(BinaryOperator::Times, Value::Whole(-3), Value::Ticks(20))
-            == Ok(Value::Ticks(-60))
-    );
-    assert!(rt;
-        binary_value(BinaryOperator::Xor, Value::Truth(true), Value::Truth(true))
-            == Ok(Value::Truth(false))
-    );
+    let table = [
+        (BinaryOperator::Plus, last, Value::Ticks(1), None),
+        (
+            BinaryOperator::Times,
+            Value::Whole(-3),
+            Value::Ticks(20),
+            Some(Value::Ticks(-60)),
+        ),
+        (
+            BinaryOperator::Xor,
+            Value::Truth(true),
+            Value::Truth(true),
+            Some(Value::Truth(false)),
+        ),
+    ];
+    for (operator, left, right, wanted) in table {
+        assert!(rt; binary_value(operator, left, right) == wanted.ok_or(Raised::Constraint));
+    }
     assert!(rt;
         unary_value(UnaryOperator::Abs, Value::Whole(-2_147_483_648)) == Err(Raised::Constraint)
     );
 }
 
 #[test]
-fn image_of_an_integer(rt: HostRuntime) -> Result<(), Fail> {
+fn image_of_an_integer(rt: HostRuntime) {
     let alloc = rt.alloc();
-    assert!(rt; text_of_whole(alloc, Value::Whole(-40))?.as_slice() == b"-40".as_slice());
-    assert!(rt; text_of_whole(alloc, Value::Whole(7))?.as_slice() == b" 7".as_slice());
-    Ok(())
+    for (number, text) in [(-40, b"-40".as_slice()), (7, b" 7")] {
+        assert!(rt;
+            text_of_whole(alloc, Value::Whole(number))
+                .expect(&rt, "memory")
+                .as_slice()
+                == text
+        );
+    }
 }
 
 #[test]
-fn cells_of_a_scope(rt: HostRuntime) -> Result<(), Fail> {
+fn cells_of_a_scope(rt: HostRuntime) {
     let alloc = rt.alloc();
     let mut runs = Sequence::new(alloc);
     runs.push(CellRun {
         place: 1,
         count: 5,
         value: Value::Truth(false),
-    })?;
+    })
+    .expect(&rt, "memory");
     runs.push(CellRun {
         place: 2,
         count: 1,
         value: Value::Whole(1),
-    })?;
+    })
+    .expect(&rt, "memory");
     let scope = Scope {
         outer: None,
         size: 4,
@@ -83,7 +96,7 @@ fn cells_of_a_scope(rt: HostRuntime) -> Result<(), Fail> {
         kept: false,
         first: None,
     };
-    let cells = initial_cells(alloc, &scope)?;
+    let cells = initial_cells(alloc, &scope).expect(&rt, "memory");
     assert!(rt;
         cells.as_slice()
             == [
@@ -94,5 +107,4 @@ fn cells_of_a_scope(rt: HostRuntime) -> Result<(), Fail> {
             ]
             .as_slice()
     );
-    Ok(())
 }

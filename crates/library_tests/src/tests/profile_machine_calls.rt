@@ -2,24 +2,26 @@
 use profile_machine::{
     Actual, Actuals, ExprNo, SelectAlternative, SelectAlternatives, SelectKind, Sequence,
 };
-use std::alloc::AllocError;
 
 #[test]
-fn lists_take_what_is_pushed(rt: HostRuntime) -> Result<(), AllocError> {
+fn lists_take_what_is_pushed(rt: HostRuntime) {
     let alloc = rt.alloc();
     let mut sequence = Sequence::new(alloc);
     let mut actuals = Actuals::new(alloc);
     let mut alternatives = SelectAlternatives::new(alloc);
     for number in 0..6 {
-        sequence.push(number)?;
-        actuals.push(Actual::In(ExprNo(number)))?;
-        alternatives.push(SelectAlternative {
-            guard: Some(ExprNo(number)),
-            kind: SelectKind::Terminate,
-        })?;
+        sequence.push(number).expect(&rt, "memory");
+        actuals
+            .push(Actual::In(ExprNo(number)))
+            .expect(&rt, "memory");
+        alternatives
+            .push(SelectAlternative {
+                guard: Some(ExprNo(number)),
+                kind: SelectKind::Terminate,
+            })
+            .expect(&rt, "memory");
     }
-    assert_eq!(rt; sequence.as_slice().last().copied(), Some(5));
+    assert!(rt; sequence.as_slice().last() == Some(&5));
     assert!(rt; matches!(actuals.as_slice().last(), Some(Actual::In(ExprNo(5)))));
     assert!(rt; alternatives.as_slice().len() == 6);
-    Ok(())
 }

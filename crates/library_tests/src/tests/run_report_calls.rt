@@ -1,8 +1,6 @@
 //! Reports of worked traces.
 use ann_base::OrMemory;
 use run_report::{Account, Report, accounts_tell};
-use std::alloc::Global;
-use std::test::Fail;
 use trace_lines::Malformed;
 use trace_reading::read_line;
 
@@ -26,16 +24,6 @@ const LOWER: [&str; 17] = [
     "12 t1 done\n",
 ];
 
-/// The report of these lines.
-fn report(alloc: Global, lines: &[&str]) -> Result<Report, Fail> {
-    let mut report = Report::new(alloc);
-    for line in lines {
-        let (tick, event) = read_line(line.as_bytes()).ok().ok_or("bad line")?;
-        report.line(tick, &event).ok().ok_or("not taken")?;
-    }
-    Ok(report)
-}
-
 /// The figures of an account, in order.
 fn figures(account: &Account) -> [u64; 7] {
     [
@@ -50,29 +38,25 @@ fn figures(account: &Account) -> [u64; 7] {
 }
 
 #[test]
-fn a_report_tells_of_each_task(rt: HostRuntime) -> Result<(), Fail> {
-    let report = report(rt.alloc(), &LOWER)?;
-    assert_eq!(rt; report.len(), 2);
+fn a_report_tells_of_each_task(rt: HostRuntime) {
+    let mut report = Report::new(rt.alloc());
+    for line in LOWER {
+        let (tick, event) = read_line(line.as_bytes()).expect(&rt, "a line");
+        report.line(tick, &event).expect(&rt, "taken");
+    }
     let accounts: [(u32, &[u8], [u64; 7]); 2] = [
         (0, b"main", [2, 5, 8, 5, 0, 3, 3]),
         (1, b"main.t", [1, 9, 9, 7, 1, 0, 0]),
     ];
     for (place, name, wanted) in accounts {
-        let account = report.account(place).ok_or("no account")?;
-        assert_eq!(rt; account.name.as_bytes(), name);
-        assert_eq!(rt; figures(&account), wanted);
+        let account = report.account(place).expect(&rt, "an account");
+        assert!(rt; account.name.as_bytes() == name && figures(&account) == wanted);
     }
     let all = [report.agent_run(), report.idle(), report.ticks()];
-    assert_eq!(rt; all, [0, 0, 12]);
+    assert!(rt; (report.len(), all) == (2, [0, 0, 12]));
     accounts_tell();
-    Ok(())
-}
-
-#[test]
-fn a_line_that_is_not_formed_is_not_taken(rt: HostRuntime) -> Result<(), Fail> {
-    let mut report = report(rt.alloc(), &LOWER)?;
-    let (tick, event) = read_line(b"12 t0 new main 15\n").ok().ok_or("bad line")?;
-    assert_eq!(rt; report.line(tick, &event), Err(OrMemory::Fault(Malformed)));
-    assert_eq!(rt; report.len(), 2);
-    Ok(())
+    // a line that is not formed is not taken
+    let (tick, event) = read_line(b"12 t0 new main 15\n").expect(&rt, "a line");
+    assert!(rt; report.line(tick, &event) == Err(OrMemory::Fault(Malformed)));
+    assert!(rt; report.len() == 2);
 }

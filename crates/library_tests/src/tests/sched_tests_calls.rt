@@ -2,7 +2,6 @@
 use ann_base::OrMemory;
 use sched_tests::{Table, busy, first_over, read_table, response};
 use std::alloc::Global;
-use std::test::Fail;
 
 /// Response times: `a` 3, `b` 6 and `c` 20.
 const THREE: &[u8] = b"a 3 7 7 0 3\nb 3 12 12 0 2\nc 5 20 20 0 1\n";
@@ -15,10 +14,6 @@ const FULL: &[u8] = b"a 2 4 4 0 1\nb 3 6 6 0 1\n";
 
 /// The same where too much is due in four ticks.
 const OVERRUN: &[u8] = b"a 2 4 4 0 1\nb 3 6 4 0 1\n";
-
-fn read(alloc: Global, text: &[u8]) -> Result<Table, Fail> {
-    Ok(read_table(alloc, text).ok().ok_or("no table")?)
-}
 
 /// The response time of the duty at this place; 0 where it misses.
 fn time_of(table: &Table, place: u32) -> u32 {
@@ -37,40 +32,33 @@ fn fault_of(alloc: Global, text: &[u8]) -> Option<(u32, u8)> {
 }
 
 #[test]
-fn worked_response_times(rt: HostRuntime) -> Result<(), Fail> {
-    let table = read(rt.alloc(), THREE)?;
-    assert_eq!(rt; table.len(), 3);
-    assert_eq!(rt; time_of(&table, 0), 3);
-    assert_eq!(rt; time_of(&table, 1), 6);
-    assert_eq!(rt; time_of(&table, 2), 20);
-    let missed = read(rt.alloc(), MISSED)?;
-    assert_eq!(rt; time_of(&missed, 1), 6);
-    assert_eq!(rt; time_of(&missed, 2), 0);
-    Ok(())
-}
-
-#[test]
-fn worked_demands(rt: HostRuntime) -> Result<(), Fail> {
-    let full = read(rt.alloc(), FULL)?;
-    assert_eq!(rt; first_over(&full), None);
-    assert_eq!(rt; busy(&full), Some(12));
-    let overrun = read(rt.alloc(), OVERRUN)?;
-    assert_eq!(rt; first_over(&overrun), Some((4, 5)));
-    Ok(())
-}
-
-#[test]
-fn the_words_of_a_line(rt: HostRuntime) -> Result<(), Fail> {
-    let table = read(rt.alloc(), MISSED)?;
-    let last = table.duty(2).ok_or("no third duty")?;
+fn worked_response_times(rt: HostRuntime) {
+    let table = read_table(rt.alloc(), THREE).expect(&rt, "a table");
+    let missed = read_table(rt.alloc(), MISSED).expect(&rt, "a table");
+    assert!(rt; table.len() == 3);
+    let times = [
+        time_of(&table, 0),
+        time_of(&table, 1),
+        time_of(&table, 2),
+        time_of(&missed, 1),
+        time_of(&missed, 2),
+    ];
+    assert!(rt; times == [3, 6, 20, 6, 0]);
+    // the words of the last line
+    let last = missed.duty(2).expect(&rt, "a third duty");
     assert!(rt; last.name.as_bytes() == b"c".as_slice());
-    assert_eq!(rt; (last.cost, last.period, last.deadline), (5, 20, 19));
-    assert_eq!(rt; (last.blocking, last.priority), (0, 1));
-    assert!(rt; table.duty(3).is_none());
-    Ok(())
+    let numbers = (last.cost, last.period, last.deadline, last.blocking);
+    assert!(rt; (numbers, last.priority) == ((5, 20, 19, 0), 1));
+    assert!(rt; missed.duty(3).is_none());
 }
 
 #[test]
-fn a_table_without_a_duty(rt: HostRuntime) {
-    assert_eq!(rt; fault_of(rt.alloc(), b"-- a comment\n"), Some((0, 5)));
+fn worked_demands(rt: HostRuntime) {
+    let full = read_table(rt.alloc(), FULL).expect(&rt, "a table");
+    let overrun = read_table(rt.alloc(), OVERRUN).expect(&rt, "a table");
+    assert!(rt; first_over(&full) == None);
+    assert!(rt; busy(&full) == Some(12));
+    assert!(rt; first_over(&overrun) == Some((4, 5)));
+    // a table without a duty
+    assert!(rt; fault_of(rt.alloc(), b"-- a comment\n") == Some((0, 5)));
 }

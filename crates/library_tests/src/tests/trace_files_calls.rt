@@ -1,7 +1,6 @@
 //! Traces in files: worked ones, and others with a text that is no line.
 use super::shelves::shelf;
 use ann_base::{Failed, OrMemory};
-use std::test::Fail;
 use trace_files::judge_file;
 use trace_laws::{Law, Verdict};
 
@@ -14,27 +13,24 @@ const NEW_TWICE: &str = "0 t0 new main 15\n0 t0 new main 15\n";
 const NO_FEED: &str = "0 t0 new main 15\n0 t0 ready 15 tail";
 
 #[test]
-fn traces_have_their_verdicts(rt: HostRuntime) -> Result<(), Fail> {
-    for (trace, verdict) in [
-        ("", Verdict::Lawful(0)),
-        (LAWFUL, Verdict::Lawful(5)),
-        (WRONG_RUNNER, Verdict::Broken(3, Law::Dispatch)),
-        (NEW_TWICE, Verdict::Refused(2)),
-        (NO_FEED, Verdict::Refused(2)),
-    ] {
-        let mut shelf = shelf(rt.alloc(), b"trace", trace.as_bytes(), 7, &[])?;
-        let judged = judge_file(rt.alloc(), &mut shelf, b"trace");
-        assert!(rt; judged == Ok(verdict), "{trace}");
+fn traces_have_their_verdicts(rt: HostRuntime) {
+    // with the call of the shelf that fails, if one does
+    let rows = [
+        ("", 0, Ok(Verdict::Lawful(0))),
+        (LAWFUL, 0, Ok(Verdict::Lawful(5))),
+        (WRONG_RUNNER, 0, Ok(Verdict::Broken(3, Law::Dispatch))),
+        (NEW_TWICE, 0, Ok(Verdict::Refused(2))),
+        (NO_FEED, 0, Ok(Verdict::Refused(2))),
+        (LAWFUL, 1, Err(OrMemory::Fault(Failed))),
+        (LAWFUL, 3, Err(OrMemory::Fault(Failed))),
+    ];
+    for (trace, fails, wanted) in rows {
+        let mut shelf = shelf(rt.alloc(), b"trace", trace.as_bytes(), 7, &[fails]).expect(
+            &rt, "memory",
+        );
+        assert!(rt;
+            judge_file(rt.alloc(), &mut shelf, b"trace") == wanted,
+            "{trace}"
+        );
     }
-    Ok(())
-}
-
-#[test]
-fn a_fault_of_the_shelf_is_told(rt: HostRuntime) -> Result<(), Fail> {
-    for fails in [[1], [3]] {
-        let mut shelf = shelf(rt.alloc(), b"trace", LAWFUL.as_bytes(), 7, &fails)?;
-        let judged = judge_file(rt.alloc(), &mut shelf, b"trace");
-        assert!(rt; judged == Err(OrMemory::Fault(Failed)));
-    }
-    Ok(())
 }

@@ -1,70 +1,53 @@
 //! A few lines, taken one after the other.
-use ann_base::{Name, ObjectNo, OrMemory, TaskNo};
-use std::test::Fail;
+use ann_base::{ObjectNo, OrMemory, TaskNo};
 use trace_lines::{Lines, Malformed, facts_tell};
-use trace_text::{Created, Event, Mode, QueueEnd, Who};
+use trace_reading::read_line;
+use trace_text::{Event, Who};
+
+const TASK: TaskNo = TaskNo(0);
+
+const WHO: Who = Who::Task(TASK);
+
+const TAKEN: Result<(), OrMemory<Malformed>> = Ok(());
+
+const MALFORMED: Result<(), OrMemory<Malformed>> = Err(OrMemory::Fault(Malformed));
+
+/// Lines, with what is answered of each and who runs then.
+const ROWS: [(&str, Result<(), OrMemory<Malformed>>, Option<Who>); 9] = [
+    ("0 t0 new main 15\n", TAKEN, None),
+    // new twice
+    ("0 t0 new main 15\n", MALFORMED, None),
+    ("1 p1 new main.p 20\n", TAKEN, None),
+    // not ready
+    ("2 t0 enter p1 write\n", MALFORMED, None),
+    ("2 t0 ready 16 tail -5\n", TAKEN, None),
+    ("2 t0 enter p1 write\n", TAKEN, None),
+    // the tick falls, and is too late
+    ("1 idle\n", MALFORMED, None),
+    ("1000000001 idle\n", MALFORMED, None),
+    ("3 t0 run\n", TAKEN, Some(WHO)),
+];
 
 #[test]
-fn facts_follow_lines(rt: HostRuntime) -> Result<(), Fail> {
+fn facts_follow_lines(rt: HostRuntime) {
     let mut lines = Lines::new(rt.alloc());
-    let task = TaskNo(0);
-    let who = Who::Task(task);
-    let object = ObjectNo(1);
     facts_tell();
-    let new = Event::New {
-        what: Created::Task(task),
-        name: Name::from_bytes(b"main"),
-        level: 15,
-    };
-    assert!(rt; matches!(lines.take(0, &new), Ok(())));
-    assert!(rt;
-        matches!(lines.take(0, &new), Err(OrMemory::Fault(Malformed))),
-        "new twice"
-    );
-    let ceiling = Event::New {
-        what: Created::Object(object),
-        name: Name::from_bytes(b"main.p"),
-        level: 20,
-    };
-    let enter = Event::Enter {
-        who,
-        object,
-        mode: Mode::Write,
-    };
-    assert!(rt; matches!(lines.take(1, &ceiling), Ok(())));
-    assert!(rt;
-        matches!(lines.take(2, &enter), Err(OrMemory::Fault(Malformed))),
-        "not ready"
-    );
-    let ready = Event::Ready {
-        who,
-        level: 16,
-        end: QueueEnd::Tail,
-        deadline: Some(-5),
-    };
-    assert!(rt; matches!(lines.take(2, &ready), Ok(())));
-    assert!(rt; matches!(lines.take(2, &enter), Ok(())));
-    assert!(rt;
-        matches!(lines.take(1, &Event::Idle), Err(OrMemory::Fault(Malformed))),
-        "falls"
-    );
-    assert!(rt;
-        matches!(
-            lines.take(1_000_000_001, &Event::Idle),
-            Err(OrMemory::Fault(Malformed))
-        )
-    );
-    assert!(rt; lines.runner() == None);
-    assert!(rt; matches!(lines.take(3, &Event::Run { who }), Ok(())));
-    assert!(rt; lines.runner() == Some(who));
-    assert!(rt; lines.head() == Some(who));
-    assert_eq!(rt; lines.level(who), Some(16));
-    assert_eq!(rt; lines.deadline(who), Some(-5));
-    assert_eq!(rt; lines.base(task), Some(15));
-    assert_eq!(rt; lines.ceiling(object), Some(20));
-    assert_eq!(rt; lines.last(), 3);
-    assert!(rt; matches!(lines.take(3, &Event::Done { task }), Ok(())));
-    assert!(rt; lines.head() == None);
-    assert!(rt; lines.entry(who).is_none());
-    Ok(())
+    for (line, answer, runner) in ROWS {
+        let (tick, event) = read_line(line.as_bytes()).expect(&rt, "a line");
+        assert!(rt;
+            lines.take(tick, &event) == answer && lines.runner() == runner,
+            "{line}"
+        );
+    }
+    assert!(rt; lines.head() == Some(WHO));
+    let levels = [
+        lines.level(WHO),
+        lines.base(TASK),
+        lines.ceiling(ObjectNo(1)),
+    ];
+    assert!(rt; levels == [Some(16), Some(15), Some(20)]);
+    assert!(rt; lines.deadline(WHO) == Some(-5));
+    assert!(rt; lines.last() == 3);
+    assert!(rt; lines.take(3, &Event::Done { task: TASK }) == TAKEN);
+    assert!(rt; lines.head() == None && lines.entry(WHO).is_none());
 }

@@ -1,6 +1,5 @@
 //! Lines of worked traces, read and written again, and lines that are none.
 use line_writing::{LineBuffer, write_line};
-use std::test::Fail;
 use trace_reading::{long_texts_are_bad, read_line, texts_differ};
 
 const LINES: [&str; 6] = [
@@ -15,17 +14,16 @@ const LINES: [&str; 6] = [
 const BAD: [&str; 3] = ["0 t0 run", "01 t0 run\n", "0 t0 raise ok\n"];
 
 #[test]
-fn lines_are_read_and_written(rt: HostRuntime) -> Result<(), Fail> {
-    let mut buffer = LineBuffer::new(rt.alloc())?;
+fn lines_are_read_and_written(rt: HostRuntime) {
+    let mut buffer = LineBuffer::new(rt.alloc()).expect(&rt, "memory");
     for line in LINES {
-        let (tick, event) = read_line(line.as_bytes())?;
+        let (tick, event) = read_line(line.as_bytes()).expect(&rt, "a line");
         buffer.clear();
         write_line(tick, &event, &mut buffer);
-        assert_eq!(rt; buffer.bytes(), line.as_bytes(), "{line}");
+        assert!(rt; buffer.bytes() == line.as_bytes(), "{line}");
     }
     texts_differ();
     long_texts_are_bad();
-    Ok(())
 }
 
 #[test]

@@ -7,11 +7,6 @@ use std::alloc::Global;
 use std::process::Abort;
 use std::test::Fail;
 
-// Who is the head of a level, by number.
-fn head<L: LevelPolicy>(level: &L) -> Option<u16> {
-    level.head().map(|t| t.0)
-}
-
 // Each call once: what two ticks of the one task that is there answer, and its key then.
 fn two_ticks<L: LevelPolicy>(
     rt: &impl Abort,
@@ -19,16 +14,17 @@ fn two_ticks<L: LevelPolicy>(
     key: L::Key,
 ) -> Result<(bool, bool, L::Key), Fail> {
     let mut level = L::with_room(alloc)?;
-    assert_eq!(rt; head(&level), None);
+    let before = level.head();
     level.put_tail(Slot(256), key);
-    assert_eq!(rt; head(&level), Some(256));
+    let at_tail = level.head();
     let first = level.spend(Slot(256), false);
     let second = level.spend(Slot(256), false);
     let left = level.key(Slot(256));
     level.remove(Slot(256));
-    assert_eq!(rt; head(&level), None);
+    let removed = level.head();
     level.put_head(Slot(3), key);
-    assert_eq!(rt; head(&level), Some(3));
+    let heads = [before, at_tail, removed, level.head()];
+    assert!(rt; heads == [None, Some(Slot(256)), None, Some(Slot(3))]);
     Ok((first, second, left))
 }
 
@@ -42,18 +38,9 @@ fn each_policy_through_its_bound(rt: HostRuntime) -> Result<(), Fail> {
         quantum: 0,
         deadline: 500,
     };
-    assert_eq!(rt;
-        two_ticks::<FifoLevel>(&rt, rt.alloc(), ())?,
-        (false, false, ())
-    );
-    assert_eq!(rt;
-        two_ticks::<RobinLevel>(&rt, rt.alloc(), 2)?,
-        (false, true, 0)
-    );
-    assert_eq!(rt;
-        two_ticks::<EdfLevel>(&rt, rt.alloc(), -500)?,
-        (false, false, -500)
-    );
+    assert!(rt; two_ticks::<FifoLevel>(&rt, rt.alloc(), ())? == (false, false, ()));
+    assert!(rt; two_ticks::<RobinLevel>(&rt, rt.alloc(), 2)? == (false, true, 0));
+    assert!(rt; two_ticks::<EdfLevel>(&rt, rt.alloc(), -500)? == (false, false, -500));
     assert!(rt; two_ticks::<AnyLevel>(&rt, rt.alloc(), key)? == (false, false, spent));
     Ok(())
 }
@@ -63,9 +50,12 @@ fn each_policy_through_its_bound(rt: HostRuntime) -> Result<(), Fail> {
 fn a_quantum_is_spent(rt: HostRuntime) -> Result<(), Fail> {
     let mut level = RobinLevel::with_room(rt.alloc())?;
     level.put_tail(Slot(1), 2);
-    assert_eq!(rt; level.spend(Slot(1), false), false);
-    assert_eq!(rt; level.spend(Slot(1), true), false);
-    assert_eq!(rt; level.spend(Slot(1), false), true);
+    let spent = [
+        level.spend(Slot(1), false),
+        level.spend(Slot(1), true),
+        level.spend(Slot(1), false),
+    ];
+    assert!(rt; spent == [false, false, true]);
     Ok(())
 }
 
@@ -75,10 +65,14 @@ fn deadlines_order_a_level(rt: HostRuntime) -> Result<(), Fail> {
         let mut level = EdfLevel::with_room(rt.alloc())?;
         level.put_tail(Slot(1), 500);
         level.put_tail(Slot(2), deadline);
-        assert_eq!(rt; head(&level), Some(at_tail), "tail {deadline}");
+        let behind = level.head();
         level.remove(Slot(2));
         level.put_head(Slot(2), deadline);
-        assert_eq!(rt; head(&level), Some(at_head), "head {deadline}");
+        let heads = [behind, level.head()];
+        assert!(rt;
+            heads == [Some(Slot(at_tail)), Some(Slot(at_head))],
+            "at {deadline}"
+        );
     }
     let kinds = [
         (LevelKind::Fifo, 1, false),
@@ -101,8 +95,8 @@ fn deadlines_order_a_level(rt: HostRuntime) -> Result<(), Fail> {
                 deadline: 300,
             },
         );
-        assert_eq!(rt; head(&level), Some(first));
-        assert_eq!(rt; level.spend(Slot(1), false), spent);
+        let answers = (level.head(), level.spend(Slot(1), false));
+        assert!(rt; answers == (Some(Slot(first)), spent));
     }
     Ok(())
 }
@@ -111,10 +105,16 @@ fn deadlines_order_a_level(rt: HostRuntime) -> Result<(), Fail> {
 fn levels_of_releases(rt: HostRuntime) {
     let inside: [(Level, Moment); 1] = [(14, 500)];
     let ready: [(Level, Moment); 2] = [(10, 700), (14, 500)];
-    let rows = [(18, 300, 14), (14, 300, 10), (18, 600, 10), (18, 500, 10)];
-    for (base, deadline, want) in rows {
-        assert_eq!(rt; edf_level(10, base, 0, deadline, &inside, &ready), want);
+    let rows = [
+        (18, 0, 300, 14),
+        (14, 0, 300, 10),
+        (18, 0, 600, 10),
+        (18, 0, 500, 10),
+        (18, 16, 300, 16),
+    ];
+    for (base, inherited, deadline, want) in rows {
+        let level = edf_level(10, base, inherited, deadline, &inside, &ready);
+        assert!(rt; level == want, "at {base}, {inherited}, {deadline}");
     }
-    assert_eq!(rt; edf_level(10, 18, 16, 300, &inside, &ready), 16);
-    assert_eq!(rt; edf_level(10, 18, 0, 300, &[], &ready), 10);
+    assert!(rt; edf_level(10, 18, 0, 300, &[], &ready) == 10);
 }

@@ -27,24 +27,26 @@ fn run<L: LevelPolicy>(
     key: L::Key,
 ) -> Result<(bool, bool, L::Key), Fail> {
     let mut ready = Ready::with_room(alloc, fresh::<L>(alloc)?)?;
-    assert!(rt; ready.choose().is_none());
+    let nobody = ready.choose();
     ready.release(Slot(1), 15, key);
     ready.release(Slot(2), 15, key);
-    assert_eq!(rt; ready.choose(), Some(Slot(1)));
+    let released = ready.choose();
     ready.raise(Slot(2), 98, key, false);
-    assert_eq!(rt; ready.choose(), Some(Slot(2)));
+    let raised = ready.choose();
     ready.lower(Slot(2), 15, key);
-    assert_eq!(rt; ready.choose(), Some(Slot(2)));
+    let lowered = ready.choose();
     ready.yield_tail(Slot(2), key);
-    assert_eq!(rt; ready.choose(), Some(Slot(1)));
+    let yielded = ready.choose();
     ready.set_base(Slot(1), 14, key);
-    assert_eq!(rt; ready.choose(), Some(Slot(2)));
+    let based = ready.choose();
     let first = ready.spend(Slot(2), false);
     let second = ready.spend(Slot(2), false);
     let left = ready.key(Slot(2));
     ready.block(Slot(2));
     ready.stands_by_order();
-    assert_eq!(rt; ready.choose(), Some(Slot(1)));
+    let [one, two] = [Some(Slot(1)), Some(Slot(2))];
+    assert!(rt; [nobody, released, raised, lowered] == [None, one, two, two]);
+    assert!(rt; [yielded, based, ready.choose()] == [one, two, one]);
     Ok((first, second, left))
 }
 
@@ -58,9 +60,9 @@ fn each_call_over_each_policy(rt: HostRuntime) -> Result<(), Fail> {
         quantum: 0,
         deadline: 500,
     };
-    assert_eq!(rt; run::<FifoLevel>(&rt, rt.alloc(), ())?, (false, false, ()));
-    assert_eq!(rt; run::<RobinLevel>(&rt, rt.alloc(), 2)?, (false, true, 0));
-    assert_eq!(rt; run::<EdfLevel>(&rt, rt.alloc(), 500)?, (false, false, 500));
+    assert!(rt; run::<FifoLevel>(&rt, rt.alloc(), ())? == (false, false, ()));
+    assert!(rt; run::<RobinLevel>(&rt, rt.alloc(), 2)? == (false, true, 0));
+    assert!(rt; run::<EdfLevel>(&rt, rt.alloc(), 500)? == (false, false, 500));
     assert!(rt; run::<AnyLevel>(&rt, rt.alloc(), key)? == (false, false, spent));
     Ok(())
 }

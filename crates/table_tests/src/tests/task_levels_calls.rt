@@ -8,15 +8,22 @@ fn priorities_by_cause(rt: HostRuntime) -> Result<(), Fail> {
     let mut levels = Levels::with_room(rt.alloc())?;
     let t = Slot(256);
     levels.begin(t, 10);
-    assert_eq!(rt; levels.active(t), 10);
-    assert_eq!(rt; levels.greatest_inherited(t), None);
-    assert_eq!(rt; levels.inherit(t, Cause::Activation, 15), true);
-    assert_eq!(rt; levels.inherit(t, Cause::Meeting(CallNo(1)), 12), false);
-    assert_eq!(rt; levels.inherit(t, Cause::Ceiling(ObjectNo(1)), 20), true);
-    assert_eq!(rt; levels.active(t), 20);
-    assert_eq!(rt; levels.lose(t, Cause::Activation), false);
-    assert_eq!(rt; levels.lose(t, Cause::Ceiling(ObjectNo(1))), true);
-    assert_eq!(rt; levels.greatest_inherited(t), Some(12));
+    let begun = (levels.active(t), levels.greatest_inherited(t));
+    let rose = [
+        levels.inherit(t, Cause::Activation, 15),
+        levels.inherit(t, Cause::Meeting(CallNo(1)), 12),
+        levels.inherit(t, Cause::Ceiling(ObjectNo(1)), 20),
+    ];
+    let raised = levels.active(t);
+    let fell = [
+        levels.lose(t, Cause::Activation),
+        levels.lose(t, Cause::Ceiling(ObjectNo(1))),
+    ];
+    assert!(rt; begun == (10, None));
+    assert!(rt; rose == [true, false, true]);
+    assert!(rt; raised == 20);
+    assert!(rt; fell == [false, true]);
+    assert!(rt; levels.greatest_inherited(t) == Some(12));
     Ok(())
 }
 
@@ -26,15 +33,16 @@ fn base_deferred_and_kept(rt: HostRuntime) -> Result<(), Fail> {
     let t = Slot(0);
     levels.begin(t, 10);
     levels.defer_base(t, 7);
-    assert_eq!(rt; levels.base(t), 10);
-    assert_eq!(rt; levels.take_deferred(t), Some(7));
-    assert_eq!(rt; levels.take_deferred(t), None);
-    assert_eq!(rt; levels.base(t), 7);
+    let deferring = levels.base(t);
+    let deferred = [levels.take_deferred(t), levels.take_deferred(t)];
+    let settled = levels.base(t);
     levels.keep(t, Some(3));
-    assert_eq!(rt; levels.active(t), 3);
+    let kept = levels.active(t);
     levels.set_base(t, 9);
     levels.keep(t, None);
-    assert_eq!(rt; levels.active(t), 9);
+    let left = levels.active(t);
     levels.end(t);
+    assert!(rt; deferred == [Some(7), None]);
+    assert!(rt; [deferring, settled, kept, left] == [10, 7, 3, 9]);
     Ok(())
 }

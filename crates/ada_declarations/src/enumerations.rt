@@ -1,9 +1,9 @@
 //! Enumeration types and their literals (ISO/IEC 8652:2012, 3.5.1).
-ghost use Rattle.std.specs.Prelude.{◌≡◌, ◌++◌, ◌∷◌, [], length, map, position, option_copied, slice_get, IfOk, OnOk};
+ghost use Rattle.std.specs.Prelude.{◌≡◌, map, position, IfOk, OnOk};
 ghost use Rattle.std.specs.List.{position_from};
 ghost use Rattle.std.specs.Str.{bytes_eq};
 ghost use Rattle.ada_regions.specs.Words.{all_of};
-ghost use Rattle.ada_regions.specs.Declaring.{text_of, next_enumeration, newest_enumeration, enumeration_subtype, enumeration_declared, newest_literals, position_of_literal, literal_declared};
+ghost use Rattle.ada_regions.specs.Declaring.{text_of, newest_enumeration, enumeration_subtype, enumeration_declared, position_of_literal, literal_declared};
 
 use crate::entering::{entered_here, number};
 use ada_entities::copy;

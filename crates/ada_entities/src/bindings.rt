@@ -1,6 +1,5 @@
 //! What names regions bind (ISO/IEC 8652:2012, 8.1).
 ghost use Rattle.std.specs.Prelude.{◌≡◌, None, OnOk, find, option_copied};
-ghost use Rattle.world_tables.specs.Tables.{item_at};
 ghost use Rattle.ada_regions.specs.Names.{binds, binding_in, bound_among, bound_in};
 
 use ada_regions::Binding;

@@ -1,5 +1,5 @@
 //! Names (ISO/IEC 8652:2012, 4.1).
-ghost use Rattle.std.specs.Prelude.{◌≡◌, length};
+ghost use Rattle.std.specs.Prelude.{length};
 ghost use Rattle.ada_grammar.specs.Reading.{an_identifier, behind_delimiter_of, identifiers_of, items_from, name_of, names_of, sees_delimiter, separated_of};
 ghost use Rattle.ada_grammar.specs.Reads.{Reads};
 

@@ -1,6 +1,5 @@
 //! The delimiters (ISO/IEC 8652:2012, 2.2).
-ghost use Rattle.std.specs.Prelude.{◌≡◌, ◌≢◌, ◌<◌, ◌≤◌, List, ℕ, map, length, slice_index_or, IfSome, IfNone};
-ghost use Rattle.std.specs.Char.{to_ascii_lowercase};
+ghost use Rattle.std.specs.Prelude.{◌≡◌, ◌≢◌, ◌<◌, ℕ, length, slice_index_or, IfSome, IfNone};
 ghost use Rattle.ada_lex.specs.declared.delimiters.Delimiter.{Delimiter};
 ghost use Rattle.ada_lex.specs.DelimiterLetters.{letters};
 

@@ -1,5 +1,5 @@
 //! How far the token, the separators or the comment at the front of some bytes reach.
-ghost use Rattle.std.specs.Prelude.{◌≡◌, ◌+◌, ◌-◌, ◌^◌, ◌<◌, ◌≤◌, ◌≢◌, ◌*◌, take, drop, length, position, true, slice_index, option_to_list, IfSome, IfOk};
+ghost use Rattle.std.specs.Prelude.{◌≡◌, ◌+◌, ◌-◌, ◌^◌, ◌<◌, ◌≤◌, ◌*◌, take, drop, length, position, true, option_to_list, IfSome, IfOk};
 ghost use Rattle.std.specs.Option.{SomeIff};
 ghost use Rattle.std.specs.Result.{result_map_both};
 ghost use Rattle.ada_lex.specs.declared.lexing.TheConstants.{MAX_SOURCE};

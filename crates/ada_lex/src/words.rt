@@ -1,5 +1,5 @@
 //! The reserved words (ISO/IEC 8652:2012, 2.9).
-ghost use Rattle.std.specs.Prelude.{◌≡◌, ◌≢◌, ◌<◌, ◌≤◌, List, ℕ, map, length, slice_index_or, IfSome, IfNone};
+ghost use Rattle.std.specs.Prelude.{◌≡◌, ◌≢◌, ◌<◌, ℕ, map, length, slice_index_or, IfSome, IfNone};
 ghost use Rattle.std.specs.Char.{to_ascii_lowercase};
 ghost use Rattle.ada_lex.specs.declared.words.Reserved.{Reserved};
 ghost use Rattle.ada_lex.specs.ReservedLetters.{letters};

@@ -8,10 +8,10 @@ use crate::telling::{
 };
 use ada_regions::{Occurrence, Occurrences};
 use ada_tree::{
-    Aspect, Body, Component, Declaration, EntryDeclaration, EntryHead, Expression,
-    ObjectDeclaration, OperationBody, ProtectedBody, ProtectedDeclaration, ProtectedOperation,
-    SubprogramSpecification, SubtypeDeclaration, SubtypeIndication, TaskDeclaration,
-    TaskDefinition, TypeDeclaration, TypeDefinition,
+    Aspect, Body, Component, Declaration, EntryDeclaration, EntryHead, ObjectDeclaration,
+    OperationBody, ProtectedBody, ProtectedDeclaration, ProtectedOperation,
+    SubprogramSpecification, SubtypeDeclaration, TaskDeclaration, TaskDefinition, TypeDeclaration,
+    TypeDefinition,
 };
 use ann_base::NoMemory;
 

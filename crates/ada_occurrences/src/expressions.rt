@@ -1,5 +1,4 @@
 //! The names in expressions (ISO/IEC 8652:2012, clause 4).
-ghost use Rattle.std.specs.Prelude.{◌≡◌, ◌++◌, OnOk};
 
 use crate::telling::{Tell, tell_both};
 use ada_regions::Occurrences;

@@ -1,15 +1,14 @@
 //! The names in statements (ISO/IEC 8652:2012, clauses 5, 6.4, 9, 11).
-ghost use Rattle.std.specs.Prelude.{◌≡◌, ◌++◌, ◌∷◌, [], option_map, OnOk};
+ghost use Rattle.std.specs.Prelude.{◌≡◌, ◌++◌, ◌∷◌, [], OnOk};
 ghost use Rattle.ada_regions.specs.Occurrences.{a_loop, a_block, begins, one, in_body, mentions, mentions_simply, if_there};
-ghost use Rattle.std.specs.List.{flat_map};
 ghost use Rattle.ada_regions.specs.NamesInStatements.{names_in_parameter, names_in_parameters, names_in_statements, label_name};
 
 use crate::telling::{Naming, Part, Tell, TellSequence, tell_both, tell_names};
 use ada_regions::{Occurrence, Occurrences};
 use ada_tree::{
     Accept, AcceptBody, Assignment, Block, Call, Case, CaseAlternative, Choice, Constraint, Delay,
-    Elsif, Exit, Expression, HandledExceptions, Handler, Identifier, If, Iteration, Label, Loop,
-    Name, Parameter, Statement, SubtypeIndication,
+    Elsif, Exit, HandledExceptions, Handler, Identifier, If, Iteration, Label, Loop, Name,
+    Parameter, Statement, SubtypeIndication,
 };
 use ann_base::{NoMemory, Place};
 use sqlite_items::Items;

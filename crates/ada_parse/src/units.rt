@@ -10,7 +10,7 @@ ghost use Rattle.ada_grammar.specs.Reading.{behind_delimiter_of, items_of, sees_
 ghost use Rattle.ada_grammar.specs.ReadingExpressions.{argument_of, inner_of};
 ghost use Rattle.ada_grammar.specs.Reads.{Reads};
 ghost use Rattle.fault_places.specs.Laws.{NoneGoesOn};
-ghost use Rattle.ada_grammar.specs.ReadingUnits.{begins_clause, clause_of, context_of, declarations_at, finished, main_of, package_body_of, package_declaration_of, package_of, package_statements_of, packages_of, placed_fault, pragma_of, private_part_of, source_of, unit_of, use_clause_of, with_of};
+ghost use Rattle.ada_grammar.specs.ReadingUnits.{begins_clause, clause_of, context_of, finished, main_of, package_body_of, package_declaration_of, package_of, package_statements_of, packages_of, placed_fault, pragma_of, private_part_of, source_of, unit_of, use_clause_of, with_of};
 
 use ada_clauses::aspects;
 use ada_expressions::{argument, name_list};

@@ -1,6 +1,5 @@
 //! The occurrences of names in a tree, as a list.
-ghost use Rattle.std.specs.Prelude.{◌≡◌, ◌++◌, ◌∷◌, [], None, Some, map, OnOk};
-ghost use Rattle.ada_regions.specs.Occurrences.{a_block, a_component, a_derived_type, a_label, a_literal, a_loop, a_loop_parameter, a_parameter, a_profile, a_protected, a_record, a_subprogram, a_subtype, a_task, a_unit, an_accept, an_array, an_entry, an_enumeration, an_exception, an_object, begins, completes, declares, declares_unit, ends, entry_body, further_context, heads, hides, is_called, main_body, mentions, mentions_entry, mentions_simply, package_body, package_region, private_from_here, protected_body, subprogram_body, task_body, the_context, the_context_of, the_main_procedure, the_package, use_package, with_unit};
+ghost use Rattle.std.specs.Prelude.{◌≡◌, ◌++◌, ◌∷◌, [], map, OnOk};
 ghost use Rattle.ada_regions.specs.Shown.{occurrence_shown};
 
 use ada_tree::{

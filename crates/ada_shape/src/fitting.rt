@@ -1,5 +1,5 @@
 //! Which trees are those of the grammar: precedence is kept, and nesting is at most 100.
-ghost use Rattle.std.specs.Prelude.{◌≡◌, ◌∷◌};
+ghost use Rattle.std.specs.Prelude.{◌≡◌};
 ghost use Rattle.std.specs.List.{list_all};
 ghost use Rattle.ada_tree.specs.ShapeExpressions.{enclosed_fit, within};
 

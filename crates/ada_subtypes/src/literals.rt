@@ -1,7 +1,7 @@
 //! The values of numeric literals (ISO/IEC 8652:2012, 2.4).
 ghost use Rattle.std.specs.Prelude.{◌≡◌, ◌+◌, ◌*◌, ◌<◌, ◌≤◌, ◌^◌};
 ghost use Rattle.std.specs.Option.{SomeIff};
-ghost use Rattle.ada_lex.specs.Meaning.{whole_of, decimals_of};
+ghost use Rattle.ada_lex.specs.Meaning.{whole_of};
 ghost use Rattle.ada_regions.specs.Statics.{digit_at, six_digits, micros_of, in_integer, in_duration, negative_in_integer, negative_in_duration, static_literal, static_negative};
 
 use ada_lex::{decimals, whole_value};

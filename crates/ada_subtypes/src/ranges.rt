@@ -1,7 +1,7 @@
 //! The ends of ranges (ISO/IEC 8652:2012, 3.5).
-ghost use Rattle.std.specs.Prelude.{◌≡◌, option_copied, slice_get};
+ghost use Rattle.std.specs.Prelude.{◌≡◌, slice_get};
 ghost use Rattle.ada_regions.specs.Statics.{low_of, high_of, index_or_free, range_of_type, range_named};
-ghost use Rattle.ada_regions.specs.Subtypes.{whole_range, truth_range, literal_range, ticks_range, range_from, range_between};
+ghost use Rattle.ada_regions.specs.Subtypes.{whole_range, truth_range, literal_range, ticks_range, range_between};
 
 use ada_regions::{AdaType, Names, Subtype};
 use ann_base::Moment;

@@ -1,5 +1,5 @@
 //! Names of bounded length, which take no memory.
-ghost use Rattle.std.specs.Prelude.{◌≡◌, ◌≤◌, [], length};
+ghost use Rattle.std.specs.Prelude.{◌≡◌, ◌≤◌, length};
 ghost use Rattle.ann_base.specs.declared.names.TheConstants.{NAME_BYTES};
 
 use std::marker::Model;

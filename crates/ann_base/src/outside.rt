@@ -2,7 +2,7 @@
 //!
 //! Each counts its faults in a `u64`. A fault has *risen* in a call where the count is greater behind the call
 //! than before it, or stood at its type's end before it, where it can rise no more.
-ghost use Rattle.std.specs.Prelude.{◌≡◌, ◌≤◌, ◌<◌, ℕ, Bool, true, false, List, Option, length, take, IsTrue, IfOk, OnOk, OnErr};
+ghost use Rattle.std.specs.Prelude.{◌≡◌, ◌≤◌, ◌<◌, ℕ, Bool, true, false, List, Option, length, take, IfOk, OnOk, OnErr};
 ghost use Rattle.ann_base.specs.Outside.{Rose, Lacks, IsPickedAt, HasRead, extended};
 
 use crate::Failed;

@@ -1,5 +1,5 @@
 //! Testing a table of duties.
-ghost use Rattle.std.specs.Prelude.{◌≡◌, ◌≤◌, Some, Ok};
+ghost use Rattle.std.specs.Prelude.{◌≤◌, Some, Ok};
 ghost use Rattle.commands.specs.Requests.{TableAsked};
 ghost use Rattle.commands.specs.Outside.{shelf_of, sink_of};
 ghost use Rattle.commands.specs.Performed.{Performs, TestsBytes, TestsDuties};

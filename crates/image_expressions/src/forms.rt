@@ -1,6 +1,6 @@
 //! The forms of expressions (ISO/IEC 8652:2012, 4.1, 4.4, 4.5). Brackets leave no trace, and a
 //! minus before a literal is part of its value.
-ghost use Rattle.std.specs.Prelude.{◌≡◌, option_copied, option_map, IfOk};
+ghost use Rattle.std.specs.Prelude.{◌≡◌, option_copied, IfOk};
 ghost use Rattle.ada_image.specs.Made.{Made};
 ghost use Rattle.ada_image.specs.ImageOfExpressions.{expression_image, expression_made, signs_in, signs_if, item_made, denoted_made, named_made};
 

@@ -1,5 +1,4 @@
 //! Values, and operators with one operand or two (ISO/IEC 8652:2012, 4.5).
-ghost use Rattle.std.specs.Prelude.{◌≡◌, option_copied, option_map};
 ghost use Rattle.ada_tree.specs.declared.operators.Sign.TheVariants as sign;
 ghost use Rattle.ada_image.specs.Made.{Made};
 ghost use Rattle.ada_image.specs.ImageOfExpressions.{known, no_value, unary_made, binary_put, signed_made};

@@ -1,5 +1,5 @@
 //! Variables: an object, or an element of an array by its index (ISO/IEC 8652:2012, 4.1, 4.1.1).
-ghost use Rattle.std.specs.Prelude.{◌≡◌, option_copied, option_map};
+ghost use Rattle.std.specs.Prelude.{option_copied, option_map};
 ghost use Rattle.ada_image.specs.Made.{Made};
 ghost use Rattle.ada_image.specs.ImageOfExpressions.{index_made, variable_made, variable_put};
 

@@ -1,6 +1,5 @@
 //! Objects (ISO/IEC 8652:2012, 3.3.1): a task is created, and a controlled object is initialized behind its declaration.
-ghost use Rattle.std.specs.Prelude.{◌≡◌, ◌∷◌, map, option_map, IfOk};
-ghost use Rattle.std.specs.List.{filter};
+ghost use Rattle.std.specs.Prelude.{◌≡◌, option_map, IfOk};
 ghost use Rattle.ada_regions.specs.Words.{all_of};
 ghost use Rattle.ada_image.specs.Made.{Made};
 ghost use Rattle.ada_image.specs.ImageOfExpressions.{signs_if};
@@ -10,7 +9,7 @@ ghost use Rattle.image_actuals.specs.Shown.{call_shown};
 use crate::declared::{has_controlled_type, has_task_type, number_declared, subtype_declared_as};
 use ada_image::{Lists, Within};
 use ada_regions::{AdaType, ComponentOwner, NumberedDeclaration, Subtype};
-use ada_tree::{Expression, Identifier, ObjectDeclaration, OneOrMore};
+use ada_tree::{Expression, Identifier, ObjectDeclaration};
 use ann_base::NoMemory;
 use image_actuals::{FunctionCall, function_call, function_call_put};
 use image_expressions::{signs_if, signs_in};

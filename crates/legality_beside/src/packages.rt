@@ -3,7 +3,7 @@ ghost use Rattle.std.specs.Prelude.{◌≡◌, ◌++◌, IfOk, OnOk, map};
 ghost use Rattle.std.specs.List.{flat_map, list_any};
 ghost use Rattle.ada_regions.specs.Names.{entity_denoted};
 ghost use Rattle.ada_legality.specs.Values.{is_entity};
-ghost use Rattle.ada_legality.specs.Packages.{denote_entity, body_named_in, bodies_of_packages, is_first_of, completes_package, body_judged, body_named, needs_body, private_part, bodies_in_package, package_needs_body, has_package_body, declaration_judged, package_judged, packages_judged};
+ghost use Rattle.ada_legality.specs.Packages.{denote_entity, body_named_in, bodies_of_packages, is_first_of, completes_package, body_judged, body_named, private_part, bodies_in_package, package_needs_body, has_package_body, declaration_judged, package_judged, packages_judged};
 ghost use Rattle.legality_beside.specs.Bodies.{denoted_in, has_entity, has_body_among, lacks_body, package_lacks, body_of, completes_some, first_among};
 
 use ada_entities::{entity_denoted, is_package_at, same_place};

@@ -1,5 +1,4 @@
 //! Operators of one level are judged, from left to right (ISO/IEC 8652:2012, 4.5).
-ghost use Rattle.std.specs.Prelude.{◌≡◌};
 ghost use Rattle.ada_legality.specs.Findings.{Reads};
 ghost use Rattle.ada_legality.specs.ReadExpressions.{operands_read, addends_read, factors_read, logical_expression, relational_expression, adding_expression, multiplying_expression};
 

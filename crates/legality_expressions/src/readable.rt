@@ -1,5 +1,4 @@
 //! What is read where something is known.
-ghost use Rattle.std.specs.Prelude.{◌≡◌, ◌++◌, OnOk};
 ghost use Rattle.ada_legality.specs.Findings.{Reads};
 ghost use Rattle.ada_legality.specs.ReadExpressions.{operand_read};
 

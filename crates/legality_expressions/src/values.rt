@@ -5,7 +5,7 @@ ghost use Rattle.ada_regions.specs.Words.{and_then};
 ghost use Rattle.ada_legality.specs.Values.{denoted_kind, is_object_kind, is_function_kind, is_kind, kind_of_name, is_denoted};
 ghost use Rattle.ada_legality.specs.Calls.{formals_denoted};
 ghost use Rattle.ada_legality.specs.Reading.{actuals_judged, denotes_barrier_part};
-ghost use Rattle.ada_legality.specs.ReadExpressions.{is_declared_object, component_owner, name_shape, name_read, index_fitted, element_judged, denoted_judged, is_unclear_object, index_fits, is_value_with, may_be_value, unless_denoted, name_judged};
+ghost use Rattle.ada_legality.specs.ReadExpressions.{is_declared_object, component_owner, name_shape, name_read, index_fitted, element_judged, denoted_judged, is_unclear_object, index_fits, may_be_value, name_judged};
 
 use crate::barriers::denotes_barrier_part;
 use ada_entities::denoted_by;

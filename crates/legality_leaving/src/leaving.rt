@@ -1,6 +1,5 @@
 //! Exits, returns and raises (ISO/IEC 8652:2012, 5.7, 6.5, 11.3).
 ghost use Rattle.std.specs.Prelude.{◌≡◌, ◌++◌, OnOk};
-ghost use Rattle.ada_legality.specs.Values.{is_denoted};
 ghost use Rattle.ada_legality.specs.Attributes.{kind_of_identifier};
 ghost use Rattle.ada_regions.specs.Completions.{holds_of};
 ghost use Rattle.ada_legality.specs.Words.{any_in_body, any_in_sequence};

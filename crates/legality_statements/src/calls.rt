@@ -1,5 +1,5 @@
 //! Calls (ISO/IEC 8652:2012, 6.4, 9.5.3, A.10.7).
-ghost use Rattle.std.specs.Prelude.{◌≡◌, ◌++◌, [], OnOk, codes, cond, option_map, unwrap_or};
+ghost use Rattle.std.specs.Prelude.{◌≡◌, ◌++◌, [], OnOk, option_map, unwrap_or};
 ghost use Rattle.ada_legality.specs.Calls.{actual_from, formals_denoted};
 ghost use Rattle.ada_legality.specs.Reading.{actuals_judged};
 ghost use Rattle.ada_legality.specs.Values.{denotes_procedure, is_denoted};

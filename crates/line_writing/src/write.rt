@@ -1,8 +1,8 @@
 //! How a line is written.
-ghost use Rattle.std.specs.Prelude.{◌≡◌, ◌+◌, ◌≤◌, ◌∷◌, [], ◌++◌, length, codes, decimal, ◌<◌, ◌^◌, FitsSigned};
+ghost use Rattle.std.specs.Prelude.{◌≡◌, ◌+◌, ◌≤◌, ◌∷◌, [], ◌++◌, length, decimal, ◌<◌, ◌^◌, FitsSigned};
 ghost use Rattle.std.specs.Int.{w32, w64};
 ghost use Rattle.std.specs.Fmt.{signed_decimal};
-ghost use Rattle.trace_text.specs.Text.{task_text, object_text, who_text, created_text, queue_end_text, waits_text, mode_text, leaves_text, entry_text, finished_text, ended_words, deadline_words, words_of, spaced, line_text, IsPrintable, IsWithin, IsWhoWithin, IsCreatedWithin, IsEntryWithin, IsFinishedWithin, IsEndedWithin, IsDeadlineWithin};
+ghost use Rattle.trace_text.specs.Text.{task_text, object_text, who_text, created_text, mode_text, entry_text, finished_text, ended_words, deadline_words, words_of, spaced, line_text, IsPrintable, IsWithin, IsWhoWithin, IsCreatedWithin, IsEntryWithin, IsFinishedWithin, IsEndedWithin, IsDeadlineWithin};
 ghost use Rattle.ann_base.specs.declared.names.TheConstants.{NAME_BYTES};
 ghost use Rattle.line_writing.specs.declared.buffer.TheConstants.{BUFFER_BYTES};
 ghost use Rattle.trace_text.specs.declared.lines.TheConstants.{LINE_BYTES};
@@ -12,8 +12,8 @@ use crate::buffer::LineBuffer;
 use ann_base::{Moment, ObjectNo, TaskNo};
 use itoa::Buffer;
 use trace_text::{
-    Created, Ended, EntryName, Event, Finished, Leaves, Mode, QueueEnd, Waits, Who, leaves_bytes,
-    mode_bytes, queue_end_bytes, waits_bytes,
+    Created, Ended, EntryName, Event, Finished, Mode, Who, leaves_bytes, mode_bytes,
+    queue_end_bytes, waits_bytes,
 };
 
 // The most bytes that its words have, each behind a space: a line without its tick and its line feed.

@@ -1,6 +1,6 @@
 //! The source of a load.
-ghost use Rattle.std.specs.Prelude.{◌≡◌, ◌≤◌, ◌+◌, ◌++◌, codes, decimal, IfOk, OnOk};
-ghost use Rattle.load_runs.specs.Source.{load_text, declaration_text, body_text, declarations_from, bodies_from, priority_of, period_of};
+ghost use Rattle.std.specs.Prelude.{◌≡◌, ◌≤◌, ◌+◌, ◌++◌, decimal, IfOk, OnOk};
+ghost use Rattle.load_runs.specs.Source.{load_text, declaration_text, body_text, declarations_from, bodies_from};
 
 use ann_base::NoMemory;
 use itoa::Buffer;

@@ -1,11 +1,11 @@
 //! What an action costs, in ticks (this profile's choice).
 ghost use Rattle.std.specs.Prelude.{◌≡◌};
-ghost use Rattle.profile_machine.specs.Cost.{of_region, has_registered, cost_of_leaving, cost_of_step, cost_of_mark, cost_of_form, cost_of_statement, cost_of_first, cost_of_top, cost};
+ghost use Rattle.profile_machine.specs.Cost.{of_region, has_registered, cost_of_leaving, cost_of_step, cost_of_mark, cost_of_form, cost_of_statement, cost_of_first, cost};
 
 use ann_base::RegionNo;
 use machine_frames::top_of;
 use machine_program::{Program, statement_of};
-use profile_machine::world::{AssignStep, Frame, Mark, Registered, World};
+use profile_machine::world::{AssignStep, Mark, Registered, World};
 use profile_machine::{Statement, StatementForm, StatementNo};
 use trace_text::Who;
 use world_tables::List;

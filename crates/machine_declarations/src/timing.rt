@@ -1,5 +1,5 @@
 //! The declaration of timing events, timers and group budgets (ISO/IEC 8652:2012, D.14, D.15).
-ghost use Rattle.std.specs.Prelude.{◌≡◌, ◌^◌, ◌≤◌, length, IfOk, OnOk, OnErr};
+ghost use Rattle.std.specs.Prelude.{◌≡◌, ◌^◌, ◌≤◌, IfOk, OnOk, OnErr};
 ghost use Rattle.profile_machine.specs.Declarations.{event_drawn, event_declared, with_budget, budget_declared, must_identify, timed_task, with_timer, timer_declared};
 ghost use Rattle.profile_machine.specs.Values.{seen_by};
 ghost use Rattle.machine_values.specs.Becomes.{Becomes};

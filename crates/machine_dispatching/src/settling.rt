@@ -1,7 +1,6 @@
 //! An effect that is over: its lines are put in order, and the ready queues follow them (ISO/IEC 8652:2012, D.2.1).
-ghost use Rattle.std.specs.Prelude.{◌≡◌, ◌++◌, OnOk, map, []};
+ghost use Rattle.std.specs.Prelude.{◌≡◌, ◌++◌, OnOk, []};
 ghost use Rattle.profile_machine.specs.declared.image.Image.{Image};
-ghost use Rattle.profile_machine.specs.Lines.{event_of};
 ghost use Rattle.profile_machine.specs.Steps.{places_after_all};
 ghost use Rattle.machine_dispatching.specs.Settling.{written, said_as, Settles};
 

@@ -1,7 +1,7 @@
 //! Appointments whose moment is now: timing events, then delays, time-outs and triggers, each in the order in which they
 //! were set (ISO/IEC 8652:2012, 9.6, 9.7, D.15).
 ghost use Rattle.std.specs.Prelude.{◌≡◌, [], OnOk, Some, option_map};
-ghost use Rattle.profile_machine.specs.Instant.{take_delay, end_delay, time_out, is_the_same_due, come_due, take_due, all_due, appointments_due};
+ghost use Rattle.profile_machine.specs.Instant.{take_delay, end_delay, time_out, is_the_same_due, come_due, all_due, appointments_due};
 ghost use Rattle.profile_machine.specs.Tasks.{waiting_of};
 ghost use Rattle.profile_machine.specs.Steps.{looks};
 ghost use Rattle.profile_machine.specs.Appointments.{first_due};

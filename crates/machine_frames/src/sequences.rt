@@ -1,5 +1,5 @@
 //! Sequences with handlers: each is opened at no cost by the task that has come to it (ISO/IEC 8652:2012, 11.2).
-ghost use Rattle.std.specs.Prelude.{◌≡◌, OnOk};
+ghost use Rattle.std.specs.Prelude.{OnOk};
 ghost use Rattle.profile_machine.specs.Frames.{open_handled, open_at, open_sequence, open_if_ready};
 ghost use Rattle.machine_frames.specs.Did.{Did};
 

@@ -1,6 +1,6 @@
 //! The agent calls handlers (ISO/IEC 8652:2012, C.3, D.15).
 ghost use Rattle.std.specs.Prelude.{◌≡◌, IfOk, OnOk};
-ghost use Rattle.profile_machine.specs.Handlers.{argument_values, scope_size_of, begin_handler, begin_handler_if_room, enter_handler, call_handler};
+ghost use Rattle.profile_machine.specs.Handlers.{argument_values, begin_handler, begin_handler_if_room, enter_handler, call_handler};
 ghost use Rattle.machine_frames.specs.Did.{Did};
 
 use ann_base::NoMemory;
@@ -9,8 +9,8 @@ use machine_frames::{Effect, has_room};
 use machine_program::{Program, marks_of, scope_of, subprogram_of};
 use machine_protected::end_release;
 use machine_scopes::open_scope;
+use profile_machine::Value;
 use profile_machine::world::{Entering, Purpose, Release, ResultTo};
-use profile_machine::{ScopeNo, Value};
 use std::alloc::Global;
 use trace_text::{Mode, Who};
 use world_tables::List;

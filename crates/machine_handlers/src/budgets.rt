@@ -1,10 +1,10 @@
 //! Group budgets (ISO/IEC 8652:2012, D.14.2).
-ghost use Rattle.std.specs.Prelude.{◌≡◌, OnOk};
+ghost use Rattle.std.specs.Prelude.{OnOk};
 ghost use Rattle.ann_base.specs.Answers.{Answers};
-ghost use Rattle.profile_machine.specs.Handlers.{loaded, raised_by, with_handler, edit_budget, replenish, add_to_budget, set_budget, cancel_budget};
+ghost use Rattle.profile_machine.specs.Handlers.{replenish, add_to_budget, set_budget, cancel_budget};
 ghost use Rattle.machine_frames.specs.Did.{Did};
 ghost use Rattle.machine_handlers.specs.Settings.{amount_named, budget_setting};
-ghost use Rattle.machine_handlers.specs.SettingSteps.{budget_changes, budget_is_cancelled};
+ghost use Rattle.machine_handlers.specs.SettingSteps.{budget_is_cancelled};
 
 use crate::events::answer;
 use crate::settings::{Named, handler_named, is_interrupt_handler, thing_named};
@@ -13,7 +13,7 @@ use machine_frames::{Effect, goes, refused};
 use machine_program::{Program, next_of};
 use machine_releases::{has_room_for_release, load, raise_by, set_handler};
 use machine_values::{Seen, budget_of, moment, number_of_thing, or_raised, seen_by};
-use profile_machine::world::{HandlerOf, World};
+use profile_machine::world::HandlerOf;
 use profile_machine::{DeclNo, ExprNo, HandlerName, StatementNo, VariableName};
 use trace_text::Who;
 

@@ -1,5 +1,5 @@
 //! The kernel: it opens a run, and goes on by at most one line a call.
-ghost use Rattle.std.specs.Prelude.{◌≡◌, ◌≤◌, ◌<◌, ◌+◌, ℕ, [], Some, None, true, false, IsTrue, length};
+ghost use Rattle.std.specs.Prelude.{◌≡◌, ◌≤◌, ◌<◌, ◌+◌, [], Some, None, true, false, IsTrue, length};
 ghost use Rattle.line_writing.specs.declared.buffer.TheConstants.{BUFFER_BYTES};
 ghost use Rattle.trace_text.specs.declared.lines.TheConstants.{LINE_BYTES};
 ghost use Rattle.machine_kernel.specs.Reached.{is_in_time};

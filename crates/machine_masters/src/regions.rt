@@ -1,6 +1,5 @@
 //! Regions, who owns them, and whether they are being left (ISO/IEC 8652:2012, 7.6.1, 9.3).
 ghost use Rattle.std.specs.Prelude.{◌≡◌, option_copied};
-ghost use Rattle.std.specs.List.{list_any};
 ghost use Rattle.profile_machine.specs.Masters.{region_of_mark, has_region, owns, owner_of, is_scope_being_left, is_being_left_in, is_region_being_left};
 
 use ann_base::RegionNo;

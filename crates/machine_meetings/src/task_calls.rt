@@ -19,7 +19,7 @@ use machine_frames::{Effect, in_protected, is_deferred, raises};
 use machine_program::{Program, entry_of, form_of};
 use machine_queues::{enqueue, is_full};
 use machine_sending::{is_triggering, not_accepted};
-use machine_values::{Seen, or_raised, seen_by};
+use machine_values::{Seen, seen_by};
 use profile_machine::world::{Call, CallKind, Owner, Part, Variable, World};
 use profile_machine::{Actual, EntryNo, EntryOwner, StatementForm, StatementNo, Value};
 use std::alloc::Global;

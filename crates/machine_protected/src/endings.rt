@@ -1,6 +1,5 @@
 //! A body in a protected action has ended (ISO/IEC 8652:2012, 9.5.1, 9.5.3, 9.5.4).
 ghost use Rattle.std.specs.Prelude.{◌≡◌, OnOk, None};
-ghost use Rattle.profile_machine.specs.Calls.{edit_call};
 ghost use Rattle.profile_machine.specs.Frames.{edit_top};
 ghost use Rattle.profile_machine.specs.Protected.{edit_top_protected};
 ghost use Rattle.profile_machine.specs.Serving.{go_on_by_mode, with_body_left, not_left, end_operation, is_own_call, outcome_by, finish_raised, finish_well, finish_call, no_longer_serves, end_entry_body, end_in_protected_by, end_in_protected};

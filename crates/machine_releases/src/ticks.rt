@@ -1,13 +1,11 @@
 //! One tick is charged to who ran it (ISO/IEC 8652:2012, D.2.5, D.14).
-ghost use Rattle.std.specs.Prelude.{◌≡◌, ◌++◌, OnOk, filter, int_le, pos};
-ghost use Rattle.profile_machine.specs.Handlers.{clock_risen, is_positive, charged_budget, has_run_out, due_by_tick, charge_budget, has_value_up_to, is_reached_by, quantum_spent_by, charge_clock, charge_group, charge_task, charge};
+ghost use Rattle.std.specs.Prelude.{◌≡◌, ◌++◌, OnOk, pos};
+ghost use Rattle.profile_machine.specs.Handlers.{clock_risen, charged_budget, has_run_out, due_by_tick, charge_budget, has_value_up_to, is_reached_by, quantum_spent_by, charge_clock, charge_group, charge_task, charge};
 ghost use Rattle.profile_machine.specs.Tasks.{edit_task, task_of};
-ghost use Rattle.profile_machine.specs.Values.{timer_of};
 ghost use Rattle.profile_machine.specs.Words.{edit_at};
-ghost use Rattle.machine_frames.specs.Did.{Did};
 ghost use Rattle.machine_releases.specs.Ticks.{timer_in, reached_in};
 
-use ann_base::{Moment, NoMemory, TaskNo};
+use ann_base::{NoMemory, TaskNo};
 use machine_frames::{task_at, task_mut};
 use machine_program::{Program, is_robin_level};
 use machine_values::budget_of;

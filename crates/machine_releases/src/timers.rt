@@ -1,5 +1,5 @@
 //! Timers by number, and those that are set and due (ISO/IEC 8652:2012, D.14.1).
-ghost use Rattle.std.specs.Prelude.{◌≡◌, eqb};
+ghost use Rattle.std.specs.Prelude.{◌≡◌};
 ghost use Rattle.profile_machine.specs.Handlers.{without_number, with_setting, clear_timer};
 ghost use Rattle.profile_machine.specs.Words.{edit_at};
 

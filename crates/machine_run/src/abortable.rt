@@ -1,7 +1,7 @@
 //! The end of an abortable part: the cancellation of its trigger is attempted first (ISO/IEC 8652:2012, 9.7.4).
 ghost use Rattle.std.specs.Prelude.{◌≡◌, ◌-◌, Some, IfOk, OnOk};
 ghost use Rattle.profile_machine.specs.Act.{end_top, wait_for_trigger, drop_trigger, below, end_abortable_by, end_in_abortable, waiting_mark};
-ghost use Rattle.profile_machine.specs.Frames.{frames_of, edit_top, with_mark};
+ghost use Rattle.profile_machine.specs.Frames.{edit_top, with_mark};
 ghost use Rattle.profile_machine.specs.CallEnds.{edit_abortable};
 ghost use Rattle.profile_machine.specs.Calls.{attempt_with};
 ghost use Rattle.profile_machine.specs.declared.world.lines.Part.TheVariants.{Own};

@@ -1,5 +1,5 @@
 //! The effect of what a task does next: a statement, or the end of what is open on top.
-ghost use Rattle.std.specs.Prelude.{◌≡◌, OnOk};
+ghost use Rattle.std.specs.Prelude.{OnOk};
 ghost use Rattle.profile_machine.specs.Act.{act_statement, act_without, act};
 ghost use Rattle.profile_machine.specs.Steps.{looks};
 ghost use Rattle.machine_frames.specs.Did.{Did};

@@ -1,12 +1,12 @@
 //! The end of a sequence with handlers: a handler for the exception, or the next construct is left
 //! (ISO/IEC 8652:2012, 11.4).
-ghost use Rattle.std.specs.Prelude.{◌≡◌, OnOk, Some, find, option_map, option_copied};
+ghost use Rattle.std.specs.Prelude.{◌≡◌, Some};
 ghost use Rattle.std.specs.List.{list_any};
 ghost use Rattle.profile_machine.specs.Act.{same_exception, is_handled_by, handler_for, keeping, handle_or_pass, behind_handled, end_handled};
 ghost use Rattle.profile_machine.specs.Frames.{handlers_in, edit_top, with_mark};
 ghost use Rattle.machine_frames.specs.Did.{Did};
 
-use ann_base::{NoMemory, Raised};
+use ann_base::Raised;
 use machine_frames::{Effect, goes, pass_on, pop, task_mut};
 use machine_program::{Program, form_of};
 use profile_machine::world::{Mark, World};

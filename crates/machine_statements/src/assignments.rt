@@ -1,5 +1,5 @@
 //! Assignments of scalars and of whole arrays (ISO/IEC 8652:2012, 5.2).
-ghost use Rattle.std.specs.Prelude.{◌≡◌, OnOk};
+ghost use Rattle.std.specs.Prelude.{OnOk};
 ghost use Rattle.profile_machine.specs.Statements.{assign, assign_array, array_copied};
 ghost use Rattle.profile_machine.specs.Values.{seen_by};
 ghost use Rattle.machine_frames.specs.Did.{Did};

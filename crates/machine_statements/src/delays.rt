@@ -1,5 +1,5 @@
 //! Delays (ISO/IEC 8652:2012, 9.6, D.2.1). Inside a protected action Program_Error is raised.
-ghost use Rattle.std.specs.Prelude.{◌≡◌, OnOk};
+ghost use Rattle.std.specs.Prelude.{OnOk};
 ghost use Rattle.profile_machine.specs.Statements.{delay_until, sees, relative_moment};
 ghost use Rattle.profile_machine.specs.Values.{moment};
 ghost use Rattle.machine_frames.specs.Did.{Did};

@@ -8,7 +8,7 @@ use machine_frames::{Effect, goes, has_room, raises, task_at};
 use machine_program::{Program, marks_of, next_of, scope_of};
 use machine_scopes::{home, innermost, open_scope, plainly, same_id};
 use machine_values::{Seen, seen_by};
-use profile_machine::world::{Frame, Mark, Part, Purpose, ScopeId, World};
+use profile_machine::world::{Frame, Mark, Part, Purpose, ScopeId};
 use profile_machine::{ScopeNo, StatementNo};
 use std::alloc::Global;
 use trace_text::Who;

@@ -2,7 +2,7 @@
 ghost use Rattle.std.specs.Prelude.{◌≡◌, ◌≢◌, ◌&&◌, None};
 ghost use Rattle.profile_machine.specs.Words.{is_empty};
 ghost use Rattle.profile_machine.specs.declared.image.Image.{Image};
-ghost use Rattle.profile_machine.specs.Run.{stop_by_end, stop_by_stuck, stop_by_bound, stop};
+ghost use Rattle.profile_machine.specs.Run.{stop_by_end, stop};
 ghost use Rattle.machine_ticks.specs.Stops.{why_ended};
 
 use ann_base::Raised;

@@ -1,8 +1,8 @@
 //! A tock: the choice of who runs, and one tick (docs/LANGUAGE.md).
 ghost use Rattle.std.specs.Prelude.{◌≡◌, Some, None, OnOk};
-ghost use Rattle.profile_machine.specs.Run.{says_run, begin_release, serve_first, serve_if_free, serve, ticks_or, begin_action, one_tick_less, spend_tick, next_tick, tick_of, says_idle, idle_tick, tock_of, tock};
+ghost use Rattle.profile_machine.specs.Run.{says_run, serve_first, serve, ticks_or, begin_action, one_tick_less, spend_tick, next_tick, tick_of, idle_tick, tock};
 ghost use Rattle.profile_machine.specs.Cost.{cost};
-ghost use Rattle.profile_machine.specs.Tasks.{edit_task, task_of, with_ticks};
+ghost use Rattle.profile_machine.specs.Tasks.{task_of};
 ghost use Rattle.profile_machine.specs.Words.{same_option, same_who};
 ghost use Rattle.profile_machine.specs.Steps.{watches};
 ghost use Rattle.machine_ticks.specs.Ticks.{Ticks};

@@ -1,5 +1,5 @@
 //! Reading a file line by line.
-ghost use Rattle.std.specs.Prelude.{◌≡◌, ◌≤◌, ◌<◌, ◌+◌, ◌-◌, ◌++◌, ℕ, List, Some, true, false, drop, take, length, cond, IfOk, IfErr, IfSome, OnOk};
+ghost use Rattle.std.specs.Prelude.{◌≡◌, ◌≤◌, ◌<◌, ◌+◌, ◌-◌, Some, true, take, length, IfOk, IfErr, OnOk};
 ghost use Rattle.ann_base.specs.Answers.{OfFault};
 ghost use Rattle.ann_base.specs.Outside.{Rose, Lacks};
 ghost use Rattle.outside_bytes.specs.Files.{told, WhereTold, left_of};

@@ -1,5 +1,5 @@
 //! A shelf and a sink in memory, whose failures are chosen beforehand: what tests of reading and writing run over.
-ghost use Rattle.std.specs.Prelude.{◌≡◌, ◌≤◌, ◌<◌, ◌+◌, ◌-◌, ◌^◌, ◌↔◌, ◌⊎◌, ℕ, [], ◌++◌, List, None, Some, IsErr, IfOk, OnOk, OnErr, MatchOption, is_some, true, false, take, drop, map, length};
+ghost use Rattle.std.specs.Prelude.{◌≡◌, ◌≤◌, ◌<◌, ◌+◌, ◌-◌, ◌^◌, [], None, Some, IfOk, OnOk, OnErr, MatchOption, is_some, true, false, take, drop, length};
 ghost use Rattle.outside_memory.specs.Files.{files_of, first_named, StandsAt, moved};
 ghost use Rattle.ann_base.specs.Outside.{Rose, Lacks, IsPickedAt, HasRead, extended};
 

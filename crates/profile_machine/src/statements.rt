@@ -7,7 +7,7 @@ use crate::numbers::{DeclNo, EntryNo, EnumerationNo, ExprNo, ScopeNo, StatementN
 use crate::sequence::Sequence;
 use crate::short::{Actuals, SelectAlternatives};
 use crate::values::Value;
-use ann_base::{Level, Raised};
+use ann_base::Raised;
 
 /// A statement or another action.
 ///

@@ -1,5 +1,5 @@
 //! The entries of one level in a vector that is reserved once.
-ghost use Rattle.std.specs.Prelude.{◌≡◌, ◌≤◌, [], length, IfOk, Some, true, false, insert, ◌∷◌, ◌++◌};
+ghost use Rattle.std.specs.Prelude.{◌≡◌, ◌≤◌, [], length, IfOk, Some, true, false, insert};
 ghost use Rattle.ready_queues.specs.Entries.{IsSlot, holds, head_of, key_of, removed, rekeyed, place_of, IsDistinct};
 
 use ann_base::{NoMemory, SLOTS, Slot};

@@ -1,5 +1,5 @@
 //! What a policy of one priority level is, whatever it orders by.
-ghost use Rattle.std.specs.Prelude.{◌≡◌, [], List, IfOk, IsNone, Some, true, false, ◌&&◌, not};
+ghost use Rattle.std.specs.Prelude.{◌≡◌, [], List, IfOk, Some, true, false, ◌&&◌, not};
 ghost use Rattle.ready_queues.specs.Entries.{Entry, IsSlot, IsOrdered, holds, head_of, key_of, placed_tail, placed_head, removed, rekeyed};
 ghost use Rattle.ready_queues.specs.Disciplines.{Discipline, is_spent_at};
 

@@ -1,5 +1,5 @@
 //! The processor demand under earliest deadline first.
-ghost use Rattle.std.specs.Prelude.{◌≡◌, ◌<◌, ◌≤◌, ◌+◌, ◌*◌, ◌^◌, ℕ, List, length, slice_index, EachIndex, IfSome};
+ghost use Rattle.std.specs.Prelude.{◌≡◌, ◌<◌, ◌≤◌, ◌+◌, ◌*◌, ◌^◌, length, slice_index, EachIndex, IfSome};
 ghost use Rattle.std.specs.Option.{option_map};
 ghost use Rattle.sched_tests.specs.Demand.{deadlines_in, demand, busy_demand, IsOver, IsFirstOver, first_over_of, IsBusyPeriod, busy_of, NeverOverBeyond};
 ghost use Rattle.sched_tests.specs.Chunks.{HasDueOf, HasDue, IsChunkEnd};

@@ -4,7 +4,7 @@ ghost use Rattle.sched_tests.specs.Response.{asked_in, interference, need, IsEno
 ghost use Rattle.sched_tests.specs.Floors.{once_of, share_of};
 ghost use Rattle.sched_tests.specs.Tables.{IsDuty, IsTable};
 
-use crate::duties::{Duty, LONGEST, MOST_DUTIES, Table};
+use crate::duties::{Duty, LONGEST, Table};
 
 /// The whole processor, as a share.
 const SCALE: u64 = 4_294_967_296;

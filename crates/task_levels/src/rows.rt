@@ -1,5 +1,5 @@
 //! The rows of the two tables.
-ghost use Rattle.std.specs.Prelude.{◌≡◌, ◌<◌, ◌==◌, ◌||◌, ◌&&◌, not, length, IsSome, Some, None, slice_index_or, vec_capacity};
+ghost use Rattle.std.specs.Prelude.{◌≡◌, ◌<◌, ◌==◌, ◌&&◌, not, length, IsSome, Some, None, slice_index_or, vec_capacity};
 ghost use Rattle.std.specs.List.{filter};
 ghost use Rattle.task_levels.specs.TaskLevels.{same_cause, greatest_of, greatest_inherited_of};
 ghost use Rattle.task_levels.specs.Shown.{of_slot};

@@ -1,8 +1,8 @@
 //! Dependence, direct and through masters.
-ghost use Rattle.std.specs.Prelude.{◌≡◌, List, not, slice_get, length, ◌≤◌};
+ghost use Rattle.std.specs.Prelude.{◌≡◌, List, slice_get};
 ghost use Rattle.std.specs.List.{list_any};
 ghost use Rattle.task_masters.specs.Tasks.{is_at, is_in};
-ghost use Rattle.task_masters.specs.Dependence.{homes, depends_on, has_dependents, is_below, dependents, all_wait, is_finished, waits, may_terminate, is_owner};
+ghost use Rattle.task_masters.specs.Dependence.{homes, depends_on, has_dependents, is_below, dependents, all_wait, is_finished, waits, may_terminate};
 
 use crate::task::{Home, Task};
 use ann_base::{RegionNo, Slot};

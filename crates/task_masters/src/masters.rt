@@ -1,5 +1,5 @@
 //! The table of live tasks.
-ghost use Rattle.std.specs.Prelude.{◌≡◌, ◌+◌, ◌<◌, ◌≤◌, ◌↔◌, true, false, not, [], ◌∷◌, ◌++◌, map, filter, reverse, length, IsTrue, IsErr, IfOk, OnOk, OnErr, slice_get, vec_capacity, ℕ, nat_lt, All, if◌then◌else◌};
+ghost use Rattle.std.specs.Prelude.{◌≡◌, ◌+◌, ◌<◌, ◌≤◌, ◌↔◌, true, false, not, [], ◌∷◌, ◌++◌, map, filter, reverse, length, IsErr, IfOk, OnOk, OnErr, slice_get, vec_capacity, ℕ, nat_lt, All, if◌then◌else◌};
 ghost use Rattle.std.specs.List.{list_any, find};
 ghost use Rattle.task_masters.specs.declared.masters.TheConstants.{LIVE_TASKS};
 ghost use Rattle.task_masters.specs.Tasks.{is_in, is_live, is_left, is_other_of, home_of, environment_task, made_task, begins, begun, first_number, activation_of, told, after_activation, completed, waiting, with_left};

@@ -1,6 +1,6 @@
 //! A live task.
-ghost use Rattle.std.specs.Prelude.{◌≡◌, true, false};
-ghost use Rattle.task_masters.specs.Tasks.{is_in, is_at, is_left_at, is_made, is_home, begins, begun, is_of_group, is_other_of, ended, completed, waiting, with_left};
+ghost use Rattle.std.specs.Prelude.{◌≡◌, false};
+ghost use Rattle.task_masters.specs.Tasks.{is_in, is_at, is_left_at, is_home, begins, begun, is_of_group, is_other_of, ended, completed, waiting, with_left};
 ghost use Rattle.task_masters.specs.Dependence.{is_owner};
 
 use ann_base::{RegionNo, Slot, TaskNo};

@@ -3,7 +3,6 @@ ghost use Rattle.std.specs.Prelude.{◌≡◌, ◌≤◌, ◌+◌, ℕ, List, tr
 ghost use Rattle.ann_base.specs.Answers.{OfFault};
 ghost use Rattle.ann_base.specs.Outside.{Rose, Lacks};
 ghost use Rattle.outside_bytes.specs.Files.{told, WhereTold, left_of};
-ghost use Rattle.outside_bytes.specs.Lines.{to_come};
 ghost use Rattle.trace_laws.specs.declared.verdicts.TheConstants.{TRACE_BYTES};
 ghost use Rattle.trace_files.specs.Texts.{IsLeft, IsSound, GoesOn, Takes, Counted, nothing_read};
 

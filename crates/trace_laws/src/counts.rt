@@ -1,6 +1,5 @@
 //! The numbers of the releases of handlers.
-ghost use Rattle.std.specs.Prelude.{◌≡◌, ◌+◌, ◌==◌, ◌&&◌, ◌||◌, not, nat_lt, length};
-ghost use Rattle.std.specs.Option.{option_to_list};
+ghost use Rattle.std.specs.Prelude.{◌≡◌, ◌+◌, ◌==◌, ◌&&◌};
 ghost use Rattle.trace_text.specs.Laws.{is_in_order};
 ghost use Rattle.trace_lines.specs.Seen.{Seen};
 ghost use Rattle.trace_laws.specs.Watched.{counts_after, other_than, releases_in};

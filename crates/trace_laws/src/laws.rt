@@ -1,5 +1,5 @@
 //! The five laws, asked of one line after the other.
-ghost use Rattle.std.specs.Prelude.{◌≡◌, ◌==◌, ◌||◌, not, length, List, IfOk, OnOk, OnErr, vec_len, vec_capacity};
+ghost use Rattle.std.specs.Prelude.{◌≡◌, ◌==◌, ◌||◌, not, length, List, IfOk, OnOk, OnErr};
 ghost use Rattle.std.specs.Option.{option_to_list};
 ghost use Rattle.ann_base.specs.Answers.{Answers};
 ghost use Rattle.trace_text.specs.Queue.{Line, somebody_eq};

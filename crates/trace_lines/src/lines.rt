@@ -1,5 +1,5 @@
 //! A list of lines, of which facts are kept.
-ghost use Rattle.std.specs.Prelude.{◌≡◌, ◌↔◌, ℕ, ℤ, Bool, true, false, ◌&&◌, IsTrue, List, OnOk, OnErr};
+ghost use Rattle.std.specs.Prelude.{◌≡◌, ◌↔◌, true, false, ◌&&◌, List, OnOk, OnErr};
 ghost use Rattle.trace_text.specs.Queue.{Line, entry_of, head_of, who_of};
 ghost use Rattle.trace_text.specs.Laws.{Formed, level_of, is_known, is_ready_formed, is_subject_formed};
 ghost use Rattle.trace_lines.specs.Seen.{nothing_kept, see_line, StandsFor, with_line, level_in, deadline_in, shape_of, is_formed_after, IsFault};

@@ -6,7 +6,7 @@ ghost use Rattle.std.specs.Fmt.{signed_decimal};
 ghost use Rattle.trace_text.specs.Text.{IsName, IsExceptionName, IsPutText, IsEntryPrintable, IsFinishedPrintable, is_name_from, is_name_byte, is_text_byte, task_text, object_text, entry_text, finished_text, queue_end_text, deadline_words, spaced};
 ghost use Rattle.trace_text.specs.Words.{word_text};
 ghost use Rattle.trace_reading.specs.Spelt.{queue_end_in, word_in};
-ghost use Rattle.trace_reading.specs.Reading.{ReadsAs, place_of, front_of, rest_of, behind, word_at, field, last_field, ended, is_digit, is_number, number_in, negative_of, signed_in, short_in, long_in, moment_in, value_in, task_in, object_in, name_in, text_in, exception_in, finished_in, part_in, entry_in, handler_in, deadline_in};
+ghost use Rattle.trace_reading.specs.Reading.{ReadsAs, place_of, front_of, rest_of, behind, word_at, field, ended, is_digit, is_number, number_in, negative_of, signed_in, short_in, long_in, moment_in, value_in, task_in, object_in, name_in, text_in, exception_in, finished_in, part_in, entry_in, handler_in, deadline_in};
 
 use crate::words::{queue_end_of, word_of};
 use ann_base::{Moment, NAME_BYTES, Name, ObjectNo, TaskNo};

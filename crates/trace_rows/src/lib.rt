@@ -2,7 +2,7 @@
 //! to break. The calls do nothing: their contracts are theorems on these traces.
 #![tactic(auto)]
 
-ghost use Rattle.trace_text.specs.Laws.{DispatchOk, CeilingOk, LeftOk, Formed, KeepsLaws};
+ghost use Rattle.trace_text.specs.Laws.{DispatchOk, CeilingOk, LeftOk, Formed};
 ghost use Rattle.trace_rows.specs.Kept.{IsLawful};
 ghost use Rattle.trace_rows.specs.First.{trace_01, trace_03, trace_04, trace_05a, trace_05b, trace_05c, trace_06, trace_08a, trace_08b, trace_09a, trace_09b, trace_10, trace_11, trace_12, trace_13, trace_14a, trace_14b, trace_15a, trace_15b, trace_15c, trace_15d};
 ghost use Rattle.trace_rows.specs.Second.{trace_16, trace_19, trace_20a, trace_20b, trace_20c, trace_adjust_1, trace_adjust_2, trace_budgets_1, trace_controlled_1, trace_policies_1, trace_representation, trace_requeue_1, trace_requeue_2, trace_requeue_3, trace_wide_1, trace_wide_2};

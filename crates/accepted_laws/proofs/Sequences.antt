@@ -34,7 +34,7 @@ use Rattle.ada_regions.specs.NamesInExpressions.{names_in_expression}
 use Rattle.ada_regions.specs.NamesInStatements.{names_in_parameters, names_in_statement, names_in_handler}
 use Rattle.ada_regions.specs.NamesInDeclarations.{names_in_profile, names_in_body, names_in_subprogram_body, names_in_entry_body, names_in_operation_body, names_in_declaration}
 use Rattle.ada_regions.specs.NamesInUnits.{names_in_parts, names_in_sequence}
-use Rattle.ada_occurrences.proofs.SequenceFolds.{sequence_tells}
+use Rattle.ada_regions.proofs.SequenceFolds.{sequence_tells}
 use Rattle.ada_image.specs.declared.making.SequencePlace.{SequencePlace}
 use Rattle.ada_image.specs.declared.making.SequencePlace.TheVariants as sequence_place
 use Rattle.image_laws.specs.ScopesOfText.{body_scopes, handler_scopes, statement_scopes, statements_scopes, operation_scopes, operations_scopes, declaration_scopes, declarations_scopes, handled_scopes, parts_scopes, sequence_scopes}

@@ -1,3 +1,4 @@
 pub mod Lists
+pub mod ExpressionFolds
 pub mod StatementFolds
 pub mod SequenceFolds

@@ -1,5 +1,1 @@
-pub mod ExpressionFolds
-pub mod LabelFolds
-pub mod StatementFolds
-pub mod SequenceFolds
 mod Told

@@ -76,7 +76,7 @@ impl Tell for Expression {
 
     ghost names = { names_in_expression };
 
-    #[tactic(auto, using(crate::proofs::ExpressionFolds::expression_tells))]
+    #[tactic(auto, using(ada_regions::proofs::ExpressionFolds::expression_tells))]
     fn tell<'t>(&'t self, occurrences: &mut Occurrences<'t>) -> Result<(), NoMemory> {
         self.form.get().tell(occurrences)
     }

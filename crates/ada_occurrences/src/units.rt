@@ -43,7 +43,7 @@ impl TellSequence for Sequence {
     ghost names_in = { names_in_sequence };
 
     #[cycle(sequence)]
-    #[tactic(auto, using(crate::proofs::SequenceFolds::sequence_tells))]
+    #[tactic(auto, using(ada_regions::proofs::SequenceFolds::sequence_tells))]
     fn tell_part<'t>(
         &'t self,
         part: Part,

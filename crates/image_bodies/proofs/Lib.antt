@@ -1,4 +1,2 @@
 pub mod OneByOne
 pub mod FromTheLast
-pub mod StatementFolds
-pub mod SequenceFolds

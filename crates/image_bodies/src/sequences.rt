@@ -127,7 +127,7 @@ impl MakeSequence for Sequence {
 
     ghost making = { sequence_put };
 
-    #[tactic(auto, using(crate::proofs::SequenceFolds::sequence_made))]
+    #[tactic(auto, using(ada_image::proofs::SequenceFolds::sequence_made))]
     fn sequence_put(
         &self,
         alloc: Global,

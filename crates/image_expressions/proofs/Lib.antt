@@ -1,2 +1,1 @@
 pub mod LiteralValues
-pub mod ExpressionFolds

@@ -206,25 +206,25 @@ impl Imaged for Expression {
     ghost image = { expression_image };
 
     #[cycle(expression)]
-    #[tactic(auto, using(crate::proofs::ExpressionFolds::expression_makes))]
+    #[tactic(auto, using(ada_image::proofs::ExpressionFolds::expression_makes))]
     fn made(&self, lists: &mut Lists, within: &Within<'_, '_>) -> Result<ExprNo, NoMemory> {
         self.form.get().made(lists, within)
     }
 
     #[cycle(expression)]
-    #[tactic(auto, using(crate::proofs::ExpressionFolds::expression_counts))]
+    #[tactic(auto, using(ada_image::proofs::ExpressionFolds::expression_counts))]
     fn signs(&self, names: &Names<'_>) -> Result<u32, NoMemory> {
         self.form.get().signs(names)
     }
 
     #[cycle(expression)]
-    #[tactic(auto, using(crate::proofs::ExpressionFolds::expression_has_literal))]
+    #[tactic(auto, using(ada_image::proofs::ExpressionFolds::expression_has_literal))]
     fn literal(&self) -> Option<&[u8]> {
         self.form.get().literal()
     }
 
     #[cycle(expression)]
-    #[tactic(auto, using(crate::proofs::ExpressionFolds::expression_has_name))]
+    #[tactic(auto, using(ada_image::proofs::ExpressionFolds::expression_has_name))]
     fn name(&self) -> Option<&Name> {
         self.form.get().name()
     }

@@ -160,7 +160,7 @@ impl HasForm for Expression {
 
     ghost built = { expression_built };
 
-    #[tactic(auto, using(crate::proofs::ExpressionFolds::expression_by_form))]
+    #[tactic(auto, using(ada_image::proofs::BuiltExpressionFolds::expression_by_form))]
     fn is_built(&self, names: &Names<'_>) -> bool {
         self.form.get().is_built(names)
     }

@@ -23,7 +23,7 @@ impl HasForm for Sequence {
 
     ghost built = { sequence_built };
 
-    #[tactic(auto, using(crate::proofs::SequenceFolds::sequence_by_parts))]
+    #[tactic(auto, using(ada_image::proofs::BuiltSequenceFolds::sequence_by_parts))]
     fn is_built(&self, names: &Names<'_>) -> bool {
         self.parts.get().is_built(names)
     }

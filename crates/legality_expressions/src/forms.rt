@@ -222,7 +222,7 @@ impl Readable for Expression {
 
     ghost reading = { read_expression };
 
-    #[tactic(auto, using(crate::proofs::ExpressionFolds::expression_reads))]
+    #[tactic(auto, using(ada_legality::proofs::ExpressionFolds::expression_reads))]
     fn read(
         &self,
         alloc: Global,

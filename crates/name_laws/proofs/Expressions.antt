@@ -9,7 +9,7 @@ use Rattle.ada_tree.specs.declared.expressions.ExpressionForm.{ExpressionForm}
 use Rattle.ada_tree.specs.declared.expressions.ExpressionForm.TheVariants as form
 use Rattle.ada_regions.specs.Occurrences.{Occurrences, mentions}
 use Rattle.ada_regions.specs.NamesInExpressions.{names_in_form, names_in_expression}
-use Rattle.ada_occurrences.proofs.ExpressionFolds.{expression_tells}
+use Rattle.ada_regions.proofs.ExpressionFolds.{expression_tells}
 use Rattle.name_laws.proofs.Texts.{Inside, inside-none, inside-append, inside-cons}
 
 -- each item of a list that was mapped

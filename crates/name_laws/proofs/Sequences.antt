@@ -32,7 +32,7 @@ use Rattle.ada_regions.specs.NamesInExpressions.{names_in_expression}
 use Rattle.ada_regions.specs.NamesInStatements.{label_name, names_in_parameters, names_in_choice, names_in_guard, names_in_statement, labels_in_statement, names_in_select_alternative, labels_in_select_alternative}
 use Rattle.ada_regions.specs.NamesInDeclarations.{names_in_profile, names_in_operation_body, names_in_declaration}
 use Rattle.ada_regions.specs.NamesInUnits.{names_in_sequence, names_in_parts}
-use Rattle.ada_occurrences.proofs.SequenceFolds.{sequence_tells}
+use Rattle.ada_regions.proofs.SequenceFolds.{sequence_tells}
 use Rattle.name_laws.proofs.Texts.{Inside, inside-none, inside-append, inside-one, inside-cons, inside-region, inside-flat, inside-in_all, inside-if_there}
 use Rattle.name_laws.proofs.Expressions.{inside-expression, inside-flat_of_map}
 use Rattle.name_laws.proofs.Insides.{inside-optional, inside-declares_all, inside-parameters, inside-assignment, inside-call, inside-delay, inside-choice, inside-iteration, inside-exit, inside-exceptions, inside-guard, inside-trigger, inside-label, inside-object, inside-definition, inside-subtype, inside-profile, inside-specification, inside-task, inside-protected}

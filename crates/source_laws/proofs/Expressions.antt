@@ -12,7 +12,7 @@ use Rattle.ada_tree.specs.SpellingExpressions.{logical_written, adding_text, mul
 use Rattle.ada_tree.proofs.ExpressionFolds.{expression_is_written}
 use Rattle.ada_regions.specs.Occurrences.{Occurrences, mentions}
 use Rattle.ada_regions.specs.NamesInExpressions.{names_in_form, names_in_expression}
-use Rattle.ada_occurrences.proofs.ExpressionFolds.{expression_tells}
+use Rattle.ada_regions.proofs.ExpressionFolds.{expression_tells}
 use Rattle.source_laws.proofs.Counting.{Covers, covers-none, covers-both, covers-then, covers-skip, covers-past, covers-front, covers-mentions}
 
 -- each item of a list that was mapped

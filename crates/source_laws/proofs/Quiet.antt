@@ -39,7 +39,7 @@ use Rattle.ada_regions.specs.Occurrences.{Occurrence, Occurrences, Declared, Reg
 use Rattle.ada_regions.specs.NamesInExpressions.{names_in_form, names_in_argument, names_in_arguments, names_in_expression}
 use Rattle.ada_regions.specs.NamesInStatements.{names_in_constraint, names_in_indication, names_in_parameter, names_in_parameters}
 use Rattle.ada_regions.specs.NamesInDeclarations.{names_in_object, names_in_component, names_in_definition, names_in_subtype, names_in_aspect, names_in_aspects, names_in_profile, names_in_specification, names_in_entry, names_in_task_definition, names_in_operation, names_in_private}
-use Rattle.ada_occurrences.proofs.ExpressionFolds.{expression_tells}
+use Rattle.ada_regions.proofs.ExpressionFolds.{expression_tells}
 
 -- ---- what each finding is worth: a body of a unit, the declaration of one, a rule that is broken
 

@@ -31,7 +31,7 @@ use Rattle.ada_regions.specs.NamesInExpressions.{names_in_expression}
 use Rattle.ada_regions.specs.NamesInStatements.{names_in_parameters, names_in_statement, labels_in_statement, names_in_handler, labels_in_handler}
 use Rattle.ada_regions.specs.NamesInDeclarations.{names_in_profile, names_in_body, names_in_subprogram_body, names_in_entry_body, names_in_operation_body, names_in_declaration}
 use Rattle.ada_regions.specs.NamesInUnits.{names_in_parts, names_in_sequence}
-use Rattle.ada_occurrences.proofs.SequenceFolds.{sequence_tells}
+use Rattle.ada_regions.proofs.SequenceFolds.{sequence_tells}
 use Rattle.grammar_laws.proofs.Exact.{first_true, second_true}
 use Rattle.source_laws.proofs.Counting.{Covers, covers-none, covers-both, covers-then, covers-skip, covers-front, covers-quiet, covers-name, covers-mention, covers-middle, covers-assoc, covers-labels, covers-parts, covers-region, covers-named_region, covers-each, covers-all, covers-declares, covers-each_plain, covers-nothing}
 use Rattle.source_laws.proofs.Expressions.{covers-expression}

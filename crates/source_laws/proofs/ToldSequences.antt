@@ -44,7 +44,7 @@ use Rattle.ada_regions.specs.Occurrences.{Occurrences, SequenceNames, Region, an
 use Rattle.ada_regions.specs.NamesInStatements.{names_in_statement, labels_in_statement, names_in_handler, labels_in_handler}
 use Rattle.ada_regions.specs.NamesInDeclarations.{names_in_task_definition, names_in_task, names_in_operation, names_in_private, names_in_protected, names_in_body, names_in_subprogram_body, names_in_entry_body, names_in_operation_body, names_in_declaration}
 use Rattle.ada_regions.specs.NamesInUnits.{names_in_parts, names_in_sequence}
-use Rattle.ada_occurrences.proofs.SequenceFolds.{sequence_tells}
+use Rattle.ada_regions.proofs.SequenceFolds.{sequence_tells}
 use Rattle.grammar_laws.proofs.Exact.{first_true, second_true}
 use Rattle.source_laws.proofs.Statements.{opened}
 use Rattle.source_laws.proofs.Quiet.{Weights, worth, if_denoted, if_no_unit, body_tells, tells, Quiet, quiet-none, quiet-append, quiet-one, quiet-region, quiet-if_there, quiet-declares, quiet-expression, quiet-parameters, quiet-object, quiet-definition, quiet-subtype, quiet-aspects, quiet-profile, quiet-specification, quiet-task_definition, quiet-operations, quiet-private_part}

@@ -22,7 +22,7 @@ use Rattle.profile_machine.specs.declared.statements.StatementForm.TheVariants a
 use Rattle.ada_image.specs.Making.{reserved, put_at, the_action, in_construct, in_unit}
 use Rattle.ada_image.specs.ImageOfStatements.{SequenceMaking, handlers_put}
 use Rattle.ada_image.specs.ImageOfDeclarations.{declaration_put, declarations_put, makes_task, make_tasks, part_if, activation_put, end_of_activation_put, body_put, operation_body_put, operation_bodies_put, inner_body_put, inner_bodies_put, unhandled_put, with_handlers_put, handled_put, whole_put, parts_put, same_making, making_layer, sequence_put}
-use Rattle.image_bodies.proofs.StatementFolds.{handlers_of_map, statements_of_map}
+use Rattle.ada_image.proofs.StatementFolds.{handlers_of_map, statements_of_map}
 
 module _ (f : Sequence → SequenceMaking) where
   -- ---- declarations

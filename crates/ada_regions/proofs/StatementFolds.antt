@@ -21,7 +21,7 @@ use Rattle.ada_tree.proofs.Mapped.{mapped_statement, mapped_alternative}
 use Rattle.ada_regions.specs.Occurrences.{Occurrences, SequenceNames, in_all, if_there}
 use Rattle.ada_regions.specs.NamesInUnits.{same_sequence}
 use Rattle.ada_regions.specs.NamesInStatements.{names_in_guard, names_in_statements, names_in_select_alternative, names_in_statement}
-use Rattle.ada_occurrences.proofs.ExpressionFolds.{flat_of_map, both}
+use Rattle.ada_regions.proofs.ExpressionFolds.{flat_of_map, both}
 
 if_of_map : (f : Sequence → SequenceNames) (i : If Sequence) (o : Option Sequence)
     → names_in_statement same_sequence (mapped_statement f (statement.If (record i { otherwise = o }))) ≡ names_in_statement f (statement.If (record i { otherwise = o }))

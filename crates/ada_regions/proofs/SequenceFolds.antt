@@ -14,9 +14,9 @@ use Rattle.ada_regions.specs.Occurrences.{SequenceNames, in_all}
 use Rattle.ada_regions.specs.NamesInStatements.{names_in_statement, labels_in_statement, names_in_handler, labels_in_handler}
 use Rattle.ada_regions.specs.NamesInDeclarations.{names_in_operation_body, names_in_declaration}
 use Rattle.ada_regions.specs.NamesInUnits.{names_in_parts, same_sequence, sequence_layer, names_in_sequence}
-use Rattle.ada_occurrences.proofs.ExpressionFolds.{flat_of_map, both}
-use Rattle.ada_occurrences.proofs.StatementFolds.{statement_of_map}
-use Rattle.ada_occurrences.proofs.LabelFolds.{statement_of_map as labels_of_map}
+use Rattle.ada_regions.proofs.ExpressionFolds.{flat_of_map, both}
+use Rattle.ada_regions.proofs.StatementFolds.{statement_of_map}
+use Rattle.ada_regions.proofs.LabelFolds.{statement_of_map as labels_of_map}
 
 operation_of_map : (f : Sequence → SequenceNames) (x : OperationBody Sequence) → names_in_operation_body same_sequence (mapped_operation f x) ≡ names_in_operation_body f x
 operation_of_map f (body_of.Subprogram specification body) = refl

@@ -1,0 +1,4 @@
+pub mod ExpressionFolds
+pub mod LabelFolds
+pub mod StatementFolds
+pub mod SequenceFolds

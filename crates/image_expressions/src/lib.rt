@@ -7,7 +7,6 @@ mod forms;
 mod functions;
 mod images;
 mod literals;
-mod names;
 mod primaries;
 mod sequences;
 mod sums;
@@ -15,10 +14,10 @@ mod values;
 mod variables;
 
 pub use forms::{expression_made, named, signs_if, signs_in};
-pub use images::Imaged;
-pub use names::{
-    declared_as, kind_named, named_before, no_declaration_no, object_before, object_named,
-    object_number, thing_in, thing_named,
+pub use image_names::{
+    kind_named, named_before, no_declaration_no, object_before, object_named, object_number,
+    thing_in, thing_named,
 };
+pub use images::Imaged;
 pub use values::{known, no_value};
 pub use variables::variable_made;

@@ -12,10 +12,7 @@ use profile_machine::Value;
 pub(crate) fn literal_value(literal: &[u8]) -> Result<Value, NoMemory>
     ensures { IfOk result (λ v. v ≡ literal_value literal.now) }
 {
-    match static_literal(literal) {
-        Some(value) => Ok(value),
-        None => Err(NoMemory),
-    }
+    static_literal(literal).ok_or(NoMemory)
 }
 
 /// The value of a literal behind a minus.
@@ -23,8 +20,5 @@ pub(crate) fn literal_value(literal: &[u8]) -> Result<Value, NoMemory>
 pub(crate) fn negative_value(literal: &[u8]) -> Result<Value, NoMemory>
     ensures { IfOk result (λ v. v ≡ negated (literal_value literal.now)) }
 {
-    match static_negative(literal) {
-        Some(value) => Ok(value),
-        None => Err(NoMemory),
-    }
+    static_negative(literal).ok_or(NoMemory)
 }

@@ -6,7 +6,6 @@ ghost use Rattle.ada_image.specs.Made.{Made};
 ghost use Rattle.ada_image.specs.ImageOfExpressions.{known, count_of, count_made, attribute_made, object_made, entity_made};
 
 use crate::images::Imaged;
-use crate::names::{declared_as, kind_named, thing_named};
 use crate::values::{known, no_value};
 use crate::variables::variable_put;
 use ada_image::{Lists, Within};
@@ -15,6 +14,7 @@ use ada_subtypes::attribute_value;
 use ada_tree::{Attribute, Name};
 use ann_base::NoMemory;
 use image_layout::{subtype_is_thing, value_put};
+use image_names::{declared_as, kind_named, thing_named};
 use profile_machine::{DeclNo, ExprNo, Expression, Value};
 
 /// The static value of First or Last (3.5).

@@ -4,11 +4,11 @@ ghost use Rattle.ada_image.specs.Made.{Made};
 ghost use Rattle.ada_image.specs.ImageOfExpressions.{index_made, variable_made, variable_put};
 
 use crate::images::Imaged;
-use crate::names::object_named;
 use ada_image::{Lists, Within};
 use ada_tree::Name;
 use ann_base::NoMemory;
 use image_layout::value_put;
+use image_names::object_named;
 use profile_machine::{ExprNo, Expression, VariableName};
 
 /// The index of an element, if there is one.

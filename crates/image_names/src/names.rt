@@ -62,13 +62,9 @@ fn object_outside(within: &Within<'_, '_>, entity: u32) -> Option<DeclNo>
 pub fn object_before(within: &Within<'_, '_>, name: &Name) -> Option<DeclNo>
     ensures { result ≡ object_before within.now name.now }
 {
-    match prefix_part(name) {
-        None => None,
-        Some(part) => match entity_denoted(within.names.get(), part.place) {
-            None => None,
-            Some(entity) => object_outside(within, entity),
-        },
-    }
+    let part = prefix_part(name)?;
+    let entity = entity_denoted(within.names.get(), part.place)?;
+    object_outside(within, entity)
 }
 
 /// The same, where the unit counts too.
@@ -76,16 +72,10 @@ pub fn object_before(within: &Within<'_, '_>, name: &Name) -> Option<DeclNo>
 pub fn named_before(within: &Within<'_, '_>, name: &Name) -> Option<DeclNo>
     ensures { result ≡ named_before within.now name.now }
 {
-    match prefix_part(name) {
-        None => None,
-        Some(part) => match entity_denoted(within.names.get(), part.place) {
-            None => None,
-            Some(entity) => match kind_at(within.names.get(), entity) {
-                None => None,
-                Some(kind) => object_number(kind),
-            },
-        },
-    }
+    let part = prefix_part(name)?;
+    let entity = entity_denoted(within.names.get(), part.place)?;
+    let kind = kind_at(within.names.get(), entity)?;
+    object_number(kind)
 }
 
 /// The number that stands where the text names no object.
@@ -151,13 +141,9 @@ fn object_of_kind(within: &Within<'_, '_>, name: &Name, kind: &EntityKind) -> Ob
 pub fn kind_named<'n>(within: &Within<'n, '_>, name: &Name) -> Option<&'n EntityKind>
     ensures { option_copied result ≡ kind_named within.now name.now }
 {
-    match denoted_by(within.names.get(), name) {
-        None => None,
-        Some(denoted) => match entity_of(denoted) {
-            None => None,
-            Some(entity) => kind_at(within.names.get(), entity),
-        },
-    }
+    let denoted = denoted_by(within.names.get(), name)?;
+    let entity = entity_of(denoted)?;
+    kind_at(within.names.get(), entity)
 }
 
 /// The object that a name denotes.

@@ -69,14 +69,11 @@ abbrev pub IsNotedInPart : Option (List ℕ) → SinkChange → Type 0
 IsNotedInPart None notes = ⊥
 IsNotedInPart (Some note) notes = GainedPrefix notes note
 
--- The status is this one and the note is written whole; or writing the note failed, and the status is 8.
-abbrev pub ConcludesWith : Option (List ℕ) → ℕ → SinkChange → ℕ → Type 0
-ConcludesWith note wanted notes status =
-    ((status ≡ wanted) × IsNoted note notes) ⊎ ((status ≡ 8) × SinkFailed notes × IsNotedInPart note notes)
-
--- the same with the status and the note of an outcome
+-- The status is that of the outcome and its note is written whole; or writing the note failed, and the status is 8.
 abbrev pub Concludes : Outcome → SinkChange → ℕ → Type 0
-Concludes outcome notes status = ConcludesWith (note_of outcome) (status_of outcome) notes status
+Concludes outcome notes status =
+    ((status ≡ status_of outcome) × IsNoted (note_of outcome) notes)
+    ⊎ ((status ≡ 8) × SinkFailed notes × IsNotedInPart (note_of outcome) notes)
 
 -- the outcome of a run that has no items of its script
 abbrev pub without_items : NoItems → Outcome

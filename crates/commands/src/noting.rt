@@ -1,11 +1,11 @@
 //! The status of an outcome, and the note on it.
-ghost use Rattle.std.specs.Prelude.{◌≡◌, ◌≤◌, Some, OnOk, OnErr};
+ghost use Rattle.std.specs.Prelude.{◌≡◌, ◌≤◌, OnOk, OnErr};
 ghost use Rattle.ann_base.specs.Outside.{Rose, extended};
 ghost use Rattle.outside_bytes.specs.Pieces.{HoldsPrefix};
 ghost use Rattle.commands.specs.Outside.{sink_of};
 ghost use Rattle.commands.specs.Traces.{trace_note};
 ghost use Rattle.sched_tests.specs.Reports.{table_note};
-ghost use Rattle.commands.specs.Outcomes.{Concludes, ConcludesWith, refusal_text, script_note};
+ghost use Rattle.commands.specs.Outcomes.{Concludes, IsNoted, IsNotedInPart, note_of, refusal_text, script_note};
 
 use crate::Outcome;
 use crate::words::{write_labelled, write_words};
@@ -24,79 +24,34 @@ pub fn conclude<K: Sink>(notes: &mut K, outcome: Outcome) -> u8
     ensures monotone { K.faults notes.old ≤ K.faults notes.new }
 {
     let status = outcome.status();
+    match write_note(notes, outcome) {
+        Ok(()) => status,
+        Err(_) => 8,
+    }
+}
+
+/// Writes the note on an outcome, a line where the command was not done. After a failure a prefix of it was written.
+fn write_note<K: Sink>(notes: &mut K, outcome: Outcome) -> Result<(), Failed>
+    ensures noted { OnOk result
+        (IsNoted (note_of outcome) (sink_of K.held K.faults notes.old notes.new)) }
+    ensures monotone { K.faults notes.old ≤ K.faults notes.new }
+    ensures cause { OnErr result (Rose (K.faults notes.old) (K.faults notes.new)) }
+    ensures in_part { OnErr result
+        (IsNotedInPart (note_of outcome) (sink_of K.held K.faults notes.old notes.new)) }
+{
     match outcome {
-        Outcome::Ended(_) => status,
-        Outcome::Accepted => status,
-        Outcome::Tested { .. } => status,
-        Outcome::Traced { .. } => status,
-        Outcome::WordsRefused => note(notes, b"words refused\n", status),
-        Outcome::SourceRefused(refusal) => note_refusal(notes, refusal, status),
-        Outcome::ScriptRefused(fault) => note_script(notes, fault, status),
-        Outcome::TableRefused(fault) => note_table(notes, fault, status),
-        Outcome::TraceRefused(line) => note_trace(notes, line, status),
-        Outcome::ReadFault => note(notes, b"read fault\n", status),
-        Outcome::WriteFault => note(notes, b"write fault\n", status),
-        Outcome::NoMemory => note(notes, b"no memory\n", status),
-    }
-}
-
-/// Writes a note, and answers the status that goes with it.
-fn note<K: Sink>(notes: &mut K, text: &[u8], status: u8) -> u8
-    ensures concluded { ConcludesWith (Some text.now) status
-        (sink_of K.held K.faults notes.old notes.new) result }
-    ensures monotone { K.faults notes.old ≤ K.faults notes.new }
-{
-    match write_all(notes, text) {
-        Ok(()) => status,
-        Err(_) => 8,
-    }
-}
-
-/// The same of the note on a refused source.
-fn note_refusal<K: Sink>(notes: &mut K, refusal: Refusal, status: u8) -> u8
-    ensures concluded { ConcludesWith (Some (refusal_text refusal)) status
-        (sink_of K.held K.faults notes.old notes.new) result }
-    ensures monotone { K.faults notes.old ≤ K.faults notes.new }
-{
-    match write_refusal(notes, refusal) {
-        Ok(()) => status,
-        Err(_) => 8,
-    }
-}
-
-/// The same of the note on a refused script.
-fn note_script<K: Sink>(notes: &mut K, fault: ScriptFault, status: u8) -> u8
-    ensures concluded { ConcludesWith (Some (script_note fault)) status
-        (sink_of K.held K.faults notes.old notes.new) result }
-    ensures monotone { K.faults notes.old ≤ K.faults notes.new }
-{
-    match write_script_fault(notes, fault) {
-        Ok(()) => status,
-        Err(_) => 8,
-    }
-}
-
-/// The same of the note on a refused table.
-fn note_table<K: Sink>(notes: &mut K, fault: TableFault, status: u8) -> u8
-    ensures concluded { ConcludesWith (Some (table_note fault)) status
-        (sink_of K.held K.faults notes.old notes.new) result }
-    ensures monotone { K.faults notes.old ≤ K.faults notes.new }
-{
-    match write_table_fault(notes, fault) {
-        Ok(()) => status,
-        Err(_) => 8,
-    }
-}
-
-/// The same of the note on a refused trace.
-fn note_trace<K: Sink>(notes: &mut K, line: u64, status: u8) -> u8
-    ensures concluded { ConcludesWith (Some (trace_note line)) status
-        (sink_of K.held K.faults notes.old notes.new) result }
-    ensures monotone { K.faults notes.old ≤ K.faults notes.new }
-{
-    match write_trace_fault(notes, line) {
-        Ok(()) => status,
-        Err(_) => 8,
+        Outcome::Ended(_) => Ok(()),
+        Outcome::Accepted => Ok(()),
+        Outcome::Tested { .. } => Ok(()),
+        Outcome::Traced { .. } => Ok(()),
+        Outcome::WordsRefused => write_all(notes, b"words refused\n"),
+        Outcome::SourceRefused(refusal) => write_refusal(notes, refusal),
+        Outcome::ScriptRefused(fault) => write_script_fault(notes, fault),
+        Outcome::TableRefused(fault) => write_table_fault(notes, fault),
+        Outcome::TraceRefused(line) => write_trace_fault(notes, line),
+        Outcome::ReadFault => write_all(notes, b"read fault\n"),
+        Outcome::WriteFault => write_all(notes, b"write fault\n"),
+        Outcome::NoMemory => write_all(notes, b"no memory\n"),
     }
 }
 

@@ -36,16 +36,8 @@ impl Code {
         ensures { result ≡ letter_of self }
     {
         match self {
-            Code::BadByte => b'F',
-            Code::BadNumber => b'F',
-            Code::OpenText => b'F',
-            Code::TooLong => b'F',
-            Code::Unexpected => b'F',
-            Code::TooDeep => b'F',
-            Code::Unknown => b'F',
-            Code::Twice => b'F',
-            Code::Ambiguous => b'F',
             Code::Rule(_) => b'L',
+            _ => b'F',
         }
     }
 

@@ -118,28 +118,21 @@ fn inner_body_put<Q: MakeSequence>(
     ensures { Made (inner_body_put Q.making within.now declaration.now) lists.old lists.new result }
 {
     match declaration {
-        Declaration::Object(_) => Ok(()),
-        Declaration::Type(_) => Ok(()),
-        Declaration::Subtype(_) => Ok(()),
-        Declaration::Exception { .. } => Ok(()),
-        Declaration::Subprogram(_) => Ok(()),
         Declaration::SubprogramBody {
             specification,
             body,
         } => subprogram_body_put(alloc, lists, within, specification, body),
-        Declaration::Task(_) => Ok(()),
         Declaration::TaskBody { place, name, body } => {
             let unit = entity_denoted(within.names.get(), name.place);
             let inner = in_unit(within, unit)?;
             body_put(alloc, lists, &inner, *place, None, true, &body.sequence)
         }
-        Declaration::Protected(_) => Ok(()),
         Declaration::ProtectedBody(protected) => {
             let unit = entity_denoted(within.names.get(), protected.name.place);
             let inner = in_unit(within, unit)?;
             operation_bodies_put(alloc, lists, &inner, protected.operations.as_slice())
         }
-        Declaration::Use { .. } => Ok(()),
+        _ => Ok(()),
     }
 }
 

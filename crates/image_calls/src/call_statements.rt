@@ -31,15 +31,7 @@ fn entity_call_put(
         lists.new result }
 {
     match kind {
-        EntityKind::Package => not_built(lists, next),
         EntityKind::Main => action_put(lists, StatementForm::CallMain, signs, next),
-        EntityKind::Mark(_) => not_built(lists, next),
-        EntityKind::Literal { .. } => not_built(lists, next),
-        EntityKind::Object { .. } => not_built(lists, next),
-        EntityKind::Parameter { .. } => not_built(lists, next),
-        EntityKind::LoopParameter(_) => not_built(lists, next),
-        EntityKind::Component { .. } => not_built(lists, next),
-        EntityKind::Exception(_) => not_built(lists, next),
         EntityKind::Subprogram {
             number,
             formals,
@@ -74,7 +66,7 @@ fn entity_call_put(
             signs,
             next,
         ),
-        EntityKind::Label => not_built(lists, next),
+        _ => not_built(lists, next),
     }
 }
 
@@ -92,13 +84,10 @@ fn item_call_put(
         result }
 {
     match item {
-        Predefined::Mark(_) => not_built(lists, next),
-        Predefined::Constant { .. } => not_built(lists, next),
-        Predefined::Truth(_) => not_built(lists, next),
-        Predefined::Exception(_) => not_built(lists, next),
         Predefined::Operation(operation) => {
             procedure_put(alloc, lists, within, operation, arguments, signs, next)
         }
+        _ => not_built(lists, next),
     }
 }
 

@@ -16,10 +16,8 @@ use profile_machine::{DeclNo, HandlerName};
 fn object_of_entity(within: &Within<'_, '_>, entity: u32) -> Option<DeclNo>
     ensures { result ≡ and_then (kind_at within.now.names entity) object_number }
 {
-    match kind_at(within.names.get(), entity) {
-        None => None,
-        Some(kind) => object_number(kind),
-    }
+    let kind = kind_at(within.names.get(), entity)?;
+    object_number(kind)
 }
 
 /// The single object of the unit in whose body the name stands.
@@ -64,10 +62,8 @@ fn handler_named(within: &Within<'_, '_>, name: &Name) -> Option<HandlerName>
     ensures { result
         ≡ and_then (kind_named within.now name.now) (handler_with within.now name.now) }
 {
-    match kind_named(within, name) {
-        None => None,
-        Some(kind) => handler_with(within, name, kind),
-    }
+    let kind = kind_named(within, name)?;
+    handler_with(within, name, kind)
 }
 
 fn handler_in_form(
@@ -77,17 +73,8 @@ fn handler_in_form(
     ensures { result ≡ handler_in_form within.now form.now }
 {
     match form {
-        ExpressionForm::Logical { .. } => None,
-        ExpressionForm::Relational { .. } => None,
-        ExpressionForm::Adding { .. } => None,
-        ExpressionForm::Signed { .. } => None,
-        ExpressionForm::Multiplying { .. } => None,
-        ExpressionForm::Highest { .. } => None,
-        ExpressionForm::Number { .. } => None,
-        ExpressionForm::Text { .. } => None,
-        ExpressionForm::Null { .. } => None,
-        ExpressionForm::Bracketed { .. } => None,
         ExpressionForm::Named { name, .. } => handler_named(within, name),
+        _ => None,
     }
 }
 
@@ -99,8 +86,6 @@ pub(crate) fn handler_of(
 ) -> Option<HandlerName>
     ensures { result ≡ handler_of within.now (option_copied actual.entry) }
 {
-    match actual {
-        None => None,
-        Some(actual) => handler_in_form(within, actual.form.get()),
-    }
+    let actual = actual?;
+    handler_in_form(within, actual.form.get())
 }

@@ -85,13 +85,6 @@ pub(crate) fn procedure_put(
 {
     match operation {
         Operation::PutLine => text_put(alloc, lists, within, arguments, signs, next),
-        Operation::Clock => not_built(lists, next),
-        Operation::Microseconds => not_built(lists, next),
-        Operation::Milliseconds => not_built(lists, next),
-        Operation::Seconds => not_built(lists, next),
-        Operation::Minutes => not_built(lists, next),
-        Operation::ToDuration => not_built(lists, next),
-        Operation::ToTimeSpan => not_built(lists, next),
         Operation::SetEvent => set_event_put(lists, within, arguments, signs, next),
         Operation::CancelEvent => cancel_put(
             lists,
@@ -102,8 +95,6 @@ pub(crate) fn procedure_put(
             signs,
             next,
         ),
-        Operation::TimeOfEvent => not_built(lists, next),
-        Operation::ExecutionClock => not_built(lists, next),
         Operation::SetTimer => set_timer_put(lists, within, arguments, signs, next),
         Operation::CancelTimer => cancel_put(
             lists,
@@ -114,7 +105,6 @@ pub(crate) fn procedure_put(
             signs,
             next,
         ),
-        Operation::TimeRemaining => not_built(lists, next),
         Operation::AddTask => budget_put(
             lists,
             within,
@@ -151,8 +141,6 @@ pub(crate) fn procedure_put(
             signs,
             next,
         ),
-        Operation::BudgetHasExpired => not_built(lists, next),
-        Operation::BudgetRemaining => not_built(lists, next),
         Operation::SetBudget => set_budget_put(lists, within, arguments, signs, next),
         Operation::CancelBudget => cancel_put(
             lists,
@@ -172,8 +160,6 @@ pub(crate) fn procedure_put(
             signs,
             next,
         ),
-        Operation::GetPriority => not_built(lists, next),
-        Operation::CurrentTask => not_built(lists, next),
         Operation::SetQuantum => values_put(
             lists,
             within,
@@ -192,7 +178,6 @@ pub(crate) fn procedure_put(
             signs,
             next,
         ),
-        Operation::GetDeadline => not_built(lists, next),
         Operation::DelayUntilAndSetDeadline => values_put(
             lists,
             within,
@@ -202,6 +187,6 @@ pub(crate) fn procedure_put(
             signs,
             next,
         ),
-        Operation::PortValue => not_built(lists, next),
+        _ => not_built(lists, next),
     }
 }

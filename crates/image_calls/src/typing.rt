@@ -21,10 +21,8 @@ use profile_machine::SubprogramNo;
 fn type_of_subtype(subtype: Option<Subtype>) -> Option<AdaType>
     ensures { result ≡ type_of_subtype subtype }
 {
-    match subtype {
-        None => None,
-        Some(subtype) => Some(subtype.of_type),
-    }
+    let subtype = subtype?;
+    Some(subtype.of_type)
 }
 
 /// The type of an object, or of its element where an index stands behind it (4.1.1).
@@ -50,12 +48,10 @@ fn indexed(names: &Names<'_>, has_index: bool, subtype: Option<Subtype>) -> Opti
 fn type_of_result(names: &Names<'_>, number: SubprogramNo) -> Option<AdaType>
     ensures { result ≡ type_of_result (slice_get names.now.subprograms number.0) }
 {
-    match names.subprograms.get(number.0 as usize) {
+    let subprogram = names.subprograms.get(number.0 as usize)?;
+    match subprogram.result {
         None => None,
-        Some(subprogram) => match subprogram.result {
-            None => None,
-            Some(subtype) => type_of_subtype(subtype),
-        },
+        Some(subtype) => type_of_subtype(subtype),
     }
 }
 
@@ -65,18 +61,13 @@ fn type_of_kind(names: &Names<'_>, has_index: bool, kind: &EntityKind) -> Option
     ensures { result ≡ type_of_kind names.now has_index kind.now }
 {
     match kind {
-        EntityKind::Package => None,
-        EntityKind::Main => None,
-        EntityKind::Mark(_) => None,
         EntityKind::Literal { enumeration, .. } => Some(AdaType::Enumeration(*enumeration)),
         EntityKind::Object { subtype, .. } => indexed(names, has_index, *subtype),
         EntityKind::Parameter { subtype, .. } => indexed(names, has_index, *subtype),
         EntityKind::LoopParameter(_) => Some(AdaType::Integer),
         EntityKind::Component { subtype, .. } => indexed(names, has_index, *subtype),
-        EntityKind::Exception(_) => None,
         EntityKind::Subprogram { number, .. } => type_of_result(names, *number),
-        EntityKind::Entry { .. } => None,
-        EntityKind::Label => None,
+        _ => None,
     }
 }
 

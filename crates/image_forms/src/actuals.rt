@@ -36,19 +36,10 @@ pub(crate) fn variable_built(expression: &Expression, names: &Names<'_>) -> bool
     ensures { result ≡ variable_built expression.now names.now }
 {
     match expression.form.get() {
-        ExpressionForm::Logical { .. } => false,
-        ExpressionForm::Relational { .. } => false,
-        ExpressionForm::Adding { .. } => false,
-        ExpressionForm::Signed { .. } => false,
-        ExpressionForm::Multiplying { .. } => false,
-        ExpressionForm::Highest { .. } => false,
-        ExpressionForm::Number { .. } => false,
-        ExpressionForm::Text { .. } => false,
-        ExpressionForm::Null { .. } => false,
-        ExpressionForm::Bracketed { .. } => false,
         ExpressionForm::Named { arguments, .. } => {
             value_if_there(first_argument(arguments.as_slice()), names)
         }
+        _ => false,
     }
 }
 
@@ -121,20 +112,10 @@ fn kind_or_value_built(
         names.now }
 {
     match kind {
-        EntityKind::Package => expression_built(expression, names),
-        EntityKind::Main => expression_built(expression, names),
-        EntityKind::Mark(_) => expression_built(expression, names),
-        EntityKind::Literal { .. } => expression_built(expression, names),
-        EntityKind::Object { .. } => expression_built(expression, names),
-        EntityKind::Parameter { .. } => expression_built(expression, names),
-        EntityKind::LoopParameter(_) => expression_built(expression, names),
-        EntityKind::Component { .. } => expression_built(expression, names),
-        EntityKind::Exception(_) => expression_built(expression, names),
         EntityKind::Subprogram { formals, .. } => {
             arguments_built(formals.as_slice(), arguments, names)
         }
-        EntityKind::Entry { .. } => expression_built(expression, names),
-        EntityKind::Label => expression_built(expression, names),
+        _ => expression_built(expression, names),
     }
 }
 
@@ -164,21 +145,12 @@ pub(crate) fn source_built(expression: &Expression, names: &Names<'_>) -> bool
     ensures { result ≡ source_built expression.now names.now }
 {
     match expression.form.get() {
-        ExpressionForm::Logical { .. } => expression_built(expression, names),
-        ExpressionForm::Relational { .. } => expression_built(expression, names),
-        ExpressionForm::Adding { .. } => expression_built(expression, names),
-        ExpressionForm::Signed { .. } => expression_built(expression, names),
-        ExpressionForm::Multiplying { .. } => expression_built(expression, names),
-        ExpressionForm::Highest { .. } => expression_built(expression, names),
-        ExpressionForm::Number { .. } => expression_built(expression, names),
-        ExpressionForm::Text { .. } => expression_built(expression, names),
-        ExpressionForm::Null { .. } => expression_built(expression, names),
-        ExpressionForm::Bracketed { .. } => expression_built(expression, names),
         ExpressionForm::Named {
             name,
             attribute,
             arguments,
         } => name_or_value_built(expression, name, attribute, arguments.as_slice(), names),
+        _ => expression_built(expression, names),
     }
 }
 
@@ -203,20 +175,10 @@ fn kind_if_built(
     ensures { result ≡ call_if_built (call_of_kind name.now arguments.now kind.now) names.now }
 {
     match kind {
-        EntityKind::Package => true,
-        EntityKind::Main => true,
-        EntityKind::Mark(_) => true,
-        EntityKind::Literal { .. } => true,
-        EntityKind::Object { .. } => true,
-        EntityKind::Parameter { .. } => true,
-        EntityKind::LoopParameter(_) => true,
-        EntityKind::Component { .. } => true,
-        EntityKind::Exception(_) => true,
         EntityKind::Subprogram { formals, .. } => {
             arguments_built(formals.as_slice(), arguments, names)
         }
-        EntityKind::Entry { .. } => true,
-        EntityKind::Label => true,
+        _ => true,
     }
 }
 
@@ -245,21 +207,12 @@ fn call_if_built(expression: &Expression, names: &Names<'_>) -> bool
     ensures { result ≡ call_if_built (call_in expression.now names.now) names.now }
 {
     match expression.form.get() {
-        ExpressionForm::Logical { .. } => true,
-        ExpressionForm::Relational { .. } => true,
-        ExpressionForm::Adding { .. } => true,
-        ExpressionForm::Signed { .. } => true,
-        ExpressionForm::Multiplying { .. } => true,
-        ExpressionForm::Highest { .. } => true,
-        ExpressionForm::Number { .. } => true,
-        ExpressionForm::Text { .. } => true,
-        ExpressionForm::Null { .. } => true,
-        ExpressionForm::Bracketed { .. } => true,
         ExpressionForm::Named {
             name,
             attribute,
             arguments,
         } => name_if_built(name, attribute, arguments.as_slice(), names),
+        _ => true,
     }
 }
 

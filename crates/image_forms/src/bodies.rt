@@ -37,18 +37,12 @@ fn declaration_built<Q: HasForm>(declaration: &Declaration<Q>, names: &Names<'_>
 {
     match declaration {
         Declaration::Object(object) => initial_built(&object.initial, names),
-        Declaration::Type(_) => true,
-        Declaration::Subtype(_) => true,
-        Declaration::Exception { .. } => true,
-        Declaration::Subprogram(_) => true,
         Declaration::SubprogramBody { body, .. } => body.sequence.is_built(names),
-        Declaration::Task(_) => true,
         Declaration::TaskBody { body, .. } => body.sequence.is_built(names),
-        Declaration::Protected(_) => true,
         Declaration::ProtectedBody(protected) => {
             operations_built(protected.operations.as_slice(), names)
         }
-        Declaration::Use { .. } => true,
+        _ => true,
     }
 }
 

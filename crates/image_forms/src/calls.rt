@@ -18,22 +18,14 @@ fn entity_call_built(
     ensures { result ≡ entity_call_built arguments.now kind.now names.now }
 {
     match kind {
-        EntityKind::Package => false,
         EntityKind::Main => true,
-        EntityKind::Mark(_) => false,
-        EntityKind::Literal { .. } => false,
-        EntityKind::Object { .. } => false,
-        EntityKind::Parameter { .. } => false,
-        EntityKind::LoopParameter(_) => false,
-        EntityKind::Component { .. } => false,
-        EntityKind::Exception(_) => false,
         EntityKind::Subprogram { formals, .. } => {
             arguments_built(formals.as_slice(), arguments, names)
         }
         EntityKind::Entry { formals, .. } => {
             arguments_built(formals.as_slice(), arguments, names)
         }
-        EntityKind::Label => false,
+        _ => false,
     }
 }
 
@@ -42,11 +34,8 @@ fn item_call_built(item: Predefined, arguments: &[Argument<Expression>], names: 
     ensures { result ≡ item_call_built item arguments.now names.now }
 {
     match item {
-        Predefined::Mark(_) => false,
-        Predefined::Constant { .. } => false,
-        Predefined::Truth(_) => false,
-        Predefined::Exception(_) => false,
         Predefined::Operation(operation) => procedure_built(operation, arguments, names),
+        _ => false,
     }
 }
 

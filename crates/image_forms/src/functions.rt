@@ -41,7 +41,6 @@ pub(crate) fn operation_built<E: HasForm>(
         (actuals_for (names_of_formals operation) arguments.now) names.now }
 {
     match operation {
-        Operation::PutLine => false,
         Operation::Clock => true,
         Operation::Microseconds => is_there(argument_from(0, b"us", arguments), names),
         Operation::Milliseconds => is_there(argument_from(0, b"ms", arguments), names),
@@ -49,28 +48,15 @@ pub(crate) fn operation_built<E: HasForm>(
         Operation::Minutes => is_there(argument_from(0, b"m", arguments), names),
         Operation::ToDuration => is_there(argument_from(0, b"ts", arguments), names),
         Operation::ToTimeSpan => is_there(argument_from(0, b"d", arguments), names),
-        Operation::SetEvent => false,
-        Operation::CancelEvent => false,
         Operation::TimeOfEvent => true,
         Operation::ExecutionClock => { is_built_if_there(argument_from(0, b"t", arguments), names) }
-        Operation::SetTimer => false,
-        Operation::CancelTimer => false,
         Operation::TimeRemaining => true,
-        Operation::AddTask => false,
-        Operation::RemoveTask => false,
-        Operation::Replenish => false,
-        Operation::Add => false,
         Operation::BudgetHasExpired => true,
         Operation::BudgetRemaining => true,
-        Operation::SetBudget => false,
-        Operation::CancelBudget => false,
-        Operation::SetPriority => false,
         Operation::GetPriority => is_built_if_there(argument_from(0, b"t", arguments), names),
         Operation::CurrentTask => true,
-        Operation::SetQuantum => false,
-        Operation::SetDeadline => false,
         Operation::GetDeadline => is_built_if_there(argument_from(0, b"t", arguments), names),
-        Operation::DelayUntilAndSetDeadline => false,
         Operation::PortValue => is_there(argument_from(0, b"n", arguments), names),
+        _ => false,
     }
 }

@@ -15,13 +15,10 @@ pub(crate) fn is_given(value: Value) -> bool
     ensures { result ≡ is_given value }
 {
     match value {
-        Value::Whole(_) => true,
-        Value::Truth(_) => true,
-        Value::Literal(_) => true,
-        Value::Ticks(_) => true,
         Value::Task(None) => true,
         Value::Task(Some(_)) => false,
         Value::Thing(_) => false,
+        _ => true,
     }
 }
 
@@ -49,13 +46,9 @@ fn is_entry(kind: Option<&EntityKind>) -> bool
 pub(crate) fn kind_of<'n>(names: &'n Names<'_>, name: &Name) -> Option<&'n EntityKind>
     ensures { option_copied result ≡ kind_of names.now name.now }
 {
-    match denoted_by(names, name) {
-        None => None,
-        Some(denoted) => match entity_of(denoted) {
-            None => None,
-            Some(entity) => kind_at(names, entity),
-        },
-    }
+    let denoted = denoted_by(names, name)?;
+    let entity = entity_of(denoted)?;
+    kind_at(names, entity)
 }
 
 /// An attribute of a name (4.1.4).
@@ -88,9 +81,6 @@ pub(crate) fn entity_built(kind: &EntityKind, index: bool) -> bool
     ensures { result ≡ entity_built kind.now index }
 {
     match kind {
-        EntityKind::Package => false,
-        EntityKind::Main => false,
-        EntityKind::Mark(_) => false,
         EntityKind::Literal { .. } => true,
         EntityKind::Object {
             subtype,
@@ -104,9 +94,6 @@ pub(crate) fn entity_built(kind: &EntityKind, index: bool) -> bool
         } => object_built(*subtype, *declaration, index),
         EntityKind::LoopParameter(_) => index,
         EntityKind::Component { .. } => index,
-        EntityKind::Exception(_) => false,
-        EntityKind::Subprogram { .. } => false,
-        EntityKind::Entry { .. } => false,
-        EntityKind::Label => false,
+        _ => false,
     }
 }

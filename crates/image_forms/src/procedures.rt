@@ -35,30 +35,18 @@ pub(crate) fn procedure_built(
 {
     match operation {
         Operation::PutLine => text_built(argument_from(0, b"item", arguments), names),
-        Operation::Clock => false,
-        Operation::Microseconds => false,
-        Operation::Milliseconds => false,
-        Operation::Seconds => false,
-        Operation::Minutes => false,
-        Operation::ToDuration => false,
-        Operation::ToTimeSpan => false,
         Operation::SetEvent => moment_there(arguments, names),
         Operation::CancelEvent => {
             variable_there(argument_from(1, b"cancelled", arguments), names)
         }
-        Operation::TimeOfEvent => false,
-        Operation::ExecutionClock => false,
         Operation::SetTimer => moment_there(arguments, names),
         Operation::CancelTimer => {
             variable_there(argument_from(1, b"cancelled", arguments), names)
         }
-        Operation::TimeRemaining => false,
         Operation::AddTask => value_there(argument_from(1, b"t", arguments), names),
         Operation::RemoveTask => value_there(argument_from(1, b"t", arguments), names),
         Operation::Replenish => value_there(argument_from(1, b"to", arguments), names),
         Operation::Add => value_there(argument_from(1, b"interval", arguments), names),
-        Operation::BudgetHasExpired => false,
-        Operation::BudgetRemaining => false,
         Operation::SetBudget => true,
         Operation::CancelBudget => {
             variable_there(argument_from(1, b"cancelled", arguments), names)
@@ -67,8 +55,6 @@ pub(crate) fn procedure_built(
             value_there(argument_from(0, b"priority", arguments), names)
                 && value_if_there(argument_from(1, b"t", arguments), names)
         }
-        Operation::GetPriority => false,
-        Operation::CurrentTask => false,
         Operation::SetQuantum => {
             value_there(argument_from(0, b"pri", arguments), names)
                 && value_there(argument_from(1, b"quantum", arguments), names)
@@ -77,11 +63,10 @@ pub(crate) fn procedure_built(
             value_there(argument_from(0, b"d", arguments), names)
                 && value_if_there(argument_from(1, b"t", arguments), names)
         }
-        Operation::GetDeadline => false,
         Operation::DelayUntilAndSetDeadline => {
             value_there(argument_from(0, b"delay_until_time", arguments), names)
                 && value_there(argument_from(1, b"deadline_offset", arguments), names)
         }
-        Operation::PortValue => false,
+        _ => false,
     }
 }

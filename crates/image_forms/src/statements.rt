@@ -42,7 +42,6 @@ fn statement_built<Q: HasForm>(statement: &Statement<Q>, names: &Names<'_>) -> b
     ensures { result ≡ statement_built Q.built statement.now names.now }
 {
     match statement {
-        Statement::Null { .. } => true,
         Statement::Assignment(assignment) => assignment_built(assignment, names),
         Statement::Call(call) => call_statement_built(call, names),
         Statement::Delay(delay) => expression_built(&delay.value, names),
@@ -52,11 +51,9 @@ fn statement_built<Q: HasForm>(statement: &Statement<Q>, names: &Names<'_>) -> b
         Statement::Exit(exit) => value_if_there(exit.condition.as_ref(), names),
         Statement::Block(block) => block.sequence.is_built(names),
         Statement::Return { value, .. } => source_if_there(value, names),
-        Statement::Raise { .. } => true,
-        Statement::Abort { .. } => true,
         Statement::Accept(accept) => accept_body_built(&accept.body, names),
-        Statement::Requeue { .. } => true,
         Statement::Select(select) => select_built(&select.form, names),
+        _ => true,
     }
 }
 

@@ -13,19 +13,11 @@ fn piece_built(expression: &Expression, names: &Names<'_>) -> bool
     ensures { result ≡ piece_built expression.now names.now }
 {
     match expression.form.get() {
-        ExpressionForm::Logical { .. } => false,
-        ExpressionForm::Relational { .. } => false,
-        ExpressionForm::Adding { .. } => false,
-        ExpressionForm::Signed { .. } => false,
-        ExpressionForm::Multiplying { .. } => false,
-        ExpressionForm::Highest { .. } => false,
-        ExpressionForm::Number { .. } => false,
         ExpressionForm::Text { .. } => true,
-        ExpressionForm::Null { .. } => false,
-        ExpressionForm::Bracketed { .. } => false,
         ExpressionForm::Named { arguments, .. } => {
             value_there(first_argument(arguments.as_slice()), names)
         }
+        _ => false,
     }
 }
 
@@ -53,21 +45,14 @@ fn whole_text_built(expression: &Expression, names: &Names<'_>) -> bool
     ensures { result ≡ text_form_built (out-Expression expression.now).form names.now }
 {
     match expression.form.get() {
-        ExpressionForm::Logical { .. } => false,
-        ExpressionForm::Relational { .. } => false,
         ExpressionForm::Adding { first, others } => {
             piece_built(first, names) && other_pieces_built(others, names)
         }
-        ExpressionForm::Signed { .. } => false,
-        ExpressionForm::Multiplying { .. } => false,
-        ExpressionForm::Highest { .. } => false,
-        ExpressionForm::Number { .. } => false,
         ExpressionForm::Text { .. } => true,
-        ExpressionForm::Null { .. } => false,
-        ExpressionForm::Bracketed { .. } => false,
         ExpressionForm::Named { arguments, .. } => {
             value_there(first_argument(arguments.as_slice()), names)
         }
+        _ => false,
     }
 }
 

@@ -25,15 +25,9 @@ fn declaration_put<Q>(
 {
     match declaration {
         Declaration::Object(object) => objects_put(alloc, lists, within, part, object, next),
-        Declaration::Type(_) => Ok(next),
-        Declaration::Subtype(_) => Ok(next),
-        Declaration::Exception { .. } => Ok(next),
-        Declaration::Subprogram(_) => Ok(next),
-        Declaration::SubprogramBody { .. } => Ok(next),
         Declaration::Task(task) => {
             single_put(alloc, lists, within, part, task.is_type, &task.name, next)
         }
-        Declaration::TaskBody { .. } => Ok(next),
         Declaration::Protected(protected) => {
             single_put(
                 alloc,
@@ -45,8 +39,7 @@ fn declaration_put<Q>(
                 next,
             )
         }
-        Declaration::ProtectedBody(_) => Ok(next),
-        Declaration::Use { .. } => Ok(next),
+        _ => Ok(next),
     }
 }
 
@@ -79,16 +72,8 @@ fn makes_task<Q>(within: &Within<'_, '_>, declaration: &Declaration<Q>) -> bool
 {
     match declaration {
         Declaration::Object(object) => object_makes_task(within, object),
-        Declaration::Type(_) => false,
-        Declaration::Subtype(_) => false,
-        Declaration::Exception { .. } => false,
-        Declaration::Subprogram(_) => false,
-        Declaration::SubprogramBody { .. } => false,
         Declaration::Task(task) => !task.is_type,
-        Declaration::TaskBody { .. } => false,
-        Declaration::Protected(_) => false,
-        Declaration::ProtectedBody(_) => false,
-        Declaration::Use { .. } => false,
+        _ => false,
     }
 }
 

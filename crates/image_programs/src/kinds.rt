@@ -12,15 +12,6 @@ fn kind_of_type(of_type: AdaType, initial: Initial) -> DeclarationKind
     ensures { result ≡ kind_of_type of_type initial }
 {
     match of_type {
-        AdaType::Integer => DeclarationKind::Object(initial),
-        AdaType::Boolean => DeclarationKind::Object(initial),
-        AdaType::Duration => DeclarationKind::Object(initial),
-        AdaType::Enumeration(_) => DeclarationKind::Object(initial),
-        AdaType::Array(_) => DeclarationKind::Object(initial),
-        AdaType::Time => DeclarationKind::Object(initial),
-        AdaType::TimeSpan => DeclarationKind::Object(initial),
-        AdaType::CpuTime => DeclarationKind::Object(initial),
-        AdaType::TaskId => DeclarationKind::Object(initial),
         AdaType::TimingEvent => DeclarationKind::Event,
         AdaType::Timer => DeclarationKind::Other,
         AdaType::GroupBudget => DeclarationKind::Budget,
@@ -29,6 +20,7 @@ fn kind_of_type(of_type: AdaType, initial: Initial) -> DeclarationKind
         AdaType::Derived(of_type) => DeclarationKind::Controlled(of_type),
         AdaType::Task(unit) => DeclarationKind::Task(unit),
         AdaType::Protected(unit) => DeclarationKind::Protected(unit),
+        _ => DeclarationKind::Object(initial),
     }
 }
 

@@ -125,15 +125,6 @@ fn runs_of_type(
     ensures { OnOk result (runs.new ≡ runs.old ++ runs_of_type names.now place subtype of_type) }
 {
     match of_type {
-        AdaType::Integer => run_of_values(names, runs, place, subtype),
-        AdaType::Boolean => run_of_values(names, runs, place, subtype),
-        AdaType::Duration => run_of_values(names, runs, place, subtype),
-        AdaType::Enumeration(_) => run_of_values(names, runs, place, subtype),
-        AdaType::Array(_) => run_of_values(names, runs, place, subtype),
-        AdaType::Time => run_of_values(names, runs, place, subtype),
-        AdaType::TimeSpan => run_of_values(names, runs, place, subtype),
-        AdaType::CpuTime => run_of_values(names, runs, place, subtype),
-        AdaType::TaskId => run_of_values(names, runs, place, subtype),
         AdaType::TimingEvent => Ok(()),
         AdaType::Timer => Ok(()),
         AdaType::GroupBudget => Ok(()),
@@ -146,6 +137,7 @@ fn runs_of_type(
         AdaType::Protected(unit) => {
             runs_behind(names, runs, place, 16, ComponentOwner::Protected(unit))
         }
+        _ => run_of_values(names, runs, place, subtype),
     }
 }
 

@@ -34,10 +34,7 @@ fn keeps(sort: Sort, subtype: Option<Subtype>) -> bool
 {
     match sort {
         Sort::Object => subtype_is_kept(subtype),
-        Sort::Component(_) => false,
-        Sort::Parameter => false,
-        Sort::LoopParameter => false,
-        Sort::Exception => false,
+        _ => false,
     }
 }
 
@@ -94,10 +91,8 @@ fn outer_of(scope: &NumberedScope) -> Option<ScopeNo>
 fn first_of(firsts: &List<FirstAction>, scope: u32) -> Option<StatementNo>
     ensures { result ≡ and_then (first_action firsts.now scope) (λ f. f.action) }
 {
-    match first_action(firsts, scope) {
-        None => None,
-        Some(first) => first.action,
-    }
+    let first = first_action(firsts, scope)?;
+    first.action
 }
 
 fn runs_of_scope(

@@ -17,18 +17,8 @@ fn raised_kind(kind: &EntityKind) -> Raised
     ensures { result ≡ raised_kind kind.now }
 {
     match kind {
-        EntityKind::Package => Raised::Program,
-        EntityKind::Main => Raised::Program,
-        EntityKind::Mark(_) => Raised::Program,
-        EntityKind::Literal { .. } => Raised::Program,
-        EntityKind::Object { .. } => Raised::Program,
-        EntityKind::Parameter { .. } => Raised::Program,
-        EntityKind::LoopParameter(_) => Raised::Program,
-        EntityKind::Component { .. } => Raised::Program,
         EntityKind::Exception(declaration) => Raised::User(declaration.0),
-        EntityKind::Subprogram { .. } => Raised::Program,
-        EntityKind::Entry { .. } => Raised::Program,
-        EntityKind::Label => Raised::Program,
+        _ => Raised::Program,
     }
 }
 
@@ -37,11 +27,8 @@ fn raised_item(item: Predefined) -> Raised
     ensures { result ≡ raised_item item }
 {
     match item {
-        Predefined::Mark(_) => Raised::Program,
-        Predefined::Constant { .. } => Raised::Program,
-        Predefined::Truth(_) => Raised::Program,
         Predefined::Exception(raised) => raised,
-        Predefined::Operation(_) => Raised::Program,
+        _ => Raised::Program,
     }
 }
 

@@ -18,18 +18,9 @@ fn number_of_kind(kind: &EntityKind) -> Option<DeclNo>
     ensures { result ≡ number_of_kind kind.now }
 {
     match kind {
-        EntityKind::Package => None,
-        EntityKind::Main => None,
-        EntityKind::Mark(_) => None,
-        EntityKind::Literal { .. } => None,
         EntityKind::Object { declaration, .. } => Some(*declaration),
-        EntityKind::Parameter { .. } => None,
         EntityKind::LoopParameter(declaration) => Some(*declaration),
-        EntityKind::Component { .. } => None,
-        EntityKind::Exception(_) => None,
-        EntityKind::Subprogram { .. } => None,
-        EntityKind::Entry { .. } => None,
-        EntityKind::Label => None,
+        _ => None,
     }
 }
 
@@ -37,10 +28,8 @@ fn number_of_kind(kind: &EntityKind) -> Option<DeclNo>
 fn number_of_identifier(known: &Known<'_, '_>, name: &Identifier) -> Option<DeclNo>
     ensures { result ≡ and_then (kind_of_identifier known.now name.now) number_of_kind }
 {
-    match kind_of_identifier(known, name) {
-        None => None,
-        Some(kind) => number_of_kind(kind),
-    }
+    let kind = kind_of_identifier(known, name)?;
+    number_of_kind(kind)
 }
 
 /// The declaration of what has cells.

@@ -24,10 +24,8 @@ use world_tables::List;
 pub fn type_of_mark(known: &Known<'_, '_>, indication: &SubtypeIndication) -> Option<AdaType>
     ensures { result ≡ type_of_mark known.now indication.now }
 {
-    match indicated_subtype(known.names.get(), indication) {
-        None => None,
-        Some(subtype) => Some(subtype.of_type),
-    }
+    let subtype = indicated_subtype(known.names.get(), indication)?;
+    Some(subtype.of_type)
 }
 
 /// What restricts a subtype mark.
@@ -75,17 +73,14 @@ fn may_be_indicated(purpose: IndicationUse, t: AdaType) -> bool
     ensures { result ≡ may_be_indicated purpose t }
 {
     match purpose {
-        IndicationUse::ForObject => true,
-        IndicationUse::ForSubtype => true,
         IndicationUse::ForResult => is_scalar(t),
-        IndicationUse::ForArrayComponent => true,
         IndicationUse::ForComponent => is_scalar_or_array(t),
-        IndicationUse::ForProtectedComponent(_) => true,
         IndicationUse::ForParameter { in_unit, overrides } => {
             is_scalar(t)
                 || ((in_unit && is_event_timer_or_budget(t))
                     || (overrides && is_controlled_type(t)))
         }
+        _ => true,
     }
 }
 

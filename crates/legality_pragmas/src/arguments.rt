@@ -97,17 +97,8 @@ fn whole_literal(form: &ExpressionForm<Expression>) -> Result<Option<i128>, NoMe
     ensures { IfOk result (λ n. n ≡ whole_literal form.now) }
 {
     match form {
-        ExpressionForm::Logical { .. } => Ok(None),
-        ExpressionForm::Relational { .. } => Ok(None),
-        ExpressionForm::Adding { .. } => Ok(None),
-        ExpressionForm::Signed { .. } => Ok(None),
-        ExpressionForm::Multiplying { .. } => Ok(None),
-        ExpressionForm::Highest { .. } => Ok(None),
         ExpressionForm::Number { literal, .. } => whole_number(literal.as_slice()),
-        ExpressionForm::Text { .. } => Ok(None),
-        ExpressionForm::Null { .. } => Ok(None),
-        ExpressionForm::Bracketed { .. } => Ok(None),
-        ExpressionForm::Named { .. } => Ok(None),
+        _ => Ok(None),
     }
 }
 
@@ -165,10 +156,7 @@ fn end_of_range(attribute: Attribute, range: Constraint) -> Option<i128>
             None => None,
             Some(ends) => Some(ends.high),
         },
-        Attribute::Image => None,
-        Attribute::Count => None,
-        Attribute::Identity => None,
-        Attribute::Access => None,
+        _ => None,
     }
 }
 
@@ -179,10 +167,7 @@ fn negative_number(operand: &Expression) -> Result<Option<i128>, NoMemory>
 {
     match whole_literal(operand.form.get())? {
         None => Ok(None),
-        Some(number) => match number.checked_neg() {
-            None => Err(NoMemory),
-            Some(number) => Ok(Some(number)),
-        },
+        Some(number) => Ok(Some(number.checked_neg().ok_or(NoMemory)?)),
     }
 }
 
@@ -195,15 +180,13 @@ fn number_of_name(
 ) -> Option<i128>
     ensures { result ≡ number_of_form (form.Named name.now attribute.now arguments.now) }
 {
-    match attribute {
-        None => None,
-        Some(designator) => match arguments {
-            [] => match integer_behind(&name.parts.first, name.parts.others.as_slice()) {
-                None => None,
-                Some(subtype) => end_of_range(designator.attribute, subtype.range),
-            },
-            _ => None,
+    let designator = attribute.as_ref()?;
+    match arguments {
+        [] => match integer_behind(&name.parts.first, name.parts.others.as_slice()) {
+            None => None,
+            Some(subtype) => end_of_range(designator.attribute, subtype.range),
         },
+        _ => None,
     }
 }
 
@@ -223,21 +206,14 @@ fn number_of_form(form: &ExpressionForm<Expression>) -> Result<Option<i128>, NoM
     ensures { IfOk result (λ n. n ≡ number_of_form form.now) }
 {
     match form {
-        ExpressionForm::Logical { .. } => Ok(None),
-        ExpressionForm::Relational { .. } => Ok(None),
-        ExpressionForm::Adding { .. } => Ok(None),
         ExpressionForm::Signed { sign, operand, .. } => signed_number(*sign, operand),
-        ExpressionForm::Multiplying { .. } => Ok(None),
-        ExpressionForm::Highest { .. } => Ok(None),
         ExpressionForm::Number { literal, .. } => whole_number(literal.as_slice()),
-        ExpressionForm::Text { .. } => Ok(None),
-        ExpressionForm::Null { .. } => Ok(None),
-        ExpressionForm::Bracketed { .. } => Ok(None),
         ExpressionForm::Named {
             name,
             attribute,
             arguments,
         } => Ok(number_of_name(name, attribute, arguments.as_slice())),
+        _ => Ok(None),
     }
 }
 

@@ -39,13 +39,10 @@ fn result_kept(
         return Err(OrMemory::Fault(Raised::Program));
     };
     let x = or_raised(checked(range, v))?;
-    match home(world, subprogram_of(p, f).scope, innermost(world, name)) {
-        Some(id) => {
-            write_cell(world, id, result_place(p, f), x);
-            Ok(())
-        }
-        None => Err(OrMemory::Fault(Raised::Program)),
-    }
+    let scope = subprogram_of(p, f).scope;
+    let id = home(world, scope, innermost(world, name)).ok_or(OrMemory::Fault(Raised::Program))?;
+    write_cell(world, id, result_place(p, f), x);
+    Ok(())
 }
 
 // A function's result, range checked, is kept, and the marks are left to its body.
@@ -139,11 +136,7 @@ fn falls_through(leaving: Leaving, to: ResultTo) -> bool
             ResultTo::Variable(_) => true,
             ResultTo::Return(_) => true,
         },
-        Leaving::Return => false,
-        Leaving::Exit(_) => false,
-        Leaving::Exception(_) => false,
-        Leaving::Abort => false,
-        Leaving::Terminate => false,
+        _ => false,
     }
 }
 

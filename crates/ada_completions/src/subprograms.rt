@@ -36,20 +36,16 @@ fn specified_number(kind: &EntityKind) -> Option<SubprogramNo>
 pub fn entity_bound(names: &Names<'_>, region: u32, name: &[u8]) -> Option<u32>
     ensures { result ≡ entity_bound names.now region name.now }
 {
-    match binding_in(&names.bindings, region, name) {
-        Some(binding) => binding.entity,
-        None => None,
-    }
+    let binding = binding_in(&names.bindings, region, name)?;
+    binding.entity
 }
 
 /// The number of an entity that a subprogram declaration declares.
 fn number_specified(names: &Names<'_>, entity: u32) -> Option<SubprogramNo>
     ensures { result ≡ and_then (kind_at names.now entity) specified_number }
 {
-    match kind_at(names, entity) {
-        Some(kind) => specified_number(kind),
-        None => None,
-    }
+    let kind = kind_at(names, entity)?;
+    specified_number(kind)
 }
 
 /// Whether a subprogram declaration declares an entity.
@@ -64,15 +60,11 @@ pub fn is_specified(names: &Names<'_>, entity: u32) -> bool
 fn completed_in(names: &Names<'_>, region: u32, name: &[u8]) -> Option<u32>
     ensures { result ≡ completed_in names.now region name.now }
 {
-    match entity_bound(names, region, name) {
-        None => None,
-        Some(entity) => {
-            if is_specified(names, entity) {
-                Some(entity)
-            } else {
-                None
-            }
-        }
+    let entity = entity_bound(names, region, name)?;
+    if is_specified(names, entity) {
+        Some(entity)
+    } else {
+        None
     }
 }
 

@@ -40,10 +40,8 @@ fn type_is(kind: UnitKind, of_type: Option<AdaType>) -> bool
 pub fn type_of_entity(names: &Names<'_>, entity: u32) -> Option<AdaType>
     ensures { result ≡ and_then (kind_at names.now entity) type_of_kind }
 {
-    match kind_at(names, entity) {
-        None => None,
-        Some(kind) => type_of_kind(kind),
-    }
+    let kind = kind_at(names, entity)?;
+    type_of_kind(kind)
 }
 
 /// Whether an entity is a unit of this kind, and no other object of its type.
@@ -68,10 +66,8 @@ fn components_in(of_type: AdaType) -> Option<ComponentOwner>
 pub fn components_of(of_type: Option<AdaType>) -> Option<ComponentOwner>
     ensures { result ≡ components_of of_type }
 {
-    match of_type {
-        None => None,
-        Some(of_type) => components_in(of_type),
-    }
+    let of_type = of_type?;
+    components_in(of_type)
 }
 
 #[tactic(auto, using(crate::proofs::Edits::edited_past))]

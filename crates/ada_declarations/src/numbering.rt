@@ -21,10 +21,8 @@ pub(crate) fn next_declaration(names: &Names<'_>) -> Result<DeclNo, NoMemory>
 pub(crate) fn initial_of<'t>(initial: &'t Option<Expression>) -> Option<ExpressionOf<'t>>
     ensures { result ≡ initial.now }
 {
-    match initial {
-        None => None,
-        Some(expression) => Some(ExpressionOf::new(expression)),
-    }
+    let expression = initial.as_ref()?;
+    Some(ExpressionOf::new(expression))
 }
 
 /// A declaration of the image without an initial value.

@@ -50,16 +50,10 @@ fn object_number(kind: &EntityKind) -> Option<DeclNo>
 fn number_of_object(names: &Names<'_>, denoted: Denoted) -> Option<u32>
     ensures { result ≡ number_of_object names.now denoted }
 {
-    match entity_of(denoted) {
-        None => None,
-        Some(entity) => match kind_at(names, entity) {
-            None => None,
-            Some(kind) => match object_number(kind) {
-                None => None,
-                Some(number) => Some(number.0),
-            },
-        },
-    }
+    let entity = entity_of(denoted)?;
+    let kind = kind_at(names, entity)?;
+    let number = object_number(kind)?;
+    Some(number.0)
 }
 
 /// The constant that a timer's indication names (D.14.1).

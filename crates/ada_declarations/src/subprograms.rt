@@ -20,10 +20,8 @@ use std::alloc::Global;
 pub fn type_of_kind(kind: &EntityKind) -> Option<AdaType>
     ensures { result ≡ type_of_kind kind.now }
 {
-    match subtype_of_kind(kind) {
-        Some(subtype) => Some(subtype.of_type),
-        None => None,
-    }
+    let subtype = subtype_of_kind(kind)?;
+    Some(subtype.of_type)
 }
 
 /// The type of the construct whose region it is.
@@ -31,13 +29,9 @@ pub fn type_of_kind(kind: &EntityKind) -> Option<AdaType>
 fn owner_type(names: &Names<'_>) -> Option<AdaType>
     ensures { result ≡ owner_type names.now (innermost_frame names.now.frames) }
 {
-    match owner_here(names) {
-        None => None,
-        Some(owner) => match kind_at(names, owner) {
-            None => None,
-            Some(kind) => type_of_kind(kind),
-        },
-    }
+    let owner = owner_here(names)?;
+    let kind = kind_at(names, owner)?;
+    type_of_kind(kind)
 }
 
 fn protected_unit_of(owner: Option<ComponentOwner>) -> Option<ProtectedUnitNo>
@@ -54,20 +48,16 @@ fn protected_unit_of(owner: Option<ComponentOwner>) -> Option<ProtectedUnitNo>
 fn unit_number(unit: Option<ProtectedUnitNo>) -> Option<u32>
     ensures { result ≡ option_map (λ u. u.0) unit }
 {
-    match unit {
-        None => None,
-        Some(unit) => Some(unit.0),
-    }
+    let unit = unit?;
+    Some(unit.0)
 }
 
 /// The subtype of a function's result; a procedure has none.
 fn result_of(names: &Names<'_>, specification: &SubprogramSpecification) -> Option<Option<Subtype>>
     ensures { result ≡ option_map (indicated_subtype names.now) specification.now.result }
 {
-    match &specification.result {
-        None => None,
-        Some(indication) => Some(indicated_subtype(names, indication)),
-    }
+    let indication = specification.result.as_ref()?;
+    Some(indicated_subtype(names, indication))
 }
 
 fn numbered_subprogram<'t>(

@@ -72,10 +72,8 @@ fn is_limited_parent(parent: Option<Subtype>) -> bool
 fn parent_of(names: &Names<'_>, parent: &Name) -> Option<Subtype>
     ensures { result ≡ and_then (denoted_by names.now parent.now) (mark_denoted names.now) }
 {
-    match denoted_by(names, parent) {
-        None => None,
-        Some(denoted) => mark_denoted(names, denoted),
-    }
+    let denoted = denoted_by(names, parent)?;
+    mark_denoted(names, denoted)
 }
 
 #[tactic(auto, unfolding(ada_regions::specs::Declaring::numbered_controlled))]

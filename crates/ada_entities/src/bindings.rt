@@ -29,10 +29,8 @@ pub fn binding_in<'n>(
 ) -> Option<&'n Binding>
     ensures { option_copied result ≡ binding_in bindings.now region name.now }
 {
-    match bindings.get(region) {
-        Some(bound) => binding_among(bound, name),
-        None => None,
-    }
+    let bound = bindings.get(region)?;
+    binding_among(bound, name)
 }
 
 /// A region binds its first name.

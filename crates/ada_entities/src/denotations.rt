@@ -93,20 +93,16 @@ pub fn noted(
 fn denoted_among(columns: &Table<Denoted>, column: u32) -> Option<Denoted>
     ensures { result ≡ item_at column columns.now }
 {
-    match columns.get(column) {
-        Some(denoted) => Some(*denoted),
-        None => None,
-    }
+    let denoted = columns.get(column)?;
+    Some(*denoted)
 }
 
 /// What the name at this place denotes.
 pub fn denoted_at(names: &Names<'_>, place: Place) -> Option<Denoted>
     ensures { result ≡ denoted_at names.now place }
 {
-    match names.denotations.get(place.line) {
-        Some(columns) => denoted_among(columns, place.column),
-        None => None,
-    }
+    let columns = names.denotations.get(place.line)?;
+    denoted_among(columns, place.column)
 }
 
 /// The last identifier of a name.
@@ -138,10 +134,8 @@ pub fn entity_at<'n>(names: &'n Names<'_>, entity: u32) -> Option<&'n Entity>
 pub fn kind_at<'n>(names: &'n Names<'_>, entity: u32) -> Option<&'n EntityKind>
     ensures { option_copied result ≡ kind_at names.now entity }
 {
-    match entity_at(names, entity) {
-        Some(entity) => Some(&entity.kind),
-        None => None,
-    }
+    let entity = entity_at(names, entity)?;
+    Some(&entity.kind)
 }
 
 /// Whether an entity is a package (7.1).

@@ -17,10 +17,8 @@ use std::alloc::Global;
 fn child_of(unit: Option<PredefinedUnit>, name: &Identifier) -> Option<PredefinedUnit>
     ensures { result ≡ unit_behind unit (name.now ∷ []) }
 {
-    match unit {
-        None => None,
-        Some(unit) => child_unit(unit, name.text.as_slice()),
-    }
+    let unit = unit?;
+    child_unit(unit, name.text.as_slice())
 }
 
 /// The predefined unit behind these parts of a name.
@@ -57,10 +55,8 @@ fn unit_to_with(unit: PredefinedUnit) -> Option<Denoted>
 fn package_denoted(names: &Names<'_>, name: &[u8]) -> Option<Denoted>
     ensures { result ≡ option_map Denoted.Entity (package_named names.now name.now) }
 {
-    match package_named(names, name) {
-        None => None,
-        Some(package) => Some(Denoted::Entity(package)),
-    }
+    let package = package_named(names, name)?;
+    Some(Denoted::Entity(package))
 }
 
 fn package_to_with(names: &Names<'_>, name: &Name) -> Option<Denoted>
@@ -76,10 +72,8 @@ fn package_to_with(names: &Names<'_>, name: &Name) -> Option<Denoted>
 fn predefined_to_with(name: &Name) -> Option<Denoted>
     ensures { result ≡ and_then (unit_named name.now) unit_to_with }
 {
-    match unit_named(name) {
-        None => None,
-        Some(unit) => unit_to_with(unit),
-    }
+    let unit = unit_named(name)?;
+    unit_to_with(unit)
 }
 
 /// The library unit that a with clause names: a predefined one, or an earlier package.

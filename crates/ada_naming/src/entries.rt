@@ -35,15 +35,11 @@ fn is_entry_at(names: &Names<'_>, entity: u32) -> bool
 pub(crate) fn entry_owner(names: &Names<'_>, entity: Option<u32>) -> Option<u32>
     ensures { result ≡ entry_owner names.now entity }
 {
-    match entity {
-        None => None,
-        Some(entity) => {
-            if is_entry_at(names, entity) {
-                Some(entity)
-            } else {
-                None
-            }
-        }
+    let entity = entity?;
+    if is_entry_at(names, entity) {
+        Some(entity)
+    } else {
+        None
     }
 }
 
@@ -60,13 +56,9 @@ fn entry_number(kind: &EntityKind) -> Option<EntryNo>
 fn number_of_entry(names: &Names<'_>, entity: Option<u32>) -> Option<EntryNo>
     ensures { result ≡ and_then entity (λ x. and_then (kind_at names.now x) entry_number) }
 {
-    match entity {
-        None => None,
-        Some(entity) => match kind_at(names, entity) {
-            None => None,
-            Some(kind) => entry_number(kind),
-        },
-    }
+    let entity = entity?;
+    let kind = kind_at(names, entity)?;
+    entry_number(kind)
 }
 
 #[tactic(auto, using(ada_completions::proofs::Edits::edited_past))]

@@ -28,10 +28,8 @@ fn package_if(names: &Names<'_>, entity: u32) -> Option<u32>
 pub(crate) fn package_named(names: &Names<'_>, name: &[u8]) -> Option<u32>
     ensures { result ≡ package_named names.now name.now }
 {
-    match entity_bound(names, 0, name) {
-        None => None,
-        Some(entity) => package_if(names, entity),
-    }
+    let entity = entity_bound(names, 0, name)?;
+    package_if(names, entity)
 }
 
 fn context_found<'n>(names: &'n Names<'_>, entity: u32) -> Option<&'n PackageContext>

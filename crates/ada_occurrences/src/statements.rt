@@ -11,7 +11,6 @@ use ada_tree::{
     Parameter, Statement, SubtypeIndication,
 };
 use ann_base::{NoMemory, Place};
-use sqlite_items::Items;
 
 /// A name that is used.
 impl Tell for Name {

@@ -42,10 +42,8 @@ fn ticks(seconds: u128, decimals: u64) -> Option<u128>
     ensures { SomeIff result (seconds * 1000000 + decimals < 2 ^ 128)
         (seconds * 1000000 + decimals) }
 {
-    match seconds.checked_mul(1_000_000) {
-        None => None,
-        Some(ticks) => ticks.checked_add(u128::from(decimals)),
-    }
+    let ticks = seconds.checked_mul(1_000_000)?;
+    ticks.checked_add(u128::from(decimals))
 }
 
 /// A literal in ticks of a microsecond, where 128 bits hold it.
@@ -53,10 +51,8 @@ fn ticks(seconds: u128, decimals: u64) -> Option<u128>
 pub fn micros_of(literal: &[u8]) -> Option<u128>
     ensures { SomeIff result (micros_of literal.now < 2 ^ 128) (micros_of literal.now) }
 {
-    match whole_value(literal) {
-        None => None,
-        Some(seconds) => ticks(seconds, six_digits(decimals(literal))),
-    }
+    let seconds = whole_value(literal)?;
+    ticks(seconds, six_digits(decimals(literal)))
 }
 
 fn in_integer(literal: &[u8]) -> Option<Value>

@@ -110,28 +110,22 @@ pub fn subtype_denoted(names: &Names<'_>, denoted: Denoted) -> Option<Subtype>
 pub fn subtype_of_name(names: &Names<'_>, name: &Name) -> Option<Subtype>
     ensures { result ≡ subtype_of_name names.now name.now }
 {
-    match denoted_by(names, name) {
-        Some(denoted) => subtype_denoted(names, denoted),
-        None => None,
-    }
+    let denoted = denoted_by(names, name)?;
+    subtype_denoted(names, denoted)
 }
 
 fn low_end(names: &Names<'_>, subtype: Option<Subtype>) -> Option<Value>
     ensures { result ≡ and_then subtype (λ s. low_of (range_named names.now s)) }
 {
-    match subtype {
-        Some(subtype) => low_of(range_named(names, subtype)),
-        None => None,
-    }
+    let subtype = subtype?;
+    low_of(range_named(names, subtype))
 }
 
 fn high_end(names: &Names<'_>, subtype: Option<Subtype>) -> Option<Value>
     ensures { result ≡ and_then subtype (λ s. high_of (range_named names.now s)) }
 {
-    match subtype {
-        Some(subtype) => high_of(range_named(names, subtype)),
-        None => None,
-    }
+    let subtype = subtype?;
+    high_of(range_named(names, subtype))
 }
 
 /// The static value of an attribute of a name, if it has one.

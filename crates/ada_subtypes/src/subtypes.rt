@@ -78,13 +78,9 @@ fn constrained(names: &Names<'_>, constraint: &Option<Indicated>, subtype: Subty
 pub fn indicated_subtype(names: &Names<'_>, indication: &SubtypeIndication) -> Option<Subtype>
     ensures { result ≡ indicated_subtype names.now indication.now }
 {
-    match denoted_by(names, &indication.name) {
-        None => None,
-        Some(denoted) => match mark_denoted(names, denoted) {
-            None => None,
-            Some(subtype) => Some(constrained(names, &indication.constraint, subtype)),
-        },
-    }
+    let denoted = denoted_by(names, &indication.name)?;
+    let subtype = mark_denoted(names, denoted)?;
+    Some(constrained(names, &indication.constraint, subtype))
 }
 
 /// An array type (3.6).

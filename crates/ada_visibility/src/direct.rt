@@ -28,10 +28,8 @@ fn innermost_binding<'n>(
 pub fn item_of(last: u8, unit: PredefinedUnit, name: &[u8]) -> Option<Denoted>
     ensures { result ≡ item_of last unit name.now }
 {
-    match item_in(last, unit, name) {
-        Some(item) => Some(Denoted::Item { unit, item }),
-        None => None,
-    }
+    let item = item_in(last, unit, name)?;
+    Some(Denoted::Item { unit, item })
 }
 
 /// What package Standard has under a name, with the library units that stand in no other (10.1).

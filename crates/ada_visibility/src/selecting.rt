@@ -55,10 +55,8 @@ fn region_of_type(names: &Names<'_>, of_type: AdaType) -> Option<u32>
 fn region_of_subtype(names: &Names<'_>, subtype: Option<Subtype>) -> Option<u32>
     ensures { result ≡ region_of_subtype names.now subtype }
 {
-    match subtype {
-        None => None,
-        Some(subtype) => region_of_type(names, subtype.of_type),
-    }
+    let subtype = subtype?;
+    region_of_type(names, subtype.of_type)
 }
 
 /// The region whose exported names stand behind an entity's name.
@@ -86,10 +84,8 @@ fn region_selected(names: &Names<'_>, own: Option<u32>, kind: &EntityKind) -> Op
 fn exported_by(names: &Names<'_>, name: &[u8], entity: &Entity) -> Option<Denoted>
     ensures { result ≡ exported_by names.now name.now entity.now }
 {
-    match region_selected(names, entity.region, &entity.kind) {
-        Some(region) => exported_from(names, name, region),
-        None => None,
-    }
+    let region = region_selected(names, entity.region, &entity.kind)?;
+    exported_from(names, name, region)
 }
 
 fn is_owned_by(entity: u32, owner: Option<u32>) -> bool
@@ -116,10 +112,8 @@ fn frame_of<'n>(names: &'n Names<'_>, entity: u32) -> Option<&'n Frame>
 fn declared_inside(names: &Names<'_>, name: &[u8], frame: &Frame) -> Option<Denoted>
     ensures { result ≡ declared_inside names.now name.now frame.now }
 {
-    match binding_in(&names.bindings, frame.region, name) {
-        Some(binding) => bound(binding),
-        None => None,
-    }
+    let binding = binding_in(&names.bindings, frame.region, name)?;
+    bound(binding)
 }
 
 /// What stands under a name behind an entity that is open, or one that is not.

@@ -26,10 +26,8 @@ fn is_unit_or_parent(unit: PredefinedUnit, other: Option<PredefinedUnit>) -> boo
 fn grandparent(unit: PredefinedUnit) -> Option<PredefinedUnit>
     ensures { result ≡ and_then (parent_unit unit) parent_unit }
 {
-    match parent_unit(unit) {
-        None => None,
-        Some(parent) => parent_unit(parent),
-    }
+    let parent = parent_unit(unit)?;
+    parent_unit(parent)
 }
 
 /// Whether a unit is another one, or one in which that stands (10.1.2).
@@ -93,10 +91,8 @@ fn exported_binding<'n>(names: &'n Names<'_>, name: &[u8], region: u32) -> Optio
     ensures { option_copied result
         ≡ and_then (item_at region names.now.bindings) (find (exports_name name.now)) }
 {
-    match names.bindings.get(region) {
-        Some(bound) => exported_among(bound, name),
-        None => None,
-    }
+    let bound = names.bindings.get(region)?;
+    exported_among(bound, name)
 }
 
 /// What a region has under a name that is visible from outside it.
@@ -104,10 +100,8 @@ fn exported_binding<'n>(names: &'n Names<'_>, name: &[u8], region: u32) -> Optio
 pub(crate) fn exported_from(names: &Names<'_>, name: &[u8], region: u32) -> Option<Denoted>
     ensures { result ≡ exported_from names.now name.now region }
 {
-    match exported_binding(names, name, region) {
-        Some(binding) => bound(binding),
-        None => None,
-    }
+    let binding = exported_binding(names, name, region)?;
+    bound(binding)
 }
 
 /// What a use clause for a predefined unit makes visible.

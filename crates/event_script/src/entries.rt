@@ -46,13 +46,9 @@ fn once_at(tick: &[u8], number: &[u8]) -> Result<TickAndNumber, ScriptFaultKind>
     ensures read { result ≡ once_at (tick_in tick.now) (number_of number.now) }
     ensures limits { IfOk result IsTickAndNumber }
 {
-    match tick_in(tick) {
-        None => Err(ScriptFaultKind::BadNumber),
-        Some(tick) => match number_of(number) {
-            Ok(number) => Ok(TickAndNumber { tick, number }),
-            Err(kind) => Err(kind),
-        },
-    }
+    let tick = tick_in(tick).ok_or(ScriptFaultKind::BadNumber)?;
+    let number = number_of(number)?;
+    Ok(TickAndNumber { tick, number })
 }
 
 /// A tick, and one word more: a number.
@@ -60,10 +56,8 @@ fn once(tick: &[u8], rest: &[u8]) -> Result<TickAndNumber, ScriptFaultKind>
     ensures read { result ≡ once tick.now (one_word (words_of rest.now)) }
     ensures limits { IfOk result IsTickAndNumber }
 {
-    match one_word(rest) {
-        None => Err(ScriptFaultKind::BadLine),
-        Some(number) => once_at(tick, number),
-    }
+    let number = one_word(rest).ok_or(ScriptFaultKind::BadLine)?;
+    once_at(tick, number)
 }
 
 fn interrupt_line(tick: &[u8], rest: &[u8]) -> Result<Entry, ScriptFaultKind>
@@ -71,30 +65,24 @@ fn interrupt_line(tick: &[u8], rest: &[u8]) -> Result<Entry, ScriptFaultKind>
         ≡ with_item item.Interrupt (once tick.now (one_word (words_of rest.now))) }
     ensures limits { IfOk result IsEntry }
 {
-    match once(tick, rest) {
-        Ok(once) => Ok(at_tick(once.tick, Item::Interrupt(once.number))),
-        Err(kind) => Err(kind),
-    }
+    let once = once(tick, rest)?;
+    Ok(at_tick(once.tick, Item::Interrupt(once.number)))
 }
 
 fn mask_line(tick: &[u8], rest: &[u8]) -> Result<Entry, ScriptFaultKind>
     ensures read { result ≡ with_item item.Mask (once tick.now (one_word (words_of rest.now))) }
     ensures limits { IfOk result IsEntry }
 {
-    match once(tick, rest) {
-        Ok(once) => Ok(at_tick(once.tick, Item::Mask(once.number))),
-        Err(kind) => Err(kind),
-    }
+    let once = once(tick, rest)?;
+    Ok(at_tick(once.tick, Item::Mask(once.number)))
 }
 
 fn unmask_line(tick: &[u8], rest: &[u8]) -> Result<Entry, ScriptFaultKind>
     ensures read { result ≡ with_item item.Unmask (once tick.now (one_word (words_of rest.now))) }
     ensures limits { IfOk result IsEntry }
 {
-    match once(tick, rest) {
-        Ok(once) => Ok(at_tick(once.tick, Item::Unmask(once.number))),
-        Err(kind) => Err(kind),
-    }
+    let once = once(tick, rest)?;
+    Ok(at_tick(once.tick, Item::Unmask(once.number)))
 }
 
 fn port_at(value: &[u8], tick: &[u8], number: &[u8]) -> Result<Entry, ScriptFaultKind>
@@ -102,23 +90,17 @@ fn port_at(value: &[u8], tick: &[u8], number: &[u8]) -> Result<Entry, ScriptFaul
         ≡ port_at (value_in value.now) (once_at (tick_in tick.now) (number_of number.now)) }
     ensures limits { IfOk result IsEntry }
 {
-    match value_in(value) {
-        None => Err(ScriptFaultKind::BadNumber),
-        Some(value) => match once_at(tick, number) {
-            Ok(once) => Ok(at_tick(once.tick, Item::Port(once.number, value))),
-            Err(kind) => Err(kind),
-        },
-    }
+    let value = value_in(value).ok_or(ScriptFaultKind::BadNumber)?;
+    let once = once_at(tick, number)?;
+    Ok(at_tick(once.tick, Item::Port(once.number, value)))
 }
 
 fn port_line(tick: &[u8], rest: &[u8]) -> Result<Entry, ScriptFaultKind>
     ensures read { result ≡ port_line tick.now (two_words (words_of rest.now)) }
     ensures limits { IfOk result IsEntry }
 {
-    match two_words(rest) {
-        None => Err(ScriptFaultKind::BadLine),
-        Some((number, value)) => port_at(value, tick, number),
-    }
+    let (number, value) = two_words(rest).ok_or(ScriptFaultKind::BadLine)?;
+    port_at(value, tick, number)
 }
 
 /// Whether the last of so many items comes in time.
@@ -138,15 +120,13 @@ fn every_number(tick: u32, period: u32, count: u32, number: &[u8]) -> Result<Ent
     if !ends_in_time(tick, period, count) {
         return Err(ScriptFaultKind::BadNumber);
     }
-    match number_of(number) {
-        Ok(number) => Ok(Entry {
-            tick,
-            period,
-            count,
-            item: Item::Interrupt(number),
-        }),
-        Err(kind) => Err(kind),
-    }
+    let number = number_of(number)?;
+    Ok(Entry {
+        tick,
+        period,
+        count,
+        item: Item::Interrupt(number),
+    })
 }
 
 fn every_at(
@@ -160,16 +140,10 @@ fn every_at(
         (number_in 1 MOST_ITEMS count.now) (number_of number.now) }
     ensures limits { IfOk result IsEntry }
 {
-    match tick_in(tick) {
-        None => Err(ScriptFaultKind::BadNumber),
-        Some(tick) => match number_in(period, 1, LAST_TICK) {
-            None => Err(ScriptFaultKind::BadNumber),
-            Some(period) => match number_in(count, 1, MOST_ITEMS as u32) {
-                None => Err(ScriptFaultKind::BadNumber),
-                Some(count) => every_number(tick, period, count, number),
-            },
-        },
-    }
+    let tick = tick_in(tick).ok_or(ScriptFaultKind::BadNumber)?;
+    let period = number_in(period, 1, LAST_TICK).ok_or(ScriptFaultKind::BadNumber)?;
+    let count = number_in(count, 1, MOST_ITEMS as u32).ok_or(ScriptFaultKind::BadNumber)?;
+    every_number(tick, period, count, number)
 }
 
 /// Whether these may be the words of a line that begins with `TICK every`.
@@ -189,15 +163,11 @@ fn every_with(
         ≡ every_with tick.now period.now count.now (two_words (words_of rest.now)) }
     ensures limits { IfOk result IsEntry }
 {
-    match two_words(rest) {
-        None => Err(ScriptFaultKind::BadLine),
-        Some((keyword, number)) => {
-            if is_every(period, count, keyword) {
-                every_at(tick, period, count, number)
-            } else {
-                Err(ScriptFaultKind::BadLine)
-            }
-        }
+    let (keyword, number) = two_words(rest).ok_or(ScriptFaultKind::BadLine)?;
+    if is_every(period, count, keyword) {
+        every_at(tick, period, count, number)
+    } else {
+        Err(ScriptFaultKind::BadLine)
     }
 }
 
@@ -205,13 +175,9 @@ fn every_line(tick: &[u8], rest: &[u8]) -> Result<Entry, ScriptFaultKind>
     ensures read { result ≡ every_line tick.now (words_of rest.now) }
     ensures limits { IfOk result IsEntry }
 {
-    match next_word(rest) {
-        None => Err(ScriptFaultKind::BadLine),
-        Some((period, rest)) => match next_word(rest) {
-            None => Err(ScriptFaultKind::BadLine),
-            Some((count, rest)) => every_with(tick, period, count, rest),
-        },
-    }
+    let (period, rest) = next_word(rest).ok_or(ScriptFaultKind::BadLine)?;
+    let (count, rest) = next_word(rest).ok_or(ScriptFaultKind::BadLine)?;
+    every_with(tick, period, count, rest)
 }
 
 fn entry_by(keyword: Option<Keyword>, tick: &[u8], rest: &[u8]) -> Result<Entry, ScriptFaultKind>
@@ -234,17 +200,11 @@ pub fn entry_of(is_second: bool, text: &[u8]) -> Result<Entry, ScriptFaultKind>
     ensures read { result ≡ entry_of is_second text.now }
     ensures limits { IfOk result IsEntry }
 {
-    match next_word(text) {
-        None => Err(ScriptFaultKind::BadLine),
-        Some((tick, rest)) => match next_word(rest) {
-            None => Err(ScriptFaultKind::BadLine),
-            Some((keyword, rest)) => {
-                if tick.is_empty() {
-                    Err(ScriptFaultKind::BadLine)
-                } else {
-                    entry_by(keyword_of(is_second, keyword), tick, rest)
-                }
-            }
-        },
+    let (tick, rest) = next_word(text).ok_or(ScriptFaultKind::BadLine)?;
+    let (keyword, rest) = next_word(rest).ok_or(ScriptFaultKind::BadLine)?;
+    if tick.is_empty() {
+        Err(ScriptFaultKind::BadLine)
+    } else {
+        entry_by(keyword_of(is_second, keyword), tick, rest)
     }
 }

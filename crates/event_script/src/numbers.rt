@@ -25,10 +25,8 @@ pub fn number_of(word: &[u8]) -> Result<u8, ScriptFaultKind>
     if !is_numeral(word) {
         return Err(ScriptFaultKind::BadNumber);
     }
-    match number_in(word, 0, MOST_NUMBER) {
-        None => Err(ScriptFaultKind::NoSuchLine),
-        Some(number) => Ok(number as u8),
-    }
+    let number = number_in(word, 0, MOST_NUMBER).ok_or(ScriptFaultKind::NoSuchLine)?;
+    Ok(number as u8)
 }
 
 fn negative_in(digits: &[u8]) -> Option<i32>

@@ -36,8 +36,6 @@ pub fn argument_from<'t, E>(
 pub fn first_argument<E>(arguments: &[Argument<E>]) -> Option<&E>
     ensures { option_copied result ≡ first_argument arguments.now }
 {
-    match arguments.first() {
-        Some(argument) => Some(&argument.value),
-        None => None,
-    }
+    let argument = arguments.first()?;
+    Some(&argument.value)
 }

@@ -85,10 +85,8 @@ pub fn subtype_is_kept(subtype: Option<Subtype>) -> bool
 pub(crate) fn array_at(names: &Names<'_>, array: u32) -> Option<ArrayType>
     ensures { result ≡ slice_get names.now.arrays array }
 {
-    match names.arrays.get(array as usize) {
-        None => None,
-        Some(array) => Some(*array),
-    }
+    let array = names.arrays.get(array as usize)?;
+    Some(*array)
 }
 
 /// The array type that a type is, if it is one.
@@ -132,11 +130,7 @@ pub fn range_of_cells(names: &Names<'_>, subtype: Option<Subtype>) -> Constraint
 pub fn index_range(names: &Names<'_>, subtype: Option<Subtype>) -> Option<Constraint>
     ensures { result ≡ index_range names.now subtype }
 {
-    match subtype {
-        None => None,
-        Some(subtype) => match array_of(names, subtype.of_type) {
-            None => None,
-            Some(array) => Some(array.index),
-        },
-    }
+    let subtype = subtype?;
+    let array = array_of(names, subtype.of_type)?;
+    Some(array.index)
 }

@@ -15,10 +15,8 @@ use profile_machine::{DeclNo, SubprogramNo};
 fn kind_declared<'n>(within: &Within<'n, '_>, identifier: &Identifier) -> Option<&'n EntityKind>
     ensures { option_copied result ≡ kind_declared within.now identifier.now }
 {
-    match entity_denoted(within.names.get(), identifier.place) {
-        None => None,
-        Some(entity) => kind_at(within.names.get(), entity),
-    }
+    let entity = entity_denoted(within.names.get(), identifier.place)?;
+    kind_at(within.names.get(), entity)
 }
 
 /// The number of the object that a name declares.
@@ -40,10 +38,8 @@ pub(crate) fn subtype_declared_as(
 ) -> Option<Subtype>
     ensures { result ≡ subtype_declared_as within.now identifier.now }
 {
-    match kind_declared(within, identifier) {
-        None => None,
-        Some(kind) => subtype_of_kind(kind),
-    }
+    let kind = kind_declared(within, identifier)?;
+    subtype_of_kind(kind)
 }
 
 fn is_task(of_type: AdaType) -> bool
@@ -101,8 +97,6 @@ pub fn subprogram_declared_as(
 ) -> Option<SubprogramNo>
     ensures { result ≡ subprogram_declared_as within.now identifier.now }
 {
-    match kind_declared(within, identifier) {
-        None => None,
-        Some(kind) => subprogram_of_kind(kind),
-    }
+    let kind = kind_declared(within, identifier)?;
+    subprogram_of_kind(kind)
 }

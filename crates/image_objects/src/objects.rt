@@ -97,10 +97,8 @@ fn function_call_if<'t>(
 ) -> Option<FunctionCall<'t>>
     ensures { option_map call_shown result ≡ function_call_if within.now initial.now }
 {
-    match initial {
-        None => None,
-        Some(initial) => function_call(within, initial),
-    }
+    let initial = initial.as_ref()?;
+    function_call(within, initial)
 }
 
 #[tactic(auto, unfolding(ada_image::specs::ImageOfDeclarations::object_declaration_put))]

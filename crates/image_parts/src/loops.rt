@@ -43,10 +43,8 @@ pub fn parameter_of(within: &Within<'_, '_>, identifier: &Identifier) -> DeclNo
 pub fn label_of<Q>(within: &Within<'_, '_>, statement: &Loop<Q>) -> Option<u32>
     ensures { result ≡ label_of within.now statement.now }
 {
-    match &statement.label {
-        None => None,
-        Some(label) => entity_denoted(within.names.get(), label.name.place),
-    }
+    let label = statement.label.as_ref()?;
+    entity_denoted(within.names.get(), label.name.place)
 }
 
 /// A while loop, whose body is made.

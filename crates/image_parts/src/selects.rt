@@ -17,10 +17,8 @@ use image_layout::added;
 pub fn guard_of(guard: &Option<Guard>) -> Option<&Expression>
     ensures { option_copied result ≡ guard_of guard.now }
 {
-    match guard {
-        None => None,
-        Some(guard) => Some(&guard.condition),
-    }
+    let guard = guard.as_ref()?;
+    Some(&guard.condition)
 }
 
 /// The signs in a guard.

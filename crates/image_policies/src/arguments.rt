@@ -1,6 +1,5 @@
 //! Arguments of pragmas: a word, or a number. Names in pragmas are words, and no names of the source.
 ghost use Rattle.std.specs.Prelude.{◌≡◌, option_copied, unwrap_or, IfOk};
-ghost use Rattle.ada_tree.specs.declared.expressions.Expression.TheViews.{out-Expression};
 ghost use Rattle.ada_regions.specs.declared.predefined.PredefinedUnit.TheVariants as units;
 ghost use Rattle.ada_regions.specs.Names.{last_part};
 ghost use Rattle.ada_regions.specs.PredefinedUnits.{item_in};
@@ -55,19 +54,15 @@ pub(crate) fn word_of(argument: &Argument<Expression>) -> Option<&[u8]>
 fn low_of_item(item: Predefined) -> Option<Value>
     ensures { result ≡ and_then (subtype_of_item item) (λ s. low_of s.range) }
 {
-    match subtype_of_item(item) {
-        None => None,
-        Some(subtype) => low_of(subtype.range),
-    }
+    let subtype = subtype_of_item(item)?;
+    low_of(subtype.range)
 }
 
 fn high_of_item(item: Predefined) -> Option<Value>
     ensures { result ≡ and_then (subtype_of_item item) (λ s. high_of s.range) }
 {
-    match subtype_of_item(item) {
-        None => None,
-        Some(subtype) => high_of(subtype.range),
-    }
+    let subtype = subtype_of_item(item)?;
+    high_of(subtype.range)
 }
 
 /// What package Standard declares under the last part of a name, where the range of priorities is the plain one.
@@ -105,10 +100,8 @@ fn bound_of(attribute: Attribute, name: &Name) -> Option<Value>
 fn number_of_name(name: &Name, attribute: &Option<AttributeDesignator>) -> Option<Value>
     ensures { result ≡ number_of_name name.now attribute.now }
 {
-    match attribute {
-        None => None,
-        Some(designator) => bound_of(designator.attribute, name),
-    }
+    let designator = attribute.as_ref()?;
+    bound_of(designator.attribute, name)
 }
 
 /// The number that a value is, or 0.
@@ -130,12 +123,10 @@ fn number_of_literal(literal: &[u8]) -> Result<u32, NoMemory>
     ensures { IfOk result (λ number. number ≡ unwrap_or (level_of (literal_value literal.now)) 0) }
 {
     if decimals(literal).is_empty() {
-        match whole_value(literal) {
-            None => Err(NoMemory),
-            Some(number) => match u32::try_from(number) {
-                Ok(number) => Ok(number),
-                Err(_) => Err(NoMemory),
-            },
+        let number = whole_value(literal).ok_or(NoMemory)?;
+        match u32::try_from(number) {
+            Ok(number) => Ok(number),
+            Err(_) => Err(NoMemory),
         }
     } else {
         Ok(0)

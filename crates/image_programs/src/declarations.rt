@@ -50,10 +50,8 @@ fn numbered_object(
 fn initial_of<'d>(declaration: &'d NumberedDeclaration<'_>) -> Option<&'d Expression>
     ensures { option_copied result ≡ declaration.now.initial }
 {
-    match &declaration.initial {
-        None => None,
-        Some(initial) => Some(initial.get()),
-    }
+    let initial = declaration.initial.as_ref()?;
+    Some(initial.get())
 }
 
 /// A declaration is made: its initial value, and what it is.

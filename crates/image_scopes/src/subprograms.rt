@@ -12,19 +12,15 @@ use std::alloc::Global;
 fn range_of_result(names: &Names<'_>, result_of: Option<Option<Subtype>>) -> Option<Constraint>
     ensures { result ≡ option_map (range_of_cells names.now) result_of }
 {
-    match result_of {
-        None => None,
-        Some(subtype) => Some(range_of_cells(names, subtype)),
-    }
+    let subtype = result_of?;
+    Some(range_of_cells(names, subtype))
 }
 
 fn unit_of(unit: Option<u32>) -> Option<ProtectedUnitNo>
     ensures { result ≡ option_map unit_no unit }
 {
-    match unit {
-        None => None,
-        Some(unit) => Some(ProtectedUnitNo(unit)),
-    }
+    let unit = unit?;
+    Some(ProtectedUnitNo(unit))
 }
 
 /// A subprogram of the image (6.1).

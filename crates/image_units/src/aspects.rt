@@ -26,13 +26,9 @@ pub(crate) fn aspect_value<'t>(name: &[u8], aspects: &'t [Aspect]) -> Option<&'t
 pub(crate) fn static_aspect(names: &Names<'_>, name: &[u8], aspects: &[Aspect]) -> Option<u32>
     ensures { result ≡ static_aspect names.now name.now aspects.now }
 {
-    match aspect_value(name, aspects) {
-        None => None,
-        Some(value) => match static_value(names, value) {
-            None => None,
-            Some(value) => level_of(value),
-        },
-    }
+    let value = aspect_value(name, aspects)?;
+    let value = static_value(names, value)?;
+    level_of(value)
 }
 
 /// Priority or Interrupt_Priority (D.1).

@@ -19,10 +19,7 @@ fn default_ceiling(last: Level, attached: &[Attachment]) -> Result<Level, NoMemo
 {
     match attached {
         [] => Ok(last),
-        [_, ..] => match last.checked_add(1) {
-            None => Err(NoMemory),
-            Some(above) => Ok(above),
-        },
+        [_, ..] => last.checked_add(1).ok_or(NoMemory),
     }
 }
 

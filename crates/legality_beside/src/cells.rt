@@ -46,10 +46,7 @@ fn all_cells_of(judged: &mut List<Finding>, found: &[Finding], number: u32) -> R
 fn counted(before: u64, cells: u32) -> Result<u64, NoMemory>
     ensures { IfOk result (λ behind. behind ≡ before + cells) }
 {
-    match before.checked_add(cells as u64) {
-        None => Err(NoMemory),
-        Some(behind) => Ok(behind),
-    }
+    before.checked_add(cells as u64).ok_or(NoMemory)
 }
 
 fn told_if(

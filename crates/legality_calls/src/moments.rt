@@ -45,10 +45,8 @@ fn positional(actual: &ActualPart) -> Option<Typed>
 fn second_positional(actuals: &[ActualPart]) -> Option<Typed>
     ensures { result ≡ second_positional actuals.now }
 {
-    match actuals.get(1) {
-        None => None,
-        Some(actual) => positional(actual),
-    }
+    let actual = actuals.get(1)?;
+    positional(actual)
 }
 
 fn has_span_first(operation: Operation) -> bool

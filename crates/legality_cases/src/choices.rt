@@ -74,10 +74,8 @@ pub fn add_choices<'t>(
 pub fn type_of_selector(typed: Typed) -> Option<AdaType>
     ensures { result ≡ type_of_selector typed }
 {
-    match operand_type(typed) {
-        None => None,
-        Some(t) => discrete_if(t),
-    }
+    let t = operand_type(typed)?;
+    discrete_if(t)
 }
 
 /// What a case selects by: a value of a discrete type.
@@ -109,23 +107,17 @@ fn one_value(number: i128) -> Span
 fn one_value_if(number: Option<i128>) -> Option<Span>
     ensures { result ≡ option_map one_value number }
 {
-    match number {
-        None => None,
-        Some(number) => Some(one_value(number)),
-    }
+    let number = number?;
+    Some(one_value(number))
 }
 
 /// Two ends that are there.
 fn both_ends(low: Option<i128>, high: Option<i128>) -> Option<Span>
     ensures { result ≡ both_ends low high }
 {
-    match low {
-        None => None,
-        Some(low) => match high {
-            None => None,
-            Some(high) => Some(Span { low, high }),
-        },
-    }
+    let low = low?;
+    let high = high?;
+    Some(Span { low, high })
 }
 
 /// The number of an expression where the selector has this type.

@@ -133,10 +133,8 @@ fn terminates_forbidden(
 fn part_at(parts: &[AlternativePart], place: usize) -> Option<AlternativePart>
     ensures { result ≡ slice_get parts.now place }
 {
-    match parts.get(place) {
-        None => None,
-        Some(part) => Some(*part),
-    }
+    let part = parts.get(place)?;
+    Some(*part)
 }
 
 /// The alternative with which there are more than so many.

@@ -21,10 +21,7 @@ fn behind_range(from: i128, range: Option<Span>) -> Result<i128, NoMemory>
         None => Ok(from),
         Some(range) => {
             if range.low <= from && from <= range.high {
-                match range.high.checked_add(1) {
-                    None => Err(NoMemory),
-                    Some(value) => Ok(value),
-                }
+                range.high.checked_add(1).ok_or(NoMemory)
             } else {
                 Ok(from)
             }

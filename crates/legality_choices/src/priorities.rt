@@ -73,10 +73,8 @@ fn priority_aspect(last: u8, aspects: &[AspectPart]) -> Option<&AspectPart>
 pub fn stated_value(last: u8, aspects: &[AspectPart]) -> Option<i128>
     ensures { result ≡ stated_value last aspects.now }
 {
-    match priority_aspect(last, aspects) {
-        None => None,
-        Some(aspect) => aspect.number,
-    }
+    let aspect = priority_aspect(last, aspects)?;
+    aspect.number
 }
 
 /// Where a priority is given, or its unit begins.
@@ -120,10 +118,8 @@ fn first_plain(aspects: &[AspectPart]) -> Option<&AspectPart>
 fn plain_level(aspects: &[AspectPart]) -> Option<u32>
     ensures { result ≡ level_named is_plain_priority aspects.now }
 {
-    match first_plain(aspects) {
-        None => None,
-        Some(aspect) => aspect.level,
-    }
+    let aspect = first_plain(aspects)?;
+    aspect.level
 }
 
 /// The first Interrupt_Priority.
@@ -140,10 +136,8 @@ fn first_interrupt(aspects: &[AspectPart]) -> Option<&AspectPart>
 fn interrupt_level(aspects: &[AspectPart]) -> Option<u32>
     ensures { result ≡ level_named is_interrupt_priority aspects.now }
 {
-    match first_interrupt(aspects) {
-        None => None,
-        Some(aspect) => aspect.level,
-    }
+    let aspect = first_interrupt(aspects)?;
+    aspect.level
 }
 
 /// The priority that the image would have.

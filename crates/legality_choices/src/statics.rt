@@ -27,10 +27,7 @@ fn negative_literal(operand: &Expression) -> Result<Option<i128>, NoMemory>
         None => Ok(None),
         Some(literal) => {
             let number = number_of_literal(literal)?;
-            match number.checked_neg() {
-                None => Err(NoMemory),
-                Some(number) => Ok(Some(number)),
-            }
+            Ok(Some(number.checked_neg().ok_or(NoMemory)?))
         }
     }
 }
@@ -56,10 +53,8 @@ fn literal_number(expression: &Expression) -> Result<Option<i128>, NoMemory>
 fn number_of_static(value: Option<Value>) -> Option<i128>
     ensures { result ≡ and_then value number_of_value }
 {
-    match value {
-        None => None,
-        Some(value) => number_of_value(value),
-    }
+    let value = value?;
+    number_of_value(value)
 }
 
 /// The number of an expression that has one: a literal outside its type has no value. A number of more than 38 digits is

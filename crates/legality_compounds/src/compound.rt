@@ -147,10 +147,8 @@ fn place_of_loop<Q>(statement: &Loop<Q>) -> Place
 fn entity_of_label(known: &Known<'_, '_>, label: &Option<Label>) -> Option<u32>
     ensures { result ≡ entity_of_label known.now label.now }
 {
-    match label {
-        None => None,
-        Some(label) => entity_denoted(known.names.get(), label.name.place),
-    }
+    let label = label.as_ref()?;
+    entity_denoted(known.names.get(), label.name.place)
 }
 
 /// A loop.

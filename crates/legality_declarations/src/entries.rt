@@ -195,10 +195,8 @@ fn entries_noted(
 fn entry_at<'t>(entries: &[EntryOf<'t>], at: usize) -> Option<&'t EntryDeclaration>
     ensures { option_copied result ≡ slice_get entries.now at }
 {
-    match entries.get(at) {
-        None => None,
-        Some(entry) => Some(entry.get()),
-    }
+    let entry = entries.get(at)?;
+    Some(entry.get())
 }
 
 /// The entry with which there are more than so many.

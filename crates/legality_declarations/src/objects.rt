@@ -34,10 +34,8 @@ fn protected_number(t: AdaType) -> Option<u32>
 pub fn protected_unit_of_name(known: &Known<'_, '_>, name: &Identifier) -> Option<u32>
     ensures { result ≡ protected_unit_of_name known.now name.now }
 {
-    match type_of_identifier(known, name) {
-        None => None,
-        Some(t) => protected_number(t),
-    }
+    let t = type_of_identifier(known, name)?;
+    protected_number(t)
 }
 
 /// An object, where it is a protected one.

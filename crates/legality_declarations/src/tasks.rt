@@ -29,10 +29,8 @@ pub(crate) fn is_library_name(known: &Known<'_, '_>, name: &Identifier) -> bool
 pub(crate) fn type_of_identifier(known: &Known<'_, '_>, name: &Identifier) -> Option<AdaType>
     ensures { result ≡ type_of_identifier known.now name.now }
 {
-    match kind_of_identifier(known, name) {
-        None => None,
-        Some(kind) => type_of_unit_kind(kind),
-    }
+    let kind = kind_of_identifier(known, name)?;
+    type_of_unit_kind(kind)
 }
 
 /// A task object outside library packages.

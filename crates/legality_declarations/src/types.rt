@@ -34,10 +34,7 @@ fn components_from_to(low: Option<i128>, high: Option<i128>) -> Result<i128, NoM
         None => Ok(0),
         Some(low) => match high {
             None => Ok(0),
-            Some(high) => match high.checked_sub(low) {
-                None => Err(NoMemory),
-                Some(number) => Ok(number),
-            },
+            Some(high) => high.checked_sub(low).ok_or(NoMemory),
         },
     }
 }

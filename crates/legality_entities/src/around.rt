@@ -122,10 +122,8 @@ fn body_found(outer: &List<Around>) -> Option<&Around>
 pub fn body_around(outer: &List<Around>) -> Option<Around>
     ensures { result ≡ body_around outer.now }
 {
-    match body_found(outer) {
-        None => None,
-        Some(around) => Some(*around),
-    }
+    let around = body_found(outer)?;
+    Some(*around)
 }
 
 fn has_sequence(around: Around) -> bool
@@ -144,10 +142,8 @@ fn sequence_found(outer: &List<Around>) -> Option<&Around>
 pub fn sequence_around(outer: &List<Around>) -> Option<Around>
     ensures { result ≡ sequence_around outer.now }
 {
-    match sequence_found(outer) {
-        None => None,
-        Some(around) => Some(*around),
-    }
+    let around = sequence_found(outer)?;
+    Some(*around)
 }
 
 fn is_task_body(t: AdaType, around: Around) -> bool
@@ -183,10 +179,8 @@ fn body_of_type_found(outer: &List<Around>, t: AdaType) -> Option<&Around>
 pub fn single_object(outer: &List<Around>, t: AdaType) -> Option<u32>
     ensures { result ≡ single_object outer.now t }
 {
-    match body_of_type_found(outer, t) {
-        None => None,
-        Some(around) => unit_around(*around),
-    }
+    let around = body_of_type_found(outer, t)?;
+    unit_around(*around)
 }
 
 fn is_protected_body(around: Around) -> bool
@@ -209,10 +203,8 @@ fn protected_body_found(outer: &List<Around>) -> Option<&Around>
 pub fn innermost_unit(known: &Known<'_, '_>) -> Option<AdaType>
     ensures { result ≡ innermost_unit known.now }
 {
-    match protected_body_found(&known.around) {
-        None => None,
-        Some(around) => type_around(*around),
-    }
+    let around = protected_body_found(&known.around)?;
+    type_around(*around)
 }
 
 /// Two entities are the same.

@@ -21,10 +21,8 @@ fn parameter_found(loops: &List<LoopParameter>, entity: u32) -> Option<&LoopPara
 fn subtype_of_loop(loops: &List<LoopParameter>, entity: u32) -> Option<Subtype>
     ensures { result ≡ subtype_of_loop loops.now entity }
 {
-    match parameter_found(loops, entity) {
-        None => None,
-        Some(parameter) => parameter.subtype,
-    }
+    let parameter = parameter_found(loops, entity)?;
+    parameter.subtype
 }
 
 /// The subtype of an object, a parameter, a component, a loop parameter or a literal.
@@ -48,20 +46,16 @@ fn subtype_of_object(known: &Known<'_, '_>, entity: u32, kind: &EntityKind) -> O
 pub fn denoted_kind<'n>(names: &'n Names<'_>, denoted: Denoted) -> Option<&'n EntityKind>
     ensures { option_copied result ≡ denoted_kind names.now denoted }
 {
-    match entity_of(denoted) {
-        None => None,
-        Some(entity) => kind_at(names, entity),
-    }
+    let entity = entity_of(denoted)?;
+    kind_at(names, entity)
 }
 
 /// What the entity is that a name denotes.
 pub fn kind_of_name<'n>(known: &'n Known<'_, '_>, name: &Name) -> Option<&'n EntityKind>
     ensures { option_copied result ≡ kind_of_name known.now name.now }
 {
-    match denoted_by(known.names.get(), name) {
-        None => None,
-        Some(denoted) => denoted_kind(known.names.get(), denoted),
-    }
+    let denoted = denoted_by(known.names.get(), name)?;
+    denoted_kind(known.names.get(), denoted)
 }
 
 /// What the entity is that an identifier denotes.
@@ -72,20 +66,16 @@ pub fn kind_of_identifier<'n>(
 ) -> Option<&'n EntityKind>
     ensures { option_copied result ≡ kind_of_identifier known.now identifier.now }
 {
-    match entity_denoted(known.names.get(), identifier.place) {
-        None => None,
-        Some(entity) => kind_at(known.names.get(), entity),
-    }
+    let entity = entity_denoted(known.names.get(), identifier.place)?;
+    kind_at(known.names.get(), entity)
 }
 
 /// The entity that a name denotes.
 pub fn entity_of_name(known: &Known<'_, '_>, name: &Name) -> Option<u32>
     ensures { result ≡ entity_of_name known.now name.now }
 {
-    match denoted_by(known.names.get(), name) {
-        None => None,
-        Some(denoted) => entity_of(denoted),
-    }
+    let denoted = denoted_by(known.names.get(), name)?;
+    entity_of(denoted)
 }
 
 /// The subtype of an object that is denoted.
@@ -93,23 +83,17 @@ pub fn entity_of_name(known: &Known<'_, '_>, name: &Name) -> Option<u32>
 pub fn subtype_of_entity(known: &Known<'_, '_>, denoted: Denoted) -> Option<Subtype>
     ensures { result ≡ subtype_of_entity known.now denoted }
 {
-    match entity_of(denoted) {
-        None => None,
-        Some(entity) => match kind_at(known.names.get(), entity) {
-            None => None,
-            Some(kind) => subtype_of_object(known, entity, kind),
-        },
-    }
+    let entity = entity_of(denoted)?;
+    let kind = kind_at(known.names.get(), entity)?;
+    subtype_of_object(known, entity, kind)
 }
 
 /// The type of an object or a unit.
 pub fn type_of_unit_kind(kind: &EntityKind) -> Option<AdaType>
     ensures { result ≡ type_of_unit_kind kind.now }
 {
-    match subtype_of_kind(kind) {
-        None => None,
-        Some(subtype) => Some(subtype.of_type),
-    }
+    let subtype = subtype_of_kind(kind)?;
+    Some(subtype.of_type)
 }
 
 /// Whether a declaration has its cells in the environment's scope (10.2).

@@ -70,10 +70,8 @@ pub fn names_object(known: &Known<'_, '_>, name: &Name) -> bool
 pub fn owner_of_name(known: &Known<'_, '_>, name: &Name) -> Option<AdaType>
     ensures { result ≡ and_then (kind_of_name known.now name.now) component_owner }
 {
-    match kind_of_name(known, name) {
-        None => None,
-        Some(kind) => component_owner(kind),
-    }
+    let kind = kind_of_name(known, name)?;
+    component_owner(kind)
 }
 
 /// A name denotes a part of a barrier.

@@ -24,20 +24,16 @@ use world_tables::List;
 pub fn kind_of_entity<'n>(known: &'n Known<'_, '_>, entity: Option<u32>) -> Option<&'n EntityKind>
     ensures { option_copied result ≡ and_then entity (kind_at known.now.names) }
 {
-    match entity {
-        None => None,
-        Some(entity) => kind_at(known.names.get(), entity),
-    }
+    let entity = entity?;
+    kind_at(known.names.get(), entity)
 }
 
 /// The task unit of an entry, where it is one.
 fn task_type_if(kind: Option<&EntityKind>) -> Option<AdaType>
     ensures { result ≡ and_then (option_copied kind.entry) task_type_of_entry }
 {
-    match kind {
-        None => None,
-        Some(kind) => task_type_of_entry(kind),
-    }
+    let kind = kind?;
+    task_type_of_entry(kind)
 }
 
 /// An entry.

@@ -172,10 +172,8 @@ fn function_of(around: Around) -> Option<SubprogramAround>
 fn function_around(known: &Known<'_, '_>) -> Option<SubprogramAround>
     ensures { result ≡ function_around known.now }
 {
-    match sequence_around(&known.around) {
-        None => None,
-        Some(around) => function_of(around),
-    }
+    let around = sequence_around(&known.around)?;
+    function_of(around)
 }
 
 fn is_package_around(around: Around) -> bool
@@ -240,12 +238,10 @@ fn return_judged(
 fn result_expected(function: Option<SubprogramAround>) -> Option<AdaType>
     ensures { result ≡ result_expected function }
 {
-    match function {
+    let function = function?;
+    match function.result {
         None => None,
-        Some(function) => match function.result {
-            None => None,
-            Some(t) => t,
-        },
+        Some(t) => t,
     }
 }
 

@@ -45,10 +45,8 @@ fn type_of_mark_ends(known: &Known<'_, '_>, t: AdaType) -> Option<AdaType>
 pub fn ends_of_mark(known: &Known<'_, '_>, denoted: Denoted) -> Option<AdaType>
     ensures { result ≡ ends_of_mark known.now denoted }
 {
-    match mark_denoted(known.names.get(), denoted) {
-        None => None,
-        Some(subtype) => type_of_mark_ends(known, subtype.of_type),
-    }
+    let subtype = mark_denoted(known.names.get(), denoted)?;
+    type_of_mark_ends(known, subtype.of_type)
 }
 
 /// The type of First and Last of an array.
@@ -56,10 +54,8 @@ pub fn ends_of_mark(known: &Known<'_, '_>, denoted: Denoted) -> Option<AdaType>
 pub fn ends_of_object(known: &Known<'_, '_>, denoted: Denoted) -> Option<AdaType>
     ensures { result ≡ ends_of_object known.now denoted }
 {
-    match subtype_of_entity(known, denoted) {
-        None => None,
-        Some(subtype) => type_of_index(known, subtype.of_type),
-    }
+    let subtype = subtype_of_entity(known, denoted)?;
+    type_of_index(known, subtype.of_type)
 }
 
 /// The type of First and Last.

@@ -21,15 +21,11 @@ fn object_at(names: &Names<'_>, entity: u32) -> Option<u32>
     ensures { result
         ≡ cond (holds_of is_object_kind (kind_at names.now entity)) (Some entity) None }
 {
-    match kind_at(names, entity) {
-        None => None,
-        Some(kind) => {
-            if is_object_kind(kind) {
-                Some(entity)
-            } else {
-                None
-            }
-        }
+    let kind = kind_at(names, entity)?;
+    if is_object_kind(kind) {
+        Some(entity)
+    } else {
+        None
     }
 }
 
@@ -38,13 +34,9 @@ fn object_at(names: &Names<'_>, entity: u32) -> Option<u32>
 pub fn object_prefix(known: &Known<'_, '_>, name: &Name) -> Option<u32>
     ensures { result ≡ object_prefix known.now name.now }
 {
-    match prefix_part(name) {
-        None => None,
-        Some(part) => match entity_denoted(known.names.get(), part.place) {
-            None => None,
-            Some(entity) => object_at(known.names.get(), entity),
-        },
-    }
+    let part = prefix_part(name)?;
+    let entity = entity_denoted(known.names.get(), part.place)?;
+    object_at(known.names.get(), entity)
 }
 
 /// The object whose procedure a name denotes.

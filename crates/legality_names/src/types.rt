@@ -82,10 +82,8 @@ pub fn denotes_procedure(known: &Known<'_, '_>, denoted: Denoted) -> bool
 fn component_subtype(names: &Names<'_>, subtype: Subtype) -> Option<Subtype>
     ensures { result ≡ component_subtype names.now subtype }
 {
-    match array_of(names, subtype.of_type) {
-        None => None,
-        Some(array) => array.component,
-    }
+    let array = array_of(names, subtype.of_type)?;
+    array.component
 }
 
 /// The subtype itself, or that of the components behind an index.

@@ -42,10 +42,8 @@ pub fn is_variable(known: &Known<'_, '_>, name: &Name) -> bool
 fn unit_type_of(known: &Known<'_, '_>, identifier: &Identifier) -> Option<AdaType>
     ensures { result ≡ and_then (kind_of_identifier known.now identifier.now) unit_type_of_entry }
 {
-    match kind_of_identifier(known, identifier) {
-        None => None,
-        Some(kind) => unit_type_of_entry(kind),
-    }
+    let kind = kind_of_identifier(known, identifier)?;
+    unit_type_of_entry(kind)
 }
 
 /// An entry of the protected unit in whose body its name stands.

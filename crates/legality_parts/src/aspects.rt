@@ -42,10 +42,8 @@ fn aspect_named(name: &[u8]) -> AspectName
 fn static_level(names: &Names<'_>, expression: &Expression) -> Option<u32>
     ensures { result ≡ static_level names.now expression.now }
 {
-    match static_value(names, expression) {
-        None => None,
-        Some(value) => level_of(value),
-    }
+    let value = static_value(names, expression)?;
+    level_of(value)
 }
 
 /// An aspect with a value, of which nothing is expected but that it is no number with a point.

@@ -52,13 +52,9 @@ fn is_given_again(before: &[Pragma], pragma: &Pragma) -> bool
 fn pair(low: Option<i128>, high: Option<i128>) -> Option<Span>
     ensures { result ≡ pair_of (low ∷ high ∷ []) }
 {
-    match low {
-        None => None,
-        Some(low) => match high {
-            None => None,
-            Some(high) => Some(span(low, high)),
-        },
-    }
+    let low = low?;
+    let high = high?;
+    Some(span(low, high))
 }
 
 /// The two priorities behind the policy of a pragma.

@@ -38,10 +38,8 @@ fn same_pairs(a: Option<Span>, b: Option<Span>) -> bool
 fn range_of_indication(names: &Names<'_>, indication: &SubtypeIndication) -> Option<Span>
     ensures { result ≡ range_of_indication names.now indication.now }
 {
-    match indicated_subtype(names, indication) {
-        None => None,
-        Some(subtype) => ends_of(subtype.range),
-    }
+    let subtype = indicated_subtype(names, indication)?;
+    ends_of(subtype.range)
 }
 
 /// Whether a range stands behind a subtype mark (3.5).

@@ -61,10 +61,8 @@ fn mark_named(known: &Known<'_, '_>, name: &Name) -> Option<Subtype>
     ensures { result
         ≡ and_then (denoted_by known.now.names name.now) (mark_denoted known.now.names) }
 {
-    match denoted_by(known.names.get(), name) {
-        None => None,
-        Some(denoted) => mark_denoted(known.names.get(), denoted),
-    }
+    let denoted = denoted_by(known.names.get(), name)?;
+    mark_denoted(known.names.get(), denoted)
 }
 
 /// The greatest length of an Image, by the subtype's name.
@@ -94,13 +92,9 @@ pub fn image_length(known: &Known<'_, '_>, name: &Name, attribute: Attribute) ->
 pub(crate) fn both_lengths(a: Option<u32>, b: Option<u32>) -> Option<u32>
     ensures { result ≡ both_lengths a b }
 {
-    match a {
-        None => None,
-        Some(a) => match b {
-            None => None,
-            Some(b) => short_length(a as usize + b as usize),
-        },
-    }
+    let a = a?;
+    let b = b?;
+    short_length(a as usize + b as usize)
 }
 
 /// A length behind `&`.
@@ -119,8 +113,6 @@ pub(crate) fn length_if_joined(operator: AddingOperator, bytes: Option<u32>) -> 
 pub fn type_of_prefix(known: &Known<'_, '_>, name: &Name) -> Option<AdaType>
     ensures { result ≡ type_of_prefix known.now name.now }
 {
-    match mark_named(known, name) {
-        None => None,
-        Some(subtype) => discrete_if(subtype.of_type),
-    }
+    let subtype = mark_named(known, name)?;
+    discrete_if(subtype.of_type)
 }

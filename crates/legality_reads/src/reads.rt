@@ -101,10 +101,8 @@ fn typed_operation_of_one(operator: UnaryOperator, typed: Typed) -> Typed
 fn negative_literal(place: Place, literal: Option<Literal>) -> Option<Literal>
     ensures { result ≡ option_map (with_minus place) literal }
 {
-    match literal {
-        None => None,
-        Some(literal) => Some(with_minus(place, literal)),
-    }
+    let literal = literal?;
+    Some(with_minus(place, literal))
 }
 
 /// Minus a number.

@@ -133,10 +133,8 @@ fn entry_of(around: Around) -> Option<Option<u32>>
 fn accept_or_entry(known: &Known<'_, '_>) -> Option<Option<u32>>
     ensures { result ≡ accept_or_entry known.now }
 {
-    match sequence_around(&known.around) {
-        None => None,
-        Some(around) => entry_of(around),
-    }
+    let around = sequence_around(&known.around)?;
+    entry_of(around)
 }
 
 /// The entry is of the object itself: by its own name, or behind its unit's.
@@ -154,10 +152,8 @@ fn names_unit_around(known: &Known<'_, '_>, name: &Name) -> bool
 fn unit_type_of_name(known: &Known<'_, '_>, name: &Name) -> Option<AdaType>
     ensures { result ≡ and_then (kind_of_name known.now name.now) unit_type_of_entry }
 {
-    match kind_of_name(known, name) {
-        None => None,
-        Some(kind) => unit_type_of_entry(kind),
-    }
+    let kind = kind_of_name(known, name)?;
+    unit_type_of_entry(kind)
 }
 
 /// An entry of the object in whose entry body the requeue stands.
@@ -230,10 +226,8 @@ fn same_formal(a: &Formal, b: &Formal) -> bool
 fn formal_at(formals: &[Formal], at: usize) -> Option<&Formal>
     ensures { option_copied result ≡ slice_get formals.now at }
 {
-    match formals.get(at) {
-        None => None,
-        Some(formal) => Some(formal),
-    }
+    let formal = formals.get(at)?;
+    Some(formal)
 }
 
 /// A formal is like that at a place, if there is one.
@@ -292,10 +286,8 @@ fn formals_of_entry(kind: &EntityKind) -> Option<&[Formal]>
 fn formals_of_name<'n>(known: &'n Known<'_, '_>, name: &Name) -> Option<&'n [Formal]>
     ensures { option_copied result ≡ and_then (kind_of_name known.now name.now) formals_of_entry }
 {
-    match kind_of_name(known, name) {
-        None => None,
-        Some(kind) => formals_of_entry(kind),
-    }
+    let kind = kind_of_name(known, name)?;
+    formals_of_entry(kind)
 }
 
 /// The formals of the entry with this entity.
@@ -303,13 +295,9 @@ fn formals_of_entity<'n>(known: &'n Known<'_, '_>, entity: Option<u32>) -> Optio
     ensures { option_copied result
         ≡ and_then (and_then entity (kind_at known.now.names)) formals_of_entry }
 {
-    match entity {
-        None => None,
-        Some(entity) => match kind_at(known.names.get(), entity) {
-            None => None,
-            Some(kind) => formals_of_entry(kind),
-        },
-    }
+    let entity = entity?;
+    let kind = kind_at(known.names.get(), entity)?;
+    formals_of_entry(kind)
 }
 
 fn nothing_there<T>(items: &[T]) -> bool

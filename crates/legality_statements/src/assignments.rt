@@ -66,10 +66,8 @@ fn typed_target(known: &Known<'_, '_>, name: &Name, has_index: bool) -> Typed
 fn type_of_index_of(known: &Known<'_, '_>, name: &Name) -> Option<AdaType>
     ensures { result ≡ type_of_index_of known.now name.now }
 {
-    match denoted_by(known.names.get(), name) {
-        None => None,
-        Some(denoted) => ends_of_object(known, denoted),
-    }
+    let denoted = denoted_by(known.names.get(), name)?;
+    ends_of_object(known, denoted)
 }
 
 fn names_declared_object(shape: Shape) -> bool

@@ -22,10 +22,8 @@ fn result_here(
 ) -> Option<Option<AdaType>>
     ensures { result ≡ option_map (type_of_mark known.now) result_of.now }
 {
-    match result_of {
-        None => None,
-        Some(indication) => Some(type_of_mark(known, indication)),
-    }
+    let indication = result_of.as_ref()?;
+    Some(type_of_mark(known, indication))
 }
 
 /// What is known of a subprogram in its body.

@@ -22,13 +22,9 @@ use world_tables::List;
 pub fn unit_of_operation(known: &Known<'_, '_>, name: &Identifier) -> Option<u32>
     ensures { result ≡ unit_of_operation known.now name.now }
 {
-    match kind_of_identifier(known, name) {
-        None => None,
-        Some(kind) => match numbered_of(known.names.get(), kind) {
-            None => None,
-            Some(subprogram) => subprogram.unit,
-        },
-    }
+    let kind = kind_of_identifier(known, name)?;
+    let subprogram = numbered_of(known.names.get(), kind)?;
+    subprogram.unit
 }
 
 fn nothing_there<T>(items: &[T]) -> bool

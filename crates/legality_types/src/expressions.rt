@@ -86,13 +86,9 @@ pub fn is_pointed(t: Typed) -> bool
 pub fn operation_type(operator: BinaryOperator, a: Typed, b: Typed) -> Option<AdaType>
     ensures { result ≡ operation_type operator a b }
 {
-    match operand_type(a) {
-        None => None,
-        Some(a) => match operand_type(b) {
-            None => None,
-            Some(b) => result_of(operator, a, b),
-        },
-    }
+    let a = operand_type(a)?;
+    let b = operand_type(b)?;
+    result_of(operator, a, b)
 }
 
 /// The type of an operation with one operand.
@@ -100,10 +96,8 @@ pub fn operation_type(operator: BinaryOperator, a: Typed, b: Typed) -> Option<Ad
 pub fn operation_type_of_one(operator: UnaryOperator, a: Typed) -> Option<AdaType>
     ensures { result ≡ operation_type_of_one operator a }
 {
-    match operand_type(a) {
-        None => None,
-        Some(a) => result_of_one(operator, a),
-    }
+    let a = operand_type(a)?;
+    result_of_one(operator, a)
 }
 
 /// An expression of this type fits where that type is expected (8.6). One without a type fits, and the value of a literal is

@@ -18,15 +18,11 @@ use world_tables::List;
 fn unit_if(names: &Names<'_>, denoted: Option<Denoted>) -> Option<Denoted>
     ensures { result ≡ unit_if names.now denoted }
 {
-    match denoted {
-        None => None,
-        Some(denoted) => {
-            if is_unit_name(names, denoted) {
-                Some(denoted)
-            } else {
-                None
-            }
-        }
+    let denoted = denoted?;
+    if is_unit_name(names, denoted) {
+        Some(denoted)
+    } else {
+        None
     }
 }
 

@@ -221,10 +221,8 @@ fn next_of_own(p: &Program, world: &World, name: Who, e: EntryNo) -> Option<Call
     let Who::Task(t) = name else {
         return None;
     };
-    match queue_of(world, Owner::Task(t), place_of_entry(p, e)) {
-        Some(queue) => next_of_queue(p, world, queue),
-        None => None,
-    }
+    let queue = queue_of(world, Owner::Task(t), place_of_entry(p, e))?;
+    next_of_queue(p, world, queue)
 }
 
 #[tactic(auto, unfolding(profile_machine::specs::Rendezvous::accept_or_wait))]

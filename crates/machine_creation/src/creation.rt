@@ -86,13 +86,9 @@ fn created_task(
 fn task_drawn(drawn: &mut Drawn) -> Result<(), NoMemory>
     ensures { OnOk result (drawn.new ≡ task_drawn drawn.old) }
 {
-    match drawn.tasks.checked_add(1) {
-        Some(next) => {
-            drawn.tasks = next;
-            Ok(())
-        }
-        None => Err(NoMemory),
-    }
+    let next = drawn.tasks.checked_add(1).ok_or(NoMemory)?;
+    drawn.tasks = next;
+    Ok(())
 }
 
 fn add_task(world: &mut World, task: Task) -> Result<(), NoMemory>

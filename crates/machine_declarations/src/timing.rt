@@ -80,10 +80,7 @@ pub(crate) fn budget_declared(
 fn must_identify(task: Option<TaskNo>) -> Result<TaskNo, Raised>
     ensures { result ≡ must_identify task }
 {
-    match task {
-        Some(task) => Ok(task),
-        None => Err(Raised::Program),
-    }
+    task.ok_or(Raised::Program)
 }
 
 // The task that the named constant identifies.

@@ -20,10 +20,8 @@ use trace_text::Who;
 fn next_number(world: &World) -> Result<CallNo, NoMemory>
     ensures { IfOk result (λ number. number ≡ call_number (suc world.now.drawn.calls)) }
 {
-    match world.drawn.calls.checked_add(1) {
-        Some(number) => Ok(CallNo(number)),
-        None => Err(NoMemory),
-    }
+    let number = world.drawn.calls.checked_add(1).ok_or(NoMemory)?;
+    Ok(CallNo(number))
 }
 
 fn add_call(world: &mut World, c: Call) -> Result<(), NoMemory>

@@ -14,10 +14,8 @@ use profile_machine::{EntryNo, EntryOwner, EntryUnit, Value};
 fn owner_task(task: Option<TaskNo>) -> Result<Owner, Raised>
     ensures { result ≡ owner_task task }
 {
-    match task {
-        Some(t) => Ok(Owner::Task(t)),
-        None => Err(Raised::Program),
-    }
+    let t = task.ok_or(Raised::Program)?;
+    Ok(Owner::Task(t))
 }
 
 fn owner_by_unit(unit: EntryUnit, value: Value) -> Result<Owner, Raised>
@@ -45,10 +43,10 @@ fn own_unit(q: &Seen<'_>, unit: EntryUnit) -> Result<Owner, Raised>
             let scope = task_unit_of(q.program, u).scope;
             owner_task(owner_in_scope(q.world, home(q.world, scope, q.within)))
         }
-        EntryUnit::Protected(u) => match own_object(q, u) {
-            Some(o) => Ok(Owner::Object(o)),
-            None => Err(Raised::Program),
-        },
+        EntryUnit::Protected(u) => {
+            let o = own_object(q, u).ok_or(Raised::Program)?;
+            Ok(Owner::Object(o))
+        }
     }
 }
 

@@ -1,6 +1,5 @@
 //! Ends of the numbers, and ranges (ISO/IEC 8652:2012, 3.5).
 ghost use Rattle.std.specs.Prelude.{◌≡◌, ◌+ℤ◌, pos, Ok, Err};
-ghost use Rattle.ann_base.specs.declared.exceptions.Raised.TheVariants as exception;
 ghost use Rattle.profile_machine.specs.declared.values.Value.TheVariants.{Whole};
 ghost use Rattle.profile_machine.specs.Operators.{whole, ticks, held_moment, is_in, checked, place_in, component_place};
 

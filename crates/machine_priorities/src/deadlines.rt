@@ -201,10 +201,8 @@ pub fn set_deadline_of(
 fn moment_after(until: Moment, offset: Moment) -> Result<Moment, NoMemory>
     ensures { IfOk result (λ deadline. deadline ≡ held_moment (until +ℤ offset)) }
 {
-    match until.checked_add(offset) {
-        Some(sum) => Ok(held_moment(sum)),
-        None => Err(NoMemory),
-    }
+    let sum = until.checked_add(offset).ok_or(NoMemory)?;
+    Ok(held_moment(sum))
 }
 
 #[tactic(auto, unfolding(profile_machine::specs::Priorities::delay_with_deadline))]

@@ -145,10 +145,11 @@ fn items_of_none(alloc: Global) -> Nothing
 pub fn declaration_of(p: &Program, d: DeclNo) -> &Declaration
     ensures { result.now ≡ declaration_of p.now d }
 {
-    match p.image.declarations.as_slice().get(d.0 as usize) {
-        Some(declaration) => declaration,
-        None => &p.nothing.declaration,
-    }
+    p.image
+        .declarations
+        .as_slice()
+        .get(d.0 as usize)
+        .unwrap_or(&p.nothing.declaration)
 }
 
 /// The expression with this number.
@@ -165,10 +166,11 @@ pub fn expression_of(p: &Program, e: ExprNo) -> Expression
 pub fn statement_of(p: &Program, s: StatementNo) -> &Statement
     ensures { result.now ≡ statement_of p.now s }
 {
-    match p.image.statements.as_slice().get(s.0 as usize) {
-        Some(statement) => statement,
-        None => &p.nothing.statement,
-    }
+    p.image
+        .statements
+        .as_slice()
+        .get(s.0 as usize)
+        .unwrap_or(&p.nothing.statement)
 }
 
 /// What the statement is.
@@ -189,60 +191,66 @@ pub fn next_of(p: &Program, s: StatementNo) -> Option<StatementNo>
 pub fn scope_of(p: &Program, s: ScopeNo) -> &Scope
     ensures { result.now ≡ scope_of p.now s }
 {
-    match p.image.scopes.as_slice().get(s.0 as usize) {
-        Some(scope) => scope,
-        None => &p.nothing.scope,
-    }
+    p.image
+        .scopes
+        .as_slice()
+        .get(s.0 as usize)
+        .unwrap_or(&p.nothing.scope)
 }
 
 /// The subprogram with this number.
 pub fn subprogram_of(p: &Program, s: SubprogramNo) -> &Subprogram
     ensures { result.now ≡ subprogram_of p.now s }
 {
-    match p.image.subprograms.as_slice().get(s.0 as usize) {
-        Some(subprogram) => subprogram,
-        None => &p.nothing.subprogram,
-    }
+    p.image
+        .subprograms
+        .as_slice()
+        .get(s.0 as usize)
+        .unwrap_or(&p.nothing.subprogram)
 }
 
 /// The task unit with this number.
 pub fn task_unit_of(p: &Program, u: TaskUnitNo) -> &TaskUnit
     ensures { result.now ≡ task_unit_of p.now u }
 {
-    match p.image.task_units.as_slice().get(u.0 as usize) {
-        Some(unit) => unit,
-        None => &p.nothing.task_unit,
-    }
+    p.image
+        .task_units
+        .as_slice()
+        .get(u.0 as usize)
+        .unwrap_or(&p.nothing.task_unit)
 }
 
 /// The protected unit with this number.
 pub fn protected_unit_of(p: &Program, u: ProtectedUnitNo) -> &ProtectedUnit
     ensures { result.now ≡ protected_unit_of p.now u }
 {
-    match p.image.protected_units.as_slice().get(u.0 as usize) {
-        Some(unit) => unit,
-        None => &p.nothing.protected_unit,
-    }
+    p.image
+        .protected_units
+        .as_slice()
+        .get(u.0 as usize)
+        .unwrap_or(&p.nothing.protected_unit)
 }
 
 /// The entry with this number.
 pub fn entry_of(p: &Program, e: EntryNo) -> &Entry
     ensures { result.now ≡ entry_of p.now e }
 {
-    match p.image.entries.as_slice().get(e.0 as usize) {
-        Some(entry) => entry,
-        None => &p.nothing.entry,
-    }
+    p.image
+        .entries
+        .as_slice()
+        .get(e.0 as usize)
+        .unwrap_or(&p.nothing.entry)
 }
 
 /// The controlled type with this number.
 pub fn controlled_of(p: &Program, c: ControlledNo) -> &ControlledType
     ensures { result.now ≡ controlled_of p.now c }
 {
-    match p.image.controlled_types.as_slice().get(c.0 as usize) {
-        Some(controlled) => controlled,
-        None => &p.nothing.controlled,
-    }
+    p.image
+        .controlled_types
+        .as_slice()
+        .get(c.0 as usize)
+        .unwrap_or(&p.nothing.controlled)
 }
 
 /// The literals of the enumeration type with this number.

@@ -123,13 +123,9 @@ pub fn forget_call(world: &mut World, c: CallNo)
 pub fn call_drawn(drawn: &mut Drawn) -> Result<(), NoMemory>
     ensures { OnOk result (drawn.new ≡ call_drawn drawn.old) }
 {
-    match drawn.calls.checked_add(1) {
-        Some(calls) => {
-            drawn.calls = calls;
-            Ok(())
-        }
-        None => Err(NoMemory),
-    }
+    let calls = drawn.calls.checked_add(1).ok_or(NoMemory)?;
+    drawn.calls = calls;
+    Ok(())
 }
 
 /// The `call` line.

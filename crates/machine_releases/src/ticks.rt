@@ -149,10 +149,8 @@ fn charge_budget(world: &mut World, budget: Option<u32>)
 fn budget_at(world: &World, name: Who) -> Option<u32>
     ensures { result ≡ (task_of world.now name).budget }
 {
-    match task_at(world, name) {
-        Some(task) => task.budget,
-        None => None,
-    }
+    let task = task_at(world, name)?;
+    task.budget
 }
 
 fn charge_group(world: &mut World, t: TaskNo)

@@ -46,14 +46,15 @@ fn loop_cell(q: &Seen<'_>, d: DeclNo, by: u32) -> Result<Variable, OrMemory<Rais
     ensures { Answers result (loop_cell q.now d by) }
 {
     let id = or_raised(home_of(q, d))?;
-    match declaration_of(q.program, d).place.checked_add(by) {
-        Some(place) => Ok(Variable {
-            within: id,
-            place,
-            declared: d,
-        }),
-        None => Err(OrMemory::Memory),
-    }
+    let place = declaration_of(q.program, d)
+        .place
+        .checked_add(by)
+        .ok_or(OrMemory::Memory)?;
+    Ok(Variable {
+        within: id,
+        place,
+        declared: d,
+    })
 }
 
 fn put(world: &mut World, v: Variable, value: Value)
@@ -166,10 +167,10 @@ fn stepped(reverse: bool, value: Value) -> Result<Value, NoMemory>
     ensures { IfOk result (λ next. next ≡ stepped reverse value) }
 {
     match value {
-        Value::Whole(n) => match n.checked_add(if reverse { -1 } else { 1 }) {
-            Some(next) => Ok(Value::Whole(next)),
-            None => Err(NoMemory),
-        },
+        Value::Whole(n) => {
+            let next = n.checked_add(if reverse { -1 } else { 1 }).ok_or(NoMemory)?;
+            Ok(Value::Whole(next))
+        }
         Value::Truth(b) => Ok(Value::Truth(!b)),
         Value::Literal(n) => stepped_literal(reverse, n),
         Value::Ticks(_) | Value::Task(_) | Value::Thing(_) => Ok(value),
@@ -182,10 +183,8 @@ fn stepped_literal(reverse: bool, n: u32) -> Result<Value, NoMemory>
     if reverse {
         Ok(Value::Literal(n.saturating_sub(1)))
     } else {
-        match n.checked_add(1) {
-            Some(next) => Ok(Value::Literal(next)),
-            None => Err(NoMemory),
-        }
+        let next = n.checked_add(1).ok_or(NoMemory)?;
+        Ok(Value::Literal(next))
     }
 }
 

@@ -95,10 +95,7 @@ fn exception_handled(q: &Seen<'_>, scope: ScopeNo) -> Result<Raised, Raised>
     let Some(task) = task_at(q.world, q.who) else {
         return Err(Raised::Program);
     };
-    match handled_in(id, &task.frames) {
-        Some(exception) => Ok(exception),
-        None => Err(Raised::Program),
-    }
+    handled_in(id, &task.frames).ok_or(Raised::Program)
 }
 
 /// A raise without a name, in a handler of this scope.

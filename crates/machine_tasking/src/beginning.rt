@@ -74,10 +74,8 @@ fn deadline_at(now: u64, span: Option<Moment>, old_deadline: Moment) -> Result<M
     let Ok(now) = Moment::try_from(now) else {
         return Err(NoMemory);
     };
-    match now.checked_add(span) {
-        Some(deadline) => Ok(held_moment(deadline)),
-        None => Err(NoMemory),
-    }
+    let deadline = now.checked_add(span).ok_or(NoMemory)?;
+    Ok(held_moment(deadline))
 }
 
 fn put_activated(world: &mut World, name: Who, activator: Who, now: u64) -> Result<(), NoMemory>

@@ -24,20 +24,14 @@ fn name(bytes: &[u8]) -> Result<Name, NoMemory>
     ensures text { IfOk result (λ name. name ≡ bytes.now) }
     ensures name { IfOk result IsName }
 {
-    match name_of(bytes) {
-        Some(name) => Ok(name),
-        None => Err(NoMemory),
-    }
+    name_of(bytes).ok_or(NoMemory)
 }
 
 fn exception(bytes: &[u8]) -> Result<Name, NoMemory>
     ensures text { IfOk result (λ name. name ≡ bytes.now) }
     ensures name { IfOk result IsExceptionName }
 {
-    match exception_of(bytes) {
-        Some(name) => Ok(name),
-        None => Err(NoMemory),
-    }
+    exception_of(bytes).ok_or(NoMemory)
 }
 
 fn exception_name(p: &Program, raised: Raised) -> Result<Name, NoMemory>
@@ -71,10 +65,7 @@ fn put_text(alloc: Global, text: &List<u8>) -> Result<Name, NoMemory>
     ensures put { IfOk result IsPutText }
 {
     let bytes = copied(alloc, text)?;
-    match text_of(bytes.as_slice()) {
-        Some(text) => Ok(text),
-        None => Err(NoMemory),
-    }
+    text_of(bytes.as_slice()).ok_or(NoMemory)
 }
 
 fn created_name(p: &Program, declared: Option<DeclNo>) -> Result<Name, NoMemory>

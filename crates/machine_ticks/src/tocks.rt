@@ -115,14 +115,10 @@ fn spend_tick(name: Who, world: &mut World)
 fn next_tick(ran: Option<Who>, world: &mut World) -> Result<(), NoMemory>
     ensures { OnOk result (world.new ≡ next_tick ran world.old) }
 {
-    match world.time.checked_add(1) {
-        Some(time) => {
-            world.time = time;
-            world.ran = ran;
-            Ok(())
-        }
-        None => Err(NoMemory),
-    }
+    let time = world.time.checked_add(1).ok_or(NoMemory)?;
+    world.time = time;
+    world.ran = ran;
+    Ok(())
 }
 
 // One tick of who is chosen.

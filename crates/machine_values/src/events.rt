@@ -57,10 +57,7 @@ pub fn time_left(setting: Option<TimerSetting>, clock: u64) -> Result<Moment, No
     let Some(setting) = setting else {
         return Ok(0);
     };
-    match setting.value.checked_sub_unsigned(clock) {
-        Some(left) => Ok(left),
-        None => Err(NoMemory),
-    }
+    setting.value.checked_sub_unsigned(clock).ok_or(NoMemory)
 }
 
 /// The group budget with this number.

@@ -32,10 +32,7 @@ pub fn own_object(q: &Seen<'_>, unit: ProtectedUnitNo) -> Option<ObjectNo>
 pub fn home_of(q: &Seen<'_>, d: DeclNo) -> Result<ScopeId, Raised>
     ensures { result ≡ home_of q.now d }
 {
-    match home(q.world, declaration_of(q.program, d).scope, q.within) {
-        Some(id) => Ok(id),
-        None => Err(Raised::Program),
-    }
+    home(q.world, declaration_of(q.program, d).scope, q.within).ok_or(Raised::Program)
 }
 
 /// The first cell of a declaration in this scope.
@@ -169,10 +166,7 @@ fn place_behind(place: u32, cells: u32) -> Result<u32, NoMemory>
     ensures ok { IfOk result (λ behind. behind ≡ place + cells) }
     ensures err { OnErr result (2 ^ 32 ≤ place + cells) }
 {
-    match place.checked_add(cells) {
-        Some(behind) => Ok(behind),
-        None => Err(NoMemory),
-    }
+    place.checked_add(cells).ok_or(NoMemory)
 }
 
 /// The first cell of a component: behind the cells that its object has of its own.
@@ -208,10 +202,8 @@ fn component_of_own(
     let Some(number) = number else {
         return Err(OrMemory::Fault(Raised::Program));
     };
-    match object_of(q.world, number) {
-        Some(object) => Ok(component_at(q.program, PROTECTED_CELLS, object.located, component)?),
-        None => Err(OrMemory::Fault(Raised::Program)),
-    }
+    let object = object_of(q.world, number).ok_or(OrMemory::Fault(Raised::Program))?;
+    Ok(component_at(q.program, PROTECTED_CELLS, object.located, component)?)
 }
 
 fn declared_cell(q: &Seen<'_>, d: DeclNo) -> Result<Variable, Raised>

@@ -122,10 +122,8 @@ fn handed_behind(
     ensures { Answers result
         (handed q.now (place + 1) (drop (place + 1) formals.now) (drop (place + 1) actuals.now)) }
 {
-    match place.checked_add(1) {
-        Some(next) => handed_from(alloc, q, next, formals, actuals),
-        None => Err(OrMemory::Memory),
-    }
+    let next = place.checked_add(1).ok_or(OrMemory::Memory)?;
+    handed_from(alloc, q, next, formals, actuals)
 }
 
 // The parameters from this place on.

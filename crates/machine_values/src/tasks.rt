@@ -32,10 +32,7 @@ pub fn live_task(world: &World, task: Option<TaskNo>) -> Result<&Task, Raised>
     let Some(task) = task else {
         return Err(Raised::Program);
     };
-    match task_at(world, Who::Task(task)) {
-        Some(found) => Ok(found),
-        None => Err(Raised::Tasking),
-    }
+    task_at(world, Who::Task(task)).ok_or(Raised::Tasking)
 }
 
 /// A count of ticks as a moment.

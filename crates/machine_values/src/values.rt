@@ -21,10 +21,10 @@ fn span(factor: Moment, count: Value) -> Result<Value, Raised>
     ensures { result ≡ span factor count }
 {
     match count {
-        Value::Whole(n) => match factor.checked_mul(i64::from(n)) {
-            Some(n) => ticks(n),
-            None => Err(Raised::Constraint),
-        },
+        Value::Whole(n) => {
+            let n = factor.checked_mul(i64::from(n)).ok_or(Raised::Constraint)?;
+            ticks(n)
+        }
         Value::Truth(_) | Value::Literal(_) | Value::Ticks(_) | Value::Task(_) | Value::Thing(_) =>
             Err(Raised::Program),
     }

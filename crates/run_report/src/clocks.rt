@@ -58,10 +58,8 @@ pub fn clock_of(level: Level, clocks: &[Clock]) -> Option<Clock>
 pub fn clock_at(level: Option<Level>, clocks: &[Clock]) -> Option<Clock>
     ensures { result ≡ clock_at level clocks.now }
 {
-    match level {
-        None => None,
-        Some(level) => clock_of(level, clocks),
-    }
+    let level = level?;
+    clock_of(level, clocks)
 }
 
 /// What a clock shows, if there is one.

@@ -185,10 +185,8 @@ pub fn place_at(
         → get nat_cmp places.now number ≡ Some place }
     ensures { result ≡ place_at number items.now }
 {
-    match number {
-        None => None,
-        Some(number) => place_in(items, places, number),
-    }
+    let number = number?;
+    place_in(items, places, number)
 }
 
 fn place_in(items: &[Dated], places: &BTreeMap<u32, usize>, number: u32) -> Option<usize>
@@ -203,13 +201,9 @@ fn place_in(items: &[Dated], places: &BTreeMap<u32, usize>, number: u32) -> Opti
 fn checked_place(items: &[Dated], place: Option<usize>, number: u32) -> Option<usize>
     ensures { result ≡ checked_place items.now place number }
 {
-    match place {
-        None => None,
-        Some(place) => match items.get(place) {
-            None => None,
-            Some(one) => place_if(one.kept.task.0 == number, place),
-        },
-    }
+    let place = place?;
+    let one = items.get(place)?;
+    place_if(one.kept.task.0 == number, place)
 }
 
 fn place_if(holds: bool, place: usize) -> Option<usize>
@@ -236,13 +230,9 @@ pub fn step_at(
     requires tick { now ≤ LAST_TICK }
     ensures { result ≡ step_at clocks.now last passing.now now event.now place items.now }
 {
-    match place {
-        None => None,
-        Some(place) => match items.get(place) {
-            None => None,
-            Some(one) => Some(step_of(one, clocks, last, passing, now, event, place)),
-        },
-    }
+    let place = place?;
+    let one = items.get(place)?;
+    Some(step_of(one, clocks, last, passing, now, event, place))
 }
 
 fn step_of(

@@ -312,10 +312,8 @@ fn group_size(tasks: &[Task], creator: Slot, master: RegionNo, part: u32) -> u32
 fn activation_of(tasks: &[Task], slot: Slot) -> Option<Activation>
     ensures { result ≡ activation_of tasks.now slot }
 {
-    match task_in(tasks, slot) {
-        None => None,
-        Some(task) => task.activation,
-    }
+    let task = task_in(tasks, slot)?;
+    task.activation
 }
 
 /// The live task in this slot.

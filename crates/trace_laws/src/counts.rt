@@ -26,10 +26,8 @@ fn is_next(number: u32, count: u32) -> bool
 fn other_than(number: u32, serving: Option<u32>) -> Option<u32>
     ensures { result ≡ other_than number serving }
 {
-    match serving {
-        None => None,
-        Some(other) => { if number == other { None } else { Some(other) } }
-    }
+    let other = serving?;
+    if number == other { None } else { Some(other) }
 }
 
 /// Whether a line bears the number that is next, and no release is served too early.

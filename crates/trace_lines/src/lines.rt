@@ -285,20 +285,16 @@ impl Lines {
     pub fn level(&self, who: Who) -> Option<Level>
         ensures { result ≡ level_in (entry_of who self.now.queue) }
     {
-        match self.queue.entry(who) {
-            None => None,
-            Some(entry) => Some(entry.level),
-        }
+        let entry = self.queue.entry(who)?;
+        Some(entry.level)
     }
 
     /// The deadline with which a subject is in the ready queue, where it has one.
     pub fn deadline(&self, who: Who) -> Option<Moment>
         ensures { result ≡ deadline_in (entry_of who self.now.queue) }
     {
-        match self.queue.entry(who) {
-            None => None,
-            Some(entry) => entry.deadline,
-        }
+        let entry = self.queue.entry(who)?;
+        entry.deadline
     }
 
     /// The last base priority of a task that has a `new` line.

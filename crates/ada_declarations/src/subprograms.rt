@@ -126,23 +126,9 @@ fn entry_unit_in(of_type: AdaType) -> EntryUnit
     ensures { result ≡ entry_unit_in of_type }
 {
     match of_type {
-        AdaType::Integer => EntryUnit::Task(TaskUnitNo(0)),
-        AdaType::Boolean => EntryUnit::Task(TaskUnitNo(0)),
-        AdaType::Duration => EntryUnit::Task(TaskUnitNo(0)),
-        AdaType::Enumeration(_) => EntryUnit::Task(TaskUnitNo(0)),
-        AdaType::Array(_) => EntryUnit::Task(TaskUnitNo(0)),
-        AdaType::Time => EntryUnit::Task(TaskUnitNo(0)),
-        AdaType::TimeSpan => EntryUnit::Task(TaskUnitNo(0)),
-        AdaType::CpuTime => EntryUnit::Task(TaskUnitNo(0)),
-        AdaType::TaskId => EntryUnit::Task(TaskUnitNo(0)),
-        AdaType::TimingEvent => EntryUnit::Task(TaskUnitNo(0)),
-        AdaType::Timer => EntryUnit::Task(TaskUnitNo(0)),
-        AdaType::GroupBudget => EntryUnit::Task(TaskUnitNo(0)),
-        AdaType::LimitedControlled => EntryUnit::Task(TaskUnitNo(0)),
-        AdaType::Controlled => EntryUnit::Task(TaskUnitNo(0)),
-        AdaType::Derived(_) => EntryUnit::Task(TaskUnitNo(0)),
         AdaType::Task(unit) => EntryUnit::Task(unit),
         AdaType::Protected(unit) => EntryUnit::Protected(unit),
+        _ => EntryUnit::Task(TaskUnitNo(0)),
     }
 }
 

@@ -39,23 +39,8 @@ fn is_limited_root(of_type: AdaType) -> bool
     ensures { result ≡ is_limited_root of_type }
 {
     match of_type {
-        AdaType::Integer => false,
-        AdaType::Boolean => false,
-        AdaType::Duration => false,
-        AdaType::Enumeration(_) => false,
-        AdaType::Array(_) => false,
-        AdaType::Time => false,
-        AdaType::TimeSpan => false,
-        AdaType::CpuTime => false,
-        AdaType::TaskId => false,
-        AdaType::TimingEvent => false,
-        AdaType::Timer => false,
-        AdaType::GroupBudget => false,
         AdaType::LimitedControlled => true,
-        AdaType::Controlled => false,
-        AdaType::Derived(_) => false,
-        AdaType::Task(_) => false,
-        AdaType::Protected(_) => false,
+        _ => false,
     }
 }
 

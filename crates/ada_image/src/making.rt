@@ -94,7 +94,6 @@ impl<'n, 't> NamesOf<'n, 't> {
 }
 
 /// Where a statement or an expression stands.
-#[derive(Drop)]
 pub struct Within<'n, 't> {
     /// What names denote.
     pub names: NamesOf<'n, 't>,
@@ -110,6 +109,21 @@ pub struct Within<'n, 't> {
     pub function: Option<SubprogramNo>,
     /// The units around, the innermost first.
     pub units: List<u32>,
+}
+
+// Written out, so that it is proved once, and not by each function that drops one.
+impl Drop for Within<'_, '_> {
+    fn drop(self) {
+        let Within {
+            names: _,
+            scope: _,
+            loops: _,
+            construct: _,
+            handling: _,
+            function: _,
+            units: _,
+        } = self;
+    }
 }
 
 /// Where a sequence of statements stands: what is made of it depends on that.

@@ -9,7 +9,6 @@ pub fn type_of_operation(operation: Operation) -> Option<AdaType>
     ensures { result ≡ type_of_operation operation }
 {
     match operation {
-        Operation::PutLine => None,
         Operation::Clock => Some(AdaType::Time),
         Operation::Microseconds => Some(AdaType::TimeSpan),
         Operation::Milliseconds => Some(AdaType::TimeSpan),
@@ -17,28 +16,15 @@ pub fn type_of_operation(operation: Operation) -> Option<AdaType>
         Operation::Minutes => Some(AdaType::TimeSpan),
         Operation::ToDuration => Some(AdaType::Duration),
         Operation::ToTimeSpan => Some(AdaType::TimeSpan),
-        Operation::SetEvent => None,
-        Operation::CancelEvent => None,
         Operation::TimeOfEvent => Some(AdaType::Time),
         Operation::ExecutionClock => Some(AdaType::CpuTime),
-        Operation::SetTimer => None,
-        Operation::CancelTimer => None,
         Operation::TimeRemaining => Some(AdaType::TimeSpan),
-        Operation::AddTask => None,
-        Operation::RemoveTask => None,
-        Operation::Replenish => None,
-        Operation::Add => None,
         Operation::BudgetHasExpired => Some(AdaType::Boolean),
         Operation::BudgetRemaining => Some(AdaType::TimeSpan),
-        Operation::SetBudget => None,
-        Operation::CancelBudget => None,
-        Operation::SetPriority => None,
         Operation::GetPriority => Some(AdaType::Integer),
         Operation::CurrentTask => Some(AdaType::TaskId),
-        Operation::SetQuantum => None,
-        Operation::SetDeadline => None,
         Operation::GetDeadline => Some(AdaType::Time),
-        Operation::DelayUntilAndSetDeadline => None,
         Operation::PortValue => Some(AdaType::Integer),
+        _ => None,
     }
 }

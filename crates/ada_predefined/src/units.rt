@@ -124,22 +124,11 @@ pub fn child_unit(unit: PredefinedUnit, name: &[u8]) -> Option<PredefinedUnit>
     ensures { result ≡ child_unit unit name.now }
 {
     match unit {
-        PredefinedUnit::Standard => None,
         PredefinedUnit::Ada => child_of_ada(name),
-        PredefinedUnit::System => None,
-        PredefinedUnit::TextIo => None,
         PredefinedUnit::RealTime => child_of_real_time(name),
-        PredefinedUnit::TimingEvents => None,
         PredefinedUnit::ExecutionTime => child_of_execution_time(name),
-        PredefinedUnit::Timers => None,
-        PredefinedUnit::GroupBudgets => None,
-        PredefinedUnit::DynamicPriorities => None,
-        PredefinedUnit::TaskIdentification => None,
         PredefinedUnit::Dispatching => child_of_dispatching(name),
-        PredefinedUnit::RoundRobin => None,
-        PredefinedUnit::Edf => None,
-        PredefinedUnit::Finalization => None,
-        PredefinedUnit::ScriptPorts => None,
+        _ => None,
     }
 }
 

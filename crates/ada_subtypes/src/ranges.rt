@@ -54,18 +54,7 @@ pub fn range_named(names: &Names<'_>, subtype: Subtype) -> Constraint
         AdaType::Duration => subtype.range,
         AdaType::Enumeration(_) => subtype.range,
         AdaType::Array(array) => index_of(names, array),
-        AdaType::Time => Constraint::Free,
-        AdaType::TimeSpan => Constraint::Free,
-        AdaType::CpuTime => Constraint::Free,
-        AdaType::TaskId => Constraint::Free,
-        AdaType::TimingEvent => Constraint::Free,
-        AdaType::Timer => Constraint::Free,
-        AdaType::GroupBudget => Constraint::Free,
-        AdaType::LimitedControlled => Constraint::Free,
-        AdaType::Controlled => Constraint::Free,
-        AdaType::Derived(_) => Constraint::Free,
-        AdaType::Task(_) => Constraint::Free,
-        AdaType::Protected(_) => Constraint::Free,
+        _ => Constraint::Free,
     }
 }
 

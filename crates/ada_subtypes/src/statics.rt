@@ -16,18 +16,9 @@ fn value_of_kind(kind: &EntityKind) -> Option<Value>
     ensures { result ≡ value_of_kind kind.now }
 {
     match kind {
-        EntityKind::Package => None,
-        EntityKind::Main => None,
-        EntityKind::Mark(_) => None,
         EntityKind::Literal { position, .. } => Some(Value::Literal(*position)),
         EntityKind::Object { value, .. } => *value,
-        EntityKind::Parameter { .. } => None,
-        EntityKind::LoopParameter(_) => None,
-        EntityKind::Component { .. } => None,
-        EntityKind::Exception(_) => None,
-        EntityKind::Subprogram { .. } => None,
-        EntityKind::Entry { .. } => None,
-        EntityKind::Label => None,
+        _ => None,
     }
 }
 
@@ -63,18 +54,11 @@ pub fn subtype_of_kind(kind: &EntityKind) -> Option<Subtype>
     ensures { result ≡ subtype_of_kind kind.now }
 {
     match kind {
-        EntityKind::Package => None,
-        EntityKind::Main => None,
         EntityKind::Mark(subtype) => *subtype,
-        EntityKind::Literal { .. } => None,
         EntityKind::Object { subtype, .. } => *subtype,
         EntityKind::Parameter { subtype, .. } => *subtype,
-        EntityKind::LoopParameter(_) => None,
         EntityKind::Component { subtype, .. } => *subtype,
-        EntityKind::Exception(_) => None,
-        EntityKind::Subprogram { .. } => None,
-        EntityKind::Entry { .. } => None,
-        EntityKind::Label => None,
+        _ => None,
     }
 }
 
@@ -84,10 +68,7 @@ pub fn subtype_of_item(item: Predefined) -> Option<Subtype>
 {
     match item {
         Predefined::Mark(subtype) => Some(subtype),
-        Predefined::Constant { .. } => None,
-        Predefined::Truth(_) => None,
-        Predefined::Exception(_) => None,
-        Predefined::Operation(_) => None,
+        _ => None,
     }
 }
 
@@ -136,10 +117,7 @@ pub fn attribute_value(names: &Names<'_>, name: &Name, attribute: Attribute) -> 
     match attribute {
         Attribute::First => low_end(names, subtype_of_name(names, name)),
         Attribute::Last => high_end(names, subtype_of_name(names, name)),
-        Attribute::Image => None,
-        Attribute::Count => None,
-        Attribute::Identity => None,
-        Attribute::Access => None,
+        _ => None,
     }
 }
 
@@ -165,17 +143,8 @@ pub fn literal_of(expression: &Expression) -> Option<&[u8]>
     ensures { option_copied result ≡ literal_of (out-Expression expression.now).form }
 {
     match expression.form.get() {
-        ExpressionForm::Logical { .. } => None,
-        ExpressionForm::Relational { .. } => None,
-        ExpressionForm::Adding { .. } => None,
-        ExpressionForm::Signed { .. } => None,
-        ExpressionForm::Multiplying { .. } => None,
-        ExpressionForm::Highest { .. } => None,
         ExpressionForm::Number { literal, .. } => Some(literal.as_slice()),
-        ExpressionForm::Text { .. } => None,
-        ExpressionForm::Null { .. } => None,
-        ExpressionForm::Bracketed { .. } => None,
-        ExpressionForm::Named { .. } => None,
+        _ => None,
     }
 }
 
@@ -197,16 +166,8 @@ pub fn static_value(names: &Names<'_>, expression: &Expression) -> Option<Value>
     ensures { result ≡ static_value names.now expression.now }
 {
     match expression.form.get() {
-        ExpressionForm::Logical { .. } => None,
-        ExpressionForm::Relational { .. } => None,
-        ExpressionForm::Adding { .. } => None,
         ExpressionForm::Signed { sign, operand, .. } => signed_literal(*sign, operand),
-        ExpressionForm::Multiplying { .. } => None,
-        ExpressionForm::Highest { .. } => None,
         ExpressionForm::Number { literal, .. } => static_literal(literal.as_slice()),
-        ExpressionForm::Text { .. } => None,
-        ExpressionForm::Null { .. } => None,
-        ExpressionForm::Bracketed { .. } => None,
         ExpressionForm::Named {
             name,
             attribute,
@@ -218,5 +179,6 @@ pub fn static_value(names: &Names<'_>, expression: &Expression) -> Option<Value>
                 None
             }
         }
+        _ => None,
     }
 }

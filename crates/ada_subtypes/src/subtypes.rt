@@ -24,18 +24,8 @@ fn mark_of_kind(kind: &EntityKind) -> Option<Subtype>
     ensures { result ≡ mark_of_kind kind.now }
 {
     match kind {
-        EntityKind::Package => None,
-        EntityKind::Main => None,
         EntityKind::Mark(subtype) => *subtype,
-        EntityKind::Literal { .. } => None,
-        EntityKind::Object { .. } => None,
-        EntityKind::Parameter { .. } => None,
-        EntityKind::LoopParameter(_) => None,
-        EntityKind::Component { .. } => None,
-        EntityKind::Exception(_) => None,
-        EntityKind::Subprogram { .. } => None,
-        EntityKind::Entry { .. } => None,
-        EntityKind::Label => None,
+        _ => None,
     }
 }
 

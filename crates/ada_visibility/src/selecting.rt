@@ -23,20 +23,6 @@ fn region_of_type(names: &Names<'_>, of_type: AdaType) -> Option<u32>
     ensures { result ≡ region_of_type names.now of_type }
 {
     match of_type {
-        AdaType::Integer => None,
-        AdaType::Boolean => None,
-        AdaType::Duration => None,
-        AdaType::Enumeration(_) => None,
-        AdaType::Array(_) => None,
-        AdaType::Time => None,
-        AdaType::TimeSpan => None,
-        AdaType::CpuTime => None,
-        AdaType::TaskId => None,
-        AdaType::TimingEvent => None,
-        AdaType::Timer => None,
-        AdaType::GroupBudget => None,
-        AdaType::LimitedControlled => None,
-        AdaType::Controlled => None,
         AdaType::Derived(number) => match names.controlled_types.get(number.0 as usize) {
             Some(controlled) => Some(controlled.region),
             None => None,
@@ -49,6 +35,7 @@ fn region_of_type(names: &Names<'_>, of_type: AdaType) -> Option<u32>
             Some(unit) => Some(unit.region),
             None => None,
         },
+        _ => None,
     }
 }
 
@@ -66,17 +53,10 @@ fn region_selected(names: &Names<'_>, own: Option<u32>, kind: &EntityKind) -> Op
 {
     match kind {
         EntityKind::Package => own,
-        EntityKind::Main => None,
-        EntityKind::Mark(_) => None,
-        EntityKind::Literal { .. } => None,
         EntityKind::Object { subtype, .. } => region_of_subtype(names, *subtype),
         EntityKind::Parameter { subtype, .. } => region_of_subtype(names, *subtype),
-        EntityKind::LoopParameter(_) => None,
         EntityKind::Component { subtype, .. } => region_of_subtype(names, *subtype),
-        EntityKind::Exception(_) => None,
-        EntityKind::Subprogram { .. } => None,
-        EntityKind::Entry { .. } => None,
-        EntityKind::Label => None,
+        _ => None,
     }
 }
 

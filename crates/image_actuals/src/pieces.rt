@@ -24,23 +24,9 @@ fn piece_of_type(value: ExprNo, of_type: AdaType) -> Piece
     ensures { result ≡ piece_of_type value of_type }
 {
     match of_type {
-        AdaType::Integer => Piece::Whole(value),
         AdaType::Boolean => Piece::Truth(value),
-        AdaType::Duration => Piece::Whole(value),
         AdaType::Enumeration(enumeration) => Piece::Literal { value, enumeration },
-        AdaType::Array(_) => Piece::Whole(value),
-        AdaType::Time => Piece::Whole(value),
-        AdaType::TimeSpan => Piece::Whole(value),
-        AdaType::CpuTime => Piece::Whole(value),
-        AdaType::TaskId => Piece::Whole(value),
-        AdaType::TimingEvent => Piece::Whole(value),
-        AdaType::Timer => Piece::Whole(value),
-        AdaType::GroupBudget => Piece::Whole(value),
-        AdaType::LimitedControlled => Piece::Whole(value),
-        AdaType::Controlled => Piece::Whole(value),
-        AdaType::Derived(_) => Piece::Whole(value),
-        AdaType::Task(_) => Piece::Whole(value),
-        AdaType::Protected(_) => Piece::Whole(value),
+        _ => Piece::Whole(value),
     }
 }
 
@@ -110,21 +96,13 @@ fn push_piece(
         (Added (piece_made within.now expression.now) lists.old lists.new pieces.old pieces.new) }
 {
     match expression.form.get() {
-        ExpressionForm::Logical { .. } => Ok(()),
-        ExpressionForm::Relational { .. } => Ok(()),
-        ExpressionForm::Adding { .. } => Ok(()),
-        ExpressionForm::Signed { .. } => Ok(()),
-        ExpressionForm::Multiplying { .. } => Ok(()),
-        ExpressionForm::Highest { .. } => Ok(()),
-        ExpressionForm::Number { .. } => Ok(()),
         ExpressionForm::Text { text, .. } => push_text(alloc, pieces, text.as_slice()),
-        ExpressionForm::Null { .. } => Ok(()),
-        ExpressionForm::Bracketed { .. } => Ok(()),
         ExpressionForm::Named {
             name,
             arguments,
             ..
         } => push_image(lists, pieces, within, name, arguments.as_slice()),
+        _ => Ok(()),
     }
 }
 
@@ -179,23 +157,16 @@ fn push_pieces(
         pieces.old pieces.new) }
 {
     match expression.form.get() {
-        ExpressionForm::Logical { .. } => Ok(()),
-        ExpressionForm::Relational { .. } => Ok(()),
         ExpressionForm::Adding { first, others } => {
             push_all_joined(alloc, lists, pieces, within, first, others)
         }
-        ExpressionForm::Signed { .. } => Ok(()),
-        ExpressionForm::Multiplying { .. } => Ok(()),
-        ExpressionForm::Highest { .. } => Ok(()),
-        ExpressionForm::Number { .. } => Ok(()),
         ExpressionForm::Text { text, .. } => push_text(alloc, pieces, text.as_slice()),
-        ExpressionForm::Null { .. } => Ok(()),
-        ExpressionForm::Bracketed { .. } => Ok(()),
         ExpressionForm::Named {
             name,
             arguments,
             ..
         } => push_image(lists, pieces, within, name, arguments.as_slice()),
+        _ => Ok(()),
     }
 }
 

@@ -47,20 +47,11 @@ pub fn variable_in(
     ensures { Made (variable_in within.now expression.now) lists.old lists.new result }
 {
     match expression.form.get() {
-        ExpressionForm::Logical { .. } => Ok(no_variable()),
-        ExpressionForm::Relational { .. } => Ok(no_variable()),
-        ExpressionForm::Adding { .. } => Ok(no_variable()),
-        ExpressionForm::Signed { .. } => Ok(no_variable()),
-        ExpressionForm::Multiplying { .. } => Ok(no_variable()),
-        ExpressionForm::Highest { .. } => Ok(no_variable()),
-        ExpressionForm::Number { .. } => Ok(no_variable()),
-        ExpressionForm::Text { .. } => Ok(no_variable()),
-        ExpressionForm::Null { .. } => Ok(no_variable()),
-        ExpressionForm::Bracketed { .. } => Ok(no_variable()),
         ExpressionForm::Named {
             name,
             arguments,
             ..
         } => target_made(lists, within, name, first_argument(arguments.as_slice())),
+        _ => Ok(no_variable()),
     }
 }

@@ -27,11 +27,13 @@ pub(crate) fn block_put<Q: MakeSequence>(
 {
     let scope = scope_at(within.names.get(), block.place)?;
     let s = reserved(lists)?;
-    let inner = in_statement_scope(within, scope, s)?;
     let place = SequencePlace::AsBody(false);
-    let first = block
-        .sequence
-        .sequence_put(alloc, lists, place, &inner, None)?;
+    let first = {
+        let inner = in_statement_scope(within, scope, s)?;
+        block
+            .sequence
+            .sequence_put(alloc, lists, place, &inner, None)?
+    };
     let form = StatementForm::Block(ScopeNo(scope));
     scope_action(lists, scope, first, s, form, next)
 }
@@ -48,8 +50,10 @@ fn handler_made<Q: MakeSequence>(
     ensures { Made (handler_made Q.making within.now handler.now next) lists.old lists.new result }
 {
     let choices = handled_made(alloc, within, &handler.exceptions)?;
-    let inner = in_handler(within)?;
-    let first = inside(alloc, lists, &handler.statements, &inner, next)?;
+    let first = {
+        let inner = in_handler(within)?;
+        inside(alloc, lists, &handler.statements, &inner, next)?
+    };
     Ok(ExceptionHandler {
         choices,
         first: the_action(first),

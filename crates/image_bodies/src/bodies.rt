@@ -29,9 +29,11 @@ pub fn body_put<Q: MakeSequence>(
         lists.new result }
 {
     let scope = scope_at(within.names.get(), place)?;
-    let inner = in_body_of(alloc, within, scope, function)?;
     let whole = SequencePlace::AsBody(is_task_body);
-    let first = sequence.sequence_put(alloc, lists, whole, &inner, None)?;
+    let first = {
+        let inner = in_body_of(alloc, within, scope, function)?;
+        sequence.sequence_put(alloc, lists, whole, &inner, None)?
+    };
     first_put(lists, scope, first)
 }
 

@@ -253,8 +253,10 @@ fn asynchronous_put<Q: MakeSequence>(
         &select.statements,
         next,
     )?;
-    let inner = in_construct(within, s)?;
-    let abortable = inside(alloc, lists, &select.abortable, &inner, None)?;
+    let abortable = {
+        let inner = in_construct(within, s)?;
+        inside(alloc, lists, &select.abortable, &inner, None)?
+    };
     let form = StatementForm::AsynchronousSelect {
         trigger: the_action(trigger),
         abortable: the_action(abortable),

@@ -45,8 +45,10 @@ fn with_handlers_put<Q: MakeSequence>(
         result }
 {
     let handled = reserved(lists)?;
-    let inner = in_construct(within, handled)?;
-    let first = unhandled_put(alloc, lists, &inner, part, parts, None)?;
+    let first = {
+        let inner = in_construct(within, handled)?;
+        unhandled_put(alloc, lists, &inner, part, parts, None)?
+    };
     let handlers = handlers_put(alloc, lists, within, parts.handlers.as_slice(), next)?;
     let form = StatementForm::Handled {
         handlers,

@@ -169,33 +169,16 @@ impl<E: Imaged> Imaged for ExpressionForm<E> {
 
     fn literal(&self) -> Option<&[u8]> {
         match self {
-            ExpressionForm::Logical { .. } => None,
-            ExpressionForm::Relational { .. } => None,
-            ExpressionForm::Adding { .. } => None,
-            ExpressionForm::Signed { .. } => None,
-            ExpressionForm::Multiplying { .. } => None,
-            ExpressionForm::Highest { .. } => None,
             ExpressionForm::Number { literal, .. } => Some(literal.as_slice()),
-            ExpressionForm::Text { .. } => None,
-            ExpressionForm::Null { .. } => None,
-            ExpressionForm::Bracketed { .. } => None,
-            ExpressionForm::Named { .. } => None,
+            _ => None,
         }
     }
 
     fn name(&self) -> Option<&Name> {
         match self {
-            ExpressionForm::Logical { .. } => None,
-            ExpressionForm::Relational { .. } => None,
-            ExpressionForm::Adding { .. } => None,
-            ExpressionForm::Signed { .. } => None,
-            ExpressionForm::Multiplying { .. } => None,
-            ExpressionForm::Highest { .. } => None,
-            ExpressionForm::Number { .. } => None,
-            ExpressionForm::Text { .. } => None,
-            ExpressionForm::Null { .. } => None,
             ExpressionForm::Bracketed { inner, .. } => inner.name(),
             ExpressionForm::Named { name, .. } => Some(name),
+            _ => None,
         }
     }
 }

@@ -87,7 +87,6 @@ pub(crate) fn function_made<E: Imaged>(
         lists.old lists.new result }
 {
     match operation {
-        Operation::PutLine => no_value(lists),
         Operation::Clock => value_put(lists, Expression::Clock),
         Operation::Microseconds => {
             span_made(lists, 1, argument_from(0, b"us", arguments), within)
@@ -109,8 +108,6 @@ pub(crate) fn function_made<E: Imaged>(
             let duration = image_or_none(lists, argument_from(0, b"d", arguments), within)?;
             value_put(lists, Expression::SameTicks(duration))
         }
-        Operation::SetEvent => no_value(lists),
-        Operation::CancelEvent => no_value(lists),
         Operation::TimeOfEvent => {
             let event = thing_of_actual(within, argument_from(0, b"event", arguments));
             value_put(lists, Expression::TimeOfEvent(event))
@@ -119,16 +116,10 @@ pub(crate) fn function_made<E: Imaged>(
             let task = optional_made(lists, argument_from(0, b"t", arguments), within)?;
             value_put(lists, Expression::ExecutionTime(task))
         }
-        Operation::SetTimer => no_value(lists),
-        Operation::CancelTimer => no_value(lists),
         Operation::TimeRemaining => {
             let timer = thing_of_actual(within, argument_from(0, b"tm", arguments));
             value_put(lists, Expression::TimeRemaining(timer))
         }
-        Operation::AddTask => no_value(lists),
-        Operation::RemoveTask => no_value(lists),
-        Operation::Replenish => no_value(lists),
-        Operation::Add => no_value(lists),
         Operation::BudgetHasExpired => {
             let budget = thing_of_actual(within, argument_from(0, b"gb", arguments));
             value_put(lists, Expression::BudgetHasExpired(budget))
@@ -137,24 +128,19 @@ pub(crate) fn function_made<E: Imaged>(
             let budget = thing_of_actual(within, argument_from(0, b"gb", arguments));
             value_put(lists, Expression::BudgetRemaining(budget))
         }
-        Operation::SetBudget => no_value(lists),
-        Operation::CancelBudget => no_value(lists),
-        Operation::SetPriority => no_value(lists),
         Operation::GetPriority => {
             let task = optional_made(lists, argument_from(0, b"t", arguments), within)?;
             value_put(lists, Expression::Priority(task))
         }
         Operation::CurrentTask => value_put(lists, Expression::CurrentTask),
-        Operation::SetQuantum => no_value(lists),
-        Operation::SetDeadline => no_value(lists),
         Operation::GetDeadline => {
             let task = optional_made(lists, argument_from(0, b"t", arguments), within)?;
             value_put(lists, Expression::Deadline(task))
         }
-        Operation::DelayUntilAndSetDeadline => no_value(lists),
         Operation::PortValue => {
             let port = image_or_none(lists, argument_from(0, b"n", arguments), within)?;
             value_put(lists, Expression::PortValue(port))
         }
+        _ => no_value(lists),
     }
 }

@@ -107,9 +107,6 @@ pub(crate) fn entity_made<E: Imaged>(
         lists.old lists.new result }
 {
     match kind {
-        EntityKind::Package => no_value(lists),
-        EntityKind::Main => no_value(lists),
-        EntityKind::Mark(_) => no_value(lists),
         EntityKind::Literal { position, .. } => known(lists, Value::Literal(*position)),
         EntityKind::Object {
             subtype,
@@ -130,9 +127,6 @@ pub(crate) fn entity_made<E: Imaged>(
         ),
         EntityKind::LoopParameter(_) => variable_put(lists, within, name, index),
         EntityKind::Component { .. } => variable_put(lists, within, name, index),
-        EntityKind::Exception(_) => no_value(lists),
-        EntityKind::Subprogram { .. } => no_value(lists),
-        EntityKind::Entry { .. } => no_value(lists),
-        EntityKind::Label => no_value(lists),
+        _ => no_value(lists),
     }
 }

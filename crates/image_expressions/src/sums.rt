@@ -44,11 +44,8 @@ fn is_operation(item: Predefined) -> bool
     ensures { result ≡ is_operation item }
 {
     match item {
-        Predefined::Mark(_) => false,
-        Predefined::Constant { .. } => false,
-        Predefined::Truth(_) => false,
-        Predefined::Exception(_) => false,
         Predefined::Operation(_) => true,
+        _ => false,
     }
 }
 

@@ -38,23 +38,14 @@ fn first_of_free(of_type: AdaType) -> Value
     ensures { result ≡ first_of_free of_type }
 {
     match of_type {
-        AdaType::Integer => Value::Whole(0),
         AdaType::Boolean => Value::Truth(false),
         AdaType::Duration => Value::Ticks(0),
         AdaType::Enumeration(_) => Value::Literal(0),
-        AdaType::Array(_) => Value::Whole(0),
         AdaType::Time => Value::Ticks(0),
         AdaType::TimeSpan => Value::Ticks(0),
         AdaType::CpuTime => Value::Ticks(0),
         AdaType::TaskId => Value::Task(None),
-        AdaType::TimingEvent => Value::Whole(0),
-        AdaType::Timer => Value::Whole(0),
-        AdaType::GroupBudget => Value::Whole(0),
-        AdaType::LimitedControlled => Value::Whole(0),
-        AdaType::Controlled => Value::Whole(0),
-        AdaType::Derived(_) => Value::Whole(0),
-        AdaType::Task(_) => Value::Whole(0),
-        AdaType::Protected(_) => Value::Whole(0),
+        _ => Value::Whole(0),
     }
 }
 

@@ -21,11 +21,8 @@ pub fn is_component_of(owner: ComponentOwner, sort: Sort) -> bool
     ensures { result ≡ is_component_of owner sort }
 {
     match sort {
-        Sort::Object => false,
         Sort::Component(other) => same_owner(owner, other),
-        Sort::Parameter => false,
-        Sort::LoopParameter => false,
-        Sort::Exception => false,
+        _ => false,
     }
 }
 

@@ -10,15 +10,6 @@ pub fn is_thing(of_type: AdaType) -> bool
     ensures { result ≡ is_thing of_type }
 {
     match of_type {
-        AdaType::Integer => false,
-        AdaType::Boolean => false,
-        AdaType::Duration => false,
-        AdaType::Enumeration(_) => false,
-        AdaType::Array(_) => false,
-        AdaType::Time => false,
-        AdaType::TimeSpan => false,
-        AdaType::CpuTime => false,
-        AdaType::TaskId => false,
         AdaType::TimingEvent => true,
         AdaType::Timer => true,
         AdaType::GroupBudget => true,
@@ -27,6 +18,7 @@ pub fn is_thing(of_type: AdaType) -> bool
         AdaType::Derived(_) => true,
         AdaType::Task(_) => true,
         AdaType::Protected(_) => true,
+        _ => false,
     }
 }
 

@@ -120,27 +120,14 @@ fn width_of_type(names: &Names<'_>, of_type: AdaType) -> Result<u32, NoMemory>
     ensures { IfOk result (λ count. count ≡ width_of_type names.now of_type) }
 {
     match of_type {
-        AdaType::Integer => Ok(1),
-        AdaType::Boolean => Ok(1),
-        AdaType::Duration => Ok(1),
-        AdaType::Enumeration(_) => Ok(1),
         AdaType::Array(array) => width_of_array(array_at(names, array)),
-        AdaType::Time => Ok(1),
-        AdaType::TimeSpan => Ok(1),
-        AdaType::CpuTime => Ok(1),
-        AdaType::TaskId => Ok(1),
-        AdaType::TimingEvent => Ok(1),
-        AdaType::Timer => Ok(1),
-        AdaType::GroupBudget => Ok(1),
-        AdaType::LimitedControlled => Ok(1),
-        AdaType::Controlled => Ok(1),
         AdaType::Derived(of_type) => {
             width_with_components(names, 1, ComponentOwner::Controlled(of_type))
         }
-        AdaType::Task(_) => Ok(1),
         AdaType::Protected(unit) => {
             width_with_components(names, 16, ComponentOwner::Protected(unit))
         }
+        _ => Ok(1),
     }
 }
 

@@ -14,18 +14,10 @@ pub fn object_number(kind: &EntityKind) -> Option<DeclNo>
     ensures { result ≡ object_number kind.now }
 {
     match kind {
-        EntityKind::Package => None,
-        EntityKind::Main => None,
-        EntityKind::Mark(_) => None,
-        EntityKind::Literal { .. } => None,
         EntityKind::Object { declaration, .. } => Some(*declaration),
         EntityKind::Parameter { declaration, .. } => *declaration,
-        EntityKind::LoopParameter(_) => None,
         EntityKind::Component { declaration, .. } => Some(*declaration),
-        EntityKind::Exception(_) => None,
-        EntityKind::Subprogram { .. } => None,
-        EntityKind::Entry { .. } => None,
-        EntityKind::Label => None,
+        _ => None,
     }
 }
 
@@ -115,10 +107,6 @@ fn object_of_kind(within: &Within<'_, '_>, name: &Name, kind: &EntityKind) -> Ob
     ensures { result ≡ object_of_kind within.now name.now kind.now }
 {
     match kind {
-        EntityKind::Package => ObjectName::Declared(no_declaration_no()),
-        EntityKind::Main => ObjectName::Declared(no_declaration_no()),
-        EntityKind::Mark(_) => ObjectName::Declared(no_declaration_no()),
-        EntityKind::Literal { .. } => ObjectName::Declared(no_declaration_no()),
         EntityKind::Object { declaration, .. } => ObjectName::Declared(*declaration),
         EntityKind::Parameter { declaration, .. } => {
             ObjectName::Declared(declared_as(*declaration))
@@ -129,10 +117,7 @@ fn object_of_kind(within: &Within<'_, '_>, name: &Name, kind: &EntityKind) -> Ob
             declaration,
             ..
         } => component_name(*owner, object_before(within, name), *declaration),
-        EntityKind::Exception(_) => ObjectName::Declared(no_declaration_no()),
-        EntityKind::Subprogram { .. } => ObjectName::Declared(no_declaration_no()),
-        EntityKind::Entry { .. } => ObjectName::Declared(no_declaration_no()),
-        EntityKind::Label => ObjectName::Declared(no_declaration_no()),
+        _ => ObjectName::Declared(no_declaration_no()),
     }
 }
 

@@ -90,10 +90,7 @@ fn bound_of(attribute: Attribute, name: &Name) -> Option<Value>
             None => None,
             Some(item) => high_of_item(item),
         },
-        Attribute::Image => None,
-        Attribute::Count => None,
-        Attribute::Identity => None,
-        Attribute::Access => None,
+        _ => None,
     }
 }
 
@@ -140,21 +137,13 @@ fn number_in_form(form: &ExpressionForm<Expression>) -> Result<u32, NoMemory>
         (λ number. number ≡ unwrap_or (and_then (number_in_form form.now) level_of) 0) }
 {
     match form {
-        ExpressionForm::Logical { .. } => Ok(0),
-        ExpressionForm::Relational { .. } => Ok(0),
-        ExpressionForm::Adding { .. } => Ok(0),
-        ExpressionForm::Signed { .. } => Ok(0),
-        ExpressionForm::Multiplying { .. } => Ok(0),
-        ExpressionForm::Highest { .. } => Ok(0),
         ExpressionForm::Number { literal, .. } => number_of_literal(literal.as_slice()),
-        ExpressionForm::Text { .. } => Ok(0),
-        ExpressionForm::Null { .. } => Ok(0),
-        ExpressionForm::Bracketed { .. } => Ok(0),
         ExpressionForm::Named {
             name,
             attribute,
             ..
         } => Ok(number_or_zero(number_of_name(name, attribute))),
+        _ => Ok(0),
     }
 }
 

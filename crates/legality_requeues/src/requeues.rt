@@ -226,8 +226,7 @@ fn same_formal(a: &Formal, b: &Formal) -> bool
 fn formal_at(formals: &[Formal], at: usize) -> Option<&Formal>
     ensures { option_copied result ≡ slice_get formals.now at }
 {
-    let formal = formals.get(at)?;
-    Some(formal)
+    formals.get(at)
 }
 
 /// A formal is like that at a place, if there is one.

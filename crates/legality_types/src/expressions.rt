@@ -41,13 +41,10 @@ pub fn operand_type(t: Typed) -> Option<AdaType>
     ensures { result ≡ operand_type t }
 {
     match t {
-        Typed::WithoutType => None,
         Typed::OfSubtype(subtype) => Some(subtype.of_type),
         Typed::OfWholeNumber => Some(AdaType::Integer),
         Typed::OfPointedNumber => Some(AdaType::Duration),
-        Typed::OfText => None,
-        Typed::OfNull => None,
-        Typed::OfHandler(_) => None,
+        _ => None,
     }
 }
 

@@ -124,7 +124,6 @@ pub enum Mark {
 
 /// An open construct with what is still to be done above it: the action with which it goes on, or none where it
 /// is its own turn to end. The rest of a task is the list of its frames, the top one first.
-#[derive(Drop)]
 pub struct Frame {
     pub mark: Mark,
     pub onward: Option<StatementNo>,
@@ -132,4 +131,16 @@ pub struct Frame {
     pub left_as: Option<Leaving>,
     /// Whether an abort or a completed trigger has struck it.
     pub struck: bool,
+}
+
+// Written out, so that it is proved once, and not by each function that drops one.
+impl Drop for Frame {
+    fn drop(self) {
+        let Frame {
+            mark: _,
+            onward: _,
+            left_as: _,
+            struck: _,
+        } = self;
+    }
 }

@@ -57,12 +57,23 @@ impl Drop for ScopeInUse {
 
 /// How a scope begins in a run: what stands round it in the text, the object or the controlled object that it
 /// works on, and what its first cells hold.
-#[derive(Drop)]
 pub struct Beginning {
     pub outer: Option<ScopeId>,
     pub object: Option<ObjectNo>,
     pub subject: Option<Located>,
     pub values: List<Value>,
+}
+
+// Written out, so that it is proved once, and not by each function that drops one.
+impl Drop for Beginning {
+    fn drop(self) {
+        let Beginning {
+            outer: _,
+            object: _,
+            subject: _,
+            values: _,
+        } = self;
+    }
 }
 
 /// What a call hands over: the values of the parameters, what is copied back, and the object that stands for

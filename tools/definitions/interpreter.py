@@ -36,7 +36,7 @@ def judged(source):
 
 def sequences_fit(image):
     """Whether sequences with handlers begin in an image where the law of them asks it."""
-    return definition("sequence_worlds.specs.SequenceWorlds", "sequences_fit")(image)
+    return definition("world_laws.specs.SequenceWorlds", "sequences_fit")(image)
 
 
 def items_of(script):

@@ -1,5 +1,5 @@
 #!/usr/bin/env python3
-"""Computes the law of direct names by the definitions of `name_laws`.
+"""Computes the law of direct names by the definitions of `source_laws`.
 
     tools/definitions/names_by_position.py SOURCE..
 
@@ -44,7 +44,7 @@ def main():
             tree = tree_of(source)
             if tree is None:
                 continue
-            told = tuple(bool(definition(f"name_laws.specs.{module}", name)(tree)) for _, module, name in tests)
+            told = tuple(bool(definition(f"source_laws.specs.{module}", name)(tree)) for _, module, name in tests)
             counts[told] = counts.get(told, 0) + 1
             broken = broken or told[0] and not told[2]
             if not all(told):

@@ -4,7 +4,6 @@
 
 mod declarations;
 mod expressions;
-mod labels;
 mod selects;
 mod statements;
 mod telling;

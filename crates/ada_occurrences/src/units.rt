@@ -1,10 +1,10 @@
 //! The names in sequences, library units and a source (ISO/IEC 8652:2012, 3.11, 7.1, 7.2, 10.1).
 ghost use Rattle.std.specs.Prelude.{◌≡◌, ◌++◌, ◌∷◌, [], OnOk, IfOk};
-ghost use Rattle.ada_regions.specs.NamesInUnits.{clause_with, names_in_package_declaration, names_in_package_body, names_in_main, names_in_unit};
+ghost use Rattle.ada_regions.specs.NamesInUnits.{clause_with, names_in_package_declaration, names_in_package_body, names_in_main, names_in_parts, names_in_unit};
 
-use crate::labels::TellLabels;
 use crate::statements::tell_optional_body;
 use crate::telling::{Part, Tell, TellSequence, tell_each, tell_private, tell_region};
+use ada_labels::LabelledSequence;
 use ada_regions::{Occurrence, Occurrences};
 use ada_tree::{
     ContextClause, LibraryPackage, MainProcedure, Name, Package, PackageBody, PackageDeclaration,
@@ -13,28 +13,17 @@ use ada_tree::{
 use ann_base::NoMemory;
 use std::alloc::Global;
 
-impl<Q: TellSequence> TellSequence for SequenceParts<Q> {
-    ghost use Rattle.ada_regions.specs.NamesInUnits.{names_in_parts};
-
-    ghost names_in = { names_in_parts Q.names_in };
-
-    fn tell_part<'t>(
-        &'t self,
-        part: Part,
-        occurrences: &mut Occurrences<'t>,
-    ) -> Result<(), NoMemory> {
-        match part {
-            Part::Declarations => self.declarations.tell(occurrences),
-            Part::Labels => {
-                self.statements.tell_labels(occurrences)?;
-                self.handlers.tell_labels(occurrences)
-            }
-            Part::Statements => {
-                self.statements.tell(occurrences)?;
-                self.handlers.tell(occurrences)
-            }
-        }
-    }
+/// The statements and handlers of a sequence.
+fn tell_statements_in<'t, Q: TellSequence>(
+    occurrences: &mut Occurrences<'t>,
+    parts: &'t SequenceParts<Q>,
+) -> Result<(), NoMemory>
+    ensures { OnOk result
+        (occurrences.new
+        ≡ occurrences.old ++ (names_in_parts Q.names_in parts.now).statements) }
+{
+    parts.statements.tell(occurrences)?;
+    parts.handlers.tell(occurrences)
 }
 
 impl TellSequence for Sequence {
@@ -49,7 +38,12 @@ impl TellSequence for Sequence {
         part: Part,
         occurrences: &mut Occurrences<'t>,
     ) -> Result<(), NoMemory> {
-        self.parts.get().tell_part(part, occurrences)
+        let parts = self.parts.get();
+        match part {
+            Part::Declarations => parts.declarations.tell(occurrences),
+            Part::Labels => self.tell_sequence_labels(occurrences),
+            Part::Statements => tell_statements_in(occurrences, parts),
+        }
     }
 }
 

@@ -11,8 +11,8 @@ use Rattle.ada_tree.specs.Shape.{is_shaped}
 use Rattle.ada_grammar.specs.declared.faults.ParseFault.{ParseFault}
 use Rattle.ada_grammar.specs.declared.faults.ParseFault.TheVariants as faults
 use Rattle.ada_grammar.specs.ReadingUnits.{unit_of}
-use Rattle.grammar_laws.specs.Laws.{ReadIsSpelt, SpeltIsRead}
-use Rattle.fault_places.specs.Laws.{NoneGoesOn, NoTreeGoesDeeper, NoTreeGoesOn}
+use Rattle.grammar_laws.specs.GrammarLaws.{ReadIsSpelt, SpeltIsRead}
+use Rattle.grammar_laws.specs.FaultLaws.{NoneGoesOn, NoTreeGoesDeeper, NoTreeGoesOn}
 
 pub spells : (result : Result Tree (OrMemory ParseFault)) (ls : List Lexeme) → ReadIsSpelt → Answers result (unit_of ls) → IfOk result (λ unit. SpellsTokens unit ls)
 spells (Ok unit) ls law gives = (law ls unit gives).0

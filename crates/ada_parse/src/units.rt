@@ -9,7 +9,7 @@ ghost use Rattle.ada_tree.specs.Shape.{is_shaped};
 ghost use Rattle.ada_grammar.specs.Reading.{behind_delimiter_of, items_of, sees_delimiter, sees_word, separated_of};
 ghost use Rattle.ada_grammar.specs.ReadingExpressions.{argument_of, inner_of};
 ghost use Rattle.ada_grammar.specs.Reads.{Reads};
-ghost use Rattle.fault_places.specs.Laws.{NoneGoesOn};
+ghost use Rattle.grammar_laws.specs.FaultLaws.{NoneGoesOn};
 ghost use Rattle.ada_grammar.specs.ReadingUnits.{begins_clause, clause_of, context_of, finished, main_of, package_body_of, package_declaration_of, package_of, package_statements_of, packages_of, placed_fault, pragma_of, private_part_of, source_of, unit_of, use_clause_of, with_of};
 
 use ada_clauses::aspects;
@@ -23,8 +23,7 @@ use ada_tree::{
     OneOrMore, Package, PackageBody, PackageDeclaration, Pragma, Sequence, SequenceRole, Unit,
 };
 use ann_base::{OrMemory, Place};
-use fault_places::{no_tree_goes_deeper, no_tree_goes_on};
-use grammar_laws::{read_is_spelt, spelt_is_read};
+use grammar_laws::{no_tree_goes_deeper, no_tree_goes_on, read_is_spelt, spelt_is_read};
 use sqlite_items::Items;
 use std::alloc::Global;
 

@@ -3,25 +3,23 @@ ghost use Rattle.std.specs.Prelude.{◌≡◌, ◌≢◌, ◌≤◌, ◌⊎◌, 
 ghost use Rattle.ann_base.specs.Outside.{Rose, extended};
 ghost use Rattle.trace_text.specs.Laws.{DispatchOk, CeilingOk, ExclusiveOk, HandlersOk, LeftOk};
 ghost use Rattle.trace_text.specs.Text.{ArePrintable};
-ghost use Rattle.tick_lines.specs.TickLaws.{SwitchesOk, ReleasesOk, StuckOk, follows_tick_order};
+ghost use Rattle.line_laws.specs.TickLaws.{SwitchesOk, ReleasesOk, StuckOk, follows_tick_order};
 ghost use Rattle.commands.specs.Asked.{asked_of};
 ghost use Rattle.commands.specs.Outside.{shelf_of, sink_of};
 ghost use Rattle.commands.specs.Performed.{IsUnread};
 ghost use Rattle.commands.specs.Statuses.{Headline, HeadlineUnder, LoadTold, AcceptanceTold, TableTold, BeyondTold, TraceTold, LawsTold, ReportTold, DoneTold, LawTold, NotAccepted, NotAcceptedUnder, LoadNotAccepted, NoScript, ScriptRefusalTold, RefusalTold, BreachTold, TraceRefusalTold, FailureTold, TableRefusalTold, PrefixTold, NoteTried, IsStatus};
 
 use ann_base::{Shelf, Sink};
-use ceiling_places::runs_keep_the_law_of_ceilings;
+use ceiling_laws::runs_keep_the_law_of_ceilings;
 use commands::conclude;
-use exit_laws::runs_keep_exclusion;
-use handler_laws::runs_keep_handlers;
-use leaving_laws::runs_leave_rightly;
+use line_laws::{
+    runs_are_in_tick_order, runs_are_rightly_stuck, runs_keep_exclusion, runs_keep_handlers,
+    runs_leave_rightly, runs_release_in_order, runs_switch,
+};
 use machine_laws::dispatching::runs_dispatch;
 use policy_laws::deadlines_are_below_interrupts;
 use run_commands::perform;
 use std::alloc::Global;
-use tick_lines::{
-    runs_are_in_tick_order, runs_are_rightly_stuck, runs_release_in_order, runs_switch,
-};
 use trace_files::lines_tell;
 use trace_laws::verdicts_tell;
 

@@ -1,5 +1,3 @@
-mod LevelLemmas
-mod FollowLemmas
-mod ObjectLemmas
-mod CeilingLemmas
-mod ExampleLemmas
+pub mod Ceilings
+pub mod Runs
+pub mod Places

@@ -1,3 +1,8 @@
+pub mod Acting
 pub mod CeilingLaws
-pub mod FollowLaws
+pub mod Cores
 pub mod Examples
+pub mod FollowLaws
+pub mod PlaceLaws
+pub mod Puts
+pub mod RunLaws

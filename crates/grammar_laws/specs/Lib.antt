@@ -1,2 +1,3 @@
+pub mod FaultLaws
+pub mod GrammarLaws
 pub mod Leads
-pub mod Laws

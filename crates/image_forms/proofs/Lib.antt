@@ -1,4 +1,2 @@
-pub mod Given
-pub mod ActualLemmas
 pub mod DeclarationLists
 pub mod StatementLists

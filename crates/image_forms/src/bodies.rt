@@ -2,14 +2,14 @@
 ghost use Rattle.std.specs.Prelude.{◌≡◌, ◌∷◌, []};
 ghost use Rattle.ada_image.specs.BuiltSequences.{operations_built, declaration_built, declarations_built};
 
-use crate::actuals::initial_built;
-use crate::forms::HasForm;
+use crate::forms::SequenceHasForm;
 use ada_regions::Names;
 use ada_tree::{Declaration, OperationBody};
+use expression_forms::initial_built;
 
 /// The body of an operation of a protected unit.
 #[tactic(auto, using(crate::proofs::DeclarationLists::alone))]
-fn operation_body_built<Q: HasForm>(operation: &OperationBody<Q>, names: &Names<'_>) -> bool
+fn operation_body_built<Q: SequenceHasForm>(operation: &OperationBody<Q>, names: &Names<'_>) -> bool
     ensures { result ≡ operations_built Q.built (operation.now ∷ []) names.now }
 {
     match operation {
@@ -20,7 +20,7 @@ fn operation_body_built<Q: HasForm>(operation: &OperationBody<Q>, names: &Names<
 
 /// The bodies of the operations of a protected unit (9.4).
 #[tactic(auto, using(crate::proofs::DeclarationLists::operations_more))]
-fn operations_built<Q: HasForm>(operations: &[OperationBody<Q>], names: &Names<'_>) -> bool
+fn operations_built<Q: SequenceHasForm>(operations: &[OperationBody<Q>], names: &Names<'_>) -> bool
     ensures { result ≡ operations_built Q.built operations.now names.now }
 {
     for operation in operations {
@@ -32,7 +32,7 @@ fn operations_built<Q: HasForm>(operations: &[OperationBody<Q>], names: &Names<'
 }
 
 /// A declaration, or the body that it is.
-fn declaration_built<Q: HasForm>(declaration: &Declaration<Q>, names: &Names<'_>) -> bool
+fn declaration_built<Q: SequenceHasForm>(declaration: &Declaration<Q>, names: &Names<'_>) -> bool
     ensures { result ≡ declaration_built Q.built declaration.now names.now }
 {
     match declaration {
@@ -47,7 +47,7 @@ fn declaration_built<Q: HasForm>(declaration: &Declaration<Q>, names: &Names<'_>
 }
 
 /// The declarations of a part (3.11).
-pub(crate) fn declarations_built<Q: HasForm>(
+pub(crate) fn declarations_built<Q: SequenceHasForm>(
     declarations: &[Declaration<Q>],
     names: &Names<'_>,
 ) -> bool

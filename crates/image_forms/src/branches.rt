@@ -4,14 +4,14 @@ ghost use Rattle.ada_image.specs.BuiltExpressions.{expression_built};
 ghost use Rattle.ada_image.specs.BuiltStatements.{choices_built};
 ghost use Rattle.ada_image.specs.BuiltSequences.{sequence_if_built, elsifs_built, alternatives_built, handlers_built, accept_body_built};
 
-use crate::expressions::expression_built;
-use crate::forms::HasForm;
+use crate::forms::SequenceHasForm;
 use crate::simple::choices_built;
 use ada_regions::Names;
 use ada_tree::{AcceptBody, CaseAlternative, Elsif, Handler, OneOrMore};
+use expression_forms::expression_built;
 
 /// Statements that may be missing.
-pub(crate) fn sequence_if_built<Q: HasForm>(sequence: &Option<Q>, names: &Names<'_>) -> bool
+pub(crate) fn sequence_if_built<Q: SequenceHasForm>(sequence: &Option<Q>, names: &Names<'_>) -> bool
     ensures { result ≡ sequence_if_built Q.built sequence.now names.now }
 {
     match sequence {
@@ -21,7 +21,7 @@ pub(crate) fn sequence_if_built<Q: HasForm>(sequence: &Option<Q>, names: &Names<
 }
 
 /// A further condition with the statements behind it.
-fn elsif_built<Q: HasForm>(elsif: &Elsif<Q>, names: &Names<'_>) -> bool
+fn elsif_built<Q: SequenceHasForm>(elsif: &Elsif<Q>, names: &Names<'_>) -> bool
     ensures { result
         ≡ (expression_built elsif.now.condition names.now
         && Q.built elsif.now.statements names.now) }
@@ -30,7 +30,7 @@ fn elsif_built<Q: HasForm>(elsif: &Elsif<Q>, names: &Names<'_>) -> bool
 }
 
 /// The branches behind `elsif` (5.3).
-pub(crate) fn elsifs_built<Q: HasForm>(elsifs: &[Elsif<Q>], names: &Names<'_>) -> bool
+pub(crate) fn elsifs_built<Q: SequenceHasForm>(elsifs: &[Elsif<Q>], names: &Names<'_>) -> bool
     ensures { result ≡ elsifs_built Q.built elsifs.now names.now }
 {
     for elsif in elsifs {
@@ -42,7 +42,7 @@ pub(crate) fn elsifs_built<Q: HasForm>(elsifs: &[Elsif<Q>], names: &Names<'_>) -
 }
 
 /// An alternative of a case statement.
-fn alternative_of_case_built<Q: HasForm>(
+fn alternative_of_case_built<Q: SequenceHasForm>(
     alternative: &CaseAlternative<Q>,
     names: &Names<'_>,
 ) -> bool
@@ -54,7 +54,7 @@ fn alternative_of_case_built<Q: HasForm>(
 }
 
 /// Alternatives of a case statement.
-fn other_alternatives_built<Q: HasForm>(
+fn other_alternatives_built<Q: SequenceHasForm>(
     alternatives: &[CaseAlternative<Q>],
     names: &Names<'_>,
 ) -> bool
@@ -69,7 +69,7 @@ fn other_alternatives_built<Q: HasForm>(
 }
 
 /// All alternatives of a case statement (5.4).
-pub(crate) fn alternatives_built<Q: HasForm>(
+pub(crate) fn alternatives_built<Q: SequenceHasForm>(
     alternatives: &OneOrMore<CaseAlternative<Q>>,
     names: &Names<'_>,
 ) -> bool
@@ -81,7 +81,7 @@ pub(crate) fn alternatives_built<Q: HasForm>(
 }
 
 /// Exception handlers (11.2).
-pub(crate) fn handlers_built<Q: HasForm>(handlers: &[Handler<Q>], names: &Names<'_>) -> bool
+pub(crate) fn handlers_built<Q: SequenceHasForm>(handlers: &[Handler<Q>], names: &Names<'_>) -> bool
     ensures { result ≡ handlers_built Q.built handlers.now names.now }
 {
     for handler in handlers {
@@ -93,7 +93,10 @@ pub(crate) fn handlers_built<Q: HasForm>(handlers: &[Handler<Q>], names: &Names<
 }
 
 /// What stands behind `do` of an accept (9.5.2).
-pub(crate) fn accept_body_built<Q: HasForm>(body: &Option<AcceptBody<Q>>, names: &Names<'_>) -> bool
+pub(crate) fn accept_body_built<Q: SequenceHasForm>(
+    body: &Option<AcceptBody<Q>>,
+    names: &Names<'_>,
+) -> bool
     ensures { result ≡ accept_body_built Q.built body.now names.now }
 {
     match body {

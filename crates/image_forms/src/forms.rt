@@ -1,8 +1,8 @@
-//! What may have a form in an image.
+//! What holds statements and may have a form in an image.
 use ada_regions::Names;
 
-/// An expression or a sequence of statements.
-pub trait HasForm {
+/// A sequence of statements, or what stands for one in statements that hold others.
+pub trait SequenceHasForm {
     ghost use Rattle.std.specs.Prelude.{◌≡◌};
     ghost use Rattle.ada_image.specs.BuiltExpressions.{Built};
 

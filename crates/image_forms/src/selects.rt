@@ -5,17 +5,15 @@ ghost use Rattle.ada_image.specs.ImageOfStatements.{guard_of};
 ghost use Rattle.ada_image.specs.BuiltStatements.{value_if_there};
 ghost use Rattle.ada_image.specs.BuiltSequences.{alternative_built, select_alternatives_built, select_built};
 
-use crate::actuals::value_if_there;
 use crate::branches::{accept_body_built, sequence_if_built};
-use crate::calls::call_statement_built;
-use crate::expressions::expression_built;
-use crate::forms::HasForm;
+use crate::forms::SequenceHasForm;
 use crate::simple::trigger_built;
 use ada_regions::Names;
 use ada_tree::{
     Alternative, AsynchronousSelect, ConditionalEntryCall, Guard, OneOrMore, SelectAlternative,
     SelectForm, SelectiveAccept, TimedEntryCall,
 };
+use expression_forms::{call_statement_built, expression_built, value_if_there};
 
 /// A guard (9.7.1).
 fn guard_built(guard: &Option<Guard>, names: &Names<'_>) -> bool
@@ -28,7 +26,7 @@ fn guard_built(guard: &Option<Guard>, names: &Names<'_>) -> bool
 }
 
 /// What an alternative of a selective accept waits for, and the statements behind it.
-fn alternative_built<Q: HasForm>(alternative: &Alternative<Q>, names: &Names<'_>) -> bool
+fn alternative_built<Q: SequenceHasForm>(alternative: &Alternative<Q>, names: &Names<'_>) -> bool
     ensures { result ≡ alternative_built Q.built alternative.now names.now }
 {
     match alternative {
@@ -43,7 +41,7 @@ fn alternative_built<Q: HasForm>(alternative: &Alternative<Q>, names: &Names<'_>
 }
 
 /// An alternative of a selective accept with its guard.
-fn select_alternative_built<Q: HasForm>(
+fn select_alternative_built<Q: SequenceHasForm>(
     alternative: &SelectAlternative<Q>,
     names: &Names<'_>,
 ) -> bool
@@ -55,7 +53,7 @@ fn select_alternative_built<Q: HasForm>(
 }
 
 /// Alternatives of a selective accept.
-fn other_alternatives_built<Q: HasForm>(
+fn other_alternatives_built<Q: SequenceHasForm>(
     alternatives: &[SelectAlternative<Q>],
     names: &Names<'_>,
 ) -> bool
@@ -70,7 +68,7 @@ fn other_alternatives_built<Q: HasForm>(
 }
 
 /// All alternatives of a selective accept.
-fn select_alternatives_built<Q: HasForm>(
+fn select_alternatives_built<Q: SequenceHasForm>(
     alternatives: &OneOrMore<SelectAlternative<Q>>,
     names: &Names<'_>,
 ) -> bool
@@ -83,7 +81,10 @@ fn select_alternatives_built<Q: HasForm>(
 }
 
 /// A selective accept (9.7.1).
-fn selective_accept_built<Q: HasForm>(select: &SelectiveAccept<Q>, names: &Names<'_>) -> bool
+fn selective_accept_built<Q: SequenceHasForm>(
+    select: &SelectiveAccept<Q>,
+    names: &Names<'_>,
+) -> bool
     ensures { result ≡ select_built Q.built (selecting.SelectiveAccept select.now) names.now }
 {
     select_alternatives_built(&select.alternatives, names)
@@ -91,7 +92,7 @@ fn selective_accept_built<Q: HasForm>(select: &SelectiveAccept<Q>, names: &Names
 }
 
 /// A timed entry call (9.7.2).
-fn timed_entry_call_built<Q: HasForm>(select: &TimedEntryCall<Q>, names: &Names<'_>) -> bool
+fn timed_entry_call_built<Q: SequenceHasForm>(select: &TimedEntryCall<Q>, names: &Names<'_>) -> bool
     ensures { result ≡ select_built Q.built (selecting.TimedEntryCall select.now) names.now }
 {
     call_statement_built(&select.call, names)
@@ -101,7 +102,7 @@ fn timed_entry_call_built<Q: HasForm>(select: &TimedEntryCall<Q>, names: &Names<
 }
 
 /// A conditional entry call (9.7.3).
-fn conditional_entry_call_built<Q: HasForm>(
+fn conditional_entry_call_built<Q: SequenceHasForm>(
     select: &ConditionalEntryCall<Q>,
     names: &Names<'_>,
 ) -> bool
@@ -112,7 +113,10 @@ fn conditional_entry_call_built<Q: HasForm>(
 }
 
 /// An asynchronous select (9.7.4).
-fn asynchronous_select_built<Q: HasForm>(select: &AsynchronousSelect<Q>, names: &Names<'_>) -> bool
+fn asynchronous_select_built<Q: SequenceHasForm>(
+    select: &AsynchronousSelect<Q>,
+    names: &Names<'_>,
+) -> bool
     ensures { result ≡ select_built Q.built (selecting.AsynchronousSelect select.now) names.now }
 {
     trigger_built(&select.trigger, names)
@@ -120,7 +124,7 @@ fn asynchronous_select_built<Q: HasForm>(select: &AsynchronousSelect<Q>, names: 
 }
 
 /// A select statement (9.7).
-pub(crate) fn select_built<Q: HasForm>(select: &SelectForm<Q>, names: &Names<'_>) -> bool
+pub(crate) fn select_built<Q: SequenceHasForm>(select: &SelectForm<Q>, names: &Names<'_>) -> bool
     ensures { result ≡ select_built Q.built select.now names.now }
 {
     match select {

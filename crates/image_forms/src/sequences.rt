@@ -1,12 +1,12 @@
 //! Sequences of statements with what may stand around them (ISO/IEC 8652:2012, 3.11, 11.2).
 use crate::bodies::declarations_built;
 use crate::branches::handlers_built;
-use crate::forms::HasForm;
+use crate::forms::SequenceHasForm;
 use crate::statements::statements_built;
 use ada_regions::Names;
 use ada_tree::{Sequence, SequenceParts};
 
-impl<Q: HasForm> HasForm for SequenceParts<Q> {
+impl<Q: SequenceHasForm> SequenceHasForm for SequenceParts<Q> {
     ghost use Rattle.ada_image.specs.BuiltSequences.{parts_built};
 
     ghost built = { parts_built Q.built };
@@ -18,7 +18,7 @@ impl<Q: HasForm> HasForm for SequenceParts<Q> {
     }
 }
 
-impl HasForm for Sequence {
+impl SequenceHasForm for Sequence {
     ghost use Rattle.ada_image.specs.BuiltSequences.{sequence_built};
 
     ghost built = { sequence_built };

@@ -2,13 +2,10 @@
 ghost use Rattle.std.specs.Prelude.{◌≡◌, ◌∷◌};
 ghost use Rattle.ada_image.specs.BuiltStatements.{whole_built, assignment_built, choice_value_built, choice_built, choices_built, iteration_built, trigger_built};
 
-use crate::actuals::source_built;
-use crate::calls::call_statement_built;
-use crate::expressions::expression_built;
-use crate::names::is_given;
 use ada_regions::{Names, Subtype};
 use ada_subtypes::{static_value, subtype_of_name};
 use ada_tree::{Assignment, Choice, Iteration, OneOrMore, Trigger};
+use expression_forms::{call_statement_built, expression_built, is_given, source_built};
 use image_layout::{subtype_is_array, subtype_is_kept};
 use profile_machine::Value;
 

@@ -3,18 +3,16 @@ ghost use Rattle.std.specs.Prelude.{◌≡◌, ◌∷◌};
 ghost use Rattle.ada_tree.specs.declared.statements.Statement.TheVariants as statement;
 ghost use Rattle.ada_image.specs.BuiltSequences.{statement_built, statements_built};
 
-use crate::actuals::{source_if_there, value_if_there};
 use crate::branches::{accept_body_built, alternatives_built, elsifs_built, sequence_if_built};
-use crate::calls::call_statement_built;
-use crate::expressions::expression_built;
-use crate::forms::HasForm;
+use crate::forms::SequenceHasForm;
 use crate::selects::select_built;
 use crate::simple::{assignment_built, iteration_built};
 use ada_regions::Names;
 use ada_tree::{Case, If, Loop, OneOrMore, Statement};
+use expression_forms::{call_statement_built, expression_built, source_if_there, value_if_there};
 
 /// An if statement (5.3).
-fn if_built<Q: HasForm>(branches: &If<Q>, names: &Names<'_>) -> bool
+fn if_built<Q: SequenceHasForm>(branches: &If<Q>, names: &Names<'_>) -> bool
     ensures { result ≡ statement_built Q.built (statement.If branches.now) names.now }
 {
     expression_built(&branches.condition, names)
@@ -24,21 +22,21 @@ fn if_built<Q: HasForm>(branches: &If<Q>, names: &Names<'_>) -> bool
 }
 
 /// A case statement (5.4).
-fn case_built<Q: HasForm>(case: &Case<Q>, names: &Names<'_>) -> bool
+fn case_built<Q: SequenceHasForm>(case: &Case<Q>, names: &Names<'_>) -> bool
     ensures { result ≡ statement_built Q.built (statement.Case case.now) names.now }
 {
     expression_built(&case.selector, names) && alternatives_built(&case.alternatives, names)
 }
 
 /// A loop (5.5).
-fn loop_built<Q: HasForm>(around: &Loop<Q>, names: &Names<'_>) -> bool
+fn loop_built<Q: SequenceHasForm>(around: &Loop<Q>, names: &Names<'_>) -> bool
     ensures { result ≡ statement_built Q.built (statement.Loop around.now) names.now }
 {
     iteration_built(&around.iteration, names) && around.statements.is_built(names)
 }
 
 /// A statement (5.1).
-fn statement_built<Q: HasForm>(statement: &Statement<Q>, names: &Names<'_>) -> bool
+fn statement_built<Q: SequenceHasForm>(statement: &Statement<Q>, names: &Names<'_>) -> bool
     ensures { result ≡ statement_built Q.built statement.now names.now }
 {
     match statement {
@@ -58,7 +56,10 @@ fn statement_built<Q: HasForm>(statement: &Statement<Q>, names: &Names<'_>) -> b
 }
 
 /// Statements behind the first one.
-fn other_statements_built<Q: HasForm>(statements: &[Statement<Q>], names: &Names<'_>) -> bool
+fn other_statements_built<Q: SequenceHasForm>(
+    statements: &[Statement<Q>],
+    names: &Names<'_>,
+) -> bool
     ensures { result ≡ statements_built Q.built statements.now names.now }
 {
     for statement in statements {
@@ -70,7 +71,7 @@ fn other_statements_built<Q: HasForm>(statements: &[Statement<Q>], names: &Names
 }
 
 /// The statements of a sequence.
-pub(crate) fn statements_built<Q: HasForm>(
+pub(crate) fn statements_built<Q: SequenceHasForm>(
     statements: &OneOrMore<Statement<Q>>,
     names: &Names<'_>,
 ) -> bool

@@ -5,7 +5,7 @@ ghost use Rattle.ada_image.specs.BuiltUnits.{package_built, packages_built, unit
 
 use crate::bodies::declarations_built;
 use crate::branches::sequence_if_built;
-use crate::forms::HasForm;
+use crate::forms::SequenceHasForm;
 use ada_regions::Names;
 use ada_tree::{Declaration, LibraryPackage, Package, Sequence, Unit};
 use sqlite_items::Items;

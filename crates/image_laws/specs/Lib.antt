@@ -1,4 +1,6 @@
-pub mod ScopesOfText
 pub mod ActionsOfText
-pub mod OwnScopes
+pub mod Clear
 pub mod ImageLaws
+pub mod Laws
+pub mod OwnScopes
+pub mod ScopesOfText

@@ -1,6 +1,6 @@
 //! What every world that a run reaches keeps of its lists.
 //!
-//! Other parts of the test `is_well_formed` are laws of crates above:
+//! Other parts of the test `is_well_formed` are laws of `world_laws`:
 //!
 //! - who is in the ready queues, and where, of `place_worlds` (D.2.1);
 //! - the scopes in use are those of the marks, each run by whose mark it is, of `scope_worlds` (3.1);

@@ -13,7 +13,7 @@ use Rattle.ada_image.specs.declared.making.SequencePlace.TheVariants as sequence
 use Rattle.ada_image.specs.Making.{first_put, in_body_of, in_unit}
 use Rattle.ada_image.specs.ImageOfStatements.{SequenceMaking, scope_at}
 use Rattle.ada_image.specs.ImageOfDeclarations.{same_making, sequence_put, subprogram_declared_as, body_put, operation_body_put, operation_bodies_put, inner_body_put, inner_bodies_put}
-use Rattle.image_laws.proofs.Layers.{mapped_operation, mapped_declaration}
+use Rattle.image_laws.proofs.Images.Layers.{mapped_operation, mapped_declaration}
 use Rattle.operand_laws.proofs.Rising.{Keeps, keeps-then, first-keeps}
 use Rattle.operand_laws.proofs.Constructs.{KeepsAll}
 

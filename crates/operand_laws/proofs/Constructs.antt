@@ -42,8 +42,8 @@ use Rattle.ada_image.specs.ImageOfExpressions.{expression_made, signs_in}
 use Rattle.ada_image.specs.CallStatements.{call_statement_put}
 use Rattle.ada_image.specs.ImageOfStatements.{SequenceMaking, scope_at, choices_made, handled_made, entry_at, delay_put, condition_made, guard_of, inside, inside_if, branch_put, elsifs_put, if_put, alternatives_put, case_put, label_of, loop_body, forever_put, while_put, parameter_of, for_put, iteration_put, loop_put, block_put, handlers_put, accept_body_put, accept_put, alternative_put, select_alternative_put, select_alternatives_put, else_put, selective_accept_put, call_before, delay_before, timed_call_put, conditional_call_put, trigger_put, asynchronous_put, select_put, statement_put, statements_put}
 use Rattle.ada_image.specs.ImageOfDeclarations.{same_making, sequence_put}
-use Rattle.image_laws.proofs.Layers.{elsif_of, case_of, handler_of, mapped_statement, mapped_alternative}
-use Rattle.image_laws.proofs.Constructs.{loop_of, block_of, accept_body_of, accept_with}
+use Rattle.image_laws.proofs.Images.Layers.{elsif_of, case_of, handler_of, mapped_statement, mapped_alternative}
+use Rattle.image_laws.proofs.Images.Constructs.{loop_of, block_of, accept_body_of, accept_with}
 use Rattle.operand_laws.proofs.Rising.{Keeps, keeps-then, action-keeps, reserved-keeps, put-keeps, first-keeps}
 use Rattle.operand_laws.proofs.Simple.{expression-keeps, condition-keeps, call-statement-keeps, assignment-keeps, delay-keeps, return-keeps, raise-keeps, exit-keeps, abort-keeps, requeue-keeps}
 

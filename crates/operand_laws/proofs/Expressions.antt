@@ -38,7 +38,7 @@ use Rattle.ada_image.specs.declared.making.Within.{Within}
 use Rattle.ada_image.specs.Making.{Making, ◌>>=◌, value_put}
 use Rattle.ada_image.specs.Layout.{is_thing, subtype_is}
 use Rattle.ada_image.specs.ImageOfExpressions.{ExpressionImage, logical_operator, relational_operator, adding_operator, multiplying_operator, no_value, no_declaration_no, object_named, kind_named, index_made, variable_made, variable_put, object_made, entity_made, actuals_for, first_actual, images_for, image_or_none, optional_made, span_made, same_ticks_made, of_task_made, port_made, of_thing_made, function_made, item_made, index_in, denoted_made, named_made, unary_made, signed_made, count_of, count_made, attribute_made, binary_put, operands_made, addends_made, factors_made, logical_made, relational_made, adding_made, multiplying_made, form_image, same_image, image_layer, expression_image, expression_made}
-use Rattle.image_laws.proofs.Expressions.{operand_of, addend_of, multiplied_of, argument_of, mapped_form, actuals-mapped, mapped-twice}
+use Rattle.image_laws.proofs.Images.Expressions.{operand_of, addend_of, multiplied_of, argument_of, mapped_form, actuals-mapped, mapped-twice}
 use Rattle.world_laws.specs.ValueLaws.{operands, if_there}
 use Rattle.operand_laws.proofs.Rising.{Makes, MakesBehind, makes-then, behind-then, behind-pure, no-operand-makes, operand-makes, two-operands-make}
 

@@ -20,7 +20,7 @@ use Rattle.ada_image.specs.Making.{◌>>=◌, ◌>>◌, action_put, reserved, pu
 use Rattle.ada_image.specs.ImageOfStatements.{SequenceMaking, statements_put, handlers_put}
 use Rattle.ada_image.specs.ImageOfDeclarations.{same_making, sequence_put, making_layer, declarations_put, make_tasks, part_if, activation_put, end_of_activation_put, inner_bodies_put, body_put, unhandled_put, with_handlers_put, handled_put, whole_put, parts_put}
 use Rattle.ada_image.specs.ImageOfUnits.{has_body, part_of, package_part, package_declaration_put, package_statements_put, package_body_put, package_put, packages_put, actions_made}
-use Rattle.image_laws.proofs.Layers.{mapped}
+use Rattle.image_laws.proofs.Images.Layers.{mapped}
 use Rattle.operand_laws.proofs.Rising.{Keeps, keeps-then, action-keeps, first-keeps, reserved-keeps, put-keeps}
 use Rattle.operand_laws.proofs.Simple.{declarations-keep, activation-keeps, end-keeps}
 use Rattle.operand_laws.proofs.Constructs.{KeepsAll, handlers-keep, statements-keep}

@@ -12,7 +12,7 @@ use Rattle.profile_machine.specs.Lines.{event_of}
 use Rattle.profile_machine.specs.Steps.{in_order}
 use Rattle.profile_machine.specs.Releases.{NamedHandler, named_handler, released}
 use Rattle.machine_laws.proofs.Moves.{is_told_apart, AreOthers, lines_of}
-use Rattle.exclusion_laws.proofs.OwnLines.{told, Told, Told-append, Told-in_order}
+use Rattle.line_laws.proofs.Exclusion.OwnLines.{told, Told, Told-append, Told-in_order}
 
 abbrev telling : Line → Option HandlerOf
 telling (line.Release number handler) = Some handler

@@ -9,7 +9,7 @@ use Rattle.ada_regions.specs.Names.{entity_denoted}
 use Rattle.ada_regions.specs.Occurrences.{Occurrence, task_body, protected_body, begins}
 use Rattle.ada_regions.specs.Completions.{is_unit, has_body}
 use Rattle.ada_regions.specs.Numbered.{names_of}
-use Rattle.name_laws.specs.Positions.{Before, end_of}
+use Rattle.source_laws.specs.Positions.{Before, end_of}
 
 -- a body: the kind of its unit, and its name
 abbrev pub Named : Type 0

@@ -1,2 +1,13 @@
+pub mod AcceptedLaws
 pub mod Bodies
-pub mod Laws
+pub mod Declarations
+pub mod Denoted
+pub mod DirectNames
+pub mod NameLaws
+pub mod Places
+pub mod Positions
+pub mod Regions
+pub mod ScopeLaws
+pub mod SourceLaws
+pub mod Tables
+pub mod UseClauses

@@ -1,4 +1,14 @@
+pub mod ActionWorlds
+pub mod AppointmentWorlds
+pub mod CellWorlds
+pub mod FormedWorlds
+pub mod MarkWorlds
 pub mod MasterLaws
+pub mod PlaceWorlds
+pub mod QueueWorlds
 pub mod ScopeLaws
+pub mod ScopeWorlds
+pub mod SequenceWorlds
 pub mod ServeLaws
+pub mod ServingWorlds
 pub mod ValueLaws

@@ -1,47 +1,33 @@
-//! Worlds, above all those that runs reach: laws of the profile machine's definitions alone, which hold of every program, script
-//! and bound. Each is the contract of a function that does nothing.
+//! Worlds: laws of the profile machine's definitions alone, which hold of every program, script and bound. Each is the contract of
+//! a function that does nothing.
 //!
-//! `proofs/KeptFacts.antt` has the skeleton: a fact of worlds that the opening has and every change keeps, changes told apart by
-//! whom they touch, holds of every world that a run reaches.
+//! `count_laws` has those that hold of worlds whether a run reaches them or not. Each of the others has one part of what a world is
+//! that a run reaches, and `formed_worlds` puts the parts together: it is well formed.
 #![tactic(auto)]
 
-ghost use Rattle.world_laws.specs.MasterLaws.{MastersEnd};
-ghost use Rattle.world_laws.specs.ScopeLaws.{OutwardsEnd};
-ghost use Rattle.world_laws.specs.ServeLaws.{RightQueuesAreOwn, ServesEnd};
-ghost use Rattle.world_laws.specs.ValueLaws.{ValuesEnd};
+mod action_worlds;
+mod appointment_worlds;
+mod cell_worlds;
+mod count_laws;
+mod formed_worlds;
+mod mark_worlds;
+mod place_worlds;
+mod queue_worlds;
+mod scope_worlds;
+mod sequence_worlds;
+mod serving_worlds;
 
-/// The regions on which a task depends (ISO/IEC 8652:2012, 9.3) come to an end before the machine has counted as many of them as
-/// there are tasks: with more to count down they are the same.
-#[tactic(auto, using(crate::proofs::MasterTrees::masters_end))]
-pub fn masters_end()
-    ensures { MastersEnd }
-{}
-
-/// Where each operand has a smaller number than what it stands in, the value of an expression is found before the machine has
-/// counted as many turns as there are expressions: with more to count down it is the same.
-#[tactic(auto, using(crate::proofs::ValueCounts::values_end))]
-pub fn values_end()
-    ensures { ValuesEnd }
-{}
-
-/// Where each call that is queued at a protected object stands in the queue of its own entry, the machine serves the next of them
-/// (ISO/IEC 8652:2012, 9.5.3) before it has counted as many turns as there are calls, until the body of one opens or none is left:
-/// with more to count down the same is done and said.
-#[tactic(auto, using(crate::proofs::ServeCounts::serves_end))]
-pub fn serves_end()
-    ensures { ServesEnd }
-{}
-
-/// Where the queues of a world are right, as they are where it is well formed, each call that is queued at a protected object stands
-/// in the queue of its own entry.
-#[tactic(auto, using(crate::proofs::ServeCounts::right_queues_are_own))]
-pub fn right_queues_are_own()
-    ensures { RightQueuesAreOwn }
-{}
-
-/// Whatever is sought from a scope in use outwards (ISO/IEC 8652:2012, 8.2) is found before the machine has counted as many scopes
-/// as are in use, or it is not found at all: with more to count down the answer is the same.
-#[tactic(auto, using(crate::proofs::ScopeCounts::outwards_end))]
-pub fn outwards_end()
-    ensures { OutwardsEnd }
-{}
+pub use action_worlds::reached_worlds_hold_rightly;
+pub use appointment_worlds::{reached_appointments_are_in_order, reached_delays_are_awaited};
+pub use cell_worlds::reached_cells_are_right;
+pub use count_laws::{masters_end, outwards_end, right_queues_are_own, serves_end, values_end};
+pub use formed_worlds::{reached_worlds_are_well_formed, runs_are_well_formed};
+pub use mark_worlds::{
+    reached_finalizes_stand_where_they_lead_on, reached_marks_are_right,
+    reached_marks_are_struck_for_a_cause, reached_triggers_are_awaited,
+};
+pub use place_worlds::reached_worlds_place_who_is_ready;
+pub use queue_worlds::{reached_worlds_await_timeouts, reached_worlds_queue_rightly};
+pub use scope_worlds::reached_worlds_have_the_scopes_of_marks;
+pub use sequence_worlds::reached_worlds_have_opened_sequences;
+pub use serving_worlds::reached_serving_ends;

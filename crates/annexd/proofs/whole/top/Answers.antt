@@ -1,7 +1,7 @@
 use Rattle.std.proofs.Common.{inl, inr, IsTrue, sym, subst, arith}
 use Rattle.trace_text.specs.Laws.{DispatchOk, CeilingOk, ExclusiveOk, HandlersOk, LeftOk}
 use Rattle.ceiling_laws.specs.CeilingLaws.{edf_is_below_interrupts}
-use Rattle.tick_lines.specs.TickLaws.{SwitchesOk, ReleasesOk, StuckOk, follows_tick_order}
+use Rattle.line_laws.specs.TickLaws.{SwitchesOk, ReleasesOk, StuckOk, follows_tick_order}
 use Rattle.commands.specs.Asked.{asked_of}
 use Rattle.commands.specs.Outside.{shelf_of, sink_of}
 use Rattle.commands.proofs.RunsTold.{headline, headline_under, load_told, acceptance}

@@ -1,2 +1,0 @@
-pub mod AcceptedLaws
-pub mod ScopeLaws

@@ -1,0 +1,5 @@
+pub mod LevelLemmas
+pub mod FollowLemmas
+pub mod ObjectLemmas
+pub mod CeilingLemmas
+pub mod ExampleLemmas

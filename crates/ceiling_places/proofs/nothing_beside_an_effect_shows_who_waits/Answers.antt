@@ -1,6 +1,0 @@
--- The law, as it is proved of the definitions.
-use Rattle.ceiling_places.proofs.WaitLemmas.{others_keep_waiters_out}
-use Rattle.ceiling_places.proofs.nothing_beside_an_effect_shows_who_waits.Goals as goal
-
-pub returns-clause-others : goal.returns-clause-others
-returns-clause-others c = others_keep_waiters_out

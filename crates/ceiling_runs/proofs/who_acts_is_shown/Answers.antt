@@ -1,6 +1,0 @@
--- The law, as it is proved of the definitions.
-use Rattle.ceiling_runs.proofs.ShownPlaces.{who_acts_is_shown}
-use Rattle.ceiling_runs.proofs.who_acts_is_shown.Goals as goal
-
-pub returns : goal.returns
-returns c = who_acts_is_shown

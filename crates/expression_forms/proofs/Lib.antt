@@ -1,0 +1,2 @@
+pub mod ActualLemmas
+pub mod Given

@@ -1,0 +1,228 @@
+-- The effect of an action: each step keeps a relation that its parts keep.
+use Rattle.std.proofs.Common.{◌≡◌, refl, sym, ap, subst, ◌∙◌, false, List, [], ◌∷◌}
+use Rattle.std.specs.Prelude.{ℕ, List, Option, Some, None}
+use Rattle.ann_base.specs.declared.exceptions.Raised.{Raised}
+use Rattle.trace_text.specs.declared.events.Who.{Who}
+use Rattle.trace_text.specs.declared.events.Who.TheVariants as who
+use Rattle.profile_machine.specs.declared.image.Image.{Image}
+use Rattle.profile_machine.specs.declared.numbers.StatementNo.{StatementNo}
+use Rattle.profile_machine.specs.declared.run_data.Leaving.{Leaving}
+use Rattle.profile_machine.specs.declared.run_data.Leaving.TheVariants as how
+use Rattle.profile_machine.specs.declared.statements.Actual.{Actual}
+use Rattle.profile_machine.specs.declared.statements.Callee.{Callee}
+use Rattle.profile_machine.specs.declared.statements.Callee.TheVariants as callee
+use Rattle.profile_machine.specs.declared.statements.Destination.{Destination}
+use Rattle.profile_machine.specs.declared.statements.StatementForm.{StatementForm}
+use Rattle.profile_machine.specs.declared.statements.StatementForm.TheVariants as form
+use Rattle.profile_machine.specs.declared.world.marks.Frame.{Frame}
+use Rattle.profile_machine.specs.declared.world.marks.Mark.{Mark}
+use Rattle.profile_machine.specs.declared.world.marks.AbortableMark.{AbortableMark}
+use Rattle.profile_machine.specs.declared.world.appointments.Release.{Release}
+use Rattle.profile_machine.specs.declared.world.calls.Call.{Call}
+use Rattle.profile_machine.specs.declared.world.marks.Mark.TheVariants.{Scope, Handled, InProtected, InAccept, Abortable, InInitialize, InFinalize, InAssign}
+use Rattle.profile_machine.specs.declared.world.lines.Part.TheVariants.{Own}
+use Rattle.profile_machine.specs.Program.{form_of}
+use Rattle.profile_machine.specs.Steps.{changes, looks, ◌▷◌}
+use Rattle.profile_machine.specs.Frames.{frames_of, top_of, pop, leaving_of, is_protected}
+use Rattle.profile_machine.specs.Calls.{with_call, attempt_with}
+use Rattle.profile_machine.specs.Act.{call_main, call, handle_or_pass, behind_handled, end_handled, end_top, wait_for_trigger, drop_trigger, below, end_abortable_by, end_in_abortable, act_statement, end_mark, act_frame, act_without, act_top, act, keeping, waiting_mark}
+use Rattle.machine_laws.proofs.Moves.{StepRelation, MoveRelation, Puts}
+use Rattle.line_laws.proofs.Exits.FineMoves.{GoodWorld, Naming, FineMoves, Openings, AnyWorld, nature, natures, action_in, action_first, is_abortable, RegionMoves}
+use Rattle.line_laws.proofs.Exits.TaskEdits.{one_of-is}
+use Rattle.line_laws.proofs.Exits.Steady.{FreeIn, Holding}
+use Rattle.profile_machine.specs.Words.{first_of_list}
+use Rattle.profile_machine.specs.Tasks.{task_of}
+use Rattle.line_laws.proofs.Exits.Kept.Combinators.{Keeps, Alters, changes-keeps, cond-keeps, looks-keeps, nothing-keeps, option-keeps, sees-keeps, then-keeps, unchanged-alters, From, keeps-from, looks_at-from, changes_then-from}
+use Rattle.line_laws.proofs.Exits.Kept.Dispatching.{block-keeps}
+use Rattle.line_laws.proofs.Exits.Kept.Frames.{edit_top-alters, goes-keeps, raises-keeps, pass_on-keeps, with_room-keeps, popped}
+use Rattle.line_laws.proofs.Exits.Kept.Scopes.{open_scope-alters}
+use Rattle.line_laws.proofs.Exits.Kept.Appointments.{drop_appointment-alters}
+use Rattle.line_laws.proofs.Exits.Kept.Calls.{with_call-keeps, attempt_with-keeps}
+use Rattle.line_laws.proofs.Exits.Kept.Statements.{null-keeps, assign-keeps, assign_array-keeps, if_statement-keeps, case_statement-keeps, while_turn-keeps, for_bounds-keeps, first_turn-keeps, later_turn-keeps, exit_statement-keeps, block_statement-keeps, raise_again-keeps, delay_until-keeps, put_line-keeps}
+use Rattle.line_laws.proofs.Exits.Kept.Subprograms.{call_subprogram-keeps, return_value-keeps, return-keeps}
+use Rattle.line_laws.proofs.Exits.Kept.Protected.{call_operation-keeps, call_own_operation-keeps}
+use Rattle.line_laws.proofs.Exits.Kept.Priorities.{set_priority-keeps, set_quantum-keeps, set_deadline_of-keeps, delay_and_set_deadline-keeps}
+use Rattle.line_laws.proofs.Exits.Kept.Serving.{end_in_protected-from}
+use Rattle.line_laws.proofs.Exits.Kept.Rendezvous.{accept-keeps, selective_accept-keeps, end_in_accept-from}
+use Rattle.line_laws.proofs.Exits.Kept.EntryCalls.{entry_call-keeps, asynchronous_select-keeps, requeue-keeps}
+use Rattle.line_laws.proofs.Exits.Kept.Controlled.{initialize-keeps, assign_controlled-keeps, end_in_initialize-from, end_in_finalize-from, end_in_assign-from}
+use Rattle.line_laws.proofs.Exits.Kept.Declarations.{declare-keeps}
+use Rattle.line_laws.proofs.Exits.Kept.Tasking.{create-keeps, activate-keeps, end_own_activation-keeps, abort_statement-keeps, end_scope_mark-from}
+use Rattle.line_laws.proofs.Exits.Kept.Handlers.{call_handler-keeps, set_event-keeps, cancel_event-keeps, set_timer-keeps, cancel_timer-keeps, add_member-keeps, remove_member-keeps, replenish-keeps, add_to_budget-keeps, set_budget-keeps, cancel_budget-keeps, Releasing, releasing}
+use Rattle.ann_base.specs.declared.identities.RegionNo.{RegionNo}
+use Rattle.profile_machine.specs.declared.world.World.{World}
+use Rattle.profile_machine.specs.declared.world.marks.ProtectedMark.{ProtectedMark}
+use Rattle.profile_machine.specs.Serving.{end_in_protected}
+use Rattle.line_laws.proofs.Exits.Kept.CallEnds.{end_found_abortable-keeps, abortable-nature}
+use Rattle.profile_machine.specs.CallEnds.{edit_abortable}
+
+-- a mark that keeps an exception is what it was
+keeping-nature : (e : Raised) (mark : Mark) → nature (keeping e mark) ≡ nature mark
+keeping-nature e (Scope m) = refl
+keeping-nature e (Handled s) = refl
+keeping-nature e (InProtected m) = refl
+keeping-nature e (InAccept m) = refl
+keeping-nature e (Abortable m) = refl
+keeping-nature e (InInitialize l) = refl
+keeping-nature e (InFinalize o) = refl
+keeping-nature e (InAssign m) = refl
+
+waiting-nature : (x : Frame) → nature (edit_abortable waiting_mark x.mark) ≡ nature x.mark
+waiting-nature x = abortable-nature waiting_mark x.mark
+
+module _ {G : GoodWorld} {May Other : Naming} {R : StepRelation} {Q : MoveRelation} (moves : FineMoves G May Other R Q) where
+  pub handle_or_pass-keeps : (p : Image) (name : Who) (e : Raised) (next : Option StatementNo) → Keeps G R (handle_or_pass p name e next)
+  unfolding handle_or_pass
+  handle_or_pass-keeps p name e None = search (pass_on-keeps)
+  handle_or_pass-keeps p name e (Some first) = search (changes-keeps, edit_top-alters, keeping-nature, then-keeps, goes-keeps)
+
+  pub behind_handled-keeps : (p : Image) (name : Who) (s : StatementNo) (leaving : Leaving) → Keeps G R (behind_handled p name s leaving)
+  unfolding behind_handled
+  behind_handled-keeps p name s (how.Exception e) = search (handle_or_pass-keeps)
+  behind_handled-keeps p name s how.End = search (nothing-keeps)
+  behind_handled-keeps p name s how.Return = search (pass_on-keeps)
+  behind_handled-keeps p name s (how.Exit loop) = search (pass_on-keeps)
+  behind_handled-keeps p name s how.Abort = search (pass_on-keeps)
+  behind_handled-keeps p name s how.Terminate = search (pass_on-keeps)
+
+  pub end_handled-from : (p : Image) (name : Who) (s : StatementNo) (leaving : Leaving) (f : Frame) (w : World) → G w → May name → top_of w name ≡ Some f → is_protected f.mark ≡ false → From R w (end_handled p name s leaving)
+  unfolding end_handled
+  end_handled-from p name s leaving f w good may top free =
+      let out = popped moves name f w good may top free in
+      changes_then-from moves (pop name) _ w out (keeps-from moves (behind_handled p name s leaving) (pop name w) (moves.behind w (pop name w) out) (behind_handled-keeps p name s leaving))
+
+  pub end_top-keeps : (p : Image) (name : Who) → May name → Keeps G R (end_top p name)
+  unfolding end_top
+  end_top-keeps p name may = end_found_abortable-keeps moves p Own name may
+
+  pub wait_for_trigger-keeps : (name : Who) (c : Call) (leaving : Leaving) → Other name → Keeps G R (wait_for_trigger name c leaving)
+  unfolding wait_for_trigger
+  wait_for_trigger-keeps name c leaving other = search (changes-keeps, edit_top-alters, waiting-nature, then-keeps, block-keeps)
+
+  pub drop_trigger-alters : (name : Who) (depth : ℕ) → Alters G R (drop_trigger name depth)
+  drop_trigger-alters (who.Task t) depth = search (drop_appointment-alters)
+  drop_trigger-alters who.Agent depth = search (unchanged-alters)
+
+  pub end_abortable_by-keeps : (p : Image) (name : Who) (m : AbortableMark) (leaving : Leaving) → Other name → Keeps G R (end_abortable_by p name m leaving)
+  unfolding end_abortable_by
+  end_abortable_by-keeps p name m leaving other = option-keeps moves m.call (looks (λ w. changes (drop_trigger name (below (frames_of w name)))) ▷ end_top p name) (λ c. with_call c (λ d. attempt_with p Own d (end_top p name) (wait_for_trigger name d leaving))) (search (looks-keeps, changes-keeps, drop_trigger-alters, then-keeps, end_top-keeps, moves.other_may)) (λ c. search (with_call-keeps, attempt_with-keeps, end_top-keeps, wait_for_trigger-keeps, moves.other_may))
+
+  pub end_in_abortable-keeps : (p : Image) (name : Who) (m : AbortableMark) (leaving : Leaving) → Other name → Keeps G R (end_in_abortable p name m leaving)
+  unfolding end_in_abortable
+  end_in_abortable-keeps p name m leaving other = search (cond-keeps, end_top-keeps, end_abortable_by-keeps, moves.other_may)
+
+module _ {G : GoodWorld} {May Other : Naming} {Owns : Who → RegionNo → Type 0} {R : StepRelation} {Q : MoveRelation} (moves : FineMoves G May Other R Q) (openings : Openings G May Other Owns R) where
+  pub call_main-keeps : (p : Image) (name : Who) (s : StatementNo) → May name → Keeps G R (call_main p name s)
+  unfolding call_main
+  call_main-keeps p name s may = search (with_room-keeps, goes-keeps, then-keeps, looks-keeps, changes-keeps, open_scope-alters)
+
+  pub call-keeps : (p : Image) (name : Who) (s : StatementNo) (callee : Callee) (actuals : List Actual) (to : Destination) → May name → Keeps G R (call p name s callee actuals to)
+  unfolding call
+  call-keeps p name s (callee.Subprogram f) actuals to may = search (call_subprogram-keeps)
+  call-keeps p name s (callee.Operation d f) actuals to may = search (call_operation-keeps)
+  call-keeps p name s (callee.OwnOperation f) actuals to may = search (call_own_operation-keeps)
+
+module _ {G : GoodWorld} {May Other : Naming} {Owns : Who → RegionNo → Type 0} {R : StepRelation} {Q : MoveRelation} (moves : FineMoves G May Other R Q) (openings : Openings G May Other Owns R) (releasing : Releasing G R) where
+  pub act_statement-keeps : (p : Image) → Puts G R p → (name : Who) (s : StatementNo) (form : StatementForm) → May name → form_of p s ≡ form → Keeps G R (act_statement p name s form)
+  unfolding act_statement
+  act_statement-keeps p puts name s (form.Declare object) may is = search (declare-keeps)
+  act_statement-keeps p puts name s (form.Initialize object) may is = search (initialize-keeps)
+  act_statement-keeps p puts name s (form.CreateTask object part) may is = search (create-keeps)
+  act_statement-keeps p puts name s (form.Activate part) may is = search (activate-keeps)
+  act_statement-keeps p puts name s form.EndActivation may is = search (end_own_activation-keeps)
+  act_statement-keeps p puts name s form.CallMain may is = search (call_main-keeps)
+  act_statement-keeps p puts name s (form.Handled handlers first) may is = search (nothing-keeps)
+  act_statement-keeps p puts name s form.Null may is = search (null-keeps)
+  act_statement-keeps p puts name s (form.Assign target e) may is = search (assign-keeps)
+  act_statement-keeps p puts name s (form.AssignArray target source) may is = search (assign_array-keeps)
+  act_statement-keeps p puts name s (form.AssignControlled target source) may is = search (assign_controlled-keeps)
+  act_statement-keeps p puts name s (form.If condition first otherwise) may is = search (if_statement-keeps)
+  act_statement-keeps p puts name s (form.Case selector alternatives) may is = search (case_statement-keeps)
+  act_statement-keeps p puts name s (form.Loop body within) may is = search (goes-keeps)
+  act_statement-keeps p puts name s (form.While condition body within) may is = search (while_turn-keeps)
+  act_statement-keeps p puts name s (form.For parameter reverse low high turn within) may is = search (for_bounds-keeps)
+  act_statement-keeps p puts name s (form.FirstTurn parameter reverse body) may is = search (first_turn-keeps)
+  act_statement-keeps p puts name s (form.LaterTurn parameter reverse body) may is = search (later_turn-keeps)
+  act_statement-keeps p puts name s (form.Exit condition of_loop) may is = search (exit_statement-keeps)
+  act_statement-keeps p puts name s (form.Block scope) may is = search (block_statement-keeps)
+  act_statement-keeps p puts name s form.Return may is = search (return-keeps)
+  act_statement-keeps p puts name s (form.ReturnValue function e) may is = search (return_value-keeps)
+  act_statement-keeps p puts name s (form.Raise e) may is = search (raises-keeps)
+  act_statement-keeps p puts name s (form.RaiseAgain scope) may is = search (raise_again-keeps)
+  act_statement-keeps p puts name s (form.Delay e) may is = search (sees-keeps, delay_until-keeps)
+  act_statement-keeps p puts name s (form.DelayUntil e) may is = search (sees-keeps, delay_until-keeps)
+  act_statement-keeps p puts name s (form.Call callee actuals to) may is = search (call-keeps)
+  act_statement-keeps p puts name s (form.PutLine pieces) may is = put_line-keeps moves p puts name s pieces is
+  act_statement-keeps p puts name s (form.EntryCall entry owner actuals) may is = search (entry_call-keeps)
+  act_statement-keeps p puts name s (form.ConditionalCall call otherwise) may is = search (entry_call-keeps)
+  act_statement-keeps p puts name s (form.TimedCall call delay) may is = search (entry_call-keeps)
+  act_statement-keeps p puts name s (form.AsynchronousSelect trigger abortable) may is = search (asynchronous_select-keeps)
+  act_statement-keeps p puts name s (form.Accept entry scope) may is = search (accept-keeps)
+  act_statement-keeps p puts name s (form.SelectiveAccept alternatives otherwise) may is = search (selective_accept-keeps)
+  act_statement-keeps p puts name s (form.Abort tasks) may is = search (abort_statement-keeps)
+  act_statement-keeps p puts name s (form.Requeue entry owner with_abort) may is = search (requeue-keeps)
+  act_statement-keeps p puts name s (form.SetEvent event set handler) may is = search (set_event-keeps)
+  act_statement-keeps p puts name s (form.CancelEvent event cancelled) may is = search (cancel_event-keeps)
+  act_statement-keeps p puts name s (form.SetTimer timer set handler) may is = search (set_timer-keeps)
+  act_statement-keeps p puts name s (form.CancelTimer timer cancelled) may is = search (cancel_timer-keeps)
+  act_statement-keeps p puts name s (form.AddTask budget task) may is = search (add_member-keeps)
+  act_statement-keeps p puts name s (form.RemoveTask budget task) may is = search (remove_member-keeps)
+  act_statement-keeps p puts name s (form.Replenish budget to) may is = search (replenish-keeps)
+  act_statement-keeps p puts name s (form.AddToBudget budget interval) may is = search (add_to_budget-keeps)
+  act_statement-keeps p puts name s (form.SetBudget budget handler) may is = search (set_budget-keeps)
+  act_statement-keeps p puts name s (form.CancelBudget budget cancelled) may is = search (cancel_budget-keeps)
+  act_statement-keeps p puts name s (form.SetPriority priority task) may is = search (set_priority-keeps)
+  act_statement-keeps p puts name s (form.SetQuantum level quantum) may is = search (set_quantum-keeps)
+  act_statement-keeps p puts name s (form.SetDeadline deadline task) may is = search (set_deadline_of-keeps)
+  act_statement-keeps p puts name s (form.DelayUntilAndSetDeadline until offset) may is = search (delay_and_set_deadline-keeps)
+
+  -- the end of the mark on top, but of a protected action, whose end is given
+  pub end_mark-from : (p : Image) (name : Who) (f : Frame) (mark : Mark) (w : World) → G w → May name → top_of w name ≡ Some f → f.mark ≡ mark → ((m : ProtectedMark) → mark ≡ InProtected m → From R w (end_in_protected p name m (leaving_of f))) → From R w (end_mark p name f mark)
+  unfolding end_mark
+  end_mark-from p name f (Scope m) w good may top is action = end_scope_mark-from moves openings p name m (leaving_of f) f w good may top is
+  end_mark-from p name f (Handled s) w good may top is action = end_handled-from moves p name s (leaving_of f) f w good may top (ap is_protected is)
+  end_mark-from p name f (InProtected m) w good may top is action = action m refl
+  end_mark-from p name f (InAccept m) w good may top is action = end_in_accept-from moves p name m (leaving_of f) f w good may top (ap is_protected is)
+  end_mark-from p name f (Abortable m) w good may top is action =
+      keeps-from moves _ w good (end_in_abortable-keeps moves p name m (leaving_of f) (openings.within_part name f w good may top (ap is_abortable is)))
+  end_mark-from p name f (InInitialize l) w good may top is action = end_in_initialize-from moves p name l (leaving_of f) f w good may top (ap is_protected is)
+  end_mark-from p name f (InFinalize o) w good may top is action = end_in_finalize-from moves p name (leaving_of f) f w good may top (ap is_protected is)
+  end_mark-from p name f (InAssign m) w good may top is action = end_in_assign-from moves openings p name m f.left_as f w good may top (ap is_protected is)
+
+  pub act_frame-from : (p : Image) → Puts G R p → (name : Who) (f : Frame) (next : Option StatementNo) (w : World) → G w → May name → top_of w name ≡ Some f → ((m : ProtectedMark) → f.mark ≡ InProtected m → From R w (end_in_protected p name m (leaving_of f))) → From R w (act_frame p name f next)
+  unfolding act_frame
+  act_frame-from p puts name f (Some s) w good may top action = keeps-from moves _ w good (act_statement-keeps p puts name s (form_of p s) may refl)
+  act_frame-from p puts name f None w good may top action = end_mark-from p name f f.mark w good may top refl action
+
+  act_top-from : (p : Image) → Puts G R p → (name : Who) (found : Option Frame) (w : World) → G w → May name → top_of w name ≡ found → From R w (act_without p name w.serving)
+      → ((f : Frame) (m : ProtectedMark) → top_of w name ≡ Some f → f.mark ≡ InProtected m → From R w (end_in_protected p name m (leaving_of f))) → From R w (act_top p name found)
+  unfolding act_top
+  act_top-from p puts name None w good may is without action = looks_at-from moves (λ v. act_without p name v.serving) w without
+  act_top-from p puts name (Some f) w good may is without action = act_frame-from p puts name f f.onward w good may is (λ m k. action f m is k)
+
+  -- an action, but for the end of a protected action, and for who has no rest
+  pub act-from : (p : Image) → Puts G R p → (name : Who) (w : World) → G w → May name → From R w (act_without p name w.serving)
+      → ((f : Frame) (m : ProtectedMark) → top_of w name ≡ Some f → f.mark ≡ InProtected m → From R w (end_in_protected p name m (leaving_of f))) → From R w (act p name)
+  unfolding act
+  act-from p puts name w good may without action = looks_at-from moves (λ v. act_top p name (top_of v name)) w (act_top-from p puts name (top_of w name) w good may refl without action)
+
+-- ---- where anybody may be changed
+
+module _ {R : StepRelation} {Q : MoveRelation} (moves : RegionMoves R Q) where
+  act_without-keeps : (p : Image) (name : Who) (release : Option Release) → Keeps AnyWorld R (act_without p name release)
+  unfolding act_without
+  act_without-keeps p name None = nothing-keeps moves.fine
+  act_without-keeps p who.Agent (Some r) = call_handler-keeps moves p r
+  act_without-keeps p (who.Task t) (Some r) = nothing-keeps moves.fine
+
+  on_top : (frames : List Frame) (f : Frame) → first_of_list frames ≡ Some f → action_first (natures frames) ≡ action_in f.mark
+  on_top [] f e = absurd cc
+  on_top (g ∷ gs) f e = let is : g ≡ f = cc in ap (λ (x : Frame). action_in x.mark) is
+
+  -- an action of somebody that waits for no entry call
+  pub free_act-from : (p : Image) → Puts AnyWorld R p → (name : Who) (w : World) → FreeIn name (task_of w name).state → From R w (act p name)
+  free_act-from p puts name w free =
+      act-from moves.fine moves.openings (releasing moves) p puts name w tt tt
+      (keeps-from moves.fine _ w tt (act_without-keeps p name w.serving))
+      (λ f m top is. end_in_protected-from moves p name m (leaving_of f) w
+      (subst (λ t. Holding name m.object t) (sym (one_of-is w name)) (on_top (frames_of w name) f top ∙ ap action_in is, free)))

@@ -1,0 +1,18 @@
+-- Changes of tasks: each step keeps a relation that its parts keep.
+use Rattle.trace_text.specs.declared.events.Who.{Who}
+use Rattle.profile_machine.specs.declared.world.tasks.Task.{Task}
+use Rattle.profile_machine.specs.declared.world.marks.Frame.{Frame}
+use Rattle.profile_machine.specs.Tasks.{edit_task, with_frames}
+use Rattle.std.proofs.Common.{◌≡◌, List}
+use Rattle.machine_laws.proofs.Moves.{StepRelation, MoveRelation}
+use Rattle.line_laws.proofs.Exits.FineMoves.{GoodWorld, Naming, FineMoves, natures}
+use Rattle.line_laws.proofs.Exits.Kept.Combinators.{Alters}
+
+module _ {G : GoodWorld} {May Other : Naming} {R : StepRelation} {Q : MoveRelation} (moves : FineMoves G May Other R Q) where
+  pub edit_task-alters : (name : Who) (f : Task → Task) → ((t : Task) → (f t).who ≡ t.who) → ((t : Task) → (f t).frames ≡ t.frames) → ((t : Task) → (f t).state ≡ t.state) → ((t : Task) → (f t).master ≡ t.master) → Alters G R (edit_task name f)
+  unfolding Alters
+  edit_task-alters name f same_who same_frames same_state same_master w good = moves.edits_task name f w good same_who same_frames same_state same_master
+
+  pub edit_frames-alters : (name : Who) (f : List Frame → List Frame) → ((fs : List Frame) → natures (f fs) ≡ natures fs) → Alters G R (edit_task name (λ t. with_frames (f t.frames) t))
+  unfolding Alters
+  edit_frames-alters name f same w good = moves.edits_frames name f w good same

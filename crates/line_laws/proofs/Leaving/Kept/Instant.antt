@@ -1,0 +1,194 @@
+-- The parts of an instant, and the instant: each step keeps a relation that its parts keep.
+use Rattle.std.proofs.Common.{◌≡◌, refl}
+use Rattle.std.specs.Prelude.{ℕ, zero, suc, ℤ, pos, int_le, Bool, true, false, List, [], ◌∷◌, Option, Some, None}
+use Rattle.ann_base.specs.declared.identities.CallNo.{CallNo}
+use Rattle.trace_text.specs.declared.events.Who.{Who}
+use Rattle.trace_text.specs.declared.events.Who.TheVariants as who
+use Rattle.profile_machine.specs.declared.image.Image.{Image}
+use Rattle.profile_machine.specs.declared.run_data.Item.{Item}
+use Rattle.profile_machine.specs.declared.run_data.Item.TheVariants as item
+use Rattle.profile_machine.specs.declared.world.World.{World}
+use Rattle.profile_machine.specs.declared.world.tasks.Waiting.{Waiting}
+use Rattle.profile_machine.specs.declared.world.appointments.Due.{Due}
+use Rattle.profile_machine.specs.declared.world.appointments.Appointment.{Appointment}
+use Rattle.profile_machine.specs.declared.world.appointments.TimerSetting.{TimerSetting}
+use Rattle.profile_machine.specs.declared.world.appointments.Due.TheVariants as due_for
+use Rattle.profile_machine.specs.declared.world.tasks.Waiting.TheVariants as waits_for
+use Rattle.profile_machine.specs.Steps.{Step, changes, nothing, ◌▷◌, ◌▶◌}
+use Rattle.profile_machine.specs.Tasks.{task_of}
+use Rattle.profile_machine.specs.Appointments.{first_due}
+use Rattle.profile_machine.specs.Instant.{with_port, with_masked, with_kept_interrupt, interrupt_comes, deliver_kept_interrupt, script_item, with_script, take_item, items_due, script_items, take_delay, end_delay, time_out, come_due, take_due, all_due, appointments_due, events_due, moments_due, expire, expire_timer, no_timers_due, timers_due, run_out, no_budget_due, budgets_due, spend_quantum, quantum_spent}
+use Rattle.profile_machine.specs.declared.world.tasks.State.{State}
+use Rattle.profile_machine.specs.declared.world.tasks.State.TheVariants.{Made, Runnable, Blocked}
+use Rattle.profile_machine.specs.Tasks.{is_runnable_state, is_runnable, waiting_in, waiting_of, task_of}
+use Rattle.profile_machine.specs.Dispatching.{ready, to_tail, active}
+use Rattle.profile_machine.specs.Instant.{has_spent_quantum}
+use Rattle.profile_machine.specs.Frames.{any_protected}
+use Rattle.profile_machine.specs.Program.{is_robin_level, next_of}
+use Rattle.profile_machine.specs.Words.{is_empty}
+use Rattle.profile_machine.specs.Steps.{says, looks, when, ◌▷◌}
+use Rattle.profile_machine.specs.declared.world.lines.Part.TheVariants.{Own}
+use Rattle.ann_base.specs.declared.identities.TaskNo.{TaskNo}
+use Rattle.std.specs.Prelude.{eqb, not, ◌&&◌}
+use Rattle.profile_machine.specs.declared.world.lines.Line.TheVariants as line
+use Rattle.machine_laws.proofs.Moves.{StepRelation, MoveRelation}
+use Rattle.line_laws.proofs.Leaving.FineMoves.{GoodWorld, Naming, FineMoves, Free, waits}
+use Rattle.line_laws.proofs.Leaving.Kept.Combinators.{said_then-from, Keeps, From, Leads, Alters, changes-from, changes-keeps, for_each-keeps, for_some-keeps, keeps-from, looks-from, looks-keeps, nothing-keeps, says-keeps, settles-leads, then-from, then-keeps, then-leads}
+use Rattle.line_laws.proofs.Leaving.Kept.Dispatching.{to_tail-from, ready-keeps}
+use Rattle.line_laws.proofs.Leaving.Kept.Frames.{goes-from, open_sequence-keeps}
+use Rattle.line_laws.proofs.Leaving.Kept.Appointments.{drop_appointment-alters}
+use Rattle.line_laws.proofs.Leaving.Kept.Calls.{with_call-keeps, unqueued-alters}
+use Rattle.line_laws.proofs.Leaving.Kept.Unwinding.{unwind-keeps}
+use Rattle.line_laws.proofs.Leaving.Kept.CallEnds.{trigger_at-keeps, deliver-keeps}
+use Rattle.line_laws.proofs.Leaving.Kept.Handlers.{interrupt-keeps, clear_timer-alters, release-keeps}
+use Rattle.profile_machine.specs.Values.{budget_of}
+use Rattle.profile_machine.specs.Handlers.{clear_timer}
+
+module _ {G : GoodWorld} {May Acts Pushes : Naming} {Stops : Type 0} {R : StepRelation} {Q : MoveRelation} (moves : FineMoves G May Acts Pushes Stops R Q) where
+  with_port-alters : (n : ℕ) (value : ℤ) → Alters G R (with_port n value)
+  unfolding Alters
+  with_port-alters n value w good = moves.sets_port n value w good
+
+  with_masked-alters : (n : ℕ) (flag : Bool) → Alters G R (with_masked n flag)
+  unfolding Alters
+  with_masked-alters n flag w good = moves.masks n flag w good
+
+  with_kept_interrupt-alters : (n : ℕ) (flag : Bool) → Alters G R (with_kept_interrupt n flag)
+  unfolding Alters
+  with_kept_interrupt-alters n flag w good = moves.keeps_interrupt n flag w good
+
+  pub interrupt_comes-keeps : (p : Image) (n : ℕ) (test : Bool) → Keeps G R (interrupt_comes p n test)
+  unfolding interrupt_comes
+  interrupt_comes-keeps p n true = search (says-keeps, then-keeps, changes-keeps, with_kept_interrupt-alters)
+  interrupt_comes-keeps p n false = search (interrupt-keeps)
+
+  pub deliver_kept_interrupt-keeps : (p : Image) (n : ℕ) (test : Bool) → Keeps G R (deliver_kept_interrupt p n test)
+  unfolding deliver_kept_interrupt
+  deliver_kept_interrupt-keeps p n true = search (changes-keeps, with_kept_interrupt-alters, then-keeps, interrupt-keeps)
+  deliver_kept_interrupt-keeps p n false = search (nothing-keeps)
+
+  pub script_item-keeps : (p : Image) (it : Item) → Keeps G R (script_item p it)
+  unfolding script_item
+  script_item-keeps p (item.Interrupt n) = search (looks-keeps, interrupt_comes-keeps)
+  script_item-keeps p (item.Port n value) = search (changes-keeps, with_port-alters, then-keeps, says-keeps)
+  script_item-keeps p (item.Mask n) = search (changes-keeps, with_masked-alters, then-keeps, says-keeps)
+  script_item-keeps p (item.Unmask n) = search (changes-keeps, with_masked-alters, then-keeps, says-keeps, looks-keeps, deliver_kept_interrupt-keeps) depth 7
+
+  take_item_if-from : (p : Image) (again : Step) (x : ℤ × Item) (xs : List (ℤ × Item)) (w : World) (test : Bool) → G w → w.script ≡ x ∷ xs → int_le x.0 (pos w.time) ≡ test → Keeps G R again → From R w (elim test as (λ _. Step) [ true ↦ changes (with_script xs) ▷ script_item p x.1 ▷ again | false ↦ nothing ])
+  take_item_if-from p again x xs w true good is due kept =
+      then-from moves (changes (with_script xs)) (script_item p x.1 ▷ again) w (changes-from moves (with_script xs) w (moves.cuts_script x xs w good is due))
+      (then-keeps moves (script_item p x.1) again (script_item-keeps p x.1) kept)
+  take_item_if-from p again x xs w false good is due kept = keeps-from moves nothing w good (nothing-keeps moves)
+
+  take_item-from : (p : Image) (again : Step) (w : World) (script : List (ℤ × Item)) → G w → w.script ≡ script → Keeps G R again → From R w (take_item p w.time again script)
+  take_item-from p again w [] good is kept = keeps-from moves nothing w good (nothing-keeps moves)
+  take_item-from p again w (x ∷ xs) good is kept = take_item_if-from p again x xs w (int_le x.0 (pos w.time)) good is refl kept
+
+  items_due-keeps : (fuel : ℕ) (p : Image) → Keeps G R (items_due fuel p)
+  unfolding items_due
+  items_due-keeps zero p = search (nothing-keeps)
+  items_due-keeps (suc fuel) p =
+      looks-from moves _ (λ w good. take_item-from p (items_due fuel p) w w.script good refl (items_due-keeps fuel p))
+
+  pub script_items-leads : (p : Image) → Leads G Q (script_items p)
+  script_items-leads p = search (settles-leads, looks-keeps, items_due-keeps)
+
+  take_delay-from : (p : Image) (name : Who) (waiting : Option Waiting) (w : World) → G w → (waits waiting ≡ true → Free name w) → From R w (take_delay p name waiting)
+  unfolding take_delay
+  take_delay-from p name (Some (waits_for.Select accepts (Some delay) terminate)) w good k = goes-from moves name (next_of p delay) w good (k refl)
+  take_delay-from p name _ w good k = keeps-from moves nothing w good (nothing-keeps moves)
+
+  delay_taken-keeps : (p : Image) (t : TaskNo) → Keeps G R (looks (λ w. take_delay p (who.Task t) (waiting_of w (who.Task t))))
+  delay_taken-keeps p t = looks-from moves _ (λ w good. take_delay-from p (who.Task t) (waiting_of w (who.Task t)) w good (λ e. moves.waiting_free (who.Task t) w good e))
+
+  pub end_delay-keeps : (p : Image) (t : TaskNo) → Stops → Keeps G R (end_delay p (who.Task t))
+  unfolding end_delay
+  end_delay-keeps p t stops =
+      then-keeps moves (looks (λ w. take_delay p (who.Task t) (waiting_of w (who.Task t)))) _ (delay_taken-keeps p t)
+      (then-keeps moves (ready p Own (who.Task t)) _ (ready-keeps moves p Own (who.Task t)) (open_sequence-keeps moves p Own (who.Task t) (moves.stops_pushes stops (who.Task t))))
+
+  pub time_out-keeps : (p : Image) (c : CallNo) → Keeps G R (time_out p c)
+  unfolding time_out
+  time_out-keeps p c = search (with_call-keeps, changes-keeps, unqueued-alters, then-keeps, says-keeps, deliver-keeps) depth 6
+
+  pub come_due-keeps : (p : Image) (due : Due) → Stops → Keeps G R (come_due p due)
+  unfolding come_due
+  come_due-keeps p (due_for.Event n h) stops = release-keeps moves p h (Some n)
+  come_due-keeps p (due_for.Delay t) stops = search (end_delay-keeps)
+  come_due-keeps p (due_for.Timeout c) stops = search (time_out-keeps)
+  come_due-keeps p (due_for.Trigger t depth) stops = search (trigger_at-keeps, then-keeps, unwind-keeps)
+
+  pub take_due-keeps : (p : Image) (again : Step) (a : Option Appointment) → Stops → Keeps G R again → Keeps G R (take_due p again a)
+  take_due-keeps p again None stops kept = search (nothing-keeps)
+  take_due-keeps p again (Some a) stops kept = search (changes-keeps, drop_appointment-alters, then-keeps, come_due-keeps)
+
+  all_due-keeps : (fuel : ℕ) (p : Image) (events : Bool) → Stops → Keeps G R (all_due fuel p events)
+  unfolding all_due
+  all_due-keeps zero p events stops = search (nothing-keeps)
+  all_due-keeps (suc fuel) p events stops =
+      looks-keeps moves _ (λ w. take_due-keeps p (all_due fuel p events) (first_due events w.time w.appointments) stops (all_due-keeps fuel p events stops))
+
+  pub appointments_due-leads : (p : Image) (events : Bool) → Stops → Leads G Q (appointments_due p events)
+  appointments_due-leads p events stops = search (settles-leads, looks-keeps, all_due-keeps)
+
+  pub events_due-leads : (p : Image) → Stops → Leads G Q (events_due p)
+  events_due-leads p stops = search (appointments_due-leads)
+
+  pub moments_due-leads : (p : Image) → Stops → Leads G Q (moments_due p)
+  moments_due-leads p stops = search (appointments_due-leads)
+
+  pub expire-keeps : (p : Image) (k : ℕ) (setting : Option TimerSetting) → Keeps G R (expire p k setting)
+  unfolding expire
+  expire-keeps p k None = search (nothing-keeps)
+  expire-keeps p k (Some s) = then-keeps moves (changes (clear_timer k)) _ (search (changes-keeps, clear_timer-alters)) (release-keeps moves p s.handler (Some k))
+
+  pub expire_timer-keeps : (p : Image) (k : ℕ) → Keeps G R (expire_timer p k)
+  unfolding expire_timer
+  expire_timer-keeps p k = search (looks-keeps, expire-keeps)
+
+  no_timers_due-alters : Alters G R no_timers_due
+  unfolding Alters
+  no_timers_due-alters w good = moves.sets_timers_due [] w good
+
+  pub timers_due-leads : (p : Image) → Leads G Q (timers_due p)
+  timers_due-leads p = search (settles-leads, looks-keeps, for_each-keeps, expire_timer-keeps, then-keeps, changes-keeps, no_timers_due-alters) depth 7
+
+  pub run_out-keeps : (p : Image) (b : ℕ) → Keeps G R (run_out p b)
+  unfolding run_out
+  run_out-keeps p b = looks-keeps moves _ (λ w. for_some-keeps moves (budget_of w b).handler _ (λ h. release-keeps moves p h (Some b)))
+
+  no_budget_due-alters : Alters G R no_budget_due
+  unfolding Alters
+  no_budget_due-alters w good = moves.sets_budget_due None w good
+
+  pub budgets_due-leads : (p : Image) → Leads G Q (budgets_due p)
+  budgets_due-leads p = search (settles-leads, looks-keeps, for_some-keeps, run_out-keeps, then-keeps, changes-keeps, no_budget_due-alters) depth 7
+
+  is-runnable : (state : State) → is_runnable_state state ≡ true → waits (waiting_in state) ≡ false
+  is-runnable Runnable e = refl
+  is-runnable Made e = refl
+  is-runnable (Blocked waiting) e = absurd cc
+
+  first-of : (a b c d e f : Bool) → (a && b && c && d && e && f) ≡ true → a ≡ true
+  first-of true b c d e f h = refl
+  first-of false b c d e f h = absurd cc
+
+  spent-from : (p : Image) (t : TaskNo) (w : World) (test : Bool) → G w → has_spent_quantum p (task_of w (who.Task t)) ≡ test → From R w (when test (says Own (line.Quantum t) ▷ to_tail p Own (who.Task t)))
+  spent-from p t w false good is = keeps-from moves nothing w good (nothing-keeps moves)
+  spent-from p t w true good is =
+      let u = task_of w (who.Task t) in
+      said_then-from moves Own (line.Quantum t) (to_tail p Own (who.Task t)) w (moves.says Own (line.Quantum t) w good refl)
+      (to_tail-from moves p Own (who.Task t) w good (is-runnable u.state (first-of (is_runnable u) (eqb u.quantum 0) (is_robin_level p u.base) (eqb (active p u) u.base) (is_empty u.inherited) (not (any_protected u.frames)) is)))
+
+  pub spend_quantum-keeps : (p : Image) (by : Option Who) → Keeps G R (spend_quantum p by)
+  unfolding spend_quantum
+  spend_quantum-keeps p None = search (nothing-keeps)
+  spend_quantum-keeps p (Some who.Agent) = search (nothing-keeps)
+  spend_quantum-keeps p (Some (who.Task t)) = looks-from moves _ (λ w good. spent-from p t w (has_spent_quantum p (task_of w (who.Task t))) good refl)
+
+  pub quantum_spent-leads : (p : Image) → Leads G Q (quantum_spent p)
+  quantum_spent-leads p = search (settles-leads, looks-keeps, spend_quantum-keeps)
+
+  -- all of an instant but the effect of the action that ended
+  pub behind_action-leads : (p : Image) → Stops → Leads G Q (script_items p ▶ events_due p ▶ moments_due p ▶ timers_due p ▶ budgets_due p ▶ quantum_spent p)
+  behind_action-leads p stops = search (then-leads, script_items-leads, events_due-leads, moments_due-leads, timers_due-leads, budgets_due-leads, quantum_spent-leads) depth 8

@@ -1,0 +1,9 @@
+pub mod Bounds
+pub mod Examples
+pub mod ExclusionLaws
+pub mod ExitLaws
+pub mod HandlerLaws
+pub mod LeavingLaws
+pub mod Names
+pub mod Texts
+pub mod TickLaws

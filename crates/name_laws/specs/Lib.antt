@@ -1,9 +1,0 @@
-pub mod Positions
-pub mod Declarations
-pub mod Regions
-pub mod DirectNames
-pub mod UseClauses
-pub mod Tables
-pub mod Denoted
-pub mod Laws
-pub mod Places

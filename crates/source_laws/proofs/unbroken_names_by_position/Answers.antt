@@ -1,5 +1,0 @@
-use Rattle.source_laws.proofs.unbroken_names_by_position.Goals as goal
-use Rattle.source_laws.proofs.Unbroken.{unbroken_names_by_position}
-
-pub returns : goal.returns
-returns c = unbroken_names_by_position

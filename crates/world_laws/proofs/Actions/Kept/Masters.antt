@@ -1,0 +1,77 @@
+-- Completion, termination and masters: each step leaves worlds good where its parts do.
+use Rattle.std.specs.Prelude.{Bool, cond, List, Option, Some, None}
+use Rattle.ann_base.specs.declared.identities.RegionNo.{RegionNo}
+use Rattle.trace_text.specs.declared.events.Who.{Who}
+use Rattle.profile_machine.specs.declared.image.Image.{Image}
+use Rattle.profile_machine.specs.declared.world.tasks.Task.{Task}
+use Rattle.profile_machine.specs.declared.world.calls.Call.{Call}
+use Rattle.profile_machine.specs.declared.world.lines.Part.{Part}
+use Rattle.profile_machine.specs.declared.run_data.Leaving.TheVariants as how
+use Rattle.profile_machine.specs.declared.world.tasks.State.TheVariants.{Runnable}
+use Rattle.profile_machine.specs.declared.world.lines.Part.TheVariants.{OfOther}
+use Rattle.profile_machine.specs.Words.{same_who}
+use Rattle.profile_machine.specs.Steps.{changes}
+use Rattle.profile_machine.specs.Tasks.{edit_task, with_state}
+use Rattle.profile_machine.specs.Dispatching.{ready}
+use Rattle.profile_machine.specs.Frames.{leaves}
+use Rattle.profile_machine.specs.Appointments.{drop_delay}
+use Rattle.profile_machine.specs.Masters.{gone_by_completion, wake_activator, end_group, end_activation_by, end_activation, complete_with, complete, wake_master, forget_task, terminate, leave_by_terminate}
+use Rattle.world_laws.proofs.Actions.FineMoves.{FineMoves}
+use Rattle.world_laws.proofs.Actions.Sound.{GoodWorld, Naming}
+use Rattle.world_laws.proofs.Actions.Kept.Combinators.{Keeps, Alters, changes-keeps, cond-keeps, for_each-keeps, for_some-keeps, looks-keeps, nothing-keeps, then-keeps, when-keeps}
+use Rattle.world_laws.proofs.Actions.Kept.Tasks.{edit_task-alters}
+use Rattle.world_laws.proofs.Actions.Kept.Dispatching.{runnable-keeps, ready-keeps}
+use Rattle.world_laws.proofs.Actions.Kept.Frames.{leaves-keeps, raises-keeps, open_sequence-keeps}
+use Rattle.world_laws.proofs.Actions.Kept.Inheritance.{lose-alters}
+use Rattle.world_laws.proofs.Actions.Kept.Appointments.{drop_delay-alters}
+use Rattle.world_laws.proofs.Actions.Kept.CallEnds.{end_call-keeps, gone-keeps}
+
+module _ {G : GoodWorld} {F : Naming} (moves : FineMoves G F) where
+  pub gone_by_completion-keeps : (p : Image) (actor : Who) (c : Call) → Keeps G (gone_by_completion p actor c)
+  unfolding gone_by_completion
+  gone_by_completion-keeps p actor c = search (gone-keeps, then-keeps, end_call-keeps)
+
+  pub wake_activator-keeps : (p : Image) (part : Part) (name : Who) → Keeps G (wake_activator p part name)
+  unfolding wake_activator
+  wake_activator-keeps p part name = search (looks-keeps, ready-keeps, then-keeps, when-keeps, raises-keeps, open_sequence-keeps) depth 7
+
+  pub end_group-keeps : (p : Image) (actor activator : Who) → Keeps G (end_group p actor activator)
+  unfolding end_group
+  end_group-keeps p actor activator = search (looks-keeps, when-keeps, wake_activator-keeps)
+
+  pub end_activation_by-keeps : (p : Image) (actor name : Who) (failed : Bool) (by : Option Who) → Keeps G (end_activation_by p actor name failed by)
+  unfolding end_activation_by
+  end_activation_by-keeps p actor name failed None = search (nothing-keeps)
+  end_activation_by-keeps p actor name failed (Some activator) = search (changes-keeps, edit_task-alters, then-keeps, lose-alters, end_group-keeps) depth 8
+
+  pub end_activation-keeps : (p : Image) (actor name : Who) (failed : Bool) → Keeps G (end_activation p actor name failed)
+  unfolding end_activation
+  end_activation-keeps p actor name failed = search (looks-keeps, end_activation_by-keeps)
+
+  pub complete_with-keeps : (p : Image) (actor name : Who) (calls : List Call) (failed : Bool) → Keeps G (complete_with p actor name calls failed)
+  unfolding complete_with
+  complete_with-keeps p actor name calls failed = search (changes-keeps, edit_task-alters, then-keeps, for_each-keeps, gone_by_completion-keeps, end_activation-keeps) depth 6
+
+  pub complete-keeps : (p : Image) (actor name : Who) → Keeps G (complete p actor name)
+  unfolding complete
+  complete-keeps p actor name = search (looks-keeps, when-keeps, complete_with-keeps)
+
+  pub wake_master-keeps : (p : Image) (actor : Who) (r : RegionNo) → Keeps G (wake_master p actor r)
+  unfolding wake_master
+  wake_master-keeps p actor r = search (looks-keeps, when-keeps, for_some-keeps, ready-keeps)
+
+  pub forget_task-alters : (name : Who) → F name → Alters G (forget_task name)
+  unfolding Alters
+  forget_task-alters name free w good = moves.forgets_task name w good free
+
+  pub terminate-keeps : (p : Image) (actor name : Who) → F name → Keeps G (terminate p actor name)
+  unfolding terminate
+  terminate-keeps p actor name free = search (looks-keeps, complete-keeps, then-keeps, changes-keeps, drop_delay-alters, forget_task-alters, for_some-keeps, wake_master-keeps) depth 9
+
+  pub leave_by_terminate-keeps : (p : Image) (actor : Who) (t : Task) → Keeps G (leave_by_terminate p actor t)
+  unfolding leave_by_terminate
+  leave_by_terminate-keeps p actor t =
+      then-keeps moves (changes (drop_delay t.who)) _ (search (changes-keeps, drop_delay-alters))
+      (then-keeps moves (cond (same_who actor t.who) (changes (edit_task t.who (with_state Runnable))) (ready p (OfOther t.who) t.who)) (leaves t.who how.Terminate)
+      (cond-keeps moves (same_who actor t.who) (changes (edit_task t.who (with_state Runnable))) (ready p (OfOther t.who) t.who) (runnable-keeps moves t.who) (ready-keeps moves p (OfOther t.who) t.who))
+      (search (leaves-keeps)))

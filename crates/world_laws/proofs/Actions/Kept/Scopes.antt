@@ -1,0 +1,36 @@
+-- Scopes that begin and end, and their cells: each step leaves worlds good where its parts do.
+use Rattle.std.specs.Prelude.{ℕ, List}
+use Rattle.trace_text.specs.declared.events.Who.{Who}
+use Rattle.profile_machine.specs.declared.image.Image.{Image}
+use Rattle.profile_machine.specs.declared.numbers.ScopeNo.{ScopeNo}
+use Rattle.profile_machine.specs.declared.values.Value.{Value}
+use Rattle.profile_machine.specs.declared.world.marks.Purpose.{Purpose}
+use Rattle.profile_machine.specs.declared.world.scopes.ScopeId.{ScopeId}
+use Rattle.profile_machine.specs.declared.world.scopes.Beginning.{Beginning}
+use Rattle.profile_machine.specs.Scopes.{edit_cells, write_cell, open_scope, end_scope}
+use Rattle.world_laws.proofs.Actions.FineMoves.{FineMoves}
+use Rattle.profile_machine.specs.Tasking.{is_task_scope}
+use Rattle.std.proofs.Common.{◌≡◌, true, false, sym, ◌∙◌}
+use Rattle.std.proofs.lemmas.Bool.{false≢true}
+use Rattle.world_laws.proofs.Actions.Sound.{GoodWorld, Naming}
+use Rattle.world_laws.proofs.Actions.Kept.Combinators.{Alters}
+
+module _ {G : GoodWorld} {F : Naming} (moves : FineMoves G F) where
+  pub edit_cells-alters : (id : ScopeId) (f : List Value → List Value) → Alters G (edit_cells id f)
+  unfolding Alters
+  edit_cells-alters id f w good = moves.edits_cells id f w good
+
+  pub write_cell-alters : (id : ScopeId) (place : ℕ) (value : Value) → Alters G (write_cell id place value)
+  write_cell-alters id place value = search (edit_cells-alters)
+
+  pub end_scope-alters : (id : ScopeId) → Alters G (end_scope id)
+  unfolding Alters
+  end_scope-alters id w good = moves.ends_scope id w good
+
+  pub open_scope-alters : (p : Image) (name : Who) (scope : ScopeNo) (b : Beginning) (purpose : Purpose) → (is_task_scope purpose ≡ true → F name) → Alters G (open_scope p name scope b purpose)
+  unfolding Alters
+  open_scope-alters p name scope b purpose free w good = moves.opens_scope p name scope b purpose w good free
+
+  -- of a body or a block
+  pub opens-alters : (p : Image) (name : Who) (scope : ScopeNo) (b : Beginning) (purpose : Purpose) → is_task_scope purpose ≡ false → Alters G (open_scope p name scope b purpose)
+  opens-alters p name scope b purpose is = open_scope-alters p name scope b purpose (λ e. absurd (false≢true (sym is ∙ e)))

@@ -1,0 +1,128 @@
+-- Opening constructs, leaving them, and going on: each step keeps a relation that its parts keep.
+use Rattle.std.proofs.Common.{◌∙◌, ◌≡◌, List, [], ◌∷◌, refl, sym, ap}
+use Rattle.std.specs.Prelude.{ℕ, Bool, true, false, Option, Some, None, Result, Ok, Err}
+use Rattle.ann_base.specs.declared.exceptions.Raised.{Raised}
+use Rattle.ann_base.specs.declared.exceptions.Raised.TheVariants as exception
+use Rattle.trace_text.specs.declared.events.Who.{Who}
+use Rattle.profile_machine.specs.declared.image.Image.{Image}
+use Rattle.profile_machine.specs.declared.numbers.StatementNo.{StatementNo}
+use Rattle.profile_machine.specs.declared.run_data.Leaving.{Leaving}
+use Rattle.profile_machine.specs.declared.run_data.Leaving.TheVariants as how
+use Rattle.profile_machine.specs.declared.statements.StatementForm.{StatementForm}
+use Rattle.profile_machine.specs.declared.statements.StatementForm.TheVariants as form
+use Rattle.profile_machine.specs.declared.world.World.{World}
+use Rattle.profile_machine.specs.declared.world.lines.Part.{Part}
+use Rattle.profile_machine.specs.declared.world.lines.Part.TheVariants.{Own}
+use Rattle.profile_machine.specs.declared.world.marks.Frame.{Frame}
+use Rattle.profile_machine.specs.declared.world.marks.Mark.TheVariants.{Handled}
+use Rattle.profile_machine.specs.Frames.{onward_of, top_of, new_frame, edit_first, edit_top, goes, push, pop, leaves, raises, has_room, open_handled, open_at, open_sequence, open_if_ready, stands_in, exit_loop, pass_on, given, raise_if, with_room, goes_on}
+use Rattle.profile_machine.specs.Operators.{Valued}
+use Rattle.profile_machine.specs.Program.{form_of, next_of}
+use Rattle.profile_machine.specs.Steps.{Step, changes, ◌▷◌}
+use Rattle.machine_laws.proofs.Moves.{StepRelation, MoveRelation}
+use Rattle.world_laws.proofs.Appointments.Delays.{nature, natures}
+use Rattle.world_laws.proofs.Appointments.FineMoves.{GoodWorld, Naming, FineMoves}
+use Rattle.world_laws.proofs.Appointments.Kept.Combinators.{Keeps, From, Alters, Gives, branch-keeps, changes-keeps, keeps-from, looks-keeps, nothing-keeps, says-keeps, then-keeps, when-keeps, changes-from, changes_then-from}
+use Rattle.world_laws.proofs.Appointments.Kept.Tasks.{edit_frames-alters}
+
+-- an edit of a mark on top
+first-natures : (f : Frame → Frame) (fs : List Frame) → ((x : Frame) → nature (f x).mark ≡ nature x.mark) → natures (edit_first f fs) ≡ natures fs
+first-natures f [] same = refl
+first-natures f (x ∷ xs) same = ap (λ n. n ∷ natures xs) (same x)
+
+module _ {G : GoodWorld} {May : Naming} {R : StepRelation} {Q : MoveRelation} (moves : FineMoves G May R Q) where
+  pub edit_top-alters : (name : Who) (f : Frame → Frame) → ((x : Frame) → nature (f x).mark ≡ nature x.mark) → Alters G R (edit_top name f)
+  edit_top-alters name f same = edit_frames-alters moves name (edit_first f) (λ fs. first-natures f fs same)
+
+  pub goes-keeps : (name : Who) (onward : Option StatementNo) → Keeps G R (goes name onward)
+  unfolding goes
+  goes-keeps name onward = search (changes-keeps, edit_top-alters)
+
+  -- a mark ends, and one without a call of its own is opened
+  pub pop-alters : (name : Who) → Alters G R (pop name)
+  unfolding Alters
+  pop-alters name w good = moves.pops name w good
+
+  pub push-alters : (name : Who) (f : Frame) → nature f.mark ≡ None → Alters G R (push name f)
+  unfolding Alters
+  push-alters name f plain w good = moves.pushes name f w good (λ c e. absurd (let never : None ≡ Some c = sym plain ∙ e in cc))
+
+  pub leaves-keeps : (name : Who) (leaving : Leaving) → Keeps G R (leaves name leaving)
+  unfolding leaves
+  leaves-keeps name leaving = search (changes-keeps, edit_top-alters)
+
+  pub raises-keeps : (part : Part) (name : Who) (e : Raised) → Keeps G R (raises part name e)
+  unfolding raises
+  raises-keeps part name e = search (says-keeps, then-keeps, leaves-keeps)
+
+  pub open_handled-keeps : (p : Image) (part : Part) (name : Who) (s : StatementNo) (form : StatementForm) → Keeps G R (open_handled p part name s form)
+  unfolding open_handled
+  open_handled-keeps p part name s (form.Handled handlers first) =
+      looks-keeps moves _ (λ w. branch-keeps moves (has_room w name 1 0) (goes name (next_of p s) ▷ changes (push name (new_frame (Handled s) (Some first)))) (raises part name exception.Storage)
+      (then-keeps moves _ _ (goes-keeps name (next_of p s)) (changes-keeps moves _ (push-alters name (new_frame (Handled s) (Some first)) refl))) (raises-keeps part name exception.Storage))
+  open_handled-keeps p part name s _ = nothing-keeps moves
+
+  pub open_at-keeps : (p : Image) (part : Part) (name : Who) (next : Option StatementNo) → Keeps G R (open_at p part name next)
+  unfolding open_at
+  open_at-keeps p part name None = nothing-keeps moves
+  open_at-keeps p part name (Some s) = open_handled-keeps p part name s (form_of p s)
+
+  pub open_sequence-keeps : (p : Image) (part : Part) (name : Who) → Keeps G R (open_sequence p part name)
+  unfolding open_sequence
+  open_sequence-keeps p part name = looks-keeps moves _ (λ w. open_at-keeps p part name (onward_of w name))
+
+  pub open_if_ready-keeps : (p : Image) (name : Who) → Keeps G R (open_if_ready p name)
+  unfolding open_if_ready
+  open_if_ready-keeps p name = search (looks-keeps, when-keeps, open_sequence-keeps)
+
+  pub exit_loop-keeps : (p : Image) (name : Who) (loop : StatementNo) → Keeps G R (exit_loop p name loop)
+  unfolding exit_loop
+  exit_loop-keeps p name loop = looks-keeps moves _ (λ w. branch-keeps moves (stands_in p loop (top_of w name)) (goes name (next_of p loop)) (leaves name (how.Exit loop)) (search (goes-keeps)) (search (leaves-keeps)))
+
+  pub pass_on-keeps : (p : Image) (name : Who) (leaving : Leaving) → Keeps G R (pass_on p name leaving)
+  unfolding pass_on
+  pass_on-keeps p name how.End = search (nothing-keeps)
+  pass_on-keeps p name how.Return = search (leaves-keeps)
+  pass_on-keeps p name (how.Exit loop) = search (exit_loop-keeps)
+  pass_on-keeps p name (how.Exception e) = search (leaves-keeps)
+  pass_on-keeps p name how.Abort = search (leaves-keeps)
+  pass_on-keeps p name how.Terminate = search (leaves-keeps)
+
+  pub given-keeps : {X : Type 0} (part : Part) (name : Who) (result : Result X Raised) (f : X → Step) → ((x : X) → Keeps G R (f x)) → Keeps G R (given part name result f)
+  given-keeps part name (Ok x) f k = k x
+  given-keeps part name (Err e) f k = raises-keeps part name e
+
+  -- ---- from one world
+
+  pub given-from : {X : Type 0} (part : Part) (name : Who) (result : Result X Raised) (f : X → Step) (w : World) → G w → ((x : X) → From R w (f x)) → From R w (given part name result f)
+  given-from part name (Ok x) f w good k = k x
+  given-from part name (Err e) f w good k = keeps-from moves (raises part name e) w good (raises-keeps part name e)
+
+  pub raise_if-from : (name : Who) (test : Bool) (e : Raised) (step : Step) (w : World) → G w → (test ≡ false → From R w step) → From R w (raise_if name test e step)
+  raise_if-from name true e step w good k = keeps-from moves (raises Own name e) w good (raises-keeps Own name e)
+  raise_if-from name false e step w good k = k refl
+
+  -- a step behind the going on
+  pub goes_then-from : (name : Who) (onward : Option StatementNo) (g : Step) (w : World) → G w → (G (edit_top name (goes_on onward) w) → From R (edit_top name (goes_on onward) w) g) → From R w (goes name onward ▷ g)
+  unfolding goes Alters
+  goes_then-from name onward g w good k =
+      let gone = edit_top-alters name (goes_on onward) (λ x. refl) w good in
+      changes_then-from moves (edit_top name (goes_on onward)) g w gone (k (moves.behind w (edit_top name (goes_on onward) w) gone))
+
+  -- the world that a value gives becomes the world
+  pub given_world-from : (part : Part) (name : Who) (result : Valued World) (f : World → Step) (w : World) → G w → Gives R w result → ((next : World) → Keeps G R (f next)) → From R w (given part name result (λ next. changes (λ _. next) ▷ f next))
+  unfolding Gives
+  given_world-from part name (Ok next) f w good a k = changes_then-from moves (λ _. next) (f next) w a (keeps-from moves (f next) next (moves.behind w next a) (k next))
+  given_world-from part name (Err e) f w good a k = keeps-from moves (raises part name e) w good (raises-keeps part name e)
+
+  pub becomes-from : (part : Part) (name : Who) (result : Valued World) (w : World) → G w → Gives R w result → From R w (given part name result (λ next. changes (λ _. next)))
+  unfolding Gives
+  becomes-from part name (Ok next) w good a = changes-from moves (λ _. next) w a
+  becomes-from part name (Err e) w good a = keeps-from moves (raises part name e) w good (raises-keeps part name e)
+
+  pub raise_if-keeps : (name : Who) (test : Bool) (e : Raised) (step : Step) → Keeps G R step → Keeps G R (raise_if name test e step)
+  raise_if-keeps name true e step kept = search (raises-keeps)
+  raise_if-keeps name false e step kept = search
+
+  pub with_room-keeps : (name : Who) (marks cells : ℕ) (step : Step) → Keeps G R step → Keeps G R (with_room name marks cells step)
+  with_room-keeps name marks cells step kept = looks-keeps moves _ (λ w. branch-keeps moves (has_room w name marks cells) step (raises Own name exception.Storage) (search) (search (raises-keeps)))

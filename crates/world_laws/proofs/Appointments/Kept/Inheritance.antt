@@ -1,0 +1,26 @@
+-- Inherited priorities: each step keeps a relation that its parts keep.
+use Rattle.std.specs.Prelude.{ℕ}
+use Rattle.trace_text.specs.declared.events.Who.{Who}
+use Rattle.profile_machine.specs.declared.image.Image.{Image}
+use Rattle.profile_machine.specs.declared.world.tasks.Cause.{Cause}
+use Rattle.profile_machine.specs.Inheritance.{inherit, lose, inherit_running, lose_running}
+use Rattle.machine_laws.proofs.Moves.{StepRelation, MoveRelation}
+use Rattle.world_laws.proofs.Appointments.FineMoves.{GoodWorld, Naming, FineMoves}
+use Rattle.world_laws.proofs.Appointments.Kept.Combinators.{Keeps, Alters, changes-keeps, looks-keeps, then-keeps, when-keeps}
+use Rattle.world_laws.proofs.Appointments.Kept.Dispatching.{to_head-keeps}
+use Rattle.world_laws.proofs.Appointments.Kept.Tasks.{edit_task-alters}
+
+module _ {G : GoodWorld} {May : Naming} {R : StepRelation} {Q : MoveRelation} (moves : FineMoves G May R Q) where
+  pub inherit-alters : (name : Who) (cause : Cause) (level : ℕ) → Alters G R (inherit name cause level)
+  inherit-alters name cause level = search (edit_task-alters)
+
+  pub lose-alters : (name : Who) (cause : Cause) → Alters G R (lose name cause)
+  lose-alters name cause = search (edit_task-alters)
+
+  pub inherit_running-keeps : (p : Image) (name : Who) (cause : Cause) (level : ℕ) → May name → Keeps G R (inherit_running p name cause level)
+  unfolding inherit_running
+  inherit_running-keeps p name cause level may = search (looks-keeps, changes-keeps, inherit-alters, then-keeps, when-keeps, to_head-keeps) depth 6
+
+  pub lose_running-keeps : (p : Image) (name : Who) (cause : Cause) → May name → Keeps G R (lose_running p name cause)
+  unfolding lose_running
+  lose_running-keeps p name cause may = search (looks-keeps, changes-keeps, lose-alters, then-keeps, when-keeps, to_head-keeps) depth 6

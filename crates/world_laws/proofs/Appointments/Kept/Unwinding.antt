@@ -1,0 +1,64 @@
+-- Constructs that are struck and left: each step keeps a relation that its parts keep.
+use Rattle.std.proofs.Common.{◌≡◌, List, [], ◌∷◌, refl, ap}
+use Rattle.trace_text.specs.declared.events.Who.{Who}
+use Rattle.profile_machine.specs.declared.image.Image.{Image}
+use Rattle.profile_machine.specs.declared.world.lines.Part.{Part}
+use Rattle.profile_machine.specs.declared.world.marks.Frame.{Frame}
+use Rattle.profile_machine.specs.declared.world.tasks.State.{State}
+use Rattle.profile_machine.specs.declared.world.tasks.State.TheVariants.{Made, Runnable, Blocked}
+use Rattle.profile_machine.specs.declared.world.tasks.Waiting.{Waiting}
+use Rattle.profile_machine.specs.declared.world.tasks.Waiting.TheVariants as waits_for
+use Rattle.profile_machine.specs.Dispatching.{ready}
+use Rattle.profile_machine.specs.Unwinding.{struck_frame, edit_last, strike_outermost, leave_by_abort, stop_waiting, wake_and_leave, unwind_blocked, unwind_in, unwind}
+use Rattle.machine_laws.proofs.Moves.{StepRelation, MoveRelation}
+use Rattle.world_laws.proofs.Appointments.Delays.{nature, natures}
+use Rattle.world_laws.proofs.Appointments.FineMoves.{GoodWorld, Naming, FineMoves}
+use Rattle.world_laws.proofs.Appointments.Kept.Appointments.{drops_then-from}
+use Rattle.world_laws.proofs.Appointments.Kept.Calls.{forget_call-alters, attempt-keeps}
+use Rattle.world_laws.proofs.Appointments.Kept.Combinators.{from-keeps, Keeps, Alters, changes-keeps, looks-keeps, nothing-keeps, then-keeps, when-keeps}
+use Rattle.world_laws.proofs.Appointments.Kept.Dispatching.{ready-from}
+use Rattle.world_laws.proofs.Appointments.Kept.Frames.{leaves-keeps}
+use Rattle.world_laws.proofs.Appointments.Kept.Tasks.{edit_task-alters, edit_frames-alters}
+
+-- who is struck has the marks that it had
+last-natures : (fs : List Frame) → natures (edit_last struck_frame fs) ≡ natures fs
+last-natures [] = refl
+last-natures (x ∷ []) = refl
+last-natures (x ∷ y ∷ rest) = ap (λ ns. nature x.mark ∷ ns) (last-natures (y ∷ rest))
+
+module _ {G : GoodWorld} {May : Naming} {R : StepRelation} {Q : MoveRelation} (moves : FineMoves G May R Q) where
+  pub strike_outermost-alters : (name : Who) → Alters G R (strike_outermost name)
+  strike_outermost-alters name = edit_frames-alters moves name (edit_last struck_frame) last-natures
+
+  pub leave_by_abort-keeps : (name : Who) → Keeps G R (leave_by_abort name)
+  unfolding leave_by_abort
+  leave_by_abort-keeps name = search (changes-keeps, edit_task-alters, then-keeps, leaves-keeps)
+
+  pub stop_waiting-keeps : (p : Image) (part : Part) (name : Who) → Keeps G R (stop_waiting p part name)
+  unfolding stop_waiting
+  stop_waiting-keeps p part name = from-keeps moves _ (λ w good. drops_then-from moves name (ready p part name) w good (λ v good_v idle. ready-from moves p part name v good_v idle))
+
+  pub wake_and_leave-keeps : (p : Image) (part : Part) (name : Who) → Keeps G R (wake_and_leave p part name)
+  unfolding wake_and_leave
+  wake_and_leave-keeps p part name = search (stop_waiting-keeps, then-keeps, leave_by_abort-keeps)
+
+  pub unwind_blocked-keeps : (p : Image) (part : Part) (name : Who) (waiting : Waiting) → Keeps G R (unwind_blocked p part name waiting)
+  unfolding unwind_blocked
+  unwind_blocked-keeps p part name (waits_for.Call c) = search (attempt-keeps, changes-keeps, forget_call-alters, then-keeps, wake_and_leave-keeps, nothing-keeps)
+  unwind_blocked-keeps p part name (waits_for.EndOfCall c) = search (nothing-keeps)
+  unwind_blocked-keeps p part name waits_for.Activation = search (wake_and_leave-keeps)
+  unwind_blocked-keeps p part name waits_for.Moment = search (wake_and_leave-keeps)
+  unwind_blocked-keeps p part name (waits_for.Accept s) = search (wake_and_leave-keeps)
+  unwind_blocked-keeps p part name (waits_for.Select accepts delay terminate) = search (wake_and_leave-keeps)
+  unwind_blocked-keeps p part name (waits_for.Dependents r) = search (wake_and_leave-keeps)
+  unwind_blocked-keeps p part name waits_for.Release = search (nothing-keeps)
+
+  pub unwind_in-keeps : (p : Image) (part : Part) (name : Who) (state : State) → Keeps G R (unwind_in p part name state)
+  unfolding unwind_in
+  unwind_in-keeps p part name Made = search (nothing-keeps)
+  unwind_in-keeps p part name Runnable = search (leave_by_abort-keeps)
+  unwind_in-keeps p part name (Blocked waiting) = search (unwind_blocked-keeps)
+
+  pub unwind-keeps : (p : Image) (part : Part) (name : Who) → Keeps G R (unwind p part name)
+  unfolding unwind
+  unwind-keeps p part name = search (looks-keeps, when-keeps, unwind_in-keeps)

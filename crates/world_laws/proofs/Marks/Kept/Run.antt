@@ -1,0 +1,112 @@
+-- The opening of a run, and tocks: all of a tock but the tick itself is made of the same changes, of the lines of a
+-- tock, and of the release that the agent takes up.
+use Rattle.std.proofs.Common.{◌≡◌, Bool, true, false, cond, List, [], ◌∷◌, Option, Some, None, refl}
+use Rattle.trace_text.specs.declared.events.Event.{Event}
+use Rattle.trace_text.specs.declared.events.Event.TheVariants as line
+use Rattle.trace_text.specs.declared.events.Created.TheVariants as created
+use Rattle.profile_machine.specs.declared.world.lines.Line.TheVariants as line_said
+use Rattle.profile_machine.specs.declared.world.lines.Part.TheVariants.{Own}
+use Rattle.profile_machine.specs.declared.world.marks.Purpose.TheVariants as opened_for
+use Rattle.trace_text.specs.declared.events.Who.{Who}
+use Rattle.trace_text.specs.declared.events.Who.TheVariants as who
+use Rattle.profile_machine.specs.declared.image.Image.{Image}
+use Rattle.profile_machine.specs.declared.world.World.{World}
+use Rattle.profile_machine.specs.declared.world.marks.Frame.{Frame}
+use Rattle.profile_machine.specs.declared.world.appointments.Release.{Release}
+use Rattle.profile_machine.specs.Words.{same_who, same_option}
+use Rattle.profile_machine.specs.Steps.{Move, rests, watches, ◌▶◌}
+use Rattle.profile_machine.specs.Dispatching.{choose}
+use Rattle.profile_machine.specs.Tasks.{task_of, with_ticks}
+use Rattle.profile_machine.specs.Cost.{cost}
+use Rattle.profile_machine.specs.Handlers.{charge}
+use Rattle.profile_machine.specs.Run.{opens, say, silently, says_run, with_serving, serve_if_free, serve, ticks_or, begin_action, one_tick_less, spend_tick, next_tick, says_idle, tock_of, tock, environment}
+use Rattle.machine_laws.proofs.Moves.{StepRelation, MoveRelation}
+use Rattle.machine_laws.specs.LineKinds.{is_of_tock}
+use Rattle.world_laws.proofs.Marks.Kept.Combinators.{From, Leads, Alters, changes_then-from, keeps-from, then-keeps, says-keeps, then-leads, rests-leads, watches-leads}
+use Rattle.world_laws.proofs.Marks.Kept.Dispatching.{to_tail-keeps}
+use Rattle.world_laws.proofs.Marks.Kept.Frames.{open_sequence-keeps}
+use Rattle.world_laws.proofs.Marks.MarkFacts.{Unarmed}
+use Rattle.world_laws.proofs.Marks.Kept.Handlers.{charge-alters}
+use Rattle.world_laws.proofs.Marks.FineMoves.{GoodWorld, RegionMoves, TockMoves}
+use Rattle.profile_machine.specs.Scopes.{open_scope, plainly}
+
+-- ---- a tock up to its tick
+
+-- who is chosen, if anybody is, says that it runs, takes up a release, begins its action and is charged
+abbrev pub before_tick : Image → Option Who → Move
+before_tick p None = watches (λ w. says_idle w.ran)
+before_tick p (Some name) =
+    watches (λ w. says_run name w.ran) ▶ serve name ▶ silently (begin_action p name) ▶ silently (charge p name) ▶ silently (spend_tick name)
+
+-- then the tick passes
+after_idle : (w : World) (ran : Option Who) → let before = says_idle ran w in ((watches (λ v. says_idle ran) ▶ silently (next_tick None)) w) ≡ (next_tick None before.0, before.1)
+after_idle w None = refl
+after_idle w (Some name) = refl
+
+tock_of-parts : (p : Image) (chosen : Option Who) (w : World) → let before = before_tick p chosen w in tock_of p chosen w ≡ (next_tick chosen before.0, before.1)
+tock_of-parts p None w = after_idle w w.ran
+tock_of-parts p (Some name) w = refl
+
+pub tock-parts : (p : Image) (w : World) → let before = before_tick p (choose w) w in tock p w ≡ (next_tick (choose w) before.0, before.1)
+tock-parts p w = tock_of-parts p (choose w) w
+
+module _ {G : GoodWorld} {R : StepRelation} {Q : MoveRelation} (moves : RegionMoves G R Q) where
+  pub opens-from : (p : Image) (w : World) → G w → Unarmed environment w → From R w (opens p)
+  unfolding opens
+  opens-from p w good none =
+      let v = open_scope p environment p.environment (plainly None) opened_for.Task w in
+      let first = moves.openings.opens_own_scope p environment p.environment (plainly None) w good none in
+      changes_then-from moves.fine (open_scope p environment p.environment (plainly None) opened_for.Task) _ w first
+      (keeps-from moves.fine _ v (moves.fine.behind w v first)
+      (then-keeps moves.fine _ _ (says-keeps moves.fine Own (line_said.New (created.Task (record { 0 = 0 })) None p.main.priority) refl)
+      (then-keeps moves.fine _ _ (to_tail-keeps moves.fine p Own environment tt) (open_sequence-keeps moves.fine p Own environment tt))))
+
+  begin_action-alters : (p : Image) (name : Who) → Alters G R (begin_action p name)
+  unfolding Alters
+  begin_action-alters p name w good = moves.fine.edits_task name (with_ticks (Some (ticks_or (task_of w name).ticks_left (cost p w name)))) w good (λ t. refl) (λ t. refl) (λ t. refl) (λ t. refl)
+
+  spend_tick-alters : (name : Who) → Alters G R (spend_tick name)
+  unfolding Alters
+  spend_tick-alters name w good = moves.fine.edits_task name (λ t. with_ticks (one_tick_less t.ticks_left) t) w good (λ t. refl) (λ t. refl) (λ t. refl) (λ t. refl)
+
+  silently-leads : (f : World → World) → Alters G R f → Leads G Q (silently f)
+  unfolding Leads Alters
+  silently-leads f a w good = moves.fine.silently w (f w) (a w good)
+
+  module _ (tocks : TockMoves G Q) where
+    say-leads : (event : Event) → is_of_tock event ≡ true → Leads G Q (say event)
+    unfolding Leads
+    say-leads event a w good = tocks.tells event w good a
+
+    says_run-test : (same : Bool) (name : Who) → Leads G Q (cond same rests (say (line.Run name)))
+    says_run-test true name = rests-leads moves.fine
+    says_run-test false name = say-leads (line.Run name) refl
+
+    says_run-leads : (name : Who) (ran : Option Who) → Leads G Q (says_run name ran)
+    says_run-leads name ran = says_run-test (same_option same_who ran (Some name)) name
+
+    says_idle-leads : (ran : Option Who) → Leads G Q (says_idle ran)
+    says_idle-leads None = rests-leads moves.fine
+    says_idle-leads (Some name) = say-leads line.Idle refl
+
+    serve_if_free-leads : (serving : Option Release) (frames : List Frame) (releases : List Release) (w : World) → G w → w.releases ≡ releases → let done = serve_if_free serving frames releases w in Q w done.1 done.0
+    serve_if_free-leads None [] [] w good a = moves.fine.rests w good
+    serve_if_free-leads None [] (r ∷ rest) w good a =
+        let v = with_serving r rest w in
+        let taken = tocks.serves r rest w good a in
+        moves.fine.leads_on w v v taken (tocks.tells (line.Serve r.number) v (moves.fine.moved w v taken) refl)
+    serve_if_free-leads None (f ∷ fs) releases w good a = moves.fine.rests w good
+    serve_if_free-leads (Some r) frames releases w good a = moves.fine.rests w good
+
+    serve-leads : (name : Who) → Leads G Q (serve name)
+    unfolding Leads
+    serve-leads (who.Task t) w good = moves.fine.rests w good
+    serve-leads who.Agent w good = serve_if_free-leads w.serving w.agent.frames w.releases w good refl
+
+    pub before_tick-leads : (p : Image) (chosen : Option Who) → Leads G Q (before_tick p chosen)
+    before_tick-leads p None = watches-leads moves.fine _ (λ w. says_idle-leads w.ran)
+    before_tick-leads p (Some name) =
+        then-leads moves.fine _ _ (watches-leads moves.fine _ (λ w. says_run-leads name w.ran))
+        (then-leads moves.fine _ _ (serve-leads name)
+        (then-leads moves.fine _ _ (silently-leads (begin_action p name) (begin_action-alters p name))
+        (then-leads moves.fine _ _ (silently-leads (charge p name) (charge-alters moves.fine p name)) (silently-leads (spend_tick name) (spend_tick-alters name)))))

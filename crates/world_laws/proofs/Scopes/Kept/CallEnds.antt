@@ -1,0 +1,179 @@
+-- How calls end: each step keeps a relation that its parts keep.
+use Rattle.std.specs.Prelude.{ℕ, Bool, List, [], ◌∷◌, Option, Some, None, Ok, Err, not}
+use Rattle.ann_base.specs.declared.identities.TaskNo.{TaskNo}
+use Rattle.ann_base.specs.declared.identities.CallNo.{CallNo}
+use Rattle.trace_text.specs.declared.events.Who.{Who}
+use Rattle.trace_text.specs.declared.events.Who.TheVariants as who
+use Rattle.profile_machine.specs.declared.image.Image.{Image}
+use Rattle.profile_machine.specs.declared.numbers.StatementNo.{StatementNo}
+use Rattle.profile_machine.specs.declared.values.Value.{Value}
+use Rattle.profile_machine.specs.declared.world.World.{World}
+use Rattle.profile_machine.specs.declared.world.marks.Frame.{Frame}
+use Rattle.profile_machine.specs.declared.world.marks.Mark.{Mark}
+use Rattle.profile_machine.specs.declared.world.marks.AbortableMark.{AbortableMark}
+use Rattle.profile_machine.specs.declared.world.calls.Call.{Call}
+use Rattle.profile_machine.specs.declared.world.calls.Outcome.{Outcome}
+use Rattle.profile_machine.specs.declared.world.scopes.Variable.{Variable}
+use Rattle.profile_machine.specs.declared.world.calls.Outcome.TheVariants as call_ended
+use Rattle.profile_machine.specs.declared.world.marks.Mark.TheVariants.{Scope, Handled, InProtected, InAccept, Abortable, InInitialize, InFinalize, InAssign}
+use Rattle.profile_machine.specs.Program.{declaration_of}
+use Rattle.profile_machine.specs.declared.world.lines.Part.{Part}
+use Rattle.profile_machine.specs.Steps.{Step, changes, looks, ◌▷◌}
+use Rattle.profile_machine.specs.Words.{first_of_list}
+use Rattle.profile_machine.specs.Tasks.{waiting_of}
+use Rattle.profile_machine.specs.Frames.{frames_of, top_of, pop, pass_on, leaving_of, with_mark, is_protected}
+use Rattle.profile_machine.specs.Scopes.{write_cell, id_in}
+use Rattle.profile_machine.specs.Operators.{Valued, checked}
+use Rattle.profile_machine.specs.CallEnds.{go_by_outcome, resume, store, or_stored, copy_back, with_results, edit_depth, edit_frame, edit_abortable, edit_abortable_at, trigger_at, trigger_outcome, forget_trigger, run_triggered, ended_by_itself, behind_abortable, end_abortable, end_abortable_in, end_top_abortable, end_wait, waits_for_end, end_for_abortable, end_for_caller, end_for, end_with, end_call, deliver, gone, waited_mark, is_cancelled}
+use Rattle.std.specs.Prelude.{slice_set, true, false, cond, eqb, length}
+use Rattle.std.proofs.Common.{◌≡◌, refl, ap}
+use Rattle.machine_laws.proofs.Moves.{StepRelation, MoveRelation}
+use Rattle.world_laws.proofs.Scopes.FineMoves.{GoodWorld, Naming, FineMoves, nature, natures}
+use Rattle.world_laws.proofs.Scopes.Kept.Combinators.{Keeps, Alters, Gives, bind-gives, branch-keeps, changes-keeps, looks-keeps, nothing-keeps, ok-gives, says-keeps, then-keeps, unchanged-alters, when-keeps, changes_then-from, keeps-from, looks-from, looks_at-from, From}
+use Rattle.world_laws.proofs.Scopes.Kept.Tasks.{edit_frames-alters}
+use Rattle.world_laws.proofs.Scopes.Kept.Dispatching.{ready-keeps}
+use Rattle.world_laws.proofs.Scopes.Kept.Frames.{goes-keeps, popped, leaves-keeps, raises-keeps, pass_on-keeps, open_sequence-keeps}
+use Rattle.world_laws.proofs.Scopes.Kept.Calls.{edit_call-alters, forget_call-alters, with_call-keeps, unqueued-alters}
+use Rattle.world_laws.proofs.Scopes.Kept.Unwinding.{unwind-keeps}
+use Rattle.profile_machine.specs.Dispatching.{ready}
+
+-- an edit of a mark somewhere, and of an abortable part
+at_depth-natures : (test : Bool) (f : Frame → Frame) (x : Frame) (xs ys : List Frame) → nature (f x).mark ≡ nature x.mark → natures ys ≡ natures xs → natures (cond test (f x ∷ xs) (x ∷ ys)) ≡ natures (x ∷ xs)
+at_depth-natures true f x xs ys same rest = ap (λ n. n ∷ natures xs) same
+at_depth-natures false f x xs ys same rest = ap (λ ns. nature x.mark ∷ ns) rest
+
+depth-natures : (depth : ℕ) (f : Frame → Frame) (fs : List Frame) → ((x : Frame) → nature (f x).mark ≡ nature x.mark) → natures (edit_depth depth f fs) ≡ natures fs
+depth-natures depth f [] same = refl
+depth-natures depth f (x ∷ xs) same = at_depth-natures (eqb (length xs) depth) f x xs (edit_depth depth f xs) (same x) (depth-natures depth f xs same)
+
+pub abortable-nature : (f : AbortableMark → AbortableMark) (mark : Mark) → nature (edit_abortable f mark) ≡ nature mark
+abortable-nature f (Scope m) = refl
+abortable-nature f (Handled s) = refl
+abortable-nature f (InProtected m) = refl
+abortable-nature f (InAccept m) = refl
+abortable-nature f (Abortable m) = refl
+abortable-nature f (InInitialize l) = refl
+abortable-nature f (InFinalize o) = refl
+abortable-nature f (InAssign m) = refl
+
+module _ {G : GoodWorld} {May Other : Naming} {R : StepRelation} {Q : MoveRelation} (moves : FineMoves G May Other R Q) where
+  pub go_by_outcome-keeps : (p : Image) (part : Part) (name : Who) (s : StatementNo) (outcome : Outcome) → Keeps G R (go_by_outcome p part name s outcome)
+  unfolding go_by_outcome
+  go_by_outcome-keeps p part name s call_ended.Finished = search (goes-keeps)
+  go_by_outcome-keeps p part name s call_ended.Cancelled = search (goes-keeps)
+  go_by_outcome-keeps p part name s (call_ended.ToRaise e) = search (raises-keeps)
+  go_by_outcome-keeps p part name s (call_ended.WasRaised e) = search (leaves-keeps)
+
+  pub resume-keeps : (p : Image) (part : Part) (c : Call) (outcome : Outcome) → Keeps G R (resume p part c outcome)
+  unfolding resume
+  resume-keeps p part c outcome = search (changes-keeps, forget_call-alters, then-keeps, go_by_outcome-keeps)
+
+  pub store-gives : (p : Image) (v : Variable) (value : Value) (w : World) → G w → Gives R w (store p v value w)
+  store-gives p v value w good = bind-gives moves (checked (declaration_of p v.declared).constraint value) (λ x. Ok (write_cell v.within v.place x w)) w (λ x. ok-gives moves w (write_cell v.within v.place x w) (moves.edits_cells v.within (λ cells. slice_set cells v.place x) w good))
+
+  -- the world behind the results that are copied back
+  or_stored-world : (result : Valued World) (again : World → World × Bool) (w : World) → G w → Gives R w result → ((v : World) → G v → R v [] (again v).0) → R w [] (or_stored w result again).0
+  unfolding Gives
+  or_stored-world (Ok next) again w good a b = moves.goes_on w next (again next).0 a (b next (moves.behind w next a))
+  or_stored-world (Err e) again w good a b = moves.stays w good
+
+  copy_back-world : (p : Image) (results : List (Option Variable)) (values : List Value) (w : World) → G w → R w [] (copy_back p results values w).0
+  copy_back-world p [] values w good = moves.stays w good
+  copy_back-world p (None ∷ results) [] w good = moves.stays w good
+  copy_back-world p (None ∷ results) (v ∷ values) w good = copy_back-world p results values w good
+  copy_back-world p (Some target ∷ results) [] w good = moves.stays w good
+  copy_back-world p (Some target ∷ results) (v ∷ values) w good = or_stored-world (store p target v w) (copy_back p results values) w good (store-gives p target v w good) (copy_back-world p results values)
+
+  with_results-world : (p : Image) (c : Call) (outcome : Outcome) (w : World) → G w → R w [] (with_results p c outcome w).0
+  with_results-world p c call_ended.Finished w good = copy_back-world p c.results c.values w good
+  with_results-world p c call_ended.Cancelled w good = moves.stays w good
+  with_results-world p c (call_ended.ToRaise e) w good = moves.stays w good
+  with_results-world p c (call_ended.WasRaised e) w good = moves.stays w good
+
+  pub edit_frame-alters : (name : Who) (depth : ℕ) (f : Frame → Frame) → ((x : Frame) → nature (f x).mark ≡ nature x.mark) → Alters G R (edit_frame name depth f)
+  edit_frame-alters name depth f same = edit_frames-alters moves name (edit_depth depth f) (λ fs. depth-natures depth f fs same)
+
+  pub edit_abortable_at-alters : (name : Who) (depth : ℕ) (f : AbortableMark → AbortableMark) → Alters G R (edit_abortable_at name depth f)
+  edit_abortable_at-alters name depth f = edit_frame-alters name depth (λ x. with_mark (edit_abortable f x.mark) x) (λ x. abortable-nature f x.mark)
+
+  pub trigger_at-keeps : (part : Part) (t : TaskNo) (depth : ℕ) → Keeps G R (trigger_at part t depth)
+  unfolding trigger_at
+  trigger_at-keeps part t depth = search (changes-keeps, edit_abortable_at-alters, then-keeps, says-keeps, edit_frame-alters) depth 7
+
+  pub forget_trigger-alters : (c : Option CallNo) → Alters G R (forget_trigger c)
+  forget_trigger-alters None = search (unchanged-alters)
+  forget_trigger-alters (Some c) = search (forget_call-alters)
+
+  pub run_triggered-keeps : (p : Image) (part : Part) (name : Who) (select : StatementNo) (outcome : Outcome) → Keeps G R (run_triggered p part name select outcome)
+  unfolding run_triggered
+  run_triggered-keeps p part name select call_ended.Finished = search (goes-keeps)
+  run_triggered-keeps p part name select call_ended.Cancelled = search (nothing-keeps)
+  run_triggered-keeps p part name select (call_ended.ToRaise e) = search (raises-keeps)
+  run_triggered-keeps p part name select (call_ended.WasRaised e) = search (leaves-keeps)
+
+  pub behind_abortable-keeps : (p : Image) (part : Part) (name : Who) (m : AbortableMark) (outcome : Outcome) → Keeps G R (behind_abortable p part name m outcome)
+  unfolding behind_abortable
+  behind_abortable-keeps p part name m outcome = search (when-keeps, run_triggered-keeps)
+
+  -- it ends where it is on top
+  end_abortable-from : (p : Image) (part : Part) (name : Who) (m : AbortableMark) (f : Frame) (below : List Frame) (w : World) → G w → May name → top_of w name ≡ Some f → is_protected f.mark ≡ false → id_in f.mark ≡ None → From R w (end_abortable p part name m f below)
+  unfolding end_abortable
+  end_abortable-from p part name m f below w good may top free none =
+      let out = popped moves name f w good may top free none in
+      looks_at-from moves (λ v. changes (pop name) ▷ changes (forget_trigger m.call) ▷ elim (ended_by_itself f below) as (λ _. Step) [ true ↦ behind_abortable p part name m (trigger_outcome v m.call) | false ↦ pass_on p name (leaving_of f) ]) w
+      (changes_then-from moves (pop name) _ w out (keeps-from moves _ (pop name w) (moves.behind w (pop name w) out)
+      (then-keeps moves (changes (forget_trigger m.call)) _ (search (changes-keeps, forget_trigger-alters)) (branch-keeps moves (ended_by_itself f below) (behind_abortable p part name m (trigger_outcome w m.call)) (pass_on p name (leaving_of f)) (search (behind_abortable-keeps)) (search (pass_on-keeps))))))
+
+  end_abortable_in-from : (p : Image) (part : Part) (name : Who) (f : Frame) (below : List Frame) (mark : Mark) (w : World) → G w → May name → top_of w name ≡ Some f → f.mark ≡ mark → From R w (end_abortable_in p part name f below mark)
+  unfolding end_abortable_in
+  end_abortable_in-from p part name f below (Abortable m) w good may top is = end_abortable-from p part name m f below w good may top (ap is_protected is) (ap id_in is)
+  end_abortable_in-from p part name f below _ w good may top is = keeps-from moves _ w good (nothing-keeps moves)
+
+  end_top_abortable-from : (p : Image) (part : Part) (name : Who) (frames : List Frame) (w : World) → G w → May name → frames_of w name ≡ frames → From R w (end_top_abortable p part name frames)
+  unfolding end_top_abortable
+  end_top_abortable-from p part name [] w good may is = keeps-from moves _ w good (nothing-keeps moves)
+  end_top_abortable-from p part name (f ∷ below) w good may is = end_abortable_in-from p part name f below f.mark w good may (ap first_of_list is) refl
+
+  pub end_found_abortable-keeps : (p : Image) (part : Part) (name : Who) → May name → Keeps G R (looks (λ w. end_top_abortable p part name (frames_of w name)))
+  end_found_abortable-keeps p part name may = looks-from moves _ (λ w good. end_top_abortable-from p part name (frames_of w name) w good may refl)
+
+  pub end_wait-keeps : (p : Image) (part : Part) (c : Call) (depth : ℕ) (outcome : Outcome) → Keeps G R (end_wait p part c depth outcome)
+  unfolding end_wait
+  end_wait-keeps p part c depth outcome =
+      let name = who.Task c.caller in
+      let may = moves.other_may name (moves.task_other c.caller) in
+      then-keeps moves (ready p part name) _ (ready-keeps moves p part name (moves.task_other c.caller))
+      (then-keeps moves (changes (edit_abortable_at name depth (waited_mark (not (is_cancelled outcome))))) _ (changes-keeps moves _ (edit_abortable_at-alters name depth (waited_mark (not (is_cancelled outcome)))))
+      (then-keeps moves (looks (λ w. end_top_abortable p part name (frames_of w name))) _ (end_found_abortable-keeps p part name may) (open_sequence-keeps moves p part name may)))
+
+  pub end_for_abortable-keeps : (p : Image) (part : Part) (c : Call) (depth : ℕ) (outcome : Outcome) → Keeps G R (end_for_abortable p part c depth outcome)
+  unfolding end_for_abortable
+  end_for_abortable-keeps p part c depth outcome = looks-keeps moves _ (λ w. branch-keeps moves (waits_for_end c.number (waiting_of w (who.Task c.caller))) (end_wait p part c depth outcome) (trigger_at part c.caller depth) (search (end_wait-keeps)) (search (trigger_at-keeps)))
+
+  pub end_for_caller-keeps : (p : Image) (part : Part) (c : Call) (outcome : Outcome) → Keeps G R (end_for_caller p part c outcome)
+  unfolding end_for_caller
+  end_for_caller-keeps p part c outcome = search (looks-keeps, when-keeps, ready-keeps, then-keeps, resume-keeps, open_sequence-keeps, moves.other_may, moves.task_other) depth 8
+
+  pub end_for-keeps : (p : Image) (part : Part) (c : Call) (outcome : Outcome) (n : Option ℕ) → Keeps G R (end_for p part c outcome n)
+  unfolding end_for
+  end_for-keeps p part c outcome (Some depth) = search (end_for_abortable-keeps)
+  end_for-keeps p part c outcome None = search (end_for_caller-keeps)
+
+  pub end_with-keeps : (p : Image) (part : Part) (c : Call) (outcome : Outcome) → Keeps G R (end_with p part c outcome)
+  unfolding end_with
+  end_with-keeps p part c outcome = search (changes-keeps, edit_call-alters, then-keeps, looks-keeps, end_for-keeps)
+
+  pub end_call-keeps : (p : Image) (part : Part) (c : Call) (outcome : Outcome) → Keeps G R (end_call p part c outcome)
+  unfolding end_call
+  end_call-keeps p part c outcome =
+      looks-from moves _ (λ w good. let r = with_results p c outcome w in
+      let first = with_results-world p c outcome w good in
+      changes_then-from moves (λ _. r.0) (end_with p part c r.1) w first (keeps-from moves (end_with p part c r.1) r.0 (moves.behind w r.0 first) (end_with-keeps p part c r.1)))
+
+  pub deliver-keeps : (p : Image) (part : Part) (c : CallNo) (outcome : Outcome) → Keeps G R (deliver p part c outcome)
+  unfolding deliver
+  deliver-keeps p part c outcome = search (with_call-keeps, end_call-keeps, then-keeps, unwind-keeps, moves.task_other)
+
+  pub gone-keeps : (p : Image) (part : Part) (c : Call) → Keeps G R (gone p part c)
+  unfolding gone
+  gone-keeps p part c = search (changes-keeps, unqueued-alters, then-keeps, says-keeps)

@@ -1,0 +1,97 @@
+-- Placing and blocking: each step keeps a relation that its parts keep.
+use Rattle.std.specs.Prelude.{ℕ, Bool, true, cond, ◌&&◌, eqb, slice_index_or}
+use Rattle.profile_machine.specs.declared.world.lines.Line.TheVariants as line
+use Rattle.trace_text.specs.declared.events.Who.{Who}
+use Rattle.trace_text.specs.declared.events.QueueEnd.{QueueEnd}
+use Rattle.profile_machine.specs.declared.image.Image.{Image}
+use Rattle.profile_machine.specs.declared.world.tasks.Task.{Task}
+use Rattle.profile_machine.specs.declared.world.tasks.Waiting.{Waiting}
+use Rattle.profile_machine.specs.declared.world.tasks.State.TheVariants.{Runnable, Blocked}
+use Rattle.profile_machine.specs.Program.{is_robin_level, edf_low}
+use Rattle.profile_machine.specs.declared.world.lines.Part.{Part}
+use Rattle.profile_machine.specs.Steps.{changes, says, ◌▷◌}
+use Rattle.profile_machine.specs.Tasks.{task_of, edit_task, with_state}
+use Rattle.profile_machine.specs.Dispatching.{active, level_kept_by, keep_level, deadline_shown, says_ready, granted, grant_quantum, to_tail, to_head, ready, word_of, says_block, block, without_kept_level}
+use Rattle.std.proofs.Common.{◌≡◌, refl}
+use Rattle.std.specs.Prelude.{false}
+use Rattle.machine_laws.proofs.Moves.{StepRelation, MoveRelation}
+use Rattle.world_laws.proofs.Scopes.FineMoves.{GoodWorld, Naming, FineMoves}
+use Rattle.world_laws.proofs.Scopes.Kept.Combinators.{Keeps, Alters, changes-keeps, from-keeps, said-from, said-keeps, then-keeps, looks_at-from}
+use Rattle.world_laws.proofs.Scopes.Kept.Tasks.{edit_task-alters}
+
+-- a quantum is no state
+full_quantum-who : (b : Bool) (n : ℕ) (t : Task) → (cond b (record t { quantum = n }) t).who ≡ t.who
+full_quantum-who true n t = refl
+full_quantum-who false n t = refl
+
+full_quantum-frames : (b : Bool) (n : ℕ) (t : Task) → (cond b (record t { quantum = n }) t).frames ≡ t.frames
+full_quantum-frames true n t = refl
+full_quantum-frames false n t = refl
+
+full_quantum-state : (b : Bool) (n : ℕ) (t : Task) → (cond b (record t { quantum = n }) t).state ≡ t.state
+full_quantum-state true n t = refl
+full_quantum-state false n t = refl
+
+full_quantum-master : (b : Bool) (n : ℕ) (t : Task) → (cond b (record t { quantum = n }) t).master ≡ t.master
+full_quantum-master true n t = refl
+full_quantum-master false n t = refl
+
+module _ {G : GoodWorld} {May Other : Naming} {R : StepRelation} {Q : MoveRelation} (moves : FineMoves G May Other R Q) where
+  pub keep_level-alters : (p : Image) (name : Who) → Alters G R (keep_level p name)
+  unfolding Alters
+  keep_level-alters p name w good = moves.edits_task name (λ t. record t { kept_level = level_kept_by p w t (edf_low p t.base) }) w good (λ t. refl) (λ t. refl) (λ t. refl) (λ t. refl)
+
+  pub says_ready-keeps : (p : Image) (part : Part) (name : Who) (end : QueueEnd) → May name → Keeps G R (says_ready p part name end)
+  unfolding says_ready
+  says_ready-keeps p part name end may =
+      from-keeps moves _ (λ w good. looks_at-from moves (λ v. says part (line.Ready name (active p (task_of v name)) end (deadline_shown p (task_of v name)))) w (said-from moves part (line.Ready name (active p (task_of w name)) end (deadline_shown p (task_of w name))) w (moves.places p part name end w good may)))
+
+  pub grant_quantum-alters : (p : Image) (name : Who) → Alters G R (grant_quantum p name)
+  unfolding Alters
+  grant_quantum-alters p name w good =
+      moves.edits_task name (granted p w.quanta) w good
+      (λ t. full_quantum-who (eqb (active p t) t.base && is_robin_level p t.base) (slice_index_or w.quanta t.base 0) t)
+      (λ t. full_quantum-frames (eqb (active p t) t.base && is_robin_level p t.base) (slice_index_or w.quanta t.base 0) t)
+      (λ t. full_quantum-state (eqb (active p t) t.base && is_robin_level p t.base) (slice_index_or w.quanta t.base 0) t)
+      (λ t. full_quantum-master (eqb (active p t) t.base && is_robin_level p t.base) (slice_index_or w.quanta t.base 0) t)
+
+  pub to_tail-keeps : (p : Image) (part : Part) (name : Who) → May name → Keeps G R (to_tail p part name)
+  unfolding to_tail
+  to_tail-keeps p part name may = search (changes-keeps, grant_quantum-alters, then-keeps, says_ready-keeps)
+
+  pub to_head-keeps : (p : Image) (part : Part) (name : Who) → May name → Keeps G R (to_head p part name)
+  unfolding to_head
+  to_head-keeps p part name may = search (says_ready-keeps)
+
+  -- ---- others become ready, and block
+
+  with_runnable-alters : (name : Who) → Other name → Alters G R (edit_task name (with_state Runnable))
+  unfolding Alters
+  with_runnable-alters name other w good = moves.readies name w good other
+
+  pub runnable-keeps : (name : Who) → Other name → Keeps G R (changes (edit_task name (with_state Runnable)))
+  runnable-keeps name other = changes-keeps moves (edit_task name (with_state Runnable)) (with_runnable-alters name other)
+
+  with_blocked-alters : (name : Who) (waiting : Waiting) → Other name → Alters G R (edit_task name (with_state (Blocked waiting)))
+  unfolding Alters
+  with_blocked-alters name waiting other w good = moves.blocks name waiting w good other
+
+  pub blocked-keeps : (name : Who) (waiting : Waiting) → Other name → Keeps G R (changes (edit_task name (with_state (Blocked waiting))))
+  blocked-keeps name waiting other = changes-keeps moves (edit_task name (with_state (Blocked waiting))) (with_blocked-alters name waiting other)
+
+  pub ready-keeps : (p : Image) (part : Part) (name : Who) → Other name → Keeps G R (ready p part name)
+  unfolding ready
+  ready-keeps p part name other =
+      then-keeps moves (changes (edit_task name (with_state Runnable))) (changes (keep_level p name) ▷ to_tail p part name) (runnable-keeps name other)
+      (search (changes-keeps, then-keeps, keep_level-alters, to_tail-keeps, moves.other_may))
+
+  pub says_block-keeps : (part : Part) (name : Who) (waiting : Waiting) → Other name → Keeps G R (says_block part name waiting)
+  unfolding says_block
+  says_block-keeps part name waiting other =
+      then-keeps moves (changes (edit_task name without_kept_level)) (says part (line.Block name (word_of waiting))) (search (changes-keeps, edit_task-alters))
+      (said-keeps moves part (line.Block name (word_of waiting)) (λ w good. moves.says_blocked part name waiting w good other))
+
+  pub block-keeps : (part : Part) (name : Who) (waiting : Waiting) → Other name → Keeps G R (block part name waiting)
+  unfolding block
+  block-keeps part name waiting other =
+      then-keeps moves (changes (edit_task name (with_state (Blocked waiting)))) (says_block part name waiting) (blocked-keeps name waiting other) (says_block-keeps part name waiting other)

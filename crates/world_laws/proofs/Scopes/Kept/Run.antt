@@ -1,0 +1,90 @@
+-- The opening of a run, and tocks: all of a tock but the tick itself is made of the same changes, of the lines of a
+-- tock, and of the release that the agent takes up.
+use Rattle.std.proofs.Common.{◌≡◌, Bool, true, false, cond, List, [], ◌∷◌, Option, Some, None, refl}
+use Rattle.trace_text.specs.declared.events.Event.{Event}
+use Rattle.trace_text.specs.declared.events.Event.TheVariants as line
+use Rattle.trace_text.specs.declared.events.Who.{Who}
+use Rattle.trace_text.specs.declared.events.Who.TheVariants as who
+use Rattle.profile_machine.specs.declared.image.Image.{Image}
+use Rattle.profile_machine.specs.declared.world.World.{World}
+use Rattle.profile_machine.specs.declared.world.marks.Frame.{Frame}
+use Rattle.profile_machine.specs.declared.world.appointments.Release.{Release}
+use Rattle.profile_machine.specs.Words.{same_who, same_option}
+use Rattle.profile_machine.specs.Steps.{Move, rests, watches, ◌▶◌}
+use Rattle.profile_machine.specs.Dispatching.{choose}
+use Rattle.profile_machine.specs.Tasks.{task_of, with_ticks}
+use Rattle.profile_machine.specs.Cost.{cost}
+use Rattle.profile_machine.specs.Handlers.{charge}
+use Rattle.profile_machine.specs.Run.{say, silently, says_run, with_serving, serve_if_free, serve, ticks_or, begin_action, one_tick_less, spend_tick, next_tick, says_idle, tock_of, tock}
+use Rattle.machine_laws.proofs.Moves.{StepRelation, MoveRelation}
+use Rattle.world_laws.proofs.Scopes.Kept.Combinators.{Leads, Alters, then-leads, rests-leads, watches-leads}
+use Rattle.world_laws.proofs.Scopes.Kept.Handlers.{charge-alters}
+use Rattle.world_laws.proofs.Scopes.FineMoves.{Anybody, GoodWorld, FineMoves}
+
+-- ---- a tock up to its tick
+
+-- who is chosen, if anybody is, says that it runs, takes up a release, begins its action and is charged
+abbrev pub before_tick : Image → Option Who → Move
+before_tick p None = watches (λ w. says_idle w.ran)
+before_tick p (Some name) =
+    watches (λ w. says_run name w.ran) ▶ serve name ▶ silently (begin_action p name) ▶ silently (charge p name) ▶ silently (spend_tick name)
+
+-- then the tick passes
+after_idle : (w : World) (ran : Option Who) → let before = says_idle ran w in ((watches (λ v. says_idle ran) ▶ silently (next_tick None)) w) ≡ (next_tick None before.0, before.1)
+after_idle w None = refl
+after_idle w (Some name) = refl
+
+tock_of-parts : (p : Image) (chosen : Option Who) (w : World) → let before = before_tick p chosen w in tock_of p chosen w ≡ (next_tick chosen before.0, before.1)
+tock_of-parts p None w = after_idle w w.ran
+tock_of-parts p (Some name) w = refl
+
+pub tock-parts : (p : Image) (w : World) → let before = before_tick p (choose w) w in tock p w ≡ (next_tick (choose w) before.0, before.1)
+tock-parts p w = tock_of-parts p (choose w) w
+
+module _ {G : GoodWorld} {R : StepRelation} {Q : MoveRelation} (moves : FineMoves G Anybody Anybody R Q) where
+  begin_action-alters : (p : Image) (name : Who) → Alters G R (begin_action p name)
+  unfolding Alters
+  begin_action-alters p name w good = moves.edits_task name (with_ticks (Some (ticks_or (task_of w name).ticks_left (cost p w name)))) w good (λ t. refl) (λ t. refl) (λ t. refl) (λ t. refl)
+
+  spend_tick-alters : (name : Who) → Alters G R (spend_tick name)
+  unfolding Alters
+  spend_tick-alters name w good = moves.edits_task name (λ t. with_ticks (one_tick_less t.ticks_left) t) w good (λ t. refl) (λ t. refl) (λ t. refl) (λ t. refl)
+
+  silently-leads : (f : World → World) → Alters G R f → Leads G Q (silently f)
+  unfolding Leads Alters
+  silently-leads f a w good = moves.silently w (f w) (a w good)
+
+  module _ (tells : (event : Event) (w : World) → G w → Q w (event ∷ []) w) (serves : (r : Release) (rest : List Release) (w : World) → G w → Q w [] (with_serving r rest w)) where
+    say-leads : (event : Event) → Leads G Q (say event)
+    unfolding Leads
+    say-leads event w good = tells event w good
+
+    says_run-test : (same : Bool) (name : Who) → Leads G Q (cond same rests (say (line.Run name)))
+    says_run-test true name = rests-leads moves
+    says_run-test false name = say-leads (line.Run name)
+
+    says_run-leads : (name : Who) (ran : Option Who) → Leads G Q (says_run name ran)
+    says_run-leads name ran = says_run-test (same_option same_who ran (Some name)) name
+
+    says_idle-leads : (ran : Option Who) → Leads G Q (says_idle ran)
+    says_idle-leads None = rests-leads moves
+    says_idle-leads (Some name) = say-leads line.Idle
+
+    serve_if_free-leads : (serving : Option Release) (frames : List Frame) (releases : List Release) (w : World) → G w → let done = serve_if_free serving frames releases w in Q w done.1 done.0
+    serve_if_free-leads None [] [] w good = moves.rests w good
+    serve_if_free-leads None [] (r ∷ rest) w good = let first = serves r rest w good in moves.leads_on w (with_serving r rest w) (with_serving r rest w) first (tells (line.Serve r.number) (with_serving r rest w) (moves.moved w (with_serving r rest w) first))
+    serve_if_free-leads None (f ∷ fs) releases w good = moves.rests w good
+    serve_if_free-leads (Some r) frames releases w good = moves.rests w good
+
+    serve-leads : (name : Who) → Leads G Q (serve name)
+    unfolding Leads
+    serve-leads (who.Task t) w good = moves.rests w good
+    serve-leads who.Agent w good = serve_if_free-leads w.serving w.agent.frames w.releases w good
+
+    pub before_tick-leads : (p : Image) (chosen : Option Who) → Leads G Q (before_tick p chosen)
+    before_tick-leads p None = watches-leads moves _ (λ w. says_idle-leads w.ran)
+    before_tick-leads p (Some name) =
+        then-leads moves _ _ (watches-leads moves _ (λ w. says_run-leads name w.ran))
+        (then-leads moves _ _ (serve-leads name)
+        (then-leads moves _ _ (silently-leads (begin_action p name) (begin_action-alters p name))
+        (then-leads moves _ _ (silently-leads (charge p name) (charge-alters moves p name)) (silently-leads (spend_tick name) (spend_tick-alters name)))))

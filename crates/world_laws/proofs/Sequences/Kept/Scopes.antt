@@ -1,0 +1,34 @@
+-- Scopes that begin and end, and their cells: each step keeps a relation that its parts keep.
+use Rattle.std.specs.Prelude.{ℕ, List}
+use Rattle.trace_text.specs.declared.events.Who.{Who}
+use Rattle.profile_machine.specs.declared.image.Image.{Image}
+use Rattle.profile_machine.specs.declared.numbers.ScopeNo.{ScopeNo}
+use Rattle.profile_machine.specs.declared.values.Value.{Value}
+use Rattle.profile_machine.specs.declared.world.marks.Purpose.{Purpose}
+use Rattle.profile_machine.specs.declared.world.scopes.ScopeId.{ScopeId}
+use Rattle.profile_machine.specs.declared.world.scopes.Beginning.{Beginning}
+use Rattle.profile_machine.specs.Scopes.{edit_cells, write_cell, begin_scope, open_scope, end_scope}
+use Rattle.machine_laws.proofs.FineMoves.{GoodWorld, Naming}
+use Rattle.world_laws.proofs.Sequences.FineMoves.{FineMoves, Openings, Behind}
+use Rattle.world_laws.proofs.Sequences.Kept.Combinators.{Alters}
+
+module _ {p : Image} {G : GoodWorld} {May Other : Naming} (moves : FineMoves p G May Other) where
+  pub edit_cells-alters : (id : ScopeId) (f : List Value → List Value) → Alters G (Behind G) (edit_cells id f)
+  unfolding Alters
+  edit_cells-alters id f w good = moves.edits_cells id f w good
+
+  pub write_cell-alters : (id : ScopeId) (place : ℕ) (value : Value) → Alters G (Behind G) (write_cell id place value)
+  write_cell-alters id place value = search (edit_cells-alters)
+
+  pub begin_scope-alters : (name : Who) (scope : ScopeNo) (b : Beginning) → Alters G (Behind G) (begin_scope p name scope b)
+  unfolding Alters
+  begin_scope-alters name scope b w good = moves.begins_scope name scope b w good
+
+  pub end_scope-alters : (id : ScopeId) → Alters G (Behind G) (end_scope id)
+  unfolding Alters
+  end_scope-alters id w good = moves.ends_scope id w good
+
+module _ {p : Image} {G : GoodWorld} {May Other : Naming} (openings : Openings p G May Other) where
+  pub open_scope-alters : (name : Who) (scope : ScopeNo) (b : Beginning) (purpose : Purpose) → May name → Alters G (Behind G) (open_scope p name scope b purpose)
+  unfolding Alters
+  open_scope-alters name scope b purpose may w good = openings.opens_scope name scope b purpose w good may

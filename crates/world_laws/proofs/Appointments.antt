@@ -1,7 +1,6 @@
 pub mod Delays
 pub mod TaskLemmas
 pub mod CallLemmas
-pub mod PlacingLines
 pub mod DelayEdits
 pub mod FineMoves
 pub mod DelayMoves

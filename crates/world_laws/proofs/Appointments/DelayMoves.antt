@@ -25,7 +25,7 @@ use Rattle.world_laws.proofs.Appointments.CallLemmas.{edited-caller, added-calle
 use Rattle.world_laws.proofs.Appointments.DelayEdits.{Steady, awaited-on, edited-steady, edited-numbered, plain-owned, pushed-owned, popped-owned, state-steady, added-steady, added-numbered, added-owned, gone-steady, gone-numbered, gone-owned, dropped-steady, appointed-steady, apart_from, asleep-idle, each-asleep, each-found}
 use Rattle.world_laws.proofs.Appointments.Delays.{delayed, Idle, Owned, Numbered, Good, Later, later_then, own-on, idle-later, natures}
 use Rattle.world_laws.proofs.Appointments.FineMoves.{GoodWorld, Naming, FineMoves, is_apart, ready_line}
-use Rattle.world_laws.proofs.Appointments.PlacingLines.{Quiet, Early, Quiet-append, taken, taken_from, taken_from-append, still-taken, more-taken, readies, is_last_part, is_placed, quiet_not_placed, taken_not_placed}
+use Rattle.line_laws.proofs.Leaving.PlacingLines.{Quiet, Early, Quiet-append, taken, taken_from, taken_from-append, still-taken, more-taken, readies, is_last_part, is_placed, quiet_not_placed, taken_not_placed}
 
 -- ---- whoever waits for the end of a delay is not placed, unless it is excused
 

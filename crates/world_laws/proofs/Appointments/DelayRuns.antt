@@ -50,7 +50,7 @@ use Rattle.world_laws.proofs.Appointments.Kept.Scopes.{open_scope-alters}
 use Rattle.world_laws.proofs.Appointments.Kept.Tasking.{unwind_all-keeps, all_terminate-keeps}
 use Rattle.world_laws.proofs.Appointments.Kept.Tasks.{edit_task-alters}
 use Rattle.world_laws.proofs.Appointments.Led.{then_to-from, moved-led, moved-from, looks_to-from, led_then-from, Led}
-use Rattle.world_laws.proofs.Appointments.PlacingLines.{is_placed}
+use Rattle.line_laws.proofs.Leaving.PlacingLines.{is_placed}
 use Rattle.world_laws.proofs.Appointments.TaskLemmas.{who_path}
 
 -- ---- of nobody in particular, and of who may wait at a terminate alternative

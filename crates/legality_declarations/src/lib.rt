@@ -23,5 +23,5 @@ pub use types::definition_found;
 // What stands below, for the crates above.
 pub use legality_parts;
 pub use legality_parts::{
-    legality_choices, legality_entities, legality_expressions, legality_types,
+    legality_choices, legality_entities, legality_expressions, legality_types, legality_values,
 };

@@ -11,10 +11,11 @@ use ada_subtypes::mark_denoted;
 use ada_tree::{Component, Expression, Name, OneOrMore, SubtypeIndication, TypeDefinition};
 use ann_base::{NoMemory, Place};
 use legality_parts::legality_choices::static_number;
-use legality_parts::legality_expressions::{Readable, place_of};
+use legality_parts::legality_expressions::Readable;
 use legality_parts::legality_types::{
     broken_if, broken_unless, is_root_controlled, is_scalar, type_of_bounds,
 };
+use legality_parts::legality_values::place_of;
 use legality_parts::{bounds_judged, indication_found, type_of_mark};
 use std::alloc::Global;
 use world_tables::List;

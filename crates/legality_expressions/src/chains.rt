@@ -2,15 +2,15 @@
 ghost use Rattle.ada_legality.specs.Findings.{Reads};
 ghost use Rattle.ada_legality.specs.ReadExpressions.{operands_read, addends_read, factors_read, logical_expression, relational_expression, adding_expression, multiplying_expression};
 
-use crate::legality_reads::{
-    compared_read, first_relation, first_term, operation_judged, plain_read, sum_judged,
-    with_factor, with_relation, with_term,
-};
 use crate::readable::{Readable, operand_read};
 use ada_legality::{Finding, Known, Read};
 use ada_tree::{Addend, LogicalOperator, Multiplied, OneOrMore, Operand, RelationalOperator};
 use ann_base::{NoMemory, Place};
 use image_layout::{logical_operator, multiplying_operator, relational_operator};
+use legality_values::legality_reads::{
+    compared_read, first_relation, first_term, operation_judged, plain_read, sum_judged,
+    with_factor, with_relation, with_term,
+};
 use std::alloc::Global;
 use world_tables::List;
 

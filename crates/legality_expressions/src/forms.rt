@@ -3,16 +3,10 @@ ghost use Rattle.std.specs.Prelude.{◌≡◌, IfOk, option_map, unwrap_or};
 ghost use Rattle.ada_legality.specs.Findings.{Reads};
 ghost use Rattle.ada_legality.specs.ReadExpressions.{signed_expression, highest_expression, bracketed_expression, argument_part, arguments_read, named_expression, typed_expression};
 
-use crate::attributed::{attribute_judged, attribute_read};
 use crate::chains::{
     adding_expression, logical_expression, multiplying_expression, relational_expression,
 };
-use crate::legality_reads::{
-    bracketed_read, call_inside, highest_read, number_read, operation_of_one_judged, plain_read,
-    signed_judged, signed_read, text_read,
-};
 use crate::readable::{Readable, operand_read};
-use crate::{name_judged, name_read};
 use ada_entities::copy;
 use ada_legality::{ActualPart, Finding, Known, Read, Typed};
 use ada_tree::{
@@ -21,6 +15,11 @@ use ada_tree::{
 };
 use ann_base::{NoMemory, Place};
 use image_layout::highest_operator;
+use legality_values::legality_reads::{
+    bracketed_read, call_inside, highest_read, number_read, operation_of_one_judged, plain_read,
+    signed_judged, signed_read, text_read,
+};
+use legality_values::{attribute_judged, attribute_read, name_judged, name_read};
 use profile_machine::{Sequence, Text};
 use std::alloc::Global;
 use world_tables::List;

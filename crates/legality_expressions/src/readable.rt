@@ -2,9 +2,9 @@
 ghost use Rattle.ada_legality.specs.Findings.{Reads};
 ghost use Rattle.ada_legality.specs.ReadExpressions.{operand_read};
 
-use crate::legality_reads::as_operand;
 use ada_legality::{Finding, Known, Read};
 use ann_base::NoMemory;
+use legality_values::legality_reads::as_operand;
 use std::alloc::Global;
 use world_tables::List;
 

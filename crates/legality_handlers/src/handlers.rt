@@ -10,7 +10,7 @@ use ada_tree::{HandledExceptions, Handler, Name};
 use ann_base::{NoMemory, Place};
 use legality_expressions::legality_entities::{names_exception, same_named};
 use legality_expressions::legality_types::{broken_if, broken_unless};
-use legality_expressions::place_of;
+use legality_expressions::legality_values::place_of;
 use profile_machine::Sequence;
 use std::alloc::Global;
 use std::marker::Model;

@@ -15,8 +15,8 @@ use ann_base::{NoMemory, Place};
 use legality_parts::legality_entities::{
     is_accept, is_body, kind_of_identifier, names_exception, same_entities, sequence_around,
 };
-use legality_parts::legality_expressions::place_of;
 use legality_parts::legality_types::{broken_unless, note};
+use legality_parts::legality_values::place_of;
 use legality_parts::{condition_found, value_alone_found_if};
 use std::alloc::Global;
 use world_tables::List;

@@ -21,4 +21,6 @@ pub use values::{
 // What stands below, for the crates above.
 pub use legality_choices;
 pub use legality_expressions;
-pub use legality_expressions::{legality_entities, legality_names, legality_reads, legality_types};
+pub use legality_expressions::{
+    legality_entities, legality_names, legality_reads, legality_types, legality_values,
+};

@@ -15,7 +15,7 @@ use legality_expressions::legality_types::{
     broken_if, broken_unless, has_ranges, is_controlled_type, is_event_timer_or_budget,
     is_root_controlled, is_scalar, is_scalar_or_array, is_timer,
 };
-use legality_expressions::{is_unclear_mark, place_of};
+use legality_expressions::legality_values::{is_unclear_mark, place_of};
 use std::alloc::Global;
 use world_tables::List;
 

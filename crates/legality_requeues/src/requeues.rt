@@ -22,7 +22,7 @@ use legality_expressions::legality_entities::{
 };
 use legality_expressions::legality_names::{denotes_value, is_task_object, object_prefix};
 use legality_expressions::legality_types::{broken_if, broken_unless, same_type_if};
-use legality_expressions::{is_unclear_object, place_of};
+use legality_expressions::legality_values::{is_unclear_object, place_of};
 use legality_profiles::same_mode;
 use world_tables::List;
 

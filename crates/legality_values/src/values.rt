@@ -24,7 +24,7 @@ use std::alloc::Global;
 use world_tables::List;
 
 /// A declared object.
-pub fn is_declared_object(kind: &EntityKind) -> bool
+fn is_declared_object(kind: &EntityKind) -> bool
     ensures { result ≡ is_declared_object kind.now }
 {
     match kind {
@@ -34,7 +34,7 @@ pub fn is_declared_object(kind: &EntityKind) -> bool
 }
 
 /// The protected unit of a component.
-pub fn component_owner(kind: &EntityKind) -> Option<AdaType>
+fn component_owner(kind: &EntityKind) -> Option<AdaType>
     ensures { result ≡ component_owner kind.now }
 {
     match kind {
@@ -117,7 +117,7 @@ pub fn name_read(known: &Known<'_, '_>, name: &Name, has_arguments: bool) -> Rea
 }
 
 /// The index is a value of the type of the array's index.
-pub fn index_fitted(
+pub(crate) fn index_fitted(
     found: &mut List<Finding>,
     t: Option<AdaType>,
     actuals: &[ActualPart],

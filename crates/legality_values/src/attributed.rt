@@ -4,26 +4,26 @@ ghost use Rattle.ada_regions.specs.Completions.{holds_of};
 ghost use Rattle.ada_legality.specs.Values.{denoted_kind, is_denoted};
 ghost use Rattle.ada_legality.specs.ReadExpressions.{attribute_read, is_unclear_mark, denotes_subprogram, is_unclear, may_have_attribute, no_handler_access, attribute_alone, image_judged, other_attribute, attribute_judged};
 
-use crate::legality_calls::{actuals_numbered, without_name};
-use crate::legality_entities::{denoted_kind, is_function_kind, is_procedure_kind};
-use crate::legality_names::{
-    counts, has_images, is_library_handler, is_task_object, takes_arguments, type_of_ends,
-    typed_attribute_of,
-};
-use crate::legality_reads::{image_length, plain_read, type_of_prefix};
-use crate::legality_types::{broken_if, broken_unless};
-use crate::{index_fitted, is_unclear_object, place_of};
+use crate::values::{index_fitted, is_unclear_object, place_of};
 use ada_entities::denoted_by;
 use ada_legality::{ActualPart, Finding, Known, Read, Rule};
 use ada_regions::{AdaType, Denoted, EntityKind};
 use ada_tree::{Attribute, Name};
 use ann_base::NoMemory;
+use legality_calls::{actuals_numbered, without_name};
+use legality_entities::{denoted_kind, is_function_kind, is_procedure_kind};
+use legality_names::{
+    counts, has_images, is_library_handler, is_task_object, takes_arguments, type_of_ends,
+    typed_attribute_of,
+};
+use legality_reads::{image_length, plain_read, type_of_prefix};
+use legality_types::{broken_if, broken_unless};
 use std::alloc::Global;
 use world_tables::List;
 
 /// What an attribute of a name is read as.
 #[tactic(auto, unfolding(ada_legality::specs::ReadExpressions::attribute_read))]
-pub(crate) fn attribute_read(
+pub fn attribute_read(
     known: &Known<'_, '_>,
     name: &Name,
     attribute: Attribute,
@@ -191,7 +191,7 @@ fn other_attribute(
 
 /// A name with an attribute.
 #[tactic(auto, unfolding(ada_legality::specs::ReadExpressions::attribute_judged))]
-pub(crate) fn attribute_judged(
+pub fn attribute_judged(
     alloc: Global,
     found: &mut List<Finding>,
     known: &Known<'_, '_>,

@@ -5,5 +5,5 @@
 mod making;
 mod operations;
 
-pub use making::{FirstAction, Lists, MadeLists, NamesOf, OpenLoop, SequencePlace, Within};
+pub use making::{FirstAction, ListOf, Lists, MadeLists, NamesOf, OpenLoop, SequencePlace, Within};
 pub use operations::type_of_operation;

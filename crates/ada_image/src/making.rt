@@ -93,14 +93,45 @@ impl<'n, 't> NamesOf<'n, 't> {
     }
 }
 
-/// Where a statement or an expression stands.
+/// A list that is lent. Contracts see the list.
+#[derive(Drop)]
+pub struct ListOf<'n, T> {
+    list: &'n List<T>,
+}
+
+impl<'n, T> Model for ListOf<'n, T> {
+    ghost use Rattle.std.specs.Prelude.{List};
+
+    ghost Value = { List T };
+
+    ghost view = { λ part. part.list.now };
+}
+
+impl<'n, T> ListOf<'n, T> {
+    /// This list.
+    pub fn new(list: &'n List<T>) -> Self
+        ensures { result ≡ list.now }
+    {
+        ListOf { list }
+    }
+
+    /// The list.
+    pub fn get(&self) -> &'n List<T>
+        ensures { result.now ≡ self.now }
+    {
+        self.list
+    }
+}
+
+/// Where a statement or an expression stands. Its lists are lent, so that a place inside another takes no memory.
+#[derive(Drop)]
 pub struct Within<'n, 't> {
     /// What names denote.
     pub names: NamesOf<'n, 't>,
     /// The innermost scope.
     pub scope: u32,
     /// The loops that are open, the innermost first.
-    pub loops: List<OpenLoop>,
+    pub loops: ListOf<'n, OpenLoop>,
     /// The statement of the innermost construct that is open inside the body.
     pub construct: Option<StatementNo>,
     /// In a handler the scope that keeps its exception (11.3).
@@ -108,22 +139,7 @@ pub struct Within<'n, 't> {
     /// The function whose body it is (6.5).
     pub function: Option<SubprogramNo>,
     /// The units around, the innermost first.
-    pub units: List<u32>,
-}
-
-// Written out, so that it is proved once, and not by each function that drops one.
-impl Drop for Within<'_, '_> {
-    fn drop(self) {
-        let Within {
-            names: _,
-            scope: _,
-            loops: _,
-            construct: _,
-            handling: _,
-            function: _,
-            units: _,
-        } = self;
-    }
+    pub units: ListOf<'n, u32>,
 }
 
 /// Where a sequence of statements stands: what is made of it depends on that.

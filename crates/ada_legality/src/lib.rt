@@ -18,5 +18,5 @@ pub use parts::{
 pub use reading::{Asked, Literal, NameShape, Read, Shape, Typed};
 pub use rules::Rule;
 pub use standing::{
-    Around, InForce, IndexesOf, Known, LoopParameter, OccurrencesOf, SubprogramAround, UnitAround,
+    Around, InForce, Known, LoopParameter, OccurrencesOf, SubprogramAround, UnitAround,
 };

@@ -1,7 +1,7 @@
 //! What is known where a construct stands.
 ghost use Rattle.std.specs.Prelude.{◌≡◌};
 
-use ada_image::NamesOf;
+use ada_image::{ListOf, NamesOf};
 use ada_regions::{AdaType, Occurrences, Subtype};
 use ann_base::Place;
 use std::marker::Model;
@@ -90,37 +90,6 @@ pub struct InForce {
     pub has_deadlines: bool,
 }
 
-/// The types of the indexes of the source's array types, by their numbers. Contracts see their list.
-#[derive(Drop)]
-pub struct IndexesOf<'n> {
-    indexes: &'n List<AdaType>,
-}
-
-impl<'n> Model for IndexesOf<'n> {
-    ghost use Rattle.std.specs.Prelude.{List};
-    ghost use Rattle.ada_regions.specs.declared.types.AdaType.{AdaType};
-
-    ghost Value = { List AdaType };
-
-    ghost view = { λ part. part.indexes.now };
-}
-
-impl<'n> IndexesOf<'n> {
-    /// These.
-    pub fn new(indexes: &'n List<AdaType>) -> Self
-        ensures { result ≡ indexes.now }
-    {
-        IndexesOf { indexes }
-    }
-
-    /// The list.
-    pub fn get(&self) -> &'n List<AdaType>
-        ensures { result.now ≡ self.now }
-    {
-        self.indexes
-    }
-}
-
 /// The occurrences of names in a source. Contracts see their list.
 #[derive(Drop)]
 pub struct OccurrencesOf<'n, 't> {
@@ -164,8 +133,8 @@ pub struct Known<'n, 't> {
     pub around: List<Around>,
     /// The loop parameters that are visible, the innermost first.
     pub loops: List<LoopParameter>,
-    /// The types of the indexes of array types.
-    pub indexes: IndexesOf<'n>,
+    /// The types of the indexes of the source's array types, by their numbers.
+    pub indexes: ListOf<'n, AdaType>,
     /// What the pragmas forbid or limit.
     pub in_force: InForce,
     /// The names of the whole source.

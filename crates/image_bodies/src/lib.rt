@@ -1,17 +1,11 @@
-//! The compound statements, the sequences and the bodies of the image of a source (ISO/IEC 8652:2012, 3.11, clauses 5, 9 and 11):
-//! each statement leads to what comes next, and what stands inside a compound statement leads to what comes behind it. Each
-//! function has the name of the definition of `ada_image` of which it is the counterpart. A number that its type cannot hold
-//! is answered as want of memory.
+//! The statements, the sequences and the bodies of the image of a source (ISO/IEC 8652:2012, 3.11, clauses 5, 9 and 11): each
+//! statement leads to what comes next. Each function has the name of the definition of `ada_image` of which it is the
+//! counterpart. A number that its type cannot hold is answered as want of memory.
 #![tactic(auto)]
 
-mod blocks;
 mod bodies;
-mod branches;
-mod loops;
-mod making;
-mod selects;
 mod sequences;
 mod statements;
 
 pub use bodies::{body_put, inner_bodies_put};
-pub use making::MakeSequence;
+pub use sequences::WithDeclarations;

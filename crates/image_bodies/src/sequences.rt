@@ -2,21 +2,24 @@
 ghost use Rattle.ada_image.specs.Made.{Made};
 ghost use Rattle.ada_image.specs.ImageOfDeclarations.{unhandled_put, with_handlers_put, handled_put, whole_put, parts_put};
 
-use crate::blocks::handlers_put;
 use crate::bodies::inner_bodies_put;
-use crate::making::MakeSequence;
 use crate::statements::statements_put;
 use ada_image::{Lists, SequencePlace, Within};
 use ada_tree::{Sequence, SequenceParts};
 use ann_base::NoMemory;
+use image_compounds::{MakeSequence, handlers_put};
 use image_layout::{in_construct, put_at, reserved, the_action};
 use image_objects::{activation_put, declarations_put, end_of_activation_put, make_tasks, part_if};
 use profile_machine::{StatementForm, StatementNo};
 use std::alloc::Global;
 
+/// Names how sequences are made here: with the declarations and bodies in them.
+#[derive(Drop)]
+pub struct WithDeclarations {}
+
 /// The statements behind the activation of the tasks of a part (9.2).
 #[tactic(auto, unfolding(ada_image::specs::ImageOfDeclarations::unhandled_put))]
-fn unhandled_put<Q: MakeSequence>(
+fn unhandled_put<Q: MakeSequence<WithDeclarations>>(
     alloc: Global,
     lists: &mut Lists,
     within: &Within<'_, '_>,
@@ -33,7 +36,7 @@ fn unhandled_put<Q: MakeSequence>(
 
 /// The same with handlers around (11.2).
 #[tactic(auto, unfolding(ada_image::specs::ImageOfDeclarations::with_handlers_put))]
-fn with_handlers_put<Q: MakeSequence>(
+fn with_handlers_put<Q: MakeSequence<WithDeclarations>>(
     alloc: Global,
     lists: &mut Lists,
     within: &Within<'_, '_>,
@@ -45,10 +48,8 @@ fn with_handlers_put<Q: MakeSequence>(
         result }
 {
     let handled = reserved(lists)?;
-    let first = {
-        let inner = in_construct(within, handled)?;
-        unhandled_put(alloc, lists, &inner, part, parts, None)?
-    };
+    let inner = in_construct(within, handled);
+    let first = unhandled_put(alloc, lists, &inner, part, parts, None)?;
     let handlers = handlers_put(alloc, lists, within, parts.handlers.as_slice(), next)?;
     let form = StatementForm::Handled {
         handlers,
@@ -59,7 +60,7 @@ fn with_handlers_put<Q: MakeSequence>(
 
 /// Statements with their handlers, if they have any (11.2).
 #[tactic(auto, unfolding(ada_image::specs::ImageOfDeclarations::handled_put))]
-fn handled_put<Q: MakeSequence>(
+fn handled_put<Q: MakeSequence<WithDeclarations>>(
     alloc: Global,
     lists: &mut Lists,
     within: &Within<'_, '_>,
@@ -78,7 +79,7 @@ fn handled_put<Q: MakeSequence>(
 
 /// All of a body or a block (3.11).
 #[tactic(auto, unfolding(ada_image::specs::ImageOfDeclarations::whole_put))]
-fn whole_put<Q: MakeSequence>(
+fn whole_put<Q: MakeSequence<WithDeclarations>>(
     alloc: Global,
     lists: &mut Lists,
     within: &Within<'_, '_>,
@@ -96,7 +97,7 @@ fn whole_put<Q: MakeSequence>(
     declarations_put(alloc, lists, within, 0, declarations, ended)
 }
 
-impl<Q: MakeSequence> MakeSequence for SequenceParts<Q> {
+impl<Q: MakeSequence<WithDeclarations>> MakeSequence<WithDeclarations> for SequenceParts<Q> {
     ghost use Rattle.ada_image.specs.ImageOfDeclarations.{parts_put};
 
     ghost making = { parts_put Q.making };
@@ -124,7 +125,7 @@ impl<Q: MakeSequence> MakeSequence for SequenceParts<Q> {
     }
 }
 
-impl MakeSequence for Sequence {
+impl MakeSequence<WithDeclarations> for Sequence {
     ghost use Rattle.ada_image.specs.ImageOfDeclarations.{sequence_put};
 
     ghost making = { sequence_put };

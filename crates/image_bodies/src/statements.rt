@@ -3,15 +3,14 @@ ghost use Rattle.std.specs.Prelude.{◌∷◌};
 ghost use Rattle.ada_image.specs.Made.{Made};
 ghost use Rattle.ada_image.specs.ImageOfStatements.{statement_put, statements_put};
 
-use crate::blocks::{accept_put, block_put};
-use crate::branches::{case_put, if_put};
-use crate::loops::loop_put;
-use crate::making::MakeSequence;
-use crate::selects::select_put;
+use crate::sequences::WithDeclarations;
 use ada_image::{Lists, Within};
 use ada_tree::{OneOrMore, Statement};
 use ann_base::NoMemory;
 use image_calls::call_statement_put;
+use image_compounds::{
+    MakeSequence, accept_put, block_put, case_put, if_put, loop_put, select_put,
+};
 use image_layout::action_put;
 use image_statements::{
     abort_put, assignment_put, delay_put, exit_put, raise_put, requeue_put, return_put,
@@ -21,7 +20,7 @@ use std::alloc::Global;
 
 /// A statement (5.1).
 #[tactic(auto, unfolding(ada_image::specs::ImageOfStatements::statement_put))]
-fn statement_put<Q: MakeSequence>(
+fn statement_put<Q: MakeSequence<WithDeclarations>>(
     alloc: Global,
     lists: &mut Lists,
     within: &Within<'_, '_>,
@@ -67,7 +66,7 @@ fn statement_put<Q: MakeSequence>(
 
 /// The statements behind the first of a list, from the last to the first.
 #[tactic(auto, using(image_objects::proofs::Drops::nothing_left), unfolding(ada_image::specs::ImageOfStatements::statements_put))]
-fn statements_behind<Q: MakeSequence>(
+fn statements_behind<Q: MakeSequence<WithDeclarations>>(
     alloc: Global,
     lists: &mut Lists,
     within: &Within<'_, '_>,
@@ -87,7 +86,7 @@ fn statements_behind<Q: MakeSequence>(
 }
 
 /// The statements of a list, each leading to the next (5.1).
-pub fn statements_put<Q: MakeSequence>(
+pub fn statements_put<Q: MakeSequence<WithDeclarations>>(
     alloc: Global,
     lists: &mut Lists,
     within: &Within<'_, '_>,

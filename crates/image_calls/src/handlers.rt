@@ -25,7 +25,7 @@ fn object_of_entity(within: &Within<'_, '_>, entity: u32) -> Option<DeclNo>
 fn innermost_object(within: &Within<'_, '_>) -> Option<DeclNo>
     ensures { result ≡ innermost_object within.now within.now.units }
 {
-    for unit in within.units.iter() {
+    for unit in within.units.get().iter() {
         if let Some(object) = object_of_entity(within, *unit) {
             return Some(object);
         }

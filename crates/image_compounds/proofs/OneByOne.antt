@@ -12,7 +12,7 @@ use Rattle.ada_image.specs.declared.making.Lists.{Lists}
 use Rattle.ada_image.specs.declared.making.Within.{Within}
 use Rattle.ada_image.specs.Making.{Making}
 use Rattle.ada_image.specs.ImageOfStatements.{SequenceMaking, alternatives_put, handlers_put, select_alternative_put, select_alternatives_put}
-use Rattle.image_bodies.specs.Parts.{alternative_made, handler_made}
+use Rattle.image_compounds.specs.Parts.{alternative_made, handler_made}
 
 -- what is left of a list is one item, and what is left behind it
 cut : {X : Type 0} (xs : List X) (i : ℕ) (x : X) → i < length xs → x ≡ get_or xs i x → drop i xs ≡ x ∷ drop (i + 1) xs

@@ -1,7 +1,7 @@
 //! Blocks, exception handlers and accept statements (ISO/IEC 8652:2012, 5.6, 11.2, 9.5.2).
 ghost use Rattle.ada_image.specs.Made.{Made};
 ghost use Rattle.ada_image.specs.ImageOfStatements.{block_put, handlers_put, accept_body_put, accept_put};
-ghost use Rattle.image_bodies.specs.Parts.{handler_made};
+ghost use Rattle.image_compounds.specs.Parts.{handler_made};
 
 use crate::branches::inside;
 use crate::making::MakeSequence;
@@ -16,7 +16,7 @@ use std::alloc::Global;
 
 /// A block (5.6).
 #[tactic(auto, unfolding(ada_image::specs::ImageOfStatements::block_put))]
-pub(crate) fn block_put<Q: MakeSequence>(
+pub fn block_put<W, Q: MakeSequence<W>>(
     alloc: Global,
     lists: &mut Lists,
     within: &Within<'_, '_>,
@@ -28,19 +28,17 @@ pub(crate) fn block_put<Q: MakeSequence>(
     let scope = scope_at(within.names.get(), block.place)?;
     let s = reserved(lists)?;
     let place = SequencePlace::AsBody(false);
-    let first = {
-        let inner = in_statement_scope(within, scope, s)?;
-        block
-            .sequence
-            .sequence_put(alloc, lists, place, &inner, None)?
-    };
+    let inner = in_statement_scope(within, scope, s);
+    let first = block
+        .sequence
+        .sequence_put(alloc, lists, place, &inner, None)?;
     let form = StatementForm::Block(ScopeNo(scope));
     scope_action(lists, scope, first, s, form, next)
 }
 
 /// An exception handler (11.2).
 #[tactic(auto, unfolding(crate::specs::Parts::handler_made))]
-fn handler_made<Q: MakeSequence>(
+fn handler_made<W, Q: MakeSequence<W>>(
     alloc: Global,
     lists: &mut Lists,
     within: &Within<'_, '_>,
@@ -50,10 +48,8 @@ fn handler_made<Q: MakeSequence>(
     ensures { Made (handler_made Q.making within.now handler.now next) lists.old lists.new result }
 {
     let choices = handled_made(alloc, within, &handler.exceptions)?;
-    let first = {
-        let inner = in_handler(within)?;
-        inside(alloc, lists, &handler.statements, &inner, next)?
-    };
+    let inner = in_handler(within);
+    let first = inside(alloc, lists, &handler.statements, &inner, next)?;
     Ok(ExceptionHandler {
         choices,
         first: the_action(first),
@@ -62,7 +58,7 @@ fn handler_made<Q: MakeSequence>(
 
 /// The handlers of a sequence, in the order of the text (11.2).
 #[tactic(auto, unfolding(ada_image::specs::ImageOfStatements::handlers_put))]
-pub fn handlers_put<Q: MakeSequence>(
+pub fn handlers_put<W, Q: MakeSequence<W>>(
     alloc: Global,
     lists: &mut Lists,
     within: &Within<'_, '_>,
@@ -81,7 +77,7 @@ pub fn handlers_put<Q: MakeSequence>(
 
 /// The statements of an accept; without any nothing stands in its scope.
 #[tactic(auto, unfolding(ada_image::specs::ImageOfStatements::accept_body_put))]
-fn accept_body_put<Q: MakeSequence>(
+fn accept_body_put<W, Q: MakeSequence<W>>(
     alloc: Global,
     lists: &mut Lists,
     within: &Within<'_, '_>,
@@ -95,7 +91,7 @@ fn accept_body_put<Q: MakeSequence>(
     match body {
         None => Ok(None),
         Some(body) => {
-            let inner = in_statement_scope(within, scope, s)?;
+            let inner = in_statement_scope(within, scope, s);
             let place = SequencePlace::BehindDeclarations(None);
             body.sequence
                 .sequence_put(alloc, lists, place, &inner, None)
@@ -105,7 +101,7 @@ fn accept_body_put<Q: MakeSequence>(
 
 /// An accept statement (9.5.2).
 #[tactic(auto, unfolding(ada_image::specs::ImageOfStatements::accept_put))]
-pub(crate) fn accept_put<Q: MakeSequence>(
+pub fn accept_put<W, Q: MakeSequence<W>>(
     alloc: Global,
     lists: &mut Lists,
     within: &Within<'_, '_>,

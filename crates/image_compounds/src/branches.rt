@@ -2,7 +2,7 @@
 ghost use Rattle.std.specs.Prelude.{◌∷◌};
 ghost use Rattle.ada_image.specs.Made.{Made};
 ghost use Rattle.ada_image.specs.ImageOfStatements.{inside, inside_if, branch_put, elsifs_put, if_put, alternatives_put, case_put};
-ghost use Rattle.image_bodies.specs.Parts.{alternative_made};
+ghost use Rattle.image_compounds.specs.Parts.{alternative_made};
 
 use crate::making::MakeSequence;
 use ada_image::{Lists, SequencePlace, Within};
@@ -16,7 +16,7 @@ use std::alloc::Global;
 
 /// The statements of a compound statement lead to what comes behind it.
 #[tactic(auto, unfolding(ada_image::specs::ImageOfStatements::inside))]
-pub fn inside<Q: MakeSequence>(
+pub fn inside<W, Q: MakeSequence<W>>(
     alloc: Global,
     lists: &mut Lists,
     sequence: &Q,
@@ -30,7 +30,7 @@ pub fn inside<Q: MakeSequence>(
 
 /// The same where such statements stand there.
 #[tactic(auto, unfolding(ada_image::specs::ImageOfStatements::inside_if))]
-pub(crate) fn inside_if<Q: MakeSequence>(
+pub fn inside_if<W, Q: MakeSequence<W>>(
     alloc: Global,
     lists: &mut Lists,
     sequence: &Option<Q>,
@@ -47,7 +47,7 @@ pub(crate) fn inside_if<Q: MakeSequence>(
 
 /// A condition and the statements behind it (5.3).
 #[tactic(auto, unfolding(ada_image::specs::ImageOfStatements::branch_put))]
-fn branch_put<Q: MakeSequence>(
+fn branch_put<W, Q: MakeSequence<W>>(
     alloc: Global,
     lists: &mut Lists,
     within: &Within<'_, '_>,
@@ -65,7 +65,7 @@ fn branch_put<Q: MakeSequence>(
 
 /// The branches behind `elsif`, from the last to the first (5.3).
 #[tactic(auto, using(image_objects::proofs::Drops::nothing_left, image_objects::proofs::Drops::one_before), unfolding(ada_image::specs::ImageOfStatements::elsifs_put))]
-fn elsifs_put<Q: MakeSequence>(
+fn elsifs_put<W, Q: MakeSequence<W>>(
     alloc: Global,
     lists: &mut Lists,
     within: &Within<'_, '_>,
@@ -96,7 +96,7 @@ fn elsifs_put<Q: MakeSequence>(
 
 /// An if statement (5.3).
 #[tactic(auto, unfolding(ada_image::specs::ImageOfStatements::if_put))]
-pub(crate) fn if_put<Q: MakeSequence>(
+pub fn if_put<W, Q: MakeSequence<W>>(
     alloc: Global,
     lists: &mut Lists,
     within: &Within<'_, '_>,
@@ -121,7 +121,7 @@ pub(crate) fn if_put<Q: MakeSequence>(
 
 /// An alternative of a case statement.
 #[tactic(auto, unfolding(crate::specs::Parts::alternative_made))]
-fn alternative_made<Q: MakeSequence>(
+fn alternative_made<W, Q: MakeSequence<W>>(
     alloc: Global,
     lists: &mut Lists,
     within: &Within<'_, '_>,
@@ -141,7 +141,7 @@ fn alternative_made<Q: MakeSequence>(
 
 /// The alternatives of a case statement, in the order of the text.
 #[tactic(auto, unfolding(ada_image::specs::ImageOfStatements::alternatives_put))]
-fn alternatives_put<Q: MakeSequence>(
+fn alternatives_put<W, Q: MakeSequence<W>>(
     alloc: Global,
     lists: &mut Lists,
     within: &Within<'_, '_>,
@@ -164,7 +164,7 @@ fn alternatives_put<Q: MakeSequence>(
 
 /// A case statement (5.4).
 #[tactic(auto, unfolding(ada_image::specs::ImageOfStatements::case_put))]
-pub(crate) fn case_put<Q: MakeSequence>(
+pub fn case_put<W, Q: MakeSequence<W>>(
     alloc: Global,
     lists: &mut Lists,
     within: &Within<'_, '_>,

@@ -1,20 +1,40 @@
 //! Loops (ISO/IEC 8652:2012, 5.5): the body leads back to the loop's statement.
+ghost use Rattle.std.specs.Prelude.{Some};
 ghost use Rattle.ada_image.specs.Made.{Made};
-ghost use Rattle.ada_image.specs.ImageOfStatements.{loop_body, forever_put, while_put, for_put, iteration_put, loop_put};
+ghost use Rattle.ada_image.specs.ImageOfStatements.{inside, loop_body, forever_put, while_put, for_put, iteration_put, loop_put};
 
 use crate::branches::inside;
 use crate::making::MakeSequence;
-use ada_image::{Lists, Within};
+use crate::places::same_place;
+use ada_image::{Lists, OpenLoop, Within};
 use ada_tree::{Expression, Iteration, Loop};
 use ann_base::NoMemory;
-use image_layout::{in_loop, put_at, reserved, the_action};
+use image_layout::{in_loops, loops_inside, put_at, reserved, the_action};
 use image_parts::{for_action, label_of, parameter_of, while_action};
 use profile_machine::{DeclNo, StatementForm, StatementNo};
 use std::alloc::Global;
+use world_tables::List;
+
+/// The statements inside these loops lead to the next turn of the innermost.
+fn inside_loops<'n, W, Q: MakeSequence<W>>(
+    alloc: Global,
+    lists: &mut Lists,
+    statements: &Q,
+    outside: Within<'n, '_>,
+    loops: &'n List<OpenLoop>,
+    turn: StatementNo,
+) -> Result<Option<StatementNo>, NoMemory>
+    ensures { Made
+        (inside Q.making statements.now (record outside.entry { loops = loops.now }) (Some turn)) lists.old
+        lists.new result }
+{
+    let inner = in_loops(&outside, loops);
+    inside(alloc, lists, statements, &inner, Some(turn))
+}
 
 /// The statements of a loop lead to its next turn.
 #[tactic(auto, unfolding(ada_image::specs::ImageOfStatements::loop_body))]
-fn loop_body<Q: MakeSequence>(
+fn loop_body<W, Q: MakeSequence<W>>(
     alloc: Global,
     lists: &mut Lists,
     within: &Within<'_, '_>,
@@ -24,13 +44,14 @@ fn loop_body<Q: MakeSequence>(
 ) -> Result<Option<StatementNo>, NoMemory>
     ensures { Made (loop_body Q.making within.now statement.now s turn) lists.old lists.new result }
 {
-    let within = in_loop(within, label_of(within, statement), s)?;
-    inside(alloc, lists, &statement.statements, &within, Some(turn))
+    let loops = loops_inside(within, label_of(within, statement), s)?;
+    let outside = same_place(within);
+    inside_loops(alloc, lists, &statement.statements, outside, &loops, turn)
 }
 
 /// A loop without an iteration scheme.
 #[tactic(auto, unfolding(ada_image::specs::ImageOfStatements::forever_put))]
-fn forever_put<Q: MakeSequence>(
+fn forever_put<W, Q: MakeSequence<W>>(
     alloc: Global,
     lists: &mut Lists,
     within: &Within<'_, '_>,
@@ -50,7 +71,7 @@ fn forever_put<Q: MakeSequence>(
 
 /// A while loop.
 #[tactic(auto, unfolding(ada_image::specs::ImageOfStatements::while_put))]
-fn while_put<Q: MakeSequence>(
+fn while_put<W, Q: MakeSequence<W>>(
     alloc: Global,
     lists: &mut Lists,
     within: &Within<'_, '_>,
@@ -68,7 +89,7 @@ fn while_put<Q: MakeSequence>(
 
 /// A for loop.
 #[tactic(auto, unfolding(ada_image::specs::ImageOfStatements::for_put))]
-fn for_put<Q: MakeSequence>(
+fn for_put<W, Q: MakeSequence<W>>(
     alloc: Global,
     lists: &mut Lists,
     within: &Within<'_, '_>,
@@ -104,7 +125,7 @@ fn for_put<Q: MakeSequence>(
 
 /// A loop statement (5.5).
 #[tactic(auto, unfolding(ada_image::specs::ImageOfStatements::loop_put, ada_image::specs::ImageOfStatements::iteration_put))]
-pub(crate) fn loop_put<Q: MakeSequence>(
+pub fn loop_put<W, Q: MakeSequence<W>>(
     alloc: Global,
     lists: &mut Lists,
     within: &Within<'_, '_>,

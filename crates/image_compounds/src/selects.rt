@@ -25,7 +25,7 @@ use std::alloc::Global;
 
 /// An alternative of a selective accept, without its guard.
 #[tactic(auto, unfolding(ada_image::specs::ImageOfStatements::alternative_put))]
-fn alternative_put<Q: MakeSequence>(
+fn alternative_put<W, Q: MakeSequence<W>>(
     alloc: Global,
     lists: &mut Lists,
     within: &Within<'_, '_>,
@@ -52,7 +52,7 @@ fn alternative_put<Q: MakeSequence>(
 
 /// An alternative of a selective accept with its guard (9.7.1).
 #[tactic(auto, unfolding(ada_image::specs::ImageOfStatements::select_alternative_put))]
-fn select_alternative_put<Q: MakeSequence>(
+fn select_alternative_put<W, Q: MakeSequence<W>>(
     alloc: Global,
     lists: &mut Lists,
     within: &Within<'_, '_>,
@@ -69,7 +69,7 @@ fn select_alternative_put<Q: MakeSequence>(
 
 /// The alternatives of a selective accept, in the order of the text.
 #[tactic(auto, unfolding(ada_image::specs::ImageOfStatements::select_alternatives_put))]
-fn select_alternatives_put<Q: MakeSequence>(
+fn select_alternatives_put<W, Q: MakeSequence<W>>(
     alloc: Global,
     lists: &mut Lists,
     within: &Within<'_, '_>,
@@ -91,7 +91,7 @@ fn select_alternatives_put<Q: MakeSequence>(
 }
 
 #[tactic(auto, unfolding(ada_image::specs::ImageOfStatements::else_put))]
-fn else_put<Q: MakeSequence>(
+fn else_put<W, Q: MakeSequence<W>>(
     alloc: Global,
     lists: &mut Lists,
     within: &Within<'_, '_>,
@@ -108,7 +108,7 @@ fn else_put<Q: MakeSequence>(
 
 /// A selective accept (9.7.1).
 #[tactic(auto, unfolding(ada_image::specs::ImageOfStatements::selective_accept_put))]
-fn selective_accept_put<Q: MakeSequence>(
+fn selective_accept_put<W, Q: MakeSequence<W>>(
     alloc: Global,
     lists: &mut Lists,
     within: &Within<'_, '_>,
@@ -130,7 +130,7 @@ fn selective_accept_put<Q: MakeSequence>(
 
 /// An entry call that leads to the statements behind it.
 #[tactic(auto, unfolding(ada_image::specs::ImageOfStatements::call_before))]
-fn call_before<Q: MakeSequence>(
+fn call_before<W, Q: MakeSequence<W>>(
     alloc: Global,
     lists: &mut Lists,
     within: &Within<'_, '_>,
@@ -154,7 +154,7 @@ fn call_before<Q: MakeSequence>(
 
 /// A delay that leads to the statements behind it.
 #[tactic(auto, unfolding(ada_image::specs::ImageOfStatements::delay_before))]
-fn delay_before<Q: MakeSequence>(
+fn delay_before<W, Q: MakeSequence<W>>(
     alloc: Global,
     lists: &mut Lists,
     within: &Within<'_, '_>,
@@ -171,7 +171,7 @@ fn delay_before<Q: MakeSequence>(
 
 /// A timed entry call (9.7.2).
 #[tactic(auto, unfolding(ada_image::specs::ImageOfStatements::timed_call_put))]
-fn timed_call_put<Q: MakeSequence>(
+fn timed_call_put<W, Q: MakeSequence<W>>(
     alloc: Global,
     lists: &mut Lists,
     within: &Within<'_, '_>,
@@ -193,7 +193,7 @@ fn timed_call_put<Q: MakeSequence>(
 
 /// A conditional entry call (9.7.3).
 #[tactic(auto, unfolding(ada_image::specs::ImageOfStatements::conditional_call_put))]
-fn conditional_call_put<Q: MakeSequence>(
+fn conditional_call_put<W, Q: MakeSequence<W>>(
     alloc: Global,
     lists: &mut Lists,
     within: &Within<'_, '_>,
@@ -214,7 +214,7 @@ fn conditional_call_put<Q: MakeSequence>(
 }
 
 #[tactic(auto, unfolding(ada_image::specs::ImageOfStatements::trigger_put))]
-fn trigger_put<Q: MakeSequence>(
+fn trigger_put<W, Q: MakeSequence<W>>(
     alloc: Global,
     lists: &mut Lists,
     within: &Within<'_, '_>,
@@ -233,7 +233,7 @@ fn trigger_put<Q: MakeSequence>(
 
 /// An asynchronous select (9.7.4). What is aborted ends inside it.
 #[tactic(auto, unfolding(ada_image::specs::ImageOfStatements::asynchronous_put))]
-fn asynchronous_put<Q: MakeSequence>(
+fn asynchronous_put<W, Q: MakeSequence<W>>(
     alloc: Global,
     lists: &mut Lists,
     within: &Within<'_, '_>,
@@ -253,10 +253,8 @@ fn asynchronous_put<Q: MakeSequence>(
         &select.statements,
         next,
     )?;
-    let abortable = {
-        let inner = in_construct(within, s)?;
-        inside(alloc, lists, &select.abortable, &inner, None)?
-    };
+    let inner = in_construct(within, s);
+    let abortable = inside(alloc, lists, &select.abortable, &inner, None)?;
     let form = StatementForm::AsynchronousSelect {
         trigger: the_action(trigger),
         abortable: the_action(abortable),
@@ -266,7 +264,7 @@ fn asynchronous_put<Q: MakeSequence>(
 
 /// A select statement (9.7).
 #[tactic(auto, unfolding(ada_image::specs::ImageOfStatements::select_put))]
-pub(crate) fn select_put<Q: MakeSequence>(
+pub fn select_put<W, Q: MakeSequence<W>>(
     alloc: Global,
     lists: &mut Lists,
     within: &Within<'_, '_>,

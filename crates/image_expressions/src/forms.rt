@@ -7,19 +7,20 @@ ghost use Rattle.ada_image.specs.ImageOfExpressions.{expression_image, expressio
 use crate::functions::function_made;
 use crate::images::Imaged;
 use crate::literals::literal_value;
-use crate::primaries::{attribute_made, entity_made};
+use crate::primaries::entity_made;
 use crate::sequences::{adding_made, logical_made, multiplying_made, relational_made};
 use crate::sums::{
     one_and_both, one_more, sign_counts, signs_in_addends, signs_in_factors, signs_in_named,
     signs_in_operands,
 };
-use crate::values::{known, no_value, signed_made, unary_made};
+use crate::values::{signed_made, unary_made};
 use ada_entities::{denoted_by, kind_at};
 use ada_image::{Lists, Within};
 use ada_regions::{Denoted, Names, Predefined};
 use ada_tree::{Argument, AttributeDesignator, Expression, ExpressionForm, Name};
 use ann_base::NoMemory;
 use image_layout::{added, first_argument, highest_operator};
+use image_names::{attribute_made, known, no_value};
 use profile_machine::{ExprNo, Value};
 
 /// What a predefined unit declares, as a value.

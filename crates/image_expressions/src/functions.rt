@@ -6,13 +6,12 @@ ghost use Rattle.ada_image.specs.Made.{Made};
 ghost use Rattle.ada_image.specs.ImageOfExpressions.{actuals_for, image_or_none, optional_made, span_made, name_in, thing_in, images_for, function_made};
 
 use crate::images::Imaged;
-use crate::values::no_value;
 use ada_image::{Lists, Within};
 use ada_regions::Operation;
 use ada_tree::Argument;
 use ann_base::{Moment, NoMemory};
 use image_layout::{argument_from, value_put};
-use image_names::thing_in;
+use image_names::{no_value, thing_in};
 use profile_machine::{DeclNo, ExprNo, Expression};
 
 /// An actual; where it is missing, what no accepted source has there.

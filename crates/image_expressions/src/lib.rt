@@ -15,9 +15,8 @@ mod variables;
 
 pub use forms::{expression_made, named, signs_if, signs_in};
 pub use image_names::{
-    kind_named, named_before, no_declaration_no, object_before, object_named, object_number,
-    thing_in, thing_named,
+    kind_named, known, named_before, no_declaration_no, no_value, object_before, object_named,
+    object_number, thing_in, thing_named,
 };
 pub use images::Imaged;
-pub use values::{known, no_value};
 pub use variables::variable_made;

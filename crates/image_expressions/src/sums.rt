@@ -1,16 +1,17 @@
 //! The number of the operator signs and calls of predefined functions in expressions (this
 //! profile's costs). One of more than 32 bits is answered as want of memory.
-ghost use Rattle.std.specs.Prelude.{◌≡◌, ◌+◌, cond, suc, IfOk, option_copied, option_map};
+ghost use Rattle.std.specs.Prelude.{◌≡◌, ◌+◌, suc, IfOk, option_copied, option_map};
 ghost use Rattle.ada_regions.specs.Names.{denoted_by};
 ghost use Rattle.ada_regions.specs.Statics.{literal_value};
-ghost use Rattle.ada_image.specs.ImageOfExpressions.{sign_counts, calls_predefined, is_operation, call_counts, signs_in_arguments, signs_in_operands, signs_in_addends, signs_in_factors};
+ghost use Rattle.ada_image.specs.ImageOfExpressions.{sign_counts, call_counts, signs_in_arguments, signs_in_operands, signs_in_addends, signs_in_factors};
 
 use crate::images::Imaged;
 use ada_entities::denoted_by;
-use ada_regions::{Denoted, Names, Predefined};
+use ada_regions::Names;
 use ada_tree::{Addend, Argument, AttributeDesignator, Multiplied, Name, Operand, Sign};
 use ann_base::NoMemory;
 use image_layout::added;
+use image_names::called_counts;
 
 /// One more than two numbers of signs together.
 pub(crate) fn one_and_both(first: u32, second: u32) -> Result<u32, NoMemory>
@@ -38,35 +39,6 @@ pub(crate) fn sign_counts(sign: Sign, literal: Option<&[u8]>) -> u32
             Some(_) => 0,
         },
     }
-}
-
-fn is_operation(item: Predefined) -> bool
-    ensures { result ≡ is_operation item }
-{
-    match item {
-        Predefined::Operation(_) => true,
-        _ => false,
-    }
-}
-
-/// Whether a name that denotes this calls a predefined function.
-#[tactic(auto, unfolding(ada_image::specs::ImageOfExpressions::calls_predefined))]
-fn calls_predefined(denoted: Option<Denoted>) -> bool
-    ensures { result ≡ calls_predefined denoted }
-{
-    match denoted {
-        None => false,
-        Some(Denoted::Entity(_)) => false,
-        Some(Denoted::Unit(_)) => false,
-        Some(Denoted::Item { item, .. }) => is_operation(item),
-    }
-}
-
-/// What a name without an attribute counts itself.
-fn called_counts(denoted: Option<Denoted>) -> u32
-    ensures { result ≡ cond (calls_predefined denoted) 1 0 }
-{
-    if calls_predefined(denoted) { 1 } else { 0 }
 }
 
 /// Those of arguments.

@@ -1,7 +1,7 @@
-//! Values, and operators with one operand or two (ISO/IEC 8652:2012, 4.5).
+//! Operators with one operand or two (ISO/IEC 8652:2012, 4.5).
 ghost use Rattle.ada_tree.specs.declared.operators.Sign.TheVariants as sign;
 ghost use Rattle.ada_image.specs.Made.{Made};
-ghost use Rattle.ada_image.specs.ImageOfExpressions.{known, no_value, unary_made, binary_put, signed_made};
+ghost use Rattle.ada_image.specs.ImageOfExpressions.{unary_made, binary_put, signed_made};
 
 use crate::images::Imaged;
 use crate::literals::negative_value;
@@ -9,21 +9,8 @@ use ada_image::{Lists, Within};
 use ada_tree::Sign;
 use ann_base::NoMemory;
 use image_layout::value_put;
+use image_names::known;
 use profile_machine::{BinaryOperator, ExprNo, Expression, UnaryOperator, Value};
-
-/// A value that the text gives.
-pub fn known(lists: &mut Lists, value: Value) -> Result<ExprNo, NoMemory>
-    ensures { Made (known value) lists.old lists.new result }
-{
-    value_put(lists, Expression::Known(value))
-}
-
-/// What no accepted source has there.
-pub fn no_value(lists: &mut Lists) -> Result<ExprNo, NoMemory>
-    ensures { Made no_value lists.old lists.new result }
-{
-    known(lists, Value::Whole(0))
-}
 
 /// An operator before its operand.
 #[tactic(auto, unfolding(ada_image::specs::ImageOfExpressions::unary_made))]

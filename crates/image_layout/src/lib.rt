@@ -35,5 +35,6 @@ pub use subtypes::{
 };
 pub use widths::{added, cells_of_declaration, width_of_object, width_of_subtype};
 pub use within::{
-    in_body_of, in_construct, in_handler, in_loop, in_scope, in_unit, nothing_made, outermost,
+    in_body_of, in_construct, in_handler, in_loops, in_scope, in_units, loops_inside, nothing_made,
+    outermost, units_inside,
 };

@@ -1,5 +1,5 @@
 //! Statements with scopes: blocks and accept statements (ISO/IEC 8652:2012, 5.6, 9.5.2).
-ghost use Rattle.std.specs.Prelude.{◌≡◌, IfOk};
+ghost use Rattle.std.specs.Prelude.{◌≡◌};
 ghost use Rattle.ada_image.specs.Made.{Made};
 ghost use Rattle.ada_image.specs.Making.{in_construct, in_scope};
 ghost use Rattle.image_parts.specs.Parts.{scope_action};
@@ -14,11 +14,10 @@ pub fn in_statement_scope<'n, 't>(
     within: &Within<'n, 't>,
     scope: u32,
     s: StatementNo,
-) -> Result<Within<'n, 't>, NoMemory>
-    ensures { IfOk result (λ inside. inside ≡ in_construct s (in_scope scope within.now)) }
+) -> Within<'n, 't>
+    ensures { result ≡ in_construct s (in_scope scope within.now) }
 {
-    let outer = in_scope(within, scope)?;
-    in_construct(&outer, s)
+    in_construct(&in_scope(within, scope), s)
 }
 
 /// A statement with a scope, which has its first action.

@@ -2,12 +2,12 @@
 ghost use Rattle.std.specs.Prelude.{◌≡◌, IfOk};
 ghost use Rattle.ada_image.specs.Made.{Made};
 ghost use Rattle.ada_regions.specs.PredefinedUnits.{default_priority};
-ghost use Rattle.ada_image.specs.ImageOfUnits.{all_made, main_of, program_with, program_from};
+ghost use Rattle.ada_image.specs.ImageOfUnits.{all_made, outermost, main_of, program_with, program_from};
 
 use crate::declarations::declarations_made;
 use crate::elaboration::actions_made;
 use ada_entities::copy;
-use ada_image::{Lists, MadeLists, Within};
+use ada_image::{Lists, MadeLists, OpenLoop, Within};
 use ada_regions::Names;
 use ada_tree::Unit;
 use ann_base::{Level, NoMemory};
@@ -42,6 +42,22 @@ fn all_made(
         entries,
         declarations,
     })
+}
+
+/// The same outside all bodies, but for these loops and units.
+fn all_made_in<'n>(
+    alloc: Global,
+    lists: &mut Lists,
+    unit: &Unit,
+    names: &'n Names<'_>,
+    outside: &'n (List<OpenLoop>, List<u32>),
+) -> Result<MadeLists, NoMemory>
+    ensures { Made
+        (all_made unit.now (record (outermost names.now) { loops = outside.now.0; units = outside.now.1 }))
+        lists.old lists.new result }
+{
+    let within = outermost(names, &outside.0, &outside.1);
+    all_made(alloc, lists, unit, &within)
 }
 
 /// System.Default_Priority, where the last Priority is given (D.1).
@@ -128,8 +144,8 @@ fn program_with(
 pub fn program_from(alloc: Global, names: &Names<'_>, unit: &Unit) -> Result<Image, NoMemory>
     ensures { IfOk result (λ program. program ≡ program_from names.now unit.now) }
 {
-    let within = outermost(alloc, names);
+    let outside = (List::new(alloc), List::new(alloc));
     let mut lists = nothing_made(alloc);
-    let made = all_made(alloc, &mut lists, unit, &within)?;
+    let made = all_made_in(alloc, &mut lists, unit, &*names, &outside)?;
     program_with(alloc, names, unit, lists, made)
 }

@@ -112,6 +112,7 @@ fn loop_with_label<'w>(within: &'w Within<'_, '_>, entity: Option<u32>) -> Optio
 {
     within
         .loops
+        .get()
         .iter()
         .find(|around| has_label(entity, **around))
 }
@@ -122,7 +123,7 @@ fn loop_left<'w>(within: &'w Within<'_, '_>, name: &Option<Identifier>) -> Optio
     ensures { option_copied result ≡ loop_left within.now name.now }
 {
     match name {
-        None => within.loops.front(),
+        None => within.loops.get().front(),
         Some(name) => loop_with_label(within, entity_denoted(within.names.get(), name.place)),
     }
 }

@@ -4,8 +4,8 @@ ghost use Rattle.ada_regions.specs.Shown.{occurrence_shown};
 ghost use Rattle.ada_legality.specs.Units.{indexes_of, known_with, type_between};
 ghost use Rattle.legality_contexts.specs.Along.{index_put, indexes_along};
 
-use ada_image::NamesOf;
-use ada_legality::{InForce, IndexesOf, Known, OccurrencesOf};
+use ada_image::{ListOf, NamesOf};
+use ada_legality::{InForce, Known, OccurrencesOf};
 use ada_regions::{AdaType, Names, Occurrence, Occurrences};
 use ada_tree::Expression;
 use ann_base::NoMemory;
@@ -29,7 +29,7 @@ pub fn known_with<'n, 't>(
         names: NamesOf::new(names),
         around: List::new(alloc),
         loops: List::new(alloc),
-        indexes: IndexesOf::new(indexes),
+        indexes: ListOf::new(indexes),
         in_force,
         occurrences: OccurrencesOf::new(occurrences),
     }

@@ -2,8 +2,8 @@
 ghost use Rattle.std.specs.Prelude.{◌≡◌, ◌∷◌, IfOk};
 ghost use Rattle.ada_legality.specs.SimpleStatements.{with_around};
 
-use ada_image::NamesOf;
-use ada_legality::{Around, IndexesOf, Known, LoopParameter, OccurrencesOf};
+use ada_image::{ListOf, NamesOf};
+use ada_legality::{Around, Known, LoopParameter, OccurrencesOf};
 use ann_base::NoMemory;
 
 /// The same again.
@@ -14,7 +14,7 @@ pub fn copy_of<'n, 't>(known: &Known<'n, 't>) -> Result<Known<'n, 't>, NoMemory>
         names: NamesOf::new(known.names.get()),
         around: known.around.clone()?,
         loops: known.loops.clone()?,
-        indexes: IndexesOf::new(known.indexes.get()),
+        indexes: ListOf::new(known.indexes.get()),
         in_force: known.in_force,
         occurrences: OccurrencesOf::new(known.occurrences.get()),
     })

@@ -1,6 +1,6 @@
 use Rattle.ada_image.specs.ImageOfStatements.{handlers_put}
-use Rattle.image_bodies.proofs.OneByOne.{handlers_further}
-use Rattle.image_bodies.proofs.blocks.handlers_put.Goals as goal
+use Rattle.image_compounds.proofs.OneByOne.{handlers_further}
+use Rattle.image_compounds.proofs.blocks.handlers_put.Goals as goal
 
 pub loop-handler-preserved : goal.loop-handler-preserved
 loop-handler-preserved g c =

@@ -1,6 +1,6 @@
 use Rattle.std.proofs.Common.{◌≡◌, ◌++◌, drop}
 use Rattle.ada_image.specs.ImageOfStatements.{handlers_put}
-use Rattle.image_bodies.proofs.blocks.handlers_put.Given as goal
+use Rattle.image_compounds.proofs.blocks.handlers_put.Given as goal
 
 -- the handlers so far, and those to come, are what all give
 abbrev pub invariant-loop-handler : goal.invariant-loop-handler

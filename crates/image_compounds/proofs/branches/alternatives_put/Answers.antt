@@ -1,7 +1,7 @@
 use Rattle.std.proofs.Common.{◌∷◌}
 use Rattle.ada_image.specs.ImageOfStatements.{alternatives_put}
-use Rattle.image_bodies.proofs.OneByOne.{alternatives_begun, alternatives_further}
-use Rattle.image_bodies.proofs.branches.alternatives_put.Goals as goal
+use Rattle.image_compounds.proofs.OneByOne.{alternatives_begun, alternatives_further}
+use Rattle.image_compounds.proofs.branches.alternatives_put.Goals as goal
 
 pub loop-alternative-init : goal.loop-alternative-init
 loop-alternative-init g c =

@@ -1,6 +1,6 @@
 use Rattle.std.proofs.Common.{◌≡◌, ◌∷◌, ◌++◌, drop}
 use Rattle.ada_image.specs.ImageOfStatements.{alternatives_put}
-use Rattle.image_bodies.proofs.branches.alternatives_put.Given as goal
+use Rattle.image_compounds.proofs.branches.alternatives_put.Given as goal
 
 -- the alternatives so far, and those to come, are what all give
 abbrev pub invariant-loop-alternative : goal.invariant-loop-alternative

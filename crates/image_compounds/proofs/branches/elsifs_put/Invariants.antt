@@ -1,6 +1,6 @@
 use Rattle.std.proofs.Common.{◌≡◌, ◌≤◌, drop, length}
 use Rattle.ada_image.specs.ImageOfStatements.{elsifs_put}
-use Rattle.image_bodies.proofs.branches.elsifs_put.Given as goal
+use Rattle.image_compounds.proofs.branches.elsifs_put.Given as goal
 
 -- the branches from the place on are made
 abbrev pub invariant-loop-place : goal.invariant-loop-place

@@ -1,7 +1,7 @@
 use Rattle.std.proofs.Common.{◌∷◌}
 use Rattle.ada_image.specs.ImageOfStatements.{select_alternatives_put}
-use Rattle.image_bodies.proofs.OneByOne.{select_alternatives_begun, select_alternatives_further}
-use Rattle.image_bodies.proofs.selects.select_alternatives_put.Goals as goal
+use Rattle.image_compounds.proofs.OneByOne.{select_alternatives_begun, select_alternatives_further}
+use Rattle.image_compounds.proofs.selects.select_alternatives_put.Goals as goal
 
 pub loop-alternative-init : goal.loop-alternative-init
 loop-alternative-init g c =

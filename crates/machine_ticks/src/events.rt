@@ -16,7 +16,7 @@ use machine_program::{Program, declaration_of, entry_of, main_procedure, subprog
 use profile_machine::world::{HandlerOf, Line, MeetingEnd, Owner};
 use profile_machine::{DeclNo, EntryNo};
 use std::alloc::Global;
-use trace_reading::{exception_of, name_of, text_of};
+use trace_fields::{exception_of, name_of, text_of};
 use trace_text::{Created, Ended, EntryName, Event, Finished, Who};
 use world_tables::List;
 

@@ -27,10 +27,10 @@ use Rattle.trace_text.specs.declared.words.Word.TheVariants as word
 use Rattle.trace_reading.specs.declared.read.Lead.TheVariants as lead
 use Rattle.trace_text.specs.Text.{IsPrintable, IsWithin, IsWhoWithin, IsPrintableLine, words_of, spaced, line_text, task_text, object_text, who_text, queue_end_text, waits_text, mode_text, leaves_text, entry_text, finished_text, deadline_words}
 use Rattle.trace_text.specs.Words.{word_text}
-use Rattle.trace_reading.specs.Spelt.{word_in, waits_in, mode_in, leaves_in, queue_end_in}
-use Rattle.trace_reading.specs.Reading.{field, short_in, long_in, moment_in, value_in, task_in, object_in, name_in, text_in, exception_in, finished_in, entry_in, handler_in}
+use Rattle.trace_fields.specs.Spelt.{word_in, waits_in, mode_in, leaves_in, queue_end_in}
+use Rattle.trace_fields.specs.Reading.{field, short_in, long_in, moment_in, value_in, task_in, object_in, name_in, text_in, exception_in, finished_in, entry_in, handler_in}
 use Rattle.trace_reading.specs.Lines.{lead_in, created_in, who_in, task_line_in, agent_line_in, object_line_in, event_in, moment_and_event_in, line_in}
-use Rattle.trace_reading.proofs.FieldsAgain.{has_no, begins, front_again, rest_again, field_again, last_again, decimal_none, number_again, short_again, long_again, moment_again, value_again, task_again, object_again, task_none, object_none, name_again, text_again, exception_again, finished_again, name_none, entry_again, handler_again, entry_none, deadline_again, deadline_begins}
+use Rattle.trace_fields.proofs.FieldsAgain.{has_no, begins, front_again, rest_again, field_again, last_again, decimal_none, number_again, short_again, long_again, moment_again, value_again, task_again, object_again, task_none, object_none, name_again, text_again, exception_again, finished_again, name_none, entry_again, handler_again, entry_none, deadline_again, deadline_begins}
 
 pub queue_end_again : (end : QueueEnd) → queue_end_in (queue_end_text end) ≡ Some end
 queue_end_again Head = refl

@@ -22,10 +22,10 @@ use Rattle.trace_text.specs.Text.{queue_end_text, waits_text, mode_text, leaves_
 use Rattle.trace_text.specs.Words.{word_text, all_words}
 use Rattle.trace_reading.specs.declared.read.Lead.TheVariants as lead
 use Rattle.trace_reading.specs.declared.read.Lead.{Lead}
-use Rattle.trace_reading.specs.Spelt.{word_in, waits_in, mode_in, leaves_in, queue_end_in}
-use Rattle.trace_reading.specs.Reading.{◌>>=◌, or_else, front_of, rest_of, word_at, field, last_field, ended, number_in, short_in, long_in, moment_in, value_in, task_in, object_in, name_in, text_in, exception_in, finished_in, entry_in, handler_in, deadline_in}
+use Rattle.trace_fields.specs.Spelt.{word_in, waits_in, mode_in, leaves_in, queue_end_in}
+use Rattle.trace_fields.specs.Reading.{◌>>=◌, or_else, front_of, rest_of, word_at, field, last_field, ended, number_in, short_in, long_in, moment_in, value_in, task_in, object_in, name_in, text_in, exception_in, finished_in, entry_in, handler_in, deadline_in}
 use Rattle.trace_reading.specs.Lines.{agent_in, lead_in, created_in, ready_in, release_in, end_in, who_in, task_line_in, agent_line_in, object_line_in, bare_in, led_in, event_in, moment_and_event_in, line_in}
-use Rattle.trace_reading.proofs.FieldsShort.{IsShort, weaker, then_some, if_some, or_some, split_length, word_some, field_some, last_short, ended_short, spelt_short, short_short, long_short, tick_short, moment_short, value_short, task_short, object_short, name_short, text_short, exception_short, equal_short, finished_short, entry_short, handler_short, deadline_short}
+use Rattle.trace_fields.proofs.FieldsShort.{IsShort, weaker, then_some, if_some, or_some, split_length, word_some, field_some, last_short, ended_short, spelt_short, short_short, long_short, tick_short, moment_short, value_short, task_short, object_short, name_short, text_short, exception_short, equal_short, finished_short, entry_short, handler_short, deadline_short}
 
 word_short : IsShort 10 word_in
 word_short = spelt_short 10 word_text all_words refl

@@ -32,8 +32,8 @@ use Rattle.trace_text.specs.declared.events.Finished.{Finished}
 use Rattle.trace_text.specs.declared.events.Finished.TheVariants as finished
 use Rattle.trace_text.specs.Text.{IsEntryWithin, IsEntryPrintable, IsFinishedPrintable, IsDeadlineWithin, ArePrintable, text_of, is_name_from, is_text_byte}
 use Rattle.trace_reading.specs.Lines.{line_in}
-use Rattle.trace_reading.specs.Reading.{front_of, rest_of}
-use Rattle.trace_reading.proofs.FieldsAgain.{has_no, has_no-append, front_again, rest_again, decimal_none, task_none, object_none}
+use Rattle.trace_fields.specs.Reading.{front_of, rest_of}
+use Rattle.trace_fields.proofs.FieldsAgain.{has_no, has_no-append, front_again, rest_again, decimal_none, task_none, object_none}
 use Rattle.trace_reading.proofs.LinesAgain.{line_again}
 
 -- a line that is read is read as one tick and one event

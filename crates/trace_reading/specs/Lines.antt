@@ -16,8 +16,8 @@ use Rattle.trace_reading.specs.declared.read.Lead.{Lead}
 use Rattle.trace_reading.specs.declared.read.Lead.TheVariants as lead
 use Rattle.trace_text.specs.Text.{task_text, object_text}
 use Rattle.trace_text.specs.Words.{word_text}
-use Rattle.trace_reading.specs.Spelt.{word_in, waits_in, mode_in, leaves_in, queue_end_in}
-use Rattle.trace_reading.specs.Reading.{◌>>=◌, or_else, front_of, rest_of, field, last_field, ended, number_in, short_in, long_in, moment_in, value_in, task_in, object_in, name_in, text_in, exception_in, finished_in, entry_in, handler_in, deadline_in}
+use Rattle.trace_fields.specs.Spelt.{word_in, waits_in, mode_in, leaves_in, queue_end_in}
+use Rattle.trace_fields.specs.Reading.{◌>>=◌, or_else, front_of, rest_of, field, last_field, ended, number_in, short_in, long_in, moment_in, value_in, task_in, object_in, name_in, text_in, exception_in, finished_in, entry_in, handler_in, deadline_in}
 
 abbrev pub lead_text : Lead → List ℕ
 lead_text (lead.Task task) = task_text task

@@ -6,13 +6,13 @@ ghost use Rattle.trace_text.specs.Words.{word_text};
 ghost use Rattle.trace_reading.specs.Lines.{lead_text, lead_in, created_in, ready_in, call_in, finish_in, enter_in, held_in, leave_in, init_in, release_in, port_in, end_in, who_in, task_line_in, agent_line_in, object_line_in, bare_in, led_in, event_in, moment_and_event_in, line_in};
 ghost use Rattle.trace_text.specs.declared.events.Event.{Event};
 
-use crate::fields::{
-    deadline_of, ended, entry_at, event_word_at, exception_of, finished_of, handler_of, last,
-    long_at, long_of, moment_of, name_at, name_of, number_of, object_at, object_of, queue_end_at,
-    short_at, short_of, split_at_mark, task_of, text_of, value_of, word_at,
-};
-use crate::words::{leaves_of, mode_of, waits_of, word_of};
 use ann_base::{CallNo, ObjectNo, RegionNo, TaskNo};
+use trace_fields::{
+    deadline_of, ended, entry_at, event_word_at, finished_of, handler_of, last, last_exception,
+    last_long, last_mode, last_moment, last_object, last_short, last_task, last_text, last_waits,
+    leaves_of, long_at, name_at, name_of, number_of, object_at, object_of, queue_end_at, short_at,
+    split_at_mark, task_of, value_of, word_at, word_of,
+};
 use trace_text::{Created, Ended, Event, Who, Word};
 
 /// No moment and printable event have this line.
@@ -35,7 +35,7 @@ fn created(what: Created, bytes: &[u8]) -> Option<Event>
     ensures printable { IfSome result IsPrintable }
 {
     let (name, rest) = name_at(bytes)?;
-    let level = short_of(last(rest)?)?;
+    let level = last_short(rest)?;
     Some(Event::New { what, name, level })
 }
 
@@ -66,7 +66,7 @@ fn call(task: TaskNo, bytes: &[u8]) -> Option<Event>
 {
     let (call, rest) = long_at(bytes)?;
     let (entry, rest) = entry_at(rest)?;
-    let priority = short_of(last(rest)?)?;
+    let priority = last_short(rest)?;
     Some(Event::Call {
         task,
         call: CallNo(call),
@@ -99,7 +99,7 @@ fn enter(who: Who, bytes: &[u8]) -> Option<Event>
     ensures printable { IfSome result IsPrintable }
 {
     let (object, rest) = object_at(bytes)?;
-    let mode = mode_of(last(rest)?)?;
+    let mode = last_mode(rest)?;
     Some(Event::Enter { who, object, mode })
 }
 
@@ -111,7 +111,7 @@ fn held(who: Who, bytes: &[u8]) -> Option<Event>
     ensures printable { IfSome result IsPrintable }
 {
     let (object, rest) = object_at(bytes)?;
-    let mode = mode_of(last(rest)?)?;
+    let mode = last_mode(rest)?;
     Some(Event::Held { who, object, mode })
 }
 
@@ -183,7 +183,7 @@ fn end(bytes: &[u8]) -> Option<Event>
 {
     let (why, rest) = word_at(bytes)?;
     if why == b"exception".as_slice() {
-        let name = exception_of(last(rest)?)?;
+        let name = last_exception(rest)?;
         return Some(Event::End {
             why: Ended::Exception(name),
         });
@@ -215,7 +215,7 @@ fn who_line(who: Who, word: Word, bytes: &[u8]) -> Option<Event>
         Word::Ready => ready(who, bytes),
         Word::Block => Some(Event::Block {
             who,
-            waits: waits_of(last(bytes)?)?,
+            waits: last_waits(bytes)?,
         }),
         Word::Run => {
             ended(bytes)?;
@@ -223,36 +223,36 @@ fn who_line(who: Who, word: Word, bytes: &[u8]) -> Option<Event>
         }
         Word::Raise => Some(Event::Raise {
             who,
-            exception: exception_of(last(bytes)?)?,
+            exception: last_exception(bytes)?,
         }),
         Word::Put => Some(Event::Put {
             who,
-            text: text_of(last(bytes)?)?,
+            text: last_text(bytes)?,
         }),
         Word::Start => Some(Event::Start {
             who,
-            call: CallNo(long_of(last(bytes)?)?),
+            call: CallNo(last_long(bytes)?),
         }),
         Word::Finish => finish(who, bytes),
         Word::Enter => enter(who, bytes),
         Word::Exit => Some(Event::Exit {
             who,
-            object: object_of(last(bytes)?)?,
+            object: last_object(bytes)?,
         }),
         Word::Held => held(who, bytes),
         Word::Leave => leave(who, bytes),
         Word::Init => init(who, bytes),
         Word::Final => Some(Event::Final {
             who,
-            object: long_of(last(bytes)?)?,
+            object: last_long(bytes)?,
         }),
         Word::Left => Some(Event::Left {
             who,
-            region: RegionNo(long_of(last(bytes)?)?),
+            region: RegionNo(last_long(bytes)?),
         }),
         Word::Replace => Some(Event::Replace {
             who,
-            object: long_of(last(bytes)?)?,
+            object: last_long(bytes)?,
         }),
         _ => None,
     }
@@ -270,11 +270,11 @@ fn task_line(task: TaskNo, word: Word, bytes: &[u8]) -> Option<Event>
         Word::New => created(Created::Task(task), bytes),
         Word::Base => Some(Event::Base {
             task,
-            level: short_of(last(bytes)?)?,
+            level: last_short(bytes)?,
         }),
         Word::Deadline => Some(Event::Deadline {
             task,
-            deadline: moment_of(last(bytes)?)?,
+            deadline: last_moment(bytes)?,
         }),
         Word::Quantum => {
             ended(bytes)?;
@@ -287,15 +287,15 @@ fn task_line(task: TaskNo, word: Word, bytes: &[u8]) -> Option<Event>
         Word::Call => call(task, bytes),
         Word::Cancel => Some(Event::Cancel {
             task,
-            call: CallNo(long_of(last(bytes)?)?),
+            call: CallNo(last_long(bytes)?),
         }),
         Word::Gone => Some(Event::Gone {
             task,
-            call: CallNo(long_of(last(bytes)?)?),
+            call: CallNo(last_long(bytes)?),
         }),
         Word::Abort => Some(Event::Abort {
             task,
-            victim: task_of(last(bytes)?)?,
+            victim: last_task(bytes)?,
         }),
         Word::Trigger => {
             ended(bytes)?;
@@ -315,10 +315,10 @@ fn agent_line(word: Word, bytes: &[u8]) -> Option<Event>
 {
     match word {
         Word::Serve => Some(Event::Serve {
-            release: long_of(last(bytes)?)?,
+            release: last_long(bytes)?,
         }),
         Word::Served => Some(Event::Served {
-            release: long_of(last(bytes)?)?,
+            release: last_long(bytes)?,
         }),
         _ => who_line(Who::Agent, word, bytes),
     }
@@ -352,17 +352,17 @@ fn bare_line(word: Word, bytes: &[u8]) -> Option<Event>
         }
         Word::Release => release(bytes),
         Word::Interrupt => Some(Event::Interrupt {
-            number: short_of(last(bytes)?)?,
+            number: last_short(bytes)?,
         }),
         Word::Port => port(bytes),
         Word::Mask => Some(Event::Mask {
-            number: short_of(last(bytes)?)?,
+            number: last_short(bytes)?,
         }),
         Word::Unmask => Some(Event::Unmask {
-            number: short_of(last(bytes)?)?,
+            number: last_short(bytes)?,
         }),
         Word::Masked => Some(Event::Masked {
-            number: short_of(last(bytes)?)?,
+            number: last_short(bytes)?,
         }),
         Word::End => end(bytes),
         _ => None,

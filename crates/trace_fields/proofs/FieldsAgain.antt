@@ -17,8 +17,8 @@ use Rattle.trace_text.specs.declared.events.EntryName.TheVariants.{OfTask, OfObj
 use Rattle.trace_text.specs.declared.events.Finished.{Finished}
 use Rattle.trace_text.specs.declared.events.Finished.TheVariants as finished
 use Rattle.trace_text.specs.Text.{IsName, IsExceptionName, IsPutText, IsEntryPrintable, IsEntryWithin, IsFinishedPrintable, IsFinishedWithin, IsDeadlineWithin, is_name_from, task_text, object_text, entry_text, finished_text, deadline_words, spaced}
-use Rattle.trace_reading.specs.Reading.{◌>>=◌, or_else, place_of, front_of, rest_of, field, last_field, is_digit, is_number, number_in, signed_in, short_in, long_in, moment_in, value_in, task_in, object_in, name_in, text_in, exception_in, finished_in, part_in, entry_in, handler_in, deadline_in}
-use Rattle.trace_reading.proofs.Numbers.{numerals}
+use Rattle.trace_fields.specs.Reading.{◌>>=◌, or_else, place_of, front_of, rest_of, field, last_field, is_digit, is_number, number_in, signed_in, short_in, long_in, moment_in, value_in, task_in, object_in, name_in, text_in, exception_in, finished_in, part_in, entry_in, handler_in, deadline_in}
+use Rattle.trace_fields.proofs.Numbers.{numerals}
 
 -- no such byte
 abbrev pub has_no : ℕ → List ℕ → Bool

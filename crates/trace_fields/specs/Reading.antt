@@ -1,4 +1,4 @@
--- How a line is read: a word is what stands up to the next space, and each field of a line is read from its word.
+-- How the fields of a line are read: a word is what stands up to the next space, and each field is read from its word.
 use Rattle.std.specs.Prelude.{◌≡◌, ℕ, ◌+◌, ℤ, pos, negsuc, zero, suc, Bool, false, not, ◌&&◌, ◌||◌, ◌==◌, if◌then◌else◌, nat_le, List, [], ◌∷◌, Option, Some, None, length, take, drop, slice_index, codes}
 use Rattle.std.specs.List.{list_all}
 use Rattle.std.specs.Str.{bytes_eq}

@@ -10,9 +10,9 @@ use Rattle.std.proofs.lemmas.Slice.Eq.{bytes_eq-Decides}
 use Rattle.trace_text.specs.declared.events.EntryName.TheVariants.{OfTask, OfObject}
 use Rattle.trace_text.specs.declared.events.Finished.TheVariants as finished
 use Rattle.trace_text.specs.Text.{is_name_from, is_text_byte}
-use Rattle.trace_reading.specs.Spelt.{spelt_in}
-use Rattle.trace_reading.specs.Reading.{◌>>=◌, or_else, place_of, front_of, rest_of, behind, word_at, field, last_field, ended, is_number, number_in, negative_of, signed_in, short_in, long_in, moment_in, value_in, task_in, object_in, name_in, text_in, exception_in, finished_in, part_in, entry_in, handler_in, deadline_in}
-use Rattle.trace_reading.proofs.Numbers.{decimal-digits}
+use Rattle.trace_fields.specs.Spelt.{spelt_in}
+use Rattle.trace_fields.specs.Reading.{◌>>=◌, or_else, place_of, front_of, rest_of, behind, word_at, field, last_field, ended, is_number, number_in, negative_of, signed_in, short_in, long_in, moment_in, value_in, task_in, object_in, name_in, text_in, exception_in, finished_in, part_in, entry_in, handler_in, deadline_in}
+use Rattle.trace_fields.proofs.Numbers.{decimal-digits}
 
 -- what is read has at most so many bytes
 abbrev pub IsShort : {X : Type 0} → ℕ → (List ℕ → Option X) → Type 0

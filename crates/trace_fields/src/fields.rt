@@ -3,14 +3,14 @@ ghost use Rattle.std.specs.Prelude.{◌≡◌, ◌+◌, ◌<◌, ◌≤◌, ◌^
 ghost use Rattle.std.specs.List.{list_all};
 ghost use Rattle.std.specs.Str.Parse.{digits_value};
 ghost use Rattle.std.specs.Fmt.{signed_decimal};
-ghost use Rattle.trace_text.specs.Text.{IsName, IsExceptionName, IsPutText, IsEntryPrintable, IsFinishedPrintable, is_name_from, is_name_byte, is_text_byte, task_text, object_text, entry_text, finished_text, queue_end_text, deadline_words, spaced};
+ghost use Rattle.trace_text.specs.Text.{IsName, IsExceptionName, IsPutText, IsEntryPrintable, IsFinishedPrintable, is_name_from, is_name_byte, is_text_byte, task_text, object_text, entry_text, finished_text, queue_end_text, waits_text, mode_text, deadline_words, spaced};
 ghost use Rattle.trace_text.specs.Words.{word_text};
-ghost use Rattle.trace_reading.specs.Spelt.{queue_end_in, word_in};
-ghost use Rattle.trace_reading.specs.Reading.{ReadsAs, place_of, front_of, rest_of, behind, word_at, field, ended, is_digit, is_number, number_in, negative_of, signed_in, short_in, long_in, moment_in, value_in, task_in, object_in, name_in, text_in, exception_in, finished_in, part_in, entry_in, handler_in, deadline_in};
+ghost use Rattle.trace_fields.specs.Spelt.{queue_end_in, word_in, waits_in, mode_in};
+ghost use Rattle.trace_fields.specs.Reading.{ReadsAs, place_of, front_of, rest_of, behind, word_at, field, last_field, ended, is_digit, is_number, number_in, negative_of, signed_in, short_in, long_in, moment_in, value_in, task_in, object_in, name_in, text_in, exception_in, finished_in, part_in, entry_in, handler_in, deadline_in};
 
-use crate::words::{queue_end_of, word_of};
+use crate::words::{mode_of, queue_end_of, waits_of, word_of};
 use ann_base::{Moment, NAME_BYTES, Name, ObjectNo, TaskNo};
-use trace_text::{EntryName, Finished, QueueEnd, Word};
+use trace_text::{EntryName, Finished, Mode, QueueEnd, Waits, Word};
 
 // The first place of a byte, or the length where there is none.
 fn place_of(bytes: &[u8], mark: u8) -> usize
@@ -336,6 +336,80 @@ pub fn long_at(bytes: &[u8]) -> Option<(u32, &[u8])>
     Some((long_of(word)?, rest))
 }
 
+/// A number of a byte, all that stands behind a space.
+pub fn last_short(bytes: &[u8]) -> Option<u8>
+    ensures read { result ≡ last_field short_in bytes.now }
+    ensures spelt { IfSome result (λ number. bytes.now ≡ 32 ∷ decimal number) }
+{
+    short_of(last(bytes)?)
+}
+
+/// A number of 32 bits, all that stands behind a space.
+pub fn last_long(bytes: &[u8]) -> Option<u32>
+    ensures read { result ≡ last_field long_in bytes.now }
+    ensures spelt { IfSome result (λ number. bytes.now ≡ 32 ∷ decimal number) }
+{
+    long_of(last(bytes)?)
+}
+
+/// A moment, all that stands behind a space.
+pub fn last_moment(bytes: &[u8]) -> Option<Moment>
+    ensures read { result ≡ last_field moment_in bytes.now }
+    ensures spelt { IfSome result (λ moment. bytes.now ≡ 32 ∷ signed_decimal moment) }
+{
+    moment_of(last(bytes)?)
+}
+
+/// A task, all that stands behind a space.
+pub fn last_task(bytes: &[u8]) -> Option<TaskNo>
+    ensures read { result ≡ last_field task_in bytes.now }
+    ensures spelt { IfSome result (λ task. bytes.now ≡ 32 ∷ task_text task) }
+{
+    task_of(last(bytes)?)
+}
+
+/// A protected object, all that stands behind a space.
+pub fn last_object(bytes: &[u8]) -> Option<ObjectNo>
+    ensures read { result ≡ last_field object_in bytes.now }
+    ensures spelt { IfSome result (λ object. bytes.now ≡ 32 ∷ object_text object) }
+{
+    object_of(last(bytes)?)
+}
+
+/// What Put_Line puts, all that stands behind a space.
+pub fn last_text(bytes: &[u8]) -> Option<Name>
+    ensures read { result ≡ last_field text_in bytes.now }
+    ensures spelt { IfSome result (λ text. bytes.now ≡ 32 ∷ text) }
+    ensures text { IfSome result IsPutText }
+{
+    text_of(last(bytes)?)
+}
+
+/// The name of an exception, all that stands behind a space.
+pub fn last_exception(bytes: &[u8]) -> Option<Name>
+    ensures read { result ≡ last_field exception_in bytes.now }
+    ensures spelt { IfSome result (λ name. bytes.now ≡ 32 ∷ name) }
+    ensures name { IfSome result IsExceptionName }
+{
+    exception_of(last(bytes)?)
+}
+
+/// What is waited for, all that stands behind a space.
+pub fn last_waits(bytes: &[u8]) -> Option<Waits>
+    ensures read { result ≡ last_field waits_in bytes.now }
+    ensures spelt { IfSome result (λ waits. bytes.now ≡ 32 ∷ waits_text waits) }
+{
+    waits_of(last(bytes)?)
+}
+
+/// The mode of a protected action, all that stands behind a space.
+pub fn last_mode(bytes: &[u8]) -> Option<Mode>
+    ensures read { result ≡ last_field mode_in bytes.now }
+    ensures spelt { IfSome result (λ mode. bytes.now ≡ 32 ∷ mode_text mode) }
+{
+    mode_of(last(bytes)?)
+}
+
 /// A deadline behind a space, where anything follows.
 pub fn deadline_of(bytes: &[u8]) -> Option<Option<Moment>>
     ensures read { result ≡ deadline_in bytes.now }
@@ -344,7 +418,7 @@ pub fn deadline_of(bytes: &[u8]) -> Option<Option<Moment>>
     if bytes.is_empty() {
         return Some(None);
     }
-    Some(Some(moment_of(last(bytes)?)?))
+    Some(Some(last_moment(bytes)?))
 }
 
 /// An end of a queue behind a space, and what follows it.

@@ -1,8 +1,8 @@
 -- The text is the bytes, which are digits; digits are text.
 use Rattle.std.proofs.Common.{subst}
 use Rattle.std.specs.Str.Parse.{ParsesUnsigned}
-use Rattle.trace_reading.proofs.Numbers.{digits_parsed, digits_spelt, IsUtf8-number}
-use Rattle.trace_reading.proofs.fields.number_from_digits.Goals as goal
+use Rattle.trace_fields.proofs.Numbers.{digits_parsed, digits_spelt, IsUtf8-number}
+use Rattle.trace_fields.proofs.fields.number_from_digits.Goals as goal
 
 pub returns-in-Ok : goal.returns-in-Ok
 returns-in-Ok c =

@@ -2,7 +2,7 @@
 ghost use Rattle.std.specs.Prelude.{◌≡◌, IfSome};
 ghost use Rattle.trace_text.specs.Text.{queue_end_text, waits_text, mode_text, leaves_text};
 ghost use Rattle.trace_text.specs.Words.{word_text};
-ghost use Rattle.trace_reading.specs.Spelt.{word_in, waits_in, mode_in, leaves_in, queue_end_in};
+ghost use Rattle.trace_fields.specs.Spelt.{word_in, waits_in, mode_in, leaves_in, queue_end_in};
 
 use trace_text::{
     EVENT_WORDS, Leaves, Mode, QueueEnd, Waits, Word, leaves_bytes, mode_bytes, queue_end_bytes,

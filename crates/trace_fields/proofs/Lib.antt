@@ -1,0 +1,3 @@
+pub mod FieldsAgain
+pub mod FieldsShort
+pub mod Numbers

@@ -16,8 +16,8 @@ use ada_clauses::aspects;
 use ada_expressions::{argument, name_list};
 use ada_grammar::{Cursor, ParseFault, Stuck};
 use ada_lex::{MAX_SOURCE, Token};
+use ada_selects::end_name;
 use ada_sequences::{below, body, declarations, sequence};
-use ada_statements::end_name;
 use ada_tree::{
     Argument, ContextClause, Declaration, Expression, LibraryPackage, MAX_NESTING, MainProcedure,
     OneOrMore, Package, PackageBody, PackageDeclaration, Pragma, Sequence, SequenceRole, Unit,

@@ -6,7 +6,7 @@ use Rattle.ada_grammar.specs.declared.stuck.Stuck.TheVariants as stuck
 use Rattle.ada_grammar.specs.Reading.{below}
 use Rattle.ada_grammar.specs.ReadingStatements.{statement_inside_of}
 use Rattle.ada_grammar.specs.ReadingSequences.{further_in, inside_of, parts_of, sequence_of, statement_of}
-use Rattle.ada_statements.proofs.Levels.{less_one}
+use Rattle.ada_selects.proofs.Levels.{less_one}
 
 pub sequence_is_parts : (left : ℕ) (role : SequenceRole) (ls : List Lexeme) → sequence_of left role ls ≡ parts_of left (inside_of left) (inside_of (below left)) role ls
 unfolding sequence_of further_in

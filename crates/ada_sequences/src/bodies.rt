@@ -4,7 +4,7 @@ ghost use Rattle.std.specs.Char.{to_ascii_lowercase};
 ghost use Rattle.ada_grammar.specs.Reading.{below, items_of};
 ghost use Rattle.ada_grammar.specs.Reads.{Reads};
 ghost use Rattle.ada_grammar.specs.ReadingDeclarations.{begins_operation};
-ghost use Rattle.ada_statements.specs.Inside.{ReadsInside};
+ghost use Rattle.ada_selects.specs.Inside.{ReadsInside};
 ghost use Rattle.ada_grammar.specs.ReadingBodies.{any_protected_of, any_task_of, begins_declaration, begins_unit, body_of, declaration_of, entry_operation_of, operation_body_of, protected_body_of, subprogram_body_of, subprogram_of, subprogram_operation_of, task_body_of};
 ghost use Rattle.ada_grammar.specs.ReadingSequences.{inside_of, sequence_of};
 
@@ -14,7 +14,7 @@ use ada_clauses::{
     specification, subtype_declaration, task_declaration, type_declaration, use_clause,
 };
 use ada_grammar::{Cursor, Stuck};
-use ada_statements::end_name;
+use ada_selects::end_name;
 use ada_tree::{
     Body, Declaration, Identifier, OperationBody, ProtectedBody, Sequence, SequenceRole,
     SubprogramSpecification,

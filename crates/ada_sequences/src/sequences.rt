@@ -2,15 +2,16 @@
 ghost use Rattle.std.specs.Prelude.{◌≡◌, [], IfOk, codes};
 ghost use Rattle.ada_grammar.specs.Reading.{below, items_of, sees_word};
 ghost use Rattle.ada_grammar.specs.Reads.{Reads};
-ghost use Rattle.ada_statements.specs.Inside.{ReadsInside};
+ghost use Rattle.ada_selects.specs.Inside.{ReadsInside};
 ghost use Rattle.ada_grammar.specs.ReadingBodies.{begins_declaration};
 ghost use Rattle.ada_grammar.specs.ReadingStatements.{begins_statement};
 ghost use Rattle.ada_grammar.specs.ReadingSequences.{declarations_of, given_handlers_of, handled_behind_of, handler_of, handlers_of, inside_of, made, parts_of, plain_of, sequence_of, statement_of, statements_of, whole_body_of};
 
 use crate::bodies::begins_declaration;
 use ada_grammar::{Cursor, Stuck};
+use ada_selects::begins_statement;
 use ada_simple_statements::handled_exceptions;
-use ada_statements::{StatementReader, begins_statement};
+use ada_statements::StatementReader;
 use ada_tree::{Declaration, Handler, OneOrMore, Sequence, SequenceParts, SequenceRole, Statement};
 use ann_base::{NoMemory, OrMemory};
 use sqlite_items::{Boxed, Items};

@@ -1,85 +1,28 @@
-//! Statements that hold others (ISO/IEC 8652:2012, clauses 5 and 9.5). The productions take the reader of the
-//! sequences in them as a parameter, so that each is proved by itself.
+//! Statements that hold others (ISO/IEC 8652:2012, clause 5). The productions take the reader of the sequences in them as a
+//! parameter, so that each is proved by itself.
 ghost use Rattle.std.specs.Prelude.{◌≡◌, suc, IfSome, None, Some, codes, map};
 ghost use Rattle.std.specs.Char.{to_ascii_lowercase};
-ghost use Rattle.ada_grammar.specs.Reading.{behind_delimiter_of, end_name_of, items_of, sees_delimiter, sees_word, separated_of};
+ghost use Rattle.ada_grammar.specs.Reading.{behind_delimiter_of, items_of, sees_delimiter, sees_word, separated_of};
 ghost use Rattle.ada_grammar.specs.Reads.{Reads};
 ghost use Rattle.ada_grammar.specs.ReadingSimple.{choice_of};
-ghost use Rattle.ada_statements.specs.Inside.{ReadsInside};
+ghost use Rattle.ada_selects.specs.Inside.{ReadsInside};
 ghost use Rattle.ada_grammar.specs.ReadingSequences.{further_in};
-ghost use Rattle.ada_grammar.specs.ReadingStatements.{accept_body_of, accept_of, begin_of, begins_block, begins_compound, begins_loop, begins_simple, begins_statement, block_end_of, block_of, case_alternative_of, case_alternatives_of, case_of, compound_of, declare_of, else_of, elsif_of, if_of, labelled_of, loop_of, named_statement_of, optional_statements_of, simple_statement_of, statement_inside_of};
+ghost use Rattle.ada_grammar.specs.ReadingStatements.{begin_of, block_end_of, block_of, case_alternative_of, case_alternatives_of, case_of, compound_of, declare_of, elsif_of, if_of, labelled_of, loop_of, named_statement_of, simple_statement_of, statement_inside_of};
 
-use crate::nested::Nested;
-use ada_expressions::{expression, parameters};
+use ada_expressions::expression;
 use ada_grammar::{Cursor, Stuck};
+use ada_selects::{Nested, SelectReader, begins_block, begins_compound, begins_loop};
 use ada_simple_statements::{
     abort_statement, choice, delay, exit_statement, iteration, label_end, null_statement,
     raise_statement, requeue_statement, return_statement, simple_statement,
 };
 use ada_tree::{
-    Accept, AcceptBody, Block, Case, CaseAlternative, Choice, Elsif, Identifier, If, Loop,
-    OneOrMore, SequenceRole, Statement,
+    Block, Case, CaseAlternative, Choice, Elsif, Identifier, If, Loop, OneOrMore, SequenceRole,
+    Statement,
 };
 use ann_base::{OrMemory, Place};
 use sqlite_items::Items;
 use std::alloc::Global;
-
-/// Whether a loop without a name begins here (5.5).
-fn begins_loop(cursor: &Cursor<'_>) -> bool
-    ensures { result ≡ begins_loop cursor.now }
-{
-    cursor.is_word(b"loop") || cursor.is_word(b"while") || cursor.is_word(b"for")
-}
-
-/// Whether a block without a name begins here (5.6).
-fn begins_block(cursor: &Cursor<'_>) -> bool
-    ensures { result ≡ begins_block cursor.now }
-{
-    cursor.is_word(b"declare") || cursor.is_word(b"begin")
-}
-
-/// Whether a statement that holds others, and has no name, begins here (5.1).
-fn begins_compound(cursor: &Cursor<'_>) -> bool
-    ensures { result ≡ begins_compound cursor.now }
-{
-    cursor.is_word(b"if")
-        || cursor.is_word(b"case")
-        || begins_loop(cursor)
-        || begins_block(cursor)
-        || cursor.is_word(b"accept")
-        || cursor.is_word(b"select")
-}
-
-/// Whether another statement, or one with a name, begins here (5.1).
-fn begins_simple(cursor: &Cursor<'_>) -> bool
-    ensures { result ≡ begins_simple cursor.now }
-{
-    cursor.is_word(b"null")
-        || cursor.is_word(b"delay")
-        || cursor.is_word(b"exit")
-        || cursor.is_word(b"return")
-        || cursor.is_word(b"raise")
-        || cursor.is_word(b"abort")
-        || cursor.is_word(b"requeue")
-        || cursor.is_identifier()
-}
-
-/// Whether a statement begins here (5.1).
-#[tactic(auto, unfolding(ada_grammar::specs::ReadingStatements::begins_statement))]
-pub fn begins_statement(cursor: &Cursor<'_>) -> bool
-    ensures { result ≡ begins_statement cursor.now }
-{
-    begins_compound(cursor) || begins_simple(cursor)
-}
-
-/// The construct's own name behind its `end`, or none: whether it stands there.
-#[tactic(auto, unfolding(ada_grammar::specs::Reading::end_name_of))]
-pub fn end_name(cursor: &mut Cursor<'_>, name: &Identifier) -> Result<bool, OrMemory<Stuck>>
-    requires lower { map to_ascii_lowercase name.now.text ≡ name.now.text }
-    ensures { Reads result cursor.new (end_name_of name.now.text cursor.old) }
-{
-    cursor.flag(name.text.as_slice())
-}
 
 /// How statements are read where `left` levels may still be opened inside them.
 #[derive(Clone, Copy)]
@@ -97,16 +40,24 @@ impl<
     F: Fn(Global, &mut Cursor<'_>, usize, SequenceRole) -> Result<Q, OrMemory<Stuck>> + Copy,
 > StatementReader<F> {
     /// The sequence inside a statement.
-    pub(crate) fn sequence(
-        &self,
-        cursor: &mut Cursor<'_>,
-        role: SequenceRole,
-    ) -> Result<Q, OrMemory<Stuck>>
+    fn sequence(&self, cursor: &mut Cursor<'_>, role: SequenceRole) -> Result<Q, OrMemory<Stuck>>
         requires reads { ReadsInside Q.reading (suc self.now.left) (F.pre self.now.read)
             (F.post self.now.read) }
         ensures { Reads result cursor.new (Q.reading self.now.left role cursor.old) }
     {
         (self.read)(self.alloc, cursor, self.left, role)
+    }
+
+    /// How the accept and select statements here are read.
+    fn selects(&self) -> SelectReader<F>
+        ensures left { result.left ≡ self.now.left }
+        ensures read { result.read ≡ self.now.read }
+    {
+        SelectReader {
+            alloc: self.alloc,
+            left: self.left,
+            read: self.read,
+        }
     }
 
     /// `elsif EXPRESSION then STATEMENTS` (5.3)
@@ -147,23 +98,6 @@ impl<
         Ok(found)
     }
 
-    /// `[else STATEMENTS]` (5.3, 9.7.1)
-    #[tactic(auto, unfolding(ada_grammar::specs::ReadingStatements::else_of))]
-    pub(crate) fn otherwise(&self, cursor: &mut Cursor<'_>) -> Result<Option<Q>, OrMemory<Stuck>>
-        requires reads { ReadsInside Q.reading (suc self.now.left) (F.pre self.now.read)
-            (F.post self.now.read) }
-        ensures { Reads result cursor.new
-            (else_of self.now.left (Q.reading self.now.left) cursor.old) }
-    {
-        if cursor.is_word(b"else") {
-            cursor.word(b"else")?;
-            let statements = self.sequence(cursor, SequenceRole::Statements)?;
-            Ok(Some(statements))
-        } else {
-            Ok(None)
-        }
-    }
-
     /// An if statement (5.3).
     #[tactic(auto, unfolding(ada_grammar::specs::ReadingStatements::if_of))]
     fn if_statement(&self, cursor: &mut Cursor<'_>) -> Result<Statement<Q>, OrMemory<Stuck>>
@@ -177,7 +111,7 @@ impl<
         cursor.word(b"then")?;
         let statements = self.sequence(cursor, SequenceRole::Statements)?;
         let elsifs = self.elsifs(cursor)?;
-        let otherwise = self.otherwise(cursor)?;
+        let otherwise = self.selects().otherwise(cursor)?;
         cursor.word(b"end")?;
         cursor.word(b"if")?;
         cursor.delimiter(b";")?;
@@ -437,73 +371,6 @@ impl<
         }
     }
 
-    /// `[do SEQUENCE end [NAME]]` (9.5.2)
-    #[tactic(auto, unfolding(ada_grammar::specs::ReadingStatements::accept_body_of))]
-    fn accept_body(
-        &self,
-        cursor: &mut Cursor<'_>,
-        name: &Identifier,
-    ) -> Result<Option<AcceptBody<Q>>, OrMemory<Stuck>>
-        requires reads { ReadsInside Q.reading (suc self.now.left) (F.pre self.now.read)
-            (F.post self.now.read) }
-        requires lower { map to_ascii_lowercase name.now.text ≡ name.now.text }
-        ensures { Reads result cursor.new
-            (accept_body_of self.now.left (Q.reading self.now.left) name.now.text cursor.old) }
-    {
-        if cursor.is_word(b"do") {
-            cursor.word(b"do")?;
-            let sequence = self.sequence(cursor, SequenceRole::Handled)?;
-            cursor.word(b"end")?;
-            let named_at_end = end_name(cursor, name)?;
-            Ok(Some(AcceptBody {
-                sequence,
-                named_at_end,
-            }))
-        } else {
-            Ok(None)
-        }
-    }
-
-    /// An accept statement (9.5.2).
-    #[tactic(auto, unfolding(ada_grammar::specs::ReadingStatements::accept_of))]
-    pub(crate) fn accept(&self, cursor: &mut Cursor<'_>) -> Result<Accept<Q>, OrMemory<Stuck>>
-        requires reads { ReadsInside Q.reading (suc self.now.left) (F.pre self.now.read)
-            (F.post self.now.read) }
-        ensures { Reads result cursor.new
-            (accept_of self.now.left (Q.reading self.now.left) cursor.old) }
-    {
-        let place = cursor.word(b"accept")?;
-        let entry = cursor.identifier(self.alloc)?;
-        let parameters = parameters(self.alloc, cursor, self.left)?;
-        let body = self.accept_body(cursor, &entry)?;
-        cursor.delimiter(b";")?;
-        Ok(Accept {
-            place,
-            entry,
-            parameters,
-            body,
-        })
-    }
-
-    /// Statements, where some stand there.
-    #[tactic(auto, unfolding(ada_grammar::specs::ReadingStatements::optional_statements_of))]
-    pub(crate) fn optional_statements(
-        &self,
-        cursor: &mut Cursor<'_>,
-    ) -> Result<Option<Q>, OrMemory<Stuck>>
-        requires reads { ReadsInside Q.reading (suc self.now.left) (F.pre self.now.read)
-            (F.post self.now.read) }
-        ensures { Reads result cursor.new
-            (optional_statements_of self.now.left (Q.reading self.now.left) cursor.old) }
-    {
-        if begins_statement(cursor) {
-            let statements = self.sequence(cursor, SequenceRole::Statements)?;
-            Ok(Some(statements))
-        } else {
-            Ok(None)
-        }
-    }
-
     /// A statement that begins with a name.
     #[tactic(auto, unfolding(ada_grammar::specs::ReadingStatements::named_statement_of))]
     fn named_statement(&self, cursor: &mut Cursor<'_>) -> Result<Statement<Q>, OrMemory<Stuck>>
@@ -538,10 +405,10 @@ impl<
         } else if begins_block(cursor) {
             self.block(cursor, None)
         } else if cursor.is_word(b"accept") {
-            let accept = self.accept(cursor)?;
+            let accept = self.selects().accept(cursor)?;
             Ok(Statement::Accept(accept))
         } else {
-            self.select(cursor)
+            self.selects().select(cursor)
         }
     }
 

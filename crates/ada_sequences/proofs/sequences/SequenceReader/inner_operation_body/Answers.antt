@@ -1,4 +1,4 @@
-use Rattle.ada_statements.proofs.Levels.{reads_further_in}
+use Rattle.ada_selects.proofs.Levels.{reads_further_in}
 use Rattle.ada_sequences.proofs.Levels.{less_below}
 use Rattle.ada_grammar.specs.Reading.{below}
 use Rattle.ada_sequences.proofs.sequences.SequenceReader.inner_operation_body.Goals as goal

@@ -1,5 +1,5 @@
 use Rattle.std.proofs.Common.{suc, ◌-◌, arith}
-use Rattle.ada_statements.proofs.Levels.{reads_further_in}
+use Rattle.ada_selects.proofs.Levels.{reads_further_in}
 use Rattle.ada_sequences.proofs.Levels.{statement_inside}
 use Rattle.ada_sequences.proofs.sequences.SequenceReader.statement.Goals as goal
 

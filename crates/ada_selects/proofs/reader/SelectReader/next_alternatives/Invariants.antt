@@ -2,7 +2,7 @@ use Rattle.std.proofs.Common.{◌≡◌, ◌-◌, codes}
 use Rattle.ada_grammar.specs.Reading.{items_from, items_of, sees_word}
 use Rattle.ada_grammar.specs.ReadingStatements.{next_alternative_of}
 use Rattle.ada_grammar.specs.ReadingSequences.{further_in}
-use Rattle.ada_statements.proofs.statements.StatementReader.next_alternatives.Given as goal
+use Rattle.ada_selects.proofs.reader.SelectReader.next_alternatives.Given as goal
 
 abbrev pub invariant-loop-turn : goal.invariant-loop-turn
 invariant-loop-turn g l =

@@ -1,6 +1,6 @@
 use Rattle.std.proofs.lemmas.Result.{err_from_is_err_and}
 use Rattle.ada_expressions.specs.Lists.{none_begins, no_turn, one_read, one_stops}
-use Rattle.ada_statements.proofs.statements.StatementReader.next_alternatives.Goals as goal
+use Rattle.ada_selects.proofs.reader.SelectReader.next_alternatives.Goals as goal
 
 pub returns-then-not-is_word : goal.returns-then-not-is_word
 returns-then-not-is_word g c = none_begins _ _ _ _ _ _ _ (cc) c.loop-turn.invariant

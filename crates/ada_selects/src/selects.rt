@@ -2,12 +2,12 @@
 ghost use Rattle.std.specs.Prelude.{suc, codes};
 ghost use Rattle.ada_grammar.specs.Reading.{items_of, sees_word};
 ghost use Rattle.ada_grammar.specs.Reads.{Reads};
-ghost use Rattle.ada_statements.specs.Inside.{ReadsInside};
+ghost use Rattle.ada_selects.specs.Inside.{ReadsInside};
 ghost use Rattle.ada_grammar.specs.ReadingSequences.{further_in};
 ghost use Rattle.ada_grammar.specs.ReadingStatements.{accept_alternative_of, accept_opened_of, alternative_of, asynchronous_of, behind_call_of, call_opened_of, call_select_of, conditional_of, delay_alternative_of, delay_opened_of, delay_select_of, guard_of, next_alternative_of, select_alternative_of, select_form_of, select_of, selective_of, terminate_of, timed_of};
 
 use crate::nested::Nested;
-use crate::statements::StatementReader;
+use crate::reader::SelectReader;
 use ada_expressions::expression;
 use ada_grammar::{Cursor, Stuck};
 use ada_simple_statements::{call, delay};
@@ -23,7 +23,7 @@ use std::alloc::Global;
 impl<
     Q: Nested,
     F: Fn(Global, &mut Cursor<'_>, usize, SequenceRole) -> Result<Q, OrMemory<Stuck>> + Copy,
-> StatementReader<F> {
+> SelectReader<F> {
     /// An entry call in a select statement, which takes a level.
     #[tactic(auto, unfolding(ada_grammar::specs::ReadingStatements::call_opened_of))]
     fn opened_call(&self, cursor: &mut Cursor<'_>) -> Result<Call, OrMemory<Stuck>>
@@ -73,7 +73,7 @@ impl<
                     Err(cursor.stuck())
                 }
             }
-            left => StatementReader {
+            left => SelectReader {
                 alloc: self.alloc,
                 left: left - 1,
                 read: self.read,
@@ -389,7 +389,7 @@ impl<
 
     /// A select statement.
     #[tactic(auto, unfolding(ada_grammar::specs::ReadingStatements::select_of))]
-    pub(crate) fn select(&self, cursor: &mut Cursor<'_>) -> Result<Statement<Q>, OrMemory<Stuck>>
+    pub fn select(&self, cursor: &mut Cursor<'_>) -> Result<Statement<Q>, OrMemory<Stuck>>
         requires reads { ReadsInside Q.reading (suc self.now.left) (F.pre self.now.read)
             (F.post self.now.read) }
         ensures { Reads result cursor.new

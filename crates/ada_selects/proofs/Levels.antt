@@ -10,7 +10,7 @@ use Rattle.ada_grammar.specs.Reading.{Parser}
 use Rattle.ada_grammar.specs.ReadingSimple.{call_of, delay_of}
 use Rattle.ada_grammar.specs.ReadingStatements.{accept_of, accept_opened_of, call_opened_of, delay_opened_of}
 use Rattle.ada_grammar.specs.ReadingSequences.{further_in}
-use Rattle.ada_statements.specs.Inside.{ReadsInside}
+use Rattle.ada_selects.specs.Inside.{ReadsInside}
 
 pub less_one : (left : ℕ) → left ≡ suc left - 1
 less_one left = omega arith

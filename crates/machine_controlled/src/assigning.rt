@@ -12,9 +12,10 @@ use crate::operations::{
 use crate::registration::registered_object;
 use ann_base::{NoMemory, Raised, next_number};
 use machine_frames::{Effect, leaves, pop, raises};
+use machine_parameters::cells_from;
 use machine_program::{Program, declaration_of};
 use machine_scopes::{put_cells, scope_mut};
-use machine_values::{CONTROLLED_CELLS, cells_from};
+use machine_values::CONTROLLED_CELLS;
 use profile_machine::world::{AssignMark, AssignStep, Located, Part, Registered, Variable, World};
 use profile_machine::{Leaving, SubprogramNo};
 use std::alloc::Global;

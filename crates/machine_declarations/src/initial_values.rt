@@ -9,11 +9,10 @@ ghost use Rattle.machine_declarations.specs.FirstValues.{first_value, written, f
 ghost use Rattle.machine_values.specs.Becomes.{Becomes};
 
 use ann_base::{NoMemory, OrMemory, Raised};
+use machine_parameters::{checked_for, copy_cells};
 use machine_program::{Program, declaration_of, initial_cells, scope_of};
 use machine_scopes::{put_cells, scope_in_use, scope_mut, write_cell};
-use machine_values::{
-    Seen, checked_for, component_at, copy_cells, object_cell, or_raised, seen_by, value,
-};
+use machine_values::{Seen, component_at, object_cell, or_raised, seen_by, value};
 use profile_machine::world::{Located, Variable, World};
 use profile_machine::{DeclNo, DeclarationKind, ExprNo, Initial, Value};
 use std::alloc::Global;

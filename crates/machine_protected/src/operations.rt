@@ -12,9 +12,10 @@ use machine_exclusion::{
     begin_action_on, body_of_object, entering, find_held, has_open, marks_of_action, outer_of_body,
 };
 use machine_frames::{Effect, goes, has_room, object_of, raises};
+use machine_parameters::{begin_body, handed, result_to};
 use machine_program::{Program, marks_of, next_of, scope_of, subprogram_of};
 use machine_scopes::open_scope;
-use machine_values::{begin_body, handed, object_number, own_object, result_to, seen_by};
+use machine_values::{object_number, own_object, seen_by};
 use profile_machine::world::{Entering, Handed, Part, Purpose, ResultTo, World};
 use profile_machine::{
     Actual, DeclNo, Destination, ProtectedUnitNo, StatementNo, Subprogram, SubprogramNo,

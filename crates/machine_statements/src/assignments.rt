@@ -8,9 +8,10 @@ ghost use Rattle.machine_statements.specs.Parts.{assigned};
 
 use ann_base::{NoMemory, OrMemory, Raised};
 use machine_frames::{Effect, goes, refused};
+use machine_parameters::copy_cells;
 use machine_program::{Program, next_of};
 use machine_scopes::store;
-use machine_values::{copy_cells, object_cell, seen_by, value, variable};
+use machine_values::{object_cell, seen_by, value, variable};
 use profile_machine::world::World;
 use profile_machine::{ExprNo, ObjectName, StatementNo, VariableName};
 use std::alloc::Global;

@@ -7,9 +7,10 @@ ghost use Rattle.machine_statements.specs.Parts.{outer_of_body};
 
 use ann_base::{NoMemory, Raised};
 use machine_frames::{Effect, has_room, raises, refused};
+use machine_parameters::{begin_body, handed, result_to};
 use machine_program::{Program, marks_of, scope_of, subprogram_of};
 use machine_scopes::home;
-use machine_values::{Seen, begin_body, handed, result_to, seen_by};
+use machine_values::{Seen, seen_by};
 use profile_machine::world::{Handed, Part, ResultTo, ScopeId};
 use profile_machine::{Actual, Destination, StatementNo, SubprogramNo};
 use std::alloc::Global;

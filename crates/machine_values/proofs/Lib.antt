@@ -1,4 +1,1 @@
 pub mod ValueLemmas
-pub mod CellLemmas
-pub mod ListLemmas
-pub mod ParameterLemmas

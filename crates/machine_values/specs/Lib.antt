@@ -1,4 +1,3 @@
 pub mod Asked
 pub mod Sights
 pub mod Becomes
-pub mod Beginnings

@@ -3,9 +3,9 @@ ghost use Rattle.std.specs.Prelude.{◌≡◌, ◌+◌, drop};
 ghost use Rattle.ann_base.specs.Answers.{Answers};
 ghost use Rattle.profile_machine.specs.Subprograms.{nothing_handed, hand_value, hand_back, hand_thing, hand_over, handed, result_to};
 
-use crate::{Seen, located, object_cell, or_raised, read, thing, value, variable};
 use ann_base::{OrMemory, Raised};
 use machine_operators::checked;
+use machine_values::{Seen, located, object_cell, or_raised, read, thing, value, variable};
 use profile_machine::world::{CopyBack, Handed, Located, ResultTo, Variable};
 use profile_machine::{Actual, Destination, Formal, ObjectName, Value};
 use std::alloc::Global;

@@ -1,5 +1,5 @@
 use Rattle.std.proofs.Common.{◌+◌, ◌*◌, ◌-◌, length}
-use Rattle.machine_values.proofs.parameters.+handed.Given as goal
+use Rattle.machine_parameters.proofs.parameters.+handed.Given as goal
 
 abbrev pub decreases-handed_from : goal.decreases-handed_from
 decreases-handed_from l = 3 * (length l.formals.now - l.place)

@@ -2,7 +2,7 @@
 ghost use Rattle.std.specs.Prelude.{OnOk};
 ghost use Rattle.profile_machine.specs.Subprograms.{begin_body};
 ghost use Rattle.machine_frames.specs.Did.{Did};
-ghost use Rattle.machine_values.specs.Beginnings.{body_beginning};
+ghost use Rattle.machine_parameters.specs.Beginnings.{body_beginning};
 
 use ann_base::{NoMemory, ObjectNo};
 use machine_frames::{Effect, goes};

@@ -7,7 +7,7 @@ use Rattle.profile_machine.specs.declared.declarations.Formal.{Formal}
 use Rattle.profile_machine.specs.declared.statements.Actual.{Actual}
 use Rattle.profile_machine.specs.Values.{Seen}
 use Rattle.profile_machine.specs.Subprograms.{handed, hand_over, nothing_handed}
-use Rattle.machine_values.proofs.ListLemmas.{drop-found, drop-none}
+use Rattle.machine_parameters.proofs.ListLemmas.{drop-found, drop-none}
 
 pub handed_more : (q : Seen) (place : ℕ) (formals : List Formal) (actuals : List Actual) (f : Formal) (a : Actual) → place < length formals → f ≡ get_or formals place f → place < length actuals → a ≡ get_or actuals place a
     → handed q place (drop place formals) (drop place actuals) ≡ hand_over q place f a (handed q (place + 1) (drop (place + 1) formals) (drop (place + 1) actuals))

@@ -1,5 +1,5 @@
 use Rattle.std.proofs.Common.{◌≡◌, take, drop}
-use Rattle.machine_values.proofs.arrays.copied_from.Given as goal
+use Rattle.machine_parameters.proofs.arrays.copied_from.Given as goal
 
 -- so many cells have been copied
 abbrev pub invariant-loop-taken : goal.invariant-loop-taken

@@ -1,7 +1,7 @@
 use Rattle.std.proofs.Common.{sym, subst}
 use Rattle.ann_base.specs.Answers.{Answers}
-use Rattle.machine_values.proofs.ParameterLemmas.{handed_more}
-use Rattle.machine_values.proofs.parameters.+handed.Goals as goal
+use Rattle.machine_parameters.proofs.ParameterLemmas.{handed_more}
+use Rattle.machine_parameters.proofs.parameters.+handed.Goals as goal
 
 pub handed_from-returns-in-Some-get : goal.handed_from-returns-in-Some-get
 handed_from-returns-in-Some-get t c =

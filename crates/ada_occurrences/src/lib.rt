@@ -3,7 +3,6 @@
 #![tactic(auto)]
 
 mod declarations;
-mod expressions;
 mod selects;
 mod statements;
 mod telling;

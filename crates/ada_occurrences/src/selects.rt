@@ -1,42 +1,21 @@
 //! The names in select statements (ISO/IEC 8652:2012, 9.7).
-use crate::statements::tell_with_statements;
-use crate::telling::{Part, Tell, TellSequence};
+use crate::statements::{tell_optional, tell_with_statements};
+use crate::telling::{Part, TellNested, TellSequence};
 use ada_regions::Occurrences;
-use ada_tree::{Alternative, Guard, SelectAlternative, SelectForm, Trigger};
+use ada_simple_occurrences::Tell;
+use ada_tree::{Alternative, SelectAlternative, SelectForm};
 use ann_base::NoMemory;
 
-impl Tell for Guard {
-    ghost use Rattle.ada_regions.specs.NamesInStatements.{names_in_guard};
-
-    ghost names = { names_in_guard };
-
-    fn tell<'t>(&'t self, occurrences: &mut Occurrences<'t>) -> Result<(), NoMemory> {
-        self.condition.tell(occurrences)
-    }
-}
-
-impl Tell for Trigger {
-    ghost use Rattle.ada_regions.specs.NamesInStatements.{names_in_trigger};
-
-    ghost names = { names_in_trigger };
-
-    fn tell<'t>(&'t self, occurrences: &mut Occurrences<'t>) -> Result<(), NoMemory> {
-        match self {
-            Trigger::Call(call) => call.tell(occurrences),
-            Trigger::Delay(delay) => delay.tell(occurrences),
-        }
-    }
-}
-
-impl<Q: TellSequence> Tell for Alternative<Q> {
+impl<Q: TellSequence> TellNested for Alternative<Q> {
     ghost use Rattle.ada_regions.specs.NamesInStatements.{names_in_alternative};
 
     ghost names = { names_in_alternative Q.names_in };
 
-    fn tell<'t>(&'t self, occurrences: &mut Occurrences<'t>) -> Result<(), NoMemory> {
+    fn tell_nested<'t>(&'t self, occurrences: &mut Occurrences<'t>) -> Result<(), NoMemory> {
         match self {
             Alternative::Accept { accept, statements } => {
-                tell_with_statements(occurrences, accept, statements)
+                accept.tell_nested(occurrences)?;
+                tell_optional(occurrences, statements)
             }
             Alternative::Delay { delay, statements } => {
                 tell_with_statements(occurrences, delay, statements)
@@ -46,27 +25,28 @@ impl<Q: TellSequence> Tell for Alternative<Q> {
     }
 }
 
-impl<Q: TellSequence> Tell for SelectAlternative<Q> {
+impl<Q: TellSequence> TellNested for SelectAlternative<Q> {
     ghost use Rattle.ada_regions.specs.NamesInStatements.{names_in_select_alternative};
 
     ghost names = { names_in_select_alternative Q.names_in };
 
-    fn tell<'t>(&'t self, occurrences: &mut Occurrences<'t>) -> Result<(), NoMemory> {
+    fn tell_nested<'t>(&'t self, occurrences: &mut Occurrences<'t>) -> Result<(), NoMemory> {
         self.guard.tell(occurrences)?;
-        self.alternative.tell(occurrences)
+        self.alternative.tell_nested(occurrences)
     }
 }
 
 /// The forms of select statements (9.7.1 to 9.7.4).
-impl<Q: TellSequence> Tell for SelectForm<Q> {
+impl<Q: TellSequence> TellNested for SelectForm<Q> {
     ghost use Rattle.ada_regions.specs.NamesInStatements.{names_in_select};
 
     ghost names = { names_in_select Q.names_in };
 
-    fn tell<'t>(&'t self, occurrences: &mut Occurrences<'t>) -> Result<(), NoMemory> {
+    fn tell_nested<'t>(&'t self, occurrences: &mut Occurrences<'t>) -> Result<(), NoMemory> {
         match self {
             SelectForm::SelectiveAccept(select) => {
-                tell_with_statements(occurrences, &select.alternatives, &select.otherwise)
+                select.alternatives.tell_nested(occurrences)?;
+                tell_optional(occurrences, &select.otherwise)
             }
             SelectForm::TimedEntryCall(select) => {
                 tell_with_statements(occurrences, &select.call, &select.statements)?;

@@ -1,13 +1,14 @@
 //! The names in sequences, library units and a source (ISO/IEC 8652:2012, 3.11, 7.1, 7.2, 10.1).
-ghost use Rattle.std.specs.Prelude.{◌≡◌, ◌++◌, ◌∷◌, [], OnOk, IfOk};
-ghost use Rattle.ada_regions.specs.NamesInUnits.{clause_with, names_in_package_declaration, names_in_package_body, names_in_main, names_in_parts, names_in_unit};
+ghost use Rattle.std.specs.Prelude.{◌≡◌, ◌++◌, OnOk, IfOk};
+ghost use Rattle.ada_regions.specs.NamesInUnits.{names_in_package_declaration, names_in_package_body, names_in_main, names_in_parts, names_in_unit};
 
 use crate::statements::tell_optional_body;
-use crate::telling::{Part, Tell, TellSequence, tell_each, tell_private, tell_region};
+use crate::telling::{Part, TellNested, TellSequence, tell_private, tell_region};
 use ada_labels::LabelledSequence;
 use ada_regions::{Occurrence, Occurrences};
+use ada_simple_occurrences::{Tell, tell_each};
 use ada_tree::{
-    ContextClause, LibraryPackage, MainProcedure, Name, Package, PackageBody, PackageDeclaration,
+    ContextClause, LibraryPackage, MainProcedure, Package, PackageBody, PackageDeclaration,
     Sequence, SequenceParts, Unit,
 };
 use ann_base::NoMemory;
@@ -22,8 +23,8 @@ fn tell_statements_in<'t, Q: TellSequence>(
         (occurrences.new
         ≡ occurrences.old ++ (names_in_parts Q.names_in parts.now).statements) }
 {
-    parts.statements.tell(occurrences)?;
-    parts.handlers.tell(occurrences)
+    parts.statements.tell_nested(occurrences)?;
+    parts.handlers.tell_nested(occurrences)
 }
 
 impl TellSequence for Sequence {
@@ -40,53 +41,23 @@ impl TellSequence for Sequence {
     ) -> Result<(), NoMemory> {
         let parts = self.parts.get();
         match part {
-            Part::Declarations => parts.declarations.tell(occurrences),
+            Part::Declarations => parts.declarations.tell_nested(occurrences),
             Part::Labels => self.tell_sequence_labels(occurrences),
             Part::Statements => tell_statements_in(occurrences, parts),
         }
     }
 }
 
-/// A name of a context clause (10.1.2, 8.4).
-fn tell_clause_name<'t>(
-    occurrences: &mut Occurrences<'t>,
-    is_use: bool,
-    name: &'t Name,
-) -> Result<(), NoMemory>
-    ensures { OnOk result (occurrences.new ≡ occurrences.old ++ clause_with is_use name.now ∷ []) }
-{
-    if is_use {
-        occurrences.push(Occurrence::UsePackage { name })
-    } else {
-        occurrences.push(Occurrence::WithUnit { name })
-    }
-}
-
-/// The names of a context clause.
-impl Tell for ContextClause {
-    ghost use Rattle.ada_regions.specs.NamesInUnits.{names_in_clause};
-
-    ghost names = { names_in_clause };
-
-    fn tell<'t>(&'t self, occurrences: &mut Occurrences<'t>) -> Result<(), NoMemory> {
-        tell_clause_name(occurrences, self.is_use, &self.names.first)?;
-        for name in self.names.others.as_slice() {
-            tell_clause_name(occurrences, self.is_use, name)?;
-        }
-        Ok(())
-    }
-}
-
 /// What a package's declaration holds (7.1).
-impl Tell for PackageDeclaration {
+impl TellNested for PackageDeclaration {
     ghost use Rattle.std.specs.Prelude.{◌++◌};
     ghost use Rattle.ada_regions.specs.Occurrences.{if_there};
     ghost use Rattle.ada_regions.specs.NamesInUnits.{names_in_part, names_in_private_part};
 
     ghost names = { λ p. names_in_part p.declarations ++ if_there names_in_private_part p.private };
 
-    fn tell<'t>(&'t self, occurrences: &mut Occurrences<'t>) -> Result<(), NoMemory> {
-        self.declarations.tell(occurrences)?;
+    fn tell_nested<'t>(&'t self, occurrences: &mut Occurrences<'t>) -> Result<(), NoMemory> {
+        self.declarations.tell_nested(occurrences)?;
         tell_private(occurrences, &self.private)
     }
 }
@@ -129,19 +100,19 @@ fn tell_package_body<'t>(
     occurrences.push(Occurrence::BeginFurtherContext)?;
     tell_each(occurrences, context)?;
     occurrences.push(Occurrence::BeginPackageBody { name: &body.name })?;
-    body.declarations.tell(occurrences)?;
+    body.declarations.tell_nested(occurrences)?;
     tell_optional_body(occurrences, &body.sequence)?;
     occurrences.push(Occurrence::End)?;
     occurrences.push(Occurrence::End)?;
     occurrences.push(Occurrence::End)
 }
 
-impl Tell for LibraryPackage {
+impl TellNested for LibraryPackage {
     ghost use Rattle.ada_regions.specs.NamesInUnits.{names_in_library_package};
 
     ghost names = { names_in_library_package };
 
-    fn tell<'t>(&'t self, occurrences: &mut Occurrences<'t>) -> Result<(), NoMemory> {
+    fn tell_nested<'t>(&'t self, occurrences: &mut Occurrences<'t>) -> Result<(), NoMemory> {
         match &self.package {
             Package::Declaration(package) => {
                 tell_package_declaration(occurrences, self.context.as_slice(), package)
@@ -183,7 +154,7 @@ pub fn occurrences_of(alloc: Global, tree: &Unit) -> Result<Occurrences<'_>, NoM
     ensures occurrences { IfOk result (λ occurrences. occurrences ≡ names_in_unit tree.now) }
 {
     let mut occurrences = Occurrences::new(alloc);
-    tree.packages.tell(&mut occurrences)?;
+    tree.packages.tell_nested(&mut occurrences)?;
     tell_main(&mut occurrences, tree.context.as_slice(), &tree.main)?;
     Ok(occurrences)
 }

@@ -2,8 +2,8 @@ use Rattle.std.proofs.Common.{◌∷◌, ◌++◌}
 use Rattle.std.specs.List.{flat_map}
 use Rattle.ada_regions.specs.Occurrences.{hides, declares, a_protected, a_unit, one, within_region, if_there}
 use Rattle.ada_regions.specs.NamesInDeclarations.{names_in_aspects, names_in_operation, names_in_private}
-use Rattle.ada_occurrences.proofs.Told.{both_told, then_told, last_region}
-use Rattle.ada_occurrences.proofs.declarations.ProtectedDeclarationTell.tell.Goals as goal
+use Rattle.ada_simple_occurrences.proofs.Told.{both_told, then_told, last_region}
+use Rattle.ada_simple_occurrences.proofs.declarations.ProtectedDeclarationTell.tell.Goals as goal
 
 pub returns : goal.returns
 returns c =

@@ -1,6 +1,6 @@
 use Rattle.std.proofs.Common.{◌≡◌, ◌++◌, drop}
 use Rattle.std.specs.List.{flat_map}
-use Rattle.ada_occurrences.proofs.telling.tell_each.Given as goal
+use Rattle.ada_simple_occurrences.proofs.telling.tell_each.Given as goal
 
 abbrev pub invariant-loop-item : goal.invariant-loop-item
 invariant-loop-item g l = l.occurrences ++ flat_map g.T.Tell.names (drop l.item-index l.items) ≡ l.fn.occurrences ++ flat_map g.T.Tell.names l.items

@@ -1,6 +1,6 @@
 use Rattle.std.proofs.Common.{◌≡◌, ◌++◌, drop}
 use Rattle.ada_regions.specs.NamesInStatements.{names_in_parameters}
-use Rattle.ada_occurrences.proofs.statements.tell_parameters.Given as goal
+use Rattle.ada_simple_occurrences.proofs.statements.tell_parameters.Given as goal
 
 abbrev pub invariant-loop-parameter : goal.invariant-loop-parameter
 invariant-loop-parameter l =

@@ -1,8 +1,8 @@
 use Rattle.std.proofs.Common.{◌≡◌, ◌++◌, drop}
 use Rattle.std.specs.List.{flat_map}
 use Rattle.ada_regions.specs.Occurrences.{in_all, one}
-use Rattle.ada_occurrences.specs.Namings.{said_of}
-use Rattle.ada_occurrences.proofs.telling.tell_names.Given as goal
+use Rattle.ada_simple_occurrences.specs.Namings.{said_of}
+use Rattle.ada_simple_occurrences.proofs.telling.tell_names.Given as goal
 
 abbrev pub invariant-loop-name : goal.invariant-loop-name
 invariant-loop-name l =

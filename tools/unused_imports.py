@@ -11,7 +11,7 @@ import re
 import sys
 
 CRATES = pathlib.Path(__file__).resolve().parent.parent / "crates"
-TRAITS = {"FitExpression", "HasForm", "Imaged", "Judge", "LabelledSequence", "MakeSequence", "Read", "Readable", "SequenceHasForm", "Shelf", "Sink", "Tell", "TellLabels", "Write"}
+TRAITS = {"FitExpression", "HasForm", "Imaged", "Judge", "LabelledSequence", "MakeSequence", "Read", "Readable", "SequenceHasForm", "Shelf", "Sink", "Spell", "Tell", "TellLabels", "Write"}
 IMPORT = re.compile(r"^([ \t]*(?:ghost )?use [^;{}]+)(?:\{([^;{}]*)\})?;[ \t]*\n", re.MULTILINE)
 
 

@@ -1,41 +1,27 @@
 //! How select statements are spelt (ISO/IEC 8652:2012, 9.7).
-use crate::spelling::{Spell, Tokens, spell_after, spell_behind};
-use crate::spelling_statements::{
-    SpellSequence, spell_else, spell_end, spell_sequence_after, spell_statements, spell_word_alone,
+use crate::spelling_sequences::{
+    SpellSequence, SpellWhole, spell_behind, spell_else, spell_sequence_after, spell_statements,
 };
+use crate::spelling_statements::{spell_end, spell_word_alone};
 use ada_lex::Kind;
-use ada_tree::{
-    Alternative, SelectAlternative, SelectForm, SelectStatement, SequenceRole, Trigger,
-};
+use ada_tree::{Alternative, SelectAlternative, SelectForm, SelectStatement, SequenceRole};
 use ann_base::NoMemory;
-
-impl Spell for Trigger {
-    ghost use Rattle.ada_tree.specs.SpellingStatements.{trigger_written};
-
-    ghost written = { trigger_written };
-
-    fn spell(&self, tokens: &mut Tokens) -> Result<(), NoMemory> {
-        match self {
-            Trigger::Call(call) => call.spell(tokens),
-            Trigger::Delay(delay) => delay.spell(tokens),
-        }
-    }
-}
+use clause_spelling::{Spell, Tokens, spell_after};
 
 /// An alternative of a select statement, behind its guard (9.7.1).
-impl<Q: SpellSequence> Spell for SelectAlternative<Q> {
+impl<Q: SpellSequence> SpellWhole for SelectAlternative<Q> {
     ghost use Rattle.ada_tree.specs.SpellingStatements.{select_alternative_written};
 
     ghost written = { select_alternative_written Q.written };
 
-    fn spell(&self, tokens: &mut Tokens) -> Result<(), NoMemory> {
+    fn spell_whole(&self, tokens: &mut Tokens) -> Result<(), NoMemory> {
         if let Some(guard) = &self.guard {
             spell_after(tokens, Kind::Word, b"when", &guard.condition)?;
             tokens.delimiter(b"=>")?;
         }
         match &self.alternative {
             Alternative::Accept { accept, statements } => {
-                accept.spell(tokens)?;
+                accept.spell_whole(tokens)?;
                 spell_statements(tokens, statements)
             }
             Alternative::Delay { delay, statements } => {
@@ -48,17 +34,17 @@ impl<Q: SpellSequence> Spell for SelectAlternative<Q> {
 }
 
 /// The forms of select statements (9.7.1 to 9.7.4).
-impl<Q: SpellSequence> Spell for SelectForm<Q> {
+impl<Q: SpellSequence> SpellWhole for SelectForm<Q> {
     ghost use Rattle.ada_tree.specs.SpellingStatements.{select_form_written};
 
     ghost written = { select_form_written Q.written };
 
-    fn spell(&self, tokens: &mut Tokens) -> Result<(), NoMemory> {
+    fn spell_whole(&self, tokens: &mut Tokens) -> Result<(), NoMemory> {
         match self {
             SelectForm::SelectiveAccept(select) => {
                 let alternatives = &select.alternatives;
-                alternatives.first.spell(tokens)?;
-                spell_behind(tokens, Kind::Word, b"or", alternatives.others.as_slice())?;
+                alternatives.first.spell_whole(tokens)?;
+                spell_behind(tokens, b"or", alternatives.others.as_slice())?;
                 spell_else(tokens, &select.otherwise)
             }
             SelectForm::TimedEntryCall(select) => {
@@ -88,13 +74,14 @@ impl<Q: SpellSequence> Spell for SelectForm<Q> {
 }
 
 /// A select statement (9.7).
-impl<Q: SpellSequence> Spell for SelectStatement<Q> {
+impl<Q: SpellSequence> SpellWhole for SelectStatement<Q> {
     ghost use Rattle.ada_tree.specs.SpellingStatements.{select_written};
 
     ghost written = { select_written Q.written };
 
-    fn spell(&self, tokens: &mut Tokens) -> Result<(), NoMemory> {
-        spell_after(tokens, Kind::Word, b"select", &self.form)?;
+    fn spell_whole(&self, tokens: &mut Tokens) -> Result<(), NoMemory> {
+        tokens.word(b"select")?;
+        self.form.spell_whole(tokens)?;
         spell_end(tokens, b"select")
     }
 }

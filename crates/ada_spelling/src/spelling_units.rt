@@ -1,19 +1,20 @@
-//! How sequences, library units and a source are spelt (ISO/IEC 8652:2012, 11.2, 3.11, 2.8, clause 7, 10.1).
+//! How sequences, library units and a source are spelt (ISO/IEC 8652:2012, 11.2, 3.11, clause 7, 10.1).
 ghost use Rattle.std.specs.Prelude.{◌≡◌, ◌++◌, map, OnOk, IfOk};
-ghost use Rattle.ada_spelling.specs.Spelt.{spelt};
+ghost use Rattle.clause_spelling.specs.Spelt.{spelt};
 ghost use Rattle.ada_tree.specs.Spelling.{handlers_written, handled_written, unit_written};
 
-use crate::spelling::{
-    Spell, Spelt, Tokens, spell_after, spell_between, spell_each, spell_led, spell_separated,
+use crate::spelling_bodies::spell_body;
+use crate::spelling_sequences::{
+    SpellSequence, SpellWhole, spell_after, spell_each, spell_sequence_after,
 };
-use crate::spelling_declarations::{spell_body, spell_name_and_aspects, spell_named_end};
-use crate::spelling_statements::{SpellSequence, spell_sequence_after};
-use ada_lex::Kind;
 use ada_tree::{
-    ContextClause, Handler, LibraryPackage, MainProcedure, Package, PackageBody,
-    PackageDeclaration, Pragma, Sequence, SequenceParts, SequenceRole, Unit,
+    Handler, LibraryPackage, MainProcedure, Package, PackageBody, PackageDeclaration, Sequence,
+    SequenceParts, SequenceRole, Unit,
 };
 use ann_base::NoMemory;
+use clause_spelling::{
+    Spell, Spelt, Tokens, spell_between, spell_name_and_aspects, spell_named_end,
+};
 use std::alloc::Global;
 
 /// The tokens that spell the tree of a source, in order (10.1).
@@ -22,9 +23,9 @@ pub fn spell(alloc: Global, tree: &Unit) -> Result<Vec<Spelt>, NoMemory>
 {
     let mut tokens = Tokens::new(alloc);
     tree.pragmas.spell(&mut tokens)?;
-    tree.packages.spell(&mut tokens)?;
+    tree.packages.spell_whole(&mut tokens)?;
     tree.context.spell(&mut tokens)?;
-    tree.main.spell(&mut tokens)?;
+    tree.main.spell_whole(&mut tokens)?;
     Ok(tokens.into_vec())
 }
 
@@ -39,7 +40,7 @@ fn spell_handlers<Q: SpellSequence>(
     match handlers {
         [] => Ok(()),
         [first, others @ ..] => {
-            spell_after(tokens, Kind::Word, b"exception", first)?;
+            spell_after(tokens, b"exception", first)?;
             spell_each(tokens, others)
         }
     }
@@ -53,7 +54,7 @@ fn spell_handled<Q: SpellSequence>(
     ensures { OnOk result
         (tokens.new ≡ tokens.old ++ map spelt (handled_written Q.written parts.now)) }
 {
-    parts.statements.spell(tokens)?;
+    parts.statements.spell_whole(tokens)?;
     spell_handlers(tokens, parts.handlers.as_slice())
 }
 
@@ -64,10 +65,10 @@ impl<Q: SpellSequence> SpellSequence for SequenceParts<Q> {
 
     fn spell_as(&self, role: SequenceRole, tokens: &mut Tokens) -> Result<(), NoMemory> {
         match role {
-            SequenceRole::Statements => self.statements.spell(tokens),
+            SequenceRole::Statements => self.statements.spell_whole(tokens),
             SequenceRole::Handled => spell_handled(tokens, self),
             SequenceRole::Body => {
-                self.declarations.spell(tokens)?;
+                self.declarations.spell_whole(tokens)?;
                 tokens.word(b"begin")?;
                 spell_handled(tokens, self)
             }
@@ -86,58 +87,33 @@ impl SpellSequence for Sequence {
     }
 }
 
-/// A pragma (2.8).
-impl Spell for Pragma {
-    ghost use Rattle.ada_tree.specs.Spelling.{pragma_written};
-
-    ghost written = { pragma_written };
-
-    fn spell(&self, tokens: &mut Tokens) -> Result<(), NoMemory> {
-        spell_after(tokens, Kind::Word, b"pragma", &self.name)?;
-        tokens.delimiter(b"(")?;
-        spell_separated(tokens, b",", &self.arguments)?;
-        tokens.delimiter(b")")?;
-        tokens.delimiter(b";")
-    }
-}
-
-/// A clause of a context (10.1.2, 8.4).
-impl Spell for ContextClause {
-    ghost use Rattle.ada_tree.specs.Spelling.{clause_written};
-
-    ghost written = { clause_written };
-
-    fn spell(&self, tokens: &mut Tokens) -> Result<(), NoMemory> {
-        tokens.word(if self.is_use { b"use" } else { b"with" })?;
-        spell_separated(tokens, b",", &self.names)?;
-        tokens.delimiter(b";")
-    }
-}
-
 /// A package's declaration (7.1).
-impl Spell for PackageDeclaration {
+impl SpellWhole for PackageDeclaration {
     ghost use Rattle.ada_tree.specs.Spelling.{package_declaration_written};
 
     ghost written = { package_declaration_written };
 
-    fn spell(&self, tokens: &mut Tokens) -> Result<(), NoMemory> {
+    fn spell_whole(&self, tokens: &mut Tokens) -> Result<(), NoMemory> {
         spell_between(tokens, b"package", &self.name, b"is")?;
-        self.declarations.spell(tokens)?;
-        spell_led(tokens, Kind::Word, b"private", &self.private)?;
+        self.declarations.spell_whole(tokens)?;
+        if let Some(declarations) = &self.private {
+            tokens.word(b"private")?;
+            declarations.spell_whole(tokens)?;
+        }
         spell_named_end(tokens, self.named_at_end, &self.name)
     }
 }
 
 /// A package's body (7.2).
-impl Spell for PackageBody {
+impl SpellWhole for PackageBody {
     ghost use Rattle.ada_tree.specs.Spelling.{package_body_written};
 
     ghost written = { package_body_written };
 
-    fn spell(&self, tokens: &mut Tokens) -> Result<(), NoMemory> {
+    fn spell_whole(&self, tokens: &mut Tokens) -> Result<(), NoMemory> {
         tokens.word(b"package")?;
         spell_between(tokens, b"body", &self.name, b"is")?;
-        self.declarations.spell(tokens)?;
+        self.declarations.spell_whole(tokens)?;
         if let Some(sequence) = &self.sequence {
             spell_sequence_after(tokens, b"begin", SequenceRole::Handled, sequence)?;
         }
@@ -146,27 +122,27 @@ impl Spell for PackageBody {
 }
 
 /// A package with its context (10.1.1).
-impl Spell for LibraryPackage {
+impl SpellWhole for LibraryPackage {
     ghost use Rattle.ada_tree.specs.Spelling.{library_package_written};
 
     ghost written = { library_package_written };
 
-    fn spell(&self, tokens: &mut Tokens) -> Result<(), NoMemory> {
+    fn spell_whole(&self, tokens: &mut Tokens) -> Result<(), NoMemory> {
         self.context.spell(tokens)?;
         match &self.package {
-            Package::Declaration(declaration) => declaration.spell(tokens),
-            Package::Body(body) => body.spell(tokens),
+            Package::Declaration(declaration) => declaration.spell_whole(tokens),
+            Package::Body(body) => body.spell_whole(tokens),
         }
     }
 }
 
 /// The main procedure (6.3, 10.2).
-impl Spell for MainProcedure {
+impl SpellWhole for MainProcedure {
     ghost use Rattle.ada_tree.specs.Spelling.{main_written};
 
     ghost written = { main_written };
 
-    fn spell(&self, tokens: &mut Tokens) -> Result<(), NoMemory> {
+    fn spell_whole(&self, tokens: &mut Tokens) -> Result<(), NoMemory> {
         tokens.word(b"procedure")?;
         spell_name_and_aspects(tokens, &self.name, self.aspects.as_slice())?;
         spell_body(tokens, &self.name, &self.body)

@@ -1,8 +1,7 @@
-pub mod FineMoves
 pub mod TaskEdits
 pub mod OpenCounts
 pub mod Steady
-pub mod Kept
+pub mod FreeActs
 pub mod ExitTies
 pub mod ExitMoves
 pub mod ExitRuns

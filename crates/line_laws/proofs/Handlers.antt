@@ -4,7 +4,6 @@ pub mod AgentWorlds
 pub mod AgentMarks
 pub mod SparedMoves
 pub mod SparedReleases
-pub mod OwnSteps
 pub mod OwnMoves
 pub mod Mixed
 pub mod AgentEnds

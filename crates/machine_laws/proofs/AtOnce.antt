@@ -7,7 +7,8 @@ use Rattle.profile_machine.specs.declared.world.World.{World}
 use Rattle.profile_machine.specs.declared.world.tasks.Task.{Task}
 use Rattle.profile_machine.specs.Tasks.{task_at, edit_task_found, edit_task}
 use Rattle.machine_laws.proofs.Moves.{Moves}
-use Rattle.machine_laws.proofs.FineMoves.{AnyWorld}
+use Rattle.machine_laws.proofs.FineMoves.{AnyWorld, Anybody, finely}
+use Rattle.machine_laws.proofs.FinestMoves.{FinestMoves, finest}
 use Rattle.machine_laws.proofs.Kept.Combinators.{Alters}
 
 -- the time, and who ran the tick before
@@ -72,6 +73,9 @@ at_once = record {
   keeps_interrupt = λ n flag w. refl;
   cuts_script = λ x rest w is due. refl;
 }
+
+pub finely_at_once : FinestMoves AnyWorld Anybody Anybody AtOnce AtOnce
+finely_at_once = finest (finely at_once)
 
 -- so what was later before a change is later behind it
 pub later_behind : (f : World → World) (w : World) (moment : ℤ) → Alters AnyWorld AtOnce f → int_lt (pos w.time) moment ≡ true → int_lt (pos (f w).time) moment ≡ true

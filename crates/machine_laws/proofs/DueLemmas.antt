@@ -25,7 +25,8 @@ use Rattle.profile_machine.specs.Run.{opening, tock, blank_world, opens}
 use Rattle.machine_laws.specs.DueLaws.{all_later, none_before}
 use Rattle.machine_laws.specs.Reached.{Comes, opened, ticked, Reached, before, behind}
 use Rattle.machine_laws.proofs.Kept.Handlers.{releasing}
-use Rattle.machine_laws.proofs.FineMoves.{finely, AnyWorld}
+use Rattle.machine_laws.proofs.FineMoves.{AnyWorld}
+use Rattle.machine_laws.proofs.FinestMoves.{all_of, tocks_of}
 use Rattle.machine_laws.proofs.ListLemmas.{both}
 use Rattle.machine_laws.proofs.Moves.{Moves, TockMoves}
 use Rattle.machine_laws.proofs.Kept.Combinators.{Keeps, Leads, then-leads, settles-leads, world_behind, kept-world}
@@ -250,7 +251,7 @@ module _ (p : Image) (events : Bool) where
   taken_if fuel (Some a) w said is most others =
       let dropped = drop_appointment (is_the_same_due a.due) w in
       let less = fewer events w.time (λ x. is_the_same_due a.due x.due) a (is_itself a.due) w.appointments is in
-      let kept = (kept-world (NeverMore events) dropped said (come_due p a.due dropped said) (come_due-keeps (finely (never_more events)) (releasing (never_more events)) p a.due dropped tt said)).1.1 in
+      let kept = (kept-world (NeverMore events) dropped said (come_due p a.due dropped said) (come_due-keeps (all_of (never_more events)).fine (releasing (all_of (never_more events))) p a.due dropped tt said)).1.1 in
       none_behind fuel (all_due fuel p events) (come_due p a.due dropped said) (omega (arith, less, kept, most)) others
 
   taken : (fuel : ℕ) (w : World) (said : List Said) → due_in events w ≤ fuel → due_in events (world_behind (all_due fuel p events w said)) ≤ 0
@@ -268,8 +269,8 @@ behind_moments p = timers_due p ▶ budgets_due p ▶ quantum_spent p
 
 behind_moments-leads : (events : Bool) (p : Image) → Leads AnyWorld (NeverMore events) (behind_moments p)
 behind_moments-leads events p =
-    then-leads (finely (never_more events)) (timers_due p) (budgets_due p ▶ quantum_spent p) (timers_due-leads (finely (never_more events)) (releasing (never_more events)) p)
-    (then-leads (finely (never_more events)) (budgets_due p) (quantum_spent p) (budgets_due-leads (finely (never_more events)) (releasing (never_more events)) p) (quantum_spent-leads (finely (never_more events)) (releasing (never_more events)) p))
+    then-leads (all_of (never_more events)).fine (timers_due p) (budgets_due p ▶ quantum_spent p) (timers_due-leads (all_of (never_more events)).fine (releasing (all_of (never_more events))) p)
+    (then-leads (all_of (never_more events)).fine (budgets_due p) (quantum_spent p) (budgets_due-leads (all_of (never_more events)).fine (releasing (all_of (never_more events))) p) (quantum_spent-leads (all_of (never_more events)).fine (releasing (all_of (never_more events))) p))
 
 instant-none : (events : Bool) (p : Image) (w : World) → due_in events (instant p w).0 ≤ 0
 unfolding Leads
@@ -278,7 +279,7 @@ instant-none true p w =
     let taken_events = (events_due p came).0 in
     let taken_moments = (moments_due p taken_events).0 in
     let first = appointments_due-none p true came in
-    let second = (moments_due-leads (finely (never_more true)) (releasing (never_more true)) p taken_events tt).1 in
+    let second = (moments_due-leads (all_of (never_more true)).fine (releasing (all_of (never_more true))) p taken_events tt).1 in
     let third = (behind_moments-leads true p taken_moments tt).1 in
     omega (arith, first, second, third)
 instant-none false p w =
@@ -334,16 +335,16 @@ opening-none : (p : Image) (script : List (ℤ × Item)) → none_before (openin
 unfolding Leads
 opening-none p script =
     let o = (opening p script).0 in
-    let events = (settles-leads (finely (never_more true)) p (opens p) (opens-keeps (never_more true) p) (blank_world p script) tt).1 in
-    let others = (settles-leads (finely (never_more false)) p (opens p) (opens-keeps (never_more false) p) (blank_world p script) tt).1 in
+    let events = (settles-leads (all_of (never_more true)).fine p (opens p) (opens-keeps (all_of (never_more true)) p) (blank_world p script) tt).1 in
+    let others = (settles-leads (all_of (never_more false)).fine p (opens p) (opens-keeps (all_of (never_more false)) p) (blank_world p script) tt).1 in
     later-none_before o (all_are_later o.time o.appointments events others)
 
 tock-none : (p : Image) (w : World) → due_in true w ≤ 0 → due_in false w ≤ 0 → none_before (tock p w).0 ≡ true
 unfolding Leads
 tock-none p w h k =
     let ready = (before_tick p (choose w) w).0 in
-    let events = (before_tick-leads (never_more true) (never_more-tocks true) p (choose w) w tt).1 in
-    let others = (before_tick-leads (never_more false) (never_more-tocks false) p (choose w) w tt).1 in
+    let events = (before_tick-leads (all_of (never_more true)) (tocks_of (never_more-tocks true)) p (choose w) w tt).1 in
+    let others = (before_tick-leads (all_of (never_more false)) (tocks_of (never_more-tocks false)) p (choose w) w tt).1 in
     let later = all_are_later ready.time ready.appointments (omega (arith, events, h)) (omega (arith, others, k)) in
     subst (λ t. none_before t.0 ≡ true) (sym (tock-parts p w))
     (all_too (λ a. int_lt (pos ready.time) a.moment) (λ a. int_le (pos (suc ready.time)) a.moment) (λ a e. not_before_next ready.time a.moment e) ready.appointments later)

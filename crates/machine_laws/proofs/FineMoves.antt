@@ -224,7 +224,7 @@ AnyRegion name r = Unit {0}
 abbrev pub AnyRelease : Who → Option ℕ → Type 0
 AnyRelease name n = Unit {0}
 
-each-anybody : (ts : List Task) → EachIs Anybody ts
+pub each-anybody : (ts : List Task) → EachIs Anybody ts
 each-anybody [] = tt
 each-anybody (t ∷ ts) = (tt, each-anybody ts)
 

@@ -19,7 +19,7 @@ use Rattle.profile_machine.specs.Instant.{instant}
 use Rattle.profile_machine.specs.Run.{say, says_run, serve_if_free, serve, says_idle, opens, opening, blank_world, tock}
 use Rattle.profile_machine.specs.declared.run_data.Item.{Item}
 use Rattle.machine_laws.specs.LineKinds.{is_of_effect, is_of_tock, is_no_end, AllAre}
-use Rattle.machine_laws.proofs.FineMoves.{finely}
+use Rattle.machine_laws.proofs.FinestMoves.{all_of}
 use Rattle.machine_laws.proofs.Moves.{Moves}
 use Rattle.machine_laws.proofs.Kept.Combinators.{Leads, settles-leads}
 use Rattle.machine_laws.proofs.Kept.Instant.{instant-leads}
@@ -118,7 +118,7 @@ of_effects = record {
 
 pub instants_say_effects : (p : Image) (w : World) → AllAre is_of_effect (instant p w).1
 unfolding Leads
-instants_say_effects p w = instant-leads of_effects p (record { puts = λ name s pieces text v w good is e. tt }) w tt
+instants_say_effects p w = instant-leads (all_of of_effects) p (record { puts = λ name s pieces text v w good is e. tt }) w tt
 
 -- ---- tocks
 
@@ -172,7 +172,7 @@ tock-no_end-lines p w = AllAre-also is_of_tock is_no_end tock-no_end (tock p w).
 
 pub openings_say_effects : (p : Image) (script : List (ℤ × Item)) → AllAre is_of_effect (opening p script).1
 unfolding Leads
-openings_say_effects p script = settles-leads (finely of_effects) p (opens p) (opens-keeps of_effects p) (blank_world p script) tt
+openings_say_effects p script = settles-leads (all_of of_effects).fine p (opens p) (opens-keeps (all_of of_effects) p) (blank_world p script) tt
 
 pub opening-no_end : (p : Image) (script : List (ℤ × Item)) → AllAre is_no_end (opening p script).1
 opening-no_end p script = AllAre-also is_of_effect is_no_end effect-no_end (opening p script).1 (openings_say_effects p script)

@@ -16,7 +16,7 @@ use Rattle.profile_machine.specs.Instant.{instant}
 use Rattle.profile_machine.specs.Run.{opens, opening, blank_world, tock}
 use Rattle.machine_laws.specs.PlaceLaws.{places_differ, places_fall}
 use Rattle.machine_laws.specs.Reached.{Reached}
-use Rattle.machine_laws.proofs.FineMoves.{finely}
+use Rattle.machine_laws.proofs.FinestMoves.{all_of, tocks_of}
 use Rattle.machine_laws.proofs.OrderLemmas.{Descends, Descends-after_all, Descends-adjacent, Differ, Differ-after_all, Differ-all}
 use Rattle.machine_laws.proofs.ReachedLemmas.{Lasts, reached-lasts}
 use Rattle.machine_laws.specs.LineKinds.{is_of_tock, AllAre}
@@ -111,15 +111,15 @@ tock_lines-places (x ∷ xs) places a = ap (places_after_all xs) (tock_line-plac
 
 pub openings_place_by_lines : (p : Image) (script : List (ℤ × Item)) → (opening p script).0.places ≡ places_after_all (opening p script).1 []
 unfolding Leads
-openings_place_by_lines p script = settles-leads (finely place_by_lines) p (opens p) (opens-keeps place_by_lines p) (blank_world p script) tt
+openings_place_by_lines p script = settles-leads (all_of place_by_lines).fine p (opens p) (opens-keeps (all_of place_by_lines) p) (blank_world p script) tt
 
 pub instants_place_by_lines : (p : Image) (w : World) → (instant p w).0.places ≡ places_after_all (instant p w).1 w.places
 unfolding Leads
-instants_place_by_lines p w = instant-leads place_by_lines p (record { puts = λ name s pieces text v w good is e. refl }) w tt
+instants_place_by_lines p w = instant-leads (all_of place_by_lines) p (record { puts = λ name s pieces text v w good is e. refl }) w tt
 
 before_tick-places : (p : Image) (chosen : Option Who) (w : World) → PlacesFollow w (before_tick p chosen w).1 (before_tick p chosen w).0
 unfolding Leads
-before_tick-places p chosen w = before_tick-leads place_by_lines tocks_place_by_lines p chosen w tt
+before_tick-places p chosen w = before_tick-leads (all_of place_by_lines) (tocks_of tocks_place_by_lines) p chosen w tt
 
 pub tocks_place_nobody : (p : Image) (w : World) → (tock p w).0.places ≡ w.places
 tocks_place_nobody p w =

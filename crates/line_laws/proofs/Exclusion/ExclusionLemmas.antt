@@ -37,7 +37,7 @@ use Rattle.profile_machine.specs.Calls.{edit_object}
 use Rattle.profile_machine.specs.Instant.{instant}
 use Rattle.profile_machine.specs.Run.{opens, opening, blank_world, tock, run_of}
 use Rattle.machine_laws.specs.LineKinds.{is_of_tock}
-use Rattle.machine_laws.proofs.FineMoves.{finely}
+use Rattle.machine_laws.proofs.FinestMoves.{all_of, tocks_of}
 use Rattle.machine_laws.proofs.ListLemmas.{Falls, Falls-without, Falls-edit_where}
 use Rattle.machine_laws.proofs.Moves.{Moves, TockMoves, LetsIn, FindsHeld, AreOthers, is_told_apart, own}
 use Rattle.machine_laws.proofs.Kept.Combinators.{Leads, settles-leads}
@@ -339,19 +339,19 @@ OpenActions s w = ShowsActions s w
 openings-lead_on : (p : Image) (script : List (ℤ × Item)) → Leads_on actions_after enters_rightly OpenActions [] (opening p script).1 (opening p script).0
 unfolding Leads OpenActions
 openings-lead_on p script =
-    let h = settles-leads (finely tells) p (opens p) (opens-keeps tells p) (blank_world p script) tt [] (λ o x e. absurd cc, λ n high. refl, tt) in
+    let h = settles-leads (all_of tells).fine p (opens p) (opens-keeps (all_of tells) p) (blank_world p script) tt [] (λ o x e. absurd cc, λ n high. refl, tt) in
     record { follow = h.0; shows = h.1 }
 
 instants-lead_on : (p : Image) (s : List shown.Action) (w : World) → OpenActions s w → Leads_on actions_after enters_rightly OpenActions s (instant p w).1 (instant p w).0
 unfolding Leads OpenActions
 instants-lead_on p s w a =
-    let h = instant-leads tells p (record { puts = λ name number pieces text v x good is e q g. (q, refl, g) }) w tt s a in
+    let h = instant-leads (all_of tells) p (record { puts = λ name number pieces text v x good is e q g. (q, refl, g) }) w tt s a in
     record { follow = h.0; shows = h.1 }
 
 tocks-lead_on : (p : Image) (s : List shown.Action) (w : World) → OpenActions s w → Leads_on actions_after enters_rightly OpenActions s (tock p w).1 (tock p w).0
 unfolding Leads OpenActions
 tocks-lead_on p s w a =
-    let h = before_tick-leads tells tocks p (choose w) w tt s a in
+    let h = before_tick-leads (all_of tells) (tocks_of tocks) p (choose w) w tt s a in
     subst (λ (t : World × List Event). Leads_on actions_after enters_rightly OpenActions s t.1 t.0) (sym (tock-parts p w)) (record { follow = h.0; shows = h.1 })
 
 exclusion : OfRuns actions_after enters_rightly OpenActions []

@@ -1,9 +1,11 @@
 -- Every change that the machine makes keeps the tie between the lines of protected actions and their marks.
-use Rattle.std.proofs.Common.{◌≡◌, true, List, [], Option, refl, sym, ap, subst, arith}
+use Rattle.std.proofs.Common.{◌≡◌, true, List, [], Option, Some, None, refl, sym, ap, subst, arith}
 use Rattle.trace_text.specs.declared.events.Action as shown
 use Rattle.trace_text.specs.declared.events.Event.{Event}
 use Rattle.trace_text.specs.declared.events.Event.TheVariants as written
+use Rattle.trace_text.specs.declared.events.Mode.TheVariants.{Write}
 use Rattle.trace_text.specs.declared.events.Who.{Who}
+use Rattle.trace_text.specs.declared.events.Who.TheVariants as who
 use Rattle.trace_text.specs.Laws.{actions_after}
 use Rattle.profile_machine.specs.declared.run_data.Leaving.{Leaving}
 use Rattle.profile_machine.specs.declared.numbers.StatementNo.{StatementNo}
@@ -19,12 +21,14 @@ use Rattle.profile_machine.specs.Frames.{push, pop, edit_first, edit_top, goes_o
 use Rattle.profile_machine.specs.Controlled.{edit_scope_mark, edit_top_scope}
 use Rattle.profile_machine.specs.Tasking.{being_left_mark, left_so_frame}
 use Rattle.machine_laws.specs.LineKinds.{is_of_tock}
-use Rattle.machine_laws.proofs.Moves.{TockMoves}
 use Rattle.line_laws.proofs.Ticks.LineByLine.{seen_behind-append, Follow-append}
 use Rattle.line_laws.specs.ExitLaws.{exits_rightly}
-use Rattle.line_laws.proofs.Exits.FineMoves.{AnyWorld, Anybody, FineMoves, RegionMoves, each-anybody, natures, action_in, gone_on}
-use Rattle.line_laws.proofs.Exits.Kept.Frames.{first-natures}
+use Rattle.machine_laws.proofs.FineMoves.{AnyWorld, Anybody, each-anybody, gone_on}
+use Rattle.machine_laws.proofs.FinestMoves.{FinestMoves, AllMoves, TockChanges, natures, action_in}
+use Rattle.machine_laws.proofs.Kept.Frames.{first-natures}
 use Rattle.line_laws.proofs.Exits.OpenCounts.{count-first}
+use Rattle.line_laws.proofs.Exits.Steady.{Holds}
+use Rattle.line_laws.proofs.Exits.FreeActs.{held-on_top}
 use Rattle.line_laws.proofs.Exits.ExitTies.{Credit, Tied, Tells, Shown, actions_behind, unmoved, moved, edited-tied, same-tied, pushed-tied, popped-tied, added-tied, forgotten-tied, opens-tied, begins-tells, ends-tells, visits-tells, settled-tells, then-tells, other-tells}
 
 gone-tied : (name : Who) (onward : Option StatementNo) (w : World) (c : Credit) (s : List shown.Action) → Tied s c w → Tied s c (gone_on name onward w)
@@ -55,7 +59,7 @@ leaving-tied name leaving w c s h =
 
 -- ---- the changes
 
-fine : FineMoves AnyWorld Anybody Anybody Tells Shown
+fine : FinestMoves AnyWorld Anybody Anybody Tells Shown
 fine = record {
   behind = λ a b h. tt;
   moved = λ a b h. tt;
@@ -96,11 +100,10 @@ fine = record {
   forgets_call = λ c w g. unmoved w;
   edits_object = λ o f w g number actions. unmoved w;
   adds_object = λ p l u w g. unmoved w;
-  inside = λ name o mode w g. tt;
-  begins = λ name o mode call release w v {xs} g lets k. begins-tells name o mode call release w v xs k;
+  inside = λ name o mode w g lets. tt;
   visits = λ name o mode xs w v g lets quiet k. visits-tells name o mode xs w v quiet k;
   finds_held = λ name o mode w g finds c s h. (s, refl, h);
-  appoints = λ due moment w g. unmoved w;
+  appoints = λ due moment w g later. unmoved w;
   drops_appointment = λ test w g. unmoved w;
   registers = λ name l w g c s h. (s, refl, h);
   finalizes = λ name f m r x w g may top is region left next c s h. (s, refl, h);
@@ -119,20 +122,24 @@ fine = record {
   cuts_script = λ x rest w g is due. unmoved w;
 }
 
-pub telling : RegionMoves Tells Shown
+pub telling : AllMoves AnyWorld Holds Tells Shown
 telling = record {
   fine = fine;
   openings = record {
     pushes = λ name f w g may region release action abortable. moved w (push name f w) (pushed-tied name f w action);
+    begins = λ name o mode call may w v xs g lets k. begins-tells name o mode call None w v xs k;
     opens_scope = λ p name scope b purpose w g may c s h. (s, refl, opens-tied p name scope b purpose w c s h);
     outside = λ name w g may is. tt;
     within_part = λ name f w g may top is. tt;
+  };
+  regions = record {
     owned = λ name f r w g may top is. tt;
     awaits_dependents = λ name r w g may owns is. tt;
   };
-  exits = record { exits = λ name m w g may top. ends-tells name m w top };
-  releases = λ handler argument w c s h. (s, refl, h);
-  has_served = λ r w is c s h. (s, refl, h);
+  ends = record { exits = λ name m w g may may_end held. ends-tells name m w (held-on_top name m.object w held) };
+  handles = λ o n w v xs g lets k. begins-tells who.Agent o Write None (Some n) w v xs k;
+  releases = λ handler argument w g c s h. (s, refl, h);
+  has_served = λ r w g is c s h. (s, refl, h);
 }
 
 -- what a tock does besides
@@ -141,8 +148,8 @@ tock-right s (written.Enter name object mode) e = absurd cc
 tock-right s (written.Exit name object) e = absurd cc
 tock-right s _ e = (refl, refl)
 
-pub tock_moves : TockMoves Shown
+pub tock_moves : TockChanges AnyWorld Shown
 tock_moves = record {
-  tells = λ event w e c s h. let r = tock-right s event e in ((r.0, tt), subst (λ t. Tied t c w) (sym r.1) h);
-  serves = λ r rest w e c s h. (tt, h);
+  tells = λ event w g e c s h. let r = tock-right s event e in ((r.0, tt), subst (λ t. Tied t c w) (sym r.1) h);
+  serves = λ r rest w g e c s h. (tt, h);
 }

@@ -10,7 +10,7 @@ use Rattle.trace_text.specs.declared.events.Who.TheVariants as who
 use Rattle.profile_machine.specs.declared.world.tasks.Task.{Task}
 use Rattle.profile_machine.specs.Words.{option_or_else}
 use Rattle.profile_machine.specs.Tasks.{nobody, is_who}
-use Rattle.line_laws.proofs.Exits.FineMoves.{natures}
+use Rattle.machine_laws.proofs.FinestMoves.{natures}
 use Rattle.line_laws.proofs.Exits.OpenCounts.{count}
 use Rattle.trace_text.specs.Queue.{Line, follows_lines}
 use Rattle.trace_text.specs.Laws.{actions_after, is_exclusive, ExclusiveOk}
@@ -26,9 +26,10 @@ use Rattle.line_laws.proofs.Ticks.LineByLine.{both, Follow-append, seen_behind-a
 use Rattle.line_laws.specs.ExclusionLaws.{enters_rightly}
 use Rattle.line_laws.proofs.Exclusion.ExclusionLemmas.{runs_exclude}
 use Rattle.line_laws.specs.ExitLaws.{IsRunnerFree, RunnersAreFree, exits_rightly}
-use Rattle.line_laws.proofs.Exits.Kept.Combinators.{Leads, settles-leads}
-use Rattle.line_laws.proofs.Exits.Kept.Instant.{instant-leads}
-use Rattle.line_laws.proofs.Exits.Kept.Run.{tock-parts, before_tick-leads, opens-keeps}
+use Rattle.machine_laws.proofs.Kept.Combinators.{Leads, settles-leads}
+use Rattle.machine_laws.proofs.Kept.Instant.{instant-from}
+use Rattle.machine_laws.proofs.Kept.Run.{tock-parts, before_tick-leads, opens-keeps}
+use Rattle.line_laws.proofs.Exits.FreeActs.{stays_held, acts_free, runner-free}
 use Rattle.line_laws.proofs.Exits.ExitTies.{Tied, RightOf, actions_behind, no_credit}
 use Rattle.line_laws.proofs.Exits.ExitMoves.{telling, tock_moves}
 
@@ -50,7 +51,7 @@ unfolding Leads
 opening-led p script = settles-leads telling.fine p (opens p) (opens-keeps telling p) (blank_world p script) tt no_credit [] (blank-tied p script)
 
 instant-led : (p : Image) (s : List shown.Action) (w : World) → IsRunnerFree w → Tied s no_credit w → let i = instant p w in LedOn s i.1 i.0
-instant-led p s w free h = instant-leads telling p (record { puts = λ name number pieces text v x good is e c q g. (q, refl, g) }) w free no_credit s h
+instant-led p s w free h = instant-from telling stays_held acts_free p (record { puts = λ name number pieces text v x good is e c q g. (q, refl, g) }) w tt (λ name ran over. runner-free w free name ran over) no_credit s h
 
 tock-led : (p : Image) (s : List shown.Action) (w : World) → Tied s no_credit w → let t = tock p w in LedOn s t.1 t.0
 unfolding Leads

@@ -41,7 +41,8 @@ use Rattle.line_laws.proofs.Exclusion.OwnLines.{told, Told, Told-append, Told-in
 use Rattle.line_laws.proofs.Exclusion.ObjectLists.{by_test}
 use Rattle.line_laws.proofs.Exclusion.ActionLists.{closed-new}
 use Rattle.line_laws.specs.ExitLaws.{exits_rightly}
-use Rattle.line_laws.proofs.Exits.FineMoves.{natures, nature, action_first, top_action, is_placing, is_of_region, is_apart, AreQuiet}
+use Rattle.machine_laws.proofs.FineMoves.{is_placing}
+use Rattle.machine_laws.proofs.FinestMoves.{natures, nature, action_first, top_action, is_of_region, is_apart, AreQuiet}
 use Rattle.line_laws.proofs.Exits.TaskEdits.{one_of, one_of-is, same_who-path, edited, edited_to, added, gone}
 use Rattle.line_laws.proofs.Exits.OpenCounts.{bit, is_own, opened, is_same, opened-any, who_eq-self, closed-least, is_on, count, count-pop, count-top}
 
@@ -91,7 +92,7 @@ told-other part (said.Enter name object mode) s f e h = absurd (false≢true (sy
 told-other part (said.Exit name object) s f e h = absurd (false≢true (sym e))
 told-other part _ s f e h = h
 
-first_of_three : (a b c : Bool) → (a || b || c) ≡ false → a ≡ false
+first_of_three : (a b c : Bool) → ((a || b) || c) ≡ false → a ≡ false
 first_of_three true b c e = e
 first_of_three false b c e = refl
 

@@ -10,7 +10,7 @@ use Rattle.trace_text.specs.Laws.{closed}
 use Rattle.ann_base.specs.declared.identities.ObjectNo.{ObjectNo}
 use Rattle.profile_machine.specs.declared.world.marks.Frame.{Frame}
 use Rattle.profile_machine.specs.Frames.{edit_first, without_first}
-use Rattle.line_laws.proofs.Exits.FineMoves.{Nature, natures, nature, action_in, action_first}
+use Rattle.machine_laws.proofs.FinestMoves.{Nature, natures, nature, action_in, action_first}
 
 abbrev pub bit : Bool → ℕ
 bit true = 1

@@ -58,14 +58,14 @@ use Rattle.profile_machine.specs.Sending.{open_abortable, appoint_timeout, send_
 use Rattle.profile_machine.specs.Protected.{edit_top_protected, begin_call, begun_call}
 use Rattle.profile_machine.specs.Serving.{settle_sent}
 use Rattle.line_laws.proofs.Exclusion.ObjectLists.{by_test}
-use Rattle.line_laws.proofs.Exits.FineMoves.{natures, nature, action_first}
+use Rattle.machine_laws.proofs.FinestMoves.{natures, nature, action_first}
 use Rattle.line_laws.proofs.Exits.TaskEdits.{one_of, same_who-path, edited}
-use Rattle.line_laws.proofs.Exits.Kept.Combinators.{world_behind}
+use Rattle.machine_laws.proofs.Kept.Combinators.{world_behind}
 use Rattle.line_laws.specs.ExitLaws.{is_at_call}
-use Rattle.line_laws.proofs.Exits.Kept.Dispatching.{full_quantum-who, full_quantum-frames, full_quantum-state}
-use Rattle.line_laws.proofs.Exits.Kept.Frames.{first-natures}
-use Rattle.line_laws.proofs.Exits.Kept.CallEnds.{depth-natures, abortable-nature}
-use Rattle.line_laws.proofs.Exits.Kept.Protected.{protected-nature}
+use Rattle.machine_laws.proofs.Kept.Dispatching.{full_quantum-who, full_quantum-frames, full_quantum-state}
+use Rattle.machine_laws.proofs.Kept.Frames.{first-natures}
+use Rattle.machine_laws.proofs.Kept.CallEnds.{depth-natures, abortable-nature}
+use Rattle.machine_laws.proofs.Kept.Protected.{protected-nature}
 
 -- a task in this state waits for no entry call; of the agent nothing is asked
 abbrev pub FreeIn : Who → State → Type 0

@@ -52,8 +52,8 @@ use Rattle.line_laws.proofs.Handlers.AgentWorlds.{Colour, RegionOwned, Attends, 
 use Rattle.line_laws.proofs.Handlers.AgentMarks.{Rooted, Standing, Emptied, rooted, emptied, stands_rooted}
 use Rattle.line_laws.proofs.Handlers.SparedMoves.{agent_runs, Spared, spares, spared_puts}
 use Rattle.line_laws.proofs.Handlers.SparedReleases.{release-from}
-use Rattle.line_laws.proofs.Handlers.OwnMoves.{Busy, BusyStep, busies, busy_openings, busy-inside, spared}
-use Rattle.line_laws.proofs.Handlers.OwnSteps.AgentStatements.{act_statement-keeps}
+use Rattle.line_laws.proofs.Handlers.OwnMoves.{Busy, BusyStep, coarse_busies, busies, busy_openings, spared}
+use Rattle.machine_laws.proofs.Kept.Act.{act_statement-keeps}
 use Rattle.line_laws.proofs.Handlers.Mixed.{from_by, keeps_at, then_by, looks_by, when_by, either_by, nothing_by, changes_by, changes_then}
 use Rattle.line_laws.proofs.Handlers.Attending.{Marked, Attending, Placing, calm_so, closes_so, called-append, or_false, Acted, busy-attends, busy-acted, attending-spared, then_spared}
 use Rattle.line_laws.proofs.Handlers.AgentEnds.{own_end-from}
@@ -80,7 +80,7 @@ first_mark mark w good action abortable release region = record {
 
 told-from : (o : ObjectNo) (w : World) → Busy Emptied None w → LetsIn who.Agent o Write w → From (BusyStep Emptied None) w (says Own (said.Enter who.Agent o Write) ▷ changes (open_action who.Agent o Write))
 unfolding From Kept
-told-from o w good h before = (own (said.Enter who.Agent o Write) ∷ [], refl, (busies emptied None).enters who.Agent o Write w good h)
+told-from o w good h before = (own (said.Enter who.Agent o Write) ∷ [], refl, (coarse_busies emptied None).enters who.Agent o Write w good h)
 
 action-from : (p : Image) (o : ObjectNo) (n : ℕ) (w : World) → Busy Emptied None w → LetsIn who.Agent o Write w → From (BusyStep Rooted None) w (begin_action_on p who.Agent o Write None (Some n))
 unfolding begin_action_on
@@ -140,7 +140,7 @@ statement-from : (p : Image) (f : Frame) (s : StatementNo) (w : World) → Busy 
 unfolding act_frame
 statement-from p f s w good =
     from_by (BusyStep Rooted None) Acted _ w (λ v xs k. busy-acted Rooted stands_rooted None w xs v good.runs k)
-    (keeps-from (busies rooted None) _ w good (act_statement-keeps (busies rooted None) (busy_openings None) tt (busy-inside None) busy_releasing p (busy_puts p) s (form_of p s) refl))
+    (keeps-from (busies rooted None) _ w good (act_statement-keeps (busies rooted None) (busy_openings None) busy_releasing p (busy_puts p) who.Agent s (form_of p s) tt refl))
 
 -- the end of a mark on top
 unaction-from : (p : Image) (f : Frame) (mark : Mark) (w : World) → Busy Rooted None w → top_of w who.Agent ≡ Some f → f.mark ≡ mark → is_protected mark ≡ false → From Acted w (end_mark p who.Agent f mark)

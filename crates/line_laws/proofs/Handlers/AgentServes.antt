@@ -48,15 +48,15 @@ use Rattle.machine_laws.proofs.Kept.Inheritance.{lose_running-keeps}
 use Rattle.machine_laws.proofs.Kept.Priorities.{set_deferred-keeps}
 use Rattle.machine_laws.proofs.Kept.Calls.{with_call-keeps, enqueue-keeps}
 use Rattle.machine_laws.proofs.Kept.CallEnds.{resume-keeps, deliver-keeps}
-use Rattle.machine_laws.proofs.Kept.Protected.{edit_top_protected-alters, begin_call-keeps}
+use Rattle.machine_laws.proofs.Kept.Protected.{edit_top_protected-alters, begin_call-keeps, body_opens-keeps}
 use Rattle.machine_laws.proofs.Kept.Sending.{open_abortable-alters, send_on-keeps, begin_abortable-keeps}
 use Rattle.machine_laws.proofs.Kept.Serving.{wait_or_unwind-keeps, Ending, settle_sent-keeps}
 use Rattle.line_laws.proofs.Handlers.AgentLines.{closes, closes_behind}
 use Rattle.line_laws.proofs.Handlers.AgentWorlds.{Colour, Apart}
 use Rattle.line_laws.proofs.Handlers.AgentMarks.{Rooted, Standing, Emptied, rooted, emptied, stands_rooted, above_lowest, lowest_alone, has_top}
-use Rattle.line_laws.proofs.Handlers.SparedMoves.{Spared, NoRelease, spares, spared_openings, spared_exits}
+use Rattle.line_laws.proofs.Handlers.SparedMoves.{Spared, NoRelease, spares}
 use Rattle.line_laws.proofs.Handlers.OwnMoves.{Busy, BusyStep, busies, busy_openings, spared, agent_marked, owned-popped}
-use Rattle.line_laws.proofs.Handlers.OwnSteps.Protected.{body_opens-keeps}
+
 use Rattle.line_laws.proofs.Handlers.Attending.{Acted, calm_so, closes_so, busy-acted, busy_then, spared_then}
 use Rattle.line_laws.proofs.Handlers.Mixed.{from_by, keeps_at, then_by, looks_by, when_by, some_by, either_by, nothing_by}
 
@@ -142,13 +142,10 @@ exit-from Stands m w h stands before = (own (said.Exit who.Agent m.object) ∷ [
 
 -- the holder's own call, if there is one, is a task's
 module _ (colour : Colour) where
-  ending_none : Ending (Apart colour) NoRelease (Spared colour true)
-  ending_none = record { ends = λ name n may. cc }
-
   own_waits-keeps : (p : Image) (c : Call) (test : Bool) → Keeps (Apart colour) (Spared colour true) (wait_for_own p who.Agent c test)
   unfolding wait_for_own
   own_waits-keeps p c true = changes-keeps (spares colour true) _ (open_abortable-alters (spares colour true) p (who.Task c.caller) c.statement (Some c.number) tt)
-  own_waits-keeps p c false = looks-keeps (spares colour true) _ (λ w. wait_or_unwind-keeps (spares colour true) (spared_openings colour true) (spared_exits colour true) ending_none p who.Agent c (may_unwind (frames_of w who.Agent)))
+  own_waits-keeps p c false = looks-keeps (spares colour true) _ (λ w. wait_or_unwind-keeps (spares colour true) p who.Agent c (may_unwind (frames_of w who.Agent)))
 
   own_resumes-keeps : (p : Image) (c : Call) (outcome : Option Outcome) → Keeps (Apart colour) (Spared colour true) (resume_own p who.Agent c outcome)
   unfolding resume_own
@@ -225,7 +222,7 @@ pub spared-ending : (colour : Colour) → Ending (Apart colour) NoRelease (Spare
 spared-ending colour = record { ends = λ name n may. cc }
 
 settles-keeps : (colour : Colour) (p : Image) (sent : Option CallNo) (served : Bool) → Keeps (Apart colour) (Spared colour true) (settle_sent p sent served)
-settles-keeps colour p sent served = settle_sent-keeps (spares colour true) (spared_openings colour true) (spared_exits colour true) (spared-ending colour) p sent served
+settles-keeps colour p sent served = settle_sent-keeps (spares colour true) p sent served
 
 begins-keeps : (p : Image) (sent : Bool) (c : CallNo) → Keeps (Busy Rooted None) (BusyStep Rooted None) (begins_part p sent c)
 unfolding begins_part
@@ -308,19 +305,19 @@ module _ (p : Image) (m : ProtectedMark) where
 -- ---- a body in the action has ended
 
 module _ (p : Image) (m : ProtectedMark) (leaving : Leaving) where
-  edits_then : (f : ProtectedMark → ProtectedMark) (g : Step) (w : World) → ((x : ProtectedMark) → (f x).release ≡ x.release) → Heads m.release w → ((v : World) → Heads m.release v → From Acted v g) → From Acted w (changes (edit_top_protected who.Agent f) ▷ changes (edit_top who.Agent not_left) ▷ g)
-  edits_then f g w same h onward =
-      step_then m.release (changes (edit_top_protected who.Agent f)) _ w h (λ colour. changes-keeps (spares colour true) _ (edit_top_protected-alters (spares colour true) who.Agent f same))
+  edits_then : (f : ProtectedMark → ProtectedMark) (g : Step) (w : World) → ((x : ProtectedMark) → (f x).release ≡ x.release) → ((x : ProtectedMark) → (f x).object ≡ x.object) → Heads m.release w → ((v : World) → Heads m.release v → From Acted v g) → From Acted w (changes (edit_top_protected who.Agent f) ▷ changes (edit_top who.Agent not_left) ▷ g)
+  edits_then f g w same alike h onward =
+      step_then m.release (changes (edit_top_protected who.Agent f)) _ w h (λ colour. changes-keeps (spares colour true) _ (edit_top_protected-alters (spares colour true) who.Agent f same alike))
       (λ v k. step_then m.release (changes (edit_top who.Agent not_left)) g v k (λ colour. changes-keeps (spares colour true) _ (edit_top-alters (spares colour true) who.Agent not_left (λ x. refl))) onward)
 
   operation-from : (w : World) → Heads m.release w → From Acted w (end_operation p who.Agent m leaving)
   unfolding end_operation
-  operation-from w h = edits_then (with_body_left leaving) (go_on_by_mode p who.Agent (with_body_left leaving m) m.mode) w (λ x. refl) h (λ v k. by_mode-from p (with_body_left leaving m) m.mode v k)
+  operation-from w h = edits_then (with_body_left leaving) (go_on_by_mode p who.Agent (with_body_left leaving m) m.mode) w (λ x. refl) (λ x. refl) h (λ v k. by_mode-from p (with_body_left leaving m) m.mode v k)
 
   entry_body-from : (c : CallNo) (w : World) → Heads m.release w → From Acted w (end_entry_body p who.Agent m leaving c)
   unfolding end_entry_body
   entry_body-from c w h =
-      edits_then no_longer_serves (with_call c (finish_call p who.Agent (no_longer_serves m) leaving)) w (λ x. refl) h
+      edits_then no_longer_serves (with_call c (finish_call p who.Agent (no_longer_serves m) leaving)) w (λ x. refl) (λ x. refl) h
       (λ v k. call_then m.release c (finish_call p who.Agent (no_longer_serves m) leaving) v k (λ d. finish-from p (no_longer_serves m) leaving d v k))
 
   by_body-from : (serves : Option CallNo) (w : World) → Heads m.release w → From Acted w (end_in_protected_by p who.Agent m leaving serves)

@@ -27,7 +27,7 @@ use Rattle.profile_machine.specs.Handlers.{charge}
 use Rattle.profile_machine.specs.Instant.{instant}
 use Rattle.profile_machine.specs.declared.world.appointments.HandlerOf.{HandlerOf}
 use Rattle.profile_machine.specs.Run.{opens, opening, blank_world, with_serving, say, serve_if_free, serve, says_idle, ticks_or, one_tick_less, begin_action, spend_tick, tock, run_of}
-use Rattle.machine_laws.proofs.FineMoves.{finely}
+use Rattle.machine_laws.proofs.FinestMoves.{all_of}
 use Rattle.machine_laws.proofs.Moves.{Moves, AreOthers, own, is_told_apart}
 use Rattle.machine_laws.proofs.Kept.Combinators.{Leads, Alters, settles-leads}
 use Rattle.machine_laws.proofs.Kept.Handlers.{charge-alters}
@@ -273,12 +273,12 @@ nothing_shown p script = record { fits_now = record { all_came = refl; within = 
 openings-lead_on : (p : Image) (script : List (ℤ × Item)) → LeadsOn no_releases (opening p script).1 (opening p script).0
 unfolding Leads
 openings-lead_on p script =
-    moves-lead_on no_releases (blank_world p script) (opening p script).1 (opening p script).0 (settles-leads (finely tells_turns) p (opens p) (opens-keeps tells_turns p) (blank_world p script) tt) (nothing_shown p script)
+    moves-lead_on no_releases (blank_world p script) (opening p script).1 (opening p script).0 (settles-leads (all_of tells_turns).fine p (opens p) (opens-keeps (all_of tells_turns) p) (blank_world p script) tt) (nothing_shown p script)
 
 instants-lead_on : (p : Image) (s : Releases) (w : World) → ShowsTurn s w → LeadsOn s (instant p w).1 (instant p w).0
 unfolding Leads
 instants-lead_on p s w h =
-    moves-lead_on s w (instant p w).1 (instant p w).0 (instant-leads tells_turns p (record { puts = λ name s pieces text v x good is e. unmoved x }) w tt) h
+    moves-lead_on s w (instant p w).1 (instant p w).0 (instant-leads (all_of tells_turns) p (record { puts = λ name s pieces text v x good is e. unmoved x }) w tt) h
 
 -- ---- a tock takes up the first that is pending, where none is being served
 
@@ -339,7 +339,7 @@ charged-unmoved p name w =
     let begun = begin_action p name w in
     let paid = charge p name begun in
     unmoved-then w begun (charged p name w) (edit_task-unmoved name (with_ticks (Some (ticks_or (task_of w name).ticks_left (cost p w name)))) w)
-    (unmoved-then begun paid (charged p name w) (charge-alters (finely tells_turns) p name begun tt) (edit_task-unmoved name (λ t. with_ticks (one_tick_less t.ticks_left) t) paid))
+    (unmoved-then begun paid (charged p name w) (charge-alters (all_of tells_turns).fine p name begun tt) (edit_task-unmoved name (λ t. with_ticks (one_tick_less t.ticks_left) t) paid))
 
 served-lead_on : (p : Image) (name : Who) (s : Releases) (w : World) → ShowsTurn s w → let done = serve name w in LeadsOn s (done.1 ++ []) (charged p name done.0)
 served-lead_on p name s w h =

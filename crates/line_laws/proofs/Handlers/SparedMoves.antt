@@ -38,6 +38,7 @@ use Rattle.profile_machine.specs.Tasking.{add_task}
 use Rattle.profile_machine.specs.Serving.{close_action}
 use Rattle.machine_laws.proofs.Moves.{Puts, own}
 use Rattle.machine_laws.proofs.FineMoves.{FineMoves, Openings, Exits, AnyRegion, nature, natures, is_apart, AreQuiet, ready_line, edit_task-drawn}
+use Rattle.machine_laws.proofs.FinestMoves.{FinestMoves, MarkOpenings, OwnRegions, ActionEnds, Anyhow, finest, mark_openings, own_regions, action_ends}
 use Rattle.line_laws.proofs.Handlers.AgentLines.{placed_behind, placed_behind-append, calls_agent, blocks_agent, are_calls, are_calls-append, NoneBlocks, NoneBlocks-append, lines-call}
 use Rattle.line_laws.proofs.Handlers.AgentWorlds.{IsTask, Colour, RegionFree, MarksFree, TaskFree, TasksFree, MarksOwned, Attends, Apart, TasksFree-later, next-free, set-free, found-free, filter-free, append-free, listed-free, top_region-free}
 
@@ -359,8 +360,8 @@ module _ (colour : Colour) (wakes : Bool) where
   awaits-task (who.Task n) w good is = tt
   awaits-task who.Agent w good is = absurd (attends-activation w.agent.state good.attends is)
 
-  pub spares : FineMoves G IsTask IsTask R Q
-  spares = record {
+  pub coarse_spares : FineMoves G IsTask IsTask R Q
+  coarse_spares = record {
     behind = λ a b h. h.apart;
     moved = λ a b h. h.apart;
     stays = λ w g. still w w g refl refl refl refl refl;
@@ -437,8 +438,8 @@ module _ (colour : Colour) (wakes : Bool) where
     cuts_script = λ x rest w g is due. still w _ g refl refl refl refl refl;
   }
 
-  pub spared_openings : Openings G IsTask IsTask AnyRegion R
-  spared_openings = record {
+  pub coarse_openings : Openings G IsTask IsTask AnyRegion R
+  coarse_openings = record {
     pushes = λ name f w g may region release abortable. pushed name f w g may release (no_region w.drawn.regions (nature f.mark).region region);
     opens_scope = λ p name scope b purpose w g may. scope_opened p name scope b purpose w g may;
     outside = λ name w g may is. may;
@@ -447,12 +448,24 @@ module _ (colour : Colour) (wakes : Bool) where
     awaits_dependents = λ name r w g may owns is. may;
   }
 
-  pub spared_exits : Exits G IsTask NoRelease R
+  spared_exits : Exits G IsTask NoRelease R
   spared_exits = record {
     exits = λ name m w g may end.
         let first = popped name w g may in
         then w (pop name w) (close_action name m.object (pop name w)) first (with_line (own (said.Exit name m.object)) (pop name w) (close_action name m.object (pop name w)) refl refl (still (pop name w) _ first.apart refl refl refl refl refl));
   }
+
+  pub spares : FinestMoves G IsTask IsTask R Q
+  spares = finest coarse_spares
+
+  pub spared_openings : MarkOpenings G IsTask IsTask R
+  spared_openings = mark_openings coarse_spares coarse_openings
+
+  pub spared_regions : OwnRegions G IsTask IsTask AnyRegion
+  spared_regions = own_regions coarse_openings
+
+  pub spared_ends : ActionEnds G IsTask NoRelease Anyhow R
+  spared_ends = action_ends spared_exits
 
 -- a text that is put places nobody
 pub spared_puts : (colour : Colour) (wakes : Bool) (p : Image) → Puts (Apart colour) (Spared colour wakes) p

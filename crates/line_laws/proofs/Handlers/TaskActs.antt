@@ -7,7 +7,6 @@ use Rattle.profile_machine.specs.declared.world.World.{World}
 use Rattle.profile_machine.specs.declared.world.marks.Frame.{Frame}
 use Rattle.profile_machine.specs.declared.world.marks.Mark.TheVariants.{InProtected}
 use Rattle.profile_machine.specs.declared.world.marks.ProtectedMark.{ProtectedMark}
-use Rattle.profile_machine.specs.declared.world.tasks.Task.{Task}
 use Rattle.profile_machine.specs.Steps.{◌▷◌}
 use Rattle.profile_machine.specs.Tasks.{edit_task, with_ticks}
 use Rattle.profile_machine.specs.Frames.{frames_of, top_of, leaving_of, open_if_ready}
@@ -18,12 +17,12 @@ use Rattle.profile_machine.specs.Instant.{effect}
 use Rattle.machine_laws.proofs.FineMoves.{natures, release_in}
 use Rattle.machine_laws.proofs.Kept.Combinators.{Keeps, nothing-keeps, From, keeps-from, then-keeps, then-from, changes_then-from}
 use Rattle.machine_laws.proofs.Kept.Frames.{open_if_ready-keeps}
-use Rattle.machine_laws.proofs.Kept.Serving.{end_in_protected-keeps}
+use Rattle.machine_laws.proofs.Kept.Serving.{end_in_protected-from, stays_anyhow}
 use Rattle.machine_laws.proofs.Kept.Tasking.{take_terminates-keeps, unwind_all-keeps}
 use Rattle.machine_laws.proofs.Kept.Act.{act-from}
 use Rattle.line_laws.proofs.Handlers.AgentWorlds.{Colour, MarksFree, Apart, marks-free}
 use Rattle.line_laws.proofs.Handlers.AgentMarks.{has_top}
-use Rattle.line_laws.proofs.Handlers.SparedMoves.{Spared, spares, spared_openings, spared_exits, spared_puts}
+use Rattle.line_laws.proofs.Handlers.SparedMoves.{Spared, spares, spared_openings, spared_regions, spared_ends, spared_puts}
 use Rattle.line_laws.proofs.Handlers.SparedReleases.{spared_releasing}
 use Rattle.line_laws.proofs.Handlers.AgentServes.{spared-ending}
 
@@ -43,9 +42,9 @@ module _ (colour : Colour) where
 
   task_act-from : (p : Image) (n : TaskNo) (w : World) → Apart colour w → From (Spared colour true) w (act p (who.Task n))
   task_act-from p n w good =
-      act-from (spares colour true) (spared_openings colour true) (spared_releasing colour) p (spared_puts colour true p) (who.Task n) w good tt
+      act-from (spares colour true) (spared_openings colour true) (spared_regions colour true) (spared_releasing colour) p (spared_puts colour true p) (who.Task n) w good tt
       (keeps-from (spares colour true) _ w good (without-keeps p n w.serving))
-      (λ f m top is. keeps-from (spares colour true) _ w good (end_in_protected-keeps (spares colour true) (spared_openings colour true) (spared_exits colour true) (spared-ending colour) p (who.Task n) m (leaving_of f) tt (no_release n f m w good top is)))
+      (λ f m top is. end_in_protected-from (spares colour true) (spared_openings colour true) (spared_ends colour true) (spared-ending colour) stays_anyhow p (who.Task n) m (leaving_of f) tt (no_release n f m w good top is) w good tt)
 
   -- ---- its effect
 

@@ -26,7 +26,7 @@ use Rattle.profile_machine.specs.Cost.{cost}
 use Rattle.profile_machine.specs.Handlers.{charge}
 use Rattle.profile_machine.specs.Instant.{instant}
 use Rattle.profile_machine.specs.Run.{opens, opening, blank_world, say, says_run, serve_if_free, serve, says_idle, ticks_or, one_tick_less, begin_action, spend_tick, tock, run_of}
-use Rattle.machine_laws.proofs.FineMoves.{finely}
+use Rattle.machine_laws.proofs.FinestMoves.{all_of}
 use Rattle.machine_laws.proofs.Moves.{Moves, AreOthers, own, is_told_apart}
 use Rattle.machine_laws.proofs.Kept.Combinators.{Leads, Alters, settles-leads}
 use Rattle.machine_laws.proofs.Kept.Handlers.{charge-alters}
@@ -246,12 +246,12 @@ moves-lead_on c before lines after m h =
 openings-lead_on : (p : Image) (script : List (ℤ × Item)) → LeadsOn no_counts (opening p script).1 (opening p script).0
 unfolding Leads
 openings-lead_on p script =
-    moves-lead_on no_counts (blank_world p script) (opening p script).1 (opening p script).0 (settles-leads (finely tells_releases) p (opens p) (opens-keeps tells_releases p) (blank_world p script) tt) (record { released = refl; pending = refl })
+    moves-lead_on no_counts (blank_world p script) (opening p script).1 (opening p script).0 (settles-leads (all_of tells_releases).fine p (opens p) (opens-keeps (all_of tells_releases) p) (blank_world p script) tt) (record { released = refl; pending = refl })
 
 instants-lead_on : (p : Image) (c : Counts) (w : World) → ShowsCounts c w → LeadsOn c (instant p w).1 (instant p w).0
 unfolding Leads
 instants-lead_on p c w h =
-    moves-lead_on c w (instant p w).1 (instant p w).0 (instant-leads tells_releases p (record { puts = λ name s pieces text v x good is e. unmoved x }) w tt) h
+    moves-lead_on c w (instant p w).1 (instant p w).0 (instant-leads (all_of tells_releases) p (record { puts = λ name s pieces text v x good is e. unmoved x }) w tt) h
 
 -- ---- a tock takes up the first
 
@@ -291,7 +291,7 @@ charged-unmoved p name w =
     let begun = begin_action p name w in
     let paid = charge p name begun in
     unmoved-then w begun (charged p name w) (edit_task-unmoved name (with_ticks (Some (ticks_or (task_of w name).ticks_left (cost p w name)))) w)
-    (unmoved-then begun paid (charged p name w) (charge-alters (finely tells_releases) p name begun tt) (edit_task-unmoved name (λ t. with_ticks (one_tick_less t.ticks_left) t) paid))
+    (unmoved-then begun paid (charged p name w) (charge-alters (all_of tells_releases).fine p name begun tt) (edit_task-unmoved name (λ t. with_ticks (one_tick_less t.ticks_left) t) paid))
 
 charged-lead_on : (p : Image) (name : Who) (c : Counts) (lines : List Event) (w : World) → LeadsOn c lines w → LeadsOn c lines (charged p name w)
 charged-lead_on p name c lines w h = record { follow = h.follow; shows = shows-unmoved (counts_behind c lines) w (charged p name w) h.shows (charged-unmoved p name w) }

@@ -25,10 +25,13 @@ use Rattle.profile_machine.specs.Program.{form_of}
 use Rattle.profile_machine.specs.Steps.{changes, looks, ◌▷◌}
 use Rattle.profile_machine.specs.Frames.{frames_of, top_of, pop, leaving_of, is_protected}
 use Rattle.profile_machine.specs.Calls.{with_call, attempt_with}
+use Rattle.profile_machine.specs.Tasking.{leave_region}
 use Rattle.profile_machine.specs.Act.{call_main, call, handle_or_pass, behind_handled, end_handled, end_top, wait_for_trigger, drop_trigger, below, end_abortable_by, end_in_abortable, act_statement, end_mark, act_frame, act_without, act_top, act, keeping, waiting_mark}
-use Rattle.machine_laws.proofs.Moves.{StepRelation, MoveRelation, Puts, Moves}
-use Rattle.machine_laws.proofs.FineMoves.{GoodWorld, Naming, FineMoves, Openings, AnyWorld, nature, is_abortable, finely, openings, exits}
-use Rattle.machine_laws.proofs.Kept.Combinators.{Keeps, Alters, changes-keeps, cond-keeps, looks-keeps, nothing-keeps, option-keeps, sees-keeps, then-keeps, unchanged-alters, From, from-keeps, keeps-from, looks_at-from, changes_then-from}
+use Rattle.machine_laws.proofs.Moves.{StepRelation, MoveRelation, Puts}
+use Rattle.machine_laws.proofs.FineMoves.{GoodWorld, Naming, is_abortable}
+use Rattle.machine_laws.proofs.FinestMoves.{FinestMoves, MarkOpenings, OwnRegions, AllMoves, Holding, Anyhow, nature}
+use Rattle.profile_machine.specs.Tasks.{edit_task, with_ticks}
+use Rattle.machine_laws.proofs.Kept.Combinators.{Keeps, Alters, changes-keeps, cond-keeps, looks-keeps, nothing-keeps, option-keeps, sees-keeps, then-keeps, unchanged-alters, From, keeps-from, looks_at-from, changes_then-from}
 use Rattle.machine_laws.proofs.Kept.Dispatching.{block-keeps}
 use Rattle.machine_laws.proofs.Kept.Frames.{edit_top-alters, goes-keeps, raises-keeps, pass_on-keeps, with_room-keeps, popped}
 use Rattle.machine_laws.proofs.Kept.Scopes.{open_scope-alters}
@@ -38,16 +41,17 @@ use Rattle.machine_laws.proofs.Kept.Statements.{null-keeps, assign-keeps, assign
 use Rattle.machine_laws.proofs.Kept.Subprograms.{call_subprogram-keeps, return_value-keeps, return-keeps}
 use Rattle.machine_laws.proofs.Kept.Protected.{call_operation-keeps, call_own_operation-keeps}
 use Rattle.machine_laws.proofs.Kept.Priorities.{set_priority-keeps, set_quantum-keeps, set_deadline_of-keeps, delay_and_set_deadline-keeps}
-use Rattle.machine_laws.proofs.Kept.Serving.{end_in_protected-keeps, ending}
+use Rattle.machine_laws.proofs.Kept.Serving.{end_in_protected-from, ending, Stays}
 use Rattle.machine_laws.proofs.Kept.Rendezvous.{accept-keeps, selective_accept-keeps, end_in_accept-from}
 use Rattle.machine_laws.proofs.Kept.EntryCalls.{entry_call-keeps, asynchronous_select-keeps, requeue-keeps}
 use Rattle.machine_laws.proofs.Kept.Controlled.{initialize-keeps, assign_controlled-keeps, end_in_initialize-from, end_in_finalize-from, end_in_assign-from}
 use Rattle.machine_laws.proofs.Kept.Declarations.{declare-keeps}
-use Rattle.machine_laws.proofs.Kept.Tasking.{create-keeps, activate-keeps, end_own_activation-keeps, abort_statement-keeps, end_scope_mark-from}
+use Rattle.machine_laws.proofs.Kept.Tasking.{create-keeps, activate-keeps, end_own_activation-keeps, abort_statement-keeps, end_scope_mark-from, own_region-from}
 use Rattle.machine_laws.proofs.Kept.Handlers.{call_handler-keeps, set_event-keeps, cancel_event-keeps, set_timer-keeps, cancel_timer-keeps, add_member-keeps, remove_member-keeps, replenish-keeps, add_to_budget-keeps, set_budget-keeps, cancel_budget-keeps, Releasing, releasing}
 use Rattle.ann_base.specs.declared.identities.RegionNo.{RegionNo}
 use Rattle.profile_machine.specs.declared.world.World.{World}
 use Rattle.profile_machine.specs.declared.world.marks.ProtectedMark.{ProtectedMark}
+use Rattle.profile_machine.specs.declared.world.marks.ScopeMark.{ScopeMark}
 use Rattle.profile_machine.specs.Serving.{end_in_protected}
 use Rattle.machine_laws.proofs.Kept.CallEnds.{end_found_abortable-keeps, abortable-nature}
 use Rattle.profile_machine.specs.CallEnds.{edit_abortable}
@@ -66,7 +70,7 @@ keeping-nature e (InAssign m) = refl
 waiting-nature : (x : Frame) → nature (edit_abortable waiting_mark x.mark) ≡ nature x.mark
 waiting-nature x = abortable-nature waiting_mark x.mark
 
-module _ {G : GoodWorld} {May Other : Naming} {R : StepRelation} {Q : MoveRelation} (moves : FineMoves G May Other R Q) where
+module _ {G : GoodWorld} {May Other : Naming} {R : StepRelation} {Q : MoveRelation} (moves : FinestMoves G May Other R Q) where
   pub handle_or_pass-keeps : (p : Image) (name : Who) (e : Raised) (next : Option StatementNo) → Keeps G R (handle_or_pass p name e next)
   unfolding handle_or_pass
   handle_or_pass-keeps p name e None = search (pass_on-keeps)
@@ -107,7 +111,7 @@ module _ {G : GoodWorld} {May Other : Naming} {R : StepRelation} {Q : MoveRelati
   unfolding end_in_abortable
   end_in_abortable-keeps p name m leaving other = search (cond-keeps, end_top-keeps, end_abortable_by-keeps, moves.other_may)
 
-module _ {G : GoodWorld} {May Other : Naming} {Owns : Who → RegionNo → Type 0} {R : StepRelation} {Q : MoveRelation} (moves : FineMoves G May Other R Q) (openings : Openings G May Other Owns R) where
+module _ {G : GoodWorld} {May Other : Naming} {R : StepRelation} {Q : MoveRelation} (moves : FinestMoves G May Other R Q) (openings : MarkOpenings G May Other R) where
   pub call_main-keeps : (p : Image) (name : Who) (s : StatementNo) → May name → Keeps G R (call_main p name s)
   unfolding call_main
   call_main-keeps p name s may = search (with_room-keeps, goes-keeps, then-keeps, looks-keeps, changes-keeps, open_scope-alters)
@@ -118,7 +122,20 @@ module _ {G : GoodWorld} {May Other : Naming} {Owns : Who → RegionNo → Type 
   call-keeps p name s (callee.Operation d f) actuals to may = search (call_operation-keeps)
   call-keeps p name s (callee.OwnOperation f) actuals to may = search (call_own_operation-keeps)
 
-module _ {G : GoodWorld} {May Other : Naming} {Owns : Who → RegionNo → Type 0} {R : StepRelation} {Q : MoveRelation} (moves : FineMoves G May Other R Q) (openings : Openings G May Other Owns R) (releasing : Releasing G R) where
+  -- the end of the mark on top, but that a kept scope is left, and that a protected action ends, which are given
+  pub end_mark-from : (p : Image) (name : Who) (f : Frame) (mark : Mark) (w : World) → G w → May name → top_of w name ≡ Some f → f.mark ≡ mark → ((m : ScopeMark) (r : RegionNo) → mark ≡ Scope m → m.region ≡ Some r → m.being_left ≡ false → From R w (leave_region p name m (leaving_of f) r)) → ((m : ProtectedMark) → mark ≡ InProtected m → From R w (end_in_protected p name m (leaving_of f))) → From R w (end_mark p name f mark)
+  unfolding end_mark
+  end_mark-from p name f (Scope m) w good may top is leaves action = end_scope_mark-from moves openings p name m (leaving_of f) f w good may top is (λ r region left. leaves m r refl region left)
+  end_mark-from p name f (Handled s) w good may top is leaves action = end_handled-from moves p name s (leaving_of f) f w good may top (ap is_protected is)
+  end_mark-from p name f (InProtected m) w good may top is leaves action = action m refl
+  end_mark-from p name f (InAccept m) w good may top is leaves action = end_in_accept-from moves p name m (leaving_of f) f w good may top (ap is_protected is)
+  end_mark-from p name f (Abortable m) w good may top is leaves action =
+      keeps-from moves _ w good (end_in_abortable-keeps moves p name m (leaving_of f) (openings.within_part name f w good may top (ap is_abortable is)))
+  end_mark-from p name f (InInitialize l) w good may top is leaves action = end_in_initialize-from moves p name l (leaving_of f) f w good may top (ap is_protected is)
+  end_mark-from p name f (InFinalize o) w good may top is leaves action = end_in_finalize-from moves p name (leaving_of f) f w good may top (ap is_protected is)
+  end_mark-from p name f (InAssign m) w good may top is leaves action = end_in_assign-from moves openings p name m f.left_as f w good may top (ap is_protected is)
+
+module _ {G : GoodWorld} {May Other : Naming} {R : StepRelation} {Q : MoveRelation} (moves : FinestMoves G May Other R Q) (openings : MarkOpenings G May Other R) (releasing : Releasing G R) where
   pub act_statement-keeps : (p : Image) → Puts G R p → (name : Who) (s : StatementNo) (form : StatementForm) → May name → form_of p s ≡ form → Keeps G R (act_statement p name s form)
   unfolding act_statement
   act_statement-keeps p puts name s (form.Declare object) may is = search (declare-keeps)
@@ -172,23 +189,11 @@ module _ {G : GoodWorld} {May Other : Naming} {Owns : Who → RegionNo → Type 
   act_statement-keeps p puts name s (form.SetDeadline deadline task) may is = search (set_deadline_of-keeps)
   act_statement-keeps p puts name s (form.DelayUntilAndSetDeadline until offset) may is = search (delay_and_set_deadline-keeps)
 
-  -- the end of the mark on top, but of a protected action, whose end is given
-  pub end_mark-from : (p : Image) (name : Who) (f : Frame) (mark : Mark) (w : World) → G w → May name → top_of w name ≡ Some f → f.mark ≡ mark → ((m : ProtectedMark) → mark ≡ InProtected m → From R w (end_in_protected p name m (leaving_of f))) → From R w (end_mark p name f mark)
-  unfolding end_mark
-  end_mark-from p name f (Scope m) w good may top is action = end_scope_mark-from moves openings p name m (leaving_of f) f w good may top is
-  end_mark-from p name f (Handled s) w good may top is action = end_handled-from moves p name s (leaving_of f) f w good may top (ap is_protected is)
-  end_mark-from p name f (InProtected m) w good may top is action = action m refl
-  end_mark-from p name f (InAccept m) w good may top is action = end_in_accept-from moves p name m (leaving_of f) f w good may top (ap is_protected is)
-  end_mark-from p name f (Abortable m) w good may top is action =
-      keeps-from moves _ w good (end_in_abortable-keeps moves p name m (leaving_of f) (openings.within_part name f w good may top (ap is_abortable is)))
-  end_mark-from p name f (InInitialize l) w good may top is action = end_in_initialize-from moves p name l (leaving_of f) f w good may top (ap is_protected is)
-  end_mark-from p name f (InFinalize o) w good may top is action = end_in_finalize-from moves p name (leaving_of f) f w good may top (ap is_protected is)
-  end_mark-from p name f (InAssign m) w good may top is action = end_in_assign-from moves openings p name m f.left_as f w good may top (ap is_protected is)
-
+module _ {G : GoodWorld} {May Other : Naming} {Owns : Who → RegionNo → Type 0} {R : StepRelation} {Q : MoveRelation} (moves : FinestMoves G May Other R Q) (openings : MarkOpenings G May Other R) (regions : OwnRegions G May Other Owns) (releasing : Releasing G R) where
   pub act_frame-from : (p : Image) → Puts G R p → (name : Who) (f : Frame) (next : Option StatementNo) (w : World) → G w → May name → top_of w name ≡ Some f → ((m : ProtectedMark) → f.mark ≡ InProtected m → From R w (end_in_protected p name m (leaving_of f))) → From R w (act_frame p name f next)
   unfolding act_frame
-  act_frame-from p puts name f (Some s) w good may top action = keeps-from moves _ w good (act_statement-keeps p puts name s (form_of p s) may refl)
-  act_frame-from p puts name f None w good may top action = end_mark-from p name f f.mark w good may top refl action
+  act_frame-from p puts name f (Some s) w good may top action = keeps-from moves _ w good (act_statement-keeps moves openings releasing p puts name s (form_of p s) may refl)
+  act_frame-from p puts name f None w good may top action = end_mark-from moves openings p name f f.mark w good may top refl (λ m r is region left. own_region-from moves openings regions p name f m (leaving_of f) r w good may top is region left) action
 
   act_top-from : (p : Image) → Puts G R p → (name : Who) (found : Option Frame) (w : World) → G w → May name → top_of w name ≡ found → From R w (act_without p name w.serving)
       → ((f : Frame) (m : ProtectedMark) → top_of w name ≡ Some f → f.mark ≡ InProtected m → From R w (end_in_protected p name m (leaving_of f))) → From R w (act_top p name found)
@@ -204,15 +209,31 @@ module _ {G : GoodWorld} {May Other : Naming} {Owns : Who → RegionNo → Type 
 
 -- ---- where anybody may be changed
 
-module _ {R : StepRelation} {Q : MoveRelation} (moves : Moves R Q) where
-  act_without-keeps : (p : Image) (name : Who) (release : Option Release) → Keeps AnyWorld R (act_without p name release)
-  unfolding act_without
-  act_without-keeps p name None = nothing-keeps (finely moves)
-  act_without-keeps p who.Agent (Some r) = call_handler-keeps moves p r
-  act_without-keeps p (who.Task t) (Some r) = nothing-keeps (finely moves)
+-- ---- where anybody may be changed: who acts, and has a protected action on top, is known to have it
 
-  pub act-keeps : (p : Image) → Puts AnyWorld R p → (name : Who) → Keeps AnyWorld R (act p name)
-  act-keeps p puts name =
-      from-keeps (finely moves) (act p name) (λ w good. act-from (finely moves) (openings moves) (releasing moves) p puts name w tt tt
-      (keeps-from (finely moves) _ w tt (act_without-keeps p name w.serving))
-      (λ f m top is. keeps-from (finely moves) _ w tt (end_in_protected-keeps (finely moves) (openings moves) (exits moves) (ending moves) p name m (leaving_of f) tt tt)))
+-- of who acts, what is known where its action ends
+abbrev pub Acting : Type 1
+Acting = Who → World → Type 0
+
+pub record Acts (Act : Acting) (Holds : Holding) : Type 0 where
+  pub holds : (name : Who) (f : Frame) (m : ProtectedMark) (w : World) → Act name w → top_of w name ≡ Some f → f.mark ≡ InProtected m → Holds name m.object w
+  pub without_ticks : (name : Who) (w : World) → Act name w → Act name (edit_task name (with_ticks None) w)
+
+abbrev pub Anyone : Acting
+Anyone name w = Unit {0}
+
+pub acts_anyhow : Acts Anyone Anyhow
+acts_anyhow = record { holds = λ name f m w a top is. tt; without_ticks = λ name w a. tt }
+
+module _ {G : GoodWorld} {Act : Acting} {Holds : Holding} {R : StepRelation} {Q : MoveRelation} (moves : AllMoves G Holds R Q) (stays : Stays Holds) (acts : Acts Act Holds) where
+  act_without-keeps : (p : Image) (name : Who) (release : Option Release) → Keeps G R (act_without p name release)
+  unfolding act_without
+  act_without-keeps p name None = nothing-keeps moves.fine
+  act_without-keeps p who.Agent (Some r) = call_handler-keeps moves p r
+  act_without-keeps p (who.Task t) (Some r) = nothing-keeps moves.fine
+
+  pub any_act-from : (p : Image) → Puts G R p → (name : Who) (w : World) → G w → Act name w → From R w (act p name)
+  any_act-from p puts name w good acting =
+      act-from moves.fine moves.openings moves.regions (releasing moves) p puts name w good tt
+      (keeps-from moves.fine _ w good (act_without-keeps p name w.serving))
+      (λ f m top is. end_in_protected-from moves.fine moves.openings moves.ends (ending moves) stays p name m (leaving_of f) tt tt w good (acts.holds name f m w acting top is))

@@ -28,7 +28,8 @@ use Rattle.profile_machine.specs.CallEnds.{go_by_outcome, resume, store, or_stor
 use Rattle.std.specs.Prelude.{slice_set, true, false, cond, eqb, length}
 use Rattle.std.proofs.Common.{◌≡◌, refl, ap}
 use Rattle.machine_laws.proofs.Moves.{StepRelation, MoveRelation}
-use Rattle.machine_laws.proofs.FineMoves.{GoodWorld, Naming, FineMoves, nature, natures}
+use Rattle.machine_laws.proofs.FineMoves.{GoodWorld, Naming}
+use Rattle.machine_laws.proofs.FinestMoves.{FinestMoves, nature, natures}
 use Rattle.machine_laws.proofs.Kept.Combinators.{Keeps, Alters, Gives, bind-gives, branch-keeps, changes-keeps, looks-keeps, nothing-keeps, ok-gives, says-keeps, then-keeps, unchanged-alters, when-keeps, changes_then-from, keeps-from, looks-from, looks_at-from, From}
 use Rattle.machine_laws.proofs.Kept.Tasks.{edit_frames-alters}
 use Rattle.machine_laws.proofs.Kept.Dispatching.{ready-keeps}
@@ -42,7 +43,7 @@ at_depth-natures : (test : Bool) (f : Frame → Frame) (x : Frame) (xs ys : List
 at_depth-natures true f x xs ys same rest = ap (λ n. n ∷ natures xs) same
 at_depth-natures false f x xs ys same rest = ap (λ ns. nature x.mark ∷ ns) rest
 
-depth-natures : (depth : ℕ) (f : Frame → Frame) (fs : List Frame) → ((x : Frame) → nature (f x).mark ≡ nature x.mark) → natures (edit_depth depth f fs) ≡ natures fs
+pub depth-natures : (depth : ℕ) (f : Frame → Frame) (fs : List Frame) → ((x : Frame) → nature (f x).mark ≡ nature x.mark) → natures (edit_depth depth f fs) ≡ natures fs
 depth-natures depth f [] same = refl
 depth-natures depth f (x ∷ xs) same = at_depth-natures (eqb (length xs) depth) f x xs (edit_depth depth f xs) (same x) (depth-natures depth f xs same)
 
@@ -56,7 +57,7 @@ abortable-nature f (InInitialize l) = refl
 abortable-nature f (InFinalize o) = refl
 abortable-nature f (InAssign m) = refl
 
-module _ {G : GoodWorld} {May Other : Naming} {R : StepRelation} {Q : MoveRelation} (moves : FineMoves G May Other R Q) where
+module _ {G : GoodWorld} {May Other : Naming} {R : StepRelation} {Q : MoveRelation} (moves : FinestMoves G May Other R Q) where
   pub go_by_outcome-keeps : (p : Image) (part : Part) (name : Who) (s : StatementNo) (outcome : Outcome) → Keeps G R (go_by_outcome p part name s outcome)
   unfolding go_by_outcome
   go_by_outcome-keeps p part name s call_ended.Finished = search (goes-keeps)

@@ -13,7 +13,8 @@ use Rattle.profile_machine.specs.Operators.{Valued, ◌>>=◌}
 use Rattle.profile_machine.specs.Values.{Seen, seen_by}
 use Rattle.profile_machine.specs.Statements.{sees}
 use Rattle.machine_laws.proofs.Moves.{StepRelation, MoveRelation, lines_of}
-use Rattle.machine_laws.proofs.FineMoves.{GoodWorld, Naming, FineMoves, EachIs, is_apart}
+use Rattle.machine_laws.proofs.FineMoves.{GoodWorld, Naming, EachIs}
+use Rattle.machine_laws.proofs.FinestMoves.{FinestMoves, is_apart}
 
 -- ---- what it is to keep a relation
 
@@ -51,7 +52,7 @@ pub kept-world : (R : StepRelation) (w : World) (said : List Said) (d : Done) �
 unfolding Kept
 kept-world R w said (done v ys) k = (k.0, k.2)
 
-module _ {G : GoodWorld} {May Other : Naming} {R : StepRelation} {Q : MoveRelation} (moves : FineMoves G May Other R Q) where
+module _ {G : GoodWorld} {May Other : Naming} {R : StepRelation} {Q : MoveRelation} (moves : FinestMoves G May Other R Q) where
   -- ---- what steps lead to
 
   -- a step that says nothing
@@ -178,6 +179,19 @@ module _ {G : GoodWorld} {May Other : Naming} {R : StepRelation} {Q : MoveRelati
   said_then-from part line g w a b said =
       let more = said ++ record { part = part; line = line } ∷ [] in
       then-kept w w said more (g w more) (said-from part line w a said) (b more)
+
+  -- a line that tells one change, or two, and a step behind
+  pub told_change-from : (part : Part) (line : Line) (f : World → World) (g : Step) (w : World) → R w (record { part = part; line = line } ∷ []) (f w) → Keeps G R g → From R w (says part line ▷ changes f ▷ g)
+  unfolding From Kept Keeps
+  told_change-from part line f g w a b said =
+      let more = said ++ record { part = part; line = line } ∷ [] in
+      then-kept w (f w) said more (g (f w) more) (record { part = part; line = line } ∷ [], refl, a) (b (f w) (moves.behind w (f w) a) more)
+
+  pub changes_told-from : (f g : World → World) (part : Part) (line : Line) (h : Step) (w : World) → R w (record { part = part; line = line } ∷ []) (g (f w)) → Keeps G R h → From R w (changes f ▷ changes g ▷ says part line ▷ h)
+  unfolding From Kept Keeps
+  changes_told-from f g part line h w a b said =
+      let more = said ++ record { part = part; line = line } ∷ [] in
+      then-kept w (g (f w)) said more (h (g (f w)) more) (record { part = part; line = line } ∷ [], refl, a) (b (g (f w)) (moves.behind w (g (f w)) a) more)
 
   pub either-from : (b : Bool) (f g : Step) (w : World) → From R w f → From R w g → From R w (elim b as (λ _. Step) [ true ↦ f | false ↦ g ])
   either-from true f g w a b = a

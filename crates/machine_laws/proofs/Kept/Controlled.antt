@@ -18,26 +18,32 @@ use Rattle.profile_machine.specs.declared.world.marks.AssignMark.{AssignMark}
 use Rattle.profile_machine.specs.declared.world.marks.AssignStep.{AssignStep}
 use Rattle.profile_machine.specs.declared.world.marks.AssignStep.TheVariants as assigning
 use Rattle.profile_machine.specs.declared.world.lines.Part.TheVariants.{Own}
-use Rattle.profile_machine.specs.Steps.{says, changes, ◌▷◌, looks}
+use Rattle.profile_machine.specs.Steps.{says, changes, ◌▷◌, looks, when, nothing}
 use Rattle.profile_machine.specs.Scopes.{write_cell, put_cells}
 use Rattle.profile_machine.specs.Statements.{cells_from}
-use Rattle.profile_machine.specs.Controlled.{first_place, open_operation, top_region, registered_as, register, initialize_by, initialize, end_in_initialize, edit_top_scope, finalize_has_raised, open_finalize, has_room_to_finalize, finalize_by, no_longer_registered, finalize_now, finalize, behind_finalize, end_in_finalize, begin_assignment, assign_registered, assign_located, assign_controlled, edit_top_assign, leave_without_room, finalize_target_by, has_room_to_adjust, adjust_by, copy_components_of, copy_object, do_step, step_with, end_in_assign, edit_scope_mark, edit_assign, registered_object, registers, is_assignment}
-use Rattle.machine_laws.proofs.Moves.{StepRelation, MoveRelation}
-use Rattle.machine_laws.proofs.FineMoves.{GoodWorld, Naming, FineMoves, Openings, nature}
-use Rattle.machine_laws.proofs.Kept.Combinators.{Keeps, Alters, branch-keeps, changes-from, changes-keeps, cond-keeps, looks-from, looks-keeps, nothing-keeps, says-keeps, sees-keeps, then-from, then-keeps, From, changes_then-from, keeps-from, looks_at-from, when-keeps}
-use Rattle.machine_laws.proofs.Kept.Frames.{edit_top-alters, goes-keeps, push-alters, leaves-keeps, raises-keeps, pass_on-keeps, given-keeps, with_room-keeps, popped}
+use Rattle.profile_machine.specs.Controlled.{first_place, open_operation, top_region, registered_as, register, initialize_by, initialize, end_in_initialize, edit_top_scope, finalize_has_raised, open_finalize, has_room_to_finalize, finalize_by, no_longer_registered, is_being_assigned, finalize_now, finalize, behind_finalize, end_in_finalize, begin_assignment, assign_registered, assign_located, assign_controlled, edit_top_assign, leave_without_room, finalize_target_by, has_room_to_adjust, adjust_by, copy_components_of, copy_object, do_step, step_with, end_in_assign, edit_scope_mark, edit_assign, registered_object, registers, is_assignment, registered_at, is_located, same_located, new_assign_mark, next_to_finalize, type_of}
+use Rattle.machine_laws.proofs.Moves.{StepRelation, MoveRelation, own}
+use Rattle.machine_laws.proofs.FineMoves.{GoodWorld, Naming}
+use Rattle.machine_laws.proofs.FinestMoves.{FinestMoves, MarkOpenings, nature}
+use Rattle.machine_laws.proofs.Kept.Combinators.{Keeps, Kept, Alters, told_change-from, said_then-from, branch-keeps, changes-from, changes-keeps, cond-keeps, looks-from, looks-keeps, nothing-keeps, sees-keeps, then-keeps, From, changes_then-from, keeps-from, looks_at-from}
+use Rattle.machine_laws.proofs.Kept.Frames.{edit_top-alters, goes-keeps, push-alters, leaves-keeps, raises-keeps, pass_on-keeps, given-keeps, with_room-keeps, with_room-from, goes_then-from, popped}
 use Rattle.machine_laws.proofs.Kept.Scopes.{write_cell-alters, open_scope-alters}
-use Rattle.std.proofs.Common.{◌≡◌, refl, ap, []}
+use Rattle.std.proofs.Common.{◌≡◌, refl, ap, ◌∙◌, [], ◌∷◌, not}
+use Rattle.std.specs.Prelude.{find}
+use Rattle.profile_machine.specs.declared.world.tasks.Task.{Task}
+use Rattle.trace_text.specs.declared.events.Who.TheVariants as who
+use Rattle.profile_machine.specs.Program.{next_of}
+use Rattle.profile_machine.specs.Tasks.{task_at, edit_task_found, edit_task, with_frames}
 use Rattle.ann_base.specs.declared.identities.RegionNo.{RegionNo}
 use Rattle.profile_machine.specs.declared.world.World.{World}
 use Rattle.profile_machine.specs.declared.world.marks.Frame.{Frame}
 use Rattle.profile_machine.specs.declared.world.marks.Mark.{Mark}
 use Rattle.profile_machine.specs.declared.world.marks.Mark.TheVariants.{Scope, Handled, InProtected, InAccept, Abortable, InInitialize, InFinalize, InAssign}
-use Rattle.profile_machine.specs.Frames.{top_of, pop, with_mark, is_protected, pass_on}
+use Rattle.profile_machine.specs.Frames.{top_of, pop, with_mark, is_protected, pass_on, goes, goes_on, edit_first, edit_top, push, new_frame}
 
 -- the region of a scope's mark is not edited, nor what another mark is
-scope-nature : (f : ScopeMark → ScopeMark) → ((m : ScopeMark) → (f m).region ≡ m.region) → (mark : Mark) → nature (edit_scope_mark f mark) ≡ nature mark
-scope-nature f same (Scope m) = ap (λ r. record { region = r; release = None; action = false; abortable = false }) (same m)
+scope-nature : (f : ScopeMark → ScopeMark) → ((m : ScopeMark) → nature (Scope (f m)) ≡ nature (Scope m)) → (mark : Mark) → nature (edit_scope_mark f mark) ≡ nature mark
+scope-nature f same (Scope m) = same m
 scope-nature f same (Handled s) = refl
 scope-nature f same (InProtected m) = refl
 scope-nature f same (InAccept m) = refl
@@ -45,6 +51,14 @@ scope-nature f same (Abortable m) = refl
 scope-nature f same (InInitialize l) = refl
 scope-nature f same (InFinalize o) = refl
 scope-nature f same (InAssign m) = refl
+
+edit_found-registered : (name : Who) (f : Task → Task) (w : World) (found : Option Task) → (edit_task_found name f w found).registered ≡ w.registered
+edit_found-registered name f w None = refl
+edit_found-registered (who.Task n) f w (Some t) = refl
+edit_found-registered who.Agent f w (Some t) = refl
+
+pub edit_task-registered : (name : Who) (f : Task → Task) (w : World) → (edit_task name f w).registered ≡ w.registered
+edit_task-registered name f w = edit_found-registered name f w (task_at w name)
 
 assign-nature : (f : AssignMark → AssignMark) (mark : Mark) → nature (edit_assign f mark) ≡ nature mark
 assign-nature f (Scope m) = refl
@@ -56,21 +70,24 @@ assign-nature f (InInitialize l) = refl
 assign-nature f (InFinalize o) = refl
 assign-nature f (InAssign m) = refl
 
-module _ {G : GoodWorld} {May Other : Naming} {R : StepRelation} {Q : MoveRelation} (moves : FineMoves G May Other R Q) where
+module _ {G : GoodWorld} {May Other : Naming} {R : StepRelation} {Q : MoveRelation} (moves : FinestMoves G May Other R Q) where
+  -- the object is registered, and told, whose cell then has its number
+  told_register-from : (p : Image) (name : Who) (l : Located) (w : World) → G w
+      → From R w (changes (registered_as (suc w.drawn.controlled) (top_region w name) l) ▷ changes (write_cell l.within (first_place p l) (Thing (suc w.drawn.controlled))) ▷ says Own (line.Init name (suc w.drawn.controlled) (top_region w name) l.declared))
+  unfolding From Kept Alters
+  told_register-from p name l w good said =
+      let n = suc w.drawn.controlled in
+      let v = registered_as n (top_region w name) l w in
+      let told = own (line.Init name n (top_region w name) l.declared) ∷ [] in
+      let first = moves.registers name l w good in
+      (told, refl, moves.goes_on w v (write_cell l.within (first_place p l) (Thing n) v) {xs = told} {ys = []} first (write_cell-alters moves l.within (first_place p l) (Thing n) v (moves.behind w v first)))
+
   pub register-keeps : (p : Image) (name : Who) (l : Located) → Keeps G R (register p name l)
   unfolding register
-  register-keeps p name l =
-      looks-from moves _ (λ w good. let n = suc w.drawn.controlled in
-      then-from moves (changes (registered_as n (top_region w name) l)) (changes (write_cell l.within (first_place p l) (Thing n)) ▷ says Own (line.Init name n (top_region w name) l.declared)) w
-      (changes-from moves (registered_as n (top_region w name) l) w (moves.registers (top_region w name) l w good))
-      (search (then-keeps, changes-keeps, write_cell-alters, says-keeps)))
+  register-keeps p name l = looks-from moves _ (λ w good. told_register-from p name l w good)
 
-  pub edit_top_scope-alters : (name : Who) (f : ScopeMark → ScopeMark) → ((m : ScopeMark) → (f m).region ≡ m.region) → Alters G R (edit_top_scope name f)
+  pub edit_top_scope-alters : (name : Who) (f : ScopeMark → ScopeMark) → ((m : ScopeMark) → nature (Scope (f m)) ≡ nature (Scope m)) → Alters G R (edit_top_scope name f)
   edit_top_scope-alters name f same = edit_top-alters moves name (λ x. with_mark (edit_scope_mark f x.mark) x) (λ x. scope-nature f same x.mark)
-
-  no_longer_registered-alters : (n : ℕ) → Alters G R (no_longer_registered n)
-  unfolding Alters
-  no_longer_registered-alters n w good = moves.unregisters n w good
 
   pub behind_finalize-keeps : (p : Image) (name : Who) (leaving : Leaving) (test : Bool) → Keeps G R (behind_finalize p name leaving test)
   unfolding behind_finalize
@@ -108,7 +125,7 @@ module _ {G : GoodWorld} {May Other : Naming} {R : StepRelation} {Q : MoveRelati
   pub copy_object-alters : (p : Image) (target source : Located) → Alters G R (copy_object p target source)
   copy_object-alters p target source = search (copy_components_of-alters)
 
-module _ {G : GoodWorld} {May Other : Naming} {Owns : Who → RegionNo → Type 0} {R : StepRelation} {Q : MoveRelation} (moves : FineMoves G May Other R Q) (openings : Openings G May Other Owns R) where
+module _ {G : GoodWorld} {May Other : Naming} {R : StepRelation} {Q : MoveRelation} (moves : FinestMoves G May Other R Q) (openings : MarkOpenings G May Other R) where
   pub open_operation-keeps : (p : Image) (name : Who) (f : SubprogramNo) (l : Located) → May name → Keeps G R (open_operation p name f l)
   unfolding open_operation
   open_operation-keeps p name f l may = search (looks-keeps, changes-keeps, open_scope-alters)
@@ -131,27 +148,44 @@ module _ {G : GoodWorld} {May Other : Naming} {Owns : Who → RegionNo → Type 
   finalize_by-keeps p name r None may = search (nothing-keeps)
   finalize_by-keeps p name r (Some f) may = looks-keeps moves _ (λ w. branch-keeps moves (has_room_to_finalize p w name f) (open_finalize p name r.object r.located f) (changes (edit_top_scope name finalize_has_raised)) (search (open_finalize-keeps)) (search (changes-keeps, edit_top_scope-alters)))
 
-  finalize_now-keeps : (p : Image) (name : Who) (r : Registered) → May name → Keeps G R (finalize_now p name r)
+  -- the newest object of a region that is being left
+  finalize_now-from : (p : Image) (name : Who) (f : Frame) (m : ScopeMark) (r : RegionNo) (x : Registered) (w : World) → G w → May name → top_of w name ≡ Some f → f.mark ≡ Scope m → m.region ≡ Some r → m.being_left ≡ true → next_to_finalize w r ≡ Some x
+      → From R w (finalize_now p name x)
   unfolding finalize_now
-  finalize_now-keeps p name r may = search (says-keeps, then-keeps, changes-keeps, no_longer_registered-alters, finalize_by-keeps) depth 6
+  finalize_now-from p name f m r x w good may top is region left next =
+      told_change-from moves Own (line.Final name x.object) (no_longer_registered x.object) (finalize_by p name x (type_of p x.located).finalize) w
+      (moves.finalizes name f m r x w good may top is region left next) (finalize_by-keeps p name x (type_of p x.located).finalize may)
 
-  pub finalize-keeps : (p : Image) (name : Who) (r : Registered) → May name → Keeps G R (finalize p name r)
+  pub finalize-from : (p : Image) (name : Who) (f : Frame) (m : ScopeMark) (r : RegionNo) (x : Registered) (w : World) → G w → May name → top_of w name ≡ Some f → f.mark ≡ Scope m → m.region ≡ Some r → m.being_left ≡ true → next_to_finalize w r ≡ Some x
+      → From R w (finalize p name x)
   unfolding finalize
-  finalize-keeps p name r may = search (looks-keeps, when-keeps, finalize_now-keeps)
+  finalize-from p name f m r x w good may top is region left next = looks_at-from moves (λ v. when (not (is_being_assigned v x.object)) (finalize_now p name x)) w (free-from (not (is_being_assigned w x.object))) where
+    free-from : (free : Bool) → From R w (when free (finalize_now p name x))
+    free-from true = finalize_now-from p name f m r x w good may top is region left next
+    free-from false = keeps-from moves nothing w good (nothing-keeps moves)
 
-  pub begin_assignment-keeps : (p : Image) (name : Who) (s : StatementNo) (target source : ℕ) → May name → Keeps G R (begin_assignment p name s target source)
+  -- an object that is registered is assigned to
+  begin_assignment-from : (p : Image) (name : Who) (s : StatementNo) (l : Located) (x : Registered) (source : ℕ) (w : World) → G w → May name → registered_at w l ≡ Some x → From R w (begin_assignment p name s x.object source)
   unfolding begin_assignment
-  begin_assignment-keeps p name s target source may = search (with_room-keeps, goes-keeps, then-keeps, says-keeps, changes-keeps, push-alters) depth 6
+  begin_assignment-from p name s l x source w good may found =
+      with_room-from moves name 1 0 _ w good
+      (goes_then-from moves name (next_of p s) _ w good (λ good_onward.
+      let gone = edit_top name (goes_on (next_of p s)) w in
+      let still : registered_at gone l ≡ Some x = ap (find (is_located l)) (edit_task-registered name (λ t. with_frames (edit_first (goes_on (next_of p s)) t.frames) t) w) ∙ found in
+      said_then-from moves Own (line.Replace name x.object) (changes (push name (new_frame (new_assign_mark x.object source) None))) gone (moves.replaces name l x gone good_onward still)
+      (keeps-from moves (changes (push name (new_frame (new_assign_mark x.object source) None))) gone good_onward (search (changes-keeps, push-alters)))))
 
-  pub assign_registered-keeps : (p : Image) (name : Who) (s : StatementNo) (target source : Option Registered) → May name → Keeps G R (assign_registered p name s target source)
+  assign_registered-from : (p : Image) (name : Who) (s : StatementNo) (l : Located) (target source : Option Registered) (w : World) → G w → May name → registered_at w l ≡ target → From R w (assign_registered p name s target source)
   unfolding assign_registered
-  assign_registered-keeps p name s (Some target) (Some source) may = search (begin_assignment-keeps)
-  assign_registered-keeps p name s (Some target) None may = search (raises-keeps)
-  assign_registered-keeps p name s None source may = search (raises-keeps)
+  assign_registered-from p name s l (Some target) (Some source) w good may found = begin_assignment-from p name s l target source.object w good may found
+  assign_registered-from p name s l (Some target) None w good may found = keeps-from moves _ w good (raises-keeps moves Own name exception.Program)
+  assign_registered-from p name s l None source w good may found = keeps-from moves _ w good (raises-keeps moves Own name exception.Program)
 
   pub assign_located-keeps : (p : Image) (name : Who) (s : StatementNo) (target source : Located) → May name → Keeps G R (assign_located p name s target source)
   unfolding assign_located
-  assign_located-keeps p name s target source may = search (cond-keeps, goes-keeps, looks-keeps, assign_registered-keeps)
+  assign_located-keeps p name s target source may =
+      cond-keeps moves (same_located target source) (goes name (next_of p s)) _ (goes-keeps moves name (next_of p s))
+      (looks-from moves _ (λ w good. assign_registered-from p name s target (registered_at w target) (registered_at w source) w good may refl))
 
   pub assign_controlled-keeps : (p : Image) (name : Who) (s : StatementNo) (target source : DeclNo) → May name → Keeps G R (assign_controlled p name s target source)
   unfolding assign_controlled

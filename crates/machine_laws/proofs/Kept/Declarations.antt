@@ -32,14 +32,15 @@ use Rattle.profile_machine.specs.CallEnds.{store}
 use Rattle.profile_machine.specs.Declarations.{default_cells, set_defaults, initialized, initial_of, components_initialized, located_here, set_thing, object_declared, object_drawn, new_object, with_object, says_object, declare_protected, controlled_declared, event_drawn, event_declared, with_budget, budget_declared, timed_task, with_timer, timer_declared, declared, declare_quietly, declare_by, declare}
 use Rattle.profile_machine.specs.Values.{seen_by}
 use Rattle.machine_laws.proofs.Moves.{StepRelation, MoveRelation}
-use Rattle.machine_laws.proofs.FineMoves.{GoodWorld, Naming, FineMoves}
+use Rattle.machine_laws.proofs.FineMoves.{GoodWorld, Naming}
+use Rattle.machine_laws.proofs.FinestMoves.{FinestMoves}
 use Rattle.machine_laws.proofs.Kept.Combinators.{Keeps, Alters, Gives, bind-gives, changes-keeps, looks-from, next-gives, ok-gives, then-keeps, looks-keeps, says-keeps}
 use Rattle.machine_laws.proofs.Kept.Frames.{given-from, given_world-from, goes-keeps}
 use Rattle.machine_laws.proofs.Kept.Scopes.{write_cell-alters}
 use Rattle.machine_laws.proofs.Kept.CallEnds.{store-gives}
 use Rattle.machine_laws.proofs.Kept.Statements.{copy_cells-alters}
 
-module _ {G : GoodWorld} {May Other : Naming} {R : StepRelation} {Q : MoveRelation} (moves : FineMoves G May Other R Q) where
+module _ {G : GoodWorld} {May Other : Naming} {R : StepRelation} {Q : MoveRelation} (moves : FinestMoves G May Other R Q) where
   set_defaults-alters : (p : Image) (v : Variable) → Alters G R (set_defaults p v)
   unfolding Alters
   set_defaults-alters p v w good = moves.edits_cells v.within (put_cells v.place (default_cells p w v)) w good

@@ -15,20 +15,21 @@ use Rattle.profile_machine.specs.Dispatching.{active, level_kept_by, keep_level,
 use Rattle.std.proofs.Common.{◌≡◌, refl}
 use Rattle.std.specs.Prelude.{false}
 use Rattle.machine_laws.proofs.Moves.{StepRelation, MoveRelation}
-use Rattle.machine_laws.proofs.FineMoves.{GoodWorld, Naming, FineMoves}
+use Rattle.machine_laws.proofs.FineMoves.{GoodWorld, Naming}
+use Rattle.machine_laws.proofs.FinestMoves.{FinestMoves}
 use Rattle.machine_laws.proofs.Kept.Combinators.{Keeps, Alters, changes-keeps, from-keeps, said-from, said-keeps, then-keeps, looks_at-from}
 use Rattle.machine_laws.proofs.Kept.Tasks.{edit_task-alters}
 
 -- a quantum is no state
-full_quantum-who : (b : Bool) (n : ℕ) (t : Task) → (cond b (record t { quantum = n }) t).who ≡ t.who
+pub full_quantum-who : (b : Bool) (n : ℕ) (t : Task) → (cond b (record t { quantum = n }) t).who ≡ t.who
 full_quantum-who true n t = refl
 full_quantum-who false n t = refl
 
-full_quantum-frames : (b : Bool) (n : ℕ) (t : Task) → (cond b (record t { quantum = n }) t).frames ≡ t.frames
+pub full_quantum-frames : (b : Bool) (n : ℕ) (t : Task) → (cond b (record t { quantum = n }) t).frames ≡ t.frames
 full_quantum-frames true n t = refl
 full_quantum-frames false n t = refl
 
-full_quantum-state : (b : Bool) (n : ℕ) (t : Task) → (cond b (record t { quantum = n }) t).state ≡ t.state
+pub full_quantum-state : (b : Bool) (n : ℕ) (t : Task) → (cond b (record t { quantum = n }) t).state ≡ t.state
 full_quantum-state true n t = refl
 full_quantum-state false n t = refl
 
@@ -36,7 +37,7 @@ full_quantum-master : (b : Bool) (n : ℕ) (t : Task) → (cond b (record t { qu
 full_quantum-master true n t = refl
 full_quantum-master false n t = refl
 
-module _ {G : GoodWorld} {May Other : Naming} {R : StepRelation} {Q : MoveRelation} (moves : FineMoves G May Other R Q) where
+module _ {G : GoodWorld} {May Other : Naming} {R : StepRelation} {Q : MoveRelation} (moves : FinestMoves G May Other R Q) where
   pub keep_level-alters : (p : Image) (name : Who) → Alters G R (keep_level p name)
   unfolding Alters
   keep_level-alters p name w good = moves.edits_task name (λ t. record t { kept_level = level_kept_by p w t (edf_low p t.base) }) w good (λ t. refl) (λ t. refl) (λ t. refl) (λ t. refl)

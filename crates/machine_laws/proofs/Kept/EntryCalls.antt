@@ -30,30 +30,30 @@ use Rattle.profile_machine.specs.declared.world.lines.Part.{Part}
 use Rattle.profile_machine.specs.declared.world.lines.Part.TheVariants.{Own, TheCall}
 use Rattle.profile_machine.specs.Steps.{Step, goes_on_with, says, changes, looks, for_some, ◌▷◌, nothing}
 use Rattle.profile_machine.specs.Program.{next_of}
-use Rattle.profile_machine.specs.Frames.{frames_of, edit_first, edit_top, goes_on, new_frame, in_protected, raise_if, given, is_deferred}
+use Rattle.profile_machine.specs.Frames.{frames_of, edit_first, edit_top, goes_on, in_protected, raise_if, given, is_deferred}
 use Rattle.profile_machine.specs.Tasks.{with_frames}
 use Rattle.profile_machine.specs.Calls.{call_of, says_call, enqueued, enqueue, is_full}
-use Rattle.profile_machine.specs.Protected.{begin_action_on, is_barrier_open, new_protected_mark}
+use Rattle.profile_machine.specs.Protected.{begin_action_on, is_barrier_open}
 use Rattle.profile_machine.specs.Sending.{open_abortable, not_accepted, is_triggering}
 use Rattle.profile_machine.specs.EntryCalls.{numbered, marks_if_queued, add_call, make_call, end_at_once, call_gone, call_meets, call_queues, call_not_met, call_accepted_by, call_callable, call_task, call_runs, call_without_room, has_room_for_action, call_runs_if_room, call_passes, call_refused, call_closed, call_by_barrier, call_object, call_owner, call_named, entry_call, appoint_trigger, trigger_delay, async_delay, async_by_trigger, asynchronous_select, mark_sending, requeue, is_forbidden}
 use Rattle.machine_laws.proofs.Moves.{StepRelation, MoveRelation, LetsIn, own}
-use Rattle.machine_laws.proofs.FineMoves.{GoodWorld, Naming, FineMoves, Openings, finely, first_is_false}
+use Rattle.machine_laws.proofs.FineMoves.{GoodWorld, Naming, first_is_false}
+use Rattle.machine_laws.proofs.FinestMoves.{FinestMoves, MarkOpenings}
 use Rattle.machine_laws.proofs.Kept.Entering.{LetsIn-same, edit_task-objects}
 use Rattle.machine_laws.proofs.Kept.Combinators.{Keeps, Kept, From, Alters, either-from, said_then-from, then-from, changes-keeps, keeps-from, looks-from, looks-keeps, looks_at-from, nothing-keeps, sees-keeps, then-keeps, unchanged-alters, changes_then-from}
-use Rattle.machine_laws.proofs.AtOnce.{at_once, later_behind}
+use Rattle.machine_laws.proofs.AtOnce.{finely_at_once, later_behind}
 use Rattle.machine_laws.proofs.Kept.Dispatching.{block-keeps}
-use Rattle.machine_laws.proofs.Kept.Frames.{goes-keeps, leaves-keeps, raises-keeps, given-from, given-keeps, raise_if-from, raise_if-keeps, with_room-from, with_room-keeps, edit_top-alters, goes_then-from, push-alters}
+use Rattle.machine_laws.proofs.Kept.Frames.{goes-keeps, leaves-keeps, raises-keeps, given-from, given-keeps, raise_if-from, raise_if-keeps, with_room-from, with_room-keeps, edit_top-alters, goes_then-from}
 use Rattle.machine_laws.proofs.Kept.Appointments.{appoint-from}
 use Rattle.machine_laws.proofs.Kept.Calls.{edit_call-alters, forget_call-alters, says_call-keeps, enqueued-alters, enqueue-keeps}
 use Rattle.machine_laws.proofs.Kept.CallEnds.{gone-keeps}
 use Rattle.machine_laws.proofs.Kept.Protected.{where_let_inside-keeps, begin_action_on-from, serve_call-keeps}
 use Rattle.machine_laws.proofs.Kept.Sending.{open_abortable-alters, not_accepted-keeps}
 use Rattle.machine_laws.proofs.Kept.Rendezvous.{meet-keeps}
-use Rattle.ann_base.specs.declared.identities.RegionNo.{RegionNo}
 use Rattle.profile_machine.specs.Rendezvous.{delay_moment}
 use Rattle.profile_machine.specs.Values.{seen_by}
 
-module _ {G : GoodWorld} {May Other : Naming} {R : StepRelation} {Q : MoveRelation} (moves : FineMoves G May Other R Q) where
+module _ {G : GoodWorld} {May Other : Naming} {R : StepRelation} {Q : MoveRelation} (moves : FinestMoves G May Other R Q) where
   add_call-alters : (c : Call) → Alters G R (add_call c)
   unfolding Alters
   add_call-alters c w good = moves.adds_call c w good
@@ -173,7 +173,7 @@ module _ {G : GoodWorld} {May Other : Naming} {R : StepRelation} {Q : MoveRelati
       let opened = open_abortable-alters moves p name s None other w good in
       looks_at-from moves (λ v. changes (open_abortable p name s None) ▷ changes (appoint_trigger name (length (frames_of v name)) m)) w
       (changes_then-from moves (open_abortable p name s None) _ w opened
-      (appoint_trigger-from name (length (frames_of w name)) m _ (moves.behind w (open_abortable p name s None w) opened) (later_behind (open_abortable p name s None) w m (open_abortable-alters (finely at_once) p name s None tt) later)))
+      (appoint_trigger-from name (length (frames_of w name)) m _ (moves.behind w (open_abortable p name s None w) opened) (later_behind (open_abortable p name s None) w m (open_abortable-alters finely_at_once p name s None tt) later)))
 
   trigger_delay-from : (p : Image) (name : Who) (s trigger : StatementNo) (m : ℤ) (test : Bool) (w : World) → G w → Other name → int_lt (pos w.time) m ≡ test → From R w (trigger_delay p name s trigger m test)
   unfolding trigger_delay
@@ -181,7 +181,7 @@ module _ {G : GoodWorld} {May Other : Naming} {R : StepRelation} {Q : MoveRelati
   trigger_delay-from p name s trigger m true w good other is =
       with_room-from moves name 1 0 _ w good
       (goes_then-from moves name (next_of p s) _ w good (λ good_onward.
-      opens_until p name s m _ good_onward other (later_behind (edit_top name (goes_on (next_of p s))) w m (edit_top-alters (finely at_once) name (goes_on (next_of p s)) (λ x. refl)) is)))
+      opens_until p name s m _ good_onward other (later_behind (edit_top name (goes_on (next_of p s))) w m (edit_top-alters finely_at_once name (goes_on (next_of p s)) (λ x. refl)) is)))
 
   pub mark_sending-alters : (c : Option CallNo) (o : Owner) (e : EntryNo) (with_abort : Bool) → Alters G R (mark_sending c o e with_abort)
   mark_sending-alters None o e with_abort = search (unchanged-alters)
@@ -191,12 +191,12 @@ module _ {G : GoodWorld} {May Other : Naming} {R : StepRelation} {Q : MoveRelati
   unfolding requeue
   requeue-keeps p name e o with_abort = search (sees-keeps, given-keeps, changes-keeps, mark_sending-alters, then-keeps, leaves-keeps) depth 8
 
-module _ {G : GoodWorld} {May Other : Naming} {Owns : Who → RegionNo → Type 0} {R : StepRelation} {Q : MoveRelation} (moves : FineMoves G May Other R Q) (openings : Openings G May Other Owns R) where
+module _ {G : GoodWorld} {May Other : Naming} {R : StepRelation} {Q : MoveRelation} (moves : FinestMoves G May Other R Q) (openings : MarkOpenings G May Other R) where
   call_runs-from : (p : Image) (o : ObjectNo) (c : Call) (w : World) → G w → LetsIn (who.Task c.caller) o Write w → From R w (call_runs p o c)
   unfolding call_runs
   call_runs-from p o c w good h =
       let may = moves.other_may (who.Task c.caller) (moves.task_other c.caller) in
-      then-from moves (begin_action_on p (who.Task c.caller) o Write (Some c.number) None) _ w (begin_action_on-from moves p (who.Task c.caller) o Write (Some c.number) None w good may (push-alters moves openings (who.Task c.caller) (new_frame (new_protected_mark o Write (Some c.number) None) None) may refl refl refl) h)
+      then-from moves (begin_action_on p (who.Task c.caller) o Write (Some c.number) None) _ w (begin_action_on-from moves p (who.Task c.caller) o Write (Some c.number) None w good may (openings.begins (who.Task c.caller) o Write (Some c.number) may) h)
       (serve_call-keeps moves openings p Own (who.Task c.caller) o c nothing nothing may (nothing-keeps moves) (nothing-keeps moves))
 
   call_runs_if_room-from : (p : Image) (o : ObjectNo) (c : Call) (w : World) → G w → LetsIn (who.Task c.caller) o Write w → From R w (call_runs_if_room p o c)

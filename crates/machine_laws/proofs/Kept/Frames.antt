@@ -1,6 +1,5 @@
 -- Opening constructs, leaving them, and going on: each step keeps a relation that its parts keep.
 use Rattle.std.specs.Prelude.{ℕ, Bool, true, false, Option, Some, None, Result, Ok, Err}
-use Rattle.ann_base.specs.declared.identities.RegionNo.{RegionNo}
 use Rattle.ann_base.specs.declared.exceptions.Raised.{Raised}
 use Rattle.ann_base.specs.declared.exceptions.Raised.TheVariants as exception
 use Rattle.trace_text.specs.declared.events.Who.{Who}
@@ -20,17 +19,18 @@ use Rattle.profile_machine.specs.Steps.{Step, changes, ◌▷◌}
 use Rattle.profile_machine.specs.Frames.{top_of, new_frame, edit_first, edit_top, goes, push, pop, leaves, raises, has_room, open_handled, open_at, open_sequence, open_if_ready, stands_in, exit_loop, pass_on, is_protected, given, raise_if, with_room, goes_on}
 use Rattle.profile_machine.specs.Operators.{Valued}
 use Rattle.machine_laws.proofs.Moves.{StepRelation, MoveRelation}
-use Rattle.machine_laws.proofs.FineMoves.{GoodWorld, Naming, FineMoves, Openings, nature, natures}
+use Rattle.machine_laws.proofs.FineMoves.{GoodWorld, Naming}
+use Rattle.machine_laws.proofs.FinestMoves.{FinestMoves, MarkOpenings, nature, natures}
 use Rattle.machine_laws.proofs.Kept.Combinators.{Keeps, Kept, From, Alters, Gives, branch-keeps, changes-keeps, either-from, keeps-from, looks-from, looks-keeps, looks_at-from, nothing-keeps, says-keeps, then-keeps, when-keeps, changes-from, changes_then-from}
 use Rattle.machine_laws.proofs.Kept.Tasks.{edit_frames-alters}
 use Rattle.std.proofs.Common.{◌≡◌, List, [], ◌∷◌, option_and_then, refl, sym, ap, append-nil}
 
 -- an edit of a mark on top
-first-natures : (f : Frame → Frame) (fs : List Frame) → ((x : Frame) → nature (f x).mark ≡ nature x.mark) → natures (edit_first f fs) ≡ natures fs
+pub first-natures : (f : Frame → Frame) (fs : List Frame) → ((x : Frame) → nature (f x).mark ≡ nature x.mark) → natures (edit_first f fs) ≡ natures fs
 first-natures f [] same = refl
 first-natures f (x ∷ xs) same = ap (λ n. n ∷ natures xs) (same x)
 
-module _ {G : GoodWorld} {May Other : Naming} {R : StepRelation} {Q : MoveRelation} (moves : FineMoves G May Other R Q) where
+module _ {G : GoodWorld} {May Other : Naming} {R : StepRelation} {Q : MoveRelation} (moves : FinestMoves G May Other R Q) where
   pub edit_top-alters : (name : Who) (f : Frame → Frame) → ((x : Frame) → nature (f x).mark ≡ nature x.mark) → Alters G R (edit_top name f)
   edit_top-alters name f same = edit_frames-alters moves name (edit_first f) (λ fs. first-natures f fs same)
 
@@ -60,7 +60,7 @@ module _ {G : GoodWorld} {May Other : Naming} {R : StepRelation} {Q : MoveRelati
   open_handled-from p part name s (form.Handled handlers first) g w good may top =
       looks_at-from moves (λ v. elim (has_room v name 1 0) as (λ _. Step) [ true ↦ goes name (next_of p s) ▷ changes (push name (new_frame (Handled s) (Some first))) | false ↦ raises part name exception.Storage ]) w
       (either-from moves (has_room w name 1 0) (goes name (next_of p s) ▷ changes (push name (new_frame (Handled s) (Some first)))) (raises part name exception.Storage) w
-      (goes_push-from name (next_of p s) (new_frame (Handled s) (Some first)) g w (moves.pushes_on name (next_of p s) (new_frame (Handled s) (Some first)) g w good may top refl refl refl))
+      (goes_push-from name (next_of p s) (new_frame (Handled s) (Some first)) g w (moves.pushes_on name (next_of p s) (new_frame (Handled s) (Some first)) g w good may top refl refl refl refl))
       (keeps-from moves (raises part name exception.Storage) w good (raises-keeps part name exception.Storage)))
   open_handled-from p part name s _ g w good may top = keeps-from moves _ w good (nothing-keeps moves)
 
@@ -150,7 +150,7 @@ module _ {G : GoodWorld} {May Other : Naming} {R : StepRelation} {Q : MoveRelati
 
   -- ---- who acts opens a mark
 
-  module _ {Owns : Who → RegionNo → Type 0} (openings : Openings G May Other Owns R) where
-    pub push-alters : (name : Who) (f : Frame) → May name → (nature f.mark).region ≡ None → (nature f.mark).release ≡ None → (nature f.mark).abortable ≡ false → Alters G R (push name f)
+  module _ (openings : MarkOpenings G May Other R) where
+    pub push-alters : (name : Who) (f : Frame) → May name → (nature f.mark).region ≡ None → (nature f.mark).release ≡ None → (nature f.mark).action ≡ None → (nature f.mark).abortable ≡ false → Alters G R (push name f)
     unfolding Alters
-    push-alters name f may region release abortable w good = openings.pushes name f w good may region release abortable
+    push-alters name f may region release action abortable w good = openings.pushes name f w good may region release action abortable

@@ -27,20 +27,21 @@ use Rattle.profile_machine.specs.Program.{is_robin_level, marks_of, subprogram_o
 use Rattle.profile_machine.specs.declared.world.lines.Part.{Part}
 use Rattle.profile_machine.specs.declared.world.lines.Part.TheVariants.{Own}
 use Rattle.profile_machine.specs.Steps.{Step, changes, looks, ◌▷◌, says}
-use Rattle.profile_machine.specs.Tasks.{task_of, edit_task, with_frames}
-use Rattle.profile_machine.specs.Frames.{has_room, new_frame}
+use Rattle.profile_machine.specs.Tasks.{task_of, edit_task}
+use Rattle.profile_machine.specs.Frames.{has_room}
 use Rattle.profile_machine.specs.Values.{Seen}
 use Rattle.profile_machine.specs.CallEnds.{store}
 use Rattle.trace_text.specs.declared.events.Mode.TheVariants.{Write}
-use Rattle.profile_machine.specs.Protected.{entering, begin_action_on, new_protected_mark, body_of_object}
+use Rattle.profile_machine.specs.Protected.{entering, begin_action_on, body_of_object}
 use Rattle.profile_machine.specs.Serving.{end_release}
 use Rattle.profile_machine.specs.declared.world.marks.Purpose.TheVariants as opened_for
 use Rattle.profile_machine.specs.declared.world.marks.ResultTo.TheVariants as bound_for
 use Rattle.profile_machine.specs.Handlers.{add_release, says_release, wake_agent, release, with_room_for_release, scope_size_of, begin_handler, begin_handler_if_room, enter_handler, call_handler, interrupt, setting_of, answer, cancel_event_setting, appoint_event, event_set_to, set_event, cancel_event, clear_timer, with_timer_set, timer_set_beyond, timer_set_to, set_timer, cancel_timer, edit_budget, change_member, add_member, remove_member, fill_budget, replenish, add_to_budget, set_budget, cancel_budget, clock_risen, due_by_tick, charge_budget, timers_reached, quantum_spent_by, charge_clock, charge_group, charge_task, charge, handler_attached, argument_values}
 use Rattle.std.proofs.Common.{◌≡◌, refl}
 use Rattle.std.specs.Prelude.{Bool}
-use Rattle.machine_laws.proofs.Moves.{StepRelation, MoveRelation, LetsIn, Moves}
-use Rattle.machine_laws.proofs.FineMoves.{GoodWorld, Naming, FineMoves, AnyWorld, finely, openings}
+use Rattle.machine_laws.proofs.Moves.{StepRelation, MoveRelation, LetsIn}
+use Rattle.machine_laws.proofs.FineMoves.{GoodWorld, Naming}
+use Rattle.machine_laws.proofs.FinestMoves.{FinestMoves, AllMoves, Holding}
 use Rattle.machine_laws.proofs.Kept.Combinators.{Keeps, Kept, From, Alters, either-from, looks_at-from, then-from, changes-keeps, for_some-keeps, keeps-from, looks-from, looks-keeps, nothing-keeps, says-keeps, sees-keeps, then-keeps, unchanged-alters}
 use Rattle.machine_laws.proofs.Kept.Frames.{becomes-from, goes-keeps, given-keeps, raise_if-keeps}
 use Rattle.machine_laws.proofs.Kept.Tasks.{edit_task-alters}
@@ -74,54 +75,54 @@ pub record Releasing (G : GoodWorld) (R : StepRelation) : Type 0 where
 
 -- ---- where anybody may be changed
 
-module _ {R : StepRelation} {Q : MoveRelation} (moves : Moves R Q) where
+module _ {G : GoodWorld} {Holds : Holding} {R : StepRelation} {Q : MoveRelation} (moves : AllMoves G Holds R Q) where
   -- a release is drawn, and told
-  told_release-keeps : (h : HandlerOf) (argument : Option ℕ) → Keeps AnyWorld R (changes (add_release h argument) ▷ says_release Own h)
+  told_release-keeps : (h : HandlerOf) (argument : Option ℕ) → Keeps G R (changes (add_release h argument) ▷ says_release Own h)
   unfolding Keeps Kept says_release
-  told_release-keeps h argument w good said = (record { part = Own; line = line.Release (suc w.drawn.releases) h } ∷ [], refl, moves.releases h argument w)
+  told_release-keeps h argument w good said = (record { part = Own; line = line.Release (suc w.drawn.releases) h } ∷ [], refl, moves.releases h argument w good)
 
-  wake_agent-keeps : (p : Image) (part : Part) (state : State) → Keeps AnyWorld R (wake_agent p part state)
+  wake_agent-keeps : (p : Image) (part : Part) (state : State) → Keeps G R (wake_agent p part state)
   unfolding wake_agent
-  wake_agent-keeps p part (Blocked waiting) = ready-keeps (finely moves) p part who.Agent tt
-  wake_agent-keeps p part Runnable = nothing-keeps (finely moves)
-  wake_agent-keeps p part Made = nothing-keeps (finely moves)
+  wake_agent-keeps p part (Blocked waiting) = ready-keeps moves.fine p part who.Agent tt
+  wake_agent-keeps p part Runnable = nothing-keeps moves.fine
+  wake_agent-keeps p part Made = nothing-keeps moves.fine
 
-  release-keeps : (p : Image) (h : HandlerOf) (argument : Option ℕ) → Keeps AnyWorld R (release p Own h argument)
+  release-keeps : (p : Image) (h : HandlerOf) (argument : Option ℕ) → Keeps G R (release p Own h argument)
   unfolding release
   release-keeps p h argument =
-      then-keeps (finely moves) (changes (add_release h argument) ▷ says_release Own h) (looks (λ w. wake_agent p Own w.agent.state)) (told_release-keeps h argument)
-      (looks-keeps (finely moves) _ (λ w. wake_agent-keeps p Own w.agent.state))
+      then-keeps moves.fine (changes (add_release h argument) ▷ says_release Own h) (looks (λ w. wake_agent p Own w.agent.state)) (told_release-keeps h argument)
+      (looks-keeps moves.fine _ (λ w. wake_agent-keeps p Own w.agent.state))
 
-  pub releasing : Releasing AnyWorld R
+  pub releasing : Releasing G R
   releasing = record { releases = release-keeps }
 
-  begin_handler-from : (p : Image) (r : Release) (w : World) → LetsIn who.Agent r.handler.object Write w → From R w (begin_handler p r)
+  begin_handler-from : (p : Image) (r : Release) (w : World) → G w → LetsIn who.Agent r.handler.object Write w → From R w (begin_handler p r)
   unfolding begin_handler Alters
-  begin_handler-from p r w h =
-      then-from (finely moves) (begin_action_on p who.Agent r.handler.object Write None (Some r.number)) _ w
-      (begin_action_on-from (finely moves) p who.Agent r.handler.object Write None (Some r.number) w tt tt (λ v good. moves.edits_task who.Agent (λ t. with_frames (new_frame (new_protected_mark r.handler.object Write None (Some r.number)) None ∷ t.frames) t) v (λ t. refl)) h)
-      (looks-keeps (finely moves) _ (λ v. changes-keeps (finely moves) _ (open_scope-alters (openings moves) p who.Agent (subprogram_of p r.handler.procedure).scope (body_of_object p v (subprogram_of p r.handler.procedure).scope r.handler.object None (argument_values r.argument)) (opened_for.Subprogram [] bound_for.Nowhere) tt)))
+  begin_handler-from p r w good h =
+      then-from moves.fine (begin_action_on p who.Agent r.handler.object Write None (Some r.number)) _ w
+      (begin_action_on-from moves.fine p who.Agent r.handler.object Write None (Some r.number) w good tt (moves.handles r.handler.object r.number) h)
+      (looks-keeps moves.fine _ (λ v. changes-keeps moves.fine _ (open_scope-alters moves.openings p who.Agent (subprogram_of p r.handler.procedure).scope (body_of_object p v (subprogram_of p r.handler.procedure).scope r.handler.object None (argument_values r.argument)) (opened_for.Subprogram [] bound_for.Nowhere) tt)))
 
-  begin_handler_if_room-from : (p : Image) (r : Release) (w : World) → LetsIn who.Agent r.handler.object Write w → From R w (begin_handler_if_room p r)
+  begin_handler_if_room-from : (p : Image) (r : Release) (w : World) → G w → LetsIn who.Agent r.handler.object Write w → From R w (begin_handler_if_room p r)
   unfolding begin_handler_if_room
-  begin_handler_if_room-from p r w h =
-      looks_at-from (finely moves) (λ v. elim (has_room v who.Agent (1 + marks_of p (subprogram_of p r.handler.procedure).scope) (scope_size_of p r.handler.procedure)) as (λ _. Step) [ true ↦ begin_handler p r | false ↦ end_release r.number ]) w (either-from (finely moves) (has_room w who.Agent (1 + marks_of p (subprogram_of p r.handler.procedure).scope) (scope_size_of p r.handler.procedure)) (begin_handler p r) (end_release r.number) w
-      (begin_handler-from p r w h) (keeps-from (finely moves) (end_release r.number) w tt (end_release-keeps moves r.number)))
+  begin_handler_if_room-from p r w good h =
+      looks_at-from moves.fine (λ v. elim (has_room v who.Agent (1 + marks_of p (subprogram_of p r.handler.procedure).scope) (scope_size_of p r.handler.procedure)) as (λ _. Step) [ true ↦ begin_handler p r | false ↦ end_release r.number ]) w (either-from moves.fine (has_room w who.Agent (1 + marks_of p (subprogram_of p r.handler.procedure).scope) (scope_size_of p r.handler.procedure)) (begin_handler p r) (end_release r.number) w
+      (begin_handler-from p r w good h) (keeps-from moves.fine (end_release r.number) w good (end_release-keeps moves r.number)))
 
-  enter_handler-from : (p : Image) (r : Release) (w : World) (is : Entering) → entering p w who.Agent r.handler.object Write ≡ is → From R w (enter_handler p r is)
+  enter_handler-from : (p : Image) (r : Release) (w : World) (is : Entering) → G w → entering p w who.Agent r.handler.object Write ≡ is → From R w (enter_handler p r is)
   unfolding enter_handler
-  enter_handler-from p r w entering_is.SameObject e = keeps-from (finely moves) (end_release r.number) w tt (end_release-keeps moves r.number)
-  enter_handler-from p r w entering_is.AboveCeiling e = keeps-from (finely moves) (end_release r.number) w tt (end_release-keeps moves r.number)
-  enter_handler-from p r w entering_is.Held e = find_held-from (finely moves) p who.Agent r.handler.object Write w tt tt (entering-held p w who.Agent r.handler.object Write e)
-  enter_handler-from p r w entering_is.Inside e = begin_handler_if_room-from p r w (entering-inside p w who.Agent r.handler.object Write e)
+  enter_handler-from p r w entering_is.SameObject good e = keeps-from moves.fine (end_release r.number) w good (end_release-keeps moves r.number)
+  enter_handler-from p r w entering_is.AboveCeiling good e = keeps-from moves.fine (end_release r.number) w good (end_release-keeps moves r.number)
+  enter_handler-from p r w entering_is.Held good e = find_held-from moves.fine p who.Agent r.handler.object Write w good tt (entering-held p w who.Agent r.handler.object Write e)
+  enter_handler-from p r w entering_is.Inside good e = begin_handler_if_room-from p r w good (entering-inside p w who.Agent r.handler.object Write e)
 
-  pub call_handler-keeps : (p : Image) (r : Release) → Keeps AnyWorld R (call_handler p r)
+  pub call_handler-keeps : (p : Image) (r : Release) → Keeps G R (call_handler p r)
   unfolding call_handler
-  call_handler-keeps p r = looks-from (finely moves) _ (λ w good. enter_handler-from p r w (entering p w who.Agent r.handler.object Write) refl)
+  call_handler-keeps p r = looks-from moves.fine _ (λ w good. enter_handler-from p r w (entering p w who.Agent r.handler.object Write) good refl)
 
 -- ---- settings, and the charge of a tick
 
-module _ {G : GoodWorld} {May Other : Naming} {R : StepRelation} {Q : MoveRelation} (moves : FineMoves G May Other R Q) where
+module _ {G : GoodWorld} {May Other : Naming} {R : StepRelation} {Q : MoveRelation} (moves : FinestMoves G May Other R Q) where
   pub with_room_for_release-keeps : (name : Who) (needed : Bool) (step : Step) → Keeps G R step → Keeps G R (with_room_for_release name needed step)
   with_room_for_release-keeps name needed step kept = search (looks-keeps, raise_if-keeps)
 
@@ -226,7 +227,7 @@ module _ {G : GoodWorld} {May Other : Naming} {R : StepRelation} {Q : MoveRelati
 
 -- ---- what may release
 
-module _ {G : GoodWorld} {May Other : Naming} {R : StepRelation} {Q : MoveRelation} (moves : FineMoves G May Other R Q) (releasing : Releasing G R) where
+module _ {G : GoodWorld} {May Other : Naming} {R : StepRelation} {Q : MoveRelation} (moves : FinestMoves G May Other R Q) (releasing : Releasing G R) where
   pub interrupt-keeps : (p : Image) (n : ℕ) → Keeps G R (interrupt p n)
   unfolding interrupt
   interrupt-keeps p n =

@@ -14,13 +14,15 @@ use Rattle.profile_machine.specs.declared.world.appointments.Appointment.{Appoin
 use Rattle.profile_machine.specs.declared.world.appointments.TimerSetting.{TimerSetting}
 use Rattle.profile_machine.specs.declared.world.appointments.Due.TheVariants as due_for
 use Rattle.profile_machine.specs.declared.world.tasks.Waiting.TheVariants as waits_for
-use Rattle.profile_machine.specs.Steps.{Step, changes, nothing, settles, ◌▷◌, rests, ◌▶◌}
-use Rattle.profile_machine.specs.Tasks.{task_of, with_ticks}
+use Rattle.profile_machine.specs.Steps.{Step, Move, changes, nothing, settles, ◌▷◌, rests, ◌▶◌}
+use Rattle.profile_machine.specs.Tasks.{task_of, edit_task, with_ticks}
+use Rattle.profile_machine.specs.Act.{act}
 use Rattle.profile_machine.specs.Appointments.{first_due}
 use Rattle.profile_machine.specs.Instant.{effect, is_over, effect_of_runner, finish_action, with_port, with_masked, with_kept_interrupt, interrupt_comes, deliver_kept_interrupt, script_item, with_script, take_item, items_due, script_items, take_delay, end_delay, time_out, come_due, take_due, all_due, appointments_due, events_due, moments_due, expire, expire_timer, no_timers_due, timers_due, run_out, no_budget_due, budgets_due, spend_quantum, quantum_spent, instant}
-use Rattle.machine_laws.proofs.Moves.{StepRelation, MoveRelation, Puts, Moves}
-use Rattle.machine_laws.proofs.FineMoves.{GoodWorld, Naming, FineMoves, AnyWorld, finely}
-use Rattle.machine_laws.proofs.Kept.Combinators.{Keeps, From, Leads, Alters, branch-leads, changes-from, changes-keeps, for_each-keeps, for_some-keeps, keeps-from, looks-from, looks-keeps, nothing-keeps, says-keeps, settles-leads, then-from, then-keeps, then-leads, when-keeps, rests-leads, watches-leads}
+use Rattle.machine_laws.proofs.Moves.{StepRelation, MoveRelation, Puts}
+use Rattle.machine_laws.proofs.FineMoves.{GoodWorld, Naming}
+use Rattle.machine_laws.proofs.FinestMoves.{FinestMoves, AllMoves, Holding, Anyhow}
+use Rattle.machine_laws.proofs.Kept.Combinators.{Keeps, From, Leads, Alters, changes-from, changes_then-from, settles-from, changes-keeps, for_each-keeps, for_some-keeps, keeps-from, looks-from, looks-keeps, nothing-keeps, says-keeps, settles-leads, then-from, then-keeps, then-leads, when-keeps}
 use Rattle.machine_laws.proofs.Kept.Tasks.{edit_task-alters}
 use Rattle.machine_laws.proofs.Kept.Dispatching.{to_tail-keeps, ready-keeps}
 use Rattle.machine_laws.proofs.Kept.Frames.{goes-keeps, open_sequence-keeps, open_if_ready-keeps}
@@ -30,11 +32,12 @@ use Rattle.machine_laws.proofs.Kept.Unwinding.{unwind-keeps}
 use Rattle.machine_laws.proofs.Kept.CallEnds.{trigger_at-keeps, deliver-keeps}
 use Rattle.machine_laws.proofs.Kept.Tasking.{take_terminates-keeps, unwind_all-keeps}
 use Rattle.machine_laws.proofs.Kept.Handlers.{interrupt-keeps, clear_timer-alters, Releasing, releasing}
-use Rattle.machine_laws.proofs.Kept.Act.{act-keeps}
+use Rattle.machine_laws.proofs.Kept.Act.{Acting, Acts, acts_anyhow, any_act-from}
+use Rattle.machine_laws.proofs.Kept.Serving.{Stays, stays_anyhow}
 use Rattle.profile_machine.specs.Values.{budget_of}
 use Rattle.profile_machine.specs.Handlers.{clear_timer}
 
-module _ {G : GoodWorld} {May Other : Naming} {R : StepRelation} {Q : MoveRelation} (moves : FineMoves G May Other R Q) (releasing : Releasing G R) where
+module _ {G : GoodWorld} {May Other : Naming} {R : StepRelation} {Q : MoveRelation} (moves : FinestMoves G May Other R Q) (releasing : Releasing G R) where
   with_port-alters : (n : ℕ) (value : ℤ) → Alters G R (with_port n value)
   unfolding Alters
   with_port-alters n value w good = moves.sets_port n value w good
@@ -164,22 +167,36 @@ module _ {G : GoodWorld} {May Other : Naming} {R : StepRelation} {Q : MoveRelati
 
 -- ---- where anybody may be changed
 
-module _ {R : StepRelation} {Q : MoveRelation} (moves : Moves R Q) where
-  pub effect-keeps : (p : Image) → Puts AnyWorld R p → (name : Who) → Keeps AnyWorld R (effect p name)
-  unfolding effect
-  effect-keeps p puts name =
-      then-keeps (finely moves) _ _ (changes-keeps (finely moves) _ (edit_task-alters (finely moves) name (with_ticks None) (λ t. refl) (λ t. refl) (λ t. refl) (λ t. refl)))
-      (then-keeps (finely moves) _ _ (act-keeps moves p puts name)
-      (then-keeps (finely moves) _ _ (open_if_ready-keeps (finely moves) p name tt)
-      (then-keeps (finely moves) _ _ (take_terminates-keeps (finely moves) p name tt) (unwind_all-keeps (finely moves) p name))))
+module _ {G : GoodWorld} {Act : Acting} {Holds : Holding} {R : StepRelation} {Q : MoveRelation} (moves : AllMoves G Holds R Q) (stays : Stays Holds) (acts : Acts Act Holds) (p : Image) (puts : Puts G R p) where
+  effect-from : (name : Who) (w : World) → G w → Act name w → From R w (effect p name)
+  unfolding effect Alters
+  effect-from name w good acting =
+      let v = edit_task name (with_ticks None) w in
+      let first = edit_task-alters moves.fine name (with_ticks None) (λ t. refl) (λ t. refl) (λ t. refl) (λ t. refl) w good in
+      changes_then-from moves.fine (edit_task name (with_ticks None)) _ w first
+      (then-from moves.fine (act p name) _ v (any_act-from moves stays acts p puts name v (moves.fine.behind w v first) (acts.without_ticks name w acting))
+      (then-keeps moves.fine _ _ (open_if_ready-keeps moves.fine p name tt)
+      (then-keeps moves.fine _ _ (take_terminates-keeps moves.fine p name tt) (unwind_all-keeps moves.fine p name))))
 
-  effect_of_runner-leads : (p : Image) → Puts AnyWorld R p → (by : Option Who) → Leads AnyWorld Q (effect_of_runner p by)
-  effect_of_runner-leads p puts None = rests-leads (finely moves)
-  effect_of_runner-leads p puts (Some name) =
-      watches-leads (finely moves) _ (λ w. branch-leads (finely moves) (is_over (task_of w name).ticks_left) (settles p (effect p name)) rests (settles-leads (finely moves) p (effect p name) (effect-keeps p puts name)) (rests-leads (finely moves)))
+  over-leads : (name : Who) (w : World) (test : Bool) → G w → (test ≡ true → Act name w) → let d = (elim test as (λ _. Move) [ true ↦ settles p (effect p name) | false ↦ rests ]) w in Q w d.1 d.0
+  over-leads name w true good acting = settles-from moves.fine p (effect p name) w (effect-from name w good (acting refl))
+  over-leads name w false good acting = moves.fine.rests w good
 
-  pub finish_action-leads : (p : Image) → Puts AnyWorld R p → Leads AnyWorld Q (finish_action p)
-  finish_action-leads p puts = watches-leads (finely moves) _ (λ w. effect_of_runner-leads p puts w.ran)
+  runner-leads : (by : Option Who) (w : World) → G w → ((name : Who) → by ≡ Some name → is_over (task_of w name).ticks_left ≡ true → Act name w) → let d = effect_of_runner p by w in Q w d.1 d.0
+  runner-leads None w good acting = moves.fine.rests w good
+  runner-leads (Some name) w good acting = over-leads name w (is_over (task_of w name).ticks_left) good (acting name refl)
 
-  pub instant-leads : (p : Image) → Puts AnyWorld R p → Leads AnyWorld Q (instant p)
-  instant-leads p puts = then-leads (finely moves) (finish_action p) _ (finish_action-leads p puts) (behind_action-leads (finely moves) (releasing moves) p)
+  -- an instant, where of who acts is known what is
+  pub instant-from : (w : World) → G w → ((name : Who) → w.ran ≡ Some name → is_over (task_of w name).ticks_left ≡ true → Act name w) → let d = instant p w in Q w d.1 d.0
+  unfolding Leads
+  instant-from w good acting =
+      let rest : Move = script_items p ▶ events_due p ▶ moments_due p ▶ timers_due p ▶ budgets_due p ▶ quantum_spent p in
+      let v = (finish_action p w).0 in
+      let first : Q w (finish_action p w).1 v = runner-leads w.ran w good acting in
+      moves.fine.leads_on w v (rest v).0 first (behind_action-leads moves.fine (releasing moves) p v (moves.fine.moved w v first))
+
+-- where nothing need be known
+module _ {G : GoodWorld} {R : StepRelation} {Q : MoveRelation} (moves : AllMoves G Anyhow R Q) where
+  pub instant-leads : (p : Image) → Puts G R p → Leads G Q (instant p)
+  unfolding Leads
+  instant-leads p puts w good = instant-from moves stays_anyhow acts_anyhow p puts w good (λ name ran over. tt)

@@ -19,7 +19,8 @@ use Rattle.profile_machine.specs.Frames.{leaves}
 use Rattle.profile_machine.specs.Appointments.{drop_delay}
 use Rattle.profile_machine.specs.Masters.{part_of, has_dependents, has_activating, waits_for_activation, waits_for_dependents, gone_by_completion, wake_activator, end_group, end_activation_by, end_activation, complete_with, complete, wake_master, forget_task, terminate, leave_by_terminate}
 use Rattle.machine_laws.proofs.Moves.{StepRelation, MoveRelation}
-use Rattle.machine_laws.proofs.FineMoves.{GoodWorld, Naming, FineMoves, EachIs}
+use Rattle.machine_laws.proofs.FineMoves.{GoodWorld, Naming, EachIs}
+use Rattle.machine_laws.proofs.FinestMoves.{FinestMoves}
 use Rattle.machine_laws.proofs.Kept.Combinators.{Keeps, Alters, changes-keeps, cond-keeps, for_each-keeps, for_some-keeps, keeps-from, looks-from, looks-keeps, nothing-keeps, then-keeps, when-keeps, when-keeps-if}
 use Rattle.machine_laws.proofs.Kept.Tasks.{edit_task-alters}
 use Rattle.machine_laws.proofs.Kept.Dispatching.{runnable-keeps, ready-keeps}
@@ -44,7 +45,7 @@ pub found-other : (Other : Naming) (test : Task → Bool) (ts : List Task) (u : 
 found-other Other test [] u each is = cc
 found-other Other test (t ∷ ts) u each is = found-others Other (test t) t (find test ts) u each.0 (found-other Other test ts u each.1) is
 
-module _ {G : GoodWorld} {May Other : Naming} {R : StepRelation} {Q : MoveRelation} (moves : FineMoves G May Other R Q) where
+module _ {G : GoodWorld} {May Other : Naming} {R : StepRelation} {Q : MoveRelation} (moves : FinestMoves G May Other R Q) where
   pub gone_by_completion-keeps : (p : Image) (actor : Who) (c : Call) → Keeps G R (gone_by_completion p actor c)
   unfolding gone_by_completion
   gone_by_completion-keeps p actor c = search (gone-keeps, then-keeps, end_call-keeps)

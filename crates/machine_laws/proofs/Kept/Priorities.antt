@@ -24,7 +24,8 @@ use Rattle.profile_machine.specs.Calls.{place_of_entry, take_call, put_call}
 use Rattle.profile_machine.specs.Masters.{part_of}
 use Rattle.profile_machine.specs.Priorities.{placed_anew, reprioritize, reprioritize_own, replace_in, says_base, set_base, says_deadline, set_deadline, take_base, take_deadline, set_deferred, placing_of, defer_base, set_or_defer_base, set_base_of, priority_in_range, set_priority, quantum_of, set_quantum, defer_deadline, set_or_defer_deadline, set_deadline_of, delay_with_deadline, delay_and_set_deadline, is_edf_base, must_be_task}
 use Rattle.machine_laws.proofs.Moves.{StepRelation, MoveRelation}
-use Rattle.machine_laws.proofs.FineMoves.{GoodWorld, Naming, FineMoves}
+use Rattle.machine_laws.proofs.FineMoves.{GoodWorld, Naming}
+use Rattle.machine_laws.proofs.FinestMoves.{FinestMoves}
 use Rattle.machine_laws.proofs.Kept.Combinators.{Keeps, Alters, branch-keeps, changes-keeps, for_some-keeps, looks-keeps, nothing-keeps, says-keeps, sees-keeps, then-keeps, when-keeps, keeps-from, looks-from}
 use Rattle.machine_laws.proofs.Kept.Tasks.{edit_task-alters}
 use Rattle.machine_laws.proofs.Kept.Dispatching.{to_tail-keeps}
@@ -44,7 +45,7 @@ well t = Ok t
 ok-is : (v u : world.Task) → well v ≡ Ok u → v ≡ u
 ok-is v u e = cc
 
-module _ {G : GoodWorld} {May Other : Naming} {R : StepRelation} {Q : MoveRelation} (moves : FineMoves G May Other R Q) where
+module _ {G : GoodWorld} {May Other : Naming} {R : StepRelation} {Q : MoveRelation} (moves : FinestMoves G May Other R Q) where
   pub placed_anew-alters : (queuing : Queuing) (p : Image) (c : Call) (level : ℕ) → Alters G R (placed_anew queuing p c level)
   unfolding Alters
   placed_anew-alters queuing.Fifo p c level w good = moves.stays w good

@@ -1,5 +1,5 @@
 -- Protected actions and entry bodies: each step keeps a relation that its parts keep.
-use Rattle.std.specs.Prelude.{ℕ, List, [], ◌∷◌, Option, Some, None, true, false}
+use Rattle.std.specs.Prelude.{ℕ, List, [], ◌∷◌, ◌++◌, Option, Some, None, false}
 use Rattle.ann_base.specs.declared.exceptions.Raised.TheVariants as exception
 use Rattle.ann_base.specs.declared.identities.ObjectNo.{ObjectNo}
 use Rattle.ann_base.specs.declared.identities.CallNo.{CallNo}
@@ -20,6 +20,7 @@ use Rattle.profile_machine.specs.declared.world.marks.ResultTo.{ResultTo}
 use Rattle.profile_machine.specs.declared.world.marks.ProtectedMark.{ProtectedMark}
 use Rattle.profile_machine.specs.declared.world.calls.Call.{Call}
 use Rattle.profile_machine.specs.declared.world.lines.Part.{Part}
+use Rattle.profile_machine.specs.declared.world.lines.Said.{Said}
 use Rattle.profile_machine.specs.declared.world.World.{World}
 use Rattle.profile_machine.specs.declared.world.lines.Part.TheVariants.{Own, ThePlacing}
 use Rattle.profile_machine.specs.Program.{next_of, subprogram_of}
@@ -29,35 +30,37 @@ use Rattle.profile_machine.specs.Frames.{new_frame, edit_first, edit_top, goes_o
 use Rattle.profile_machine.specs.declared.world.tasks.Cause.TheVariants as inherited_by
 use Rattle.profile_machine.specs.Values.{object_of}
 use Rattle.profile_machine.specs.Inheritance.{inherit_running}
-use Rattle.profile_machine.specs.Steps.{Step, says, changes, looks, ◌▷◌}
-use Rattle.std.proofs.Common.{◌≡◌, refl, ap}
+use Rattle.profile_machine.specs.Steps.{Step, Done, done, goes_on_with, says, changes, ◌▷◌}
+use Rattle.std.proofs.Common.{◌≡◌, refl, ap, ◌∙◌, append_assoc}
 use Rattle.profile_machine.specs.Protected.{entering, ceiling_of, new_protected_mark, mode_of, find_held, enter_or, where_let_inside, open_action, begin_action_on, begin_operation, call_operation_of, call_operation, begin_own_operation, call_own_operation, edit_top_protected, begin_call, body_opens, has_room_for_body, serve_call, edit_protected}
 use Rattle.machine_laws.proofs.Moves.{StepRelation, MoveRelation, LetsIn, FindsHeld, own}
-use Rattle.machine_laws.proofs.FineMoves.{GoodWorld, Naming, FineMoves, Openings, nature}
+use Rattle.machine_laws.proofs.FineMoves.{GoodWorld, Naming}
+use Rattle.machine_laws.proofs.FinestMoves.{FinestMoves, MarkOpenings, Begins, nature}
 use Rattle.machine_laws.proofs.Kept.Entering.{entering-inside, entering-held, LetsIn-same, edit_task-objects}
 use Rattle.machine_laws.proofs.Kept.Combinators.{Keeps, Kept, From, Alters, branch-keeps, changes-keeps, keeps-from, looks-from, looks-keeps, said-from, says-keeps, sees-keeps, then-from, then-keeps}
 use Rattle.machine_laws.proofs.Kept.Dispatching.{to_tail-keeps}
-use Rattle.machine_laws.proofs.Kept.Frames.{edit_top-alters, goes_then-from, push-alters, raises-keeps, given-keeps, raise_if-keeps, with_room-keeps}
+use Rattle.machine_laws.proofs.Kept.Frames.{edit_top-alters, goes_then-from, raises-keeps, given-keeps, raise_if-keeps, with_room-keeps}
 use Rattle.machine_laws.proofs.Kept.Scopes.{open_scope-alters}
 use Rattle.machine_laws.proofs.Kept.Inheritance.{inherit_running-keeps}
 use Rattle.machine_laws.proofs.Kept.Calls.{edit_call-alters, unqueued-alters}
 use Rattle.machine_laws.proofs.Kept.Subprograms.{begin_body-keeps, handing-keeps}
-use Rattle.ann_base.specs.declared.identities.RegionNo.{RegionNo}
 use Rattle.profile_machine.specs.declared.world.marks.Mark.{Mark}
 use Rattle.profile_machine.specs.declared.world.marks.Mark.TheVariants.{Scope, Handled, InProtected, InAccept, Abortable, InInitialize, InFinalize, InAssign}
 
--- the release of a protected action is not edited, nor what another mark is
-protected-nature : (f : ProtectedMark → ProtectedMark) → ((m : ProtectedMark) → (f m).release ≡ m.release) → (mark : Mark) → nature (edit_protected f mark) ≡ nature mark
-protected-nature f same (Scope m) = refl
-protected-nature f same (Handled s) = refl
-protected-nature f same (InProtected m) = ap (λ r. record { region = None; release = r; action = true; abortable = false }) (same m)
-protected-nature f same (InAccept m) = refl
-protected-nature f same (Abortable m) = refl
-protected-nature f same (InInitialize l) = refl
-protected-nature f same (InFinalize o) = refl
-protected-nature f same (InAssign m) = refl
+-- the release and the object of a protected action are not edited, nor what another mark is
+pub protected-nature : (f : ProtectedMark → ProtectedMark) → ((m : ProtectedMark) → (f m).release ≡ m.release) → ((m : ProtectedMark) → (f m).object ≡ m.object) → (mark : Mark) → nature (edit_protected f mark) ≡ nature mark
+protected-nature f same alike (Scope m) = refl
+protected-nature f same alike (Handled s) = refl
+protected-nature f same alike (InProtected m) =
+    ap (λ r. record { region = None; leaving = false; release = r; action = Some (f m).object; abortable = false }) (same m)
+    ∙ ap (λ o. record { region = None; leaving = false; release = m.release; action = Some o; abortable = false }) (alike m)
+protected-nature f same alike (InAccept m) = refl
+protected-nature f same alike (Abortable m) = refl
+protected-nature f same alike (InInitialize l) = refl
+protected-nature f same alike (InFinalize o) = refl
+protected-nature f same alike (InAssign m) = refl
 
-module _ {G : GoodWorld} {May Other : Naming} {R : StepRelation} {Q : MoveRelation} (moves : FineMoves G May Other R Q) where
+module _ {G : GoodWorld} {May Other : Naming} {R : StepRelation} {Q : MoveRelation} (moves : FinestMoves G May Other R Q) where
   pub find_held-from : (p : Image) (name : Who) (o : ObjectNo) (mode : Mode) (w : World) → G w → May name → FindsHeld name o mode w → From R w (find_held p name o mode)
   unfolding find_held
   find_held-from p name o mode w good may h =
@@ -74,25 +77,28 @@ module _ {G : GoodWorld} {May Other : Naming} {R : StepRelation} {Q : MoveRelati
   where_let_inside-keeps p name o mode step may kept =
       looks-from moves _ (λ w good. enter_or-from p name o mode step w (entering p w name o mode) good may refl (kept w good))
 
-  told_enter-from : (name : Who) (o : ObjectNo) (mode : Mode) (w : World) → G w → LetsIn name o mode w → From R w (says Own (line.Enter name o mode) ▷ changes (open_action name o mode))
-  unfolding From Kept
-  told_enter-from name o mode w good h said = (own (line.Enter name o mode) ∷ [], refl, moves.enters name o mode w good h)
+  -- an action begins: what is done between `enter` and the mark is done inside
+  entered-kept : (name : Who) (o : ObjectNo) (mode : Mode) (call : Option CallNo) (release : Option ℕ) (w : World) (said : List Said) (d : Done) → G w → Begins G R name o mode call release → LetsIn name o mode w → Kept R (open_action name o mode w) (said ++ own (line.Enter name o mode) ∷ []) d
+      → Kept R w said (goes_on_with (changes (push name (new_frame (new_protected_mark o mode call release) None))) d)
+  unfolding Kept
+  entered-kept name o mode call release w said (done v ys) good begins h k =
+      (own (line.Enter name o mode) ∷ k.0, k.1 ∙ append_assoc said (own (line.Enter name o mode) ∷ []) k.0, begins w v k.0 good h k.2)
 
-  -- an action begins, up to its mark
-  pub begin_action_on-from : (p : Image) (name : Who) (o : ObjectNo) (mode : Mode) (call : Option CallNo) (release : Option ℕ) (w : World) → G w → May name → Alters G R (push name (new_frame (new_protected_mark o mode call release) None)) → LetsIn name o mode w → From R w (begin_action_on p name o mode call release)
-  unfolding begin_action_on
-  begin_action_on-from p name o mode call release w good may pushed h =
-      then-from moves (says Own (line.Enter name o mode) ▷ changes (open_action name o mode)) (looks (λ v. inherit_running p name (inherited_by.Ceiling o) (ceiling_of (object_of v o))) ▷ changes (push name (new_frame (new_protected_mark o mode call release) None))) w (told_enter-from name o mode w good h)
-      (search (looks-keeps, inherit_running-keeps, then-keeps, changes-keeps) depth 6)
+  pub begin_action_on-from : (p : Image) (name : Who) (o : ObjectNo) (mode : Mode) (call : Option CallNo) (release : Option ℕ) (w : World) → G w → May name → Begins G R name o mode call release → LetsIn name o mode w → From R w (begin_action_on p name o mode call release)
+  unfolding begin_action_on From
+  begin_action_on-from p name o mode call release w good may begins h said =
+      let v = open_action name o mode w in
+      entered-kept name o mode call release w said (inherit_running p name (inherited_by.Ceiling o) (ceiling_of (object_of v o)) v (said ++ own (line.Enter name o mode) ∷ [])) good begins h
+      (keeps-from moves (inherit_running p name (inherited_by.Ceiling o) (ceiling_of (object_of v o))) v (moves.inside name o mode w good h) (inherit_running-keeps moves p name (inherited_by.Ceiling o) (ceiling_of (object_of v o)) may) (said ++ own (line.Enter name o mode) ∷ []))
 
-  pub edit_top_protected-alters : (name : Who) (f : ProtectedMark → ProtectedMark) → ((m : ProtectedMark) → (f m).release ≡ m.release) → Alters G R (edit_top_protected name f)
-  edit_top_protected-alters name f same = edit_top-alters moves name (λ x. with_mark (edit_protected f x.mark) x) (λ x. protected-nature f same x.mark)
+  pub edit_top_protected-alters : (name : Who) (f : ProtectedMark → ProtectedMark) → ((m : ProtectedMark) → (f m).release ≡ m.release) → ((m : ProtectedMark) → (f m).object ≡ m.object) → Alters G R (edit_top_protected name f)
+  edit_top_protected-alters name f same alike = edit_top-alters moves name (λ x. with_mark (edit_protected f x.mark) x) (λ x. protected-nature f same alike x.mark)
 
   pub begin_call-keeps : (p : Image) (part : Part) (name : Who) (c : Call) → Keeps G R (begin_call p part name c)
   unfolding begin_call
   begin_call-keeps p part name c = search (changes-keeps, unqueued-alters, then-keeps, edit_call-alters, says-keeps) depth 7
 
-module _ {G : GoodWorld} {May Other : Naming} {Owns : Who → RegionNo → Type 0} {R : StepRelation} {Q : MoveRelation} (moves : FineMoves G May Other R Q) (openings : Openings G May Other Owns R) where
+module _ {G : GoodWorld} {May Other : Naming} {R : StepRelation} {Q : MoveRelation} (moves : FinestMoves G May Other R Q) (openings : MarkOpenings G May Other R) where
   pub begin_operation-from : (p : Image) (name : Who) (s : StatementNo) (f : SubprogramNo) (o : ObjectNo) (h : Handed) (to : ResultTo) (w : World) → G w → May name → LetsIn name o (mode_of (subprogram_of p f)) w → From R w (begin_operation p name s f o h to)
   unfolding begin_operation
   begin_operation-from p name s f o h to w good may lets =
@@ -100,7 +106,7 @@ module _ {G : GoodWorld} {May Other : Naming} {Owns : Who → RegionNo → Type 
       let still : LetsIn name o (mode_of (subprogram_of p f)) onward = LetsIn-same name o (mode_of (subprogram_of p f)) w onward (edit_task-objects name (λ t. with_frames (edit_first (goes_on (next_of p s)) t.frames) t) w) lets in
       goes_then-from moves name (next_of p s) _ w good (λ good_onward.
       then-from moves (begin_action_on p name o (mode_of (subprogram_of p f)) None None) _ onward
-      (begin_action_on-from moves p name o (mode_of (subprogram_of p f)) None None onward good_onward may (push-alters moves openings name (new_frame (new_protected_mark o (mode_of (subprogram_of p f)) None None) None) may refl refl refl) still)
+      (begin_action_on-from moves p name o (mode_of (subprogram_of p f)) None None onward good_onward may (openings.begins name o (mode_of (subprogram_of p f)) None may) still)
       (search (looks-keeps, changes-keeps, open_scope-alters) depth 6))
 
   pub call_operation_of-keeps : (p : Image) (name : Who) (s : StatementNo) (f : SubprogramNo) (actuals : List Actual) (to : Destination) (o : ObjectNo) → May name → Keeps G R (call_operation_of p name s f actuals to o)

@@ -36,9 +36,10 @@ use Rattle.profile_machine.specs.Serving.{with_values}
 use Rattle.profile_machine.specs.Rendezvous.{accept_scope, open_accept, has_room_for_accept, begin_accept, finish_without_room, accept_with_room, accept_call, meet_with_room, meet_without_room, meet, accept_or_wait, accept, accept_chosen, wait_at_select, appoint_delay, select_delay, select_wait, select_otherwise, select_by_call, select_open, selective_accept, gone_sent, meet_sent, arrive_at, arrive, finish_accept, finish_rendezvous, behind_accept, finished_call, end_in_accept, own_queue, open_alternatives, open_delays}
 use Rattle.std.proofs.Common.{◌≡◌, refl}
 use Rattle.machine_laws.proofs.Moves.{StepRelation, MoveRelation}
-use Rattle.machine_laws.proofs.FineMoves.{GoodWorld, Naming, FineMoves, Openings, finely}
+use Rattle.machine_laws.proofs.FineMoves.{GoodWorld, Naming}
+use Rattle.machine_laws.proofs.FinestMoves.{FinestMoves, MarkOpenings}
 use Rattle.machine_laws.proofs.Kept.Combinators.{Keeps, From, Alters, branch-keeps, changes-keeps, for_some-keeps, keeps-from, looks-from, looks-keeps, nothing-keeps, says-keeps, then-from, then-keeps, unchanged-alters, changes_then-from, looks_at-from}
-use Rattle.machine_laws.proofs.AtOnce.{at_once, later_behind}
+use Rattle.machine_laws.proofs.AtOnce.{finely_at_once, later_behind}
 use Rattle.machine_laws.proofs.Kept.Serving.{keeps_sending-number}
 use Rattle.machine_laws.proofs.Kept.Dispatching.{ready-keeps, block-keeps, blocked-keeps}
 use Rattle.machine_laws.proofs.Kept.Frames.{goes-keeps, raises-keeps, open_sequence-keeps, pass_on-keeps, raise_if-keeps, edit_top-alters, goes_then-from, popped, given-from, raise_if-from}
@@ -49,13 +50,12 @@ use Rattle.machine_laws.proofs.Kept.Calls.{edit_call-alters, with_call-keeps, en
 use Rattle.machine_laws.proofs.Kept.CallEnds.{deliver-keeps, gone-keeps}
 use Rattle.machine_laws.proofs.Kept.Protected.{begin_call-keeps}
 use Rattle.machine_laws.proofs.Kept.Sending.{send_on-keeps, begin_abortable-keeps, sent_not_begun-keeps}
-use Rattle.ann_base.specs.declared.identities.RegionNo.{RegionNo}
 use Rattle.profile_machine.specs.Values.{seen_by}
 use Rattle.profile_machine.specs.Inheritance.{lose_running}
 use Rattle.profile_machine.specs.declared.world.marks.Frame.{Frame}
 use Rattle.profile_machine.specs.declared.world.lines.Part.TheVariants.{Own}
 
-module _ {G : GoodWorld} {May Other : Naming} {R : StepRelation} {Q : MoveRelation} (moves : FineMoves G May Other R Q) where
+module _ {G : GoodWorld} {May Other : Naming} {R : StepRelation} {Q : MoveRelation} (moves : FinestMoves G May Other R Q) where
   open_accept-alters : (p : Image) (name : Who) (s : StatementNo) (c : Call) → Other name → Alters G R (open_accept p name s c)
   unfolding Alters
   open_accept-alters p name s c other w good =
@@ -64,7 +64,7 @@ module _ {G : GoodWorld} {May Other : Naming} {R : StepRelation} {Q : MoveRelati
       let begun = begin_scope p name scope b w in
       let mark : Mark = InAccept (record { call = c.number; accept = s; within = next_id w; handles = None }) in
       let first = moves.begins_scope p name scope b w good in
-      moves.goes_on w begun (open_accept p name s c w) first (moves.opens_abortable name (new_frame mark (scope_of p scope).first) begun (moves.behind w begun first) other refl refl)
+      moves.goes_on w begun (open_accept p name s c w) first (moves.opens_abortable name (new_frame mark (scope_of p scope).first) begun (moves.behind w begun first) other refl refl refl)
 
   begin_accept-keeps : (p : Image) (part : Part) (name : Who) (s : StatementNo) (c : Call) → Keeps G R (begin_accept p part name s c)
   unfolding begin_accept
@@ -116,7 +116,7 @@ module _ {G : GoodWorld} {May Other : Naming} {R : StepRelation} {Q : MoveRelati
   select_delay-from p name s accepts m terminate false w good other is =
       goes_then-from moves name (next_of p s) _ w good (λ good_onward.
       then-from moves (changes (appoint_delay name m.at)) _ _
-      (appoint_delay-from name m.at _ good_onward (later_behind (edit_top name (goes_on (next_of p s))) w m.at (edit_top-alters (finely at_once) name (goes_on (next_of p s)) (λ x. refl)) (is_later w.time m.at is)))
+      (appoint_delay-from name m.at _ good_onward (later_behind (edit_top name (goes_on (next_of p s))) w m.at (edit_top-alters finely_at_once name (goes_on (next_of p s)) (λ x. refl)) (is_later w.time m.at is)))
       (wait_at_select-keeps name accepts (Some m.delay) terminate other))
 
   pub select_wait-keeps : (p : Image) (name : Who) (s : StatementNo) (accepts : List StatementNo) (terminate : Bool) (moment : Option DelayMoment) → Other name → Keeps G R (select_wait p name s accepts terminate moment)
@@ -195,7 +195,7 @@ module _ {G : GoodWorld} {May Other : Naming} {R : StepRelation} {Q : MoveRelati
   end_in_accept-from p name m leaving f w good may top free =
       then-from moves _ (lose_running p name (inherited_by.Rendezvous m.call) ▷ behind_accept p name leaving) w (accept_ends-from p name m leaving f w good may top free) (search (lose_running-keeps, then-keeps, behind_accept-keeps))
 
-module _ {G : GoodWorld} {May Other : Naming} {Owns : Who → RegionNo → Type 0} {R : StepRelation} {Q : MoveRelation} (moves : FineMoves G May Other R Q) (openings : Openings G May Other Owns R) where
+module _ {G : GoodWorld} {May Other : Naming} {R : StepRelation} {Q : MoveRelation} (moves : FinestMoves G May Other R Q) (openings : MarkOpenings G May Other R) where
   pub accept-keeps : (p : Image) (name : Who) (s : StatementNo) (e : EntryNo) → May name → Keeps G R (accept p name s e)
   unfolding accept
   accept-keeps p name s e may =

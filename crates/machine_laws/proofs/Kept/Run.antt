@@ -20,14 +20,15 @@ use Rattle.profile_machine.specs.Tasks.{task_of, with_ticks}
 use Rattle.profile_machine.specs.Cost.{cost}
 use Rattle.profile_machine.specs.Handlers.{charge}
 use Rattle.profile_machine.specs.Run.{opens, say, silently, says_run, with_serving, serve_if_free, serve, ticks_or, begin_action, one_tick_less, spend_tick, next_tick, says_idle, tock_of, tock, environment}
-use Rattle.machine_laws.proofs.Moves.{StepRelation, MoveRelation, TockMoves, Moves}
+use Rattle.machine_laws.proofs.Moves.{StepRelation, MoveRelation}
 use Rattle.machine_laws.specs.LineKinds.{is_of_tock}
 use Rattle.machine_laws.proofs.Kept.Combinators.{Keeps, Leads, Alters, then-keeps, changes-keeps, says-keeps, then-leads, rests-leads, watches-leads}
 use Rattle.machine_laws.proofs.Kept.Dispatching.{to_tail-keeps}
 use Rattle.machine_laws.proofs.Kept.Frames.{open_sequence-keeps}
 use Rattle.machine_laws.proofs.Kept.Scopes.{open_scope-alters}
 use Rattle.machine_laws.proofs.Kept.Handlers.{charge-alters}
-use Rattle.machine_laws.proofs.FineMoves.{AnyWorld, finely, openings}
+use Rattle.machine_laws.proofs.FineMoves.{GoodWorld}
+use Rattle.machine_laws.proofs.FinestMoves.{AllMoves, TockChanges, Holding}
 use Rattle.profile_machine.specs.Scopes.{plainly}
 
 -- ---- a tock up to its tick
@@ -50,57 +51,57 @@ tock_of-parts p (Some name) w = refl
 pub tock-parts : (p : Image) (w : World) → let before = before_tick p (choose w) w in tock p w ≡ (next_tick (choose w) before.0, before.1)
 tock-parts p w = tock_of-parts p (choose w) w
 
-module _ {R : StepRelation} {Q : MoveRelation} (moves : Moves R Q) where
-  pub opens-keeps : (p : Image) → Keeps AnyWorld R (opens p)
+module _ {G : GoodWorld} {Holds : Holding} {R : StepRelation} {Q : MoveRelation} (moves : AllMoves G Holds R Q) where
+  pub opens-keeps : (p : Image) → Keeps G R (opens p)
   unfolding opens
   opens-keeps p =
-      then-keeps (finely moves) _ _ (changes-keeps (finely moves) _ (open_scope-alters (openings moves) p environment p.environment (plainly None) opened_for.Task tt))
-      (then-keeps (finely moves) _ _ (says-keeps (finely moves) Own (line_said.New (created.Task (record { 0 = 0 })) None p.main.priority) refl)
-      (then-keeps (finely moves) _ _ (to_tail-keeps (finely moves) p Own environment tt) (open_sequence-keeps (finely moves) p Own environment tt)))
+      then-keeps moves.fine _ _ (changes-keeps moves.fine _ (open_scope-alters moves.openings p environment p.environment (plainly None) opened_for.Task tt))
+      (then-keeps moves.fine _ _ (says-keeps moves.fine Own (line_said.New (created.Task (record { 0 = 0 })) None p.main.priority) refl)
+      (then-keeps moves.fine _ _ (to_tail-keeps moves.fine p Own environment tt) (open_sequence-keeps moves.fine p Own environment tt)))
 
-  begin_action-alters : (p : Image) (name : Who) → Alters AnyWorld R (begin_action p name)
+  begin_action-alters : (p : Image) (name : Who) → Alters G R (begin_action p name)
   unfolding Alters
-  begin_action-alters p name w good = moves.edits_task name (with_ticks (Some (ticks_or (task_of w name).ticks_left (cost p w name)))) w (λ t. refl)
+  begin_action-alters p name w good = moves.fine.edits_task name (with_ticks (Some (ticks_or (task_of w name).ticks_left (cost p w name)))) w good (λ t. refl) (λ t. refl) (λ t. refl) (λ t. refl)
 
-  spend_tick-alters : (name : Who) → Alters AnyWorld R (spend_tick name)
+  spend_tick-alters : (name : Who) → Alters G R (spend_tick name)
   unfolding Alters
-  spend_tick-alters name w good = moves.edits_task name (λ t. with_ticks (one_tick_less t.ticks_left) t) w (λ t. refl)
+  spend_tick-alters name w good = moves.fine.edits_task name (λ t. with_ticks (one_tick_less t.ticks_left) t) w good (λ t. refl) (λ t. refl) (λ t. refl) (λ t. refl)
 
-  silently-leads : (f : World → World) → Alters AnyWorld R f → Leads AnyWorld Q (silently f)
+  silently-leads : (f : World → World) → Alters G R f → Leads G Q (silently f)
   unfolding Leads Alters
-  silently-leads f a w good = moves.silently w (f w) (a w tt)
+  silently-leads f a w good = moves.fine.silently w (f w) (a w good)
 
-  module _ (tocks : TockMoves Q) where
-    say-leads : (event : Event) → is_of_tock event ≡ true → Leads AnyWorld Q (say event)
+  module _ (tocks : TockChanges G Q) where
+    say-leads : (event : Event) → is_of_tock event ≡ true → Leads G Q (say event)
     unfolding Leads
-    say-leads event a w good = tocks.tells event w a
+    say-leads event a w good = tocks.tells event w good a
 
-    says_run-test : (same : Bool) (name : Who) → Leads AnyWorld Q (cond same rests (say (line.Run name)))
-    says_run-test true name = rests-leads (finely moves)
+    says_run-test : (same : Bool) (name : Who) → Leads G Q (cond same rests (say (line.Run name)))
+    says_run-test true name = rests-leads moves.fine
     says_run-test false name = say-leads (line.Run name) refl
 
-    says_run-leads : (name : Who) (ran : Option Who) → Leads AnyWorld Q (says_run name ran)
+    says_run-leads : (name : Who) (ran : Option Who) → Leads G Q (says_run name ran)
     says_run-leads name ran = says_run-test (same_option same_who ran (Some name)) name
 
-    says_idle-leads : (ran : Option Who) → Leads AnyWorld Q (says_idle ran)
-    says_idle-leads None = rests-leads (finely moves)
+    says_idle-leads : (ran : Option Who) → Leads G Q (says_idle ran)
+    says_idle-leads None = rests-leads moves.fine
     says_idle-leads (Some name) = say-leads line.Idle refl
 
-    serve_if_free-leads : (serving : Option Release) (frames : List Frame) (releases : List Release) (w : World) → w.releases ≡ releases → let done = serve_if_free serving frames releases w in Q w done.1 done.0
-    serve_if_free-leads None [] [] w a = moves.rests w
-    serve_if_free-leads None [] (r ∷ rest) w a = moves.leads_on w (with_serving r rest w) (with_serving r rest w) (tocks.serves r rest w a) (tocks.tells (line.Serve r.number) (with_serving r rest w) refl)
-    serve_if_free-leads None (f ∷ fs) releases w a = moves.rests w
-    serve_if_free-leads (Some r) frames releases w a = moves.rests w
+    serve_if_free-leads : (serving : Option Release) (frames : List Frame) (releases : List Release) (w : World) → G w → w.releases ≡ releases → let done = serve_if_free serving frames releases w in Q w done.1 done.0
+    serve_if_free-leads None [] [] w good a = moves.fine.rests w good
+    serve_if_free-leads None [] (r ∷ rest) w good a = let first = tocks.serves r rest w good a in moves.fine.leads_on w (with_serving r rest w) (with_serving r rest w) {xs = []} {ys = line.Serve r.number ∷ []} first (tocks.tells (line.Serve r.number) (with_serving r rest w) (moves.fine.moved w (with_serving r rest w) first) refl)
+    serve_if_free-leads None (f ∷ fs) releases w good a = moves.fine.rests w good
+    serve_if_free-leads (Some r) frames releases w good a = moves.fine.rests w good
 
-    serve-leads : (name : Who) → Leads AnyWorld Q (serve name)
+    serve-leads : (name : Who) → Leads G Q (serve name)
     unfolding Leads
-    serve-leads (who.Task t) w good = moves.rests w
-    serve-leads who.Agent w good = serve_if_free-leads w.serving w.agent.frames w.releases w refl
+    serve-leads (who.Task t) w good = moves.fine.rests w good
+    serve-leads who.Agent w good = serve_if_free-leads w.serving w.agent.frames w.releases w good refl
 
-    pub before_tick-leads : (p : Image) (chosen : Option Who) → Leads AnyWorld Q (before_tick p chosen)
-    before_tick-leads p None = watches-leads (finely moves) _ (λ w. says_idle-leads w.ran)
+    pub before_tick-leads : (p : Image) (chosen : Option Who) → Leads G Q (before_tick p chosen)
+    before_tick-leads p None = watches-leads moves.fine _ (λ w. says_idle-leads w.ran)
     before_tick-leads p (Some name) =
-        then-leads (finely moves) _ _ (watches-leads (finely moves) _ (λ w. says_run-leads name w.ran))
-        (then-leads (finely moves) _ _ (serve-leads name)
-        (then-leads (finely moves) _ _ (silently-leads (begin_action p name) (begin_action-alters p name))
-        (then-leads (finely moves) _ _ (silently-leads (charge p name) (charge-alters (finely moves) p name)) (silently-leads (spend_tick name) (spend_tick-alters name)))))
+        then-leads moves.fine _ _ (watches-leads moves.fine _ (λ w. says_run-leads name w.ran))
+        (then-leads moves.fine _ _ (serve-leads name)
+        (then-leads moves.fine _ _ (silently-leads (begin_action p name) (begin_action-alters p name))
+        (then-leads moves.fine _ _ (silently-leads (charge p name) (charge-alters moves.fine p name)) (silently-leads (spend_tick name) (spend_tick-alters name)))))

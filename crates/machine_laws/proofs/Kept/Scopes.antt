@@ -1,6 +1,5 @@
 -- Scopes that begin and end, and their cells: each step keeps a relation that its parts keep.
 use Rattle.std.specs.Prelude.{ℕ, List}
-use Rattle.ann_base.specs.declared.identities.RegionNo.{RegionNo}
 use Rattle.trace_text.specs.declared.events.Who.{Who}
 use Rattle.profile_machine.specs.declared.image.Image.{Image}
 use Rattle.profile_machine.specs.declared.numbers.ScopeNo.{ScopeNo}
@@ -10,10 +9,11 @@ use Rattle.profile_machine.specs.declared.world.scopes.ScopeId.{ScopeId}
 use Rattle.profile_machine.specs.declared.world.scopes.Beginning.{Beginning}
 use Rattle.profile_machine.specs.Scopes.{edit_cells, write_cell, begin_scope, open_scope, end_scope}
 use Rattle.machine_laws.proofs.Moves.{StepRelation, MoveRelation}
-use Rattle.machine_laws.proofs.FineMoves.{GoodWorld, Naming, FineMoves, Openings}
+use Rattle.machine_laws.proofs.FineMoves.{GoodWorld, Naming}
+use Rattle.machine_laws.proofs.FinestMoves.{FinestMoves, MarkOpenings}
 use Rattle.machine_laws.proofs.Kept.Combinators.{Alters}
 
-module _ {G : GoodWorld} {May Other : Naming} {R : StepRelation} {Q : MoveRelation} (moves : FineMoves G May Other R Q) where
+module _ {G : GoodWorld} {May Other : Naming} {R : StepRelation} {Q : MoveRelation} (moves : FinestMoves G May Other R Q) where
   pub edit_cells-alters : (id : ScopeId) (f : List Value → List Value) → Alters G R (edit_cells id f)
   unfolding Alters
   edit_cells-alters id f w good = moves.edits_cells id f w good
@@ -29,7 +29,7 @@ module _ {G : GoodWorld} {May Other : Naming} {R : StepRelation} {Q : MoveRelati
   unfolding Alters
   end_scope-alters id w good = moves.ends_scope id w good
 
-module _ {G : GoodWorld} {May Other : Naming} {Owns : Who → RegionNo → Type 0} {R : StepRelation} (openings : Openings G May Other Owns R) where
+module _ {G : GoodWorld} {May Other : Naming} {R : StepRelation} (openings : MarkOpenings G May Other R) where
   pub open_scope-alters : (p : Image) (name : Who) (scope : ScopeNo) (b : Beginning) (purpose : Purpose) → May name → Alters G R (open_scope p name scope b purpose)
   unfolding Alters
   open_scope-alters p name scope b purpose may w good = openings.opens_scope p name scope b purpose w good may

@@ -18,7 +18,8 @@ use Rattle.profile_machine.specs.Appointments.{appoint}
 use Rattle.profile_machine.specs.Calls.{call_of}
 use Rattle.profile_machine.specs.Sending.{open_abortable, is_not_future, is_conditional, is_to_be_cancelled, cancel_at_once, appoint_timeout, wait_for_call, wait_or_cancel, not_accepted, send_on, cancel_sent, begin_abortable, timeout_again, sent_not_begun_by, sent_not_begun, new_abortable_mark, abortable_in, may_time_out}
 use Rattle.machine_laws.proofs.Moves.{StepRelation, MoveRelation}
-use Rattle.machine_laws.proofs.FineMoves.{GoodWorld, Naming, FineMoves}
+use Rattle.machine_laws.proofs.FineMoves.{GoodWorld, Naming}
+use Rattle.machine_laws.proofs.FinestMoves.{FinestMoves}
 use Rattle.machine_laws.proofs.Kept.Combinators.{Keeps, From, Alters, changes-keeps, looks-keeps, looks-from, keeps-from, then-from, nothing-keeps, says-keeps, then-keeps, unchanged-alters, when-keeps, changes-from}
 use Rattle.machine_laws.proofs.Kept.Dispatching.{ready-keeps, block-keeps}
 use Rattle.machine_laws.proofs.Kept.Appointments.{is_later}
@@ -34,10 +35,10 @@ last_is_false false true c d h k = absurd (false≢true (sym h))
 last_is_false false false true d h k = absurd (false≢true (sym h))
 last_is_false false false false d h k = h
 
-module _ {G : GoodWorld} {May Other : Naming} {R : StepRelation} {Q : MoveRelation} (moves : FineMoves G May Other R Q) where
+module _ {G : GoodWorld} {May Other : Naming} {R : StepRelation} {Q : MoveRelation} (moves : FinestMoves G May Other R Q) where
   pub open_abortable-alters : (p : Image) (name : Who) (select : StatementNo) (call : Option CallNo) → Other name → Alters G R (open_abortable p name select call)
   unfolding Alters
-  open_abortable-alters p name select call other w good = moves.opens_abortable name (new_frame (new_abortable_mark select call) (abortable_in (form_of p select))) w good other refl refl
+  open_abortable-alters p name select call other w good = moves.opens_abortable name (new_frame (new_abortable_mark select call) (abortable_in (form_of p select))) w good other refl refl refl
 
   pub cancel_at_once-keeps : (p : Image) (part : Part) (c : Call) → Keeps G R (cancel_at_once p part c)
   unfolding cancel_at_once

@@ -1,7 +1,6 @@
 -- Simple and compound statements: each step keeps a relation that its parts keep.
 use Rattle.std.proofs.Common.{◌≡◌, refl}
 use Rattle.std.specs.Prelude.{ℕ, ℤ, pos, int_lt, Bool, true, false, List, Option, Some, None, Ok, Err}
-use Rattle.ann_base.specs.declared.identities.RegionNo.{RegionNo}
 use Rattle.trace_text.specs.declared.events.Who.{Who}
 use Rattle.trace_text.specs.declared.events.Who.TheVariants as who
 use Rattle.profile_machine.specs.declared.image.Image.{Image}
@@ -32,7 +31,8 @@ use Rattle.profile_machine.specs.CallEnds.{store}
 use Rattle.profile_machine.specs.Statements.{null, assign, cells_from, copy_cells, array_copied, assign_array, if_statement, go_to_alternative, case_statement, while_turn, loop_cell, put, first_bound, last_bound, bounds_set, for_bounds, first_turn, advance, later_turn, exit_where, exit_statement, block_statement, raise_again, wait_until, delay_to, delay_until, text_of_pieces, put_line}
 use Rattle.profile_machine.specs.Scopes.{put_cells}
 use Rattle.machine_laws.proofs.Moves.{StepRelation, MoveRelation, Puts}
-use Rattle.machine_laws.proofs.FineMoves.{GoodWorld, Naming, FineMoves, Openings}
+use Rattle.machine_laws.proofs.FineMoves.{GoodWorld, Naming}
+use Rattle.machine_laws.proofs.FinestMoves.{FinestMoves, MarkOpenings}
 use Rattle.machine_laws.proofs.Kept.Combinators.{Keeps, From, Alters, Gives, bind-gives, changes-keeps, keeps-from, looks-from, looks-keeps, nothing-keeps, ok-gives, said-keeps, sees-keeps, then-from, then-keeps}
 use Rattle.machine_laws.proofs.Kept.Frames.{given_world-from, goes-keeps, raises-keeps, exit_loop-keeps, given-keeps, raise_if-keeps, with_room-keeps}
 use Rattle.machine_laws.proofs.Kept.Dispatching.{to_tail-keeps, block-keeps}
@@ -40,7 +40,7 @@ use Rattle.machine_laws.proofs.Kept.Scopes.{write_cell-alters, open_scope-alters
 use Rattle.machine_laws.proofs.Kept.Appointments.{appoint-from}
 use Rattle.machine_laws.proofs.Kept.CallEnds.{store-gives}
 
-module _ {G : GoodWorld} {May Other : Naming} {R : StepRelation} {Q : MoveRelation} (moves : FineMoves G May Other R Q) where
+module _ {G : GoodWorld} {May Other : Naming} {R : StepRelation} {Q : MoveRelation} (moves : FinestMoves G May Other R Q) where
   pub null-keeps : (p : Image) (name : Who) (s : StatementNo) → Keeps G R (null p name s)
   unfolding null
   null-keeps p name s = search (goes-keeps)
@@ -170,7 +170,7 @@ module _ {G : GoodWorld} {May Other : Naming} {R : StepRelation} {Q : MoveRelati
   put_line-keeps p puts name s pieces is =
       looks-keeps moves _ (λ v. put_text-keeps p puts name s pieces v (text_of_pieces (seen_by p v name) pieces) is refl)
 
-module _ {G : GoodWorld} {May Other : Naming} {Owns : Who → RegionNo → Type 0} {R : StepRelation} {Q : MoveRelation} (moves : FineMoves G May Other R Q) (openings : Openings G May Other Owns R) where
+module _ {G : GoodWorld} {May Other : Naming} {R : StepRelation} {Q : MoveRelation} (moves : FinestMoves G May Other R Q) (openings : MarkOpenings G May Other R) where
   pub block_statement-keeps : (p : Image) (name : Who) (s : StatementNo) (scope : ScopeNo) → May name → Keeps G R (block_statement p name s scope)
   unfolding block_statement
   block_statement-keeps p name s scope may = search (with_room-keeps, goes-keeps, then-keeps, looks-keeps, changes-keeps, open_scope-alters)

@@ -1,7 +1,6 @@
 -- Calls of subprograms: each step keeps a relation that its parts keep.
 use Rattle.std.specs.Prelude.{List, [], ◌∷◌, Option, Some, None, Ok}
 use Rattle.ann_base.specs.declared.identities.CallNo.{CallNo}
-use Rattle.ann_base.specs.declared.identities.RegionNo.{RegionNo}
 use Rattle.trace_text.specs.declared.events.Who.{Who}
 use Rattle.profile_machine.specs.declared.world.scopes.Handed.{Handed}
 use Rattle.profile_machine.specs.declared.image.Image.{Image}
@@ -30,14 +29,15 @@ use Rattle.profile_machine.specs.Subprograms.{begin_body, handing, call_subprogr
 use Rattle.std.specs.Prelude.{slice_set}
 use Rattle.profile_machine.specs.Values.{seen_by}
 use Rattle.machine_laws.proofs.Moves.{StepRelation, MoveRelation}
-use Rattle.machine_laws.proofs.FineMoves.{GoodWorld, Naming, FineMoves, Openings}
+use Rattle.machine_laws.proofs.FineMoves.{GoodWorld, Naming}
+use Rattle.machine_laws.proofs.FinestMoves.{FinestMoves, MarkOpenings}
 use Rattle.machine_laws.proofs.Kept.Combinators.{Keeps, Alters, Gives, bind-gives, changes-keeps, looks-from, looks-keeps, nothing-keeps, ok-gives, sees-keeps, then-keeps, unchanged-alters}
 use Rattle.machine_laws.proofs.Kept.Frames.{given_world-from, becomes-from, goes-keeps, leaves-keeps, given-keeps, raise_if-keeps, with_room-keeps}
 use Rattle.machine_laws.proofs.Kept.Scopes.{open_scope-alters}
 use Rattle.machine_laws.proofs.Kept.Calls.{edit_call-alters}
 use Rattle.machine_laws.proofs.Kept.CallEnds.{store-gives}
 
-module _ {G : GoodWorld} {May Other : Naming} {R : StepRelation} {Q : MoveRelation} (moves : FineMoves G May Other R Q) where
+module _ {G : GoodWorld} {May Other : Naming} {R : StepRelation} {Q : MoveRelation} (moves : FinestMoves G May Other R Q) where
   pub handing-keeps : (p : Image) (name : Who) (f : SubprogramNo) (actuals : List Actual) (to : Destination) (step : Handed → ResultTo → Step) → ((x : Handed) (y : ResultTo) → Keeps G R (step x y)) → Keeps G R (handing p name f actuals to step)
   handing-keeps p name f actuals to step kept = search (sees-keeps, given-keeps) depth 6
 
@@ -87,7 +87,7 @@ module _ {G : GoodWorld} {May Other : Naming} {R : StepRelation} {Q : MoveRelati
   unfolding end_subprogram
   end_subprogram-keeps p name cells back to leaving = search (raise_if-keeps, copy_parameters-keeps, store_result-keeps)
 
-module _ {G : GoodWorld} {May Other : Naming} {Owns : Who → RegionNo → Type 0} {R : StepRelation} {Q : MoveRelation} (moves : FineMoves G May Other R Q) (openings : Openings G May Other Owns R) where
+module _ {G : GoodWorld} {May Other : Naming} {R : StepRelation} {Q : MoveRelation} (moves : FinestMoves G May Other R Q) (openings : MarkOpenings G May Other R) where
   pub begin_body-keeps : (p : Image) (name : Who) (s : StatementNo) (f : SubprogramNo) (b : Beginning) (h : Handed) (to : ResultTo) → May name → Keeps G R (begin_body p name s f b h to)
   unfolding begin_body
   begin_body-keeps p name s f b h to may = search (goes-keeps, then-keeps, changes-keeps, open_scope-alters)

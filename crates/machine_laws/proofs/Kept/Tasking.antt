@@ -1,5 +1,5 @@
 -- Creation, activation, completion and abort: each step keeps a relation that its parts keep.
-use Rattle.std.specs.Prelude.{ℕ, ◌-◌, Bool, true, false, ◌||◌, List, [], Option, Some, None, leb, length, filter}
+use Rattle.std.specs.Prelude.{ℕ, ◌-◌, Bool, true, false, ◌||◌, List, [], ◌∷◌, Option, Some, None, leb, length, filter}
 use Rattle.ann_base.specs.declared.identities.RegionNo.{RegionNo}
 use Rattle.ann_base.specs.declared.exceptions.Raised.TheVariants as exception
 use Rattle.profile_machine.specs.declared.world.lines.Line.TheVariants as line
@@ -23,18 +23,19 @@ use Rattle.profile_machine.specs.declared.world.tasks.Task as world
 use Rattle.profile_machine.specs.Program.{declaration_of, next_of, scope_of, task_unit_of}
 use Rattle.profile_machine.specs.declared.world.lines.Part.{Part}
 use Rattle.profile_machine.specs.declared.world.lines.Part.TheVariants.{Own, TheBlock}
-use Rattle.profile_machine.specs.Steps.{Step, changes, looks, for_some, ◌▷◌, for_each}
+use Rattle.profile_machine.specs.Steps.{Step, changes, looks, for_some, ◌▷◌, for_each, says, when, nothing}
 use Rattle.profile_machine.specs.Frames.{has_room, pass_on, in_protected, is_deferred, edit_top, goes_on, goes, top_of, pop, is_protected}
 use Rattle.profile_machine.specs.Scopes.{home, end_scope, cells_of, scope_in_use}
-use Rattle.profile_machine.specs.Controlled.{next_to_finalize, finalize, top_region}
+use Rattle.profile_machine.specs.Controlled.{next_to_finalize, finalize, top_region, edit_top_scope}
 use Rattle.profile_machine.specs.Declarations.{set_thing}
-use Rattle.profile_machine.specs.Tasking.{unit_of_declaration, optional_span, created_task, add_task, says_created, create_task, create, fall_from, unit_of_task, begin_task, says_done, fail_to_begin, activate_one, await_group, activate_group, activate, end_own_activation, end_made, complete_if_task, wait_for_dependents, leave_region, end_environment, end_task, is_normal, end_body, behind_scope, says_left, end_of_scope, go_on_leaving, end_scope_mark_of, end_scope_mark, says_abort, abort_one, unwind_by, unwind_one, abort_all, abort_statement, block_at_terminate, take_terminates, unwind_all, no_failure, is_to_activate, top_region_of_scope, is_to_abort, left_by, abnormal_task, named_tasks}
-use Rattle.std.proofs.Common.{◌≡◌, refl, ap, ◌∙◌}
+use Rattle.profile_machine.specs.Tasking.{unit_of_declaration, optional_span, created_task, add_task, says_created, create_task, create, fall_from, unit_of_task, begin_task, says_done, fail_to_begin, activate_one, await_group, activate_group, activate, end_own_activation, end_made, complete_if_task, wait_for_dependents, leave_region, end_environment, end_task, is_normal, end_body, behind_scope, says_left, end_of_scope, go_on_leaving, end_scope_mark_of, end_scope_mark, says_abort, abort_one, unwind_by, unwind_one, abort_all, abort_statement, block_at_terminate, take_terminates, unwind_all, no_failure, is_to_activate, top_region_of_scope, is_to_abort, left_by, abnormal_task, named_tasks, raises_behind, is_made_in, leaves_as, being_left_mark, left_so_frame}
+use Rattle.std.proofs.Common.{◌≡◌, refl, sym, ap, ◌∙◌}
 use Rattle.profile_machine.specs.Values.{seen_by}
-use Rattle.machine_laws.proofs.Moves.{StepRelation, MoveRelation}
-use Rattle.machine_laws.proofs.FineMoves.{GoodWorld, Naming, FineMoves, Openings, EachIs, first_is_false}
-use Rattle.machine_laws.proofs.Kept.Combinators.{Keeps, From, Alters, branch-keeps, changes-keeps, cond-keeps, for_each-keeps, for_some-keeps, looks-from, looks-keeps, nothing-keeps, says-keeps, sees-keeps, then-keeps, when-keeps, for_each_task-keeps, some_of-others, listed-keeps, when-keeps-if, keeps-from, looks_at-from, changes_then-from}
-use Rattle.machine_laws.proofs.Kept.Frames.{raise_if-from, given-from, edit_top-alters, goes-keeps, raises-keeps, pass_on-keeps, given-keeps, raise_if-keeps, popped}
+use Rattle.machine_laws.proofs.Moves.{StepRelation, MoveRelation, own}
+use Rattle.machine_laws.proofs.FineMoves.{GoodWorld, Naming, EachIs, first_is_false}
+use Rattle.machine_laws.proofs.FinestMoves.{FinestMoves, MarkOpenings, OwnRegions}
+use Rattle.machine_laws.proofs.Kept.Combinators.{Keeps, From, changes_told-from, Alters, branch-keeps, changes-keeps, cond-keeps, for_each-keeps, for_some-keeps, looks-from, looks-keeps, nothing-keeps, says-keeps, sees-keeps, then-keeps, when-keeps, for_each_task-keeps, some_of-others, listed-keeps, when-keeps-if, keeps-from, looks_at-from, changes_then-from}
+use Rattle.machine_laws.proofs.Kept.Frames.{raise_if-from, given-from, goes-keeps, raises-keeps, pass_on-keeps, given-keeps, raise_if-keeps, popped}
 use Rattle.machine_laws.proofs.Kept.Tasks.{edit_task-alters}
 use Rattle.machine_laws.proofs.Kept.Dispatching.{to_head-keeps, ready-keeps, says_block-keeps, block-keeps}
 use Rattle.machine_laws.proofs.Kept.Scopes.{open_scope-alters, end_scope-alters}
@@ -43,7 +44,7 @@ use Rattle.machine_laws.proofs.Kept.Unwinding.{strike_outermost-alters, unwind-k
 use Rattle.machine_laws.proofs.Kept.Masters.{end_activation-keeps, complete-keeps, terminate-keeps, leave_by_terminate-keeps}
 use Rattle.machine_laws.proofs.Kept.Subprograms.{end_subprogram-keeps}
 use Rattle.machine_laws.proofs.Kept.Serving.{end_body_of_entry-keeps}
-use Rattle.machine_laws.proofs.Kept.Controlled.{edit_top_scope-alters, finalize-keeps}
+use Rattle.machine_laws.proofs.Kept.Controlled.{finalize-from}
 use Rattle.machine_laws.proofs.Kept.Declarations.{set_thing-alters}
 use Rattle.ann_base.specs.declared.identities.TaskNo.{TaskNo}
 use Rattle.profile_machine.specs.declared.world.marks.Frame.{Frame}
@@ -54,7 +55,13 @@ use Rattle.profile_machine.specs.Dispatching.{active_of}
 use Rattle.profile_machine.specs.Unwinding.{any_struck}
 use Rattle.profile_machine.specs.Masters.{region_of_mark, has_dependents, may_terminate, leave_by_terminate, has_activating}
 
-module _ {G : GoodWorld} {May Other : Naming} {R : StepRelation} {Q : MoveRelation} (moves : FineMoves G May Other R Q) where
+same_region_in : (r q : RegionNo) (region : Option RegionNo) → region ≡ Some r → region ≡ Some q → q ≡ r
+same_region_in r q region a b = let one : Some q ≡ Some r = sym b ∙ a in cc
+
+no_region : {P : Type 0} (q : RegionNo) (region : Option RegionNo) → region ≡ None → region ≡ Some q → P
+no_region q region a b = absurd (let one : None ≡ Some q = sym a ∙ b in cc)
+
+module _ {G : GoodWorld} {May Other : Naming} {R : StepRelation} {Q : MoveRelation} (moves : FinestMoves G May Other R Q) where
   says_created-keeps : (d : DeclNo) (t : world.Task) → Keeps G R (says_created d t)
   unfolding says_created
   says_created-keeps d t = looks-keeps moves _ (λ w. says-keeps moves Own (line.New (created.Task (record { 0 = w.drawn.tasks - 1 })) (Some d) t.base) refl)
@@ -125,16 +132,30 @@ module _ {G : GoodWorld} {May Other : Naming} {R : StepRelation} {Q : MoveRelati
   behind_scope-keeps p name (opened_for.EntryBody c) cells leaving = search (end_body-keeps, end_body_of_entry-keeps)
   behind_scope-keeps p name opened_for.Task cells leaving = search (end_task-keeps)
 
-  pub says_left-keeps : (name : Who) (m : ScopeMark) (leaving : Leaving) → Keeps G R (says_left name m leaving)
-  unfolding says_left
-  says_left-keeps name m leaving = search (for_some-keeps, says-keeps, then-keeps, when-keeps) depth 7
+  -- Program_Error, where a Finalize raised
+  raised_behind-keeps : (name : Who) (test : Bool) → Keeps G R (when test (says Own (line.Raise name exception.Program)))
+  raised_behind-keeps name test = search (when-keeps, says-keeps)
 
-  pub end_of_scope-from : (p : Image) (name : Who) (m : ScopeMark) (leaving : Leaving) (f : Frame) (w : World) → G w → May name → top_of w name ≡ Some f → is_protected f.mark ≡ false → From R w (end_of_scope p name m leaving)
-  unfolding end_of_scope
-  end_of_scope-from p name m leaving f w good may top free =
-      let out = popped moves name f w good may top free in
-      looks_at-from moves (λ v. changes (pop name) ▷ changes (end_scope m.within) ▷ says_left name m leaving ▷ behind_scope p name m.purpose (cells_of (scope_in_use v m.within)) (left_by m leaving)) w (changes_then-from moves (pop name) _ w out (keeps-from moves (changes (end_scope m.within) ▷ says_left name m leaving ▷ behind_scope p name m.purpose (cells_of (scope_in_use w m.within)) (left_by m leaving)) (pop name w) (moves.behind w (pop name w) out)
-      (search (changes-keeps, then-keeps, end_scope-alters, says_left-keeps, behind_scope-keeps) depth 6)))
+  -- the scope is no longer there
+  ended : (name : Who) (id : ScopeId) (r : RegionNo) (w : World) → R w (own (line.Left name r) ∷ []) (pop name w) → R w (own (line.Left name r) ∷ []) (end_scope id (pop name w))
+  unfolding Alters
+  ended name id r w first = moves.goes_on w (pop name w) (end_scope id (pop name w)) {xs = own (line.Left name r) ∷ []} {ys = []} first (end_scope-alters moves id (pop name w) (moves.behind w (pop name w) first))
+
+  -- a scope's mark ends, with what tells it where it had a region
+  left-from : (name : Who) (id : ScopeId) (region : Option RegionNo) (raised : Bool) (g : Step) (w : World) → R w [] (pop name w) → ((r : RegionNo) → region ≡ Some r → R w (own (line.Left name r) ∷ []) (pop name w)) → Keeps G R g
+      → From R w (changes (pop name) ▷ changes (end_scope id) ▷ (for_some region (λ r. says Own (line.Left name r)) ▷ when raised (says Own (line.Raise name exception.Program))) ▷ g)
+  left-from name id None raised g w out told kept =
+      changes_then-from moves (pop name) _ w out (keeps-from moves _ (pop name w) (moves.behind w (pop name w) out)
+      (then-keeps moves (changes (end_scope id)) _ (search (changes-keeps, end_scope-alters)) (then-keeps moves _ g (then-keeps moves nothing _ (nothing-keeps moves) (raised_behind-keeps name raised)) kept)))
+  left-from name id (Some r) raised g w out told kept =
+      changes_told-from moves (pop name) (end_scope id) Own (line.Left name r) (when raised (says Own (line.Raise name exception.Program)) ▷ g) w
+      (ended name id r w (told r refl)) (then-keeps moves _ g (raised_behind-keeps name raised) kept)
+
+  pub end_of_scope-from : (p : Image) (name : Who) (m : ScopeMark) (leaving : Leaving) (w : World) → R w [] (pop name w) → ((r : RegionNo) → m.region ≡ Some r → R w (own (line.Left name r) ∷ []) (pop name w)) → From R w (end_of_scope p name m leaving)
+  unfolding end_of_scope says_left
+  end_of_scope-from p name m leaving w out told =
+      looks_at-from moves (λ v. changes (pop name) ▷ changes (end_scope m.within) ▷ says_left name m leaving ▷ behind_scope p name m.purpose (cells_of (scope_in_use v m.within)) (left_by m leaving)) w
+      (left-from name m.within m.region (raises_behind m leaving) (behind_scope p name m.purpose (cells_of (scope_in_use w m.within)) (left_by m leaving)) w out told (search (behind_scope-keeps)))
 
   pub says_abort-keeps : (actor name : Who) → Keeps G R (says_abort actor name)
   unfolding says_abort
@@ -187,7 +208,7 @@ module _ {G : GoodWorld} {May Other : Naming} {R : StepRelation} {Q : MoveRelati
   unfolding unwind_all
   unwind_all-keeps p actor = listed-keeps moves (λ w t. any_struck t.frames) (λ w. unwind_one p actor) (λ w t other. unwind_one-keeps p actor t other)
 
-module _ {G : GoodWorld} {May Other : Naming} {Owns : Who → RegionNo → Type 0} {R : StepRelation} {Q : MoveRelation} (moves : FineMoves G May Other R Q) (openings : Openings G May Other Owns R) where
+module _ {G : GoodWorld} {May Other : Naming} {R : StepRelation} {Q : MoveRelation} (moves : FinestMoves G May Other R Q) (openings : MarkOpenings G May Other R) where
   pub create-keeps : (p : Image) (name : Who) (s : StatementNo) (d : DeclNo) (part : ℕ) → May name → Keeps G R (create p name s d part)
   unfolding create
   create-keeps p name s d part may =
@@ -225,32 +246,44 @@ module _ {G : GoodWorld} {May Other : Naming} {Owns : Who → RegionNo → Type 
       looks-from moves _ (λ w good. raise_if-from moves name (in_protected w name || is_deferred w name) exception.Program _ w good
       (λ allowed. keeps-from moves _ w good (activate_group-keeps p name s part (openings.outside name w good may (first_is_false (in_protected w name) (is_deferred w name) allowed)))))
 
+  pub leave_region-from : (p : Image) (name : Who) (f : Frame) (m : ScopeMark) (leaving : Leaving) (r : RegionNo) (w : World) → G w → May name → top_of w name ≡ Some f → f.mark ≡ Scope m → m.region ≡ Some r → m.being_left ≡ false → Keeps G R (wait_for_dependents name r) → From R w (leave_region p name m leaving r)
+  unfolding leave_region
+  leave_region-from p name f m leaving r w good may top is region left waits =
+      changes_told-from moves (edit_top_scope name being_left_mark) (edit_top name (left_so_frame leaving)) Own (line.Leave name r (leaves_as leaving)) (looks (λ v. for_each (filter (is_made_in r) v.tasks) (end_made p name)) ▷ complete_if_task p name m.purpose ▷ wait_for_dependents name r) w
+      (moves.begins_leaving name f m r leaving w good may top is region left)
+      (search (then-keeps, looks-keeps, for_each-keeps, end_made-keeps, complete_if_task-keeps, waits) depth 8)
+
+  -- an object of the region is finalized, or the scope has ended
+  next_finalized-from : (p : Image) (name : Who) (f : Frame) (m : ScopeMark) (leaving : Leaving) (r : RegionNo) (found : Option Registered) (w : World) → G w → May name → top_of w name ≡ Some f → f.mark ≡ Scope m → m.region ≡ Some r → m.being_left ≡ true → next_to_finalize w r ≡ found
+      → From R w (elim found as (λ _. Step) [ None ↦ end_of_scope p name m leaving | Some x ↦ finalize p name x ])
+  next_finalized-from p name f m leaving r None w good may top is region left next =
+      end_of_scope-from moves p name m leaving w (popped moves name f w good may top (ap is_protected is)) (λ q region_is. moves.has_left name f m q w good may top is region_is left (ap (next_to_finalize w) (same_region_in r q m.region region region_is) ∙ next))
+  next_finalized-from p name f m leaving r (Some x) w good may top is region left next = finalize-from moves openings p name f m r x w good may top is region left next
+
+  -- a scope's mark ends, where what is known of its region lets it be left
+  go_on_leaving-from : (p : Image) (name : Who) (f : Frame) (m : ScopeMark) (leaving : Leaving) (r : RegionNo) (test : Bool) (w : World) → G w → May name → top_of w name ≡ Some f → f.mark ≡ Scope m → m.region ≡ Some r → m.being_left ≡ test → (test ≡ false → From R w (leave_region p name m leaving r)) → From R w (go_on_leaving p name m leaving r test)
+  unfolding go_on_leaving
+  go_on_leaving-from p name f m leaving r false w good may top is region left leaves = leaves refl
+  go_on_leaving-from p name f m leaving r true w good may top is region left leaves = looks_at-from moves (λ v. elim (next_to_finalize v r) as (λ _. Step) [ None ↦ end_of_scope p name m leaving | Some x ↦ finalize p name x ]) w (next_finalized-from p name f m leaving r (next_to_finalize w r) w good may top is region left refl)
+
+  end_scope_mark_of-from : (p : Image) (name : Who) (m : ScopeMark) (leaving : Leaving) (r : Option RegionNo) (f : Frame) (w : World) → G w → May name → top_of w name ≡ Some f → f.mark ≡ Scope m → m.region ≡ r → ((q : RegionNo) → m.region ≡ Some q → m.being_left ≡ false → From R w (leave_region p name m leaving q)) → From R w (end_scope_mark_of p name m leaving r)
+  unfolding end_scope_mark_of
+  end_scope_mark_of-from p name m leaving None f w good may top is region leaves = end_of_scope-from moves p name m leaving w (popped moves name f w good may top (ap is_protected is)) (λ q region_is. no_region q m.region region region_is)
+  end_scope_mark_of-from p name m leaving (Some r) f w good may top is region leaves = go_on_leaving-from p name f m leaving r m.being_left w good may top is region refl (λ left. leaves r region left)
+
+  pub end_scope_mark-from : (p : Image) (name : Who) (m : ScopeMark) (leaving : Leaving) (f : Frame) (w : World) → G w → May name → top_of w name ≡ Some f → f.mark ≡ Scope m → ((r : RegionNo) → m.region ≡ Some r → m.being_left ≡ false → From R w (leave_region p name m leaving r)) → From R w (end_scope_mark p name m leaving)
+  unfolding end_scope_mark
+  end_scope_mark-from p name m leaving f w good may top is leaves = end_scope_mark_of-from p name m leaving m.region f w good may top is refl leaves
+
+-- ---- a kept scope is left
+
+module _ {G : GoodWorld} {May Other : Naming} {Owns : Who → RegionNo → Type 0} {R : StepRelation} {Q : MoveRelation} (moves : FinestMoves G May Other R Q) (openings : MarkOpenings G May Other R) (regions : OwnRegions G May Other Owns) where
   pub wait_for_dependents-keeps : (name : Who) (r : RegionNo) → May name → Owns name r → Keeps G R (wait_for_dependents name r)
   unfolding wait_for_dependents
   wait_for_dependents-keeps name r may owns =
       looks-from moves _ (λ w good. keeps-from moves _ w good
-      (when-keeps-if moves (has_dependents w r) _ (λ is. block-keeps moves TheBlock name (waits_for.Dependents r) (openings.awaits_dependents name r w good may owns is))))
+      (when-keeps-if moves (has_dependents w r) _ (λ is. block-keeps moves TheBlock name (waits_for.Dependents r) (regions.awaits_dependents name r w good may owns is))))
 
-  pub leave_region-keeps : (p : Image) (name : Who) (m : ScopeMark) (leaving : Leaving) (r : RegionNo) → May name → Owns name r → Keeps G R (leave_region p name m leaving r)
-  unfolding leave_region
-  leave_region-keeps p name m leaving r may owns = search (changes-keeps, edit_top_scope-alters, then-keeps, edit_top-alters, says-keeps, looks-keeps, for_each-keeps, end_made-keeps, complete_if_task-keeps, wait_for_dependents-keeps) depth 12
-
-  -- an object of the region is finalized, or the scope has ended
-  next_finalized-from : (p : Image) (name : Who) (m : ScopeMark) (leaving : Leaving) (found : Option Registered) (f : Frame) (w : World) → G w → May name → top_of w name ≡ Some f → is_protected f.mark ≡ false → From R w (elim found as (λ _. Step) [ None ↦ end_of_scope p name m leaving | Some x ↦ finalize p name x ])
-  next_finalized-from p name m leaving None f w good may top free = end_of_scope-from moves p name m leaving f w good may top free
-  next_finalized-from p name m leaving (Some x) f w good may top free = keeps-from moves (finalize p name x) w good (finalize-keeps moves openings p name x may)
-
-  pub go_on_leaving-from : (p : Image) (name : Who) (m : ScopeMark) (leaving : Leaving) (r : RegionNo) (test : Bool) (f : Frame) (w : World) → G w → May name → top_of w name ≡ Some f → is_protected f.mark ≡ false → Owns name r → From R w (go_on_leaving p name m leaving r test)
-  unfolding go_on_leaving
-  go_on_leaving-from p name m leaving r false f w good may top free owns = keeps-from moves _ w good (leave_region-keeps p name m leaving r may owns)
-  go_on_leaving-from p name m leaving r true f w good may top free owns = looks_at-from moves (λ v. elim (next_to_finalize v r) as (λ _. Step) [ None ↦ end_of_scope p name m leaving | Some x ↦ finalize p name x ]) w (next_finalized-from p name m leaving (next_to_finalize w r) f w good may top free)
-
-  pub end_scope_mark_of-from : (p : Image) (name : Who) (m : ScopeMark) (leaving : Leaving) (r : Option RegionNo) (f : Frame) (w : World) → G w → May name → top_of w name ≡ Some f → f.mark ≡ Scope m → m.region ≡ r → From R w (end_scope_mark_of p name m leaving r)
-  unfolding end_scope_mark_of
-  end_scope_mark_of-from p name m leaving None f w good may top is region = end_of_scope-from moves p name m leaving f w good may top (ap is_protected is)
-  end_scope_mark_of-from p name m leaving (Some r) f w good may top is region =
-      go_on_leaving-from p name m leaving r m.being_left f w good may top (ap is_protected is) (openings.owned name f r w good may top (ap region_of_mark is ∙ region))
-
-  pub end_scope_mark-from : (p : Image) (name : Who) (m : ScopeMark) (leaving : Leaving) (f : Frame) (w : World) → G w → May name → top_of w name ≡ Some f → f.mark ≡ Scope m → From R w (end_scope_mark p name m leaving)
-  unfolding end_scope_mark
-  end_scope_mark-from p name m leaving f w good may top is = end_scope_mark_of-from p name m leaving m.region f w good may top is refl
+  pub own_region-from : (p : Image) (name : Who) (f : Frame) (m : ScopeMark) (leaving : Leaving) (r : RegionNo) (w : World) → G w → May name → top_of w name ≡ Some f → f.mark ≡ Scope m → m.region ≡ Some r → m.being_left ≡ false → From R w (leave_region p name m leaving r)
+  own_region-from p name f m leaving r w good may top is region left =
+      leave_region-from moves openings p name f m leaving r w good may top is region left (wait_for_dependents-keeps name r may (regions.owned name f r w good may top (ap region_of_mark is ∙ region)))

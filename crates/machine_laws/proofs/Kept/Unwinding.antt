@@ -9,7 +9,8 @@ use Rattle.profile_machine.specs.declared.world.tasks.State.TheVariants.{Made, R
 use Rattle.profile_machine.specs.declared.world.lines.Part.{Part}
 use Rattle.profile_machine.specs.Unwinding.{struck_frame, edit_last, strike_outermost, leave_by_abort, stop_waiting, wake_and_leave, unwind_blocked, unwind_in, unwind}
 use Rattle.machine_laws.proofs.Moves.{StepRelation, MoveRelation}
-use Rattle.machine_laws.proofs.FineMoves.{GoodWorld, Naming, FineMoves, nature, natures}
+use Rattle.machine_laws.proofs.FineMoves.{GoodWorld, Naming}
+use Rattle.machine_laws.proofs.FinestMoves.{FinestMoves, nature, natures}
 use Rattle.std.proofs.Common.{◌≡◌, List, [], ◌∷◌, refl, ap}
 use Rattle.machine_laws.proofs.Kept.Combinators.{Keeps, Alters, changes-keeps, looks-keeps, nothing-keeps, then-keeps, when-keeps}
 use Rattle.machine_laws.proofs.Kept.Tasks.{edit_task-alters, edit_frames-alters}
@@ -24,7 +25,7 @@ last-natures [] = refl
 last-natures (x ∷ []) = refl
 last-natures (x ∷ y ∷ rest) = ap (λ ns. nature x.mark ∷ ns) (last-natures (y ∷ rest))
 
-module _ {G : GoodWorld} {May Other : Naming} {R : StepRelation} {Q : MoveRelation} (moves : FineMoves G May Other R Q) where
+module _ {G : GoodWorld} {May Other : Naming} {R : StepRelation} {Q : MoveRelation} (moves : FinestMoves G May Other R Q) where
   pub strike_outermost-alters : (name : Who) → Alters G R (strike_outermost name)
   strike_outermost-alters name = edit_frames-alters moves name (edit_last struck_frame) last-natures
 

@@ -8,7 +8,7 @@ use Rattle.profile_machine.specs.declared.world.appointments.Due.TheVariants as 
 use Rattle.profile_machine.specs.Unwinding.{struck_frame, strike_outermost}
 use Rattle.profile_machine.specs.CallEnds.{is_abortable_of, depth_of_abortable, edit_frame, edit_abortable_at, triggered_mark, waited_mark}
 use Rattle.profile_machine.specs.Tasking.{abnormal_task}
-use Rattle.line_laws.proofs.Exits.FineMoves.{top_action}
+use Rattle.machine_laws.proofs.FinestMoves.{top_action}
 use Rattle.world_laws.proofs.Marks.MarkFacts.{GoodMarks, Calm, Ends, Begun, CanTrigger, Drawn, Marked, StandsAt, Unarmed, apart_in, triggered_part, is_abortable, may_finalize, ends_call, is_a_trigger, nature}
 use Rattle.ann_base.specs.declared.identities.CallNo.{CallNo}
 use Rattle.ann_base.specs.declared.identities.ObjectNo.{ObjectNo}

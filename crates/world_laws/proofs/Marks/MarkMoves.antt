@@ -39,7 +39,7 @@ use Rattle.profile_machine.specs.WellFormed.{awaits_trigger}
 use Rattle.machine_laws.proofs.Moves.{MoveRelation}
 use Rattle.machine_laws.proofs.FineMoves.{edit_task-drawn}
 use Rattle.line_laws.proofs.Exclusion.ObjectLists.{by_test}
-use Rattle.line_laws.proofs.Exits.FineMoves.{natures, action_first, action_in}
+use Rattle.machine_laws.proofs.FinestMoves.{natures, action_first, action_in}
 use Rattle.line_laws.proofs.Exits.TaskEdits.{one_of}
 use Rattle.world_laws.proofs.Marks.MarkFacts.{Begun, Calm, DrawnTo, HasBegun, StandsAt, Unarmed, AwaitsAt, AllTasks, AllDrawn, own_scope_in, RightMarks, FinalizesRightly, below_finalizes, finalizes_here, is_a_trigger, nature, GoodMarks, Still}
 use Rattle.world_laws.proofs.Marks.FineMoves.{FineMoves, RegionMoves, TockMoves, Anybody, each-anybody, gone_on}

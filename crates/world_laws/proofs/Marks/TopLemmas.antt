@@ -16,7 +16,7 @@ use Rattle.profile_machine.specs.Dispatching.{active, level_kept_by, keep_level,
 use Rattle.profile_machine.specs.Frames.{frames_of, top_of, edit_first, edit_top, push}
 use Rattle.line_laws.proofs.Exits.TaskEdits.{one_of-is, edited_to}
 use Rattle.line_laws.proofs.Exits.Steady.{FreeIn}
-use Rattle.line_laws.proofs.Exits.Kept.Dispatching.{full_quantum-who, full_quantum-frames, full_quantum-state}
+use Rattle.machine_laws.proofs.Kept.Dispatching.{full_quantum-who, full_quantum-frames, full_quantum-state}
 use Rattle.world_laws.proofs.Marks.MarkFacts.{Calm, HasBegun, Begun}
 
 pub same_self : (a : Who) → same_who a a ≡ true

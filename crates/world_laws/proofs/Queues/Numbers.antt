@@ -13,7 +13,7 @@ use Rattle.profile_machine.specs.Dispatching.{choose}
 use Rattle.profile_machine.specs.Run.{opens, blank_world}
 use Rattle.machine_laws.specs.NumberLaws.{calls_fall}
 use Rattle.machine_laws.specs.Reached.{Reached}
-use Rattle.machine_laws.proofs.FineMoves.{finely}
+use Rattle.machine_laws.proofs.FinestMoves.{all_of, tocks_of}
 use Rattle.machine_laws.proofs.ListLemmas.{Falls, Falls-without, Falls-edit_where, Falls-adjacent}
 use Rattle.machine_laws.proofs.ReachedLemmas.{Lasts, reached-lasts}
 use Rattle.machine_laws.proofs.Moves.{Moves, TockMoves}
@@ -95,9 +95,9 @@ tocks_stay_numbered = record {
 numbered-lasts : Lasts Numbered
 unfolding Leads
 numbered-lasts = record {
-  at_opening = λ p script. settles-leads (finely stays_numbered) p (opens p) (opens-keeps stays_numbered p) (blank_world p script) tt tt;
-  at_instant = λ p w h. instant-leads stays_numbered p (record { puts = λ name s pieces text v w good is e k. k }) w tt h;
-  at_tock = λ p w h. subst (λ a. Numbered a.0) (sym (tock-parts p w)) (before_tick-leads stays_numbered tocks_stay_numbered p (choose w) w tt h);
+  at_opening = λ p script. settles-leads (all_of stays_numbered).fine p (opens p) (opens-keeps (all_of stays_numbered) p) (blank_world p script) tt tt;
+  at_instant = λ p w h. instant-leads (all_of stays_numbered) p (record { puts = λ name s pieces text v w good is e k. k }) w tt h;
+  at_tock = λ p w h. subst (λ a. Numbered a.0) (sym (tock-parts p w)) (before_tick-leads (all_of stays_numbered) (tocks_of tocks_stay_numbered) p (choose w) w tt h);
 }
 
 pub calls-fall : (p : Image) (script : List (ℤ × Item)) (bound : ℕ) (w : World) → Reached p script bound w → calls_fall w ≡ true

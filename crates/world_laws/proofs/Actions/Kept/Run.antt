@@ -24,7 +24,7 @@ use Rattle.profile_machine.specs.Scopes.{open_scope, plainly}
 use Rattle.profile_machine.specs.Run.{begin_action, blank_world, environment, environment_task, one_tick_less, opening, opens, say, says_idle, serve, serve_if_free, silently, spend_tick, ticks_or, tock}
 use Rattle.profile_machine.specs.Handlers.{charge}
 use Rattle.line_laws.proofs.Exits.TaskEdits.{one_of}
-use Rattle.line_laws.proofs.Exits.Kept.Run.{before_tick, tock-parts}
+use Rattle.machine_laws.proofs.Kept.Run.{before_tick, tock-parts}
 use Rattle.world_laws.proofs.Actions.Natures.{natures, guards, in_region}
 use Rattle.world_laws.proofs.Actions.Sound.{SureOf, SureOn, OneOwner, Sound, Good, marks_of}
 use Rattle.world_laws.proofs.Actions.FineMoves.{FineMoves}

@@ -33,7 +33,7 @@ use Rattle.profile_machine.specs.Calls.{with_call, attempt_with, attempt_on, cal
 use Rattle.profile_machine.specs.Act.{call_main, call, handle_or_pass, behind_handled, end_handled, end_top, wait_for_trigger, drop_trigger, below, end_abortable_by, end_in_abortable, act_statement, end_mark, act_frame, act_without, act_top, act, keeping, waiting_mark}
 use Rattle.machine_laws.proofs.Moves.{StepRelation, MoveRelation, Puts}
 use Rattle.profile_machine.specs.WellFormed.{awaits_trigger, is_triggered}
-use Rattle.line_laws.proofs.Exits.FineMoves.{natures, action_in, action_first}
+use Rattle.machine_laws.proofs.FinestMoves.{natures, action_in, action_first}
 use Rattle.world_laws.proofs.Marks.MarkFacts.{Ends, Begun, Calm, is_abortable, nature}
 use Rattle.world_laws.proofs.Marks.TopLemmas.{top_edited}
 use Rattle.world_laws.proofs.Marks.DepthLemmas.{of_call-awaits, triggered-awaits}

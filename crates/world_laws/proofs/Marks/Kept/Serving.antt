@@ -45,7 +45,7 @@ use Rattle.profile_machine.specs.Serving.{serves_nothing, is_served_now, serve_e
 use Rattle.std.proofs.Common.{◌≡◌, refl, sym, subst, ap, ◌∙◌}
 use Rattle.machine_laws.proofs.Moves.{StepRelation, MoveRelation, own}
 use Rattle.world_laws.proofs.Marks.FineMoves.{GoodWorld, Naming, FineMoves, RegionMoves}
-use Rattle.line_laws.proofs.Exits.FineMoves.{natures, action_first}
+use Rattle.machine_laws.proofs.FinestMoves.{natures, action_first}
 use Rattle.line_laws.proofs.Exits.Steady.{FreeIn}
 use Rattle.world_laws.proofs.Marks.Kept.Combinators.{Keeps, Kept, From, world_behind, then-kept, looks_at-from, either-from, changes-keeps, keeps-from, looks-from, looks-keeps, then-from, nothing-keeps, says-keeps, then-keeps, when-keeps}
 use Rattle.world_laws.proofs.Marks.Kept.Dispatching.{block-keeps}

@@ -1,43 +1,23 @@
 -- A fact of worlds that the opening has, and that every change keeps, holds of every world that a run reaches.
-use Rattle.std.proofs.Common.{◌≡◌, ℕ, ℤ, suc, ◌+◌, Bool, true, false, cond, List, [], ◌∷◌, Option, Some, None, refl, sym, subst}
+use Rattle.std.proofs.Common.{◌≡◌, ℕ, ℤ, List, Option, Some, None, refl, sym, subst}
 use Rattle.trace_text.specs.declared.events.Event.{Event}
-use Rattle.trace_text.specs.declared.events.Event.TheVariants as line
 use Rattle.trace_text.specs.declared.events.Mode.TheVariants.{Write}
-use Rattle.trace_text.specs.declared.events.Created.TheVariants as created
 use Rattle.trace_text.specs.declared.events.Who.{Who}
 use Rattle.trace_text.specs.declared.events.Who.TheVariants as who
 use Rattle.profile_machine.specs.declared.image.Image.{Image}
 use Rattle.profile_machine.specs.declared.run_data.Item.{Item}
 use Rattle.profile_machine.specs.declared.world.World.{World}
 use Rattle.profile_machine.specs.declared.world.marks.Frame.{Frame}
-use Rattle.profile_machine.specs.declared.world.marks.Purpose.TheVariants as opened_for
 use Rattle.profile_machine.specs.declared.world.appointments.HandlerOf.{HandlerOf}
 use Rattle.profile_machine.specs.declared.world.appointments.Release.{Release}
-use Rattle.profile_machine.specs.declared.world.objects.Entering.{Entering}
-use Rattle.profile_machine.specs.declared.world.objects.Entering.TheVariants as entering_is
-use Rattle.profile_machine.specs.declared.world.lines.Line.TheVariants as said_line
-use Rattle.profile_machine.specs.declared.world.lines.Part.{Part}
-use Rattle.profile_machine.specs.declared.world.lines.Part.TheVariants.{Own, TheBlock}
-use Rattle.profile_machine.specs.declared.world.tasks.State.{State}
-use Rattle.profile_machine.specs.declared.world.tasks.State.TheVariants.{Made, Runnable, Blocked}
-use Rattle.profile_machine.specs.declared.world.tasks.Waiting.TheVariants as waits_for
-use Rattle.profile_machine.specs.Words.{same_who, same_option, is_empty}
-use Rattle.profile_machine.specs.Program.{marks_of, subprogram_of}
-use Rattle.profile_machine.specs.Steps.{Step, says, changes, looks, when, settles, rests, ◌▷◌}
-use Rattle.profile_machine.specs.Tasks.{task_of, with_ticks}
-use Rattle.profile_machine.specs.Dispatching.{choose, block}
-use Rattle.profile_machine.specs.Frames.{has_room, new_frame, push, leaving_of}
-use Rattle.profile_machine.specs.Scopes.{plainly}
-use Rattle.profile_machine.specs.declared.world.marks.ResultTo.TheVariants as bound_for
-use Rattle.profile_machine.specs.Protected.{entering, begin_action_on, new_protected_mark, body_of_object}
-use Rattle.profile_machine.specs.Serving.{serves_nothing, is_served_now, serve_ends, end_release}
-use Rattle.profile_machine.specs.Handlers.{add_release, says_release, wake_agent, release, scope_size_of, begin_handler, begin_handler_if_room, enter_handler, call_handler, charge, argument_values}
-use Rattle.profile_machine.specs.Act.{act_without, act}
-use Rattle.profile_machine.specs.Cost.{cost}
-use Rattle.profile_machine.specs.Instant.{effect, is_over, effect_of_runner, finish_action, instant}
-use Rattle.profile_machine.specs.Run.{opens, blank_world, say, says_run, with_serving, serve_if_free, serve, ticks_or, begin_action, one_tick_less, spend_tick, next_tick, says_idle, environment}
+use Rattle.profile_machine.specs.Dispatching.{choose}
+use Rattle.profile_machine.specs.Frames.{new_frame, push}
+use Rattle.profile_machine.specs.Protected.{new_protected_mark}
+use Rattle.profile_machine.specs.Serving.{serves_nothing}
+use Rattle.profile_machine.specs.Handlers.{add_release}
+use Rattle.profile_machine.specs.Run.{opens, blank_world, with_serving, next_tick}
 use Rattle.machine_laws.specs.Reached.{Reached}
-use Rattle.machine_laws.proofs.Moves.{StepRelation, MoveRelation, LetsIn, Puts}
+use Rattle.machine_laws.proofs.Moves.{StepRelation, MoveRelation, Puts}
 use Rattle.machine_laws.proofs.FineMoves.{GoodWorld, FineMoves, Openings, Exits, Anybody, AnyRegion, AnyRelease, nature}
 use Rattle.machine_laws.proofs.FinestMoves.{AllMoves, TockChanges, Anyhow, finest, begun, mark_openings, own_regions, action_ends}
 use Rattle.machine_laws.proofs.ReachedLemmas.{Lasts, reached-lasts}

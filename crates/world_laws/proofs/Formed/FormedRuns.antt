@@ -1,5 +1,5 @@
 -- The test that computes a run and asks each of its worlds is true of every run.
-use Rattle.std.proofs.Common.{◌≡◌, ℕ, zero, suc, ◌≤◌, ℤ, Bool, true, false, ◌&&◌, List, Option, Some, None, leb, refl, arith}
+use Rattle.std.proofs.Common.{◌≡◌, ℕ, zero, suc, ◌≤◌, ℤ, Bool, true, ◌&&◌, List, Option, Some, None, leb, refl, arith}
 use Rattle.std.specs.Prelude.{IsTrue}
 use Rattle.trace_text.specs.declared.events.Ended.{Ended}
 use Rattle.profile_machine.specs.declared.image.Image.{Image}

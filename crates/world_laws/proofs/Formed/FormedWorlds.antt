@@ -1,6 +1,6 @@
 -- The parts of a well-formed world, one after the other.
 use Rattle.std.proofs.Common.{◌≡◌, ℕ, ℤ, pos, Bool, true, false, ◌&&◌, List, [], ◌∷◌, refl}
-use Rattle.std.specs.Prelude.{IsTrue, int_le}
+use Rattle.std.specs.Prelude.{int_le}
 use Rattle.std.specs.List.{list_all}
 use Rattle.profile_machine.specs.declared.image.Image.{Image}
 use Rattle.profile_machine.specs.declared.run_data.Item.{Item}
@@ -8,7 +8,7 @@ use Rattle.profile_machine.specs.declared.world.World.{World}
 use Rattle.profile_machine.specs.declared.world.appointments.Appointment.{Appointment}
 use Rattle.profile_machine.specs.declared.world.appointments.Due.{Due}
 use Rattle.profile_machine.specs.declared.world.appointments.Due.TheVariants as due_for
-use Rattle.profile_machine.specs.WellFormed.{all_adjacent, is_awaited, appointments_are_right, places_are_right, tasks_are_numbered, registered_are_numbered, releases_are_numbered, scopes_are_right, cells_are_right, actions_are_right, queues_are_right, marks_are_right, sequences_are_open, is_well_formed}
+use Rattle.profile_machine.specs.WellFormed.{all_adjacent, is_awaited, appointments_are_right, places_are_right, tasks_are_numbered, registered_are_numbered, releases_are_numbered, scopes_are_right, cells_are_right, actions_are_right, queues_are_right, marks_are_right, sequences_are_open}
 use Rattle.machine_laws.specs.Reached.{Reached}
 use Rattle.machine_laws.proofs.ListLemmas.{both}
 use Rattle.machine_laws.proofs.NumberLemmas.{reached_tasks, reached_registered, reached_releases}
@@ -25,7 +25,6 @@ use Rattle.world_laws.proofs.Appointments.AppointmentWorlds.{reached_appointment
 use Rattle.world_laws.proofs.Appointments.DelayWorlds.{reached_delays_are_awaited}
 use Rattle.world_laws.specs.AppointmentWorlds.{delay_is_awaited}
 use Rattle.world_laws.proofs.Sequences.SequenceWorlds.{reached_sequences_are_open}
-use Rattle.world_laws.specs.SequenceWorlds.{sequences_fit}
 use Rattle.world_laws.specs.FormedWorlds.{ReachedWorldsAreWellFormed}
 
 -- ---- appointments: whatever one is for is awaited, by the three laws of delays, time-outs and triggers

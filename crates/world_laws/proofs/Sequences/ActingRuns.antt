@@ -7,14 +7,12 @@ use Rattle.trace_text.specs.declared.events.Who.{Who}
 use Rattle.trace_text.specs.declared.events.Who.TheVariants as who
 use Rattle.profile_machine.specs.declared.image.Image.{Image}
 use Rattle.profile_machine.specs.declared.world.World.{World}
-use Rattle.profile_machine.specs.declared.world.appointments.Release.{Release}
 use Rattle.profile_machine.specs.declared.world.marks.Frame.{Frame}
-use Rattle.profile_machine.specs.declared.world.tasks.Task.{Task}
 use Rattle.profile_machine.specs.declared.world.tasks.State.{State}
 use Rattle.profile_machine.specs.declared.world.tasks.State.TheVariants.{Made, Blocked}
 use Rattle.profile_machine.specs.declared.world.tasks.Waiting.{Waiting}
 use Rattle.profile_machine.specs.declared.world.tasks.Waiting.TheVariants as waits_for
-use Rattle.profile_machine.specs.Tasks.{nobody, task_of, edit_task, with_state, with_frames, is_runnable_state}
+use Rattle.profile_machine.specs.Tasks.{task_of, edit_task, with_state, with_frames, is_runnable_state}
 use Rattle.profile_machine.specs.Dispatching.{without_kept_level}
 use Rattle.profile_machine.specs.Frames.{top_of, pop, without_first, onward_of, any_protected}
 use Rattle.profile_machine.specs.Serving.{serves_nothing}

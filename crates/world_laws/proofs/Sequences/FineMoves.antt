@@ -18,7 +18,6 @@ use Rattle.profile_machine.specs.declared.run_data.Leaving.{Leaving}
 use Rattle.profile_machine.specs.declared.values.Value.{Value}
 use Rattle.profile_machine.specs.declared.world.World.{World}
 use Rattle.profile_machine.specs.declared.world.marks.Frame.{Frame}
-use Rattle.profile_machine.specs.declared.world.marks.Mark.TheVariants.{Handled}
 use Rattle.profile_machine.specs.declared.world.marks.Purpose.{Purpose}
 use Rattle.profile_machine.specs.declared.world.tasks.Task.{Task}
 use Rattle.profile_machine.specs.declared.world.tasks.Waiting.{Waiting}
@@ -40,7 +39,7 @@ use Rattle.profile_machine.specs.Steps.{placed_by}
 use Rattle.profile_machine.specs.Tasks.{edit_task, with_state, with_frames, waiting_of}
 use Rattle.profile_machine.specs.Dispatching.{word_of, without_kept_level}
 use Rattle.profile_machine.specs.Program.{form_of, scope_of, task_unit_of}
-use Rattle.profile_machine.specs.Frames.{top_of, push, pop, goes_on, is_protected, in_protected, onward_of}
+use Rattle.profile_machine.specs.Frames.{top_of, push, pop, is_protected, in_protected, onward_of}
 use Rattle.profile_machine.specs.Scopes.{edit_cells, begin_scope, open_scope, end_scope}
 use Rattle.profile_machine.specs.Appointments.{appoint, drop_appointment}
 use Rattle.profile_machine.specs.Calls.{edit_call, forget_call, edit_object, call_of}

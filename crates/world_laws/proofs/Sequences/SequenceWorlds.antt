@@ -24,7 +24,7 @@ use Rattle.profile_machine.specs.declared.world.tasks.State.{State}
 use Rattle.profile_machine.specs.declared.world.tasks.State.TheVariants.{Made, Runnable, Blocked}
 use Rattle.profile_machine.specs.Words.{same_who, same_option, option_or_else, first_of_list}
 use Rattle.profile_machine.specs.Program.{no_statement, form_of, task_unit_of, scope_of}
-use Rattle.profile_machine.specs.Steps.{says, changes, settles, rests}
+use Rattle.profile_machine.specs.Steps.{says, changes, rests}
 use Rattle.profile_machine.specs.Tasks.{task_of, with_ticks, is_runnable, is_runnable_state, nobody, is_who}
 use Rattle.profile_machine.specs.Dispatching.{choose, to_tail}
 use Rattle.profile_machine.specs.Frames.{onward_of, open_sequence}

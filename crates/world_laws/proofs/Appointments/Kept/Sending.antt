@@ -26,7 +26,6 @@ use Rattle.profile_machine.specs.Steps.{◌▷◌, when, nothing, changes}
 use Rattle.profile_machine.specs.Tasks.{waiting_of}
 use Rattle.machine_laws.proofs.Moves.{StepRelation, MoveRelation}
 use Rattle.world_laws.proofs.Appointments.FineMoves.{GoodWorld, Naming, FineMoves}
-use Rattle.world_laws.proofs.Appointments.Kept.Appointments.{appoint-alters}
 use Rattle.world_laws.proofs.Appointments.Kept.CallEnds.{waits-call, resume-keeps, deliver-keeps}
 use Rattle.world_laws.proofs.Appointments.Kept.Calls.{edit_call-alters, with_call-keeps, says_call-keeps, unqueued-alters, attempt_with-keeps}
 use Rattle.world_laws.proofs.Appointments.Kept.Combinators.{Keeps, From, Alters, changes-keeps, looks-keeps, looks-from, keeps-from, nothing-keeps, says-keeps, then-keeps, unchanged-alters}

@@ -28,13 +28,13 @@ use Rattle.profile_machine.specs.declared.world.appointments.Due.TheVariants as 
 use Rattle.profile_machine.specs.declared.world.calls.Owner.TheVariants as owned_by
 use Rattle.profile_machine.specs.declared.world.lines.Part.{Part}
 use Rattle.profile_machine.specs.declared.world.lines.Part.TheVariants.{Own, TheCall, TheBlock, OfOther, TheFinish}
-use Rattle.profile_machine.specs.Steps.{Step, says, changes, looks, nothing}
+use Rattle.profile_machine.specs.Steps.{Step, says, changes, nothing}
 use Rattle.profile_machine.specs.Program.{next_of, entry_of, form_of}
 use Rattle.profile_machine.specs.Frames.{frames_of, new_frame, in_protected, raise_if, given, is_deferred, goes}
 use Rattle.profile_machine.specs.Tasks.{waiting_of}
 use Rattle.profile_machine.specs.Calls.{says_call, enqueue, is_full}
 use Rattle.profile_machine.specs.Protected.{begin_action_on, is_barrier_open, new_protected_mark}
-use Rattle.profile_machine.specs.Sending.{open_abortable, not_accepted, is_triggering}
+use Rattle.profile_machine.specs.Sending.{open_abortable, is_triggering}
 use Rattle.profile_machine.specs.EntryCalls.{numbered, marks_if_queued, add_call, make_call, end_at_once, call_gone, call_meets, call_queues, call_not_met, call_accepted_by, call_callable, call_task, call_runs, call_without_room, has_room_for_action, call_runs_if_room, call_passes, call_refused, call_closed, call_by_barrier, call_object, call_owner, call_named, entry_call, appoint_trigger, trigger_delay, async_delay, async_by_trigger, asynchronous_select, mark_sending, requeue, is_forbidden, owner_of_entry, entry_parameters, timed_moment, named_call, new_call}
 use Rattle.machine_laws.proofs.FineMoves.{GoodWorld, Naming, first_is_false}
 use Rattle.world_laws.proofs.Sequences.FineMoves.{FineMoves, Openings, Behind, Loosens}

@@ -14,7 +14,6 @@ use Rattle.profile_machine.specs.declared.statements.Setting.{Setting}
 use Rattle.profile_machine.specs.declared.values.Value.TheVariants.{Truth}
 use Rattle.profile_machine.specs.declared.world.World.{World}
 use Rattle.profile_machine.specs.declared.world.appointments.HandlerOf.{HandlerOf}
-use Rattle.profile_machine.specs.declared.world.appointments.Release.{Release}
 use Rattle.profile_machine.specs.declared.world.appointments.Budget.{Budget}
 use Rattle.profile_machine.specs.declared.world.scopes.Variable.{Variable}
 use Rattle.profile_machine.specs.declared.world.tasks.State.{State}
@@ -24,7 +23,7 @@ use Rattle.profile_machine.specs.declared.world.tasks.Task as world
 use Rattle.profile_machine.specs.Program.{is_robin_level}
 use Rattle.profile_machine.specs.declared.world.lines.Part.{Part}
 use Rattle.profile_machine.specs.declared.world.lines.Part.TheVariants.{Own}
-use Rattle.profile_machine.specs.Steps.{Step, changes, looks, says}
+use Rattle.profile_machine.specs.Steps.{Step, changes, says}
 use Rattle.profile_machine.specs.Tasks.{task_of, edit_task}
 use Rattle.profile_machine.specs.Values.{Seen}
 use Rattle.profile_machine.specs.CallEnds.{store}

@@ -33,7 +33,7 @@ use Rattle.profile_machine.specs.declared.world.marks.Mark.TheVariants.{InAccept
 use Rattle.profile_machine.specs.Program.{form_of, next_of, scope_of}
 use Rattle.profile_machine.specs.declared.world.lines.Part.{Part}
 use Rattle.profile_machine.specs.Steps.{Step, changes, ◌▷◌, looks}
-use Rattle.profile_machine.specs.Frames.{new_frame, goes_on, pop, top_of, is_protected, in_protected, open_sequence, raises}
+use Rattle.profile_machine.specs.Frames.{new_frame, pop, top_of, is_protected, in_protected, open_sequence, raises}
 use Rattle.profile_machine.specs.Scopes.{begin_scope, next_id, plainly, innermost, end_scope, cells_of, scope_in_use}
 use Rattle.profile_machine.specs.Appointments.{drop_delay}
 use Rattle.profile_machine.specs.Calls.{formals_count, parameters_of, edit_call, with_call, next_call, place_of_entry, enqueue}

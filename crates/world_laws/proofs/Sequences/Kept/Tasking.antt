@@ -59,7 +59,7 @@ use Rattle.profile_machine.specs.declared.world.marks.Mark.TheVariants.{Scope}
 use Rattle.profile_machine.specs.declared.world.appointments.Registered.{Registered}
 use Rattle.profile_machine.specs.Tasks.{is_made, is_made_state, edit_task, task_of, waiting_of, with_state, with_frames}
 use Rattle.profile_machine.specs.Dispatching.{active_of, block, says_block, word_of, without_kept_level, ready}
-use Rattle.profile_machine.specs.Unwinding.{any_struck, unwind}
+use Rattle.profile_machine.specs.Unwinding.{any_struck}
 use Rattle.profile_machine.specs.Masters.{has_dependents, may_terminate, leave_by_terminate, has_activating}
 
 made-so : (s : State) (b : Bool) → is_made_state s ≡ b → b ≡ true → s ≡ Made

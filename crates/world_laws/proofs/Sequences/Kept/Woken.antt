@@ -14,7 +14,7 @@ use Rattle.profile_machine.specs.declared.world.lines.Line.TheVariants as line
 use Rattle.profile_machine.specs.declared.world.lines.Part.{Part}
 use Rattle.profile_machine.specs.declared.world.marks.Mark.TheVariants.{Handled}
 use Rattle.profile_machine.specs.Program.{form_of, next_of, opens_handled}
-use Rattle.profile_machine.specs.Steps.{Step, says, changes, looks, nothing, ◌▷◌}
+use Rattle.profile_machine.specs.Steps.{Step, says, changes, nothing, ◌▷◌}
 use Rattle.profile_machine.specs.Frames.{edit_top, goes, push, new_frame, left_so, leaves, raises, has_room, open_handled, open_at, open_sequence, onward_of}
 use Rattle.profile_machine.specs.WellFormed.{begins_sequence}
 use Rattle.machine_laws.proofs.FineMoves.{GoodWorld, Naming}

@@ -251,7 +251,7 @@ module _ (p : Image) (events : Bool) where
   taken_if fuel (Some a) w said is most others =
       let dropped = drop_appointment (is_the_same_due a.due) w in
       let less = fewer events w.time (λ x. is_the_same_due a.due x.due) a (is_itself a.due) w.appointments is in
-      let kept = (kept-world (NeverMore events) dropped said (come_due p a.due dropped said) (come_due-keeps (all_of (never_more events)).fine (releasing (all_of (never_more events))) p a.due dropped tt said)).1.1 in
+      let kept = (kept-world (NeverMore events) dropped said (come_due p a.due dropped said) (come_due-keeps (all_of (never_more events)).fine (all_of (never_more events)).settings (releasing (all_of (never_more events))) p a.due dropped tt said)).1.1 in
       none_behind fuel (all_due fuel p events) (come_due p a.due dropped said) (omega (arith, less, kept, most)) others
 
   taken : (fuel : ℕ) (w : World) (said : List Said) → due_in events w ≤ fuel → due_in events (world_behind (all_due fuel p events w said)) ≤ 0
@@ -269,8 +269,8 @@ behind_moments p = timers_due p ▶ budgets_due p ▶ quantum_spent p
 
 behind_moments-leads : (events : Bool) (p : Image) → Leads AnyWorld (NeverMore events) (behind_moments p)
 behind_moments-leads events p =
-    then-leads (all_of (never_more events)).fine (timers_due p) (budgets_due p ▶ quantum_spent p) (timers_due-leads (all_of (never_more events)).fine (releasing (all_of (never_more events))) p)
-    (then-leads (all_of (never_more events)).fine (budgets_due p) (quantum_spent p) (budgets_due-leads (all_of (never_more events)).fine (releasing (all_of (never_more events))) p) (quantum_spent-leads (all_of (never_more events)).fine (releasing (all_of (never_more events))) p))
+    then-leads (all_of (never_more events)).fine (timers_due p) (budgets_due p ▶ quantum_spent p) (timers_due-leads (all_of (never_more events)).fine (all_of (never_more events)).settings (releasing (all_of (never_more events))) p)
+    (then-leads (all_of (never_more events)).fine (budgets_due p) (quantum_spent p) (budgets_due-leads (all_of (never_more events)).fine (all_of (never_more events)).settings (releasing (all_of (never_more events))) p) (quantum_spent-leads (all_of (never_more events)).fine p))
 
 instant-none : (events : Bool) (p : Image) (w : World) → due_in events (instant p w).0 ≤ 0
 unfolding Leads
@@ -279,7 +279,7 @@ instant-none true p w =
     let taken_events = (events_due p came).0 in
     let taken_moments = (moments_due p taken_events).0 in
     let first = appointments_due-none p true came in
-    let second = (moments_due-leads (all_of (never_more true)).fine (releasing (all_of (never_more true))) p taken_events tt).1 in
+    let second = (moments_due-leads (all_of (never_more true)).fine p taken_events tt).1 in
     let third = (behind_moments-leads true p taken_moments tt).1 in
     omega (arith, first, second, third)
 instant-none false p w =

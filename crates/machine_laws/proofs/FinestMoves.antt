@@ -35,6 +35,7 @@ use Rattle.profile_machine.specs.declared.world.scopes.Located.{Located}
 use Rattle.profile_machine.specs.declared.world.calls.Call.{Call}
 use Rattle.profile_machine.specs.declared.world.objects.Object.{Object}
 use Rattle.profile_machine.specs.declared.world.appointments.Due.{Due}
+use Rattle.profile_machine.specs.declared.world.appointments.Due.TheVariants as due_for
 use Rattle.profile_machine.specs.declared.world.appointments.Budget.{Budget}
 use Rattle.profile_machine.specs.declared.world.appointments.HandlerOf.{HandlerOf}
 use Rattle.profile_machine.specs.declared.world.lines.Part.{Part}
@@ -48,7 +49,7 @@ use Rattle.profile_machine.specs.Tasks.{edit_task, with_state, with_frames, wait
 use Rattle.profile_machine.specs.Dispatching.{word_of}
 use Rattle.profile_machine.specs.Frames.{frames_of, top_of, edit_first, edit_top, with_mark, new_frame, push, pop, is_protected, in_protected}
 use Rattle.profile_machine.specs.Scopes.{edit_cells, begin_scope, open_scope, end_scope}
-use Rattle.profile_machine.specs.Appointments.{appoint, drop_appointment}
+use Rattle.profile_machine.specs.Appointments.{appoint, drop_appointment, is_an_event}
 use Rattle.profile_machine.specs.Calls.{edit_call, forget_call, edit_object}
 use Rattle.profile_machine.specs.Masters.{region_of_mark, has_dependents, waits_for_activation, forget_task}
 use Rattle.profile_machine.specs.Protected.{open_action, new_protected_mark}
@@ -60,7 +61,7 @@ use Rattle.profile_machine.specs.Declarations.{new_object, object_drawn, event_d
 use Rattle.profile_machine.specs.Tasking.{add_task, end_environment, leaves_as, being_left_mark, left_so_frame}
 use Rattle.profile_machine.specs.declared.world.appointments.Release.{Release}
 use Rattle.profile_machine.specs.Serving.{close_action, serves_nothing}
-use Rattle.profile_machine.specs.Handlers.{add_release, clear_timer, with_timer_set, edit_budget}
+use Rattle.profile_machine.specs.Handlers.{add_release, clear_timer, with_timer_set, edit_budget, clock_risen}
 use Rattle.profile_machine.specs.Instant.{with_port, with_masked, with_kept_interrupt, with_script}
 use Rattle.machine_laws.proofs.Moves.{StepRelation, MoveRelation, Moves, TockMoves, LetsIn, FindsHeld, own, lines_of}
 use Rattle.machine_laws.specs.LineKinds.{is_of_tock}
@@ -131,6 +132,10 @@ action_first (n ∷ ns) = n.action
 abbrev pub top_action : World → Who → Option ObjectNo
 top_action w name = action_first (natures (frames_of w name))
 
+-- no event passes the test
+abbrev pub SparesEvents : (Due → Bool) → Type 0
+SparesEvents test = (n : ℕ) (h : HandlerOf) → test (due_for.Event n h) ≡ false
+
 pub record FinestMoves (G : GoodWorld) (May Other : Naming) (R : StepRelation) (Q : MoveRelation) : Type 0 where
   -- what is done leads from good worlds to good worlds
   pub behind : (a b : World) {xs : List Said} → R a xs b → G b
@@ -149,8 +154,8 @@ pub record FinestMoves (G : GoodWorld) (May Other : Naming) (R : StepRelation) (
   pub task_other : (n : TaskNo) → Other (who.Task n)
   pub listed : (w : World) → G w → EachIs Other w.tasks
   pub awaits : (name : Who) (w : World) → G w → waits_for_activation (waiting_of w name) ≡ true → Other name
-  -- tasks: an edit of anybody that leaves alone who it is, its marks, its state and its master; one of marks alone
-  pub edits_task : (name : Who) (f : Task → Task) (w : World) → G w → ((t : Task) → (f t).who ≡ t.who) → ((t : Task) → (f t).frames ≡ t.frames) → ((t : Task) → (f t).state ≡ t.state) → ((t : Task) → (f t).master ≡ t.master) → R w [] (edit_task name f w)
+  -- tasks: an edit of anybody that leaves alone who it is, its marks, its state, its master and its clock; one of marks alone
+  pub edits_task : (name : Who) (f : Task → Task) (w : World) → G w → ((t : Task) → (f t).who ≡ t.who) → ((t : Task) → (f t).frames ≡ t.frames) → ((t : Task) → (f t).state ≡ t.state) → ((t : Task) → (f t).master ≡ t.master) → ((t : Task) → (f t).cpu_ticks ≡ t.cpu_ticks) → R w [] (edit_task name f w)
   pub edits_frames : (name : Who) (f : List Frame → List Frame) (w : World) → G w → ((fs : List Frame) → natures (f fs) ≡ natures fs) → R w [] (edit_task name (λ t. with_frames (f t.frames) t) w)
   -- a mark is opened by who has one, behind its going on; by a task; and one that is no protected action ends
   pub pushes_on : (name : Who) (onward : Option StatementNo) (f g : Frame) (w : World) → G w → May name → top_of w name ≡ Some g → (nature f.mark).region ≡ None → (nature f.mark).release ≡ None → (nature f.mark).action ≡ None → (nature f.mark).abortable ≡ false → R w [] (push name f (gone_on name onward w))
@@ -166,8 +171,8 @@ pub record FinestMoves (G : GoodWorld) (May Other : Naming) (R : StepRelation) (
   pub blocks : (name : Who) (waiting : Waiting) (w : World) → G w → Other name → R w [] (edit_task name (with_state (Blocked waiting)) w)
   pub places : (p : Image) (part : Part) (name : Who) (end : QueueEnd) (w : World) → G w → May name → R w (ready_line p part name end w ∷ []) w
   pub says_blocked : (part : Part) (name : Who) (waiting : Waiting) (w : World) → G w → Other name → R w (record { part = part; line = said.Block name (word_of waiting) } ∷ []) w
-  -- a new task has the next number and the region of its creator, which goes on first
-  pub adds_task : (name : Who) (onward : Option StatementNo) (t : Task) (w : World) → G w → Other name → t.who ≡ who.Task (record { 0 = w.drawn.tasks }) → t.frames ≡ [] → t.master ≡ Some (top_region w name) → R w [] (add_task t (gone_on name onward w))
+  -- a new task has the next number, the region of its creator, which goes on first, and a clock at 0
+  pub adds_task : (name : Who) (onward : Option StatementNo) (t : Task) (w : World) → G w → Other name → t.who ≡ who.Task (record { 0 = w.drawn.tasks }) → t.frames ≡ [] → t.master ≡ Some (top_region w name) → t.cpu_ticks ≡ 0 → R w [] (add_task t (gone_on name onward w))
   pub forgets_task : (name : Who) (w : World) → G w → R w [] (forget_task name w)
   pub sets_quantum : (level ticks : ℕ) (w : World) → G w → R w [] (record w { quanta = edit_at level (λ _. ticks) w.quanta })
   pub ends_environment : (leaving : Leaving) (w : World) → G w → R w [] (end_environment leaving w)
@@ -186,25 +191,32 @@ pub record FinestMoves (G : GoodWorld) (May Other : Naming) (R : StepRelation) (
   pub inside : (name : Who) (o : ObjectNo) (mode : Mode) (w : World) → G w → LetsIn name o mode w → G (open_action name o mode w)
   pub visits : (name : Who) (o : ObjectNo) (mode : Mode) (xs : List Said) (w v : World) → G w → LetsIn name o mode w → AreQuiet xs → R w [] v → R w (own (said.Enter name o mode) ∷ xs ++ own (said.Exit name o) ∷ []) v
   pub finds_held : (name : Who) (o : ObjectNo) (mode : Mode) (w : World) → G w → FindsHeld name o mode w → R w (own (said.Held name o mode) ∷ []) w
-  -- appointments: one that is set is later than now
-  pub appoints : (due : Due) (moment : ℤ) (w : World) → G w → int_lt (pos w.time) moment ≡ true → R w [] (appoint due moment w)
-  pub drops_appointment : (test : Due → Bool) (w : World) → G w → R w [] (drop_appointment test w)
+  -- appointments that are no events: one that is set is later than now
+  pub appoints : (due : Due) (moment : ℤ) (w : World) → G w → is_an_event due ≡ false → int_lt (pos w.time) moment ≡ true → R w [] (appoint due moment w)
+  pub drops_appointment : (test : Due → Bool) (w : World) → G w → SparesEvents test → R w [] (drop_appointment test w)
   -- controlled objects: a new one has the next number; of a region that is being left the newest is finalized; and one that is
   -- registered is assigned to
   pub registers : (name : Who) (l : Located) (w : World) → G w → R w (own (said.Init name (suc w.drawn.controlled) (top_region w name) l.declared) ∷ []) (registered_as (suc w.drawn.controlled) (top_region w name) l w)
   pub finalizes : (name : Who) (f : Frame) (m : ScopeMark) (r : RegionNo) (x : Registered) (w : World) → G w → May name → top_of w name ≡ Some f → f.mark ≡ Scope m → m.region ≡ Some r → m.being_left ≡ true → next_to_finalize w r ≡ Some x
       → R w (own (said.Final name x.object) ∷ []) (no_longer_registered x.object w)
   pub replaces : (name : Who) (l : Located) (x : Registered) (w : World) → G w → registered_at w l ≡ Some x → R w (own (said.Replace name x.object) ∷ []) w
-  -- events, timers and budgets
+  -- events, timers and budgets that are declared, and what is left of a budget
   pub draws_event : (w : World) → G w → R w [] (record w { drawn = event_drawn w.drawn })
   pub adds_timer : (t : TaskNo) (w : World) → G w → R w [] (with_timer t w)
+  pub adds_budget : (w : World) → G w → R w [] (with_budget w)
+  pub edits_budget : (b : ℕ) (f : Budget → Budget) (w : World) → G w → ((x : Budget) → (f x).handler ≡ x.handler) → R w [] (edit_budget b f w)
+
+-- What sets or cancels what is released later, the clock of a task that goes on, and the outside.
+pub record SettingMoves (G : GoodWorld) (R : StepRelation) : Type 0 where
+  pub appoints_event : (n : ℕ) (h : HandlerOf) (moment : ℤ) (w : World) → G w → int_lt (pos w.time) moment ≡ true → R w [] (appoint (due_for.Event n h) moment w)
+  pub drops_any : (test : Due → Bool) (w : World) → G w → R w [] (drop_appointment test w)
   pub clears_timer : (k : ℕ) (w : World) → G w → R w [] (clear_timer k w)
   pub sets_timer : (k : ℕ) (h : HandlerOf) (value : ℤ) (w : World) → G w → R w [] (with_timer_set k h value w)
   pub sets_timers_due : (timers : List ℕ) (w : World) → G w → R w [] (record w { timers_due = timers })
-  pub adds_budget : (w : World) → G w → R w [] (with_budget w)
-  pub edits_budget : (b : ℕ) (f : Budget → Budget) (w : World) → G w → R w [] (edit_budget b f w)
+  pub sets_budget : (b : ℕ) (f : Budget → Budget) (w : World) → G w → R w [] (edit_budget b f w)
   pub sets_budget_due : (budget : Option ℕ) (w : World) → G w → R w [] (record w { budget_due = budget })
-  -- the outside: of the script only the first item that is ahead is taken, when its moment has come
+  pub counts : (t : TaskNo) (w : World) → G w → R w [] (edit_task (who.Task t) clock_risen w)
+  -- of the script only the first item that is ahead is taken, when its moment has come
   pub sets_port : (n : ℕ) (value : ℤ) (w : World) → G w → R w [] (with_port n value w)
   pub masks : (n : ℕ) (flag : Bool) (w : World) → G w → R w [] (with_masked n flag w)
   pub keeps_interrupt : (n : ℕ) (flag : Bool) (w : World) → G w → R w [] (with_kept_interrupt n flag w)
@@ -237,15 +249,20 @@ Holding = Who → ObjectNo → World → Type 0
 pub record ActionEnds (G : GoodWorld) (May : Naming) (MayEnd : Who → Option ℕ → Type 0) (Holds : Holding) (R : StepRelation) : Type 0 where
   pub exits : (name : Who) (m : ProtectedMark) (w : World) → G w → May name → MayEnd name m.release → Holds name m.object w → R w (own (said.Exit name m.object) ∷ []) (close_action name m.object (pop name w))
 
--- All of them together, of anybody; and the releases that come, are handled and have been served.
+-- The handler of a release is called, and the release has been served.
+pub record HandlerMoves (G : GoodWorld) (R : StepRelation) : Type 0 where
+  pub handles : (o : ObjectNo) (release : ℕ) → Begins G R who.Agent o Write None (Some release)
+  pub has_served : (r : Release) (w : World) → G w → w.serving ≡ Some r → R w (own (said.Served r.number) ∷ []) (serves_nothing w)
+
+-- All of them together, of anybody, with the releases that come.
 pub record AllMoves (G : GoodWorld) (Holds : Holding) (R : StepRelation) (Q : MoveRelation) : Type 0 where
   pub fine : FinestMoves G Anybody Anybody R Q
   pub openings : MarkOpenings G Anybody Anybody R
   pub regions : OwnRegions G Anybody Anybody AnyRegion
   pub ends : ActionEnds G Anybody AnyRelease Holds R
-  pub handles : (o : ObjectNo) (release : ℕ) → Begins G R who.Agent o Write None (Some release)
+  pub handlers : HandlerMoves G R
+  pub settings : SettingMoves G R
   pub releases : (h : HandlerOf) (argument : Option ℕ) (w : World) → G w → R w (own (said.Release (suc w.drawn.releases) h) ∷ []) (add_release h argument w)
-  pub has_served : (r : Release) (w : World) → G w → w.serving ≡ Some r → R w (own (said.Served r.number) ∷ []) (serves_nothing w)
 
 -- What a tock does besides, up to its tick.
 pub record TockChanges (G : GoodWorld) (Q : MoveRelation) : Type 0 where
@@ -297,7 +314,7 @@ first-natures : (f : Frame → Frame) (fs : List Frame) → ((x : Frame) → coa
 first-natures f [] same = refl
 first-natures f (x ∷ xs) same = ap (λ n. n ∷ coarse.natures xs) (same x)
 
-less-quiet : (xs : List Said) → AreQuiet xs → coarse.AreQuiet xs
+pub less-quiet : (xs : List Said) → AreQuiet xs → coarse.AreQuiet xs
 less-quiet [] q = tt
 less-quiet (x ∷ xs) q = (first_is_false (coarse.is_apart x.line) (is_of_region x.line) q.0, less-quiet xs q.1)
 
@@ -341,7 +358,7 @@ module _ {G : GoodWorld} {May Other : Naming} {R : StepRelation} {Q : MoveRelati
     task_other = moves.task_other;
     listed = moves.listed;
     awaits = moves.awaits;
-    edits_task = moves.edits_task;
+    edits_task = λ name f w g same_who same_frames same_state same_master same_clock. moves.edits_task name f w g same_who same_frames same_state same_master;
     edits_frames = λ name f w g same. moves.edits_frames name f w g (λ fs. same-natures (f fs) fs (same fs));
     pushes_on = λ name onward f h w g may top region release action abortable. moves.pushes_on name onward f h w g may top region release abortable;
     opens_abortable = λ name f w g other region release action. moves.opens_abortable name f w g other region release;
@@ -352,7 +369,7 @@ module _ {G : GoodWorld} {May Other : Naming} {R : StepRelation} {Q : MoveRelati
     blocks = moves.blocks;
     places = moves.places;
     says_blocked = moves.says_blocked;
-    adds_task = moves.adds_task;
+    adds_task = λ name onward t w g other same_who none master clock. moves.adds_task name onward t w g other same_who none master;
     forgets_task = moves.forgets_task;
     sets_quantum = moves.sets_quantum;
     ends_environment = moves.ends_environment;
@@ -367,19 +384,27 @@ module _ {G : GoodWorld} {May Other : Naming} {R : StepRelation} {Q : MoveRelati
     inside = λ name o mode w g lets. moves.behind w (open_action name o mode w) (moves.enters name o mode w g lets);
     visits = λ name o mode xs w v g lets quiet k. moves.visits name o mode xs w v g lets (less-quiet xs quiet) k;
     finds_held = moves.finds_held;
-    appoints = moves.appoints;
-    drops_appointment = moves.drops_appointment;
+    appoints = λ due moment w g other later. moves.appoints due moment w g later;
+    drops_appointment = λ test w g spares. moves.drops_appointment test w g;
     registers = λ name l w g. told Own (said.Init name (suc w.drawn.controlled) (top_region w name) l.declared) w _ refl (moves.registers (top_region w name) l w g);
     finalizes = λ name f m r x w g may top is region left next. told Own (said.Final name x.object) w _ refl (moves.unregisters x.object w g);
     replaces = λ name l x w g found. moves.says Own (said.Replace name x.object) w g refl;
     draws_event = moves.draws_event;
     adds_timer = moves.adds_timer;
+    adds_budget = moves.adds_budget;
+    edits_budget = λ b f w g same. moves.edits_budget b f w g;
+  }
+
+  pub setting_moves : SettingMoves G R
+  setting_moves = record {
+    appoints_event = λ n h moment w g later. moves.appoints (due_for.Event n h) moment w g later;
+    drops_any = moves.drops_appointment;
     clears_timer = moves.clears_timer;
     sets_timer = moves.sets_timer;
     sets_timers_due = moves.sets_timers_due;
-    adds_budget = moves.adds_budget;
-    edits_budget = moves.edits_budget;
+    sets_budget = moves.edits_budget;
     sets_budget_due = moves.sets_budget_due;
+    counts = λ t w g. moves.edits_task (who.Task t) clock_risen w g (λ u. refl) (λ u. refl) (λ u. refl) (λ u. refl);
     sets_port = moves.sets_port;
     masks = moves.masks;
     keeps_interrupt = moves.keeps_interrupt;
@@ -411,9 +436,12 @@ all_of moves = record {
   openings = mark_openings (finely moves) (openings moves);
   regions = own_regions (openings moves);
   ends = action_ends (exits moves);
-  handles = λ o n w v xs g lets k. begun (finely moves) who.Agent o Write None (Some n) (λ u good. moves.edits_task who.Agent (λ t. with_frames (new_frame (new_protected_mark o Write None (Some n)) None ∷ t.frames) t) u (λ t. refl)) w v xs g lets k;
+  handlers = record {
+    handles = λ o n w v xs g lets k. begun (finely moves) who.Agent o Write None (Some n) (λ u good. moves.edits_task who.Agent (λ t. with_frames (new_frame (new_protected_mark o Write None (Some n)) None ∷ t.frames) t) u (λ t. refl)) w v xs g lets k;
+    has_served = λ r w g is. moves.has_served r w is;
+  };
+  settings = setting_moves (finely moves);
   releases = λ h argument w g. moves.releases h argument w;
-  has_served = λ r w g is. moves.has_served r w is;
 }
 
 pub tocks_of : {Q : MoveRelation} → TockMoves Q → TockChanges AnyWorld Q

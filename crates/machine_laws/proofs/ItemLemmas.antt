@@ -124,7 +124,7 @@ module _ (p : Image) where
   taken_where fuel x xs w said true is due most others =
       let cut = with_script xs w in
       let long : length w.script ≡ suc (length xs) = ap length is in
-      let kept = (kept-world ItemsStay cut said (script_item p x.1 cut said) (script_item-keeps (all_of items_stay).fine (releasing (all_of items_stay)) p x.1 cut tt said)).1.1 in
+      let kept = (kept-world ItemsStay cut said (script_item p x.1 cut said) (script_item-keeps (all_of items_stay).fine (all_of items_stay).settings (releasing (all_of items_stay)) p x.1 cut tt said)).1.1 in
       none_behind fuel (items_due fuel p) (script_item p x.1 cut said) (omega (arith, long, kept, most)) others
   taken_where fuel x xs w said false is due most others = ap (first_is_later w.time) is ∙ is_later w.time x.0 due
 
@@ -149,10 +149,10 @@ behind_items p = events_due p ▶ moments_due p ▶ timers_due p ▶ budgets_due
 
 behind_items-leads : (p : Image) → Leads AnyWorld ItemsStay (behind_items p)
 behind_items-leads p =
-    then-leads (all_of items_stay).fine (events_due p) (moments_due p ▶ timers_due p ▶ budgets_due p ▶ quantum_spent p) (events_due-leads (all_of items_stay).fine (releasing (all_of items_stay)) p)
-    (then-leads (all_of items_stay).fine (moments_due p) (timers_due p ▶ budgets_due p ▶ quantum_spent p) (moments_due-leads (all_of items_stay).fine (releasing (all_of items_stay)) p)
-    (then-leads (all_of items_stay).fine (timers_due p) (budgets_due p ▶ quantum_spent p) (timers_due-leads (all_of items_stay).fine (releasing (all_of items_stay)) p)
-    (then-leads (all_of items_stay).fine (budgets_due p) (quantum_spent p) (budgets_due-leads (all_of items_stay).fine (releasing (all_of items_stay)) p) (quantum_spent-leads (all_of items_stay).fine (releasing (all_of items_stay)) p))))
+    then-leads (all_of items_stay).fine (events_due p) (moments_due p ▶ timers_due p ▶ budgets_due p ▶ quantum_spent p) (events_due-leads (all_of items_stay).fine (all_of items_stay).settings (releasing (all_of items_stay)) p)
+    (then-leads (all_of items_stay).fine (moments_due p) (timers_due p ▶ budgets_due p ▶ quantum_spent p) (moments_due-leads (all_of items_stay).fine p)
+    (then-leads (all_of items_stay).fine (timers_due p) (budgets_due p ▶ quantum_spent p) (timers_due-leads (all_of items_stay).fine (all_of items_stay).settings (releasing (all_of items_stay)) p)
+    (then-leads (all_of items_stay).fine (budgets_due p) (quantum_spent p) (budgets_due-leads (all_of items_stay).fine (all_of items_stay).settings (releasing (all_of items_stay)) p) (quantum_spent-leads (all_of items_stay).fine p))))
 
 pub instants_leave_no_item_due : (p : Image) (w : World) → no_item_due (instant p w).0 ≡ true
 unfolding Leads

@@ -27,13 +27,13 @@ use Rattle.release_laws.specs.ReleaseLaws.{TimerSet, but_timer, events_asked, ti
 use Rattle.release_laws.proofs.EventLists.{events_of, Rises}
 use Rattle.release_laws.proofs.TimerLists.{timers_in}
 use Rattle.release_laws.proofs.Tellings.{Tells, tells_both, released-lines}
-use Rattle.release_laws.proofs.Untouched.{Sight, sight_of, budget_in, outside-then, clocks-then, untouched, Calmly, calm, calm_openings, calm_exits, calm_freely}
+use Rattle.release_laws.proofs.Untouched.{Sight, sight_of, budget_in, outside-then, clocks-then, untouched, Calmly}
 use Rattle.release_laws.proofs.Effects.{Effect, EffectSaid, Does, Alike, edited-alike, alike-clocks, alike-outside, at_once, due_asked, handler_asked, effect-none, effect-then, kept-weaker, kept-then}
 use Rattle.release_laws.proofs.Settings.{set_event-does, cancel_event-does}
 use Rattle.release_laws.proofs.TimerSettings.{set_timer-does, cancel_timer-does}
 use Rattle.release_laws.proofs.BudgetSettings.{set_budget-does, cancel_budget-does}
-use Rattle.release_laws.proofs.Calm.Act.{act-calm, asks_nothing, comes_to_nothing}
-use Rattle.release_laws.proofs.Calm.Instant.{behind_act-keeps}
+use Rattle.release_laws.proofs.CalmActs.{act-calm, comes_to_nothing, behind_act-keeps}
+use Rattle.machine_laws.proofs.Kept.Act.{asks_nothing}
 
 -- ---- an action
 
@@ -45,7 +45,7 @@ calm-act : (p : Image) (name : Who) (v : World) → comes_to_nothing p (onward_o
 unfolding From
 calm-act p name v e said =
     kept-weaker Calmly (EffectSaid OfNothing) v said (act p name v said) (λ u xs c. (effect-none v u c.0, c.1))
-    (act-calm calm calm_openings calm_exits calm_freely p (calm_puts p) name v e said)
+    (act-calm p (calm_puts p) name v e said)
 
 act-of : (R : StepRelation) (p : Image) (name : Who) (v : World) → From R v (act_top p name (top_of v name)) → From R v (act p name)
 unfolding From act
@@ -144,7 +144,7 @@ joined r w v u xs ys a b = (effect-then r w v u a.0 b.0, subst (λ hs. Tells hs 
 
 calm-from : (p : Image) (name : Who) (v : World) → From Calmly v (open_if_ready p name ▷ take_terminates p name ▷ unwind_all p name)
 unfolding From Keeps
-calm-from p name v said = behind_act-keeps calm calm_openings calm_exits calm_freely p name v tt said
+calm-from p name v said = behind_act-keeps p name v tt said
 
 effect-does : (p : Image) (name : Who) (w : World) → Does (asked_at p (acting name w) name (onward_of (acting name w) name)) w (effect p name)
 unfolding From effect

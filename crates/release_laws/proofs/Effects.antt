@@ -31,7 +31,7 @@ use Rattle.release_laws.proofs.EventLists.{events_of, Rises}
 use Rattle.release_laws.proofs.TimerLists.{timers_in}
 use Rattle.release_laws.proofs.Tellings.{Tells}
 use Rattle.release_laws.proofs.Untouched.{Sight, sight_of, budget_in, OutsideStays, ClocksStay, outside-then, clocks-then, Untouched, Calmly, calm}
-use Rattle.release_laws.proofs.Calm.Frames.{raises-keeps}
+use Rattle.machine_laws.proofs.Kept.Frames.{raises-keeps}
 
 -- ---- an effect of a request
 

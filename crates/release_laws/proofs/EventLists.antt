@@ -10,7 +10,7 @@ use Rattle.profile_machine.specs.Words.{without}
 use Rattle.profile_machine.specs.Values.{is_event}
 use Rattle.profile_machine.specs.Appointments.{put_appointment, is_an_event}
 use Rattle.release_laws.specs.ReleaseLaws.{EventSet, but_event, put_event}
-use Rattle.release_laws.proofs.CalmMoves.{SparesEvents}
+use Rattle.machine_laws.proofs.FinestMoves.{SparesEvents}
 
 -- ---- the events among appointments, in their order
 

@@ -24,7 +24,7 @@ use Rattle.release_laws.proofs.ScriptSteps.{flags_of, ItemsMoved, items-moved}
 use Rattle.release_laws.proofs.TickSteps.{NoneReached, run_out_of}
 use Rattle.release_laws.proofs.Tocks.{Ticked, tock-ticked}
 use Rattle.release_laws.proofs.Agreement.{Agrees, events-differ, timers-differ, due-asked, left-unreached, handler_of_budget, handlers_for, handlers-asked}
-use Rattle.release_laws.proofs.Calm.Instant.{moments_due-leads, quantum_spent-leads}
+use Rattle.machine_laws.proofs.Kept.Instant.{moments_due-leads, quantum_spent-leads}
 
 -- ---- the steps that release nothing
 

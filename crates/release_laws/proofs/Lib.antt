@@ -1,12 +1,11 @@
 pub mod TestLemmas
 mod ExampleLemmas
-pub mod CalmMoves
-pub mod Calm
 pub mod EventLists
 pub mod Tellings
 pub mod TimerLists
 pub mod ClockLemmas
 pub mod Untouched
+pub mod CalmActs
 pub mod Release
 pub mod Effects
 pub mod Settings

@@ -11,7 +11,7 @@ use Rattle.profile_machine.specs.declared.world.marks.Purpose.TheVariants as ope
 use Rattle.profile_machine.specs.Scopes.{plainly}
 use Rattle.profile_machine.specs.Run.{environment, opens, opening, blank_world, stop, tock}
 use Rattle.machine_laws.proofs.FineMoves.{AnyWorld}
-use Rattle.machine_laws.proofs.Kept.Combinators.{Keeps, Leads}
+use Rattle.machine_laws.proofs.Kept.Combinators.{Keeps, Leads, then-keeps, changes-keeps, says-keeps, settles-leads}
 use Rattle.release_laws.specs.ReleaseLaws.{Passage, machine_of, passage, history_from, Account, first_account, account_behind, HistoryOk, ReleasesAll, OfEveryRun}
 use Rattle.release_laws.proofs.Untouched.{budget_in, sight_of, Untouched, Calmly, CalmMove, calm, calm_openings}
 use Rattle.release_laws.proofs.BudgetSteps.{one_or_none}
@@ -20,10 +20,9 @@ use Rattle.profile_machine.specs.declared.world.appointments.Budget.{Budget}
 use Rattle.profile_machine.specs.Values.{no_budget}
 use Rattle.release_laws.proofs.Agreement.{Agrees}
 use Rattle.release_laws.proofs.InstantReleases.{releases-all, agrees-behind}
-use Rattle.release_laws.proofs.Calm.Combinators.{then-keeps, changes-keeps, says-keeps, settles-leads}
-use Rattle.release_laws.proofs.Calm.Dispatching.{to_tail-keeps}
-use Rattle.release_laws.proofs.Calm.Frames.{open_sequence-keeps}
-use Rattle.release_laws.proofs.Calm.Scopes.{open_scope-alters}
+use Rattle.machine_laws.proofs.Kept.Dispatching.{to_tail-keeps}
+use Rattle.machine_laws.proofs.Kept.Frames.{open_sequence-keeps}
+use Rattle.machine_laws.proofs.Kept.Scopes.{open_scope-alters}
 
 -- ---- at first nothing was asked for
 

@@ -32,7 +32,7 @@ use Rattle.release_laws.proofs.Tellings.{Tells, tells_none}
 use Rattle.release_laws.proofs.Untouched.{Sight, sight_of, budget_in, Calmly, calm}
 use Rattle.release_laws.proofs.Release.{Released, release-from}
 use Rattle.release_laws.proofs.Effects.{Effect, Does, Alike, alike-clocks, alike-outside, at_once, effect-then, kept-weaker, given-does, setting_of-does, gone-does}
-use Rattle.release_laws.proofs.Calm.Handlers.{answer-keeps}
+use Rattle.machine_laws.proofs.Kept.Handlers.{answer-keeps}
 
 -- from a world that is alike, whatever is said of that before it
 abbrev pub Onward : Request → World → World → List Said → World → Type 0

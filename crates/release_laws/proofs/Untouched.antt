@@ -5,10 +5,15 @@ use Rattle.trace_text.specs.declared.events.Event.{Event}
 use Rattle.trace_text.specs.declared.events.Event.TheVariants as written
 use Rattle.trace_text.specs.declared.events.Who.{Who}
 use Rattle.trace_text.specs.declared.events.Who.TheVariants as who
+use Rattle.trace_text.specs.declared.events.Mode.{Mode}
+use Rattle.trace_text.specs.declared.events.Mode.TheVariants.{Write}
+use Rattle.ann_base.specs.declared.identities.CallNo.{CallNo}
+use Rattle.ann_base.specs.declared.identities.ObjectNo.{ObjectNo}
 use Rattle.ann_base.specs.declared.identities.TaskNo.{TaskNo}
 use Rattle.profile_machine.specs.declared.image.Image.{Image}
 use Rattle.profile_machine.specs.declared.numbers.StatementNo.{StatementNo}
 use Rattle.profile_machine.specs.declared.run_data.Item.{Item}
+use Rattle.profile_machine.specs.declared.run_data.Leaving.{Leaving}
 use Rattle.profile_machine.specs.declared.world.World.{World}
 use Rattle.profile_machine.specs.declared.world.appointments.Appointment.{Appointment}
 use Rattle.profile_machine.specs.declared.world.appointments.Budget.{Budget}
@@ -21,17 +26,19 @@ use Rattle.profile_machine.specs.declared.world.tasks.Task.{Task}
 use Rattle.profile_machine.specs.declared.world.tasks.State.TheVariants.{Runnable, Blocked}
 use Rattle.profile_machine.specs.Words.{edit_at}
 use Rattle.profile_machine.specs.Tasks.{task_at, edit_task_found, edit_task, with_state, with_frames}
-use Rattle.profile_machine.specs.Frames.{edit_first, push, pop, new_frame, without_first, goes_on}
+use Rattle.profile_machine.specs.Frames.{edit_first, edit_top, with_mark, push, pop, new_frame, without_first, goes_on}
 use Rattle.profile_machine.specs.Program.{scope_of}
 use Rattle.profile_machine.specs.Scopes.{begin_scope, draw_region, next_id, region_of_next, new_scope_mark}
 use Rattle.profile_machine.specs.Values.{no_budget}
 use Rattle.profile_machine.specs.Appointments.{appoint, drop_appointment, is_an_event}
 use Rattle.profile_machine.specs.Masters.{forget_task}
-use Rattle.profile_machine.specs.Tasking.{add_task}
+use Rattle.profile_machine.specs.Protected.{new_protected_mark}
+use Rattle.profile_machine.specs.Controlled.{edit_scope_mark, edit_top_scope}
+use Rattle.profile_machine.specs.Tasking.{add_task, being_left_mark, left_so_frame}
 use Rattle.profile_machine.specs.Releases.{released}
 use Rattle.machine_laws.proofs.Moves.{own, is_told_apart}
-use Rattle.machine_laws.proofs.FineMoves.{AnyWorld, Anybody, AnyRegion, AnyRelease, EachIs, Openings, Exits, gone_on, is_placing, first_is_false, quiet-others}
-use Rattle.release_laws.proofs.CalmMoves.{CalmMoves, Freely, SparesEvents}
+use Rattle.machine_laws.proofs.FineMoves.{AnyWorld, Anybody, AnyRegion, AnyRelease, EachIs, gone_on, is_apart, is_placing, first_is_false, quiet-others}
+use Rattle.machine_laws.proofs.FinestMoves.{FinestMoves, SparesEvents, MarkOpenings, OwnRegions, ActionEnds, HandlerMoves, Begins, Anyhow, is_of_region, less-quiet}
 use Rattle.release_laws.proofs.ClockLemmas.{clock_in, set-clock, added-clock, gone-clock}
 use Rattle.release_laws.proofs.EventLists.{events_of, Rises, put-rises, without-rises, put_other-events, spared-events}
 use Rattle.release_laws.proofs.TimerLists.{timers_in, appended-seen, declared-timers}
@@ -210,13 +217,20 @@ each-anybody : (ts : List Task) → EachIs Anybody ts
 each-anybody [] = tt
 each-anybody (t ∷ ts) = (tt, each-anybody ts)
 
-pub calm : CalmMoves AnyWorld Anybody Anybody Calmly CalmMove
+left-untouched : (name : Who) (leaving : Leaving) (w : World) → Untouched (sight_of w) (sight_of (edit_top name (left_so_frame leaving) (edit_top_scope name being_left_mark w)))
+left-untouched name leaving w =
+    let marked = edit_top_scope name being_left_mark w in
+    untouched-then (sight_of w) (sight_of marked) (sight_of (edit_top name (left_so_frame leaving) marked))
+    (edited-untouched name (λ t. with_frames (edit_first (λ x. with_mark (edit_scope_mark being_left_mark x.mark) x) t.frames) t) w (λ t. refl) (λ t. refl))
+    (edited-untouched name (λ t. with_frames (edit_first (left_so_frame leaving) t.frames) t) marked (λ t. refl) (λ t. refl))
+
+pub calm : FinestMoves AnyWorld Anybody Anybody Calmly CalmMove
 calm = record {
   behind = λ a b h. tt;
   moved = λ a b h. tt;
   stays = λ w g. still w;
   goes_on = λ a b c {xs} {ys} p q. (untouched-then (sight_of a) (sight_of b) (sight_of c) p.0 q.0, tells_both [] [] xs ys p.1 q.1);
-  says = λ part line w g apart. (untouched (sight_of w), tells_other part line (first_is_false (is_told_apart line) (is_placing line) apart));
+  says = λ part line w g apart. (untouched (sight_of w), tells_other part line (first_is_false (is_told_apart line) (is_placing line) (first_is_false (is_apart line) (is_of_region line) apart)));
   rests = λ w g. (untouched (sight_of w), refl);
   leads_on = λ a b c {xs} {ys} p q. (untouched-then (sight_of a) (sight_of b) (sight_of c) p.0 q.0, none-append xs ys p.1 q.1);
   settles = λ p a b xs k. (k.0, released-lines p [] xs k.1);
@@ -227,9 +241,11 @@ calm = record {
   awaits = λ name w g is. tt;
   edits_task = λ name f w g same_who same_frames same_state same_master same_clock. (edited-untouched name f w same_who same_clock, tells_none);
   edits_frames = λ name f w g same. (edited-untouched name (λ t. with_frames (f t.frames) t) w (λ t. refl) (λ t. refl), tells_none);
-  pushes_on = λ name onward f x w g may top region release abortable. (pushed_on-untouched name onward f w, tells_none);
-  opens_abortable = λ name f w g o region release. (pushed-untouched name f w, tells_none);
+  pushes_on = λ name onward f x w g may top region release action abortable. (pushed_on-untouched name onward f w, tells_none);
+  opens_abortable = λ name f w g o region release action. (pushed-untouched name f w, tells_none);
   pops = λ name f w g may top action. (popped-untouched name w, tells_none);
+  begins_leaving = λ name f m r leaving w g may top is region left. (left-untouched name leaving w, λ more. refl);
+  has_left = λ name f m r w g may top is region left next. (popped-untouched name w, λ more. refl);
   readies = λ name w g o. (edited-untouched name (with_state Runnable) w (λ t. refl) (λ t. refl), tells_none);
   blocks = λ name waiting w g o. (edited-untouched name (with_state (Blocked waiting)) w (λ t. refl) (λ t. refl), tells_none);
   places = λ p part name end w g may. (untouched (sight_of w), λ more. refl);
@@ -246,31 +262,42 @@ calm = record {
   forgets_call = λ c w g. still w;
   edits_object = λ o f w g number actions. still w;
   adds_object = λ p l u w g. still w;
-  enters = λ name o mode w g h. (untouched (sight_of w), λ more. refl);
-  visits = λ name o mode xs w v g h quiet k. (k.0, λ more. tells_both [] [] xs (own (said.Exit name o) ∷ []) (tells_others xs (quiet-others xs quiet)) (λ rest. refl) more);
+  inside = λ name o mode w g h. tt;
+  visits = λ name o mode xs w v g h quiet k. (k.0, λ more. tells_both [] [] xs (own (said.Exit name o) ∷ []) (tells_others xs (quiet-others xs (less-quiet xs quiet))) (λ rest. refl) more);
   finds_held = λ name o mode w g h. (untouched (sight_of w), λ more. refl);
   appoints = λ due moment w g other later. (appointed-untouched due moment w other, tells_none);
   drops_appointment = λ test w g spares. (dropped-untouched test w spares, tells_none);
-  registers = λ r l w g. still w;
-  unregisters = λ n w g. still w;
+  registers = λ name l w g. (untouched (sight_of w), λ more. refl);
+  finalizes = λ name f m r x w g may top is region left next. (untouched (sight_of w), λ more. refl);
+  replaces = λ name l x w g found. (untouched (sight_of w), λ more. refl);
   draws_event = λ w g. still w;
   adds_timer = λ t w g. (declared-untouched t (sight_of w), tells_none);
   adds_budget = λ w g. (budgets-only (sight_of w) (w.budgets ++ no_budget ∷ []) (λ k. appended-seen (λ (b : Budget). b.handler) no_budget no_budget refl w.budgets k), tells_none);
   edits_budget = λ b f w g same. (budgets-only (sight_of w) (edit_at b f w.budgets) (λ k. edited-seen (λ (x : Budget). x.handler) f no_budget same b w.budgets k), tells_none);
 }
 
-pub calm_openings : Openings AnyWorld Anybody Anybody AnyRegion Calmly
+begins-calm : (name : Who) (o : ObjectNo) (mode : Mode) (call : Option CallNo) (release : Option ℕ) → Begins AnyWorld Calmly name o mode call release
+begins-calm name o mode call release w v xs good lets k =
+    let f = new_frame (new_protected_mark o mode call release) None in
+    (untouched-then (sight_of w) (sight_of v) (sight_of (push name f v)) k.0 (pushed-untouched name f v), tells_both [] [] (own (said.Enter name o mode) ∷ []) xs (λ more. refl) k.1)
+
+pub calm_openings : MarkOpenings AnyWorld Anybody Anybody Calmly
 calm_openings = record {
-  pushes = λ name f w g may region release abortable. (pushed-untouched name f w, tells_none);
+  pushes = λ name f w g may region release action abortable. (pushed-untouched name f w, tells_none);
+  begins = λ name o mode call may w v xs g lets k. begins-calm name o mode call None w v xs g lets k;
   opens_scope = λ p name scope b purpose w g may. (opened-untouched p (scope_of p scope).kept name (new_frame (new_scope_mark (next_id w) (region_of_next (scope_of p scope).kept w) purpose) (scope_of p scope).first) (begin_scope p name scope b w), tells_none);
   outside = λ name w g may is. tt;
   within_part = λ name f w g may top is. tt;
+}
+
+pub calm_regions : OwnRegions AnyWorld Anybody Anybody AnyRegion
+calm_regions = record {
   owned = λ name f r w g may top is. tt;
   awaits_dependents = λ name r w g may owns is. tt;
 }
 
-pub calm_exits : Exits AnyWorld Anybody AnyRelease Calmly
-calm_exits = record { exits = λ name m w g may end. (popped-untouched name w, λ more. refl) }
+pub calm_ends : ActionEnds AnyWorld Anybody AnyRelease Anyhow Calmly
+calm_ends = record { exits = λ name m w g may may_end held. (popped-untouched name w, λ more. refl) }
 
-pub calm_freely : Freely Calmly
-calm_freely = record { has_served = λ r w is. (untouched (sight_of w), λ more. refl); pushes = λ name f w. (pushed-untouched name f w, tells_none) }
+pub calm_handlers : HandlerMoves AnyWorld Calmly
+calm_handlers = record { handles = λ o n w v xs g lets k. begins-calm who.Agent o Write None (Some n) w v xs g lets k; has_served = λ r w g is. (untouched (sight_of w), λ more. refl) }

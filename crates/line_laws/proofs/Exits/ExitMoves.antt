@@ -20,11 +20,12 @@ use Rattle.profile_machine.specs.Tasks.{edit_task, with_state, with_frames}
 use Rattle.profile_machine.specs.Frames.{push, pop, edit_first, edit_top, goes_on, with_mark}
 use Rattle.profile_machine.specs.Controlled.{edit_scope_mark, edit_top_scope}
 use Rattle.profile_machine.specs.Tasking.{being_left_mark, left_so_frame}
+use Rattle.profile_machine.specs.Handlers.{clock_risen}
 use Rattle.machine_laws.specs.LineKinds.{is_of_tock}
 use Rattle.line_laws.proofs.Ticks.LineByLine.{seen_behind-append, Follow-append}
 use Rattle.line_laws.specs.ExitLaws.{exits_rightly}
 use Rattle.machine_laws.proofs.FineMoves.{AnyWorld, Anybody, each-anybody, gone_on}
-use Rattle.machine_laws.proofs.FinestMoves.{FinestMoves, AllMoves, TockChanges, natures, action_in}
+use Rattle.machine_laws.proofs.FinestMoves.{FinestMoves, AllMoves, SettingMoves, TockChanges, natures, action_in}
 use Rattle.machine_laws.proofs.Kept.Frames.{first-natures}
 use Rattle.line_laws.proofs.Exits.OpenCounts.{count-first}
 use Rattle.line_laws.proofs.Exits.Steady.{Holds}
@@ -77,7 +78,7 @@ fine = record {
   task_other = λ n. tt;
   listed = λ w g. each-anybody w.tasks;
   awaits = λ name w g is. tt;
-  edits_task = λ name f w g same_who same_frames same_state same_master. state-tells name f w same_who same_frames;
+  edits_task = λ name f w g same_who same_frames same_state same_master same_clock. state-tells name f w same_who same_frames;
   edits_frames = λ name f w g same. moved w (edit_task name (λ t. with_frames (f t.frames) t) w) (same-tied name (λ t. with_frames (f t.frames) t) w (λ t. refl) (λ t. same t.frames));
   pushes_on = λ name onward f g w good may top region release action abortable c s h. (s, refl, pushed-tied name f (gone_on name onward w) action c s (gone-tied name onward w c s h));
   opens_abortable = λ name f w g o region release action. moved w (push name f w) (pushed-tied name f w action);
@@ -88,7 +89,7 @@ fine = record {
   blocks = λ name waiting w g o. state-tells name (with_state (Blocked waiting)) w (λ t. refl) (λ t. refl);
   places = λ p part name end w g may c s h. (s, refl, h);
   says_blocked = λ part name waiting w g o c s h. (s, refl, h);
-  adds_task = λ name onward t w g o same_who none master c s h. (s, refl, added-tied t (gone_on name onward w) none c s (gone-tied name onward w c s h));
+  adds_task = λ name onward t w g o same_who none master clock c s h. (s, refl, added-tied t (gone_on name onward w) none c s (gone-tied name onward w c s h));
   forgets_task = λ name w g c s h. (s, refl, forgotten-tied name w c s h);
   sets_quantum = λ level ticks w g. unmoved w;
   ends_environment = λ leaving w g. unmoved w;
@@ -103,19 +104,27 @@ fine = record {
   inside = λ name o mode w g lets. tt;
   visits = λ name o mode xs w v g lets quiet k. visits-tells name o mode xs w v quiet k;
   finds_held = λ name o mode w g finds c s h. (s, refl, h);
-  appoints = λ due moment w g later. unmoved w;
-  drops_appointment = λ test w g. unmoved w;
+  appoints = λ due moment w g other later. unmoved w;
+  drops_appointment = λ test w g spares. unmoved w;
   registers = λ name l w g c s h. (s, refl, h);
   finalizes = λ name f m r x w g may top is region left next c s h. (s, refl, h);
   replaces = λ name l x w g found c s h. (s, refl, h);
   draws_event = λ w g. unmoved w;
   adds_timer = λ t w g. unmoved w;
-  clears_timer = λ k w g. unmoved w;
-  sets_timer = λ k h value w g. unmoved w;
-  sets_timers_due = λ timers w g. unmoved w;
   adds_budget = λ w g. unmoved w;
-  edits_budget = λ b f w g. unmoved w;
+  edits_budget = λ b f w g same. unmoved w;
+}
+
+settings : SettingMoves AnyWorld Tells
+settings = record {
+  appoints_event = λ n handler moment w g later. unmoved w;
+  drops_any = λ test w g. unmoved w;
+  clears_timer = λ k w g. unmoved w;
+  sets_timer = λ k handler value w g. unmoved w;
+  sets_timers_due = λ timers w g. unmoved w;
+  sets_budget = λ b f w g. unmoved w;
   sets_budget_due = λ budget w g. unmoved w;
+  counts = λ t w g. state-tells (who.Task t) clock_risen w (λ u. refl) (λ u. refl);
   sets_port = λ n value w g. unmoved w;
   masks = λ n flag w g. unmoved w;
   keeps_interrupt = λ n flag w g. unmoved w;
@@ -137,9 +146,12 @@ telling = record {
     awaits_dependents = λ name r w g may owns is. tt;
   };
   ends = record { exits = λ name m w g may may_end held. ends-tells name m w (held-on_top name m.object w held) };
-  handles = λ o n w v xs g lets k. begins-tells who.Agent o Write None (Some n) w v xs k;
+  handlers = record {
+    handles = λ o n w v xs g lets k. begins-tells who.Agent o Write None (Some n) w v xs k;
+    has_served = λ r w g is c s h. (s, refl, h);
+  };
+  settings = settings;
   releases = λ handler argument w g c s h. (s, refl, h);
-  has_served = λ r w g is c s h. (s, refl, h);
 }
 
 -- what a tock does besides

@@ -52,7 +52,7 @@ use Rattle.line_laws.proofs.Handlers.AgentWorlds.{Colour, RegionOwned, Attends, 
 use Rattle.line_laws.proofs.Handlers.AgentMarks.{Rooted, Standing, Emptied, rooted, emptied, stands_rooted}
 use Rattle.line_laws.proofs.Handlers.SparedMoves.{agent_runs, Spared, spares, spared_puts}
 use Rattle.line_laws.proofs.Handlers.SparedReleases.{release-from}
-use Rattle.line_laws.proofs.Handlers.OwnMoves.{Busy, BusyStep, coarse_busies, busies, busy_openings, spared}
+use Rattle.line_laws.proofs.Handlers.OwnMoves.{Busy, BusyStep, coarse_busies, busies, busy_settings, busy_openings, spared}
 use Rattle.machine_laws.proofs.Kept.Act.{act_statement-keeps}
 use Rattle.line_laws.proofs.Handlers.Mixed.{from_by, keeps_at, then_by, looks_by, when_by, either_by, nothing_by, changes_by, changes_then}
 use Rattle.line_laws.proofs.Handlers.Attending.{Marked, Attending, Placing, calm_so, closes_so, called-append, or_false, Acted, busy-attends, busy-acted, attending-spared, then_spared}
@@ -140,7 +140,7 @@ statement-from : (p : Image) (f : Frame) (s : StatementNo) (w : World) → Busy 
 unfolding act_frame
 statement-from p f s w good =
     from_by (BusyStep Rooted None) Acted _ w (λ v xs k. busy-acted Rooted stands_rooted None w xs v good.runs k)
-    (keeps-from (busies rooted None) _ w good (act_statement-keeps (busies rooted None) (busy_openings None) busy_releasing p (busy_puts p) who.Agent s (form_of p s) tt refl))
+    (keeps-from (busies rooted None) _ w good (act_statement-keeps (busies rooted None) (busy_openings None) (busy_settings rooted None) busy_releasing p (busy_puts p) who.Agent s (form_of p s) tt refl))
 
 -- the end of a mark on top
 unaction-from : (p : Image) (f : Frame) (mark : Mark) (w : World) → Busy Rooted None w → top_of w who.Agent ≡ Some f → f.mark ≡ mark → is_protected mark ≡ false → From Acted w (end_mark p who.Agent f mark)
@@ -307,7 +307,7 @@ pub agent_effect-from : (p : Image) (w : World) → Attending w → From Acted w
 unfolding effect
 agent_effect-from p w h =
     let begun = edit_task who.Agent (with_ticks None) w in
-    let first : Spared h.colour true w [] begun = (spares h.colour true).edits_task who.Agent (with_ticks None) w h.apart (λ t. refl) (λ t. refl) (λ t. refl) (λ t. refl) in
+    let first : Spared h.colour true w [] begun = (spares h.colour true).edits_task who.Agent (with_ticks None) w h.apart (λ t. refl) (λ t. refl) (λ t. refl) (λ t. refl) (λ t. refl) in
     let attending : Attending begun = attending-spared h.colour true w begun h first in
     changes_then Acted Acted (edit_task who.Agent (with_ticks None)) (act p who.Agent ▷ open_if_ready p who.Agent ▷ take_terminates p who.Agent ▷ unwind_all p who.Agent) w
     (λ u zs k. record { attending = k.attending; placing = k.placing })

@@ -25,7 +25,7 @@ use Rattle.machine_laws.proofs.Kept.Scopes.{open_scope-alters}
 use Rattle.machine_laws.proofs.Kept.Instant.{behind_action-leads}
 use Rattle.line_laws.proofs.Handlers.AgentLines.{placed_behind, placed_behind-append}
 use Rattle.line_laws.proofs.Handlers.AgentWorlds.{Colour, Apart}
-use Rattle.line_laws.proofs.Handlers.SparedMoves.{agent_runs, Spared, SparedMove, spares, spared_openings}
+use Rattle.line_laws.proofs.Handlers.SparedMoves.{agent_runs, Spared, SparedMove, spares, spared_settings, spared_openings}
 use Rattle.line_laws.proofs.Handlers.SparedReleases.{spared_releasing}
 use Rattle.line_laws.proofs.Handlers.Mixed.{from_by, keeps_at}
 use Rattle.line_laws.proofs.Handlers.Attending.{Marked, Attending, Acted, placing-lines, spared-acted}
@@ -96,7 +96,7 @@ behind-attended : (p : Image) (w : World) → Attending w → let m = (script_it
 unfolding Leads
 behind-attended p w h =
     let m = (script_items p ▶ events_due p ▶ moments_due p ▶ timers_due p ▶ budgets_due p ▶ quantum_spent p) w in
-    spared-attended h.colour w m.0 m.1 h (behind_action-leads (spares h.colour true) (spared_releasing h.colour) p w h.apart)
+    spared-attended h.colour w m.0 m.1 h (behind_action-leads (spares h.colour true) (spared_settings h.colour true) (spared_releasing h.colour) p w h.apart)
 
 pub instant-attended : (p : Image) (w : World) → Attending w → Attended w (instant p w).1 (instant p w).0
 instant-attended p w h =

@@ -23,7 +23,7 @@ use Rattle.machine_laws.proofs.Kept.Combinators.{Alters}
 use Rattle.machine_laws.proofs.Kept.Handlers.{charge-alters}
 use Rattle.machine_laws.proofs.Kept.Run.{before_tick, tock-parts}
 use Rattle.line_laws.proofs.Handlers.AgentMarks.{Standing}
-use Rattle.line_laws.proofs.Handlers.SparedMoves.{agent_runs, Spared, spares}
+use Rattle.line_laws.proofs.Handlers.SparedMoves.{agent_runs, Spared, spares, spared_settings}
 use Rattle.line_laws.proofs.Handlers.Attending.{Marked, Attending, attending-spared, or_false}
 
 -- ---- who runs, by lines
@@ -134,9 +134,9 @@ module _ (p : Image) (name : Who) where
       let moves = spares h.colour true in
       let begun = begin_action p name w in
       let paid = charge p name begun in
-      let first = moves.edits_task name (with_ticks (Some (ticks_or (task_of w name).ticks_left (cost p w name)))) w h.apart (λ t. refl) (λ t. refl) (λ t. refl) (λ t. refl) in
-      let second = charge-alters moves p name begun (moves.behind w begun first) in
-      let third = moves.edits_task name (λ t. with_ticks (one_tick_less t.ticks_left) t) paid (moves.behind begun paid second) (λ t. refl) (λ t. refl) (λ t. refl) (λ t. refl) in
+      let first = moves.edits_task name (with_ticks (Some (ticks_or (task_of w name).ticks_left (cost p w name)))) w h.apart (λ t. refl) (λ t. refl) (λ t. refl) (λ t. refl) (λ t. refl) in
+      let second = charge-alters moves (spared_settings h.colour true) p name begun (moves.behind w begun first) in
+      let third = moves.edits_task name (λ t. with_ticks (one_tick_less t.ticks_left) t) paid (moves.behind begun paid second) (λ t. refl) (λ t. refl) (λ t. refl) (λ t. refl) (λ t. refl) in
       moves.goes_on w begun (charged p name w) {xs = []} {ys = []} first (moves.goes_on begun paid (charged p name w) {xs = []} {ys = []} second third)
 
   charged-ticked : (w v : World) → Ticked (Some name) w v → Ticked (Some name) w (charged p name v)

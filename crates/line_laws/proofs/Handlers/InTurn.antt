@@ -339,7 +339,7 @@ charged-unmoved p name w =
     let begun = begin_action p name w in
     let paid = charge p name begun in
     unmoved-then w begun (charged p name w) (edit_task-unmoved name (with_ticks (Some (ticks_or (task_of w name).ticks_left (cost p w name)))) w)
-    (unmoved-then begun paid (charged p name w) (charge-alters (all_of tells_turns).fine p name begun tt) (edit_task-unmoved name (λ t. with_ticks (one_tick_less t.ticks_left) t) paid))
+    (unmoved-then begun paid (charged p name w) (charge-alters (all_of tells_turns).fine (all_of tells_turns).settings p name begun tt) (edit_task-unmoved name (λ t. with_ticks (one_tick_less t.ticks_left) t) paid))
 
 served-lead_on : (p : Image) (name : Who) (s : Releases) (w : World) → ShowsTurn s w → let done = serve name w in LeadsOn s (done.1 ++ []) (charged p name done.0)
 served-lead_on p name s w h =

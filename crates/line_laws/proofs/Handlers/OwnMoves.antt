@@ -22,7 +22,7 @@ use Rattle.profile_machine.specs.Frames.{edit_first, goes_on, push, pop, without
 use Rattle.profile_machine.specs.Scopes.{begin_scope, draw_region, region_of_next, open_scope, next_id, new_scope_mark}
 use Rattle.profile_machine.specs.Protected.{new_protected_mark}
 use Rattle.machine_laws.proofs.FineMoves.{FineMoves, Anybody, Nature, nature, natures, is_abortable, ready_line, gone_on}
-use Rattle.machine_laws.proofs.FinestMoves.{FinestMoves, MarkOpenings, finest, begun}
+use Rattle.machine_laws.proofs.FinestMoves.{FinestMoves, SettingMoves, setting_moves, MarkOpenings, finest, begun}
 use Rattle.line_laws.proofs.Handlers.AgentLines.{placed_behind, placed_behind-append, are_calls, NoneBlocks, NoneBlocks-append, lines-call}
 use Rattle.line_laws.proofs.Handlers.AgentWorlds.{IsTask, Colour, RegionOwned, MarksOwned, Apart}
 use Rattle.line_laws.proofs.Handlers.AgentMarks.{Rooted, Stacking, rooted, rooted-unabortable, rooted-inside, has_top, rooted-pushed, with_next, tasks-free, region-owned, marks-owned, next-drawn, next-none, next-owned}
@@ -202,6 +202,9 @@ module _ {Stands : List Nature → Type 0} (stacking : Stacking Stands) (held : 
 
   pub busies : FinestMoves (Busy Stands held) Anybody IsTask (BusyStep Stands held) (BusyMove Stands held)
   busies = finest coarse_busies
+
+  pub busy_settings : SettingMoves (Busy Stands held) (BusyStep Stands held)
+  busy_settings = setting_moves coarse_busies
 
 -- ---- the agent opens marks above its action
 

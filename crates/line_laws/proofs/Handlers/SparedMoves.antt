@@ -38,7 +38,7 @@ use Rattle.profile_machine.specs.Tasking.{add_task}
 use Rattle.profile_machine.specs.Serving.{close_action}
 use Rattle.machine_laws.proofs.Moves.{Puts, own}
 use Rattle.machine_laws.proofs.FineMoves.{FineMoves, Openings, Exits, AnyRegion, nature, natures, is_apart, AreQuiet, ready_line, edit_task-drawn}
-use Rattle.machine_laws.proofs.FinestMoves.{FinestMoves, MarkOpenings, OwnRegions, ActionEnds, Anyhow, finest, mark_openings, own_regions, action_ends}
+use Rattle.machine_laws.proofs.FinestMoves.{FinestMoves, SettingMoves, setting_moves, MarkOpenings, OwnRegions, ActionEnds, Anyhow, finest, mark_openings, own_regions, action_ends}
 use Rattle.line_laws.proofs.Handlers.AgentLines.{placed_behind, placed_behind-append, calls_agent, blocks_agent, are_calls, are_calls-append, NoneBlocks, NoneBlocks-append, lines-call}
 use Rattle.line_laws.proofs.Handlers.AgentWorlds.{IsTask, Colour, RegionFree, MarksFree, TaskFree, TasksFree, MarksOwned, Attends, Apart, TasksFree-later, next-free, set-free, found-free, filter-free, append-free, listed-free, top_region-free}
 
@@ -457,6 +457,9 @@ module _ (colour : Colour) (wakes : Bool) where
 
   pub spares : FinestMoves G IsTask IsTask R Q
   spares = finest coarse_spares
+
+  pub spared_settings : SettingMoves G R
+  spared_settings = setting_moves coarse_spares
 
   pub spared_openings : MarkOpenings G IsTask IsTask R
   spared_openings = mark_openings coarse_spares coarse_openings

@@ -66,7 +66,7 @@ woken colour p w good awaited =
     let level = keep_level p who.Agent made in
     let after = grant_quantum p who.Agent level in
     let fresh : Apart colour made = record { tasks = good.tasks; marks = good.marks; attends = tt; drawn = good.drawn; none = good.none } in
-    let first : Spared colour true made [] level = (spares colour true).edits_task who.Agent (λ t. record t { kept_level = level_kept_by p made t (edf_low p t.base) }) made fresh (λ t. refl) (λ t. refl) (λ t. refl) (λ t. refl) in
+    let first : Spared colour true made [] level = (spares colour true).edits_task who.Agent (λ t. record t { kept_level = level_kept_by p made t (edf_low p t.base) }) made fresh (λ t. refl) (λ t. refl) (λ t. refl) (λ t. refl) (λ t. refl) in
     let second : Spared colour true level [] after = grant_quantum-alters (spares colour true) p who.Agent level first.apart in
     record {
       apart = second.apart;

@@ -8,6 +8,7 @@ use Rattle.profile_machine.specs.declared.world.marks.Frame.{Frame}
 use Rattle.profile_machine.specs.declared.world.marks.Mark.TheVariants.{InProtected}
 use Rattle.profile_machine.specs.declared.world.marks.ProtectedMark.{ProtectedMark}
 use Rattle.profile_machine.specs.Steps.{◌▷◌}
+use Rattle.profile_machine.specs.Program.{form_of}
 use Rattle.profile_machine.specs.Tasks.{edit_task, with_ticks}
 use Rattle.profile_machine.specs.Frames.{frames_of, top_of, leaving_of, open_if_ready}
 use Rattle.profile_machine.specs.Tasking.{take_terminates, unwind_all}
@@ -19,10 +20,10 @@ use Rattle.machine_laws.proofs.Kept.Combinators.{Keeps, nothing-keeps, From, kee
 use Rattle.machine_laws.proofs.Kept.Frames.{open_if_ready-keeps}
 use Rattle.machine_laws.proofs.Kept.Serving.{end_in_protected-from, stays_anyhow}
 use Rattle.machine_laws.proofs.Kept.Tasking.{take_terminates-keeps, unwind_all-keeps}
-use Rattle.machine_laws.proofs.Kept.Act.{act-from}
+use Rattle.machine_laws.proofs.Kept.Act.{act_statement-keeps, act-from}
 use Rattle.line_laws.proofs.Handlers.AgentWorlds.{Colour, MarksFree, Apart, marks-free}
 use Rattle.line_laws.proofs.Handlers.AgentMarks.{has_top}
-use Rattle.line_laws.proofs.Handlers.SparedMoves.{Spared, spares, spared_openings, spared_regions, spared_ends, spared_puts}
+use Rattle.line_laws.proofs.Handlers.SparedMoves.{Spared, spares, spared_openings, spared_regions, spared_settings, spared_ends, spared_puts}
 use Rattle.line_laws.proofs.Handlers.SparedReleases.{spared_releasing}
 use Rattle.line_laws.proofs.Handlers.AgentServes.{spared-ending}
 
@@ -42,8 +43,9 @@ module _ (colour : Colour) where
 
   task_act-from : (p : Image) (n : TaskNo) (w : World) → Apart colour w → From (Spared colour true) w (act p (who.Task n))
   task_act-from p n w good =
-      act-from (spares colour true) (spared_openings colour true) (spared_regions colour true) (spared_releasing colour) p (spared_puts colour true p) (who.Task n) w good tt
+      act-from (spares colour true) (spared_openings colour true) (spared_regions colour true) p (who.Task n) w good tt
       (keeps-from (spares colour true) _ w good (without-keeps p n w.serving))
+      (λ f s top is. keeps-from (spares colour true) _ w good (act_statement-keeps (spares colour true) (spared_openings colour true) (spared_settings colour true) (spared_releasing colour) p (spared_puts colour true p) (who.Task n) s (form_of p s) tt refl))
       (λ f m top is. end_in_protected-from (spares colour true) (spared_openings colour true) (spared_ends colour true) (spared-ending colour) stays_anyhow p (who.Task n) m (leaving_of f) tt (no_release n f m w good top is) w good tt)
 
   -- ---- its effect
@@ -53,7 +55,7 @@ module _ (colour : Colour) where
   task_effect-from p n w good =
       let moves = spares colour true in
       let begun = edit_task (who.Task n) (with_ticks None) w in
-      let first : Spared colour true w [] begun = moves.edits_task (who.Task n) (with_ticks None) w good (λ t. refl) (λ t. refl) (λ t. refl) (λ t. refl) in
+      let first : Spared colour true w [] begun = moves.edits_task (who.Task n) (with_ticks None) w good (λ t. refl) (λ t. refl) (λ t. refl) (λ t. refl) (λ t. refl) in
       let behind = open_if_ready p (who.Task n) ▷ take_terminates p (who.Task n) ▷ unwind_all p (who.Task n) in
       changes_then-from moves (edit_task (who.Task n) (with_ticks None)) (act p (who.Task n) ▷ behind) w first
       (then-from moves (act p (who.Task n)) behind begun (task_act-from p n begun first.apart)

@@ -291,7 +291,7 @@ charged-unmoved p name w =
     let begun = begin_action p name w in
     let paid = charge p name begun in
     unmoved-then w begun (charged p name w) (edit_task-unmoved name (with_ticks (Some (ticks_or (task_of w name).ticks_left (cost p w name)))) w)
-    (unmoved-then begun paid (charged p name w) (charge-alters (all_of tells_releases).fine p name begun tt) (edit_task-unmoved name (λ t. with_ticks (one_tick_less t.ticks_left) t) paid))
+    (unmoved-then begun paid (charged p name w) (charge-alters (all_of tells_releases).fine (all_of tells_releases).settings p name begun tt) (edit_task-unmoved name (λ t. with_ticks (one_tick_less t.ticks_left) t) paid))
 
 charged-lead_on : (p : Image) (name : Who) (c : Counts) (lines : List Event) (w : World) → LeadsOn c lines w → LeadsOn c lines (charged p name w)
 charged-lead_on p name c lines w h = record { follow = h.follow; shows = shows-unmoved (counts_behind c lines) w (charged p name w) h.shows (charged-unmoved p name w) }

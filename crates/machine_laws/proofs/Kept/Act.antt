@@ -1,5 +1,7 @@
 -- The effect of an action: each step keeps a relation that its parts keep.
-use Rattle.std.proofs.Common.{◌≡◌, refl, ap, false}
+use Rattle.std.proofs.lemmas.Bool.{false≢true}
+use Rattle.profile_machine.specs.Appointments.{is_trigger_of}
+use Rattle.std.proofs.Common.{◌≡◌, refl, ap, false, Bool, true}
 use Rattle.std.specs.Prelude.{ℕ, List, Option, Some, None}
 use Rattle.ann_base.specs.declared.exceptions.Raised.{Raised}
 use Rattle.trace_text.specs.declared.events.Who.{Who}
@@ -29,7 +31,7 @@ use Rattle.profile_machine.specs.Tasking.{leave_region}
 use Rattle.profile_machine.specs.Act.{call_main, call, handle_or_pass, behind_handled, end_handled, end_top, wait_for_trigger, drop_trigger, below, end_abortable_by, end_in_abortable, act_statement, end_mark, act_frame, act_without, act_top, act, keeping, waiting_mark}
 use Rattle.machine_laws.proofs.Moves.{StepRelation, MoveRelation, Puts}
 use Rattle.machine_laws.proofs.FineMoves.{GoodWorld, Naming, is_abortable}
-use Rattle.machine_laws.proofs.FinestMoves.{FinestMoves, MarkOpenings, OwnRegions, AllMoves, Holding, Anyhow, nature}
+use Rattle.machine_laws.proofs.FinestMoves.{FinestMoves, MarkOpenings, OwnRegions, SettingMoves, AllMoves, Holding, Anyhow, nature}
 use Rattle.profile_machine.specs.Tasks.{edit_task, with_ticks}
 use Rattle.machine_laws.proofs.Kept.Combinators.{Keeps, Alters, changes-keeps, cond-keeps, looks-keeps, nothing-keeps, option-keeps, sees-keeps, then-keeps, unchanged-alters, From, keeps-from, looks_at-from, changes_then-from}
 use Rattle.machine_laws.proofs.Kept.Dispatching.{block-keeps}
@@ -70,6 +72,16 @@ keeping-nature e (InAssign m) = refl
 waiting-nature : (x : Frame) → nature (edit_abortable waiting_mark x.mark) ≡ nature x.mark
 waiting-nature x = abortable-nature waiting_mark x.mark
 
+-- a statement that asks nothing of an event, a timer or a budget's handler
+abbrev pub asks_nothing : StatementForm → Bool
+asks_nothing (form.SetEvent event set handler) = false
+asks_nothing (form.CancelEvent event cancelled) = false
+asks_nothing (form.SetTimer timer set handler) = false
+asks_nothing (form.CancelTimer timer cancelled) = false
+asks_nothing (form.SetBudget budget handler) = false
+asks_nothing (form.CancelBudget budget cancelled) = false
+asks_nothing _ = true
+
 module _ {G : GoodWorld} {May Other : Naming} {R : StepRelation} {Q : MoveRelation} (moves : FinestMoves G May Other R Q) where
   pub handle_or_pass-keeps : (p : Image) (name : Who) (e : Raised) (next : Option StatementNo) → Keeps G R (handle_or_pass p name e next)
   unfolding handle_or_pass
@@ -100,7 +112,7 @@ module _ {G : GoodWorld} {May Other : Naming} {R : StepRelation} {Q : MoveRelati
   wait_for_trigger-keeps name c leaving other = search (changes-keeps, edit_top-alters, waiting-nature, then-keeps, block-keeps)
 
   pub drop_trigger-alters : (name : Who) (depth : ℕ) → Alters G R (drop_trigger name depth)
-  drop_trigger-alters (who.Task t) depth = search (drop_appointment-alters)
+  drop_trigger-alters (who.Task t) depth = drop_appointment-alters moves (is_trigger_of t depth) (λ n h. refl)
   drop_trigger-alters who.Agent depth = search (unchanged-alters)
 
   pub end_abortable_by-keeps : (p : Image) (name : Who) (m : AbortableMark) (leaving : Leaving) → Other name → Keeps G R (end_abortable_by p name m leaving)
@@ -135,77 +147,90 @@ module _ {G : GoodWorld} {May Other : Naming} {R : StepRelation} {Q : MoveRelati
   end_mark-from p name f (InFinalize o) w good may top is leaves action = end_in_finalize-from moves p name (leaving_of f) f w good may top (ap is_protected is)
   end_mark-from p name f (InAssign m) w good may top is leaves action = end_in_assign-from moves openings p name m f.left_as f w good may top (ap is_protected is)
 
-module _ {G : GoodWorld} {May Other : Naming} {R : StepRelation} {Q : MoveRelation} (moves : FinestMoves G May Other R Q) (openings : MarkOpenings G May Other R) (releasing : Releasing G R) where
+module _ {G : GoodWorld} {May Other : Naming} {R : StepRelation} {Q : MoveRelation} (moves : FinestMoves G May Other R Q) (openings : MarkOpenings G May Other R) where
+  pub calm_statement-keeps : (p : Image) → Puts G R p → (name : Who) (s : StatementNo) (form : StatementForm) → May name → form_of p s ≡ form → asks_nothing form ≡ true → Keeps G R (act_statement p name s form)
+  unfolding act_statement
+  calm_statement-keeps p puts name s (form.Declare object) may is calm = search (declare-keeps)
+  calm_statement-keeps p puts name s (form.Initialize object) may is calm = search (initialize-keeps)
+  calm_statement-keeps p puts name s (form.CreateTask object part) may is calm = search (create-keeps)
+  calm_statement-keeps p puts name s (form.Activate part) may is calm = search (activate-keeps)
+  calm_statement-keeps p puts name s form.EndActivation may is calm = search (end_own_activation-keeps)
+  calm_statement-keeps p puts name s form.CallMain may is calm = search (call_main-keeps)
+  calm_statement-keeps p puts name s (form.Handled handlers first) may is calm = search (nothing-keeps)
+  calm_statement-keeps p puts name s form.Null may is calm = search (null-keeps)
+  calm_statement-keeps p puts name s (form.Assign target e) may is calm = search (assign-keeps)
+  calm_statement-keeps p puts name s (form.AssignArray target source) may is calm = search (assign_array-keeps)
+  calm_statement-keeps p puts name s (form.AssignControlled target source) may is calm = search (assign_controlled-keeps)
+  calm_statement-keeps p puts name s (form.If condition first otherwise) may is calm = search (if_statement-keeps)
+  calm_statement-keeps p puts name s (form.Case selector alternatives) may is calm = search (case_statement-keeps)
+  calm_statement-keeps p puts name s (form.Loop body within) may is calm = search (goes-keeps)
+  calm_statement-keeps p puts name s (form.While condition body within) may is calm = search (while_turn-keeps)
+  calm_statement-keeps p puts name s (form.For parameter reverse low high turn within) may is calm = search (for_bounds-keeps)
+  calm_statement-keeps p puts name s (form.FirstTurn parameter reverse body) may is calm = search (first_turn-keeps)
+  calm_statement-keeps p puts name s (form.LaterTurn parameter reverse body) may is calm = search (later_turn-keeps)
+  calm_statement-keeps p puts name s (form.Exit condition of_loop) may is calm = search (exit_statement-keeps)
+  calm_statement-keeps p puts name s (form.Block scope) may is calm = search (block_statement-keeps)
+  calm_statement-keeps p puts name s form.Return may is calm = search (return-keeps)
+  calm_statement-keeps p puts name s (form.ReturnValue function e) may is calm = search (return_value-keeps)
+  calm_statement-keeps p puts name s (form.Raise e) may is calm = search (raises-keeps)
+  calm_statement-keeps p puts name s (form.RaiseAgain scope) may is calm = search (raise_again-keeps)
+  calm_statement-keeps p puts name s (form.Delay e) may is calm = search (sees-keeps, delay_until-keeps)
+  calm_statement-keeps p puts name s (form.DelayUntil e) may is calm = search (sees-keeps, delay_until-keeps)
+  calm_statement-keeps p puts name s (form.Call callee actuals to) may is calm = search (call-keeps)
+  calm_statement-keeps p puts name s (form.PutLine pieces) may is calm = put_line-keeps moves p puts name s pieces is
+  calm_statement-keeps p puts name s (form.EntryCall entry owner actuals) may is calm = search (entry_call-keeps)
+  calm_statement-keeps p puts name s (form.ConditionalCall call otherwise) may is calm = search (entry_call-keeps)
+  calm_statement-keeps p puts name s (form.TimedCall call delay) may is calm = search (entry_call-keeps)
+  calm_statement-keeps p puts name s (form.AsynchronousSelect trigger abortable) may is calm = search (asynchronous_select-keeps)
+  calm_statement-keeps p puts name s (form.Accept entry scope) may is calm = search (accept-keeps)
+  calm_statement-keeps p puts name s (form.SelectiveAccept alternatives otherwise) may is calm = search (selective_accept-keeps)
+  calm_statement-keeps p puts name s (form.Abort tasks) may is calm = search (abort_statement-keeps)
+  calm_statement-keeps p puts name s (form.Requeue entry owner with_abort) may is calm = search (requeue-keeps)
+  calm_statement-keeps p puts name s (form.SetEvent event set handler) may is calm = absurd (false≢true calm)
+  calm_statement-keeps p puts name s (form.CancelEvent event cancelled) may is calm = absurd (false≢true calm)
+  calm_statement-keeps p puts name s (form.SetTimer timer set handler) may is calm = absurd (false≢true calm)
+  calm_statement-keeps p puts name s (form.CancelTimer timer cancelled) may is calm = absurd (false≢true calm)
+  calm_statement-keeps p puts name s (form.AddTask budget task) may is calm = search (add_member-keeps)
+  calm_statement-keeps p puts name s (form.RemoveTask budget task) may is calm = search (remove_member-keeps)
+  calm_statement-keeps p puts name s (form.Replenish budget to) may is calm = search (replenish-keeps)
+  calm_statement-keeps p puts name s (form.AddToBudget budget interval) may is calm = search (add_to_budget-keeps)
+  calm_statement-keeps p puts name s (form.SetBudget budget handler) may is calm = absurd (false≢true calm)
+  calm_statement-keeps p puts name s (form.CancelBudget budget cancelled) may is calm = absurd (false≢true calm)
+  calm_statement-keeps p puts name s (form.SetPriority priority task) may is calm = search (set_priority-keeps)
+  calm_statement-keeps p puts name s (form.SetQuantum level quantum) may is calm = search (set_quantum-keeps)
+  calm_statement-keeps p puts name s (form.SetDeadline deadline task) may is calm = search (set_deadline_of-keeps)
+  calm_statement-keeps p puts name s (form.DelayUntilAndSetDeadline until offset) may is calm = search (delay_and_set_deadline-keeps)
+
+module _ {G : GoodWorld} {May Other : Naming} {R : StepRelation} {Q : MoveRelation} (moves : FinestMoves G May Other R Q) (openings : MarkOpenings G May Other R) (settings : SettingMoves G R) (releasing : Releasing G R) where
   pub act_statement-keeps : (p : Image) → Puts G R p → (name : Who) (s : StatementNo) (form : StatementForm) → May name → form_of p s ≡ form → Keeps G R (act_statement p name s form)
   unfolding act_statement
-  act_statement-keeps p puts name s (form.Declare object) may is = search (declare-keeps)
-  act_statement-keeps p puts name s (form.Initialize object) may is = search (initialize-keeps)
-  act_statement-keeps p puts name s (form.CreateTask object part) may is = search (create-keeps)
-  act_statement-keeps p puts name s (form.Activate part) may is = search (activate-keeps)
-  act_statement-keeps p puts name s form.EndActivation may is = search (end_own_activation-keeps)
-  act_statement-keeps p puts name s form.CallMain may is = search (call_main-keeps)
-  act_statement-keeps p puts name s (form.Handled handlers first) may is = search (nothing-keeps)
-  act_statement-keeps p puts name s form.Null may is = search (null-keeps)
-  act_statement-keeps p puts name s (form.Assign target e) may is = search (assign-keeps)
-  act_statement-keeps p puts name s (form.AssignArray target source) may is = search (assign_array-keeps)
-  act_statement-keeps p puts name s (form.AssignControlled target source) may is = search (assign_controlled-keeps)
-  act_statement-keeps p puts name s (form.If condition first otherwise) may is = search (if_statement-keeps)
-  act_statement-keeps p puts name s (form.Case selector alternatives) may is = search (case_statement-keeps)
-  act_statement-keeps p puts name s (form.Loop body within) may is = search (goes-keeps)
-  act_statement-keeps p puts name s (form.While condition body within) may is = search (while_turn-keeps)
-  act_statement-keeps p puts name s (form.For parameter reverse low high turn within) may is = search (for_bounds-keeps)
-  act_statement-keeps p puts name s (form.FirstTurn parameter reverse body) may is = search (first_turn-keeps)
-  act_statement-keeps p puts name s (form.LaterTurn parameter reverse body) may is = search (later_turn-keeps)
-  act_statement-keeps p puts name s (form.Exit condition of_loop) may is = search (exit_statement-keeps)
-  act_statement-keeps p puts name s (form.Block scope) may is = search (block_statement-keeps)
-  act_statement-keeps p puts name s form.Return may is = search (return-keeps)
-  act_statement-keeps p puts name s (form.ReturnValue function e) may is = search (return_value-keeps)
-  act_statement-keeps p puts name s (form.Raise e) may is = search (raises-keeps)
-  act_statement-keeps p puts name s (form.RaiseAgain scope) may is = search (raise_again-keeps)
-  act_statement-keeps p puts name s (form.Delay e) may is = search (sees-keeps, delay_until-keeps)
-  act_statement-keeps p puts name s (form.DelayUntil e) may is = search (sees-keeps, delay_until-keeps)
-  act_statement-keeps p puts name s (form.Call callee actuals to) may is = search (call-keeps)
-  act_statement-keeps p puts name s (form.PutLine pieces) may is = put_line-keeps moves p puts name s pieces is
-  act_statement-keeps p puts name s (form.EntryCall entry owner actuals) may is = search (entry_call-keeps)
-  act_statement-keeps p puts name s (form.ConditionalCall call otherwise) may is = search (entry_call-keeps)
-  act_statement-keeps p puts name s (form.TimedCall call delay) may is = search (entry_call-keeps)
-  act_statement-keeps p puts name s (form.AsynchronousSelect trigger abortable) may is = search (asynchronous_select-keeps)
-  act_statement-keeps p puts name s (form.Accept entry scope) may is = search (accept-keeps)
-  act_statement-keeps p puts name s (form.SelectiveAccept alternatives otherwise) may is = search (selective_accept-keeps)
-  act_statement-keeps p puts name s (form.Abort tasks) may is = search (abort_statement-keeps)
-  act_statement-keeps p puts name s (form.Requeue entry owner with_abort) may is = search (requeue-keeps)
   act_statement-keeps p puts name s (form.SetEvent event set handler) may is = search (set_event-keeps)
   act_statement-keeps p puts name s (form.CancelEvent event cancelled) may is = search (cancel_event-keeps)
   act_statement-keeps p puts name s (form.SetTimer timer set handler) may is = search (set_timer-keeps)
   act_statement-keeps p puts name s (form.CancelTimer timer cancelled) may is = search (cancel_timer-keeps)
-  act_statement-keeps p puts name s (form.AddTask budget task) may is = search (add_member-keeps)
-  act_statement-keeps p puts name s (form.RemoveTask budget task) may is = search (remove_member-keeps)
-  act_statement-keeps p puts name s (form.Replenish budget to) may is = search (replenish-keeps)
-  act_statement-keeps p puts name s (form.AddToBudget budget interval) may is = search (add_to_budget-keeps)
   act_statement-keeps p puts name s (form.SetBudget budget handler) may is = search (set_budget-keeps)
   act_statement-keeps p puts name s (form.CancelBudget budget cancelled) may is = search (cancel_budget-keeps)
-  act_statement-keeps p puts name s (form.SetPriority priority task) may is = search (set_priority-keeps)
-  act_statement-keeps p puts name s (form.SetQuantum level quantum) may is = search (set_quantum-keeps)
-  act_statement-keeps p puts name s (form.SetDeadline deadline task) may is = search (set_deadline_of-keeps)
-  act_statement-keeps p puts name s (form.DelayUntilAndSetDeadline until offset) may is = search (delay_and_set_deadline-keeps)
+  act_statement-keeps p puts name s form may is = calm_statement-keeps moves openings p puts name s form may is refl
 
-module _ {G : GoodWorld} {May Other : Naming} {Owns : Who → RegionNo → Type 0} {R : StepRelation} {Q : MoveRelation} (moves : FinestMoves G May Other R Q) (openings : MarkOpenings G May Other R) (regions : OwnRegions G May Other Owns) (releasing : Releasing G R) where
-  pub act_frame-from : (p : Image) → Puts G R p → (name : Who) (f : Frame) (next : Option StatementNo) (w : World) → G w → May name → top_of w name ≡ Some f → ((m : ProtectedMark) → f.mark ≡ InProtected m → From R w (end_in_protected p name m (leaving_of f))) → From R w (act_frame p name f next)
+module _ {G : GoodWorld} {May Other : Naming} {Owns : Who → RegionNo → Type 0} {R : StepRelation} {Q : MoveRelation} (moves : FinestMoves G May Other R Q) (openings : MarkOpenings G May Other R) (regions : OwnRegions G May Other Owns) where
+  pub act_frame-from : (p : Image) (name : Who) (f : Frame) (next : Option StatementNo) (w : World) → G w → May name → top_of w name ≡ Some f → ((s : StatementNo) → next ≡ Some s → From R w (act_statement p name s (form_of p s))) → ((m : ProtectedMark) → f.mark ≡ InProtected m → From R w (end_in_protected p name m (leaving_of f))) → From R w (act_frame p name f next)
   unfolding act_frame
-  act_frame-from p puts name f (Some s) w good may top action = keeps-from moves _ w good (act_statement-keeps moves openings releasing p puts name s (form_of p s) may refl)
-  act_frame-from p puts name f None w good may top action = end_mark-from moves openings p name f f.mark w good may top refl (λ m r is region left. own_region-from moves openings regions p name f m (leaving_of f) r w good may top is region left) action
+  act_frame-from p name f (Some s) w good may top statement action = statement s refl
+  act_frame-from p name f None w good may top statement action = end_mark-from moves openings p name f f.mark w good may top refl (λ m r is region left. own_region-from moves openings regions p name f m (leaving_of f) r w good may top is region left) action
 
-  act_top-from : (p : Image) → Puts G R p → (name : Who) (found : Option Frame) (w : World) → G w → May name → top_of w name ≡ found → From R w (act_without p name w.serving)
+  act_top-from : (p : Image) (name : Who) (found : Option Frame) (w : World) → G w → May name → top_of w name ≡ found → From R w (act_without p name w.serving)
+      → ((f : Frame) (s : StatementNo) → top_of w name ≡ Some f → f.onward ≡ Some s → From R w (act_statement p name s (form_of p s)))
       → ((f : Frame) (m : ProtectedMark) → top_of w name ≡ Some f → f.mark ≡ InProtected m → From R w (end_in_protected p name m (leaving_of f))) → From R w (act_top p name found)
   unfolding act_top
-  act_top-from p puts name None w good may is without action = looks_at-from moves (λ v. act_without p name v.serving) w without
-  act_top-from p puts name (Some f) w good may is without action = act_frame-from p puts name f f.onward w good may is (λ m k. action f m is k)
+  act_top-from p name None w good may is without statement action = looks_at-from moves (λ v. act_without p name v.serving) w without
+  act_top-from p name (Some f) w good may is without statement action = act_frame-from p name f f.onward w good may is (λ s onward. statement f s is onward) (λ m k. action f m is k)
 
-  -- an action, but for the end of a protected action, and for who has no rest
-  pub act-from : (p : Image) → Puts G R p → (name : Who) (w : World) → G w → May name → From R w (act_without p name w.serving)
+  -- an action, but for a statement that is done, the end of a protected action, and who has no rest
+  pub act-from : (p : Image) (name : Who) (w : World) → G w → May name → From R w (act_without p name w.serving)
+      → ((f : Frame) (s : StatementNo) → top_of w name ≡ Some f → f.onward ≡ Some s → From R w (act_statement p name s (form_of p s)))
       → ((f : Frame) (m : ProtectedMark) → top_of w name ≡ Some f → f.mark ≡ InProtected m → From R w (end_in_protected p name m (leaving_of f))) → From R w (act p name)
   unfolding act
-  act-from p puts name w good may without action = looks_at-from moves (λ v. act_top p name (top_of v name)) w (act_top-from p puts name (top_of w name) w good may refl without action)
+  act-from p name w good may without statement action = looks_at-from moves (λ v. act_top p name (top_of v name)) w (act_top-from p name (top_of w name) w good may refl without statement action)
 
 -- ---- where anybody may be changed
 
@@ -229,11 +254,12 @@ module _ {G : GoodWorld} {Act : Acting} {Holds : Holding} {R : StepRelation} {Q 
   act_without-keeps : (p : Image) (name : Who) (release : Option Release) → Keeps G R (act_without p name release)
   unfolding act_without
   act_without-keeps p name None = nothing-keeps moves.fine
-  act_without-keeps p who.Agent (Some r) = call_handler-keeps moves p r
+  act_without-keeps p who.Agent (Some r) = call_handler-keeps moves.fine moves.openings moves.handlers p r
   act_without-keeps p (who.Task t) (Some r) = nothing-keeps moves.fine
 
   pub any_act-from : (p : Image) → Puts G R p → (name : Who) (w : World) → G w → Act name w → From R w (act p name)
   any_act-from p puts name w good acting =
-      act-from moves.fine moves.openings moves.regions (releasing moves) p puts name w good tt
+      act-from moves.fine moves.openings moves.regions p name w good tt
       (keeps-from moves.fine _ w good (act_without-keeps p name w.serving))
-      (λ f m top is. end_in_protected-from moves.fine moves.openings moves.ends (ending moves) stays p name m (leaving_of f) tt tt w good (acts.holds name f m w acting top is))
+      (λ f s top is. keeps-from moves.fine _ w good (act_statement-keeps moves.fine moves.openings moves.settings (releasing moves) p puts name s (form_of p s) tt refl))
+      (λ f m top is. end_in_protected-from moves.fine moves.openings moves.ends (ending moves.fine moves.handlers) stays p name m (leaving_of f) tt tt w good (acts.holds name f m w acting top is))

@@ -59,7 +59,7 @@ module _ {G : GoodWorld} {May Other : Naming} {R : StepRelation} {Q : MoveRelati
   unqueued-alters p c w good =
       let taken = edit_queue c.owner (place_of_entry p c.entry) (take_call c.number) w in
       let first = edit_queue-alters c.owner (place_of_entry p c.entry) (take_call c.number) w good in
-      moves.goes_on w taken (unqueued p c w) first (moves.drops_appointment (is_timeout_of c.number) taken (moves.behind w taken first))
+      moves.goes_on w taken (unqueued p c w) first (moves.drops_appointment (is_timeout_of c.number) taken (moves.behind w taken first) (λ n h. refl))
 
   pub attempt_on-keeps : (p : Image) (part : Part) (c : Call) → Keeps G R (attempt_on p part c)
   unfolding attempt_on

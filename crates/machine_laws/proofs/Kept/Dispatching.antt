@@ -37,10 +37,14 @@ full_quantum-master : (b : Bool) (n : ℕ) (t : Task) → (cond b (record t { qu
 full_quantum-master true n t = refl
 full_quantum-master false n t = refl
 
+full_quantum-clock : (b : Bool) (n : ℕ) (t : Task) → (cond b (record t { quantum = n }) t).cpu_ticks ≡ t.cpu_ticks
+full_quantum-clock true n t = refl
+full_quantum-clock false n t = refl
+
 module _ {G : GoodWorld} {May Other : Naming} {R : StepRelation} {Q : MoveRelation} (moves : FinestMoves G May Other R Q) where
   pub keep_level-alters : (p : Image) (name : Who) → Alters G R (keep_level p name)
   unfolding Alters
-  keep_level-alters p name w good = moves.edits_task name (λ t. record t { kept_level = level_kept_by p w t (edf_low p t.base) }) w good (λ t. refl) (λ t. refl) (λ t. refl) (λ t. refl)
+  keep_level-alters p name w good = moves.edits_task name (λ t. record t { kept_level = level_kept_by p w t (edf_low p t.base) }) w good (λ t. refl) (λ t. refl) (λ t. refl) (λ t. refl) (λ t. refl)
 
   pub says_ready-keeps : (p : Image) (part : Part) (name : Who) (end : QueueEnd) → May name → Keeps G R (says_ready p part name end)
   unfolding says_ready
@@ -55,6 +59,7 @@ module _ {G : GoodWorld} {May Other : Naming} {R : StepRelation} {Q : MoveRelati
       (λ t. full_quantum-frames (eqb (active p t) t.base && is_robin_level p t.base) (slice_index_or w.quanta t.base 0) t)
       (λ t. full_quantum-state (eqb (active p t) t.base && is_robin_level p t.base) (slice_index_or w.quanta t.base 0) t)
       (λ t. full_quantum-master (eqb (active p t) t.base && is_robin_level p t.base) (slice_index_or w.quanta t.base 0) t)
+      (λ t. full_quantum-clock (eqb (active p t) t.base && is_robin_level p t.base) (slice_index_or w.quanta t.base 0) t)
 
   pub to_tail-keeps : (p : Image) (part : Part) (name : Who) → May name → Keeps G R (to_tail p part name)
   unfolding to_tail

@@ -163,7 +163,7 @@ module _ {G : GoodWorld} {May Other : Naming} {R : StepRelation} {Q : MoveRelati
   call_refused-from o c w good h = then-from moves (says Own (line.Enter (who.Task c.caller) o Write) ▷ says Own (line.Exit (who.Task c.caller) o)) (end_at_once Own c exception.Program) w (told_refused-from o c w good h) (end_at_once-keeps Own c exception.Program)
 
   appoint_trigger-from : (name : Who) (depth : ℕ) (m : ℤ) (w : World) → G w → int_lt (pos w.time) m ≡ true → From R w (changes (appoint_trigger name depth m))
-  appoint_trigger-from (who.Task t) depth m w good later = appoint-from moves (due_for.Trigger t depth) m w good later
+  appoint_trigger-from (who.Task t) depth m w good later = appoint-from moves (due_for.Trigger t depth) m w good refl later
   appoint_trigger-from who.Agent depth m w good later = keeps-from moves (changes (λ v. v)) w good (changes-keeps moves (λ v. v) (unchanged-alters moves))
 
   -- the abortable part opens, and the moment is set

@@ -1,5 +1,6 @@
 -- Events, timers, budgets, interrupts and releases: each step keeps a relation that its parts keep.
-use Rattle.std.specs.Prelude.{ℕ, suc, ◌+◌, ◌-◌, ℤ, pos, int_lt, Bool, true, false, cond, [], ◌∷◌, Option, Some, None}
+use Rattle.ann_base.specs.declared.exceptions.Raised.TheVariants as exception
+use Rattle.std.specs.Prelude.{ℕ, suc, ◌+◌, ◌-◌, ℤ, pos, int_lt, Bool, true, false, cond, [], ◌∷◌, Option, Some, None, int_le}
 use Rattle.ann_base.specs.declared.identities.TaskNo.{TaskNo}
 use Rattle.profile_machine.specs.declared.world.objects.Entering.{Entering}
 use Rattle.profile_machine.specs.declared.world.objects.Entering.TheVariants as entering_is
@@ -23,31 +24,31 @@ use Rattle.profile_machine.specs.declared.world.tasks.State.{State}
 use Rattle.profile_machine.specs.declared.world.appointments.Due.TheVariants as due_for
 use Rattle.profile_machine.specs.declared.world.tasks.State.TheVariants.{Made, Runnable, Blocked}
 use Rattle.profile_machine.specs.declared.world.tasks.Task as world
-use Rattle.profile_machine.specs.Program.{is_robin_level, marks_of, subprogram_of}
+use Rattle.profile_machine.specs.Program.{is_robin_level, marks_of, subprogram_of, next_of}
 use Rattle.profile_machine.specs.declared.world.lines.Part.{Part}
 use Rattle.profile_machine.specs.declared.world.lines.Part.TheVariants.{Own}
+use Rattle.profile_machine.specs.Appointments.{appoint}
 use Rattle.profile_machine.specs.Steps.{Step, changes, looks, ◌▷◌, says}
 use Rattle.profile_machine.specs.Tasks.{task_of, edit_task}
-use Rattle.profile_machine.specs.Frames.{has_room}
-use Rattle.profile_machine.specs.Values.{Seen}
+use Rattle.profile_machine.specs.Frames.{has_room, goes}
+use Rattle.profile_machine.specs.Values.{Seen, number_of_thing, moment}
 use Rattle.profile_machine.specs.CallEnds.{store}
 use Rattle.trace_text.specs.declared.events.Mode.TheVariants.{Write}
 use Rattle.profile_machine.specs.Protected.{entering, begin_action_on, body_of_object}
 use Rattle.profile_machine.specs.Serving.{end_release}
 use Rattle.profile_machine.specs.declared.world.marks.Purpose.TheVariants as opened_for
 use Rattle.profile_machine.specs.declared.world.marks.ResultTo.TheVariants as bound_for
-use Rattle.profile_machine.specs.Handlers.{add_release, says_release, wake_agent, release, with_room_for_release, scope_size_of, begin_handler, begin_handler_if_room, enter_handler, call_handler, interrupt, setting_of, answer, cancel_event_setting, appoint_event, event_set_to, set_event, cancel_event, clear_timer, with_timer_set, timer_set_beyond, timer_set_to, set_timer, cancel_timer, edit_budget, change_member, add_member, remove_member, fill_budget, replenish, add_to_budget, set_budget, cancel_budget, clock_risen, due_by_tick, charge_budget, timers_reached, quantum_spent_by, charge_clock, charge_group, charge_task, charge, handler_attached, argument_values}
+use Rattle.profile_machine.specs.Handlers.{add_release, says_release, wake_agent, release, with_room_for_release, scope_size_of, begin_handler, begin_handler_if_room, enter_handler, call_handler, interrupt, setting_of, answer, cancel_event_setting, appoint_event, event_set_to, set_event, cancel_event, clear_timer, with_timer_set, timer_set_beyond, timer_set_to, set_timer, cancel_timer, edit_budget, change_member, add_member, remove_member, fill_budget, replenish, add_to_budget, set_budget, cancel_budget, clock_risen, due_by_tick, charge_budget, timers_reached, quantum_spent_by, charge_clock, charge_group, charge_task, charge, handler_attached, argument_values, loaded, raised_by}
 use Rattle.std.proofs.Common.{◌≡◌, refl}
 use Rattle.std.specs.Prelude.{Bool}
 use Rattle.machine_laws.proofs.Moves.{StepRelation, MoveRelation, LetsIn}
-use Rattle.machine_laws.proofs.FineMoves.{GoodWorld, Naming}
-use Rattle.machine_laws.proofs.FinestMoves.{FinestMoves, AllMoves, Holding}
-use Rattle.machine_laws.proofs.Kept.Combinators.{Keeps, Kept, From, Alters, either-from, looks_at-from, then-from, changes-keeps, for_some-keeps, keeps-from, looks-from, looks-keeps, nothing-keeps, says-keeps, sees-keeps, then-keeps, unchanged-alters}
+use Rattle.machine_laws.proofs.FineMoves.{GoodWorld, Naming, Anybody}
+use Rattle.machine_laws.proofs.FinestMoves.{FinestMoves, MarkOpenings, HandlerMoves, SettingMoves, AllMoves, Holding}
+use Rattle.machine_laws.proofs.Kept.Combinators.{Keeps, Kept, From, Alters, changes-from, either-from, looks_at-from, then-from, changes-keeps, for_some-keeps, keeps-from, looks-from, looks-keeps, nothing-keeps, says-keeps, sees-keeps, then-keeps, unchanged-alters}
 use Rattle.machine_laws.proofs.Kept.Frames.{becomes-from, goes-keeps, given-keeps, raise_if-keeps}
 use Rattle.machine_laws.proofs.Kept.Tasks.{edit_task-alters}
 use Rattle.machine_laws.proofs.Kept.Dispatching.{ready-keeps}
 use Rattle.machine_laws.proofs.Kept.Scopes.{open_scope-alters}
-use Rattle.machine_laws.proofs.Kept.Appointments.{appoint-from, drop_appointment-alters}
 use Rattle.machine_laws.proofs.Kept.CallEnds.{store-gives}
 use Rattle.machine_laws.proofs.Kept.Protected.{find_held-from, begin_action_on-from}
 use Rattle.machine_laws.proofs.Kept.Entering.{entering-inside, entering-held}
@@ -68,6 +69,10 @@ spent-state false t = refl
 spent-master : (robin : Bool) (t : world.Task) → (cond robin (record t { quantum = t.quantum - 1 }) t).master ≡ t.master
 spent-master true t = refl
 spent-master false t = refl
+
+spent-clock : (robin : Bool) (t : world.Task) → (cond robin (record t { quantum = t.quantum - 1 }) t).cpu_ticks ≡ t.cpu_ticks
+spent-clock true t = refl
+spent-clock false t = refl
 
 -- a release comes, and the agent becomes ready where it was blocked; the handler of one that is served is called
 pub record Releasing (G : GoodWorld) (R : StepRelation) : Type 0 where
@@ -96,31 +101,32 @@ module _ {G : GoodWorld} {Holds : Holding} {R : StepRelation} {Q : MoveRelation}
   pub releasing : Releasing G R
   releasing = record { releases = release-keeps }
 
+module _ {G : GoodWorld} {R : StepRelation} {Q : MoveRelation} (moves : FinestMoves G Anybody Anybody R Q) (openings : MarkOpenings G Anybody Anybody R) (handlers : HandlerMoves G R) where
   begin_handler-from : (p : Image) (r : Release) (w : World) → G w → LetsIn who.Agent r.handler.object Write w → From R w (begin_handler p r)
   unfolding begin_handler Alters
   begin_handler-from p r w good h =
-      then-from moves.fine (begin_action_on p who.Agent r.handler.object Write None (Some r.number)) _ w
-      (begin_action_on-from moves.fine p who.Agent r.handler.object Write None (Some r.number) w good tt (moves.handles r.handler.object r.number) h)
-      (looks-keeps moves.fine _ (λ v. changes-keeps moves.fine _ (open_scope-alters moves.openings p who.Agent (subprogram_of p r.handler.procedure).scope (body_of_object p v (subprogram_of p r.handler.procedure).scope r.handler.object None (argument_values r.argument)) (opened_for.Subprogram [] bound_for.Nowhere) tt)))
+      then-from moves (begin_action_on p who.Agent r.handler.object Write None (Some r.number)) _ w
+      (begin_action_on-from moves p who.Agent r.handler.object Write None (Some r.number) w good tt (handlers.handles r.handler.object r.number) h)
+      (looks-keeps moves _ (λ v. changes-keeps moves _ (open_scope-alters openings p who.Agent (subprogram_of p r.handler.procedure).scope (body_of_object p v (subprogram_of p r.handler.procedure).scope r.handler.object None (argument_values r.argument)) (opened_for.Subprogram [] bound_for.Nowhere) tt)))
 
   begin_handler_if_room-from : (p : Image) (r : Release) (w : World) → G w → LetsIn who.Agent r.handler.object Write w → From R w (begin_handler_if_room p r)
   unfolding begin_handler_if_room
   begin_handler_if_room-from p r w good h =
-      looks_at-from moves.fine (λ v. elim (has_room v who.Agent (1 + marks_of p (subprogram_of p r.handler.procedure).scope) (scope_size_of p r.handler.procedure)) as (λ _. Step) [ true ↦ begin_handler p r | false ↦ end_release r.number ]) w (either-from moves.fine (has_room w who.Agent (1 + marks_of p (subprogram_of p r.handler.procedure).scope) (scope_size_of p r.handler.procedure)) (begin_handler p r) (end_release r.number) w
-      (begin_handler-from p r w good h) (keeps-from moves.fine (end_release r.number) w good (end_release-keeps moves r.number)))
+      looks_at-from moves (λ v. elim (has_room v who.Agent (1 + marks_of p (subprogram_of p r.handler.procedure).scope) (scope_size_of p r.handler.procedure)) as (λ _. Step) [ true ↦ begin_handler p r | false ↦ end_release r.number ]) w (either-from moves (has_room w who.Agent (1 + marks_of p (subprogram_of p r.handler.procedure).scope) (scope_size_of p r.handler.procedure)) (begin_handler p r) (end_release r.number) w
+      (begin_handler-from p r w good h) (keeps-from moves (end_release r.number) w good (end_release-keeps moves handlers r.number)))
 
   enter_handler-from : (p : Image) (r : Release) (w : World) (is : Entering) → G w → entering p w who.Agent r.handler.object Write ≡ is → From R w (enter_handler p r is)
   unfolding enter_handler
-  enter_handler-from p r w entering_is.SameObject good e = keeps-from moves.fine (end_release r.number) w good (end_release-keeps moves r.number)
-  enter_handler-from p r w entering_is.AboveCeiling good e = keeps-from moves.fine (end_release r.number) w good (end_release-keeps moves r.number)
-  enter_handler-from p r w entering_is.Held good e = find_held-from moves.fine p who.Agent r.handler.object Write w good tt (entering-held p w who.Agent r.handler.object Write e)
+  enter_handler-from p r w entering_is.SameObject good e = keeps-from moves (end_release r.number) w good (end_release-keeps moves handlers r.number)
+  enter_handler-from p r w entering_is.AboveCeiling good e = keeps-from moves (end_release r.number) w good (end_release-keeps moves handlers r.number)
+  enter_handler-from p r w entering_is.Held good e = find_held-from moves p who.Agent r.handler.object Write w good tt (entering-held p w who.Agent r.handler.object Write e)
   enter_handler-from p r w entering_is.Inside good e = begin_handler_if_room-from p r w good (entering-inside p w who.Agent r.handler.object Write e)
 
   pub call_handler-keeps : (p : Image) (r : Release) → Keeps G R (call_handler p r)
   unfolding call_handler
-  call_handler-keeps p r = looks-from moves.fine _ (λ w good. enter_handler-from p r w (entering p w who.Agent r.handler.object Write) good refl)
+  call_handler-keeps p r = looks-from moves _ (λ w good. enter_handler-from p r w (entering p w who.Agent r.handler.object Write) good refl)
 
--- ---- settings, and the charge of a tick
+-- ---- members of budgets, and what is left of them
 
 module _ {G : GoodWorld} {May Other : Naming} {R : StepRelation} {Q : MoveRelation} (moves : FinestMoves G May Other R Q) where
   pub with_room_for_release-keeps : (name : Who) (needed : Bool) (step : Step) → Keeps G R step → Keeps G R (with_room_for_release name needed step)
@@ -133,28 +139,9 @@ module _ {G : GoodWorld} {May Other : Naming} {R : StepRelation} {Q : MoveRelati
   unfolding answer
   answer-keeps p name v b = looks-from moves _ (λ w good. becomes-from moves Own name (store p v (Truth b) w) w good (store-gives moves p v (Truth b) w good))
 
-  pub cancel_event_setting-alters : (e : ℕ) → Alters G R (cancel_event_setting e)
-  cancel_event_setting-alters e = search (drop_appointment-alters)
-
-  pub cancel_event-keeps : (p : Image) (name : Who) (s : StatementNo) (d : DeclNo) (target : VariableName) → Keeps G R (cancel_event p name s d target)
-  unfolding cancel_event
-  cancel_event-keeps p name s d target = search (sees-keeps, given-keeps, goes-keeps, then-keeps, changes-keeps, cancel_event_setting-alters, answer-keeps) depth 9
-
-  pub clear_timer-alters : (k : ℕ) → Alters G R (clear_timer k)
+  edit_budget-alters : (b : ℕ) (f : Budget → Budget) → ((x : Budget) → (f x).handler ≡ x.handler) → Alters G R (edit_budget b f)
   unfolding Alters
-  clear_timer-alters k w good = moves.clears_timer k w good
-
-  with_timer_set-alters : (k : ℕ) (h : HandlerOf) (v : ℤ) → Alters G R (with_timer_set k h v)
-  unfolding Alters
-  with_timer_set-alters k h v w good = moves.sets_timer k h v w good
-
-  pub cancel_timer-keeps : (p : Image) (name : Who) (s : StatementNo) (d : DeclNo) (target : VariableName) → Keeps G R (cancel_timer p name s d target)
-  unfolding cancel_timer
-  cancel_timer-keeps p name s d target = search (sees-keeps, given-keeps, goes-keeps, then-keeps, changes-keeps, clear_timer-alters, answer-keeps) depth 9
-
-  edit_budget-alters : (b : ℕ) (f : Budget → Budget) → Alters G R (edit_budget b f)
-  unfolding Alters
-  edit_budget-alters b f w good = moves.edits_budget b f w good
+  edit_budget-alters b f same w good = moves.edits_budget b f w good same
 
   pub change_member-keeps : (p : Image) (name : Who) (s : StatementNo) (t : world.Task) (is_right : Bool) (b : Option ℕ) → Keeps G R (change_member p name s t is_right b)
   unfolding change_member
@@ -168,29 +155,59 @@ module _ {G : GoodWorld} {May Other : Naming} {R : StepRelation} {Q : MoveRelati
   unfolding remove_member
   remove_member-keeps p name s d e = search (sees-keeps, given-keeps, change_member-keeps) depth 6
 
-  pub fill_budget-keeps : (p : Image) (name : Who) (s : StatementNo) (d : DeclNo) (e : ExprNo) (f : ℤ → Budget → Budget) → Keeps G R (fill_budget p name s d e f)
+  pub fill_budget-keeps : (p : Image) (name : Who) (s : StatementNo) (d : DeclNo) (e : ExprNo) (f : ℤ → Budget → Budget) → ((n : ℤ) (x : Budget) → (f n x).handler ≡ x.handler) → Keeps G R (fill_budget p name s d e f)
   unfolding fill_budget
-  fill_budget-keeps p name s d e f = search (sees-keeps, given-keeps, with_room_for_release-keeps, raise_if-keeps, goes-keeps, then-keeps, changes-keeps, edit_budget-alters) depth 8
+  fill_budget-keeps p name s d e f same =
+      sees-keeps moves p name _ (λ q. given-keeps moves Own name (number_of_thing q d) _ (λ b. with_room_for_release-keeps name true _
+      (given-keeps moves Own name (moment q e) _ (λ amount. raise_if-keeps moves name (int_le amount (pos 0)) exception.GroupBudget _
+      (then-keeps moves (goes name (next_of p s)) _ (goes-keeps moves name (next_of p s)) (changes-keeps moves _ (edit_budget-alters b (f amount) (same amount))))))))
 
   pub replenish-keeps : (p : Image) (name : Who) (s : StatementNo) (d : DeclNo) (e : ExprNo) → Keeps G R (replenish p name s d e)
   unfolding replenish
-  replenish-keeps p name s d e = search (fill_budget-keeps)
+  replenish-keeps p name s d e = fill_budget-keeps p name s d e loaded (λ n x. refl)
 
   pub add_to_budget-keeps : (p : Image) (name : Who) (s : StatementNo) (d : DeclNo) (e : ExprNo) → Keeps G R (add_to_budget p name s d e)
   unfolding add_to_budget
-  add_to_budget-keeps p name s d e = search (fill_budget-keeps)
+  add_to_budget-keeps p name s d e = fill_budget-keeps p name s d e raised_by (λ n x. refl)
+
+-- ---- settings, and the charge of a tick
+
+module _ {G : GoodWorld} {May Other : Naming} {R : StepRelation} {Q : MoveRelation} (moves : FinestMoves G May Other R Q) (settings : SettingMoves G R) where
+  pub cancel_event_setting-alters : (e : ℕ) → Alters G R (cancel_event_setting e)
+  unfolding Alters
+  cancel_event_setting-alters e w good = settings.drops_any _ w good
+
+  pub cancel_event-keeps : (p : Image) (name : Who) (s : StatementNo) (d : DeclNo) (target : VariableName) → Keeps G R (cancel_event p name s d target)
+  unfolding cancel_event
+  cancel_event-keeps p name s d target = search (sees-keeps, given-keeps, goes-keeps, then-keeps, changes-keeps, cancel_event_setting-alters, answer-keeps) depth 9
+
+  pub clear_timer-alters : (k : ℕ) → Alters G R (clear_timer k)
+  unfolding Alters
+  clear_timer-alters k w good = settings.clears_timer k w good
+
+  with_timer_set-alters : (k : ℕ) (h : HandlerOf) (v : ℤ) → Alters G R (with_timer_set k h v)
+  unfolding Alters
+  with_timer_set-alters k h v w good = settings.sets_timer k h v w good
+
+  pub cancel_timer-keeps : (p : Image) (name : Who) (s : StatementNo) (d : DeclNo) (target : VariableName) → Keeps G R (cancel_timer p name s d target)
+  unfolding cancel_timer
+  cancel_timer-keeps p name s d target = search (sees-keeps, given-keeps, goes-keeps, then-keeps, changes-keeps, clear_timer-alters, answer-keeps) depth 9
+
+  any_budget-alters : (b : ℕ) (f : Budget → Budget) → Alters G R (edit_budget b f)
+  unfolding Alters
+  any_budget-alters b f w good = settings.sets_budget b f w good
 
   pub set_budget-keeps : (p : Image) (name : Who) (s : StatementNo) (d : DeclNo) (named : Option HandlerName) → Keeps G R (set_budget p name s d named)
   unfolding set_budget
-  set_budget-keeps p name s d named = search (sees-keeps, given-keeps, with_room_for_release-keeps, raise_if-keeps, goes-keeps, then-keeps, changes-keeps, edit_budget-alters) depth 8
+  set_budget-keeps p name s d named = search (sees-keeps, given-keeps, with_room_for_release-keeps, raise_if-keeps, goes-keeps, then-keeps, changes-keeps, any_budget-alters) depth 8
 
   pub cancel_budget-keeps : (p : Image) (name : Who) (s : StatementNo) (d : DeclNo) (target : VariableName) → Keeps G R (cancel_budget p name s d target)
   unfolding cancel_budget
-  cancel_budget-keeps p name s d target = search (sees-keeps, given-keeps, goes-keeps, then-keeps, changes-keeps, edit_budget-alters, answer-keeps) depth 9
+  cancel_budget-keeps p name s d target = search (sees-keeps, given-keeps, goes-keeps, then-keeps, changes-keeps, any_budget-alters, answer-keeps) depth 9
 
   pub charge_budget-alters : (n : Option ℕ) → Alters G R (charge_budget n)
   charge_budget-alters None = search (unchanged-alters)
-  charge_budget-alters (Some b) = search (edit_budget-alters)
+  charge_budget-alters (Some b) = search (any_budget-alters)
 
   -- ---- a tick is charged
 
@@ -198,15 +215,15 @@ module _ {G : GoodWorld} {May Other : Naming} {R : StepRelation} {Q : MoveRelati
   unfolding Alters
   charge_clock-alters t w good =
       let next = edit_task (who.Task t) clock_risen w in
-      let first = moves.edits_task (who.Task t) clock_risen w good (λ u. refl) (λ u. refl) (λ u. refl) (λ u. refl) in
-      moves.goes_on w next (charge_clock t w) first (moves.sets_timers_due (timers_reached t next) next (moves.behind w next first))
+      let first = settings.counts t w good in
+      moves.goes_on w next (charge_clock t w) first (settings.sets_timers_due (timers_reached t next) next (moves.behind w next first))
 
   charge_group-alters : (t : TaskNo) → Alters G R (charge_group t)
   unfolding Alters
   charge_group-alters t w good =
       let b = (task_of w (who.Task t)).budget in
       let first = charge_budget-alters b w good in
-      moves.goes_on w (charge_budget b w) (charge_group t w) first (moves.sets_budget_due (due_by_tick w b) (charge_budget b w) (moves.behind w (charge_budget b w) first))
+      moves.goes_on w (charge_budget b w) (charge_group t w) first (settings.sets_budget_due (due_by_tick w b) (charge_budget b w) (moves.behind w (charge_budget b w) first))
 
   charge_task-alters : (p : Image) (t : TaskNo) → Alters G R (charge_task p t)
   unfolding Alters
@@ -218,7 +235,7 @@ module _ {G : GoodWorld} {May Other : Naming} {R : StepRelation} {Q : MoveRelati
       moves.goes_on w risen (charge_task p t w) first
       (moves.goes_on risen charged (charge_task p t w) second
       (moves.edits_task (who.Task t) (quantum_spent_by p) charged (moves.behind risen charged second)
-      (λ u. spent-who (is_robin_level p u.base) u) (λ u. spent-frames (is_robin_level p u.base) u) (λ u. spent-state (is_robin_level p u.base) u) (λ u. spent-master (is_robin_level p u.base) u)))
+      (λ u. spent-who (is_robin_level p u.base) u) (λ u. spent-frames (is_robin_level p u.base) u) (λ u. spent-state (is_robin_level p u.base) u) (λ u. spent-master (is_robin_level p u.base) u) (λ u. spent-clock (is_robin_level p u.base) u)))
 
   pub charge-alters : (p : Image) (name : Who) → Alters G R (charge p name)
   unfolding Alters
@@ -227,7 +244,7 @@ module _ {G : GoodWorld} {May Other : Naming} {R : StepRelation} {Q : MoveRelati
 
 -- ---- what may release
 
-module _ {G : GoodWorld} {May Other : Naming} {R : StepRelation} {Q : MoveRelation} (moves : FinestMoves G May Other R Q) (releasing : Releasing G R) where
+module _ {G : GoodWorld} {May Other : Naming} {R : StepRelation} {Q : MoveRelation} (moves : FinestMoves G May Other R Q) (settings : SettingMoves G R) (releasing : Releasing G R) where
   pub interrupt-keeps : (p : Image) (n : ℕ) → Keeps G R (interrupt p n)
   unfolding interrupt
   interrupt-keeps p n =
@@ -236,7 +253,7 @@ module _ {G : GoodWorld} {May Other : Naming} {R : StepRelation} {Q : MoveRelati
 
   appoint_event-from : (p : Image) (e : ℕ) (h : HandlerOf) (m : ℤ) (test : Bool) (w : World) → G w → int_lt (pos w.time) m ≡ test → From R w (appoint_event p e h m test)
   unfolding appoint_event
-  appoint_event-from p e h m true w good is = appoint-from moves (due_for.Event e h) m w good is
+  appoint_event-from p e h m true w good is = changes-from moves (appoint (due_for.Event e h) m) w (settings.appoints_event e h m w good is)
   appoint_event-from p e h m false w good is = keeps-from moves (release p Own h (Some e)) w good (releasing.releases p h (Some e))
 
   pub event_set_to-keeps : (p : Image) (e : ℕ) (h : Option HandlerOf) (m : ℤ) → Keeps G R (event_set_to p e h m)

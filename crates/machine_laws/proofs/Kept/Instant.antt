@@ -1,5 +1,7 @@
 -- The parts of an instant, and the instant: each step keeps a relation that its parts keep.
-use Rattle.std.proofs.Common.{◌≡◌, refl}
+use Rattle.std.proofs.lemmas.Bool.{false≢true}
+use Rattle.profile_machine.specs.Words.{same_bool}
+use Rattle.std.proofs.Common.{◌≡◌, refl, ◌&&◌, cond, length, sym, ap, ◌∙◌}
 use Rattle.std.specs.Prelude.{ℕ, zero, suc, ℤ, pos, int_le, Bool, true, false, List, [], ◌∷◌, Option, Some, None}
 use Rattle.ann_base.specs.declared.identities.CallNo.{CallNo}
 use Rattle.trace_text.specs.declared.events.Who.{Who}
@@ -17,11 +19,11 @@ use Rattle.profile_machine.specs.declared.world.tasks.Waiting.TheVariants as wai
 use Rattle.profile_machine.specs.Steps.{Step, Move, changes, nothing, settles, ◌▷◌, rests, ◌▶◌}
 use Rattle.profile_machine.specs.Tasks.{task_of, edit_task, with_ticks}
 use Rattle.profile_machine.specs.Act.{act}
-use Rattle.profile_machine.specs.Appointments.{first_due}
-use Rattle.profile_machine.specs.Instant.{effect, is_over, effect_of_runner, finish_action, with_port, with_masked, with_kept_interrupt, interrupt_comes, deliver_kept_interrupt, script_item, with_script, take_item, items_due, script_items, take_delay, end_delay, time_out, come_due, take_due, all_due, appointments_due, events_due, moments_due, expire, expire_timer, no_timers_due, timers_due, run_out, no_budget_due, budgets_due, spend_quantum, quantum_spent, instant}
+use Rattle.profile_machine.specs.Appointments.{first_due, is_an_event, drop_appointment}
+use Rattle.profile_machine.specs.Instant.{effect, is_over, effect_of_runner, finish_action, with_port, with_masked, with_kept_interrupt, interrupt_comes, deliver_kept_interrupt, script_item, with_script, take_item, items_due, script_items, take_delay, end_delay, time_out, come_due, take_due, all_due, appointments_due, events_due, moments_due, expire, expire_timer, no_timers_due, timers_due, run_out, no_budget_due, budgets_due, spend_quantum, quantum_spent, instant, is_the_same_due}
 use Rattle.machine_laws.proofs.Moves.{StepRelation, MoveRelation, Puts}
 use Rattle.machine_laws.proofs.FineMoves.{GoodWorld, Naming}
-use Rattle.machine_laws.proofs.FinestMoves.{FinestMoves, AllMoves, Holding, Anyhow}
+use Rattle.machine_laws.proofs.FinestMoves.{FinestMoves, SettingMoves, SparesEvents, AllMoves, Holding, Anyhow}
 use Rattle.machine_laws.proofs.Kept.Combinators.{Keeps, From, Leads, Alters, changes-from, changes_then-from, settles-from, changes-keeps, for_each-keeps, for_some-keeps, keeps-from, looks-from, looks-keeps, nothing-keeps, says-keeps, settles-leads, then-from, then-keeps, then-leads, when-keeps}
 use Rattle.machine_laws.proofs.Kept.Tasks.{edit_task-alters}
 use Rattle.machine_laws.proofs.Kept.Dispatching.{to_tail-keeps, ready-keeps}
@@ -37,18 +39,93 @@ use Rattle.machine_laws.proofs.Kept.Serving.{Stays, stays_anyhow}
 use Rattle.profile_machine.specs.Values.{budget_of}
 use Rattle.profile_machine.specs.Handlers.{clear_timer}
 
-module _ {G : GoodWorld} {May Other : Naming} {R : StepRelation} {Q : MoveRelation} (moves : FinestMoves G May Other R Q) (releasing : Releasing G R) where
+abbrev is_there : {X : Type 0} → Option X → Bool
+is_there (Some x) = true
+is_there None = false
+
+abbrev or_that : {X : Type 0} → X → Option X → X
+or_that x (Some y) = y
+or_that x None = x
+
+module _ {G : GoodWorld} {May Other : Naming} {R : StepRelation} {Q : MoveRelation} (moves : FinestMoves G May Other R Q) where
+  pub take_delay-keeps : (p : Image) (name : Who) (waiting : Option Waiting) → Keeps G R (take_delay p name waiting)
+  unfolding take_delay
+  take_delay-keeps p name (Some (waits_for.Select accepts (Some delay) terminate)) = search (goes-keeps)
+  take_delay-keeps p name _ = search (nothing-keeps)
+
+  pub end_delay-keeps : (p : Image) (name : Who) → Other name → Keeps G R (end_delay p name)
+  unfolding end_delay
+  end_delay-keeps p name other = search (looks-keeps, take_delay-keeps, then-keeps, ready-keeps, open_sequence-keeps, moves.other_may)
+
+  pub time_out-keeps : (p : Image) (c : CallNo) → Keeps G R (time_out p c)
+  unfolding time_out
+  time_out-keeps p c = search (with_call-keeps, changes-keeps, unqueued-alters, then-keeps, says-keeps, deliver-keeps) depth 6
+
+  pub spend_quantum-keeps : (p : Image) (by : Option Who) → Keeps G R (spend_quantum p by)
+  unfolding spend_quantum
+  spend_quantum-keeps p None = search (nothing-keeps)
+  spend_quantum-keeps p (Some who.Agent) = search (nothing-keeps)
+  spend_quantum-keeps p (Some (who.Task t)) = search (looks-keeps, when-keeps, says-keeps, then-keeps, to_tail-keeps, moves.other_may, moves.task_other) depth 7
+
+  pub quantum_spent-leads : (p : Image) → Leads G Q (quantum_spent p)
+  quantum_spent-leads p = search (settles-leads, looks-keeps, spend_quantum-keeps)
+
+  -- an appointment that is no event
+  pub moment_due-keeps : (p : Image) (due : Due) → is_an_event due ≡ false → Keeps G R (come_due p due)
+  unfolding come_due
+  moment_due-keeps p (due_for.Event n h) other = absurd (false≢true (sym other))
+  moment_due-keeps p (due_for.Delay t) other = search (end_delay-keeps, moves.task_other)
+  moment_due-keeps p (due_for.Timeout c) other = search (time_out-keeps)
+  moment_due-keeps p (due_for.Trigger t depth) other = search (trigger_at-keeps, then-keeps, unwind-keeps, moves.task_other)
+
+  spares-events : (due : Due) → is_an_event due ≡ false → SparesEvents (is_the_same_due due)
+  spares-events (due_for.Event n h) other m k = absurd (false≢true (sym other))
+  spares-events (due_for.Delay t) other m k = refl
+  spares-events (due_for.Timeout c) other m k = refl
+  spares-events (due_for.Trigger t depth) other m k = refl
+
+  take_moment-keeps : (p : Image) (again : Step) (a : Appointment) → is_an_event a.due ≡ false → Keeps G R again → Keeps G R (take_due p again (Some a))
+  take_moment-keeps p again a other kept =
+      then-keeps moves (changes (drop_appointment (is_the_same_due a.due))) _ (changes-keeps moves _ (drop_appointment-alters moves (is_the_same_due a.due) (spares-events a.due other)))
+      (then-keeps moves (come_due p a.due) again (moment_due-keeps p a.due other) kept)
+
+  -- what is found is no event
+  found_other : (due event : Bool) (a b : Appointment) (rest : Option Appointment) → event ≡ is_an_event a.due → cond (due && same_bool event false) (Some a) rest ≡ Some b → (rest ≡ Some b → is_an_event b.due ≡ false) → is_an_event b.due ≡ false
+  found_other true false a b rest e h others = ap (λ x. is_an_event (or_that a x).due) (sym h) ∙ sym e
+  found_other true true a b rest e h others = others h
+  found_other false event a b rest e h others = others h
+
+  first_due-other : (time : ℕ) (xs : List Appointment) (a : Appointment) → first_due false time xs ≡ Some a → is_an_event a.due ≡ false
+  first_due-other time [] a h = absurd (false≢true (ap is_there h))
+  first_due-other time (x ∷ xs) a h = found_other (int_le x.moment (pos time)) (is_an_event x.due) x a (first_due false time xs) refl h (first_due-other time xs a)
+
+  taken-from : (p : Image) (again : Step) (w : World) (found : Option Appointment) → G w → first_due false w.time w.appointments ≡ found → Keeps G R again → From R w (take_due p again found)
+  taken-from p again w None good is kept = keeps-from moves nothing w good (nothing-keeps moves)
+  taken-from p again w (Some a) good is kept = keeps-from moves _ w good (take_moment-keeps p again a (first_due-other w.time w.appointments a is) kept)
+
+  all_moments-keeps : (fuel : ℕ) (p : Image) → Keeps G R (all_due fuel p false)
+  unfolding all_due
+  all_moments-keeps zero p = nothing-keeps moves
+  all_moments-keeps (suc fuel) p =
+      looks-from moves _ (λ w good. taken-from p (all_due fuel p false) w (first_due false w.time w.appointments) good refl (all_moments-keeps fuel p))
+
+  pub moments_due-leads : (p : Image) → Leads G Q (moments_due p)
+  moments_due-leads p = settles-leads moves p _ (looks-keeps moves _ (λ w. all_moments-keeps (length w.appointments) p))
+
+-- ---- what is due, and may release
+
+module _ {G : GoodWorld} {May Other : Naming} {R : StepRelation} {Q : MoveRelation} (moves : FinestMoves G May Other R Q) (settings : SettingMoves G R) (releasing : Releasing G R) where
   with_port-alters : (n : ℕ) (value : ℤ) → Alters G R (with_port n value)
   unfolding Alters
-  with_port-alters n value w good = moves.sets_port n value w good
+  with_port-alters n value w good = settings.sets_port n value w good
 
   with_masked-alters : (n : ℕ) (flag : Bool) → Alters G R (with_masked n flag)
   unfolding Alters
-  with_masked-alters n flag w good = moves.masks n flag w good
+  with_masked-alters n flag w good = settings.masks n flag w good
 
   with_kept_interrupt-alters : (n : ℕ) (flag : Bool) → Alters G R (with_kept_interrupt n flag)
   unfolding Alters
-  with_kept_interrupt-alters n flag w good = moves.keeps_interrupt n flag w good
+  with_kept_interrupt-alters n flag w good = settings.keeps_interrupt n flag w good
 
   pub interrupt_comes-keeps : (p : Image) (n : ℕ) (test : Bool) → Keeps G R (interrupt_comes p n test)
   unfolding interrupt_comes
@@ -69,7 +146,7 @@ module _ {G : GoodWorld} {May Other : Naming} {R : StepRelation} {Q : MoveRelati
 
   take_item_if-from : (p : Image) (again : Step) (x : ℤ × Item) (xs : List (ℤ × Item)) (w : World) (test : Bool) → G w → w.script ≡ x ∷ xs → int_le x.0 (pos w.time) ≡ test → Keeps G R again → From R w (elim test as (λ _. Step) [ true ↦ changes (with_script xs) ▷ script_item p x.1 ▷ again | false ↦ nothing ])
   take_item_if-from p again x xs w true good is due kept =
-      then-from moves (changes (with_script xs)) (script_item p x.1 ▷ again) w (changes-from moves (with_script xs) w (moves.cuts_script x xs w good is due))
+      then-from moves (changes (with_script xs)) (script_item p x.1 ▷ again) w (changes-from moves (with_script xs) w (settings.cuts_script x xs w good is due))
       (then-keeps moves (script_item p x.1) again (script_item-keeps p x.1) kept)
   take_item_if-from p again x xs w false good is due kept = keeps-from moves nothing w good (nothing-keeps moves)
 
@@ -86,29 +163,20 @@ module _ {G : GoodWorld} {May Other : Naming} {R : StepRelation} {Q : MoveRelati
   pub script_items-leads : (p : Image) → Leads G Q (script_items p)
   script_items-leads p = search (settles-leads, looks-keeps, items_due-keeps)
 
-  pub take_delay-keeps : (p : Image) (name : Who) (waiting : Option Waiting) → Keeps G R (take_delay p name waiting)
-  unfolding take_delay
-  take_delay-keeps p name (Some (waits_for.Select accepts (Some delay) terminate)) = search (goes-keeps)
-  take_delay-keeps p name _ = search (nothing-keeps)
-
-  pub end_delay-keeps : (p : Image) (name : Who) → Other name → Keeps G R (end_delay p name)
-  unfolding end_delay
-  end_delay-keeps p name other = search (looks-keeps, take_delay-keeps, then-keeps, ready-keeps, open_sequence-keeps, moves.other_may)
-
-  pub time_out-keeps : (p : Image) (c : CallNo) → Keeps G R (time_out p c)
-  unfolding time_out
-  time_out-keeps p c = search (with_call-keeps, changes-keeps, unqueued-alters, then-keeps, says-keeps, deliver-keeps) depth 6
-
   pub come_due-keeps : (p : Image) (due : Due) → Keeps G R (come_due p due)
   unfolding come_due
   come_due-keeps p (due_for.Event n h) = releasing.releases p h (Some n)
-  come_due-keeps p (due_for.Delay t) = search (end_delay-keeps, moves.task_other)
-  come_due-keeps p (due_for.Timeout c) = search (time_out-keeps)
-  come_due-keeps p (due_for.Trigger t depth) = search (trigger_at-keeps, then-keeps, unwind-keeps, moves.task_other)
+  come_due-keeps p (due_for.Delay t) = moment_due-keeps moves p (due_for.Delay t) refl
+  come_due-keeps p (due_for.Timeout c) = moment_due-keeps moves p (due_for.Timeout c) refl
+  come_due-keeps p (due_for.Trigger t depth) = moment_due-keeps moves p (due_for.Trigger t depth) refl
+
+  dropped-alters : (test : Due → Bool) → Alters G R (drop_appointment test)
+  unfolding Alters
+  dropped-alters test w good = settings.drops_any test w good
 
   pub take_due-keeps : (p : Image) (again : Step) (a : Option Appointment) → Keeps G R again → Keeps G R (take_due p again a)
   take_due-keeps p again None kept = search (nothing-keeps)
-  take_due-keeps p again (Some a) kept = search (changes-keeps, drop_appointment-alters, then-keeps, come_due-keeps)
+  take_due-keeps p again (Some a) kept = search (changes-keeps, dropped-alters, then-keeps, come_due-keeps)
 
   all_due-keeps : (fuel : ℕ) (p : Image) (events : Bool) → Keeps G R (all_due fuel p events)
   unfolding all_due
@@ -122,9 +190,6 @@ module _ {G : GoodWorld} {May Other : Naming} {R : StepRelation} {Q : MoveRelati
   pub events_due-leads : (p : Image) → Leads G Q (events_due p)
   events_due-leads p = search (appointments_due-leads)
 
-  pub moments_due-leads : (p : Image) → Leads G Q (moments_due p)
-  moments_due-leads p = search (appointments_due-leads)
-
   pub expire-keeps : (p : Image) (k : ℕ) (setting : Option TimerSetting) → Keeps G R (expire p k setting)
   unfolding expire
   expire-keeps p k None = search (nothing-keeps)
@@ -136,7 +201,7 @@ module _ {G : GoodWorld} {May Other : Naming} {R : StepRelation} {Q : MoveRelati
 
   no_timers_due-alters : Alters G R no_timers_due
   unfolding Alters
-  no_timers_due-alters w good = moves.sets_timers_due [] w good
+  no_timers_due-alters w good = settings.sets_timers_due [] w good
 
   pub timers_due-leads : (p : Image) → Leads G Q (timers_due p)
   timers_due-leads p = search (settles-leads, looks-keeps, for_each-keeps, expire_timer-keeps, then-keeps, changes-keeps, no_timers_due-alters) depth 7
@@ -147,19 +212,10 @@ module _ {G : GoodWorld} {May Other : Naming} {R : StepRelation} {Q : MoveRelati
 
   no_budget_due-alters : Alters G R no_budget_due
   unfolding Alters
-  no_budget_due-alters w good = moves.sets_budget_due None w good
+  no_budget_due-alters w good = settings.sets_budget_due None w good
 
   pub budgets_due-leads : (p : Image) → Leads G Q (budgets_due p)
   budgets_due-leads p = search (settles-leads, looks-keeps, for_some-keeps, run_out-keeps, then-keeps, changes-keeps, no_budget_due-alters) depth 7
-
-  pub spend_quantum-keeps : (p : Image) (by : Option Who) → Keeps G R (spend_quantum p by)
-  unfolding spend_quantum
-  spend_quantum-keeps p None = search (nothing-keeps)
-  spend_quantum-keeps p (Some who.Agent) = search (nothing-keeps)
-  spend_quantum-keeps p (Some (who.Task t)) = search (looks-keeps, when-keeps, says-keeps, then-keeps, to_tail-keeps, moves.other_may, moves.task_other) depth 7
-
-  pub quantum_spent-leads : (p : Image) → Leads G Q (quantum_spent p)
-  quantum_spent-leads p = search (settles-leads, looks-keeps, spend_quantum-keeps)
 
   -- all of an instant but the effect of the action that ended
   pub behind_action-leads : (p : Image) → Leads G Q (script_items p ▶ events_due p ▶ moments_due p ▶ timers_due p ▶ budgets_due p ▶ quantum_spent p)
@@ -172,7 +228,7 @@ module _ {G : GoodWorld} {Act : Acting} {Holds : Holding} {R : StepRelation} {Q 
   unfolding effect Alters
   effect-from name w good acting =
       let v = edit_task name (with_ticks None) w in
-      let first = edit_task-alters moves.fine name (with_ticks None) (λ t. refl) (λ t. refl) (λ t. refl) (λ t. refl) w good in
+      let first = edit_task-alters moves.fine name (with_ticks None) (λ t. refl) (λ t. refl) (λ t. refl) (λ t. refl) (λ t. refl) w good in
       changes_then-from moves.fine (edit_task name (with_ticks None)) _ w first
       (then-from moves.fine (act p name) _ v (any_act-from moves stays acts p puts name v (moves.fine.behind w v first) (acts.without_ticks name w acting))
       (then-keeps moves.fine _ _ (open_if_ready-keeps moves.fine p name tt)
@@ -193,7 +249,7 @@ module _ {G : GoodWorld} {Act : Acting} {Holds : Holding} {R : StepRelation} {Q 
       let rest : Move = script_items p ▶ events_due p ▶ moments_due p ▶ timers_due p ▶ budgets_due p ▶ quantum_spent p in
       let v = (finish_action p w).0 in
       let first : Q w (finish_action p w).1 v = runner-leads w.ran w good acting in
-      moves.fine.leads_on w v (rest v).0 first (behind_action-leads moves.fine (releasing moves) p v (moves.fine.moved w v first))
+      moves.fine.leads_on w v (rest v).0 first (behind_action-leads moves.fine moves.settings (releasing moves) p v (moves.fine.moved w v first))
 
 -- where nothing need be known
 module _ {G : GoodWorld} {R : StepRelation} {Q : MoveRelation} (moves : AllMoves G Anyhow R Q) where

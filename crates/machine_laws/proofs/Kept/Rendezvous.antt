@@ -107,7 +107,7 @@ module _ {G : GoodWorld} {May Other : Naming} {R : StepRelation} {Q : MoveRelati
   wait_at_select-keeps name accepts delay false other = search (block-keeps)
 
   appoint_delay-from : (name : Who) (m : ℤ) (w : World) → G w → int_lt (pos w.time) m ≡ true → From R w (changes (appoint_delay name m))
-  appoint_delay-from (who.Task t) m w good later = appoint-from moves (due_for.Delay t) m w good later
+  appoint_delay-from (who.Task t) m w good later = appoint-from moves (due_for.Delay t) m w good refl later
   appoint_delay-from who.Agent m w good later = keeps-from moves (changes (λ v. v)) w good (changes-keeps moves (λ v. v) (unchanged-alters moves))
 
   select_delay-from : (p : Image) (name : Who) (s : StatementNo) (accepts : List StatementNo) (m : DelayMoment) (terminate test : Bool) (w : World) → G w → Other name → int_le m.at (pos w.time) ≡ test → From R w (select_delay p name s accepts m terminate test)

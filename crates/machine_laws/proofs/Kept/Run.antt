@@ -61,11 +61,11 @@ module _ {G : GoodWorld} {Holds : Holding} {R : StepRelation} {Q : MoveRelation}
 
   begin_action-alters : (p : Image) (name : Who) → Alters G R (begin_action p name)
   unfolding Alters
-  begin_action-alters p name w good = moves.fine.edits_task name (with_ticks (Some (ticks_or (task_of w name).ticks_left (cost p w name)))) w good (λ t. refl) (λ t. refl) (λ t. refl) (λ t. refl)
+  begin_action-alters p name w good = moves.fine.edits_task name (with_ticks (Some (ticks_or (task_of w name).ticks_left (cost p w name)))) w good (λ t. refl) (λ t. refl) (λ t. refl) (λ t. refl) (λ t. refl)
 
   spend_tick-alters : (name : Who) → Alters G R (spend_tick name)
   unfolding Alters
-  spend_tick-alters name w good = moves.fine.edits_task name (λ t. with_ticks (one_tick_less t.ticks_left) t) w good (λ t. refl) (λ t. refl) (λ t. refl) (λ t. refl)
+  spend_tick-alters name w good = moves.fine.edits_task name (λ t. with_ticks (one_tick_less t.ticks_left) t) w good (λ t. refl) (λ t. refl) (λ t. refl) (λ t. refl) (λ t. refl)
 
   silently-leads : (f : World → World) → Alters G R f → Leads G Q (silently f)
   unfolding Leads Alters
@@ -104,4 +104,4 @@ module _ {G : GoodWorld} {Holds : Holding} {R : StepRelation} {Q : MoveRelation}
         then-leads moves.fine _ _ (watches-leads moves.fine _ (λ w. says_run-leads name w.ran))
         (then-leads moves.fine _ _ (serve-leads name)
         (then-leads moves.fine _ _ (silently-leads (begin_action p name) (begin_action-alters p name))
-        (then-leads moves.fine _ _ (silently-leads (charge p name) (charge-alters moves.fine p name)) (silently-leads (spend_tick name) (spend_tick-alters name)))))
+        (then-leads moves.fine _ _ (silently-leads (charge p name) (charge-alters moves.fine moves.settings p name)) (silently-leads (spend_tick name) (spend_tick-alters name)))))

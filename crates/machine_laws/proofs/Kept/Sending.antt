@@ -48,7 +48,7 @@ module _ {G : GoodWorld} {May Other : Naming} {R : StepRelation} {Q : MoveRelati
   appoint_timeout-from p c None w good later = keeps-from moves (changes (λ v. v)) w good (changes-keeps moves (λ v. v) (unchanged-alters moves))
   appoint_timeout-from p c (Some moment) w good later = changes-from moves (appoint_timeout p c (Some moment)) w (timed (may_time_out p w (call_of w c))) where
     timed : (may : Bool) → R w [] (cond may (appoint (due_for.Timeout c) moment w) w)
-    timed true = moves.appoints (due_for.Timeout c) moment w good (is_later w.time moment later)
+    timed true = moves.appoints (due_for.Timeout c) moment w good refl (is_later w.time moment later)
     timed false = moves.stays w good
 
   pub wait_for_call-keeps : (c : Call) → Keeps G R (wait_for_call c)

@@ -41,8 +41,8 @@ use Rattle.profile_machine.specs.Values.{object_of}
 use Rattle.profile_machine.specs.Serving.{serves_nothing, is_served_now, serve_ends, end_release, close_action, wait_or_unwind, wait_for_own, resume_own, behind_action, release_object, settle_sent, begins_part, chosen_is_sent, serve_chosen, serve_next, serve_calls, go_on_by_mode, end_operation, finish_raised, finish_well, finish_call, end_entry_body, end_in_protected_by, end_in_protected, keep_values, keeps_sending, end_body_of_entry, part_of_start, with_body_left, no_longer_serves, not_left, outcome_by, is_own_call}
 use Rattle.std.proofs.Common.{◌≡◌, refl, sym, subst}
 use Rattle.machine_laws.proofs.Moves.{StepRelation, MoveRelation, own}
-use Rattle.machine_laws.proofs.FineMoves.{GoodWorld, Naming, AnyRelease}
-use Rattle.machine_laws.proofs.FinestMoves.{FinestMoves, MarkOpenings, ActionEnds, AllMoves, Holding, Anyhow}
+use Rattle.machine_laws.proofs.FineMoves.{GoodWorld, Naming, Anybody, AnyRelease}
+use Rattle.machine_laws.proofs.FinestMoves.{FinestMoves, MarkOpenings, ActionEnds, HandlerMoves, Holding, Anyhow}
 use Rattle.machine_laws.proofs.Kept.Combinators.{Keeps, Kept, From, world_behind, then-kept, looks_at-from, either-from, changes-keeps, keeps-from, looks-from, looks-keeps, then-from, nothing-keeps, says-keeps, then-keeps, when-keeps}
 use Rattle.machine_laws.proofs.Kept.Dispatching.{block-keeps}
 use Rattle.machine_laws.proofs.Kept.Frames.{edit_top-alters, leaves-keeps, pass_on-keeps}
@@ -80,28 +80,28 @@ pub record Ending (G : GoodWorld) (MayEnd : Who → Option ℕ → Type 0) (R : 
 
 -- ---- where anybody may be changed, it may end
 
-module _ {G : GoodWorld} {Holds : Holding} {R : StepRelation} {Q : MoveRelation} (moves : AllMoves G Holds R Q) where
+module _ {G : GoodWorld} {R : StepRelation} {Q : MoveRelation} (moves : FinestMoves G Anybody Anybody R Q) (handlers : HandlerMoves G R) where
   -- the release that the agent serves ends, and is told
   told_served-from : (r : Release) (n : ℕ) (w : World) → G w → w.serving ≡ Some r → n ≡ r.number → From R w (says Own (line.Served n) ▷ changes serves_nothing)
   unfolding From Kept
   told_served-from r n w good is e said =
-      (own (line.Served n) ∷ [], refl, subst (λ m. R w (own (line.Served m) ∷ []) (serves_nothing w)) (sym e) (moves.has_served r w good is))
+      (own (line.Served n) ∷ [], refl, subst (λ m. R w (own (line.Served m) ∷ []) (serves_nothing w)) (sym e) (handlers.has_served r w good is))
 
   serve_ends-from : (r : Release) (n : ℕ) (w : World) → G w → w.serving ≡ Some r → n ≡ r.number → From R w (serve_ends n)
   unfolding serve_ends
   serve_ends-from r n w good is e =
-      then-from moves.fine (says Own (line.Served n) ▷ changes serves_nothing) (looks (λ v. when (is_empty v.releases) (block TheBlock who.Agent waits_for.Release))) w
+      then-from moves (says Own (line.Served n) ▷ changes serves_nothing) (looks (λ v. when (is_empty v.releases) (block TheBlock who.Agent waits_for.Release))) w
       (told_served-from r n w good is e)
-      (looks-keeps moves.fine _ (λ v. when-keeps moves.fine (is_empty v.releases) _ (block-keeps moves.fine TheBlock who.Agent waits_for.Release tt)))
+      (looks-keeps moves _ (λ v. when-keeps moves (is_empty v.releases) _ (block-keeps moves TheBlock who.Agent waits_for.Release tt)))
 
   end_served-from : (n : ℕ) (w : World) (serving : Option Release) (test : Bool) → G w → w.serving ≡ serving → is_served_now n serving ≡ test → From R w (when test (serve_ends n))
   end_served-from n w None true good is e = cc
   end_served-from n w (Some r) true good is e = serve_ends-from r n w good is (eqb-true n r.number e)
-  end_served-from n w serving false good is e = keeps-from moves.fine nothing w good (nothing-keeps moves.fine)
+  end_served-from n w serving false good is e = keeps-from moves nothing w good (nothing-keeps moves)
 
   pub end_release-keeps : (n : ℕ) → Keeps G R (end_release n)
   unfolding end_release
-  end_release-keeps n = looks-from moves.fine _ (λ w good. end_served-from n w w.serving (is_served_now n w.serving) good refl refl)
+  end_release-keeps n = looks-from moves _ (λ w good. end_served-from n w w.serving (is_served_now n w.serving) good refl refl)
 
   pub ending : Ending G AnyRelease R
   ending = record { ends = λ name n may. end_release-keeps n }

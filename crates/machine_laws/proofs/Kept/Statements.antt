@@ -147,7 +147,7 @@ module _ {G : GoodWorld} {May Other : Naming} {R : StepRelation} {Q : MoveRelati
   wait_until-from : (p : Image) (name : Who) (until : ℤ) (test : Bool) (w : World) → G w → int_lt (pos w.time) until ≡ test → From R w (wait_until p name until test)
   unfolding wait_until
   wait_until-from p (who.Task t) until true w good is =
-      then-from moves (changes (appoint (due_for.Delay t) until)) (block TheBlock (who.Task t) waits_for.Moment) w (appoint-from moves (due_for.Delay t) until w good is) (search (block-keeps, moves.task_other))
+      then-from moves (changes (appoint (due_for.Delay t) until)) (block TheBlock (who.Task t) waits_for.Moment) w (appoint-from moves (due_for.Delay t) until w good refl is) (search (block-keeps, moves.task_other))
   wait_until-from p (who.Task t) until false w good is = keeps-from moves _ w good (search (to_tail-keeps, moves.other_may, moves.task_other))
   wait_until-from p who.Agent until future w good is = keeps-from moves _ w good (search (nothing-keeps))
 

@@ -77,10 +77,10 @@ module _ {G : GoodWorld} {May Other : Naming} {R : StepRelation} {Q : MoveRelati
       let added = add_task t (edit_top name (goes_on onward) w) in
       changes_then-from moves (λ v. added) g w a (keeps-from moves g added (moves.behind w added a) kept) said
 
-  create_task-from : (p : Image) (name : Who) (s : StatementNo) (d : DeclNo) (id : Option ScopeId) (t : world.Task) (w : World) → G w → Other name → t.who ≡ who.Task (record { 0 = w.drawn.tasks }) → t.frames ≡ [] → t.master ≡ Some (top_region w name) → From R w (create_task p name s d id t)
+  create_task-from : (p : Image) (name : Who) (s : StatementNo) (d : DeclNo) (id : Option ScopeId) (t : world.Task) (w : World) → G w → Other name → t.who ≡ who.Task (record { 0 = w.drawn.tasks }) → t.frames ≡ [] → t.master ≡ Some (top_region w name) → t.cpu_ticks ≡ 0 → From R w (create_task p name s d id t)
   unfolding create_task
-  create_task-from p name s d id t w good other same_who none master =
-      added_then-from name (next_of p s) t (for_some id (name_task p d) ▷ says_created d t) w (moves.adds_task name (next_of p s) t w good other same_who none master)
+  create_task-from p name s d id t w good other same_who none master clock =
+      added_then-from name (next_of p s) t (for_some id (name_task p d) ▷ says_created d t) w (moves.adds_task name (next_of p s) t w good other same_who none master clock)
       (search (then-keeps, for_some-keeps, looks-keeps, changes-keeps, set_thing-alters, says_created-keeps) depth 8)
 
   pub fall_from-keeps : (p : Image) (name : Who) (before : World) → May name → Keeps G R (fall_from p name before)
@@ -216,7 +216,7 @@ module _ {G : GoodWorld} {May Other : Naming} {R : StepRelation} {Q : MoveRelati
       raise_if-from moves name (in_protected w name || is_deferred w name) exception.Program _ w good (λ allowed.
       raise_if-from moves name (leb 256 (length w.tasks)) exception.Storage _ w good (λ few.
       given-from moves Own name (optional_span q (task_unit_of p (unit_of_declaration p d)).relative_deadline) _ w good (λ span.
-      create_task-from moves p name s d (home w (declaration_of p d).scope q.within) (created_task q d (unit_of_declaration p d) part span w.drawn.tasks) w good (openings.outside name w good may (first_is_false (in_protected w name) (is_deferred w name) allowed)) refl refl refl))))
+      create_task-from moves p name s d (home w (declaration_of p d).scope q.within) (created_task q d (unit_of_declaration p d) part span w.drawn.tasks) w good (openings.outside name w good may (first_is_false (in_protected w name) (is_deferred w name) allowed)) refl refl refl refl))))
 
   pub begin_task-keeps : (p : Image) (activator : Who) (level : ℕ) (t : world.Task) → Other t.who → Keeps G R (begin_task p activator level t)
   unfolding begin_task

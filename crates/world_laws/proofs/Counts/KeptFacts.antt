@@ -19,7 +19,7 @@ use Rattle.profile_machine.specs.Run.{opens, blank_world, with_serving, next_tic
 use Rattle.machine_laws.specs.Reached.{Reached}
 use Rattle.machine_laws.proofs.Moves.{StepRelation, MoveRelation, Puts}
 use Rattle.machine_laws.proofs.FineMoves.{GoodWorld, FineMoves, Openings, Exits, Anybody, AnyRegion, AnyRelease, nature}
-use Rattle.machine_laws.proofs.FinestMoves.{AllMoves, TockChanges, Anyhow, finest, begun, mark_openings, own_regions, action_ends}
+use Rattle.machine_laws.proofs.FinestMoves.{AllMoves, TockChanges, Anyhow, finest, begun, setting_moves, mark_openings, own_regions, action_ends}
 use Rattle.machine_laws.proofs.ReachedLemmas.{Lasts, reached-lasts}
 use Rattle.machine_laws.proofs.Kept.Combinators.{Leads, settles-leads}
 use Rattle.machine_laws.proofs.Kept.Instant.{instant-leads}
@@ -51,9 +51,12 @@ module _ {G : GoodWorld} (fact : KeepsFact G) where
     openings = mark_openings fact.moves fact.openings;
     regions = own_regions fact.openings;
     ends = action_ends fact.exits;
-    handles = λ o n w v xs g lets k. begun fact.moves who.Agent o Write None (Some n) (λ u good. fact.pushes who.Agent (new_frame (new_protected_mark o Write None (Some n)) None) u good refl) w v xs g lets k;
+    handlers = record {
+      handles = λ o n w v xs g lets k. begun fact.moves who.Agent o Write None (Some n) (λ u good. fact.pushes who.Agent (new_frame (new_protected_mark o Write None (Some n)) None) u good refl) w v xs g lets k;
+      has_served = λ r w g is. fact.has_served w g;
+    };
+    settings = setting_moves fact.moves;
     releases = λ h argument w g. fact.releases h argument w g;
-    has_served = λ r w g is. fact.has_served w g;
   }
 
   tocks : TockChanges G (BehindMove G)

@@ -143,14 +143,14 @@ add-found t w who.Agent = inl refl
 less_number : (d k : ℕ) → leb (suc d) k ≡ true → leb d k ≡ true
 less_number d k e = grind arith
 
-fresh-less : (d : ℕ) (n : Who) → is_fresh (suc d) n ≡ true → is_fresh d n ≡ true
+pub fresh-less : (d : ℕ) (n : Who) → is_fresh (suc d) n ≡ true → is_fresh d n ≡ true
 fresh-less d (who.Task t) e = less_number d t.0 e
 fresh-less d who.Agent e = e
 
-drawn-more : (d : ℕ) (n : Who) → is_fresh d n ≡ false → is_fresh (suc d) n ≡ false
+pub drawn-more : (d : ℕ) (n : Who) → is_fresh d n ≡ false → is_fresh (suc d) n ≡ false
 drawn-more d n e = by_test (is_fresh (suc d) n) (λ fresh. absurd (let clash : false ≡ true = sym e ∙ fresh-less d n fresh in cc)) (λ apart. apart)
 
-fresh-next : (d : ℕ) → is_fresh d (who.Task (record { 0 = d })) ≡ true
+pub fresh-next : (d : ℕ) → is_fresh d (who.Task (record { 0 = d })) ≡ true
 fresh-next d = le-leb d d (le_refl d)
 
 -- ---- lines that take somebody out

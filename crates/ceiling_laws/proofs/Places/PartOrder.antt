@@ -162,7 +162,7 @@ irreflexive TheBlock = refl
 
 -- ---- one line more
 
-by_both : {P : Type 0} (b c : Bool) → (b ≡ true → c ≡ true → P) → (b ≡ true → c ≡ false → P) → (b ≡ false → c ≡ true → P) → (b ≡ false → c ≡ false → P) → P
+pub by_both : {P : Type 0} (b c : Bool) → (b ≡ true → c ≡ true → P) → (b ≡ true → c ≡ false → P) → (b ≡ false → c ≡ true → P) → (b ≡ false → c ≡ false → P) → P
 by_both true true f g h k = f refl refl
 by_both true false f g h k = g refl refl
 by_both false true f g h k = h refl refl
@@ -192,15 +192,15 @@ last_put-append n (a ∷ xs) x = ap (pick a.part (puts n a.line)) (last_put-appe
 
 -- ---- lines in order
 
-abbrev AllParts : (Part → Type 0) → List Said → Type 0
+abbrev pub AllParts : (Part → Type 0) → List Said → Type 0
 AllParts P [] = Unit {0}
 AllParts P (x ∷ xs) = P x.part × AllParts P xs
 
-abbrev Sorted : List Said → Type 0
+abbrev pub Sorted : List Said → Type 0
 Sorted [] = Unit {0}
 Sorted (x ∷ xs) = AllParts (λ part. is_part_before part x.part ≡ false) xs × Sorted xs
 
-all-more : (P Q : Part → Type 0) (xs : List Said) → ((part : Part) → P part → Q part) → AllParts P xs → AllParts Q xs
+pub all-more : (P Q : Part → Type 0) (xs : List Said) → ((part : Part) → P part → Q part) → AllParts P xs → AllParts Q xs
 all-more P Q [] f a = tt
 all-more P Q (x ∷ xs) f a = (f x.part a.0, all-more P Q xs f a.1)
 
@@ -224,7 +224,7 @@ put-sorted : (x : Said) (ys : List Said) → Sorted ys → Sorted (put_in_order 
 put-sorted x [] h = (tt, tt)
 put-sorted x (y ∷ ys) h = below-test x y ys (is_part_before y.part x.part) refl h.0 h.1 (put-sorted x ys h.1)
 
-sorted : (xs : List Said) → Sorted (in_order xs)
+pub sorted : (xs : List Said) → Sorted (in_order xs)
 sorted [] = tt
 sorted (x ∷ xs) = put-sorted x (in_order xs) (sorted xs)
 

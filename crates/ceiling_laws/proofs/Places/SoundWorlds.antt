@@ -48,27 +48,27 @@ NamesFrom low drawn (who.Agent ∷ ns) = false ≡ true
 never : {P : Type 0} → false ≡ true → P
 never e = absurd cc
 
-names_lower : (less low drawn : ℕ) (ns : List Who) → less ≤ low → NamesFrom low drawn ns → NamesFrom less drawn ns
+pub names_lower : (less low drawn : ℕ) (ns : List Who) → less ≤ low → NamesFrom low drawn ns → NamesFrom less drawn ns
 names_lower less low drawn [] l h = le_trans l h
 names_lower less low drawn (who.Task t ∷ ns) l h = (le_trans l h.0, h.1)
 names_lower less low drawn (who.Agent ∷ ns) l h = h
 
 -- one more name, with the next number
-names_behind : (low drawn : ℕ) (ns : List Who) → NamesFrom low drawn ns → NamesFrom low (suc drawn) (ns ++ who.Task (record { 0 = drawn }) ∷ [])
+pub names_behind : (low drawn : ℕ) (ns : List Who) → NamesFrom low drawn ns → NamesFrom low (suc drawn) (ns ++ who.Task (record { 0 = drawn }) ∷ [])
 names_behind low drawn [] h = (h, le_refl (suc drawn))
 names_behind low drawn (who.Task t ∷ ns) h = (h.0, names_behind (suc t.0) drawn ns h.1)
 names_behind low drawn (who.Agent ∷ ns) h = h
 
-whose-append : (ts : List Task) (t : Task) → map whose (ts ++ t ∷ []) ≡ map whose ts ++ t.who ∷ []
+pub whose-append : (ts : List Task) (t : Task) → map whose (ts ++ t ∷ []) ≡ map whose ts ++ t.who ∷ []
 whose-append [] t = refl
 whose-append (x ∷ xs) t = ap (λ ns. x.who ∷ ns) (whose-append xs t)
 
 -- fewer names
-names_head : (n : Who) (low drawn : ℕ) (ns fewer : List Who) → NamesFrom low drawn (n ∷ ns) → ((l : ℕ) → NamesFrom l drawn ns → NamesFrom l drawn fewer) → NamesFrom low drawn (n ∷ fewer)
+pub names_head : (n : Who) (low drawn : ℕ) (ns fewer : List Who) → NamesFrom low drawn (n ∷ ns) → ((l : ℕ) → NamesFrom l drawn ns → NamesFrom l drawn fewer) → NamesFrom low drawn (n ∷ fewer)
 names_head (who.Task t) low drawn ns fewer h onward = (h.0, onward (suc t.0) h.1)
 names_head who.Agent low drawn ns fewer h onward = h
 
-lower-suc : (low n : ℕ) → low ≤ n → low ≤ suc n
+pub lower-suc : (low n : ℕ) → low ≤ n → low ≤ suc n
 lower-suc low n h = omega (arith, h)
 
 names_tail : (n : Who) (low drawn : ℕ) (ns fewer : List Who) → NamesFrom low drawn (n ∷ ns) → ((l : ℕ) → NamesFrom l drawn ns → NamesFrom l drawn fewer) → NamesFrom low drawn fewer
@@ -85,11 +85,11 @@ names_without name low drawn (t ∷ ts) h = names_if (not (is_who name t)) low d
 
 -- ---- each task of the list is found by its name
 
-record Known (low drawn : ℕ) (ts : List Task) (t : Task) : Type 0 where
-  found : find (is_who t.who) ts ≡ Some t
-  drawn_before : is_fresh drawn t.who ≡ false
-  behind_it : is_fresh low t.who ≡ true
-  no_agent : is_agent t.who ≡ false
+pub record Known (low drawn : ℕ) (ts : List Task) (t : Task) : Type 0 where
+  pub found : find (is_who t.who) ts ≡ Some t
+  pub drawn_before : is_fresh drawn t.who ≡ false
+  pub behind_it : is_fresh low t.who ≡ true
+  pub no_agent : is_agent t.who ≡ false
 
 pub each-on : (P Q : Task → Type 0) (ts : List Task) → ((t : Task) → P t → Q t) → EachTask P ts → EachTask Q ts
 each-on P Q [] f h = tt
@@ -104,7 +104,7 @@ earlier_number low k j l late = grind arith
 drawn_number : (d k : ℕ) → leb d k ≡ false → leb (suc d) k ≡ false
 drawn_number d k e = grind arith
 
-later-apart : (k : ℕ) (n m : Who) → is_fresh (suc k) m ≡ true → n ≡ who.Task (record { 0 = k }) → same_who m n ≡ false
+pub later-apart : (k : ℕ) (n m : Who) → is_fresh (suc k) m ≡ true → n ≡ who.Task (record { 0 = k }) → same_who m n ≡ false
 later-apart k (who.Task i) (who.Task j) late is = later_number k i.0 j.0 late (ap number_in is)
 later-apart k (who.Task i) who.Agent late is = refl
 later-apart k who.Agent m late is = absurd cc
@@ -114,13 +114,13 @@ drawn-number low drawn [] h = h
 drawn-number low drawn (who.Task t ∷ ns) h = let k = drawn-number (suc t.0) drawn ns h.1 in omega (arith, h.0, k)
 drawn-number low drawn (who.Agent ∷ ns) h = never h
 
-not-yet : (k drawn : ℕ) → suc k ≤ drawn → leb drawn k ≡ false
+pub not-yet : (k drawn : ℕ) → suc k ≤ drawn → leb drawn k ≡ false
 not-yet k drawn h = grind arith
 
-from-low : (low k : ℕ) → low ≤ k → leb low k ≡ true
+pub from-low : (low k : ℕ) → low ≤ k → leb low k ≡ true
 from-low low k h = le-leb low k h
 
-earlier-low : (low k : ℕ) (m : Who) → low ≤ k → is_fresh (suc k) m ≡ true → is_fresh low m ≡ true
+pub earlier-low : (low k : ℕ) (m : Who) → low ≤ k → is_fresh (suc k) m ≡ true → is_fresh low m ≡ true
 earlier-low low k (who.Task j) l late = earlier_number low k j.0 l late
 earlier-low low k who.Agent l late = late
 
@@ -215,7 +215,7 @@ sound-edit who.Agent f w named frees h = record { names = h.names; agent = frees
 pub sound-forget : (name : Who) (w : World) → Sound w → Sound (forget_task name w)
 sound-forget name w h = record { names = names_without name 0 w.drawn.tasks w.tasks h.names; agent = h.agent; delays = h.delays }
 
-drawn-on : (d : ℕ) (t : TaskNo) → is_fresh d (who.Task t) ≡ false → is_fresh (suc d) (who.Task t) ≡ false
+pub drawn-on : (d : ℕ) (t : TaskNo) → is_fresh d (who.Task t) ≡ false → is_fresh (suc d) (who.Task t) ≡ false
 drawn-on d t e = drawn_number d t.0 e
 
 pub sound-add : (t : Task) (w : World) → t.who ≡ who.Task (record { 0 = w.drawn.tasks }) → Sound w → Sound (add_task t w)
@@ -238,7 +238,7 @@ put_if : (test : Appointment → Bool) (y a : Appointment) (rest put : List Appo
 put_if test y a rest put true e onward = first_or (test y) (list_any test (a ∷ rest)) e
 put_if test y a rest put false e onward = later_or (test a) (list_any test put) (list_any test rest) e onward
 
-put-either : (test : Appointment → Bool) (y : Appointment) (xs : List Appointment) → list_any test (put_appointment y xs) ≡ true → (test y ≡ true) ⊎ (list_any test xs ≡ true)
+pub put-either : (test : Appointment → Bool) (y : Appointment) (xs : List Appointment) → list_any test (put_appointment y xs) ≡ true → (test y ≡ true) ⊎ (list_any test xs ≡ true)
 put-either test y [] e = first_or (test y) false e
 put-either test y (a ∷ rest) e = put_if test y a rest (put_appointment y rest) (int_lt y.moment a.moment) e (put-either test y rest)
 
@@ -275,7 +275,7 @@ pub record IsThere (w : World) (t : Task) : Type 0 where
   pub drawn : is_fresh w.drawn.tasks t.who ≡ false
   pub no_agent : is_agent t.who ≡ false
 
-found_as : (n : Who) (w : World) (t : Task) → is_agent n ≡ false → find (is_who n) w.tasks ≡ Some t → task_of w n ≡ t
+pub found_as : (n : Who) (w : World) (t : Task) → is_agent n ≡ false → find (is_who n) w.tasks ≡ Some t → task_of w n ≡ t
 found_as (who.Task k) w t task found = ap (λ x. option_or_else x nobody) found
 found_as who.Agent w t task found = absurd cc
 

@@ -37,7 +37,7 @@ pub set_where-seen : {A B : Type 0} (g : A → B) (test : A → Bool) (x y : A) 
 set_where-seen g test x y [] found same = refl
 set_where-seen g test x y (z ∷ zs) found same = set-step g test x y z zs (test z) found same (λ k. set_where-seen g test x y zs k same)
 
-edit_found-seen : {A B : Type 0} (g : A → B) (test : A → Bool) (f : A → A) (xs : List A) (found : Option A) → find test xs ≡ found → ((x : A) → g (f x) ≡ g x) → map g (edit_found test f xs found) ≡ map g xs
+pub edit_found-seen : {A B : Type 0} (g : A → B) (test : A → Bool) (f : A → A) (xs : List A) (found : Option A) → find test xs ≡ found → ((x : A) → g (f x) ≡ g x) → map g (edit_found test f xs found) ≡ map g xs
 edit_found-seen g test f xs None is same = refl
 edit_found-seen g test f xs (Some x) is same = set_where-seen g test x (f x) xs is (same x)
 

@@ -12,7 +12,7 @@ use Rattle.line_laws.proofs.Leaving.WakingRuns.{comes-awake}
 use Rattle.line_laws.specs.ExitLaws.{is_at_call, RunnersAreFree, RunsKeepExclusion}
 use Rattle.line_laws.proofs.Exits.ExitRuns.{free_runs_keep_exclusion}
 
-awake-free : (waiting : Option Waiting) → waits waiting ≡ false → is_at_call waiting ≡ false
+pub awake-free : (waiting : Option Waiting) → waits waiting ≡ false → is_at_call waiting ≡ false
 awake-free None e = refl
 awake-free (Some waits_for.Activation) e = refl
 awake-free (Some waits_for.Moment) e = refl

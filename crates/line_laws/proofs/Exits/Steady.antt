@@ -72,7 +72,7 @@ abbrev pub FreeIn : Who → State → Type 0
 FreeIn (who.Task n) state = is_at_call (waiting_in state) ≡ false
 FreeIn who.Agent state = Unit {0}
 
-free-runnable : (me : Who) → FreeIn me Runnable
+pub free-runnable : (me : Who) → FreeIn me Runnable
 free-runnable (who.Task n) = refl
 free-runnable who.Agent = tt
 
@@ -94,11 +94,11 @@ unfoldable pub Apart : Who → Who → Type 0
 Apart me name = same_who me name ≡ false
 
 -- who waits for a call is another
-call-waits : (c : CallNo) (waiting : Option Waiting) → waits_for_call c waiting ≡ true → is_at_call waiting ≡ true
+pub call-waits : (c : CallNo) (waiting : Option Waiting) → waits_for_call c waiting ≡ true → is_at_call waiting ≡ true
 call-waits c (Some (waits_for.Call d)) e = refl
 call-waits c _ e = absurd (false≢true e)
 
-end-waits : (c : CallNo) (waiting : Option Waiting) → waits_for_end c waiting ≡ true → is_at_call waiting ≡ true
+pub end-waits : (c : CallNo) (waiting : Option Waiting) → waits_for_end c waiting ≡ true → is_at_call waiting ≡ true
 end-waits c (Some (waits_for.EndOfCall d)) e = refl
 end-waits c _ e = absurd (false≢true e)
 

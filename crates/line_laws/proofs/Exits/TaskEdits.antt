@@ -26,11 +26,11 @@ same_who-path (who.Task a) who.Agent e = absurd (false≢true e)
 same_who-path who.Agent (who.Task b) e = absurd (false≢true e)
 same_who-path who.Agent who.Agent e = refl
 
-both-same : (m k : TaskNo) (name : Who) → same_who (who.Task m) name ≡ true → same_who (who.Task k) name ≡ true → same_who (who.Task m) (who.Task k) ≡ true
+pub both-same : (m k : TaskNo) (name : Who) → same_who (who.Task m) name ≡ true → same_who (who.Task k) name ≡ true → same_who (who.Task m) (who.Task k) ≡ true
 both-same m k (who.Task n) e f = eq-eqb m.0 k.0 (eqb-true m.0 n.0 e ∙ sym (eqb-true k.0 n.0 f))
 both-same m k who.Agent e f = absurd (false≢true e)
 
-other-name : (m k : TaskNo) (name : Who) → same_who (who.Task m) name ≡ false → same_who (who.Task k) name ≡ true → same_who (who.Task m) (who.Task k) ≡ false
+pub other-name : (m k : TaskNo) (name : Who) → same_who (who.Task m) name ≡ false → same_who (who.Task k) name ≡ true → same_who (who.Task m) (who.Task k) ≡ false
 other-name m k name e f = subst (λ n. same_who (who.Task m) n ≡ false) (sym (same_who-path (who.Task k) name f)) e
 
 other-one : (m k : TaskNo) (name : Who) → same_who (who.Task m) name ≡ true → same_who (who.Task k) name ≡ false → same_who (who.Task m) (who.Task k) ≡ false
@@ -39,18 +39,18 @@ other-one m k name e f =
     (λ same. absurd (false≢true (sym f ∙ subst (λ n. same_who n name ≡ true) (same_who-path (who.Task m) (who.Task k) same) e)))
     (λ apart. apart)
 
-some-none : (x : Task) → None ≡ Some x → ⊥
+pub some-none : (x : Task) → None ≡ Some x → ⊥
 some-none x e = cc
 
-some-same : (x y : Task) → Some x ≡ Some y → x ≡ y
+pub some-same : (x y : Task) → Some x ≡ Some y → x ≡ y
 some-same x y e = cc
 
 -- ---- what holds of the one that is found, or of nobody
 
-abbrev seen : (Task → Type 0) → Option Task → Type 0
+abbrev pub seen : (Task → Type 0) → Option Task → Type 0
 seen P found = P (option_or_else found nobody)
 
-tail-step : (P : Task → Type 0) (c : Bool) (z : Task) (rest other : Option Task) → (seen P rest → seen P other) → seen P (cond c (Some z) rest) → seen P (cond c (Some z) other)
+pub tail-step : (P : Task → Type 0) (c : Bool) (z : Task) (rest other : Option Task) → (seen P rest → seen P other) → seen P (cond c (Some z) rest) → seen P (cond c (Some z) other)
 tail-step P true z rest other k h = h
 tail-step P false z rest other k h = k h
 
@@ -108,7 +108,7 @@ added-last : (P : Task → Type 0) (c : Bool) (x : Task) → P x → P nobody �
 added-last P true x new blank = new
 added-last P false x new blank = blank
 
-added-among : (P : Task → Type 0) (n : TaskNo) (x : Task) (ts : List Task) → P x → P nobody → seen P (find (is_who (who.Task n)) ts) → seen P (find (is_who (who.Task n)) (ts ++ x ∷ []))
+pub added-among : (P : Task → Type 0) (n : TaskNo) (x : Task) (ts : List Task) → P x → P nobody → seen P (find (is_who (who.Task n)) ts) → seen P (find (is_who (who.Task n)) (ts ++ x ∷ []))
 added-among P n x [] new blank h = added-last P (is_who (who.Task n) x) x new blank
 added-among P n x (t ∷ ts) new blank h =
     tail-step P (is_who (who.Task n) t) t (find (is_who (who.Task n)) ts) (find (is_who (who.Task n)) (ts ++ x ∷ [])) (λ g. added-among P n x ts new blank g) h
@@ -121,11 +121,11 @@ none-step : (n : Who) (z : Task) (rest : List Task) (b : Bool) → is_who n z �
 none-step n z rest true is e = e
 none-step n z rest false is e = ap (λ c. cond c (Some z) (find (is_who n) rest)) is ∙ e
 
-none-left : (n : Who) (ts : List Task) → find (is_who n) (without (is_who n) ts) ≡ None
+pub none-left : (n : Who) (ts : List Task) → find (is_who n) (without (is_who n) ts) ≡ None
 none-left n [] = refl
 none-left n (z ∷ zs) = none-step n z (without (is_who n) zs) (is_who n z) refl (none-left n zs)
 
-apart-names : (m n a : Who) → same_who m n ≡ false → same_who n a ≡ true → same_who m a ≡ false
+pub apart-names : (m n a : Who) → same_who m n ≡ false → same_who n a ≡ true → same_who m a ≡ false
 apart-names m n a e f = let is : n ≡ a = same_who-path n a f in subst (λ x. same_who m x ≡ false) is e
 
 others-step : (P : Task → Type 0) (m n : Who) (z : Task) (zs left : List Task) (b : Bool) → is_who n z ≡ b → same_who m n ≡ false → (seen P (find (is_who m) zs) → seen P (find (is_who m) left))
@@ -134,11 +134,11 @@ others-step P m n z zs left true is e onward h =
     onward (subst (λ c. seen P (cond c (Some z) (find (is_who m) zs))) (apart-names m n z.who e is) h)
 others-step P m n z zs left false is e onward h = tail-step P (is_who m z) z (find (is_who m) zs) (find (is_who m) left) onward h
 
-others-left : (P : Task → Type 0) (m n : Who) (ts : List Task) → same_who m n ≡ false → seen P (find (is_who m) ts) → seen P (find (is_who m) (without (is_who n) ts))
+pub others-left : (P : Task → Type 0) (m n : Who) (ts : List Task) → same_who m n ≡ false → seen P (find (is_who m) ts) → seen P (find (is_who m) (without (is_who n) ts))
 others-left P m n [] e h = h
 others-left P m n (z ∷ zs) e h = others-step P m n z zs (without (is_who n) zs) (is_who n z) refl e (λ g. others-left P m n zs e g) h
 
-left-where : (P : Task → Type 0) (m n : Who) (ts : List Task) (b : Bool) → same_who m n ≡ b → P nobody → seen P (find (is_who m) ts) → seen P (find (is_who m) (without (is_who n) ts))
+pub left-where : (P : Task → Type 0) (m n : Who) (ts : List Task) (b : Bool) → same_who m n ≡ b → P nobody → seen P (find (is_who m) ts) → seen P (find (is_who m) (without (is_who n) ts))
 left-where P m n ts true e blank h =
     let is : m ≡ n = same_who-path m n e in
     subst (λ x. seen P (find (is_who x) (without (is_who n) ts))) (sym is) (subst (seen P) (sym (none-left n ts)) blank)

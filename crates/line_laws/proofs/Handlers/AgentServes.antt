@@ -56,9 +56,9 @@ use Rattle.line_laws.proofs.Handlers.AgentWorlds.{Colour, Apart}
 use Rattle.line_laws.proofs.Handlers.AgentMarks.{Rooted, Standing, Emptied, rooted, emptied, stands_rooted, above_lowest, lowest_alone, has_top}
 use Rattle.line_laws.proofs.Handlers.SparedMoves.{Spared, NoRelease, spares}
 use Rattle.line_laws.proofs.Handlers.OwnMoves.{Busy, BusyStep, busies, busy_openings, spared, agent_marked, owned-popped}
-
 use Rattle.line_laws.proofs.Handlers.Attending.{Acted, calm_so, closes_so, busy-acted, busy_then, spared_then}
 use Rattle.line_laws.proofs.Handlers.Mixed.{from_by, keeps_at, then_by, looks_by, when_by, some_by, either_by, nothing_by}
+
 
 -- ---- the release has been served
 

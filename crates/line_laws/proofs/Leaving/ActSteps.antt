@@ -31,13 +31,13 @@ use Rattle.profile_machine.specs.Rendezvous.{finish_rendezvous, behind_accept, f
 use Rattle.profile_machine.specs.Controlled.{register, registers, end_in_initialize, behind_finalize, is_assignment, end_in_finalize, do_step, step_with, end_in_assign, registered_object}
 use Rattle.profile_machine.specs.Act.{behind_handled, end_handled, end_top, wait_for_trigger, drop_trigger, below, end_abortable_by, end_in_abortable}
 use Rattle.machine_laws.proofs.Moves.{StepRelation}
-use Rattle.line_laws.proofs.Leaving.FineMoves.{Nature, nature, Free, Awake, top_leaving, being_left_in, is_special}
+use Rattle.line_laws.proofs.Leaving.FineMoves.{Nature, nature, Free, Awake, top_leaving, is_special}
 use Rattle.line_laws.proofs.Leaving.FreeWorlds.{Inv}
 use Rattle.line_laws.proofs.Leaving.RegionTies.{popped-tied}
 use Rattle.line_laws.proofs.Leaving.CoreMoves.{Base, base-then, pop-base, popped-free}
 use Rattle.line_laws.proofs.Leaving.Moving.{Moved, GoodAs}
 use Rattle.line_laws.proofs.Leaving.Modes.{acting, acting-self, Known, Steady, none, going, steady}
-use Rattle.line_laws.proofs.Leaving.Kept.Combinators.{Kept, Keeps, From, keeps-from, then-keeps, looks-keeps, changes-keeps, cond-keeps, nothing-keeps}
+use Rattle.line_laws.proofs.Leaving.Kept.Combinators.{keeps-from, then-keeps, looks-keeps, changes-keeps, cond-keeps, nothing-keeps}
 use Rattle.line_laws.proofs.Leaving.Kept.Frames.{raises-keeps, pass_on-keeps}
 use Rattle.line_laws.proofs.Leaving.Kept.Scopes.{end_scope-alters}
 use Rattle.line_laws.proofs.Leaving.Kept.Calls.{edit_call-alters, with_call-keeps, attempt_on-keeps}
@@ -46,6 +46,8 @@ use Rattle.line_laws.proofs.Leaving.Kept.Inheritance.{lose_running-keeps}
 use Rattle.line_laws.proofs.Leaving.Kept.Rendezvous.{finish_rendezvous-keeps, behind_accept-keeps, finished_call-number, finished_call-caller}
 use Rattle.line_laws.proofs.Leaving.Kept.Controlled.{register-keeps, behind_finalize-keeps, do_step-keeps}
 use Rattle.line_laws.proofs.Leaving.Kept.Act.{behind_handled-keeps, wait_for_trigger-keeps, drop_trigger-alters}
+use Rattle.machine_laws.proofs.FinestMoves.{being_left_in}
+use Rattle.machine_laws.proofs.Kept.Combinators.{From, Keeps, Kept}
 
 -- ---- steps that are put together, whatever each of them knows
 

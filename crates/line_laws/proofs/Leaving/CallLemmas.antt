@@ -47,7 +47,7 @@ set-before c k t u d (z ∷ zs) found number caller e = step (is_call c z) (is_c
       let rest = onward found (sym (ap (λ b. cond b (Some z) (find (is_call k) (set_where (is_call c) u zs))) is) ∙ e) in
       record { call = rest.call; found = ap (λ b. cond b (Some z) (find (is_call k) zs)) is ∙ rest.found; same = rest.same }
 
-edited-before : (c k : CallNo) (f : Call → Call) (d : Call) (xs : List Call) (found : Option Call) → find (is_call c) xs ≡ found → ((x : Call) → (f x).number ≡ x.number) → ((x : Call) → (f x).caller ≡ x.caller)
+pub edited-before : (c k : CallNo) (f : Call → Call) (d : Call) (xs : List Call) (found : Option Call) → find (is_call c) xs ≡ found → ((x : Call) → (f x).number ≡ x.number) → ((x : Call) → (f x).caller ≡ x.caller)
     → find (is_call k) (edit_found (is_call c) f xs found) ≡ Some d → Before k xs d
 edited-before c k f d xs None is a b e = record { call = d; found = e; same = refl }
 edited-before c k f d xs (Some t) is a b e = set-before c k t (f t) d xs is (a t) (b t) e
@@ -56,7 +56,7 @@ pub edited-caller : (c : CallNo) (f : Call → Call) (calls : List Call) (drawn 
 edited-caller c f calls drawn a b name k h =
     (h.0, λ d e. let q = edited-before c k f d calls (find (is_call c) calls) refl a b e in ap (λ t. who.Task t) (sym q.same) ∙ h.1 q.call q.found, h.2)
 
-not_newer : (k n : ℕ) → k ≤ n → eqb k (suc n) ≡ false
+pub not_newer : (k n : ℕ) → k ≤ n → eqb k (suc n) ≡ false
 not_newer k n h = by (eqb k (suc n)) refl where
   by : (b : Bool) → eqb k (suc n) ≡ b → b ≡ false
   by false e = refl
@@ -74,7 +74,7 @@ none-left c (z ∷ zs) = step (is_call c z) refl (none-left c zs) where
   step true is k = k
   step false is k = ap (λ b. cond b (Some z) (find (is_call c) (without (is_call c) zs))) is ∙ k
 
-gone-before : (c k : CallNo) (d : Call) (xs : List Call) → find (is_call k) (without (is_call c) xs) ≡ Some d → find (is_call k) xs ≡ Some d
+pub gone-before : (c k : CallNo) (d : Call) (xs : List Call) → find (is_call k) (without (is_call c) xs) ≡ Some d → find (is_call k) xs ≡ Some d
 gone-before c k d [] e = e
 gone-before c k d (z ∷ zs) e = step (is_call c z) (is_call k z) refl refl e (λ a. gone-before c k d zs a) where
   step : (b h : Bool) → is_call c z ≡ b → is_call k z ≡ h → find (is_call k) (cond (not b) (z ∷ without (is_call c) zs) (without (is_call c) zs)) ≡ Some d → (find (is_call k) (without (is_call c) zs) ≡ Some d → find (is_call k) zs ≡ Some d) → cond h (Some z) (find (is_call k) zs) ≡ Some d

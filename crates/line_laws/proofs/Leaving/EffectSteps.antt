@@ -20,14 +20,14 @@ use Rattle.profile_machine.specs.Tasks.{edit_task}
 use Rattle.profile_machine.specs.Frames.{top_of, leaving_of}
 use Rattle.profile_machine.specs.Act.{end_mark, act_frame, act_without, act_top, act}
 use Rattle.machine_laws.proofs.Moves.{StepRelation, own, Puts}
-use Rattle.line_laws.proofs.Leaving.FineMoves.{Free, Awake, being_left_in, is_special}
+use Rattle.line_laws.proofs.Leaving.FineMoves.{Free, Awake, is_special}
 use Rattle.line_laws.proofs.Leaving.TaskLemmas.{awake-edited}
 use Rattle.line_laws.proofs.Leaving.FreeWorlds.{Inv}
 use Rattle.line_laws.proofs.Leaving.RegionLines.{NotLeaving}
 use Rattle.line_laws.proofs.Leaving.CoreMoves.{Base, base-then, onward-free, claim-quiet, edited-state}
 use Rattle.line_laws.proofs.Leaving.Moving.{Moved, GoodAs}
 use Rattle.line_laws.proofs.Leaving.Modes.{acting, acting-self, Known, none, going}
-use Rattle.line_laws.proofs.Leaving.Kept.Combinators.{Kept, Keeps, From, keeps-from, looks-keeps, nothing-keeps}
+use Rattle.line_laws.proofs.Leaving.Kept.Combinators.{keeps-from, looks-keeps, nothing-keeps}
 use Rattle.line_laws.proofs.Leaving.Kept.Handlers.{call_handler-keeps}
 use Rattle.line_laws.proofs.Leaving.Kept.Act.{act_statement-keeps}
 use Rattle.line_laws.proofs.Leaving.ActSteps.{Does, weak, handled-from, initialized-from, finalized-from, assigned-from, end_abortable-from, accepted-from}
@@ -49,6 +49,8 @@ use Rattle.profile_machine.specs.Frames.{open_if_ready}
 use Rattle.profile_machine.specs.Masters.{waits_at_terminate, may_terminate, leave_by_terminate}
 use Rattle.profile_machine.specs.Tasking.{block_at_terminate, take_terminates, unwind_all}
 use Rattle.profile_machine.specs.Instant.{effect}
+use Rattle.machine_laws.proofs.FinestMoves.{being_left_in}
+use Rattle.machine_laws.proofs.Kept.Combinators.{From, Keeps, Kept}
 
 -- ---- an action, by the mark on top
 

@@ -1,7 +1,7 @@
 -- The changes that steps are made of, with what the lines of regions and controlled objects tell: each such line comes
 -- together with the change of marks, or of the registered objects, that it tells. May is said of who acts and may go on, Acts
 -- of who acts, Pushes of whose marks may become more or fewer, and Stops where somebody may block for others or be gone.
-use Rattle.std.proofs.Common.{◌≡◌, ℕ, ℤ, suc, Bool, true, false, ◌||◌, List, [], ◌∷◌, ◌++◌, Option, Some, None, is_some, refl}
+use Rattle.std.proofs.Common.{◌≡◌, ℕ, ℤ, suc, Bool, true, false, ◌||◌, List, [], ◌∷◌, ◌++◌, Option, Some, None, is_some}
 use Rattle.std.specs.Prelude.{int_le, pos}
 use Rattle.ann_base.specs.declared.identities.CallNo.{CallNo}
 use Rattle.ann_base.specs.declared.identities.ObjectNo.{ObjectNo}
@@ -45,8 +45,8 @@ use Rattle.profile_machine.specs.declared.world.lines.Line.{Line}
 use Rattle.profile_machine.specs.declared.world.lines.Line.TheVariants as said
 use Rattle.profile_machine.specs.Words.{edit_at}
 use Rattle.profile_machine.specs.Steps.{placed_by}
-use Rattle.profile_machine.specs.Tasks.{task_of, edit_task, with_state, with_frames, waiting_in, waiting_of}
-use Rattle.profile_machine.specs.Dispatching.{active, deadline_shown, word_of, keep_level, grant_quantum, without_kept_level}
+use Rattle.profile_machine.specs.Tasks.{edit_task, with_state, with_frames, waiting_in, waiting_of}
+use Rattle.profile_machine.specs.Dispatching.{word_of, keep_level, grant_quantum, without_kept_level}
 use Rattle.profile_machine.specs.Frames.{top_of, edit_top, push, pop, goes_on}
 use Rattle.profile_machine.specs.Scopes.{edit_cells, begin_scope, open_scope, end_scope}
 use Rattle.profile_machine.specs.Appointments.{appoint, drop_appointment}
@@ -65,26 +65,11 @@ use Rattle.profile_machine.specs.Serving.{close_action, serves_nothing}
 use Rattle.profile_machine.specs.Handlers.{add_release, clear_timer, with_timer_set, edit_budget}
 use Rattle.profile_machine.specs.Instant.{with_port, with_masked, with_kept_interrupt, with_script}
 use Rattle.machine_laws.proofs.Moves.{StepRelation, MoveRelation, is_told_apart, LetsIn, FindsHeld, own, lines_of}
-
-abbrev pub GoodWorld : Type 1
-GoodWorld = World → Type 0
-
-abbrev pub Naming : Type 1
-Naming = Who → Type 0
+use Rattle.machine_laws.proofs.FineMoves.{GoodWorld, Naming, is_placing, ready_line}
+use Rattle.machine_laws.proofs.FinestMoves.{being_left_in}
 
 -- ---- what a mark is, whatever is edited in it: its region, whether it is being left, and whether nothing goes on below it when
 -- it has ended
-
--- whether its region is being left
-abbrev pub being_left_in : Mark → Bool
-being_left_in (Scope m) = m.being_left
-being_left_in (Handled s) = false
-being_left_in (InProtected m) = false
-being_left_in (InAccept m) = false
-being_left_in (Abortable m) = false
-being_left_in (InInitialize l) = false
-being_left_in (InFinalize o) = false
-being_left_in (InAssign m) = false
 
 -- behind a Finalize, the outermost scope of a task and the protected action of a handler nothing below goes on
 abbrev pub is_special : Mark → Bool
@@ -169,11 +154,6 @@ Caller c name w = (c.0 ≤ w.drawn.calls) × ((d : Call) → call_of w c ≡ Som
 
 -- ---- lines that are said only together with what they tell
 
-abbrev pub is_placing : Line → Bool
-is_placing (said.Ready name level end deadline) = true
-is_placing (said.Block name why) = true
-is_placing _ = false
-
 abbrev pub is_of_region : Line → Bool
 is_of_region (said.Leave name region how) = true
 is_of_region (said.Init name object region declared) = true
@@ -188,9 +168,6 @@ is_apart line = is_told_apart line || is_placing line || is_of_region line
 abbrev pub AreQuiet : List Said → Type 0
 AreQuiet [] = Unit {0}
 AreQuiet (x ∷ xs) = (is_apart x.line ≡ false) × AreQuiet xs
-
-abbrev pub ready_line : Image → Part → Who → QueueEnd → World → Said
-ready_line p part name end w = record { part = part; line = said.Ready name (active p (task_of w name)) end (deadline_shown p (task_of w name)) }
 
 -- somebody goes on
 abbrev pub gone_on : Who → Option StatementNo → World → World
@@ -298,7 +275,3 @@ pub record FineMoves (G : GoodWorld) (May Acts Pushes : Naming) (Stops : Type 0)
   pub masks : (n : ℕ) (flag : Bool) (w : World) → G w → R w [] (with_masked n flag w)
   pub keeps_interrupt : (n : ℕ) (flag : Bool) (w : World) → G w → R w [] (with_kept_interrupt n flag w)
   pub cuts_script : (x : ℤ × Item) (rest : List (ℤ × Item)) (w : World) → G w → w.script ≡ x ∷ rest → int_le x.0 (pos w.time) ≡ true → R w [] (with_script rest w)
-
-pub first_is_false : (a b : Bool) → (a || b) ≡ false → a ≡ false
-first_is_false true b e = e
-first_is_false false b e = refl

@@ -37,11 +37,12 @@ use Rattle.line_laws.proofs.Leaving.CoreMoves.{Base, state_in}
 use Rattle.line_laws.proofs.Leaving.Moving.{Moved, GoodAs, Ends, fine}
 use Rattle.line_laws.proofs.Leaving.Modes.{acting, Known, Nobody, Anybody, extra-none, known-none}
 use Rattle.line_laws.proofs.Leaving.EffectSteps.{Settled, effect-from, same_acts}
-use Rattle.line_laws.proofs.Leaving.Kept.Combinators.{Kept, From, Leads, changes_then-from, said_then-from, then-from, settles-from}
+use Rattle.line_laws.proofs.Leaving.Kept.Combinators.{changes_then-from, said_then-from, then-from, settles-from}
 use Rattle.line_laws.proofs.Leaving.Kept.Dispatching.{to_tail-from}
 use Rattle.line_laws.proofs.Leaving.Kept.Frames.{open_sequence-keeps}
 use Rattle.line_laws.proofs.Leaving.Kept.Instant.{behind_action-leads}
 use Rattle.line_laws.proofs.Leaving.Kept.Run.{TockMoves}
+use Rattle.machine_laws.proofs.Kept.Combinators.{From, Kept, Leads}
 
 -- ---- whom lines place
 

@@ -16,8 +16,9 @@ use Rattle.profile_machine.specs.Words.{set_where, first_of_list, option_or_else
 use Rattle.profile_machine.specs.Tasks.{task_at, task_of, edit_task_found, edit_task, is_who, waiting_in, nobody}
 use Rattle.profile_machine.specs.Frames.{without_first, edit_first, goes_on}
 use Rattle.profile_machine.specs.Calls.{is_call}
-use Rattle.line_laws.proofs.Leaving.FineMoves.{Alike, nature, being_left_in, is_special, own_call_of, top_leaving, waits, MakesCalls}
+use Rattle.line_laws.proofs.Leaving.FineMoves.{Alike, nature, is_special, own_call_of, top_leaving, waits, MakesCalls}
 use Rattle.line_laws.proofs.Leaving.TaskLemmas.{found-holds, who_path}
+use Rattle.machine_laws.proofs.FinestMoves.{being_left_in}
 
 -- ---- one task
 

@@ -13,12 +13,13 @@ use Rattle.profile_machine.specs.Tasks.{task_of, edit_task, with_state, with_fra
 use Rattle.profile_machine.specs.Frames.{edit_first, goes_on, without_first}
 use Rattle.profile_machine.specs.Tasking.{add_task}
 use Rattle.machine_laws.proofs.Moves.{MoveRelation}
-use Rattle.line_laws.proofs.Leaving.FineMoves.{Naming, FineMoves, Nature, nature, Alike, Free, Awake, waits, waiting_now, top_leaving}
+use Rattle.line_laws.proofs.Leaving.FineMoves.{FineMoves, Nature, nature, Alike, Free, Awake, waits, waiting_now, top_leaving}
 use Rattle.line_laws.proofs.Leaving.TaskLemmas.{of_edited, of_other, of_same, of_added, of_forgotten, who_path, FreeTask, free-edited, awake-edited, awake-same}
 use Rattle.line_laws.proofs.Leaving.FreeWorlds.{gone-top}
 use Rattle.line_laws.proofs.Leaving.RegionLines.{by_test}
 use Rattle.line_laws.proofs.Leaving.CoreMoves.{alike-free, pop-free, state-free}
 use Rattle.line_laws.proofs.Leaving.Moving.{Extra, Known_of, Moved, GoodAs, Ends, fine}
+use Rattle.machine_laws.proofs.FineMoves.{Naming}
 
 -- who acts, and the agent, of whose places nothing is asked
 abbrev pub acting : Who → Who → Bool

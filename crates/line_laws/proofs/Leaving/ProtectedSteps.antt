@@ -41,7 +41,7 @@ use Rattle.line_laws.proofs.Leaving.RegionTies.{popped-tied}
 use Rattle.line_laws.proofs.Leaving.CoreMoves.{pop-base, popped-free}
 use Rattle.line_laws.proofs.Leaving.Moving.{Moved, GoodAs}
 use Rattle.line_laws.proofs.Leaving.Modes.{acting, acting-self, Known, Steady, none, going, steady}
-use Rattle.line_laws.proofs.Leaving.Kept.Combinators.{Keeps, From, keeps-from, then-keeps, changes-keeps, says-keeps, nothing-keeps}
+use Rattle.line_laws.proofs.Leaving.Kept.Combinators.{keeps-from, then-keeps, changes-keeps, says-keeps, nothing-keeps}
 use Rattle.line_laws.proofs.Leaving.Kept.Frames.{edit_top-alters}
 use Rattle.line_laws.proofs.Leaving.Kept.Calls.{enqueue-keeps}
 use Rattle.line_laws.proofs.Leaving.Kept.CallEnds.{deliver-keeps}
@@ -52,6 +52,7 @@ use Rattle.line_laws.proofs.Leaving.Kept.Sending.{send_on-keeps}
 use Rattle.line_laws.proofs.Leaving.Kept.Serving.{end_release-keeps, behind_action-from, settle_sent-keeps, begins_part-keeps}
 use Rattle.line_laws.proofs.Leaving.ActSteps.{Does, weak, joined, told-from, silent-from, steady-then, top_steady, steady-free}
 use Rattle.line_laws.proofs.Leaving.FreeWorlds.{OwnCalls, CallerIn}
+use Rattle.machine_laws.proofs.Kept.Combinators.{From, Keeps}
 
 -- ---- the object is released
 

@@ -37,7 +37,7 @@ use Rattle.line_laws.proofs.Leaving.Telling.{begins_leaving-tells, has_left-tell
 use Rattle.line_laws.proofs.Leaving.CoreMoves.{pop-base, popped-free, claim-quiet, edited-called, edited-state}
 use Rattle.line_laws.proofs.Leaving.Moving.{Moved, GoodAs}
 use Rattle.line_laws.proofs.Leaving.Modes.{acting, acting-self, Known, none, going}
-use Rattle.line_laws.proofs.Leaving.Kept.Combinators.{Kept, Keeps, From, keeps-from, then-keeps, changes-keeps}
+use Rattle.line_laws.proofs.Leaving.Kept.Combinators.{keeps-from, then-keeps, changes-keeps}
 use Rattle.line_laws.proofs.Leaving.Kept.Scopes.{end_scope-alters}
 use Rattle.line_laws.proofs.Leaving.Kept.Controlled.{finalize-from}
 use Rattle.line_laws.proofs.Leaving.Kept.Tasking.{behind_scope-keeps, behind_task-keeps, raised_behind-keeps, leaves_on-keeps}
@@ -48,6 +48,7 @@ use Rattle.line_laws.proofs.Leaving.Kept.Frames.{alike}
 use Rattle.profile_machine.specs.Frames.{with_mark}
 use Rattle.profile_machine.specs.Controlled.{edit_scope_mark}
 use Rattle.profile_machine.specs.declared.world.tasks.State.{State}
+use Rattle.machine_laws.proofs.Kept.Combinators.{From, Keeps, Kept}
 
 -- ---- a region begins to be left
 

@@ -13,7 +13,8 @@ use Rattle.profile_machine.specs.Tasks.{nobody, is_who, found_task, task_at, tas
 use Rattle.profile_machine.specs.Frames.{push}
 use Rattle.profile_machine.specs.Masters.{forget_task}
 use Rattle.profile_machine.specs.Tasking.{add_task}
-use Rattle.line_laws.proofs.Leaving.FineMoves.{Awake, waits, Free, top_leaving, being_left_in}
+use Rattle.line_laws.proofs.Leaving.FineMoves.{Awake, waits, Free, top_leaving}
+use Rattle.machine_laws.proofs.FinestMoves.{being_left_in}
 
 abbrev pub Of : (Task → Type 0) → Option Task → Type 0
 Of Pr found = Pr (option_or_else found nobody)
@@ -40,7 +41,7 @@ own-step : (test : Task → Bool) (z t u : Task) (zs : List Task) (b : Bool) →
 own-step test z t u zs true is found fits onward = ap (λ d. cond d (Some u) (find test zs)) fits
 own-step test z t u zs false is found fits onward = ap (λ d. cond d (Some z) (find test (set_where test u zs))) is ∙ onward found
 
-own-list : (test : Task → Bool) (xs : List Task) (t u : Task) → find test xs ≡ Some t → test u ≡ true → find test (set_where test u xs) ≡ Some u
+pub own-list : (test : Task → Bool) (xs : List Task) (t u : Task) → find test xs ≡ Some t → test u ≡ true → find test (set_where test u xs) ≡ Some u
 own-list test [] t u found fits = absurd cc
 own-list test (z ∷ zs) t u found fits = own-step test z t u zs (test z) refl found fits (λ e. own-list test zs t u e fits)
 
@@ -135,7 +136,7 @@ pushed-free name f w e = of_own FreeTask name (λ t. with_frames (f ∷ t.frames
 
 -- ---- tasks that are gone or new
 
-same_who-path : (a b : Who) → same_who a b ≡ true → a ≡ b
+pub same_who-path : (a b : Who) → same_who a b ≡ true → a ≡ b
 same_who-path (who.Task a) (who.Task b) e = ap (λ (n : ℕ). who.Task (record { 0 = n })) (eqb-true a.0 b.0 e)
 same_who-path (who.Task a) who.Agent e = absurd cc
 same_who-path who.Agent (who.Task b) e = absurd cc
@@ -148,7 +149,7 @@ same_self who.Agent = refl
 pub who_path : (a b : Who) → same_who a b ≡ true → a ≡ b
 who_path a b e = same_who-path a b e
 
-gone-all : (Pr : Task → Type 0) (n m : Who) (xs : List Task) → same_who n m ≡ true → Pr nobody → Of Pr (find (is_who n) (without (is_who m) xs))
+pub gone-all : (Pr : Task → Type 0) (n m : Who) (xs : List Task) → same_who n m ≡ true → Pr nobody → Of Pr (find (is_who n) (without (is_who m) xs))
 gone-all Pr n m [] same none = none
 gone-all Pr n m (z ∷ zs) same none =
     let is : n ≡ m = same_who-path n m same in

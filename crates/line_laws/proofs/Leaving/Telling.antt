@@ -29,10 +29,11 @@ use Rattle.profile_machine.specs.Tasking.{leaves_as, being_left_mark, left_so_fr
 use Rattle.machine_laws.proofs.Moves.{own, is_told_apart, lines_of}
 use Rattle.line_laws.proofs.Exclusion.OwnLines.{told, Told-append, Told-in_order}
 use Rattle.line_laws.proofs.Exclusion.OwnLines.{Told as ToldBy}
-use Rattle.line_laws.proofs.Leaving.FineMoves.{is_placing, is_of_region, AreQuiet}
+use Rattle.line_laws.proofs.Leaving.FineMoves.{is_of_region, AreQuiet}
 use Rattle.line_laws.proofs.Leaving.RegionLines.{Told, begun, ended, added, finalized, assigned, Right, live, newest-live}
 use Rattle.line_laws.proofs.Leaving.LeftLines.{told_event, behind}
 use Rattle.line_laws.proofs.Leaving.RegionTies.{Tied, region_on_top, top-alone, begun-tied, ended-tied, opened-tied, pushed-tied, registered-tied, registered-new, nothing_registered, finalizes-told, finalized-tied, assigned-tied, registered-live}
+use Rattle.machine_laws.proofs.FineMoves.{is_placing}
 
 -- what a line of an effect tells
 abbrev pub told_line : Line → Option Told

@@ -22,10 +22,11 @@ use Rattle.line_laws.proofs.Leaving.FreeWorlds.{Inv}
 use Rattle.line_laws.proofs.Leaving.PlacingLines.{is_placed}
 use Rattle.line_laws.proofs.Leaving.RegionLines.{by_test}
 use Rattle.line_laws.proofs.Leaving.CoreMoves.{state_in}
-use Rattle.line_laws.proofs.Leaving.Kept.Combinators.{Leads}
-use Rattle.line_laws.proofs.Leaving.Kept.Run.{tock-parts, before_tick, before_tick-leads}
+use Rattle.line_laws.proofs.Leaving.Kept.Run.{before_tick-leads}
 use Rattle.line_laws.proofs.Leaving.Following.{Following, RanAwake, resting, tock_moves, instant-following, opening-following}
 use Rattle.machine_laws.specs.Reached.{Comes, opened, ticked, Reached, before, behind}
+use Rattle.machine_laws.proofs.Kept.Combinators.{Leads}
+use Rattle.machine_laws.proofs.Kept.Run.{before_tick, tock-parts}
 
 -- nobody waits for a meeting and is placed
 abbrev pub NobodyWaits : World → Type 0

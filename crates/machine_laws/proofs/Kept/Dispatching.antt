@@ -33,7 +33,7 @@ pub full_quantum-state : (b : Bool) (n : ℕ) (t : Task) → (cond b (record t {
 full_quantum-state true n t = refl
 full_quantum-state false n t = refl
 
-full_quantum-master : (b : Bool) (n : ℕ) (t : Task) → (cond b (record t { quantum = n }) t).master ≡ t.master
+pub full_quantum-master : (b : Bool) (n : ℕ) (t : Task) → (cond b (record t { quantum = n }) t).master ≡ t.master
 full_quantum-master true n t = refl
 full_quantum-master false n t = refl
 

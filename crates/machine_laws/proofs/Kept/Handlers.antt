@@ -54,19 +54,19 @@ use Rattle.machine_laws.proofs.Kept.Protected.{find_held-from, begin_action_on-f
 use Rattle.machine_laws.proofs.Kept.Entering.{entering-inside, entering-held}
 use Rattle.machine_laws.proofs.Kept.Serving.{end_release-keeps}
 
-spent-who : (robin : Bool) (t : world.Task) → (cond robin (record t { quantum = t.quantum - 1 }) t).who ≡ t.who
+pub spent-who : (robin : Bool) (t : world.Task) → (cond robin (record t { quantum = t.quantum - 1 }) t).who ≡ t.who
 spent-who true t = refl
 spent-who false t = refl
 
-spent-frames : (robin : Bool) (t : world.Task) → (cond robin (record t { quantum = t.quantum - 1 }) t).frames ≡ t.frames
+pub spent-frames : (robin : Bool) (t : world.Task) → (cond robin (record t { quantum = t.quantum - 1 }) t).frames ≡ t.frames
 spent-frames true t = refl
 spent-frames false t = refl
 
-spent-state : (robin : Bool) (t : world.Task) → (cond robin (record t { quantum = t.quantum - 1 }) t).state ≡ t.state
+pub spent-state : (robin : Bool) (t : world.Task) → (cond robin (record t { quantum = t.quantum - 1 }) t).state ≡ t.state
 spent-state true t = refl
 spent-state false t = refl
 
-spent-master : (robin : Bool) (t : world.Task) → (cond robin (record t { quantum = t.quantum - 1 }) t).master ≡ t.master
+pub spent-master : (robin : Bool) (t : world.Task) → (cond robin (record t { quantum = t.quantum - 1 }) t).master ≡ t.master
 spent-master true t = refl
 spent-master false t = refl
 

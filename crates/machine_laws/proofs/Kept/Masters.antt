@@ -29,7 +29,7 @@ use Rattle.machine_laws.proofs.Kept.Inheritance.{lose-alters}
 use Rattle.machine_laws.proofs.Kept.Appointments.{drop_delay-alters}
 use Rattle.machine_laws.proofs.Kept.CallEnds.{end_call-keeps, gone-keeps}
 
-second_is_true : (a b : Bool) → (a && b) ≡ true → b ≡ true
+pub second_is_true : (a b : Bool) → (a && b) ≡ true → b ≡ true
 second_is_true true b e = e
 second_is_true false b e = cc
 

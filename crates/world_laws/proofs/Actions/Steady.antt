@@ -42,7 +42,7 @@ use Rattle.profile_machine.specs.declared.world.tasks.Waiting.TheVariants as wai
 use Rattle.profile_machine.specs.Words.{same_who}
 use Rattle.profile_machine.specs.Program.{next_of, form_of, is_robin_level, edf_low, declaration_of}
 use Rattle.profile_machine.specs.Steps.{Step, Done, done, goes_on_with, says, changes, looks, when, nothing, for_some, ◌▷◌}
-use Rattle.profile_machine.specs.Tasks.{task_of, edit_task, with_frames, with_state, with_ticks, waiting_in, waiting_of}
+use Rattle.profile_machine.specs.Tasks.{task_of, edit_task, with_frames, with_state, with_ticks, waiting_of}
 use Rattle.profile_machine.specs.Dispatching.{active, deadline_shown, level_kept_by, keep_level, granted, grant_quantum, says_ready, to_tail, ready}
 use Rattle.profile_machine.specs.Frames.{frames_of, top_of, edit_first, edit_top, goes_on, goes, push, pop, without_first, new_frame, left_so, leaving_of, with_mark, leaves, raises, has_room, open_handled, open_at, open_sequence, onward_of, exit_loop, stands_in, pass_on}
 use Rattle.profile_machine.specs.Appointments.{drop_delay, appoint}
@@ -61,19 +61,11 @@ use Rattle.world_laws.proofs.Actions.SoundActions.{top_nature}
 use Rattle.line_laws.proofs.Exits.TaskEdits.{one_of, same_who-path, edited}
 use Rattle.world_laws.proofs.Actions.Kept.Combinators.{world_behind}
 use Rattle.line_laws.specs.ExitLaws.{is_at_call}
-use Rattle.world_laws.proofs.Actions.Kept.Dispatching.{full_quantum-who, full_quantum-frames, full_quantum-state}
 use Rattle.world_laws.proofs.Actions.Kept.Frames.{first-natures}
 use Rattle.world_laws.proofs.Actions.Kept.CallEnds.{depth-natures, abortable-nature}
 use Rattle.world_laws.proofs.Actions.Kept.Protected.{protected-nature}
-
--- a task in this state waits for no entry call; of the agent nothing is asked
-abbrev pub FreeIn : Who → State → Type 0
-FreeIn (who.Task n) state = is_at_call (waiting_in state) ≡ false
-FreeIn who.Agent state = Unit {0}
-
-free-runnable : (me : Who) → FreeIn me Runnable
-free-runnable (who.Task n) = refl
-free-runnable who.Agent = tt
+use Rattle.machine_laws.proofs.Kept.Dispatching.{full_quantum-frames, full_quantum-state, full_quantum-who}
+use Rattle.line_laws.proofs.Exits.Steady.{Apart, FreeIn, call-waits, end-waits, free-runnable}
 
 -- this mark is on top, and no entry call is waited for
 abbrev pub Holding : Who → Nature → Task → Type 0
@@ -88,18 +80,6 @@ Steady me o step = (w : World) → Holds me o w → (said : List Said) → Holds
 
 unfoldable pub Spares : Who → Nature → (World → World) → Type 0
 Spares me o f = (w : World) → Holds me o w → Holds me o (f w)
-
-unfoldable pub Apart : Who → Who → Type 0
-Apart me name = same_who me name ≡ false
-
--- who waits for a call is another
-call-waits : (c : CallNo) (waiting : Option Waiting) → waits_for_call c waiting ≡ true → is_at_call waiting ≡ true
-call-waits c (Some (waits_for.Call d)) e = refl
-call-waits c _ e = absurd (false≢true e)
-
-end-waits : (c : CallNo) (waiting : Option Waiting) → waits_for_end c waiting ≡ true → is_at_call waiting ≡ true
-end-waits c (Some (waits_for.EndOfCall d)) e = refl
-end-waits c _ e = absurd (false≢true e)
 
 waits-apart : (me : Who) (o : Nature) (w : World) (n : TaskNo) → Holds me o w → is_at_call (waiting_of w (who.Task n)) ≡ true → Apart me (who.Task n)
 unfolding Apart

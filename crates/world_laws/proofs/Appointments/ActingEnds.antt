@@ -29,10 +29,11 @@ use Rattle.world_laws.proofs.Appointments.DelayEdits.{put-any, plain-owned, edit
 use Rattle.world_laws.proofs.Appointments.DelayMoves.{nobody_excused, fine, MovedOn, Moved, Lasting, GoodAs, Excuse}
 use Rattle.world_laws.proofs.Appointments.Delays.{idle-later, delayed, Idle, Good, Awaited}
 use Rattle.world_laws.proofs.Appointments.FineMoves.{Naming, GoodWorld, FineMoves}
-use Rattle.world_laws.proofs.Appointments.Kept.Combinators.{Kept, Keeps, From}
+use Rattle.world_laws.proofs.Appointments.Kept.Combinators.{Keeps}
 use Rattle.world_laws.proofs.Appointments.Kept.Frames.{raises-keeps}
 use Rattle.world_laws.proofs.Appointments.Led.{to-from, moved-from, looks_to-from, Led}
-use Rattle.world_laws.proofs.Appointments.TaskLemmas.{who_path, own-list, of_self, of_other, found-holds}
+use Rattle.machine_laws.proofs.Kept.Combinators.{From, Kept}
+use Rattle.line_laws.proofs.Leaving.TaskLemmas.{found-holds, of_other, of_self, own-list, who_path}
 
 -- ---- of nobody in particular
 

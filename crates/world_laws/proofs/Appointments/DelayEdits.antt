@@ -22,7 +22,9 @@ use Rattle.profile_machine.specs.WellFormed.{number_in, waits_for_delay}
 use Rattle.profile_machine.specs.Words.{same_who, option_or_else, without}
 use Rattle.machine_laws.proofs.ListLemmas.{Rises, Rises-set_where, Rises-without, Rises-behind}
 use Rattle.world_laws.proofs.Appointments.Delays.{delayed, Idle, Awaited, nature, natures, Caller, OwnIn, Owned, task_number, Numbered, Later, own-on, is_false, EachTask}
-use Rattle.world_laws.proofs.Appointments.TaskLemmas.{of_edited, of_other, who_path, other-gone, of_forgotten, of_added}
+use Rattle.world_laws.proofs.Appointments.TaskLemmas.{other-gone, of_forgotten}
+use Rattle.line_laws.proofs.Leaving.TaskLemmas.{of_added, of_edited, of_other, who_path}
+use Rattle.ceiling_laws.proofs.Runs.Kept.Scopes.{or-step, without-any}
 
 pub by_test : {P : Type 0} (b : Bool) → (b ≡ true → P) → (b ≡ false → P) → P
 by_test true p q = p refl
@@ -150,9 +152,6 @@ gone-owned name w h n = of_forgotten (λ u. OwnIn w.calls w.drawn.calls n (natur
 
 -- ---- appointments
 
-or-step : (a b c : Bool) → b ≡ c → (a || b) ≡ (a || c)
-or-step a b c e = ap (λ x. a || x) e
-
 put-step : (test : Appointment → Bool) (y a : Appointment) (rest put : List Appointment) (b : Bool) → test y ≡ false → list_any test put ≡ list_any test rest → list_any test (cond b (y ∷ a ∷ rest) (a ∷ put)) ≡ list_any test (a ∷ rest)
 put-step test y a rest put true other e = ap (λ x. x || list_any test (a ∷ rest)) other
 put-step test y a rest put false other e = or-step (test a) (list_any test put) (list_any test rest) e
@@ -161,22 +160,6 @@ put-step test y a rest put false other e = or-step (test a) (list_any test put) 
 pub put-any : (test : Appointment → Bool) (y : Appointment) (xs : List Appointment) → test y ≡ false → list_any test (put_appointment y xs) ≡ list_any test xs
 put-any test y [] other = ap (λ x. x || false) other
 put-any test y (a ∷ rest) other = put-step test y a rest (put_appointment y rest) (int_lt y.moment a.moment) other (put-any test y rest other)
-
-or-true : (a b c : Bool) → (a || b) ≡ true → (b ≡ true → c ≡ true) → (a || c) ≡ true
-or-true true b c e onward = refl
-or-true false b c e onward = onward e
-
-pub or-behind : (a b : Bool) → b ≡ true → (a || b) ≡ true
-or-behind true b e = refl
-or-behind false b e = e
-
-fewer-step : (test : Appointment → Bool) (a : Appointment) (rest fewer : List Appointment) (b : Bool) → list_any test (cond (not b) (a ∷ fewer) fewer) ≡ true → (list_any test fewer ≡ true → list_any test rest ≡ true) → list_any test (a ∷ rest) ≡ true
-fewer-step test a rest fewer true e onward = or-behind (test a) (list_any test rest) (onward e)
-fewer-step test a rest fewer false e onward = or-true (test a) (list_any test fewer) (list_any test rest) e onward
-
-without-any : (test drops : Appointment → Bool) (xs : List Appointment) → list_any test (without drops xs) ≡ true → list_any test xs ≡ true
-without-any test drops [] e = e
-without-any test drops (a ∷ rest) e = fewer-step test a rest (without drops rest) (drops a) e (without-any test drops rest)
 
 -- none is left that is dropped
 none-step : (test : Appointment → Bool) (a : Appointment) (rest : List Appointment) (b : Bool) → test a ≡ b → list_any test rest ≡ false → list_any test (cond (not b) (a ∷ rest) rest) ≡ false

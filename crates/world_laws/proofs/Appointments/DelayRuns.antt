@@ -41,7 +41,7 @@ use Rattle.world_laws.proofs.Appointments.DelayMoves.{fine, unplaces_then, settl
 use Rattle.world_laws.proofs.Appointments.DelaySteps.{act-ends}
 use Rattle.world_laws.proofs.Appointments.Delays.{natures, is_false, delayed, OwnIn, Idle, Good}
 use Rattle.world_laws.proofs.Appointments.FineMoves.{FineMoves}
-use Rattle.world_laws.proofs.Appointments.Kept.Combinators.{then-keeps, settles-leads, says-keeps, changes-keeps, Leads, Kept, Keeps, From, Alters}
+use Rattle.world_laws.proofs.Appointments.Kept.Combinators.{then-keeps, settles-leads, says-keeps, changes-keeps, Leads, Keeps, Alters}
 use Rattle.world_laws.proofs.Appointments.Kept.Dispatching.{to_tail-keeps}
 use Rattle.world_laws.proofs.Appointments.Kept.Frames.{open_sequence-keeps, open_if_ready-keeps}
 use Rattle.world_laws.proofs.Appointments.Kept.Handlers.{charge-alters}
@@ -51,7 +51,8 @@ use Rattle.world_laws.proofs.Appointments.Kept.Tasking.{unwind_all-keeps, all_te
 use Rattle.world_laws.proofs.Appointments.Kept.Tasks.{edit_task-alters}
 use Rattle.world_laws.proofs.Appointments.Led.{then_to-from, moved-led, moved-from, looks_to-from, led_then-from, Led}
 use Rattle.line_laws.proofs.Leaving.PlacingLines.{is_placed}
-use Rattle.world_laws.proofs.Appointments.TaskLemmas.{who_path}
+use Rattle.machine_laws.proofs.Kept.Combinators.{From, Kept}
+use Rattle.line_laws.proofs.Leaving.TaskLemmas.{who_path}
 
 -- ---- of nobody in particular, and of who may wait at a terminate alternative
 

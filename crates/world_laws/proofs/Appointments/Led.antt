@@ -8,7 +8,8 @@ use Rattle.machine_laws.proofs.Moves.{StepRelation}
 use Rattle.world_laws.proofs.Appointments.DelayMoves.{Excuse, Follows, follows_then, GoodAs, Moved}
 use Rattle.world_laws.proofs.Appointments.Delays.{Good}
 use Rattle.world_laws.proofs.Appointments.FineMoves.{GoodWorld}
-use Rattle.world_laws.proofs.Appointments.Kept.Combinators.{Kept, Keeps, From}
+use Rattle.world_laws.proofs.Appointments.Kept.Combinators.{Keeps}
+use Rattle.machine_laws.proofs.Kept.Combinators.{From, Kept}
 
 pub record Led (first last : Excuse) (w : World) (xs : List Said) (v : World) : Type 0 where
   pub good : Good v

@@ -1,6 +1,6 @@
 -- The changes that steps are made of, with what each needs for marks to stay right: whether a mark that ends awaits a trigger, what
 -- may be struck, where a Finalize is opened, and which trigger is appointed. May is said of who acts, and Other of the others.
-use Rattle.std.proofs.Common.{◌≡◌, ℕ, ℤ, suc, Bool, true, false, ◌||◌, List, [], ◌∷◌, ◌++◌, Option, Some, None, refl}
+use Rattle.std.proofs.Common.{◌≡◌, ℕ, ℤ, suc, Bool, true, false, ◌||◌, List, [], ◌∷◌, ◌++◌, Option, Some, None}
 use Rattle.std.specs.Prelude.{int_le, pos}
 use Rattle.profile_machine.specs.WellFormed.{awaits_trigger, is_triggered}
 use Rattle.profile_machine.specs.declared.world.tasks.Waiting.TheVariants as waits_for
@@ -9,7 +9,7 @@ use Rattle.profile_machine.specs.Unwinding.{struck_frame, strike_outermost}
 use Rattle.profile_machine.specs.CallEnds.{is_abortable_of, depth_of_abortable, edit_frame, edit_abortable_at, triggered_mark, waited_mark}
 use Rattle.profile_machine.specs.Tasking.{abnormal_task}
 use Rattle.machine_laws.proofs.FinestMoves.{top_action}
-use Rattle.world_laws.proofs.Marks.MarkFacts.{GoodMarks, Calm, Ends, Begun, CanTrigger, Drawn, Marked, StandsAt, Unarmed, apart_in, triggered_part, is_abortable, may_finalize, ends_call, is_a_trigger, nature}
+use Rattle.world_laws.proofs.Marks.MarkFacts.{GoodMarks, Calm, Ends, Begun, CanTrigger, Drawn, Marked, StandsAt, Unarmed, apart_in, triggered_part, may_finalize, ends_call, is_a_trigger, nature}
 use Rattle.ann_base.specs.declared.identities.CallNo.{CallNo}
 use Rattle.ann_base.specs.declared.identities.ObjectNo.{ObjectNo}
 use Rattle.ann_base.specs.declared.identities.RegionNo.{RegionNo}
@@ -49,8 +49,8 @@ use Rattle.profile_machine.specs.declared.world.lines.Line.{Line}
 use Rattle.profile_machine.specs.declared.world.lines.Line.TheVariants as said
 use Rattle.profile_machine.specs.Words.{edit_at}
 use Rattle.profile_machine.specs.Steps.{placed_by}
-use Rattle.profile_machine.specs.Tasks.{task_of, edit_task, with_state, waiting_of}
-use Rattle.profile_machine.specs.Dispatching.{active, deadline_shown, word_of}
+use Rattle.profile_machine.specs.Tasks.{edit_task, with_state, waiting_of}
+use Rattle.profile_machine.specs.Dispatching.{word_of}
 use Rattle.profile_machine.specs.Frames.{frames_of, top_of, edit_top, new_frame, push, pop, goes_on, in_protected}
 use Rattle.profile_machine.specs.Scopes.{edit_cells, begin_scope, open_scope, end_scope}
 use Rattle.profile_machine.specs.Appointments.{appoint, drop_appointment}
@@ -70,19 +70,9 @@ use Rattle.profile_machine.specs.Instant.{with_port, with_masked, with_kept_inte
 use Rattle.machine_laws.specs.LineKinds.{is_of_tock}
 use Rattle.profile_machine.specs.Run.{with_serving}
 use Rattle.machine_laws.proofs.Moves.{StepRelation, MoveRelation, is_told_apart, LetsIn, FindsHeld, own, lines_of}
-
-abbrev pub GoodWorld : Type 1
-GoodWorld = World → Type 0
-
-abbrev pub Naming : Type 1
-Naming = Who → Type 0
+use Rattle.machine_laws.proofs.FineMoves.{AnyRegion, Anybody, EachIs, GoodWorld, Naming, is_abortable, is_placing, ready_line}
 
 -- ---- lines that are said only together with what they tell
-
-abbrev pub is_placing : Line → Bool
-is_placing (said.Ready name level end deadline) = true
-is_placing (said.Block name why) = true
-is_placing _ = false
 
 abbrev pub is_of_region : Line → Bool
 is_of_region (said.Leave name region how) = true
@@ -98,13 +88,6 @@ is_apart line = is_told_apart line || is_placing line || is_of_region line
 abbrev pub AreQuiet : List Said → Type 0
 AreQuiet [] = Unit {0}
 AreQuiet (x ∷ xs) = (is_apart x.line ≡ false) × AreQuiet xs
-
-abbrev pub EachIs : Naming → List Task → Type 0
-EachIs Is [] = Unit {0}
-EachIs Is (t ∷ ts) = Is t.who × EachIs Is ts
-
-abbrev pub ready_line : Image → Part → Who → QueueEnd → World → Said
-ready_line p part name end w = record { part = part; line = said.Ready name (active p (task_of w name)) end (deadline_shown p (task_of w name)) }
 
 -- somebody goes on
 abbrev pub gone_on : Who → Option StatementNo → World → World
@@ -224,20 +207,6 @@ pub record Exits (G : GoodWorld) (May : Naming) (R : StepRelation) : Type 0 wher
   pub exits : (name : Who) (m : ProtectedMark) (w : World) → G w → May name → top_action w name ≡ Some m.object → Calm name w → R w (own (said.Exit name m.object) ∷ []) (close_action name m.object (pop name w))
 
 -- ---- of anybody, from any world
-
-abbrev pub Anybody : Naming
-Anybody name = Unit {0}
-
-abbrev pub AnyRegion : Who → RegionNo → Type 0
-AnyRegion name r = Unit {0}
-
-pub each-anybody : (ts : List Task) → EachIs Anybody ts
-each-anybody [] = tt
-each-anybody (t ∷ ts) = (tt, each-anybody ts)
-
-pub first_is_false : (a b : Bool) → (a || b) ≡ false → a ≡ false
-first_is_false true b e = e
-first_is_false false b e = refl
 
 -- a trigger is set for a part that awaits it, of who has begun; whatever leads to a good world moves to one
 pub record Arming (G : GoodWorld) (Q : MoveRelation) : Type 0 where

@@ -29,6 +29,7 @@ use Rattle.profile_machine.specs.Tasking.{is_task_scope}
 use Rattle.profile_machine.specs.WellFormed.{awaits_trigger, awaits_trigger_at, is_triggered}
 use Rattle.line_laws.proofs.Exits.TaskEdits.{one_of}
 use Rattle.line_laws.proofs.Exits.Steady.{FreeIn}
+use Rattle.machine_laws.proofs.FineMoves.{is_abortable}
 
 -- ---- what a mark is, whatever is edited in it: the call and the trigger of an abortable part, and the object of a Finalize
 
@@ -51,16 +52,6 @@ finalized_in (Abortable m) = None
 finalized_in (InInitialize l) = None
 finalized_in (InFinalize o) = Some o
 finalized_in (InAssign m) = None
-
-abbrev pub is_abortable : Mark → Bool
-is_abortable (Scope m) = false
-is_abortable (Handled s) = false
-is_abortable (InProtected m) = false
-is_abortable (InAccept m) = false
-is_abortable (Abortable m) = true
-is_abortable (InInitialize l) = false
-is_abortable (InFinalize o) = false
-is_abortable (InAssign m) = false
 
 -- a task's own scope
 abbrev pub is_own_scope : Mark → Bool

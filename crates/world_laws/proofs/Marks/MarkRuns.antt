@@ -1,14 +1,12 @@
 -- What is known of marks holds of every world that a run reaches: the opening has it, and instants and tocks keep it, since who acts
 -- waits for no entry call.
-use Rattle.std.proofs.Common.{◌≡◌, ℕ, ℤ, true, false, List, ◌++◌, Option, Some, None, refl, sym, subst, arith}
+use Rattle.std.proofs.Common.{◌≡◌, ℕ, ℤ, true, false, List, ◌++◌, refl, sym, subst, arith}
 use Rattle.std.proofs.lemmas.Bool.{false≢true}
 use Rattle.trace_text.specs.declared.events.Event.{Event}
 use Rattle.trace_text.specs.declared.events.Who.TheVariants as who
 use Rattle.profile_machine.specs.declared.image.Image.{Image}
 use Rattle.profile_machine.specs.declared.run_data.Item.{Item}
 use Rattle.profile_machine.specs.declared.world.World.{World}
-use Rattle.profile_machine.specs.declared.world.tasks.Waiting.{Waiting}
-use Rattle.profile_machine.specs.declared.world.tasks.Waiting.TheVariants as waits_for
 use Rattle.profile_machine.specs.Tasks.{is_made_state, is_runnable_state, task_of, waiting_of}
 use Rattle.profile_machine.specs.Dispatching.{choose}
 use Rattle.profile_machine.specs.Instant.{instant}
@@ -18,27 +16,18 @@ use Rattle.profile_machine.specs.declared.world.tasks.State.TheVariants.{Made, R
 use Rattle.ceiling_laws.specs.RunLaws.{Tells, told_first, told_on}
 use Rattle.ceiling_laws.proofs.Places.StandingRuns.{runs_show_who_is_ready}
 use Rattle.machine_laws.specs.Reached.{Comes, opened, ticked, Reached, before, behind}
-use Rattle.line_laws.proofs.Leaving.FineMoves.{waits}
 use Rattle.line_laws.proofs.Leaving.WakingRuns.{comes-awake}
-use Rattle.line_laws.specs.ExitLaws.{is_at_call, IsRunnerFree}
+use Rattle.line_laws.specs.ExitLaws.{IsRunnerFree}
 use Rattle.world_laws.proofs.Marks.MarkFacts.{GoodMarks}
-use Rattle.world_laws.proofs.Marks.Kept.Combinators.{Leads, settles-from}
+use Rattle.world_laws.proofs.Marks.Kept.Combinators.{settles-from}
 use Rattle.world_laws.proofs.Marks.Kept.Instant.{HasRunnerBegun, instant-leads}
-use Rattle.world_laws.proofs.Marks.Kept.Run.{tock-parts, before_tick-leads, opens-from}
+use Rattle.world_laws.proofs.Marks.Kept.Run.{before_tick-leads, opens-from}
 use Rattle.world_laws.proofs.Marks.MarkMoves.{moves, tock_moves}
+use Rattle.machine_laws.proofs.Kept.Combinators.{Leads}
+use Rattle.machine_laws.proofs.Kept.Run.{tock-parts}
+use Rattle.line_laws.proofs.Exits.AwakeRuns.{awake-free}
 
 -- ---- who acts waits for no entry call
-
-awake-free : (waiting : Option Waiting) → waits waiting ≡ false → is_at_call waiting ≡ false
-awake-free None e = refl
-awake-free (Some waits_for.Activation) e = refl
-awake-free (Some waits_for.Moment) e = refl
-awake-free (Some (waits_for.Call c)) e = absurd (false≢true (sym e))
-awake-free (Some (waits_for.EndOfCall c)) e = absurd (false≢true (sym e))
-awake-free (Some (waits_for.Accept s)) e = refl
-awake-free (Some (waits_for.Select accepts delay terminate)) e = refl
-awake-free (Some (waits_for.Dependents r)) e = refl
-awake-free (Some waits_for.Release) e = refl
 
 runner-free : (p : Image) (script : List (ℤ × Item)) (bound : ℕ) (w : World) → Comes p script bound w → IsRunnerFree w
 runner-free p script bound w c n ran over = let h = comes-awake p script bound w c in awake-free (waiting_of w (who.Task n)) (h.awake (who.Task n) ran)

@@ -41,7 +41,7 @@ use Rattle.world_laws.proofs.Marks.StandingLemmas.{own_top-stands}
 use Rattle.world_laws.proofs.Marks.TopLemmas.{at_same, calm_edited}
 use Rattle.world_laws.proofs.Marks.DepthLemmas.{waited-top, of_call-found, of_call-awaits, of_call-part, awaits-found, awaits-part, awaits-uncalled, frame-awaits}
 use Rattle.world_laws.proofs.Marks.TaskFacts.{all-found, all-map, distinct-found, found-test, found-any, none-without}
-use Rattle.world_laws.proofs.Marks.Kept.Combinators.{world_behind}
+use Rattle.machine_laws.proofs.Kept.Combinators.{world_behind}
 
 -- ---- somebody
 

@@ -2,7 +2,7 @@
 use Rattle.ann_base.specs.declared.exceptions.Raised.TheVariants as exception
 use Rattle.ann_base.specs.declared.identities.ObjectNo.{ObjectNo}
 use Rattle.ann_base.specs.declared.identities.TaskNo.{TaskNo}
-use Rattle.world_laws.proofs.Places.LevelMoves.{BaseMoves, EachTask, FitsAll, Fitting, Naming, Silences, Sleeping, is_blocked}
+use Rattle.world_laws.proofs.Places.LevelMoves.{BaseMoves, Naming, Silences}
 use Rattle.ceiling_laws.proofs.Runs.Triples.{Alters, Keeps, Leads, State, With}
 use Rattle.world_laws.proofs.Places.Cores.{Same}
 use Rattle.profile_machine.specs.Appointments.{appoint}
@@ -44,6 +44,7 @@ use Rattle.std.specs.Prelude.{List, [], None, Option, Some, false, true, â„•, â„
 use Rattle.trace_text.specs.declared.events.Mode.{Mode}
 use Rattle.trace_text.specs.declared.events.Who.{Who}
 use Rattle.trace_text.specs.declared.events.Who.TheVariants as who
+use Rattle.ceiling_laws.proofs.Runs.LevelMoves.{EachTask, FitsAll, Fitting, Sleeping, is_blocked}
 
 -- what holds since a world, of whose tasks those of a list have only been made, and where one of these has ended
 abbrev pub Lasting : Type 1

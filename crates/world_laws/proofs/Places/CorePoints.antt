@@ -2,13 +2,12 @@
 use Rattle.ceiling_laws.proofs.Places.BesideLemmas.{same-self}
 use Rattle.world_laws.proofs.Places.PutLemmas.{puts-apart, unsaid}
 use Rattle.world_laws.proofs.Places.PartOrder.{last_put-append}
-use Rattle.world_laws.proofs.Places.SoundWorlds.{IsAbsent, Sound, is_agent, sound-edit, sound-plain, sound-same}
+use Rattle.world_laws.proofs.Places.SoundWorlds.{IsAbsent, Sound, sound-edit, sound-plain, sound-same}
 use Rattle.world_laws.proofs.Places.Puts.{Spot, last_put, puts, with_put}
 use Rattle.world_laws.proofs.Places.CoreLemmas.{core-same}
 use Rattle.ceiling_laws.proofs.Runs.FoundLemmas.{by_test, set-other}
-use Rattle.world_laws.proofs.Places.Kept.Waking.{who-is}
-use Rattle.world_laws.proofs.Places.LevelMoves.{Silences, said_so}
-use Rattle.world_laws.proofs.Places.SameLemmas.{edit_task-same, found_is_who, set_where-found}
+use Rattle.world_laws.proofs.Places.LevelMoves.{Silences}
+use Rattle.world_laws.proofs.Places.SameLemmas.{edit_task-same}
 use Rattle.ceiling_laws.proofs.Runs.Triples.{Ends, Keeps, Leads, State, changes-leads, then-leads}
 use Rattle.world_laws.proofs.Places.Cores.{Core, Same, core}
 use Rattle.profile_machine.specs.Dispatching.{active, deadline_shown, grant_quantum, granted, keep_level, kept_level_or_base, level_kept_by, ready, says_ready, to_head, to_tail}
@@ -31,6 +30,10 @@ use Rattle.trace_text.specs.declared.events.QueueEnd.{QueueEnd}
 use Rattle.trace_text.specs.declared.events.QueueEnd.TheVariants.{Head, Tail}
 use Rattle.trace_text.specs.declared.events.Who.{Who}
 use Rattle.trace_text.specs.declared.events.Who.TheVariants as who
+use Rattle.ceiling_laws.proofs.Places.SoundWorlds.{is_agent}
+use Rattle.ceiling_laws.proofs.Runs.Kept.Waking.{who-is}
+use Rattle.ceiling_laws.proofs.Runs.LevelMoves.{said_so}
+use Rattle.ceiling_laws.proofs.Runs.SameLemmas.{found_is_who, set_where-found}
 
 -- what may hold of somebody: by how many task numbers were drawn, who it is, what it is, and what was said last of it
 abbrev pub Point : Type 1

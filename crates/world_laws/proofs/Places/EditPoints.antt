@@ -2,11 +2,12 @@
 use Rattle.ann_base.specs.declared.identities.TaskNo.{TaskNo}
 use Rattle.ceiling_laws.proofs.Places.BesideLemmas.{same-self}
 use Rattle.world_laws.proofs.Places.CorePoints.{Holds, Places, Point, holds-put}
-use Rattle.world_laws.proofs.Places.SoundWorlds.{is_agent, is_fresh, sound-forget}
+use Rattle.world_laws.proofs.Places.SoundWorlds.{sound-forget}
+use Rattle.ceiling_laws.proofs.Places.SoundWorlds.{is_agent, is_fresh}
 use Rattle.world_laws.proofs.Places.Standing.{Last}
 use Rattle.world_laws.proofs.Places.Puts.{Spot, last_put, puts}
 use Rattle.ceiling_laws.proofs.Runs.FoundLemmas.{by_test, kept-others, none-left}
-use Rattle.world_laws.proofs.Places.Kept.Waking.{who-is}
+use Rattle.ceiling_laws.proofs.Runs.Kept.Waking.{who-is}
 use Rattle.ceiling_laws.proofs.Runs.Triples.{Ends, Leads, changes-leads}
 use Rattle.world_laws.proofs.Places.Cores.{Core, core}
 use Rattle.profile_machine.specs.Masters.{forget_task}

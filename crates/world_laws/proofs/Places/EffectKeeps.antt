@@ -3,9 +3,9 @@ use Rattle.ann_base.specs.declared.exceptions.Raised.TheVariants as exception
 use Rattle.ann_base.specs.declared.identities.TaskNo.{TaskNo}
 use Rattle.ceiling_laws.proofs.Places.BesideLemmas.{same-self}
 use Rattle.world_laws.proofs.Places.CorePoints.{Except, Holds, IsAt, Knowing, Places, Point, Readies, Turns, holds-also, holds-edit, holds-knowing, holds-of, holds-plain, holds-sound, holds_quiet, keeps_says, not-absent, ready-holds, spot_for, to_tail-holds}
-use Rattle.world_laws.proofs.Places.EditPoints.{holds-forget, AddedAs, add-found, fresh-less, drawn-more, fresh-next, nowhere, done-holds, block-holds}
+use Rattle.world_laws.proofs.Places.EditPoints.{holds-forget, AddedAs, add-found, nowhere, done-holds, block-holds}
 use Rattle.world_laws.proofs.Places.EffectMoves.{Sleeping_in, Wakeful, actor_places, base_moves, base_set_or_deferred, ceases_resting, clash_of, dates, deadline_set_or_deferred, deferred_set, gained_later, dying_wakeful, ended_resting, ending_wakeful, gone_wakeful, good-choosing, good_wakeful, keeps_turns, later-kept, later-rises, later-wakes, later_wakeful, lost_later, nobody-acts, owed_loses, owes_since, owing_wakeful, made-asleep, paid, rests_choosing, self_apart, since_wakeful, starts_later, tails_later, undated_loose}
-use Rattle.world_laws.proofs.Places.SoundWorlds.{IsAbsent, IsThere, Sound, Unactivated, all-apart, all_there, each-on, is_agent, is_fresh, known, sound-add, sound-appoint, sound-edit, sound-plain, sound-task, unactivated-loses, unactivated_without}
+use Rattle.world_laws.proofs.Places.SoundWorlds.{IsAbsent, Sound, all-apart, all_there, known, sound-add, sound-appoint, sound-edit, sound-plain, sound-task}
 use Rattle.world_laws.proofs.Places.Standing.{Choosing, ChoosingSince, Dying, Ending, First, Fits, FreeFor, Gone, Good, IsShownRightly, IsUnmade, Last, Later, Loose, Owing, Resting, Since, Undated, apart-sym, at-out, awake, begun_awake, block-put, blocked-good, fits_finish, fits_other, fits_own, free-may, is_among, limit, limit-other, nobody-runs, nobody-sleeps, none-free, place, placed-good, put-free, put-late, put-out, runs_in, sleeps_in}
 use Rattle.world_laws.proofs.Places.Puts.{MayBePlaced, last_put, spot_in, with_put}
 use Rattle.world_laws.proofs.Places.ActingMoves.{ActingMoves, IsNew, LaterMoves, SelectMoves}
@@ -16,8 +16,6 @@ use Rattle.world_laws.proofs.Places.Kept.Declarations.{set_thing-same}
 use Rattle.world_laws.proofs.Places.Kept.Frames.{raises-keeps}
 use Rattle.world_laws.proofs.Places.Kept.Rendezvous.{begin_accept-keeps, finish_without_room-keeps}
 use Rattle.world_laws.proofs.Places.Kept.Tasks.{same-alters}
-use Rattle.world_laws.proofs.Places.Kept.Waking.{waiting-blocked, who-is}
-use Rattle.world_laws.proofs.Places.LevelMoves.{EachTask, Fitting, is_blocked}
 use Rattle.world_laws.proofs.Places.SameLemmas.{edit_task-same}
 use Rattle.ceiling_laws.proofs.Runs.Triples.{Alters, Keeps, Leads, State, With, changes-keeps, changes-leads, for_some-keeps, from-leads, looks-keeps, nothing-leads, then-keeps, then-leads}
 use Rattle.world_laws.proofs.Places.Cores.{Core, Same, core}
@@ -62,6 +60,10 @@ use Rattle.std.specs.Prelude.{Bool, List, None, Option, Some, [], false, suc, tr
 use Rattle.trace_text.specs.declared.events.Created.TheVariants as created
 use Rattle.trace_text.specs.declared.events.Who.{Who}
 use Rattle.trace_text.specs.declared.events.Who.TheVariants as who
+use Rattle.ceiling_laws.proofs.Places.EffectKeeps.{drawn-more, fresh-less, fresh-next}
+use Rattle.ceiling_laws.proofs.Places.SoundWorlds.{IsThere, Unactivated, each-on, is_agent, is_fresh, unactivated-loses, unactivated_without}
+use Rattle.ceiling_laws.proofs.Runs.Kept.Waking.{waiting-blocked, who-is}
+use Rattle.ceiling_laws.proofs.Runs.LevelMoves.{EachTask, Fitting, is_blocked}
 
 made-apart : {P : Type 0} (state : tasks.State) → is_made_state state ≡ true → is_runnable_state state ≡ true → P
 made-apart Made made runs = absurd cc

@@ -2,7 +2,7 @@
 use Rattle.ceiling_laws.proofs.Places.BesideLemmas.{same-self}
 use Rattle.world_laws.proofs.Places.ActiveLemmas.{edit-part, active-falls, inherit-rises, lose-falls}
 use Rattle.world_laws.proofs.Places.CorePoints.{Holds, IsAt, Knowing, Places, Point, Readies, Turns, active_in, at_active, core-plain, holds-also, holds-edit, holds-knowing, holds-of, holds-sound, holds_quiet, keeps_says, not-absent, ready-holds, spot_for, state-kept, to_head-holds, to_tail-holds}
-use Rattle.world_laws.proofs.Places.SoundWorlds.{IsAbsent, Sound, Unactivated, is_agent, is_fresh, known, sound-edit, unactivated_without}
+use Rattle.world_laws.proofs.Places.SoundWorlds.{IsAbsent, Sound, known, sound-edit}
 use Rattle.world_laws.proofs.Places.Standing.{Acting, AtLevel, Bare, Choosing, Dying, Ending, First, Fits, Gone, Good, IsCalm, IsShown, IsShownRightly, IsUnmade, Last, Later, Loose, Owes, Owing, Resting, Since, Undated, acting-placed, apart-sym, asleep-hidden, at-out, at-still, awake, deadline-kept, fits_limit, limit, limit-actor, nobody-runs, nobody-sleeps, place, placed-good, runs_in, shown-free, sleeps_in, woken-good}
 use Rattle.world_laws.proofs.Places.Puts.{Spot, last_put, spot_in, with_put}
 use Rattle.world_laws.proofs.Places.ActingMoves.{OfOthers}
@@ -10,8 +10,7 @@ use Rattle.world_laws.proofs.Places.CoreLemmas.{core-same}
 use Rattle.ceiling_laws.proofs.Runs.FoundLemmas.{by_test}
 use Rattle.world_laws.proofs.Places.Kept.Priorities.{reprioritize_own-keeps, says_deadline-keeps}
 use Rattle.world_laws.proofs.Places.Kept.Tasks.{edit_task-alters}
-use Rattle.world_laws.proofs.Places.Kept.Waking.{who-is}
-use Rattle.world_laws.proofs.Places.LevelMoves.{BaseMoves, Fitting, Sleeping, is_blocked}
+use Rattle.world_laws.proofs.Places.LevelMoves.{BaseMoves}
 use Rattle.ceiling_laws.proofs.Runs.Triples.{At, Keeps, Leads, State, With, branch-leads, changes-keeps, changes-leads, from-leads, from_at, looks-keeps, looks-leads, looks-with, nothing-keeps, nothing-leads, then-keeps, then-leads, when-keeps}
 use Rattle.world_laws.proofs.Places.Cores.{Core, Same, core}
 use Rattle.profile_machine.specs.Dispatching.{active_of, ready, to_head, to_tail}
@@ -42,6 +41,9 @@ use Rattle.std.proofs.Common.{ap, arith, inl, inr, le_antisymm, le_refl, le_tran
 use Rattle.std.specs.Prelude.{Bool, List, None, Option, Some, false, not, true, ℕ, ℤ}
 use Rattle.trace_text.specs.declared.events.Who.{Who}
 use Rattle.trace_text.specs.declared.events.Who.TheVariants as who
+use Rattle.ceiling_laws.proofs.Places.SoundWorlds.{Unactivated, is_agent, is_fresh, unactivated_without}
+use Rattle.ceiling_laws.proofs.Runs.Kept.Waking.{who-is}
+use Rattle.ceiling_laws.proofs.Runs.LevelMoves.{Fitting, Sleeping, is_blocked}
 
 abbrev pub Sleeping_in : Sleeping
 Sleeping_in w name = is_blocked (task_of w name).state ≡ true

@@ -2,7 +2,6 @@
 -- somebody is placed, blocks, or gets another priority or deadline.
 use Rattle.ceiling_laws.proofs.Runs.Triples.{Leads, State, With}
 use Rattle.world_laws.proofs.Places.Cores.{Same}
-use Rattle.profile_machine.specs.Declarations.{declared}
 use Rattle.profile_machine.specs.Dispatching.{ready}
 use Rattle.profile_machine.specs.Inheritance.{inherit, same_cause}
 use Rattle.profile_machine.specs.Scopes.{end_scope}
@@ -10,35 +9,14 @@ use Rattle.profile_machine.specs.Tasks.{task_of}
 use Rattle.profile_machine.specs.declared.image.Image.{Image}
 use Rattle.profile_machine.specs.declared.world.World.{World}
 use Rattle.profile_machine.specs.declared.world.lines.Line.{Line}
-use Rattle.profile_machine.specs.declared.world.lines.Line.TheVariants as line
 use Rattle.profile_machine.specs.declared.world.lines.Part.{Part}
 use Rattle.profile_machine.specs.declared.world.lines.Said.{Said}
 use Rattle.profile_machine.specs.declared.world.scopes.ScopeId.{ScopeId}
 use Rattle.profile_machine.specs.declared.world.tasks.Cause.{Cause}
 use Rattle.profile_machine.specs.declared.world.tasks.Cause.TheVariants as inherited_by
-use Rattle.profile_machine.specs.declared.world.tasks.State as tasks
-use Rattle.profile_machine.specs.declared.world.tasks.State.TheVariants.{Blocked, Made, Runnable}
-use Rattle.profile_machine.specs.declared.world.tasks.Task.{Task}
-use Rattle.std.proofs.Common.{Bool, List, [], false, true, ℕ, ◌++◌, ◌∷◌, ◌≡◌}
+use Rattle.std.proofs.Common.{List, [], false, true, ℕ, ◌++◌, ◌∷◌, ◌≡◌}
 use Rattle.trace_text.specs.declared.events.Who.{Who}
-
--- the lines that are said only together with what they tell
-abbrev pub is_apart : Line → Bool
-is_apart (line.New what declared level) = true
-is_apart (line.Ready who level end deadline) = true
-is_apart (line.Block who waits) = true
-is_apart (line.Base task level) = true
-is_apart (line.Done task) = true
-is_apart (line.Enter who object mode) = true
-is_apart _ = false
-
-abbrev pub is_blocked : tasks.State → Bool
-is_blocked Made = false
-is_blocked Runnable = false
-is_blocked (Blocked waiting) = true
-
-abbrev pub said_so : Part → Line → Said
-said_so part line = record { part = part; line = line }
+use Rattle.ceiling_laws.proofs.Runs.LevelMoves.{Fitting, Sleeping, is_apart, is_blocked, said_so}
 
 -- it is kept by changes that touch nothing by which somebody is placed, and by other lines
 pub record Silences (X : State) : Type 0 where
@@ -46,25 +24,9 @@ pub record Silences (X : State) : Type 0 where
   pub says : (part : Part) (line : Line) (w : World) (said : List Said) → is_apart line ≡ false → X w said → X w (said ++ said_so part line ∷ [])
   pub ends_scope : (id : ScopeId) (w : World) (said : List Said) → X w said → X (end_scope id w) said
 
--- in which parts lines may place somebody
-abbrev pub Fitting : Type 1
-Fitting = Part → Who → Type 0
-
-abbrev pub FitsAll : Fitting → Part → Type 0
-FitsAll Fits part = (name : Who) → Fits part name
-
 -- of some names alone
 abbrev pub Naming : Type 1
 Naming = Who → Type 0
-
--- each of these tasks
-abbrev pub EachTask : (Task → Type 0) → List Task → Type 0
-EachTask Is [] = Unit {0}
-EachTask Is (t ∷ ts) = Is t × EachTask Is ts
-
--- who waits in a world
-abbrev pub Sleeping : Type 1
-Sleeping = World → Who → Type 0
 
 -- the same, and by who waits and becomes ready, or inherits a priority, but by its activation
 pub record BaseMoves (p : Image) (Fits : Fitting) (Sleeps : Sleeping) (X : State) : Type 0 where

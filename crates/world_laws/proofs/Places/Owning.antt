@@ -4,7 +4,7 @@ use Rattle.world_laws.proofs.Appointments.Delays.{Caller, CallerIn}
 use Rattle.ceiling_laws.proofs.Runs.Triples.{Ends, Keeps, Leads, State, With, changes-leads, looks-keeps, nothing-keeps, then-keeps, when-keeps}
 use Rattle.world_laws.proofs.Places.Kept.Priorities.{reprioritize_own-keeps, says_deadline-keeps}
 use Rattle.world_laws.proofs.Places.Kept.Tasks.{calls_in}
-use Rattle.world_laws.proofs.Places.LevelMoves.{BaseMoves, Fitting, Silences, Sleeping}
+use Rattle.world_laws.proofs.Places.LevelMoves.{BaseMoves, Silences}
 use Rattle.profile_machine.specs.Dispatching.{grant_quantum, granted, keep_level, level_kept_by, ready, says_ready, to_head, to_tail}
 use Rattle.profile_machine.specs.Frames.{in_protected}
 use Rattle.profile_machine.specs.Inheritance.{falls, inherit, lose, lose_running, same_cause}
@@ -27,6 +27,7 @@ use Rattle.std.specs.Prelude.{None, Option, Some, not, ℕ, ℤ}
 use Rattle.trace_text.specs.declared.events.QueueEnd.{QueueEnd}
 use Rattle.trace_text.specs.declared.events.Who.{Who}
 use Rattle.trace_text.specs.declared.events.Who.TheVariants as who
+use Rattle.ceiling_laws.proofs.Runs.LevelMoves.{Fitting, Sleeping}
 
 -- ---- who is edited makes no calls
 

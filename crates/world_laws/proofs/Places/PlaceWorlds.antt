@@ -5,10 +5,8 @@ use Rattle.machine_laws.specs.Reached.{Reached, before, behind}
 use Rattle.machine_laws.proofs.PlaceLemmas.{nobody_is_placed_twice, places_are_in_order}
 use Rattle.world_laws.proofs.Places.CorePoints.{IsAt, not-absent}
 use Rattle.world_laws.proofs.Places.Cores.{core}
-use Rattle.world_laws.proofs.Places.Kept.Waking.{who-is}
-use Rattle.world_laws.proofs.Places.LevelMoves.{EachTask}
 use Rattle.world_laws.proofs.Places.Puts.{Spot, spot_in}
-use Rattle.world_laws.proofs.Places.SoundWorlds.{IsAbsent, IsThere, all_there, each-on, is_agent}
+use Rattle.world_laws.proofs.Places.SoundWorlds.{IsAbsent, all_there}
 use Rattle.world_laws.proofs.Places.Standing.{runs_in}
 use Rattle.world_laws.proofs.Places.StandingRuns.{AllStand, comes-stands, instant-places}
 use Rattle.world_laws.specs.PlaceWorlds.{ReachedPlacesAreRight}
@@ -27,6 +25,9 @@ use Rattle.std.specs.List.{list_all, list_any}
 use Rattle.std.specs.Prelude.{Bool, List, None, Option, Some, eqb, false, int_le, is_some, not, true, ℕ, ℤ, ◌&&◌, ◌||◌}
 use Rattle.trace_text.specs.declared.events.Who.{Who}
 use Rattle.trace_text.specs.declared.events.Who.TheVariants as who
+use Rattle.ceiling_laws.proofs.Runs.Kept.Waking.{who-is}
+use Rattle.ceiling_laws.proofs.Runs.LevelMoves.{EachTask}
+use Rattle.ceiling_laws.proofs.Places.SoundWorlds.{IsThere, each-on, is_agent}
 
 pub reached_stand : (p : Image) (script : List (ℤ × Item)) (bound : ℕ) (w : World) → Reached p script bound w → AllStand p w.places w
 reached_stand p script bound _ (before w comes) = comes-stands p script bound w comes

@@ -1,5 +1,4 @@
 -- What one line more says of somebody's place.
-use Rattle.world_laws.proofs.Places.LevelMoves.{is_apart, said_so}
 use Rattle.world_laws.proofs.Places.PartOrder.{last_put-append}
 use Rattle.world_laws.proofs.Places.Puts.{Spot, last_put, puts, with_put}
 use Rattle.profile_machine.specs.declared.world.lines.Line.{Line}
@@ -8,6 +7,7 @@ use Rattle.profile_machine.specs.declared.world.lines.Part.{Part}
 use Rattle.profile_machine.specs.declared.world.lines.Said.{Said}
 use Rattle.std.proofs.Common.{List, None, Option, Some, [], ap, false, refl, ◌++◌, ◌∙◌, ◌∷◌, ◌≡◌}
 use Rattle.trace_text.specs.declared.events.Who.{Who}
+use Rattle.ceiling_laws.proofs.Runs.LevelMoves.{is_apart, said_so}
 
 pub puts-apart : (n : Who) (x : Line) → is_apart x ≡ false → puts n x ≡ None
 puts-apart n (line.Ready name level end deadline) e = absurd cc

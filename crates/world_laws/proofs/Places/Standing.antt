@@ -2,11 +2,9 @@
 use Rattle.ceiling_laws.proofs.Places.ActingLemmas.{block-last}
 use Rattle.ceiling_laws.proofs.Places.BesideLemmas.{same-self}
 use Rattle.world_laws.proofs.Places.CorePoints.{Except, IsAt, Point, active_in, deadline_in, spot_for}
-use Rattle.world_laws.proofs.Places.SoundWorlds.{IsAbsent, is_agent, is_fresh}
+use Rattle.world_laws.proofs.Places.SoundWorlds.{IsAbsent}
 use Rattle.world_laws.proofs.Places.Puts.{MayBePlaced, Spot, place_by, spot_in, with_put}
 use Rattle.ceiling_laws.proofs.Runs.FoundLemmas.{by_test}
-use Rattle.world_laws.proofs.Places.Kept.Waking.{who-is}
-use Rattle.world_laws.proofs.Places.LevelMoves.{Fitting, is_blocked}
 use Rattle.world_laws.proofs.Places.Cores.{Core, core}
 use Rattle.profile_machine.specs.Dispatching.{active_of}
 use Rattle.profile_machine.specs.Masters.{part_of, waits_at_terminate}
@@ -28,6 +26,9 @@ use Rattle.std.specs.List.{list_any}
 use Rattle.std.specs.Prelude.{Bool, List, None, Option, Some, false, is_some, true, ℕ, ◌≤◌}
 use Rattle.trace_text.specs.declared.events.Who.{Who}
 use Rattle.trace_text.specs.declared.events.Who.TheVariants as who
+use Rattle.ceiling_laws.proofs.Places.SoundWorlds.{is_agent, is_fresh}
+use Rattle.ceiling_laws.proofs.Runs.Kept.Waking.{who-is}
+use Rattle.ceiling_laws.proofs.Runs.LevelMoves.{Fitting, is_blocked}
 
 abbrev pub Last : Type 0
 Last = Option (Part × Option Spot)

@@ -5,7 +5,7 @@ use Rattle.ceiling_laws.proofs.Places.BesideLemmas.{same-self}
 use Rattle.world_laws.proofs.Places.CorePoints.{Except, Holds, IsAt, Knowing, Places, Point, Readies, at_active, core-plain, holds-also, holds-knowing, holds-sound, holds_quiet, keeps_says, not-absent, ready-holds, spot_for, to_tail-holds}
 use Rattle.world_laws.proofs.Places.EffectKeeps.{begun_runs, effect_moves}
 use Rattle.world_laws.proofs.Places.EffectMoves.{Sleeping_in, Wakeful, base_moves, good-rises, runs-drawn}
-use Rattle.world_laws.proofs.Places.SoundWorlds.{IsAbsent, Sound, is_fresh, known, sound-plain, sound-same}
+use Rattle.world_laws.proofs.Places.SoundWorlds.{IsAbsent, Sound, known, sound-plain, sound-same}
 use Rattle.world_laws.proofs.Places.Standing.{First, Fits, FreeFor, Good, Last, fits_own, limit, nobody-runs, none-free, place, placed-good, runs_in}
 use Rattle.world_laws.proofs.Places.Puts.{MayBePlaced, Spot, last_put, spot_in, with_put}
 use Rattle.world_laws.proofs.Places.SpotLemmas.{spot-in_order}
@@ -25,9 +25,7 @@ use Rattle.world_laws.proofs.Places.Kept.Act.{AgentInside, InsideOrNone, MayAct,
 use Rattle.world_laws.proofs.Places.Kept.Frames.{open_sequence-keeps}
 use Rattle.world_laws.proofs.Places.Kept.Instant.{Appointing, OtherMoves}
 use Rattle.world_laws.proofs.Places.Kept.Scopes.{open_scope-alters}
-use Rattle.world_laws.proofs.Places.Kept.Waking.{who-is}
 use Rattle.world_laws.proofs.Places.RunLemmas.{Others, Settles, behind_onward, settles_onward}
-use Rattle.world_laws.proofs.Places.SameLemmas.{found_is_who}
 use Rattle.world_laws.proofs.Places.TockLemmas.{tock-same}
 use Rattle.ceiling_laws.proofs.Runs.Triples.{Leads, With, changes-keeps, from-leads, then-leads}
 use Rattle.world_laws.proofs.Places.Cores.{Core, core}
@@ -66,6 +64,9 @@ use Rattle.trace_text.specs.declared.events.Created.TheVariants as created
 use Rattle.trace_text.specs.declared.events.Event.{Event}
 use Rattle.trace_text.specs.declared.events.Who.{Who}
 use Rattle.trace_text.specs.declared.events.Who.TheVariants as who
+use Rattle.ceiling_laws.proofs.Places.SoundWorlds.{is_fresh}
+use Rattle.ceiling_laws.proofs.Runs.Kept.Waking.{who-is}
+use Rattle.ceiling_laws.proofs.Runs.SameLemmas.{found_is_who}
 
 -- ---- where the ready queues have somebody
 

@@ -25,13 +25,13 @@ use Rattle.profile_machine.specs.Priorities.{is_queued}
 use Rattle.profile_machine.specs.WellFormed.{same_owner}
 use Rattle.machine_laws.proofs.ListLemmas.{Falls-edit_where}
 use Rattle.world_laws.proofs.Queues.NumberedLists as numbered
-use Rattle.world_laws.proofs.Queues.TaskEdits as tasks
+use Rattle.line_laws.proofs.Exits.TaskEdits as edits_of
 use Rattle.world_laws.proofs.Queues.CallLists.{call_number, gone-at, left-at, same-call, taken-at}
 use Rattle.world_laws.proofs.Queues.Calming.{Softens, StandsAt, appointed-same, calm-from, came-same, edit_task-calls, edit_task-drawn, edit_task-fall, edit_task-objects, found-appointments, named-edited, softens-same, task-edited, task_of-same, there-same, unfirm-same}
 use Rattle.world_laws.proofs.Queues.NumberedLists.{by, edited-same, left-found, other-found}
 use Rattle.world_laws.proofs.Queues.Softening.{softens-plain}
 use Rattle.world_laws.proofs.Queues.Standing.{Awaited, Calm, Came, GoodBut, Idle, Kind, Open, Out, Stands, Unfirm, Waited, any_kind, none_late, object_key, served}
-use Rattle.world_laws.proofs.Queues.TaskEdits.{edited_to}
+use Rattle.line_laws.proofs.Exits.TaskEdits.{edited_to}
 
 by_test : {P : Type 0} (b : Bool) → (b ≡ true → P) → (b ≡ false → P) → P
 by_test true p q = p refl
@@ -378,7 +378,7 @@ taken-found (Some x) place c = gone-at x.queues place c
 taken-out : (owner : Owner) (place : ℕ) (c : CallNo) (w : World) → has same_call (queue_of (edit_queue owner place (take_call c) w) owner place) c ≡ false
 taken-out (owned_by.Task t) place c w =
     let name = who.Task t in
-    tasks.edited_to (λ u. Unit {0}) (λ u. has same_call (queue_at u.queues place) c ≡ false) name name (λ u. record u { queues = edit_at place (take_call c) u.queues }) w (λ u. refl)
+    edits_of.edited_to (λ u. Unit {0}) (λ u. has same_call (queue_at u.queues place) c ≡ false) name name (λ u. record u { queues = edit_at place (take_call c) u.queues }) w (λ u. refl)
     (λ same u h. no-one u place c) (λ apart u h. absurd (true≢false (sym (eq-eqb t.0 t.0 refl) ∙ apart))) (λ h. refl) tt
 taken-out (owned_by.Object o) place c w =
     let f : Object → Object = λ u. record u { queues = edit_at place (take_call c) u.queues } in

@@ -22,13 +22,13 @@ use Rattle.profile_machine.specs.Appointments.{is_appointed, is_timeout_of, is_t
 use Rattle.profile_machine.specs.Values.{is_object, queue_at, queues_of}
 use Rattle.profile_machine.specs.Calls.{is_call, call_of, edit_object}
 use Rattle.world_laws.proofs.Queues.NumberedLists as numbered
-use Rattle.world_laws.proofs.Queues.TaskEdits as tasks
+use Rattle.line_laws.proofs.Exits.TaskEdits as edits_of
 use Rattle.profile_machine.specs.Notation.{agent, t}
 use Rattle.profile_machine.specs.WellFormed.{number_in}
 use Rattle.machine_laws.proofs.ListLemmas.{Falls, Falls-edit_where, Rises, Rises-set_where}
 use Rattle.world_laws.proofs.Queues.NumberedLists.{edited}
 use Rattle.world_laws.proofs.Queues.Standing.{Awaited, Calm, Came, Ended, Fall, Idle, Kind, Open, Own, Stands, Unfirm, Waited, awaits_at, ends_by, has_own, is_ending, is_named, is_task, natures, natures_of, none_late, object_key, served_in, some_nature, task_number, top_waits, waits_end}
-use Rattle.world_laws.proofs.Queues.TaskEdits.{edited_to, one_of, same_who-path}
+use Rattle.line_laws.proofs.Exits.TaskEdits.{edited_to, one_of, same_who-path}
 
 abbrev pub call_number : Call → ℕ
 call_number d = d.number.0
@@ -63,7 +63,7 @@ edit_task-drawn name f w = found-drawn name f w (task_at w name)
 module _ (name : Who) (f : Task → Task) (w : World) (named : (t : Task) → (f t).who ≡ t.who) (S : Who → Task → Task → Type 0) (stays : (me : Who) → S me (task_of w me) (task_of w me)) (edits : S name (task_of w name) (f (task_of w name))) where
   edited-one : (me : Who) → same_who me name ≡ true → (t : Task) → t ≡ task_of w me → S me (task_of w me) (f t)
   edited-one me same t e =
-      let one : me ≡ name = tasks.same_who-path me name same in
+      let one : me ≡ name = edits_of.same_who-path me name same in
       subst (λ x. S me (task_of w me) (f x)) (sym e) (subst (λ n. S n (task_of w n) (f (task_of w n))) (sym one) edits)
 
   other-one : (me : Who) (t : Task) → t ≡ task_of w me → S me (task_of w me) t
@@ -71,12 +71,12 @@ module _ (name : Who) (f : Task → Task) (w : World) (named : (t : Task) → (f
 
   pub task-edited : (me : Who) → S me (task_of w me) (task_of (edit_task name f w) me)
   task-edited (who.Task n) =
-      tasks.edited_to (λ t. t ≡ task_of w (who.Task n)) (S (who.Task n) (task_of w (who.Task n))) (who.Task n) name f w named (edited-one (who.Task n)) (λ apart t e. other-one (who.Task n) t e) (λ e. other-one (who.Task n) nobody e) refl
+      edits_of.edited_to (λ t. t ≡ task_of w (who.Task n)) (S (who.Task n) (task_of w (who.Task n))) (who.Task n) name f w named (edited-one (who.Task n)) (λ apart t e. other-one (who.Task n) t e) (λ e. other-one (who.Task n) nobody e) refl
   task-edited who.Agent =
-      tasks.edited_to (λ t. t ≡ task_of w who.Agent) (S who.Agent (task_of w who.Agent)) who.Agent name f w named (edited-one who.Agent) (λ apart t e. other-one who.Agent t e) (λ e. other-one who.Agent nobody e) refl
+      edits_of.edited_to (λ t. t ≡ task_of w who.Agent) (S who.Agent (task_of w who.Agent)) who.Agent name f w named (edited-one who.Agent) (λ apart t e. other-one who.Agent t e) (λ e. other-one who.Agent nobody e) refl
 
 pub task_of-same : (w v : World) → v.tasks ≡ w.tasks → v.agent ≡ w.agent → (me : Who) → task_of v me ≡ task_of w me
-task_of-same w v same whole (who.Task n) = ap (λ ts. tasks.one_of ts w.agent (who.Task n)) same
+task_of-same w v same whole (who.Task n) = ap (λ ts. edits_of.one_of ts w.agent (who.Task n)) same
 task_of-same w v same whole who.Agent = whole
 
 -- ---- names

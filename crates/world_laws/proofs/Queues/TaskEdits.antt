@@ -1,40 +1,18 @@
 -- A task, or the agent, as it stands in a world: what holds of it where somebody is edited.
-use Rattle.std.proofs.Common.{◌≡◌, ℕ, Bool, true, false, cond, List, [], ◌∷◌, ◌++◌, Option, Some, None, refl, sym, ap, subst, ◌∙◌, eq-eqb}
-use Rattle.std.proofs.lemmas.Bool.{eqb-true, false≢true}
+use Rattle.std.proofs.Common.{◌≡◌, Bool, true, false, cond, List, [], ◌∷◌, ◌++◌, Option, Some, None, refl, sym, ap, subst, ◌∙◌}
+use Rattle.std.proofs.lemmas.Bool.{false≢true}
 use Rattle.std.specs.Prelude.{find, not}
 use Rattle.ann_base.specs.declared.identities.TaskNo.{TaskNo}
 use Rattle.trace_text.specs.declared.events.Who.{Who}
 use Rattle.trace_text.specs.declared.events.Who.TheVariants as who
-use Rattle.profile_machine.specs.declared.world.World.{World}
 use Rattle.profile_machine.specs.declared.world.tasks.Task.{Task}
 use Rattle.profile_machine.specs.Words.{same_who, set_where, without, option_or_else}
-use Rattle.profile_machine.specs.Tasks.{is_who, nobody, task_at, task_of, edit_task_found, edit_task}
+use Rattle.profile_machine.specs.Tasks.{is_who, nobody}
+use Rattle.line_laws.proofs.Exits.TaskEdits.{apart-names, both-same, none-left, one_of, other-name, same_who-path, seen, some-none, some-same, tail-step}
 
 by_test : {P : Type 0} (b : Bool) → (b ≡ true → P) → (b ≡ false → P) → P
 by_test true p q = p refl
 by_test false p q = q refl
-
--- who has this name among these tasks, or the agent
-abbrev pub one_of : List Task → Task → Who → Task
-one_of tasks agent (who.Task n) = option_or_else (find (is_who (who.Task n)) tasks) nobody
-one_of tasks agent who.Agent = agent
-
-pub one_of-is : (w : World) (name : Who) → one_of w.tasks w.agent name ≡ task_of w name
-one_of-is w (who.Task n) = refl
-one_of-is w who.Agent = refl
-
-pub same_who-path : (a b : Who) → same_who a b ≡ true → a ≡ b
-same_who-path (who.Task a) (who.Task b) e = ap (λ (n : ℕ). who.Task (record { 0 = n })) (eqb-true a.0 b.0 e)
-same_who-path (who.Task a) who.Agent e = absurd (false≢true e)
-same_who-path who.Agent (who.Task b) e = absurd (false≢true e)
-same_who-path who.Agent who.Agent e = refl
-
-both-same : (m k : TaskNo) (name : Who) → same_who (who.Task m) name ≡ true → same_who (who.Task k) name ≡ true → same_who (who.Task m) (who.Task k) ≡ true
-both-same m k (who.Task n) e f = eq-eqb m.0 k.0 (eqb-true m.0 n.0 e ∙ sym (eqb-true k.0 n.0 f))
-both-same m k who.Agent e f = absurd (false≢true e)
-
-other-name : (m k : TaskNo) (name : Who) → same_who (who.Task m) name ≡ false → same_who (who.Task k) name ≡ true → same_who (who.Task m) (who.Task k) ≡ false
-other-name m k name e f = subst (λ n. same_who (who.Task m) n ≡ false) (sym (same_who-path (who.Task k) name f)) e
 
 other-one : (m k : TaskNo) (name : Who) → same_who (who.Task m) name ≡ true → same_who (who.Task k) name ≡ false → same_who (who.Task m) (who.Task k) ≡ false
 other-one m k name e f =
@@ -42,20 +20,7 @@ other-one m k name e f =
     (λ same. absurd (false≢true (sym f ∙ subst (λ n. same_who n name ≡ true) (same_who-path (who.Task m) (who.Task k) same) e)))
     (λ apart. apart)
 
-some-none : (x : Task) → None ≡ Some x → ⊥
-some-none x e = cc
-
-some-same : (x y : Task) → Some x ≡ Some y → x ≡ y
-some-same x y e = cc
-
 -- ---- what holds of the one that is found, or of nobody
-
-abbrev seen : (Task → Type 0) → Option Task → Type 0
-seen P found = P (option_or_else found nobody)
-
-tail-step : (P : Task → Type 0) (c : Bool) (z : Task) (rest other : Option Task) → (seen P rest → seen P other) → seen P (cond c (Some z) rest) → seen P (cond c (Some z) other)
-tail-step P true z rest other k h = h
-tail-step P false z rest other k h = k h
 
 -- from P before to R behind: of the one that is edited by the edit, and of another as it is
 module _ (P R : Task → Type 0) (m k : TaskNo) (x y : Task) (named : y.who ≡ x.who) (same : same_who (who.Task m) (who.Task k) ≡ true → P x → R y) (apart : same_who (who.Task m) (who.Task k) ≡ false → (t : Task) → P t → R t) where
@@ -79,31 +44,6 @@ module _ (P R : Task → Type 0) (m k : TaskNo) (x y : Task) (named : y.who ≡ 
   set-all : (zs : List Task) → find (is_who (who.Task k)) zs ≡ Some x → seen P (find (is_who (who.Task m)) zs) → seen R (find (is_who (who.Task m)) (set_where (is_who (who.Task k)) y zs))
   set-all [] e h = absurd (some-none x e)
   set-all (z ∷ zs) e h = set-step (is_who (who.Task k) z) z zs refl e (λ g i. set-all zs g i) h
-
--- where the one that is to be edited is not there
-none-found : (P R : Task → Type 0) (me n : Who) (w : World) (b : Bool) → same_who me n ≡ b → (b ≡ false → (t : Task) → P t → R t) → (P nobody → R nobody) → task_at w n ≡ None → P (one_of w.tasks w.agent me) → R (one_of w.tasks w.agent me)
-none-found P R me n w false is apart blank e h = apart refl (one_of w.tasks w.agent me) h
-none-found P R me n w true is apart blank e h =
-    let same : me ≡ n = same_who-path me n is in
-    let absent : one_of w.tasks w.agent me ≡ nobody = one_of-is w me ∙ ap (task_of w) same ∙ ap (λ found. option_or_else found nobody) e in
-    subst R (sym absent) (blank (subst P absent h))
-
-edited-found : (P R : Task → Type 0) (me n : Who) (f : Task → Task) (w : World) → ((t : Task) → (f t).who ≡ t.who) → (same_who me n ≡ true → (t : Task) → P t → R (f t)) → (same_who me n ≡ false → (t : Task) → P t → R t) → (P nobody → R nobody)
-    → (found : Option Task) → task_at w n ≡ found → P (one_of w.tasks w.agent me) → let v = edit_task_found n f w found in R (one_of v.tasks v.agent me)
-edited-found P R me n f w named same apart blank None e h = none-found P R me n w (same_who me n) refl apart blank e h
-edited-found P R (who.Task m) (who.Task k) f w named same apart blank (Some x) e h = set-all P R m k x (f x) (named x) (λ i g. same i x g) apart w.tasks e h
-edited-found P R who.Agent (who.Task k) f w named same apart blank (Some x) e h = apart refl w.agent h
-edited-found P R (who.Task m) who.Agent f w named same apart blank (Some x) e h = apart refl (one_of w.tasks w.agent (who.Task m)) h
-edited-found P R who.Agent who.Agent f w named same apart blank (Some x) e h = same refl x (subst P (some-same w.agent x e) h)
-
-pub edited_to : (P R : Task → Type 0) (me n : Who) (f : Task → Task) (w : World) → ((t : Task) → (f t).who ≡ t.who) → (same_who me n ≡ true → (t : Task) → P t → R (f t)) → (same_who me n ≡ false → (t : Task) → P t → R t) → (P nobody → R nobody)
-    → P (one_of w.tasks w.agent me) → let v = edit_task n f w in R (one_of v.tasks v.agent me)
-edited_to P R me n f w named same apart blank h = edited-found P R me n f w named same apart blank (task_at w n) refl h
-
--- of somebody when somebody is edited: where it is the same one, what the edit keeps
-pub edited : (P : Task → Type 0) (me n : Who) (f : Task → Task) (w : World) → ((t : Task) → (f t).who ≡ t.who) → (same_who me n ≡ true → (t : Task) → P t → P (f t)) → P (one_of w.tasks w.agent me)
-    → let v = edit_task n f w in P (one_of v.tasks v.agent me)
-edited P me n f w named same h = edited_to P P me n f w named same (λ e t g. g) (λ g. g) h
 
 -- ---- tasks that come and go
 
@@ -129,17 +69,6 @@ kept-among P n x (t ∷ ts) blank h =
 pub still : (P : Task → Type 0) (me : Who) (x : Task) (ts : List Task) (agent : Task) → (P nobody → ⊥) → P (one_of ts agent me) → P (one_of (ts ++ x ∷ []) agent me)
 still P (who.Task n) x ts agent blank h = kept-among P n x ts blank h
 still P who.Agent x ts agent blank h = h
-
-none-step : (n : Who) (z : Task) (rest : List Task) (b : Bool) → is_who n z ≡ b → find (is_who n) rest ≡ None → find (is_who n) (cond (not b) (z ∷ rest) rest) ≡ None
-none-step n z rest true is e = e
-none-step n z rest false is e = ap (λ c. cond c (Some z) (find (is_who n) rest)) is ∙ e
-
-none-left : (n : Who) (ts : List Task) → find (is_who n) (without (is_who n) ts) ≡ None
-none-left n [] = refl
-none-left n (z ∷ zs) = none-step n z (without (is_who n) zs) (is_who n z) refl (none-left n zs)
-
-apart-names : (m n a : Who) → same_who m n ≡ false → same_who n a ≡ true → same_who m a ≡ false
-apart-names m n a e f = let is : n ≡ a = same_who-path n a f in subst (λ x. same_who m x ≡ false) is e
 
 others-step : (P : Task → Type 0) (m n : Who) (z : Task) (zs left : List Task) (b : Bool) → is_who n z ≡ b → same_who m n ≡ false → (seen P (find (is_who m) zs) → seen P (find (is_who m) left))
     → seen P (cond (is_who m z) (Some z) (find (is_who m) zs)) → seen P (find (is_who m) (cond (not b) (z ∷ left) left))

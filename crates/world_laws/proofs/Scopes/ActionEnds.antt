@@ -38,12 +38,12 @@ use Rattle.profile_machine.specs.Protected.{begin_call, body_opens, edit_top_pro
 use Rattle.profile_machine.specs.Sending.{send_on}
 use Rattle.profile_machine.specs.Values.{object_of}
 use Rattle.profile_machine.specs.Serving.{begins_part, behind_action, chosen_is_sent, close_action, end_entry_body, end_in_protected, end_in_protected_by, end_operation, finish_call, finish_raised, finish_well, go_on_by_mode, is_own_call, no_longer_serves, not_left, outcome_by, part_of_start, release_object, serve_calls, serve_chosen, serve_next, settle_sent, with_body_left}
-use Rattle.world_laws.proofs.Scopes.FineMoves.{AnyWorld, Live, natures}
+use Rattle.world_laws.proofs.Scopes.FineMoves.{Live, natures}
 use Rattle.world_laws.proofs.Scopes.ScopeKeys.{scope_keys}
 use Rattle.world_laws.proofs.Scopes.TaskMarks.{opened-owns, owns_in, shielded}
 use Rattle.world_laws.proofs.Scopes.Likeness.{Same, like_at}
 use Rattle.world_laws.proofs.Scopes.QuietMoves.{SameStep, quiet}
-use Rattle.world_laws.proofs.Scopes.TaskPuts.{edited-rest, one_of-is}
+use Rattle.world_laws.proofs.Scopes.TaskPuts.{edited-rest}
 use Rattle.world_laws.proofs.Scopes.GoodWorlds.{Good, GoodWorld, marks-good, nobody_free}
 use Rattle.world_laws.proofs.Scopes.ScopeSteps.{There, there-is, popped-put, put-live, top-there}
 use Rattle.world_laws.proofs.Scopes.ActingMoves.{ActingWorld, Led, acting, acting-lifts, openings}
@@ -57,6 +57,8 @@ use Rattle.world_laws.proofs.Scopes.Kept.CallEnds.{deliver-keeps}
 use Rattle.world_laws.proofs.Scopes.Kept.Protected.{begin_call-keeps, body_opens-keeps, edit_top_protected-alters}
 use Rattle.world_laws.proofs.Scopes.Kept.Sending.{send_on-keeps}
 use Rattle.world_laws.proofs.Scopes.Kept.Serving.{begins_part-keeps, behind_action-keeps, close_action-alters, settle_sent-keeps}
+use Rattle.machine_laws.proofs.FineMoves.{AnyWorld}
+use Rattle.line_laws.proofs.Exits.TaskEdits.{one_of-is}
 
 -- ---- the mark of an action above all scopes
 

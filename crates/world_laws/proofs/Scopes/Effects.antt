@@ -30,7 +30,7 @@ use Rattle.profile_machine.specs.Controlled.{finalize, next_to_finalize}
 use Rattle.profile_machine.specs.Tasking.{behind_scope, end_environment, end_of_scope, end_scope_mark, end_scope_mark_of, end_task, fails_by, go_on_leaving, is_environment, is_task_scope, left_by, says_done, says_left}
 use Rattle.profile_machine.specs.Act.{act, act_frame, act_top, act_without, end_mark}
 use Rattle.profile_machine.specs.Instant.{effect}
-use Rattle.world_laws.proofs.Scopes.FineMoves.{Anybody, FineMoves, is_task_mark}
+use Rattle.world_laws.proofs.Scopes.FineMoves.{FineMoves, is_task_mark}
 use Rattle.world_laws.proofs.Scopes.QuietMoves.{quiet}
 use Rattle.world_laws.proofs.Scopes.GoodWorlds.{GoodWorld, nobody_free, same-good}
 use Rattle.world_laws.proofs.Scopes.ScopeSteps.{own_ends-alone, scope_ends-good, scope_ends-live}
@@ -50,6 +50,7 @@ use Rattle.world_laws.proofs.Scopes.Kept.Controlled.{end_in_assign-from, end_in_
 use Rattle.world_laws.proofs.Scopes.Kept.Tasking.{end_body-keeps, end_environment-alters, says_done-keeps, says_left-keeps, take_terminates-keeps, unwind_all-keeps}
 use Rattle.world_laws.proofs.Scopes.Kept.Handlers.{call_handler-keeps}
 use Rattle.world_laws.proofs.Scopes.Kept.Act.{act_statement-keeps, end_handled-from, end_in_abortable-keeps}
+use Rattle.machine_laws.proofs.FineMoves.{Anybody}
 
 -- ---- it leads to a good world
 

@@ -41,7 +41,7 @@ use Rattle.profile_machine.specs.declared.world.lines.Line.TheVariants as said
 use Rattle.profile_machine.specs.Words.{edit_at}
 use Rattle.profile_machine.specs.Steps.{placed_by}
 use Rattle.profile_machine.specs.Tasks.{task_of, edit_task, with_state, with_frames, waiting_of, is_made}
-use Rattle.profile_machine.specs.Dispatching.{active, deadline_shown, word_of}
+use Rattle.profile_machine.specs.Dispatching.{word_of}
 use Rattle.profile_machine.specs.Frames.{top_of, edit_top, push, pop, goes_on, is_protected}
 use Rattle.profile_machine.specs.Scopes.{id_in, edit_cells, open_scope}
 use Rattle.profile_machine.specs.Appointments.{appoint, drop_appointment}
@@ -57,12 +57,7 @@ use Rattle.profile_machine.specs.Serving.{close_action, serves_nothing}
 use Rattle.profile_machine.specs.Handlers.{add_release, clear_timer, with_timer_set, edit_budget}
 use Rattle.profile_machine.specs.Instant.{with_port, with_masked, with_kept_interrupt, with_script}
 use Rattle.machine_laws.proofs.Moves.{StepRelation, MoveRelation}
-
-abbrev pub GoodWorld : Type 1
-GoodWorld = World → Type 0
-
-abbrev pub Naming : Type 1
-Naming = Who → Type 0
+use Rattle.machine_laws.proofs.FineMoves.{EachIs, GoodWorld, Naming, ready_line}
 
 -- ---- what a mark is, whatever is edited in it: its scope, whether that is a task's own, and whether it is a protected action
 
@@ -87,13 +82,6 @@ nature mark = record { id = id_in mark; task = is_task_mark mark; action = is_pr
 abbrev pub natures : List Frame → List Nature
 natures [] = []
 natures (f ∷ fs) = nature f.mark ∷ natures fs
-
-abbrev pub EachIs : Naming → List Task → Type 0
-EachIs Is [] = Unit {0}
-EachIs Is (t ∷ ts) = Is t.who × EachIs Is ts
-
-abbrev pub ready_line : Image → Part → Who → QueueEnd → World → Said
-ready_line p part name end w = record { part = part; line = said.Ready name (active p (task_of w name)) end (deadline_shown p (task_of w name)) }
 
 -- somebody goes on
 abbrev pub gone_on : Who → Option StatementNo → World → World
@@ -178,15 +166,3 @@ pub record Openings (G : GoodWorld) (Acts : Naming) (R : StepRelation) : Type 0 
   pub acts_live : (name : Who) (w : World) → G w → Acts name → Live name w
   pub still_live : (name : Who) (a b : World) {xs : List Said} → R a xs b → Live name a → Live name b
   pub adds_task : (name : Who) (onward : Option StatementNo) (t : Task) (w : World) → G w → t.who ≡ who.Task (record { 0 = w.drawn.tasks }) → t.frames ≡ [] → R w [] (add_task t (gone_on name onward w))
-
--- ---- of anybody, from any world
-
-abbrev pub AnyWorld : GoodWorld
-AnyWorld w = Unit {0}
-
-abbrev pub Anybody : Naming
-Anybody name = Unit {0}
-
-pub each-anybody : (ts : List Task) → EachIs Anybody ts
-each-anybody [] = tt
-each-anybody (t ∷ ts) = (tt, each-anybody ts)

@@ -12,7 +12,8 @@ use Rattle.machine_laws.proofs.ListLemmas.{Falls}
 use Rattle.world_laws.proofs.Scopes.ScopeKeys.{Key, number, falls-dropped, Weights, by_test, bit, weigh, of_number, except, drop_number, dropped-weigh, dropped-less, absent-weigh, scope_keys}
 use Rattle.world_laws.proofs.Scopes.TaskMarks.{Own, marks_of, keys_by, task_keys, bottomed}
 use Rattle.world_laws.proofs.Scopes.Likeness.{Like, AllLike, Same, all-found, all-keys, all-named, like-keys, named, keys_of, everybody_keys}
-use Rattle.world_laws.proofs.Scopes.TaskPuts.{one_of, Put, same_who-path}
+use Rattle.world_laws.proofs.Scopes.TaskPuts.{Put}
+use Rattle.line_laws.proofs.Exits.TaskEdits.{one_of, same_who-path}
 
 -- a name that was not drawn for a task
 abbrev pub IsNew : ℕ → Who → Type 0

@@ -6,10 +6,11 @@ use Rattle.profile_machine.specs.declared.world.World.{World}
 use Rattle.profile_machine.specs.declared.world.lines.Said.{Said}
 use Rattle.profile_machine.specs.Steps.{Step, Done, done, goes_on_with, placed_by, ◌▷◌}
 use Rattle.machine_laws.proofs.Moves.{StepRelation, MoveRelation}
-use Rattle.world_laws.proofs.Scopes.FineMoves.{GoodWorld, AnyWorld, Anybody, FineMoves, each-anybody}
+use Rattle.world_laws.proofs.Scopes.FineMoves.{FineMoves}
 use Rattle.world_laws.proofs.Scopes.Likeness.{Same}
 use Rattle.world_laws.proofs.Scopes.QuietMoves.{SameStep, quiet, same-self}
 use Rattle.world_laws.proofs.Scopes.Kept.Combinators.{Kept, Keeps, From, then-kept}
+use Rattle.machine_laws.proofs.FineMoves.{AnyWorld, Anybody, GoodWorld, each-anybody}
 
 -- a relation of worlds, of steps and of moves, whatever they say
 abbrev pub WorldRelation : Type 1

@@ -12,10 +12,11 @@ use Rattle.world_laws.proofs.Scopes.FineMoves.{Live}
 use Rattle.world_laws.proofs.Scopes.ScopeKeys.{by_test, bit}
 use Rattle.world_laws.proofs.Scopes.TaskMarks.{marks_of}
 use Rattle.world_laws.proofs.Scopes.Likeness.{Same, named, all-named}
-use Rattle.world_laws.proofs.Scopes.TaskPuts.{one_of-is, same_who-self, same_who-path, same_who-flip}
+use Rattle.world_laws.proofs.Scopes.TaskPuts.{same_who-self, same_who-flip}
 use Rattle.world_laws.proofs.Scopes.GoodWorlds.{GoodWorld}
 use Rattle.world_laws.proofs.Scopes.ScopeSteps.{There}
 use Rattle.world_laws.proofs.Scopes.ActingMoves.{ActingWorld, NoScopes}
+use Rattle.line_laws.proofs.Exits.TaskEdits.{one_of-is, same_who-path}
 
 -- ---- a task that is there, by its name
 

@@ -29,16 +29,18 @@ use Rattle.world_laws.proofs.Scopes.ScopeKeys.{bit}
 use Rattle.world_laws.proofs.Scopes.TaskMarks.{bottomed, marks_of}
 use Rattle.world_laws.proofs.Scopes.Likeness.{named}
 use Rattle.world_laws.proofs.Scopes.QuietMoves.{same-lists}
-use Rattle.world_laws.proofs.Scopes.TaskPuts.{one_of}
 use Rattle.world_laws.proofs.Scopes.GoodWorlds.{GoodWorld, IsNew, fresh-number, nobody_free, same-good}
 use Rattle.world_laws.proofs.Scopes.ScopeSteps.{There, opens-good}
 use Rattle.world_laws.proofs.Scopes.Lifting.{StepOf}
 use Rattle.world_laws.proofs.Scopes.Effects.{ToGood, effect-from, goodly}
-use Rattle.world_laws.proofs.Scopes.Kept.Combinators.{From, Leads, changes_then-from, keeps-from, says-keeps, settles-from, then-keeps}
+use Rattle.world_laws.proofs.Scopes.Kept.Combinators.{From, changes_then-from, keeps-from, says-keeps, settles-from, then-keeps}
 use Rattle.world_laws.proofs.Scopes.Kept.Dispatching.{to_tail-keeps}
 use Rattle.world_laws.proofs.Scopes.Kept.Frames.{open_sequence-keeps}
 use Rattle.world_laws.proofs.Scopes.Kept.Instant.{behind_action-leads}
-use Rattle.world_laws.proofs.Scopes.Kept.Run.{before_tick, before_tick-leads, tock-parts}
+use Rattle.world_laws.proofs.Scopes.Kept.Run.{before_tick-leads}
+use Rattle.line_laws.proofs.Exits.TaskEdits.{one_of}
+use Rattle.machine_laws.proofs.Kept.Combinators.{Leads}
+use Rattle.machine_laws.proofs.Kept.Run.{before_tick, tock-parts}
 
 -- ---- the opening
 

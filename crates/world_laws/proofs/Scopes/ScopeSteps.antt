@@ -25,8 +25,9 @@ use Rattle.profile_machine.specs.Tasking.{is_task_scope}
 use Rattle.world_laws.proofs.Scopes.FineMoves.{Live, is_task_mark, natures}
 use Rattle.world_laws.proofs.Scopes.ScopeKeys.{by_test, drop_number, scope_keys, scope_keys-without}
 use Rattle.world_laws.proofs.Scopes.TaskMarks.{bottomed, marks_of, owns_in, with_own-some, ended-owns}
-use Rattle.world_laws.proofs.Scopes.TaskPuts.{one_of, one_of-is, Put, put-edit, found-holds, same_who-path, edited-rest}
+use Rattle.world_laws.proofs.Scopes.TaskPuts.{Put, put-edit, found-holds, edited-rest}
 use Rattle.world_laws.proofs.Scopes.GoodWorlds.{Good, GoodBut, begins-good, ends-good, own-alone}
+use Rattle.line_laws.proofs.Exits.TaskEdits.{one_of, one_of-is, same_who-path}
 
 -- ---- who is there
 

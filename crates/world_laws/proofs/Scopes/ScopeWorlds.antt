@@ -17,9 +17,10 @@ use Rattle.world_laws.proofs.Scopes.FineMoves.{natures, is_task_mark}
 use Rattle.world_laws.proofs.Scopes.ScopeKeys.{Key, Weights, bit, number, of_number, scope_keys, weigh, weigh-append}
 use Rattle.world_laws.proofs.Scopes.TaskMarks.{keys_by, owns_in, task_keys, with_own}
 use Rattle.world_laws.proofs.Scopes.Likeness.{everybody_keys, keys_of}
-use Rattle.world_laws.proofs.Scopes.TaskPuts.{same_who-path, same_who-self}
+use Rattle.world_laws.proofs.Scopes.TaskPuts.{same_who-self}
 use Rattle.world_laws.proofs.Scopes.GoodWorlds.{GoodWorld}
 use Rattle.world_laws.proofs.Scopes.Runs.{reached-good}
+use Rattle.line_laws.proofs.Exits.TaskEdits.{same_who-path}
 
 -- ---- they stand by number
 

@@ -1,7 +1,6 @@
 -- A task comes, as the last, and tasks of a name are gone: what stays of the names, the keys, and who is found.
-use Rattle.std.proofs.Common.{◌≡◌, ℕ, suc, ◌+◌, ◌≤◌, Bool, true, false, cond, not, List, [], ◌∷◌, ◌++◌, Option, Some, None, refl, sym, ap, subst, ◌∙◌, arith}
+use Rattle.std.proofs.Common.{◌≡◌, ℕ, suc, ◌+◌, ◌≤◌, Bool, true, false, cond, not, List, [], ◌∷◌, ◌++◌, Some, refl, sym, ap, subst, ◌∙◌, arith}
 use Rattle.std.specs.Prelude.{find}
-use Rattle.ann_base.specs.declared.identities.TaskNo.{TaskNo}
 use Rattle.trace_text.specs.declared.events.Who.{Who}
 use Rattle.trace_text.specs.declared.events.Who.TheVariants as who
 use Rattle.profile_machine.specs.declared.world.tasks.Task.{Task}
@@ -10,26 +9,10 @@ use Rattle.profile_machine.specs.Tasks.{is_who, is_made, nobody}
 use Rattle.world_laws.proofs.Scopes.ScopeKeys.{Key, Weights, bit, weigh, weigh-append}
 use Rattle.world_laws.proofs.Scopes.TaskMarks.{marks_of, keys_by, task_keys, bottomed}
 use Rattle.world_laws.proofs.Scopes.Likeness.{named, keys_of}
-use Rattle.world_laws.proofs.Scopes.TaskPuts.{one_of, same_who-path}
 use Rattle.world_laws.proofs.Scopes.GoodWorlds.{IsNew, Good, fresh-number}
-
-abbrev seen : (Task → Type 0) → Option Task → Type 0
-seen P found = P (option_or_else found nobody)
-
-tail-step : (P : Task → Type 0) (c : Bool) (z : Task) (rest other : Option Task) → (seen P rest → seen P other) → seen P (cond c (Some z) rest) → seen P (cond c (Some z) other)
-tail-step P true z rest other k h = h
-tail-step P false z rest other k h = k h
+use Rattle.line_laws.proofs.Exits.TaskEdits.{added-among, apart-names, left-where, one_of, others-left, same_who-path}
 
 -- ---- one that comes
-
-added-last : (P : Task → Type 0) (c : Bool) (x : Task) → P x → P nobody → seen P (cond c (Some x) None)
-added-last P true x new blank = new
-added-last P false x new blank = blank
-
-added-among : (P : Task → Type 0) (n : TaskNo) (x : Task) (ts : List Task) → P x → P nobody → seen P (find (is_who (who.Task n)) ts) → seen P (find (is_who (who.Task n)) (ts ++ x ∷ []))
-added-among P n x [] new blank h = added-last P (is_who (who.Task n) x) x new blank
-added-among P n x (t ∷ ts) new blank h =
-    tail-step P (is_who (who.Task n) t) t (find (is_who (who.Task n)) ts) (find (is_who (who.Task n)) (ts ++ x ∷ [])) (λ g. added-among P n x ts new blank g) h
 
 pub added : (P : Task → Type 0) (n : Who) (x : Task) (ts : List Task) (agent : Task) → P x → P nobody → P (one_of ts agent n) → P (one_of (ts ++ x ∷ []) agent n)
 added P (who.Task n) x ts agent new blank h = added-among P n x ts new blank h
@@ -92,33 +75,6 @@ adds-good free x tasks agent keys dt ds g named_so none = record {
 }
 
 -- ---- those of a name that are gone
-
-none-step : (n : Who) (z : Task) (rest : List Task) (b : Bool) → is_who n z ≡ b → find (is_who n) rest ≡ None → find (is_who n) (cond (not b) (z ∷ rest) rest) ≡ None
-none-step n z rest true is e = e
-none-step n z rest false is e = ap (λ c. cond c (Some z) (find (is_who n) rest)) is ∙ e
-
-none-left : (n : Who) (ts : List Task) → find (is_who n) (without (is_who n) ts) ≡ None
-none-left n [] = refl
-none-left n (z ∷ zs) = none-step n z (without (is_who n) zs) (is_who n z) refl (none-left n zs)
-
-apart-names : (m n a : Who) → same_who m n ≡ false → same_who n a ≡ true → same_who m a ≡ false
-apart-names m n a e f = let is : n ≡ a = same_who-path n a f in subst (λ x. same_who m x ≡ false) is e
-
-others-step : (P : Task → Type 0) (m n : Who) (z : Task) (zs left : List Task) (b : Bool) → is_who n z ≡ b → same_who m n ≡ false → (seen P (find (is_who m) zs) → seen P (find (is_who m) left))
-    → seen P (cond (is_who m z) (Some z) (find (is_who m) zs)) → seen P (find (is_who m) (cond (not b) (z ∷ left) left))
-others-step P m n z zs left true is e onward h =
-    onward (subst (λ c. seen P (cond c (Some z) (find (is_who m) zs))) (apart-names m n z.who e is) h)
-others-step P m n z zs left false is e onward h = tail-step P (is_who m z) z (find (is_who m) zs) (find (is_who m) left) onward h
-
-others-left : (P : Task → Type 0) (m n : Who) (ts : List Task) → same_who m n ≡ false → seen P (find (is_who m) ts) → seen P (find (is_who m) (without (is_who n) ts))
-others-left P m n [] e h = h
-others-left P m n (z ∷ zs) e h = others-step P m n z zs (without (is_who n) zs) (is_who n z) refl e (λ g. others-left P m n zs e g) h
-
-left-where : (P : Task → Type 0) (m n : Who) (ts : List Task) (b : Bool) → same_who m n ≡ b → P nobody → seen P (find (is_who m) ts) → seen P (find (is_who m) (without (is_who n) ts))
-left-where P m n ts true e blank h =
-    let is : m ≡ n = same_who-path m n e in
-    subst (λ x. seen P (find (is_who x) (without (is_who n) ts))) (sym is) (subst (seen P) (sym (none-left n ts)) blank)
-left-where P m n ts false e blank h = others-left P m n ts e h
 
 pub gone : (P : Task → Type 0) (m n : Who) (ts : List Task) (agent : Task) → P nobody → P (one_of ts agent m) → P (one_of (without (is_who n) ts) agent m)
 gone P (who.Task k) n ts agent blank h = left-where P (who.Task k) n ts (same_who (who.Task k) n) refl blank h

@@ -1,6 +1,6 @@
 -- One task is put in the place of the one that has its name: who is found by each name then, and what the keys of all weigh.
-use Rattle.std.proofs.Common.{◌≡◌, ℕ, ◌+◌, Bool, true, false, cond, List, [], ◌∷◌, ◌++◌, Option, Some, None, refl, sym, ap, subst, ◌∙◌, arith, eq-eqb}
-use Rattle.std.proofs.lemmas.Bool.{eqb-true, false≢true}
+use Rattle.std.proofs.Common.{◌≡◌, ◌+◌, Bool, true, false, cond, List, [], ◌∷◌, ◌++◌, Option, Some, None, refl, sym, ap, subst, ◌∙◌, arith, eq-eqb}
+use Rattle.std.proofs.lemmas.Bool.{false≢true}
 use Rattle.std.specs.Prelude.{find}
 use Rattle.ann_base.specs.declared.identities.TaskNo.{TaskNo}
 use Rattle.trace_text.specs.declared.events.Who.{Who}
@@ -8,10 +8,11 @@ use Rattle.trace_text.specs.declared.events.Who.TheVariants as who
 use Rattle.profile_machine.specs.declared.world.World.{World}
 use Rattle.profile_machine.specs.declared.world.tasks.Task.{Task}
 use Rattle.profile_machine.specs.Words.{same_who, set_where, option_or_else}
-use Rattle.profile_machine.specs.Tasks.{is_who, is_made, nobody, task_at, task_of, edit_task_found, edit_task}
+use Rattle.profile_machine.specs.Tasks.{is_who, is_made, nobody, task_at, edit_task_found, edit_task}
 use Rattle.world_laws.proofs.Scopes.ScopeKeys.{Weights, by_test, bit, weigh, weigh-append}
 use Rattle.world_laws.proofs.Scopes.TaskMarks.{task_keys}
 use Rattle.world_laws.proofs.Scopes.Likeness.{named, keys_of, everybody_keys}
+use Rattle.line_laws.proofs.Exits.TaskEdits.{one_of, same_who-path}
 
 -- ---- names
 
@@ -19,26 +20,12 @@ pub same_who-self : (a : Who) → same_who a a ≡ true
 same_who-self (who.Task a) = eq-eqb a.0 a.0 refl
 same_who-self who.Agent = refl
 
-pub same_who-path : (a b : Who) → same_who a b ≡ true → a ≡ b
-same_who-path (who.Task a) (who.Task b) e = ap (λ (n : ℕ). who.Task (record { 0 = n })) (eqb-true a.0 b.0 e)
-same_who-path (who.Task a) who.Agent e = absurd (false≢true e)
-same_who-path who.Agent (who.Task b) e = absurd (false≢true e)
-same_who-path who.Agent who.Agent e = refl
-
 pub same_who-flip : (a b : Who) → same_who a b ≡ false → same_who b a ≡ false
 same_who-flip a b e = by_test (same_who b a)
     (λ same. absurd (false≢true (sym e ∙ subst (λ n. same_who a n ≡ true) (sym (same_who-path b a same)) (same_who-self a))))
     (λ apart. apart)
 
 -- ---- who has a name among these tasks, or the agent
-
-abbrev pub one_of : List Task → Task → Who → Task
-one_of tasks agent (who.Task n) = option_or_else (find (is_who (who.Task n)) tasks) nobody
-one_of tasks agent who.Agent = agent
-
-pub one_of-is : (w : World) (name : Who) → one_of w.tasks w.agent name ≡ task_of w name
-one_of-is w (who.Task n) = refl
-one_of-is w who.Agent = refl
 
 found-step : (test : Task → Bool) (z t : Task) (zs : List Task) (b : Bool) → test z ≡ b → cond b (Some z) (find test zs) ≡ Some t → (find test zs ≡ Some t → test t ≡ true) → test t ≡ true
 found-step test z t zs true is found onward = let same : z ≡ t = cc in subst (λ (x : Task). test x ≡ true) same is

@@ -49,7 +49,7 @@ use Rattle.world_laws.proofs.Sequences.Loosened.{fine_loosens, fine_again, loose
 use Rattle.world_laws.proofs.Sequences.Turned.{fine-turned}
 use Rattle.world_laws.proofs.Sequences.Actors.{Rests, rests_points, nobody_free, nobody_stacks, Rooted, Standing, rooted_stacks, rooted-last, Apart, acting_points, Acts, HasActed, acts_points, Is, acts_free, task_stacks, fine-wide, acts-over, of_agent, Any, any_callings}
 use Rattle.world_laws.proofs.Sequences.ActingRuns.{KnowingWorld, ActingWorld, PlainWorld, ActedWorld, JustSo, acting_moves, quiet_moves, task_openings, agent_openings, departing, task_ending, last_ending, inner_ending, acting_loose, still, plain-begins, no-natures}
-use Rattle.world_laws.proofs.Sequences.Kept.Combinators.{From, Turns, Leads, then-turns, then_turn-from, turns-from, looks-turns, look-from, wide-from, wide-turns, nothing-turns, changes-turns, changes-keeps, branch-turns, says-turns, settles-from, then-keeps, said-keeps, looks-keeps, narrow-turns, changes_turn-from}
+use Rattle.world_laws.proofs.Sequences.Kept.Combinators.{Turns, then-turns, then_turn-from, turns-from, looks-turns, look-from, wide-from, wide-turns, nothing-turns, changes-turns, changes-keeps, branch-turns, says-turns, settles-from, then-keeps, said-keeps, looks-keeps, narrow-turns, changes_turn-from}
 use Rattle.world_laws.proofs.Sequences.Kept.Woken.{opened-turns, opened_by-turns}
 use Rattle.world_laws.proofs.Sequences.Kept.Inheritance.{inherit_running-keeps}
 use Rattle.world_laws.proofs.Sequences.Kept.Protected.{opens_action-alters}
@@ -57,6 +57,7 @@ use Rattle.world_laws.proofs.Sequences.Kept.Serving.{end_in_protected-turns, end
 use Rattle.world_laws.proofs.Sequences.Kept.Tasking.{take_terminates-keeps, unwind_all-keeps}
 use Rattle.world_laws.proofs.Sequences.Kept.Act.{act_frame-from}
 use Rattle.world_laws.proofs.Sequences.Kept.Instant.{behind_action-leads}
+use Rattle.machine_laws.proofs.Kept.Combinators.{From, Leads}
 
 top-natures : (fs : List Frame) (f : Frame) → first_of_list fs ≡ Some f → natures fs ≡ nature f.mark ∷ natures (without_first fs)
 top-natures [] f e = cc

@@ -56,10 +56,11 @@ use Rattle.world_laws.proofs.Sequences.FineSteps.{fine_opens, listed_is}
 use Rattle.world_laws.proofs.Sequences.Loosened.{points-loosened, free-loosened, stacks-loosened, loosened, loosening, fine_loosens}
 use Rattle.world_laws.proofs.Sequences.Actors.{Rests, rests_points, nobody_free, nobody_stacks, Standing, must, Any, any_callings}
 use Rattle.world_laws.proofs.Sequences.Effects.{RestingWorld, resting_moves, resting_loose, RunnerReady, OwnKnown, instant-rests}
-use Rattle.world_laws.proofs.Sequences.Kept.Combinators.{Alters, Turns, then-turns, changes-turns, says-turns, settles-from, turns-from}
+use Rattle.world_laws.proofs.Sequences.Kept.Combinators.{Turns, then-turns, changes-turns, says-turns, settles-from, turns-from}
 use Rattle.world_laws.proofs.Sequences.Kept.Dispatching.{to_tail-keeps}
 use Rattle.world_laws.proofs.Sequences.Kept.Handlers.{charge-alters}
 use Rattle.world_laws.proofs.Sequences.Kept.Woken.{opened-turns}
+use Rattle.machine_laws.proofs.Kept.Combinators.{Alters}
 
 -- ---- what the image lets begin
 

@@ -32,7 +32,7 @@ use Rattle.trace_text.specs.declared.events.Who.TheVariants as who
 
 -- ---- appointments that are set and dropped
 
-or-step : (a b c : Bool) → b ≡ c → (a || b) ≡ (a || c)
+pub or-step : (a b c : Bool) → b ≡ c → (a || b) ≡ (a || c)
 or-step a b c e = ap (λ x. a || x) e
 
 put-step : (test : Appointment → Bool) (y a : Appointment) (rest put : List Appointment) (b : Bool) → test y ≡ false → list_any test put ≡ list_any test rest → list_any test (cond b (y ∷ a ∷ rest) (a ∷ put)) ≡ list_any test (a ∷ rest)
@@ -40,7 +40,7 @@ put-step test y a rest put true other e = ap (λ x. x || list_any test (a ∷ re
 put-step test y a rest put false other e = or-step (test a) (list_any test put) (list_any test rest) e
 
 -- an appointment that fails a test is one among others
-put-any : (test : Appointment → Bool) (y : Appointment) (xs : List Appointment) → test y ≡ false → list_any test (put_appointment y xs) ≡ list_any test xs
+pub put-any : (test : Appointment → Bool) (y : Appointment) (xs : List Appointment) → test y ≡ false → list_any test (put_appointment y xs) ≡ list_any test xs
 put-any test y [] other = ap (λ x. x || false) other
 put-any test y (a ∷ rest) other = put-step test y a rest (put_appointment y rest) (int_lt y.moment a.moment) other (put-any test y rest other)
 
@@ -56,7 +56,7 @@ fewer-step : (test : Appointment → Bool) (a : Appointment) (rest fewer : List 
 fewer-step test a rest fewer true e onward = or-behind (test a) (list_any test rest) (onward e)
 fewer-step test a rest fewer false e onward = or-true (test a) (list_any test fewer) (list_any test rest) e onward
 
-without-any : (test drops : Appointment → Bool) (xs : List Appointment) → list_any test (without drops xs) ≡ true → list_any test xs ≡ true
+pub without-any : (test drops : Appointment → Bool) (xs : List Appointment) → list_any test (without drops xs) ≡ true → list_any test xs ≡ true
 without-any test drops [] e = e
 without-any test drops (a ∷ rest) e = fewer-step test a rest (without drops rest) (drops a) e (without-any test drops rest)
 

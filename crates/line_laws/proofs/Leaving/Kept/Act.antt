@@ -27,8 +27,8 @@ use Rattle.profile_machine.specs.Dispatching.{block}
 use Rattle.profile_machine.specs.declared.world.lines.Part.TheVariants.{TheBlock}
 use Rattle.profile_machine.specs.declared.world.tasks.Waiting.TheVariants as waits_for
 use Rattle.machine_laws.proofs.Moves.{StepRelation, MoveRelation, Puts}
-use Rattle.line_laws.proofs.Leaving.FineMoves.{GoodWorld, Naming, FineMoves, nature}
-use Rattle.line_laws.proofs.Leaving.Kept.Combinators.{Keeps, Alters, changes-keeps, looks-keeps, nothing-keeps, sees-keeps, then-keeps, unchanged-alters}
+use Rattle.line_laws.proofs.Leaving.FineMoves.{FineMoves, nature}
+use Rattle.line_laws.proofs.Leaving.Kept.Combinators.{changes-keeps, looks-keeps, nothing-keeps, sees-keeps, then-keeps, unchanged-alters}
 use Rattle.line_laws.proofs.Leaving.Kept.Dispatching.{block-keeps}
 use Rattle.line_laws.proofs.Leaving.Kept.Frames.{edit_top-alters, goes-keeps, raises-keeps, pass_on-keeps, with_room-keeps}
 use Rattle.line_laws.proofs.Leaving.Kept.Scopes.{open_scope-alters}
@@ -45,6 +45,8 @@ use Rattle.line_laws.proofs.Leaving.Kept.Tasking.{create-keeps, activate-keeps, 
 use Rattle.line_laws.proofs.Leaving.Kept.Handlers.{set_event-keeps, cancel_event-keeps, set_timer-keeps, cancel_timer-keeps, add_member-keeps, remove_member-keeps, replenish-keeps, add_to_budget-keeps, set_budget-keeps, cancel_budget-keeps}
 use Rattle.line_laws.proofs.Leaving.Kept.CallEnds.{abortable-nature}
 use Rattle.profile_machine.specs.CallEnds.{edit_abortable}
+use Rattle.machine_laws.proofs.FineMoves.{GoodWorld, Naming}
+use Rattle.machine_laws.proofs.Kept.Combinators.{Alters, Keeps}
 
 -- a mark that keeps an exception is what it was
 keeping-nature : (e : Raised) (mark : Mark) → nature (keeping e mark) ≡ nature mark

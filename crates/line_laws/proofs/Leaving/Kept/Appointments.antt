@@ -7,8 +7,10 @@ use Rattle.profile_machine.specs.declared.world.appointments.Due.{Due}
 use Rattle.profile_machine.specs.Steps.{changes}
 use Rattle.profile_machine.specs.Appointments.{appoint, drop_appointment, drop_delay}
 use Rattle.machine_laws.proofs.Moves.{StepRelation, MoveRelation}
-use Rattle.line_laws.proofs.Leaving.FineMoves.{GoodWorld, Naming, FineMoves}
-use Rattle.line_laws.proofs.Leaving.Kept.Combinators.{Alters, From, changes-from, unchanged-alters}
+use Rattle.line_laws.proofs.Leaving.FineMoves.{FineMoves}
+use Rattle.line_laws.proofs.Leaving.Kept.Combinators.{changes-from, unchanged-alters}
+use Rattle.machine_laws.proofs.FineMoves.{GoodWorld, Naming}
+use Rattle.machine_laws.proofs.Kept.Combinators.{Alters, From}
 
 module _ {G : GoodWorld} {May Acts Pushes : Naming} {Stops : Type 0} {R : StepRelation} {Q : MoveRelation} (moves : FineMoves G May Acts Pushes Stops R Q) where
   pub appoint-from : (due : Due) (moment : ℤ) (w : World) → G w → From R w (changes (appoint due moment))

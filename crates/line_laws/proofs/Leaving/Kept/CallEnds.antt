@@ -35,15 +35,17 @@ use Rattle.profile_machine.specs.CallEnds.{onward_when_done, onward_when_cancell
 use Rattle.std.specs.Prelude.{slice_set, true, false, cond, eqb, length}
 use Rattle.std.proofs.Common.{◌≡◌, refl, ap, ◌∙◌}
 use Rattle.machine_laws.proofs.Moves.{StepRelation, MoveRelation}
-use Rattle.line_laws.proofs.Leaving.FineMoves.{GoodWorld, Naming, FineMoves, nature, Alike, Free, Awake, waits, is_special, ready_world}
+use Rattle.line_laws.proofs.Leaving.FineMoves.{FineMoves, nature, Alike, Free, Awake, waits, is_special, ready_world}
 use Rattle.line_laws.proofs.Leaving.TaskLemmas.{awake-edited}
-use Rattle.line_laws.proofs.Leaving.Kept.Combinators.{Keeps, then-from, free_then-from, when-from, Alters, Gives, bind-gives, changes-keeps, looks-keeps, nothing-keeps, ok-gives, says-keeps, then-keeps, unchanged-alters, changes_then-from, either-from, from-keeps, keeps-from, looks-from, looks_at-from, From}
+use Rattle.line_laws.proofs.Leaving.Kept.Combinators.{then-from, free_then-from, when-from, bind-gives, changes-keeps, looks-keeps, nothing-keeps, ok-gives, says-keeps, then-keeps, unchanged-alters, changes_then-from, either-from, from-keeps, keeps-from, looks-from, looks_at-from}
 use Rattle.line_laws.proofs.Leaving.Kept.Tasks.{edit_frames-alters}
 use Rattle.line_laws.proofs.Leaving.Kept.Dispatching.{ready-keeps, ready_then-from}
 use Rattle.line_laws.proofs.Leaving.Kept.Frames.{alike, goes-from, leaves-keeps, raises-keeps, pass_on-from, open_sequence-keeps}
 use Rattle.line_laws.proofs.Leaving.Kept.Calls.{edit_call-alters, forget_call-alters, with_call-keeps, unqueued-alters}
 use Rattle.line_laws.proofs.Leaving.Kept.Unwinding.{unwind-keeps}
 use Rattle.profile_machine.specs.Dispatching.{ready}
+use Rattle.machine_laws.proofs.FineMoves.{GoodWorld, Naming}
+use Rattle.machine_laws.proofs.Kept.Combinators.{Alters, From, Gives, Keeps}
 
 -- an edit of a mark somewhere, and of an abortable part
 at_depth-alike : (test : Bool) (f : Frame → Frame) (x : Frame) (xs ys : List Frame) → nature (f x).mark ≡ nature x.mark → (f x).onward ≡ x.onward → Alike ys xs → Alike (cond test (f x ∷ xs) (x ∷ ys)) (x ∷ xs)

@@ -14,9 +14,11 @@ use Rattle.profile_machine.specs.Appointments.{is_timeout_of}
 use Rattle.profile_machine.specs.Calls.{edit_call, forget_call, with_call, says_call, edit_object, edit_queue, place_of_entry, put_call, take_call, enqueued, enqueue, unqueued, is_cancellable, attempt_on, attempt_with, attempt}
 use Rattle.std.proofs.Common.{◌≡◌, refl}
 use Rattle.machine_laws.proofs.Moves.{StepRelation, MoveRelation}
-use Rattle.line_laws.proofs.Leaving.FineMoves.{GoodWorld, Naming, FineMoves}
-use Rattle.line_laws.proofs.Leaving.Kept.Combinators.{Keeps, Alters, branch-keeps, changes-keeps, for_some-keeps, looks-keeps, says-keeps, then-keeps}
+use Rattle.line_laws.proofs.Leaving.FineMoves.{FineMoves}
+use Rattle.line_laws.proofs.Leaving.Kept.Combinators.{branch-keeps, changes-keeps, for_some-keeps, looks-keeps, says-keeps, then-keeps}
 use Rattle.line_laws.proofs.Leaving.Kept.Tasks.{edit_task-alters}
+use Rattle.machine_laws.proofs.FineMoves.{GoodWorld, Naming}
+use Rattle.machine_laws.proofs.Kept.Combinators.{Alters, Keeps}
 
 module _ {G : GoodWorld} {May Acts Pushes : Naming} {Stops : Type 0} {R : StepRelation} {Q : MoveRelation} (moves : FineMoves G May Acts Pushes Stops R Q) where
   pub edit_call-alters : (c : CallNo) (f : Call → Call) → ((d : Call) → (f d).number ≡ d.number) → ((d : Call) → (f d).caller ≡ d.caller) → Alters G R (edit_call c f)

@@ -32,12 +32,14 @@ use Rattle.profile_machine.specs.CallEnds.{store}
 use Rattle.profile_machine.specs.Declarations.{default_cells, set_defaults, initialized, initial_of, components_initialized, located_here, set_thing, object_declared, object_drawn, new_object, with_object, says_object, declare_protected, controlled_declared, event_drawn, event_declared, with_budget, budget_declared, timed_task, with_timer, timer_declared, declared, declare_quietly, declare_by, declare}
 use Rattle.profile_machine.specs.Values.{seen_by}
 use Rattle.machine_laws.proofs.Moves.{StepRelation, MoveRelation}
-use Rattle.line_laws.proofs.Leaving.FineMoves.{GoodWorld, Naming, FineMoves}
-use Rattle.line_laws.proofs.Leaving.Kept.Combinators.{Keeps, Alters, Gives, bind-gives, changes-keeps, looks-from, next-gives, ok-gives, then-keeps, looks-keeps, says-keeps}
+use Rattle.line_laws.proofs.Leaving.FineMoves.{FineMoves}
+use Rattle.line_laws.proofs.Leaving.Kept.Combinators.{bind-gives, changes-keeps, looks-from, next-gives, ok-gives, then-keeps, looks-keeps, says-keeps}
 use Rattle.line_laws.proofs.Leaving.Kept.Frames.{given-from, given_world-from, goes-keeps}
 use Rattle.line_laws.proofs.Leaving.Kept.Scopes.{write_cell-alters}
 use Rattle.line_laws.proofs.Leaving.Kept.CallEnds.{store-gives}
 use Rattle.line_laws.proofs.Leaving.Kept.Statements.{copy_cells-alters}
+use Rattle.machine_laws.proofs.FineMoves.{GoodWorld, Naming}
+use Rattle.machine_laws.proofs.Kept.Combinators.{Alters, Gives, Keeps}
 
 module _ {G : GoodWorld} {May Acts Pushes : Naming} {Stops : Type 0} {R : StepRelation} {Q : MoveRelation} (moves : FineMoves G May Acts Pushes Stops R Q) where
   set_defaults-alters : (p : Image) (v : Variable) → Alters G R (set_defaults p v)

@@ -1,5 +1,5 @@
 -- Placing and blocking: each step keeps a relation that its parts keep.
-use Rattle.std.specs.Prelude.{ℕ, Bool, true, cond, ◌&&◌, eqb, slice_index_or}
+use Rattle.std.specs.Prelude.{ℕ, ◌&&◌, eqb, slice_index_or}
 use Rattle.profile_machine.specs.declared.world.lines.Line.TheVariants as line
 use Rattle.trace_text.specs.declared.events.Who.{Who}
 use Rattle.trace_text.specs.declared.events.QueueEnd.{QueueEnd}
@@ -18,22 +18,12 @@ use Rattle.profile_machine.specs.Dispatching.{active, level_kept_by, keep_level,
 use Rattle.std.proofs.Common.{◌≡◌, List, [], ◌∷◌, ◌++◌, Some, refl}
 use Rattle.std.specs.Prelude.{false}
 use Rattle.machine_laws.proofs.Moves.{StepRelation, MoveRelation}
-use Rattle.line_laws.proofs.Leaving.FineMoves.{GoodWorld, Naming, FineMoves, Awake, waits, ready_line, ready_world, block_line, blocked_world}
+use Rattle.line_laws.proofs.Leaving.FineMoves.{FineMoves, Awake, waits, ready_world, block_line, blocked_world}
 use Rattle.line_laws.proofs.Leaving.TaskLemmas.{awake-edited, awake-own}
-use Rattle.line_laws.proofs.Leaving.Kept.Combinators.{Keeps, Kept, From, changes_then-from, then-kept, Alters, changes-keeps, from-keeps, said-from, then-keeps, looks_at-from}
-
--- a quantum is no state
-full_quantum-who : (b : Bool) (n : ℕ) (t : Task) → (cond b (record t { quantum = n }) t).who ≡ t.who
-full_quantum-who true n t = refl
-full_quantum-who false n t = refl
-
-full_quantum-frames : (b : Bool) (n : ℕ) (t : Task) → (cond b (record t { quantum = n }) t).frames ≡ t.frames
-full_quantum-frames true n t = refl
-full_quantum-frames false n t = refl
-
-full_quantum-state : (b : Bool) (n : ℕ) (t : Task) → (cond b (record t { quantum = n }) t).state ≡ t.state
-full_quantum-state true n t = refl
-full_quantum-state false n t = refl
+use Rattle.line_laws.proofs.Leaving.Kept.Combinators.{changes_then-from, then-kept, changes-keeps, from-keeps, said-from, then-keeps, looks_at-from}
+use Rattle.machine_laws.proofs.FineMoves.{GoodWorld, Naming, ready_line}
+use Rattle.machine_laws.proofs.Kept.Combinators.{Alters, From, Keeps, Kept}
+use Rattle.machine_laws.proofs.Kept.Dispatching.{full_quantum-frames, full_quantum-state, full_quantum-who}
 
 pub granted-who : (p : Image) (quanta : List ℕ) (t : Task) → (granted p quanta t).who ≡ t.who
 granted-who p quanta t = full_quantum-who (eqb (active p t) t.base && is_robin_level p t.base) (slice_index_or quanta t.base 0) t

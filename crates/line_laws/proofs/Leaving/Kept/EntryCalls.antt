@@ -47,9 +47,9 @@ use Rattle.std.specs.Prelude.{find}
 use Rattle.std.proofs.Common.{eq-eqb, cond, sym, subst, ◌∙◌, arith}
 use Rattle.line_laws.proofs.Leaving.FineMoves.{Caller}
 use Rattle.machine_laws.proofs.Moves.{StepRelation, MoveRelation, LetsIn, own}
-use Rattle.line_laws.proofs.Leaving.FineMoves.{GoodWorld, Naming, FineMoves, Free}
+use Rattle.line_laws.proofs.Leaving.FineMoves.{FineMoves, Free}
 use Rattle.machine_laws.proofs.Kept.Entering.{LetsIn-same, edit_task-objects}
-use Rattle.line_laws.proofs.Leaving.Kept.Combinators.{Keeps, free_then-from, Kept, From, Alters, either-from, said_then-from, then-from, changes-keeps, keeps-from, looks-from, looks-keeps, looks_at-from, nothing-keeps, sees-keeps, then-keeps, unchanged-alters, changes_then-from}
+use Rattle.line_laws.proofs.Leaving.Kept.Combinators.{free_then-from, either-from, said_then-from, then-from, changes-keeps, keeps-from, looks-from, looks-keeps, looks_at-from, nothing-keeps, sees-keeps, then-keeps, unchanged-alters, changes_then-from}
 use Rattle.line_laws.proofs.Leaving.Kept.Dispatching.{block-keeps}
 use Rattle.line_laws.proofs.Leaving.Kept.Frames.{goes-keeps, leaves-keeps, raises-keeps, given-from, given-keeps, raise_if-from, raise_if-keeps, with_room-from, with_room-keeps, goes_then-from}
 use Rattle.line_laws.proofs.Leaving.Kept.Appointments.{appoint-from}
@@ -60,6 +60,8 @@ use Rattle.line_laws.proofs.Leaving.Kept.Sending.{open_abortable-alters, not_acc
 use Rattle.line_laws.proofs.Leaving.Kept.Rendezvous.{meet-from, accept-waits}
 use Rattle.profile_machine.specs.Rendezvous.{delay_moment}
 use Rattle.profile_machine.specs.Values.{seen_by}
+use Rattle.machine_laws.proofs.FineMoves.{GoodWorld, Naming}
+use Rattle.machine_laws.proofs.Kept.Combinators.{Alters, From, Keeps, Kept}
 
 some_call : (c d : Call) → Some c ≡ Some d → c ≡ d
 some_call c d e = cc

@@ -19,12 +19,15 @@ use Rattle.profile_machine.specs.Steps.{Step, changes, nothing, ◌▷◌}
 use Rattle.profile_machine.specs.Frames.{top_of, new_frame, edit_first, edit_top, goes, push, leaves, raises, has_room, open_handled, open_at, open_sequence, open_if_ready, stands_in, exit_loop, pass_on, given, raise_if, with_room, goes_on}
 use Rattle.profile_machine.specs.Operators.{Valued}
 use Rattle.machine_laws.proofs.Moves.{StepRelation, MoveRelation}
-use Rattle.line_laws.proofs.Leaving.FineMoves.{GoodWorld, Naming, FineMoves, nature, Alike, Free, being_left_in, own_call_of}
+use Rattle.line_laws.proofs.Leaving.FineMoves.{FineMoves, nature, Alike, Free, own_call_of}
 use Rattle.ann_base.specs.declared.identities.CallNo.{CallNo}
-use Rattle.line_laws.proofs.Leaving.Kept.Combinators.{Keeps, free_then-from, From, Alters, Gives, branch-keeps, changes-keeps, either-from, keeps-from, looks-from, looks-keeps, looks_at-from, nothing-keeps, says-keeps, then-keeps, when-keeps, changes-from, changes_then-from}
+use Rattle.line_laws.proofs.Leaving.Kept.Combinators.{free_then-from, branch-keeps, changes-keeps, either-from, keeps-from, looks-from, looks-keeps, looks_at-from, nothing-keeps, says-keeps, then-keeps, when-keeps, changes-from, changes_then-from}
 use Rattle.line_laws.proofs.Leaving.Kept.Tasks.{edit_frames-alters}
 use Rattle.std.proofs.Common.{◌≡◌, List, [], ◌∷◌, option_and_then, is_some, refl, sym, ap, ◌∙◌}
 use Rattle.profile_machine.specs.Masters.{region_of_mark}
+use Rattle.machine_laws.proofs.FineMoves.{GoodWorld, Naming}
+use Rattle.machine_laws.proofs.FinestMoves.{being_left_in}
+use Rattle.machine_laws.proofs.Kept.Combinators.{Alters, From, Gives, Keeps}
 
 -- an edit of a mark on top
 pub alike : (fs : List Frame) → Alike fs fs

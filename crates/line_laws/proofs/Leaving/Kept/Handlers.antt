@@ -1,5 +1,5 @@
 -- Events, timers, budgets, interrupts and releases: each step keeps a relation that its parts keep.
-use Rattle.std.specs.Prelude.{ℕ, suc, ◌+◌, ◌-◌, ℤ, pos, int_lt, Bool, true, false, cond, [], ◌∷◌, Option, Some, None}
+use Rattle.std.specs.Prelude.{ℕ, suc, ◌+◌, ℤ, pos, int_lt, Bool, true, false, [], ◌∷◌, Option, Some, None}
 use Rattle.ann_base.specs.declared.identities.TaskNo.{TaskNo}
 use Rattle.profile_machine.specs.declared.world.objects.Entering.{Entering}
 use Rattle.profile_machine.specs.declared.world.objects.Entering.TheVariants as entering_is
@@ -51,8 +51,8 @@ use Rattle.trace_text.specs.declared.events.Mode.{Mode}
 use Rattle.profile_machine.specs.declared.world.marks.Purpose.TheVariants as opened_for
 use Rattle.profile_machine.specs.declared.world.marks.ResultTo.TheVariants as bound_for
 use Rattle.machine_laws.proofs.Moves.{StepRelation, MoveRelation, LetsIn}
-use Rattle.line_laws.proofs.Leaving.FineMoves.{GoodWorld, Naming, FineMoves}
-use Rattle.line_laws.proofs.Leaving.Kept.Combinators.{after-from, regrouped-from, changes-from, from-keeps, changes_then-from, Keeps, Kept, From, Alters, either-from, looks_at-from, then-from, changes-keeps, for_some-keeps, keeps-from, looks-from, looks-keeps, nothing-keeps, says-keeps, sees-keeps, then-keeps, unchanged-alters}
+use Rattle.line_laws.proofs.Leaving.FineMoves.{FineMoves}
+use Rattle.line_laws.proofs.Leaving.Kept.Combinators.{after-from, regrouped-from, changes-from, from-keeps, changes_then-from, either-from, looks_at-from, then-from, changes-keeps, for_some-keeps, keeps-from, looks-from, looks-keeps, nothing-keeps, says-keeps, sees-keeps, then-keeps, unchanged-alters}
 use Rattle.line_laws.proofs.Leaving.Kept.Frames.{becomes-from, goes-keeps, given-keeps, raise_if-keeps}
 use Rattle.line_laws.proofs.Leaving.Kept.Tasks.{edit_task-alters}
 use Rattle.line_laws.proofs.Leaving.Kept.Dispatching.{ready-keeps}
@@ -61,18 +61,9 @@ use Rattle.line_laws.proofs.Leaving.Kept.CallEnds.{store-gives}
 use Rattle.line_laws.proofs.Leaving.Kept.Protected.{find_held-from, told_enter-from}
 use Rattle.machine_laws.proofs.Kept.Entering.{entering-inside, entering-held}
 use Rattle.line_laws.proofs.Leaving.Kept.Serving.{end_release-keeps}
-
-spent-who : (robin : Bool) (t : world.Task) → (cond robin (record t { quantum = t.quantum - 1 }) t).who ≡ t.who
-spent-who true t = refl
-spent-who false t = refl
-
-spent-frames : (robin : Bool) (t : world.Task) → (cond robin (record t { quantum = t.quantum - 1 }) t).frames ≡ t.frames
-spent-frames true t = refl
-spent-frames false t = refl
-
-spent-state : (robin : Bool) (t : world.Task) → (cond robin (record t { quantum = t.quantum - 1 }) t).state ≡ t.state
-spent-state true t = refl
-spent-state false t = refl
+use Rattle.machine_laws.proofs.FineMoves.{GoodWorld, Naming}
+use Rattle.machine_laws.proofs.Kept.Combinators.{Alters, From, Keeps, Kept}
+use Rattle.machine_laws.proofs.Kept.Handlers.{spent-frames, spent-state, spent-who}
 
 -- ---- releases, settings, and the charge of a tick
 

@@ -32,8 +32,8 @@ use Rattle.ann_base.specs.declared.identities.TaskNo.{TaskNo}
 use Rattle.std.specs.Prelude.{eqb, not, ◌&&◌}
 use Rattle.profile_machine.specs.declared.world.lines.Line.TheVariants as line
 use Rattle.machine_laws.proofs.Moves.{StepRelation, MoveRelation}
-use Rattle.line_laws.proofs.Leaving.FineMoves.{GoodWorld, Naming, FineMoves, Free, waits}
-use Rattle.line_laws.proofs.Leaving.Kept.Combinators.{said_then-from, Keeps, From, Leads, Alters, changes-from, changes-keeps, for_each-keeps, for_some-keeps, keeps-from, looks-from, looks-keeps, nothing-keeps, says-keeps, settles-leads, then-from, then-keeps, then-leads}
+use Rattle.line_laws.proofs.Leaving.FineMoves.{FineMoves, Free, waits}
+use Rattle.line_laws.proofs.Leaving.Kept.Combinators.{said_then-from, changes-from, changes-keeps, for_each-keeps, for_some-keeps, keeps-from, looks-from, looks-keeps, nothing-keeps, says-keeps, settles-leads, then-from, then-keeps, then-leads}
 use Rattle.line_laws.proofs.Leaving.Kept.Dispatching.{to_tail-from, ready-keeps}
 use Rattle.line_laws.proofs.Leaving.Kept.Frames.{goes-from, open_sequence-keeps}
 use Rattle.line_laws.proofs.Leaving.Kept.Appointments.{drop_appointment-alters}
@@ -43,6 +43,8 @@ use Rattle.line_laws.proofs.Leaving.Kept.CallEnds.{trigger_at-keeps, deliver-kee
 use Rattle.line_laws.proofs.Leaving.Kept.Handlers.{interrupt-keeps, clear_timer-alters, release-keeps}
 use Rattle.profile_machine.specs.Values.{budget_of}
 use Rattle.profile_machine.specs.Handlers.{clear_timer}
+use Rattle.machine_laws.proofs.FineMoves.{GoodWorld, Naming}
+use Rattle.machine_laws.proofs.Kept.Combinators.{Alters, From, Keeps, Leads}
 
 module _ {G : GoodWorld} {May Acts Pushes : Naming} {Stops : Type 0} {R : StepRelation} {Q : MoveRelation} (moves : FineMoves G May Acts Pushes Stops R Q) where
   with_port-alters : (n : ℕ) (value : ℤ) → Alters G R (with_port n value)

@@ -8,14 +8,16 @@ use Rattle.profile_machine.specs.declared.world.calls.Call.{Call}
 use Rattle.profile_machine.specs.declared.world.lines.Part.{Part}
 use Rattle.profile_machine.specs.Masters.{gone_by_completion, wake_activator, end_group, end_activation_by, end_activation, complete_with, complete, wake_master, forget_task, terminate, leave_by_terminate}
 use Rattle.machine_laws.proofs.Moves.{StepRelation, MoveRelation}
-use Rattle.line_laws.proofs.Leaving.FineMoves.{GoodWorld, Naming, FineMoves}
-use Rattle.line_laws.proofs.Leaving.Kept.Combinators.{Keeps, Alters, changes-keeps, cond-keeps, for_each-keeps, for_some-keeps, looks-keeps, nothing-keeps, then-keeps, when-keeps}
+use Rattle.line_laws.proofs.Leaving.FineMoves.{FineMoves}
+use Rattle.line_laws.proofs.Leaving.Kept.Combinators.{changes-keeps, cond-keeps, for_each-keeps, for_some-keeps, looks-keeps, nothing-keeps, then-keeps, when-keeps}
 use Rattle.line_laws.proofs.Leaving.Kept.Tasks.{edit_task-alters}
 use Rattle.line_laws.proofs.Leaving.Kept.Dispatching.{runnable-keeps, ready-keeps}
 use Rattle.line_laws.proofs.Leaving.Kept.Frames.{leaves-keeps, raises-keeps, open_sequence-keeps}
 use Rattle.line_laws.proofs.Leaving.Kept.Inheritance.{lose-alters}
 use Rattle.line_laws.proofs.Leaving.Kept.Appointments.{drop_delay-alters}
 use Rattle.line_laws.proofs.Leaving.Kept.CallEnds.{end_call-keeps, gone-keeps}
+use Rattle.machine_laws.proofs.FineMoves.{GoodWorld, Naming}
+use Rattle.machine_laws.proofs.Kept.Combinators.{Alters, Keeps}
 
 module _ {G : GoodWorld} {May Acts Pushes : Naming} {Stops : Type 0} {R : StepRelation} {Q : MoveRelation} (moves : FineMoves G May Acts Pushes Stops R Q) where
   pub gone_by_completion-keeps : (p : Image) (actor : Who) (c : Call) → Keeps G R (gone_by_completion p actor c)

@@ -24,8 +24,8 @@ use Rattle.profile_machine.specs.Calls.{place_of_entry, take_call, put_call}
 use Rattle.profile_machine.specs.Masters.{part_of}
 use Rattle.profile_machine.specs.Priorities.{placed_anew, reprioritize, reprioritize_own, replace_in, says_base, set_base, says_deadline, set_deadline, take_base, take_deadline, set_deferred, placing_of, defer_base, set_or_defer_base, set_base_of, priority_in_range, set_priority, quantum_of, set_quantum, defer_deadline, set_or_defer_deadline, set_deadline_of, delay_with_deadline, delay_and_set_deadline, is_edf_base, must_be_task}
 use Rattle.machine_laws.proofs.Moves.{StepRelation, MoveRelation}
-use Rattle.line_laws.proofs.Leaving.FineMoves.{GoodWorld, Naming, FineMoves, waits}
-use Rattle.line_laws.proofs.Leaving.Kept.Combinators.{Keeps, From, Alters, branch-keeps, changes-keeps, for_some-keeps, looks-keeps, nothing-keeps, says-keeps, sees-keeps, then-keeps, when-keeps, keeps-from, looks-from}
+use Rattle.line_laws.proofs.Leaving.FineMoves.{FineMoves, waits}
+use Rattle.line_laws.proofs.Leaving.Kept.Combinators.{branch-keeps, changes-keeps, for_some-keeps, looks-keeps, nothing-keeps, says-keeps, sees-keeps, then-keeps, when-keeps, keeps-from, looks-from}
 use Rattle.line_laws.proofs.Leaving.Kept.Tasks.{edit_task-alters}
 use Rattle.line_laws.proofs.Leaving.Kept.Dispatching.{to_tail-from}
 use Rattle.line_laws.proofs.Leaving.Kept.Frames.{goes-keeps, given-keeps, raise_if-keeps, given-from, given_as-from}
@@ -40,6 +40,8 @@ use Rattle.profile_machine.specs.Dispatching.{to_tail}
 use Rattle.profile_machine.specs.Steps.{looks, when, nothing, ◌▷◌}
 use Rattle.profile_machine.specs.Priorities.{is_runnable_at_edf}
 use Rattle.std.proofs.Common.{Bool, true, false, ap}
+use Rattle.machine_laws.proofs.FineMoves.{GoodWorld, Naming}
+use Rattle.machine_laws.proofs.Kept.Combinators.{Alters, From, Keeps}
 
 module _ {G : GoodWorld} {May Acts Pushes : Naming} {Stops : Type 0} {R : StepRelation} {Q : MoveRelation} (moves : FineMoves G May Acts Pushes Stops R Q) where
   pub placed_anew-alters : (queuing : Queuing) (p : Image) (c : Call) (level : ℕ) → Alters G R (placed_anew queuing p c level)

@@ -35,9 +35,9 @@ use Rattle.profile_machine.specs.Protected.{entering, ceiling_of, new_protected_
 use Rattle.std.proofs.Common.{◌++◌}
 use Rattle.profile_machine.specs.declared.world.lines.Said.{Said}
 use Rattle.machine_laws.proofs.Moves.{StepRelation, MoveRelation, LetsIn, FindsHeld, own}
-use Rattle.line_laws.proofs.Leaving.FineMoves.{GoodWorld, Naming, FineMoves, nature}
+use Rattle.line_laws.proofs.Leaving.FineMoves.{FineMoves, nature}
 use Rattle.machine_laws.proofs.Kept.Entering.{entering-inside, entering-held, LetsIn-same, edit_task-objects}
-use Rattle.line_laws.proofs.Leaving.Kept.Combinators.{after-from, changes-from, Keeps, Kept, From, Alters, branch-keeps, changes-keeps, keeps-from, looks-from, looks-keeps, said-from, says-keeps, sees-keeps, then-from, then-keeps}
+use Rattle.line_laws.proofs.Leaving.Kept.Combinators.{after-from, changes-from, branch-keeps, changes-keeps, keeps-from, looks-from, looks-keeps, said-from, says-keeps, sees-keeps, then-from, then-keeps}
 use Rattle.line_laws.proofs.Leaving.Kept.Dispatching.{to_tail-keeps}
 use Rattle.line_laws.proofs.Leaving.Kept.Frames.{edit_top-alters, goes_then-from, push-alters, raises-keeps, given-keeps, raise_if-keeps, with_room-keeps}
 use Rattle.line_laws.proofs.Leaving.Kept.Scopes.{open_scope-alters}
@@ -46,6 +46,8 @@ use Rattle.line_laws.proofs.Leaving.Kept.Calls.{edit_call-alters, unqueued-alter
 use Rattle.line_laws.proofs.Leaving.Kept.Subprograms.{begin_body-keeps, handing-keeps}
 use Rattle.profile_machine.specs.declared.world.marks.Mark.{Mark}
 use Rattle.profile_machine.specs.declared.world.marks.Mark.TheVariants.{Scope, Handled, InProtected, InAccept, Abortable, InInitialize, InFinalize, InAssign}
+use Rattle.machine_laws.proofs.FineMoves.{GoodWorld, Naming}
+use Rattle.machine_laws.proofs.Kept.Combinators.{Alters, From, Keeps, Kept}
 
 -- the release of a protected action is not edited, nor what another mark is
 protected-nature : (f : ProtectedMark → ProtectedMark) → ((m : ProtectedMark) → nature (InProtected (f m)) ≡ nature (InProtected m)) → (mark : Mark) → nature (edit_protected f mark) ≡ nature mark

@@ -9,8 +9,9 @@ use Rattle.profile_machine.specs.declared.world.scopes.ScopeId.{ScopeId}
 use Rattle.profile_machine.specs.declared.world.scopes.Beginning.{Beginning}
 use Rattle.profile_machine.specs.Scopes.{edit_cells, write_cell, begin_scope, open_scope, end_scope}
 use Rattle.machine_laws.proofs.Moves.{StepRelation, MoveRelation}
-use Rattle.line_laws.proofs.Leaving.FineMoves.{GoodWorld, Naming, FineMoves}
-use Rattle.line_laws.proofs.Leaving.Kept.Combinators.{Alters}
+use Rattle.line_laws.proofs.Leaving.FineMoves.{FineMoves}
+use Rattle.machine_laws.proofs.FineMoves.{GoodWorld, Naming}
+use Rattle.machine_laws.proofs.Kept.Combinators.{Alters}
 
 module _ {G : GoodWorld} {May Acts Pushes : Naming} {Stops : Type 0} {R : StepRelation} {Q : MoveRelation} (moves : FineMoves G May Acts Pushes Stops R Q) where
   pub edit_cells-alters : (id : ScopeId) (f : List Value → List Value) → Alters G R (edit_cells id f)

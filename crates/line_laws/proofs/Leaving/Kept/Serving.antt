@@ -26,13 +26,15 @@ use Rattle.profile_machine.specs.Calls.{call_of}
 use Rattle.profile_machine.specs.Frames.{pass_on}
 use Rattle.profile_machine.specs.Steps.{nothing, for_some}
 use Rattle.machine_laws.proofs.Moves.{StepRelation, MoveRelation, own}
-use Rattle.line_laws.proofs.Leaving.FineMoves.{GoodWorld, Naming, FineMoves}
-use Rattle.line_laws.proofs.Leaving.Kept.Combinators.{Keeps, Kept, From, looks_at-from, changes-keeps, keeps-from, looks-from, looks-keeps, then-from, nothing-keeps, then-keeps, when-keeps}
+use Rattle.line_laws.proofs.Leaving.FineMoves.{FineMoves}
+use Rattle.line_laws.proofs.Leaving.Kept.Combinators.{looks_at-from, changes-keeps, keeps-from, looks-from, looks-keeps, then-from, nothing-keeps, then-keeps, when-keeps}
 use Rattle.line_laws.proofs.Leaving.Kept.Dispatching.{block_apart-keeps}
 use Rattle.line_laws.proofs.Leaving.Kept.Frames.{leaves-keeps, pass_on-keeps}
 use Rattle.line_laws.proofs.Leaving.Kept.Calls.{edit_call-alters, forget_call-alters, with_call-keeps, attempt_with-keeps}
 use Rattle.line_laws.proofs.Leaving.Kept.CallEnds.{resume-keeps}
 use Rattle.line_laws.proofs.Leaving.Kept.Sending.{open_abortable-alters, wait_for_call-keeps, begin_abortable-keeps, sent_not_begun-keeps}
+use Rattle.machine_laws.proofs.FineMoves.{GoodWorld, Naming}
+use Rattle.machine_laws.proofs.Kept.Combinators.{From, Keeps, Kept}
 
 module _ {G : GoodWorld} {May Acts Pushes : Naming} {Stops : Type 0} {R : StepRelation} {Q : MoveRelation} (moves : FineMoves G May Acts Pushes Stops R Q) where
   -- the release that the agent serves ends, and is told

@@ -31,13 +31,15 @@ use Rattle.profile_machine.specs.CallEnds.{store}
 use Rattle.profile_machine.specs.Statements.{null, assign, cells_from, copy_cells, array_copied, assign_array, if_statement, go_to_alternative, case_statement, while_turn, loop_cell, put, first_bound, last_bound, bounds_set, for_bounds, first_turn, advance, later_turn, exit_where, exit_statement, block_statement, raise_again, wait_until, delay_to, delay_until, text_of_pieces, put_line}
 use Rattle.profile_machine.specs.Scopes.{put_cells}
 use Rattle.machine_laws.proofs.Moves.{StepRelation, MoveRelation, Puts}
-use Rattle.line_laws.proofs.Leaving.FineMoves.{GoodWorld, Naming, FineMoves}
-use Rattle.line_laws.proofs.Leaving.Kept.Combinators.{Keeps, From, Alters, Gives, bind-gives, changes-keeps, keeps-from, looks-from, looks-keeps, nothing-keeps, ok-gives, said-keeps, sees-keeps, then-from, then-keeps}
+use Rattle.line_laws.proofs.Leaving.FineMoves.{FineMoves}
+use Rattle.line_laws.proofs.Leaving.Kept.Combinators.{bind-gives, changes-keeps, keeps-from, looks-from, looks-keeps, nothing-keeps, ok-gives, said-keeps, sees-keeps, then-from, then-keeps}
 use Rattle.line_laws.proofs.Leaving.Kept.Frames.{given_world-from, goes-keeps, raises-keeps, exit_loop-keeps, given-keeps, raise_if-keeps, with_room-keeps}
 use Rattle.line_laws.proofs.Leaving.Kept.Dispatching.{to_tail-keeps, block-keeps}
 use Rattle.line_laws.proofs.Leaving.Kept.Scopes.{write_cell-alters, open_scope-alters}
 use Rattle.line_laws.proofs.Leaving.Kept.Appointments.{appoint-from}
 use Rattle.line_laws.proofs.Leaving.Kept.CallEnds.{store-gives}
+use Rattle.machine_laws.proofs.FineMoves.{GoodWorld, Naming}
+use Rattle.machine_laws.proofs.Kept.Combinators.{Alters, From, Gives, Keeps}
 
 module _ {G : GoodWorld} {May Acts Pushes : Naming} {Stops : Type 0} {R : StepRelation} {Q : MoveRelation} (moves : FineMoves G May Acts Pushes Stops R Q) where
   pub null-keeps : (p : Image) (name : Who) (s : StatementNo) → May name → Keeps G R (null p name s)

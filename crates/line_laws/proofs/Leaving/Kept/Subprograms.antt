@@ -29,12 +29,14 @@ use Rattle.profile_machine.specs.Subprograms.{begin_body, handing, call_subprogr
 use Rattle.std.specs.Prelude.{slice_set}
 use Rattle.profile_machine.specs.Values.{seen_by}
 use Rattle.machine_laws.proofs.Moves.{StepRelation, MoveRelation}
-use Rattle.line_laws.proofs.Leaving.FineMoves.{GoodWorld, Naming, FineMoves}
-use Rattle.line_laws.proofs.Leaving.Kept.Combinators.{Keeps, Alters, Gives, bind-gives, changes-keeps, looks-from, looks-keeps, nothing-keeps, ok-gives, sees-keeps, then-keeps, unchanged-alters}
+use Rattle.line_laws.proofs.Leaving.FineMoves.{FineMoves}
+use Rattle.line_laws.proofs.Leaving.Kept.Combinators.{bind-gives, changes-keeps, looks-from, looks-keeps, nothing-keeps, ok-gives, sees-keeps, then-keeps, unchanged-alters}
 use Rattle.line_laws.proofs.Leaving.Kept.Frames.{given_world-from, becomes-from, goes-keeps, leaves-keeps, given-keeps, raise_if-keeps, with_room-keeps}
 use Rattle.line_laws.proofs.Leaving.Kept.Scopes.{open_scope-alters}
 use Rattle.line_laws.proofs.Leaving.Kept.Calls.{edit_call-alters}
 use Rattle.line_laws.proofs.Leaving.Kept.CallEnds.{store-gives}
+use Rattle.machine_laws.proofs.FineMoves.{GoodWorld, Naming}
+use Rattle.machine_laws.proofs.Kept.Combinators.{Alters, Gives, Keeps}
 
 module _ {G : GoodWorld} {May Acts Pushes : Naming} {Stops : Type 0} {R : StepRelation} {Q : MoveRelation} (moves : FineMoves G May Acts Pushes Stops R Q) where
   pub handing-keeps : (p : Image) (name : Who) (f : SubprogramNo) (actuals : List Actual) (to : Destination) (step : Handed → ResultTo → Step) → ((x : Handed) (y : ResultTo) → Keeps G R (step x y)) → Keeps G R (handing p name f actuals to step)

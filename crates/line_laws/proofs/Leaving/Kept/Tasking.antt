@@ -38,8 +38,8 @@ use Rattle.profile_machine.specs.declared.numbers.ScopeNo.{ScopeNo}
 use Rattle.profile_machine.specs.declared.world.lines.Said.{Said}
 use Rattle.std.proofs.Common.{subst, append-nil}
 use Rattle.machine_laws.proofs.Moves.{StepRelation, MoveRelation}
-use Rattle.line_laws.proofs.Leaving.FineMoves.{GoodWorld, Naming, FineMoves}
-use Rattle.line_laws.proofs.Leaving.Kept.Combinators.{Keeps, From, Alters, branch-keeps, changes-from, changes-keeps, cond-keeps, for_each-keeps, for_some-keeps, looks-from, looks-keeps, nothing-keeps, says-keeps, sees-keeps, then-from, then-keeps, when-keeps, listed-keeps, changes_then-from}
+use Rattle.line_laws.proofs.Leaving.FineMoves.{FineMoves}
+use Rattle.line_laws.proofs.Leaving.Kept.Combinators.{branch-keeps, changes-from, changes-keeps, cond-keeps, for_each-keeps, for_some-keeps, looks-from, looks-keeps, nothing-keeps, says-keeps, sees-keeps, then-from, then-keeps, when-keeps, listed-keeps, changes_then-from}
 use Rattle.line_laws.proofs.Leaving.Kept.Frames.{raise_if-from, given-from, goes-keeps, raises-keeps, pass_on-keeps, given-keeps, raise_if-keeps}
 use Rattle.line_laws.proofs.Leaving.Kept.Tasks.{edit_task-alters}
 use Rattle.line_laws.proofs.Leaving.Kept.Dispatching.{to_head-keeps, ready-keeps, block_apart-keeps}
@@ -54,6 +54,8 @@ use Rattle.ann_base.specs.declared.identities.TaskNo.{TaskNo}
 use Rattle.profile_machine.specs.Tasks.{edit_task}
 use Rattle.profile_machine.specs.Unwinding.{any_struck}
 use Rattle.profile_machine.specs.Masters.{has_dependents, may_terminate, leave_by_terminate}
+use Rattle.machine_laws.proofs.FineMoves.{GoodWorld, Naming}
+use Rattle.machine_laws.proofs.Kept.Combinators.{Alters, From, Keeps}
 
 -- an edit of a task draws nothing
 edit_found-drawn : (name : Who) (f : world.Task → world.Task) (w : World) (found : Option world.Task) → (edit_task_found name f w found).drawn ≡ w.drawn

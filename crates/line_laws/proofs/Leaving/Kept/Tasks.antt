@@ -5,8 +5,9 @@ use Rattle.profile_machine.specs.declared.world.marks.Frame.{Frame}
 use Rattle.profile_machine.specs.Tasks.{edit_task, with_frames}
 use Rattle.std.proofs.Common.{◌≡◌, List}
 use Rattle.machine_laws.proofs.Moves.{StepRelation, MoveRelation}
-use Rattle.line_laws.proofs.Leaving.FineMoves.{GoodWorld, Naming, FineMoves, Alike}
-use Rattle.line_laws.proofs.Leaving.Kept.Combinators.{Alters}
+use Rattle.line_laws.proofs.Leaving.FineMoves.{FineMoves, Alike}
+use Rattle.machine_laws.proofs.FineMoves.{GoodWorld, Naming}
+use Rattle.machine_laws.proofs.Kept.Combinators.{Alters}
 
 module _ {G : GoodWorld} {May Acts Pushes : Naming} {Stops : Type 0} {R : StepRelation} {Q : MoveRelation} (moves : FineMoves G May Acts Pushes Stops R Q) where
   pub edit_task-alters : (name : Who) (f : Task → Task) → ((t : Task) → (f t).who ≡ t.who) → ((t : Task) → (f t).frames ≡ t.frames) → ((t : Task) → (f t).state ≡ t.state) → Alters G R (edit_task name f)

@@ -9,14 +9,16 @@ use Rattle.profile_machine.specs.declared.world.tasks.State.TheVariants.{Made, R
 use Rattle.profile_machine.specs.declared.world.lines.Part.{Part}
 use Rattle.profile_machine.specs.Unwinding.{struck_frame, edit_last, strike_outermost, leave_by_abort, stop_waiting, wake_and_leave, unwind_blocked, unwind_in, unwind}
 use Rattle.machine_laws.proofs.Moves.{StepRelation, MoveRelation}
-use Rattle.line_laws.proofs.Leaving.FineMoves.{GoodWorld, Naming, FineMoves, Alike}
+use Rattle.line_laws.proofs.Leaving.FineMoves.{FineMoves, Alike}
 use Rattle.std.proofs.Common.{List, [], ◌∷◌, refl}
-use Rattle.line_laws.proofs.Leaving.Kept.Combinators.{Keeps, Alters, changes-keeps, looks-keeps, nothing-keeps, then-keeps, when-keeps}
+use Rattle.line_laws.proofs.Leaving.Kept.Combinators.{changes-keeps, looks-keeps, nothing-keeps, then-keeps, when-keeps}
 use Rattle.line_laws.proofs.Leaving.Kept.Tasks.{edit_task-alters, edit_frames-alters}
 use Rattle.line_laws.proofs.Leaving.Kept.Dispatching.{ready-keeps}
 use Rattle.line_laws.proofs.Leaving.Kept.Frames.{leaves-keeps}
 use Rattle.line_laws.proofs.Leaving.Kept.Appointments.{drop_delay-alters}
 use Rattle.line_laws.proofs.Leaving.Kept.Calls.{forget_call-alters, attempt-keeps}
+use Rattle.machine_laws.proofs.FineMoves.{GoodWorld, Naming}
+use Rattle.machine_laws.proofs.Kept.Combinators.{Alters, Keeps}
 
 -- who is struck has the marks that it had
 last-alike : (fs : List Frame) → Alike (edit_last struck_frame fs) fs

@@ -34,7 +34,6 @@ use Rattle.profile_machine.specs.declared.world.tasks.State.TheVariants.{Made, R
 use Rattle.profile_machine.specs.declared.world.tasks.Task.{Task}
 use Rattle.line_laws.proofs.Exits.TaskEdits.{one_of, one_of-is}
 use Rattle.world_laws.proofs.Actions.Natures.{nature, natures, guards}
-use Rattle.world_laws.proofs.Actions.Steady.{FreeIn}
 use Rattle.profile_machine.specs.Words.{first_of_list}
 use Rattle.profile_machine.specs.Tasks.{is_runnable_state}
 use Rattle.world_laws.proofs.Actions.Kept.Combinators.{Keeps, Alters, changes-keeps, cond-keeps, looks-keeps, nothing-keeps, sees-keeps, then-keeps, unchanged-alters, From, keeps-from, looks_at-from, changes_then-from}
@@ -66,6 +65,7 @@ use Rattle.profile_machine.specs.Values.{condition, moment}
 use Rattle.profile_machine.specs.Statements.{relative_moment}
 use Rattle.profile_machine.specs.Notation.{task}
 use Rattle.world_laws.proofs.Actions.SoundActions.{top_nature}
+use Rattle.line_laws.proofs.Exits.Steady.{FreeIn}
 
 -- a mark that keeps an exception is what it was
 keeping-nature : (e : Raised) (mark : Mark) → nature (keeping e mark) ≡ nature mark

@@ -17,23 +17,7 @@ use Rattle.world_laws.proofs.Actions.FineMoves.{FineMoves}
 use Rattle.world_laws.proofs.Actions.Sound.{GoodWorld, Naming}
 use Rattle.world_laws.proofs.Actions.Kept.Combinators.{Keeps, Alters, changes-keeps, looks-keeps, says-keeps, then-keeps}
 use Rattle.world_laws.proofs.Actions.Kept.Tasks.{edit_task-alters}
-
--- a quantum is no state
-pub full_quantum-who : (b : Bool) (n : ℕ) (t : Task) → (cond b (record t { quantum = n }) t).who ≡ t.who
-full_quantum-who true n t = refl
-full_quantum-who false n t = refl
-
-pub full_quantum-frames : (b : Bool) (n : ℕ) (t : Task) → (cond b (record t { quantum = n }) t).frames ≡ t.frames
-full_quantum-frames true n t = refl
-full_quantum-frames false n t = refl
-
-pub full_quantum-state : (b : Bool) (n : ℕ) (t : Task) → (cond b (record t { quantum = n }) t).state ≡ t.state
-full_quantum-state true n t = refl
-full_quantum-state false n t = refl
-
-full_quantum-master : (b : Bool) (n : ℕ) (t : Task) → (cond b (record t { quantum = n }) t).master ≡ t.master
-full_quantum-master true n t = refl
-full_quantum-master false n t = refl
+use Rattle.machine_laws.proofs.Kept.Dispatching.{full_quantum-frames, full_quantum-master, full_quantum-state, full_quantum-who}
 
 full_quantum-inherited : (b : Bool) (n : ℕ) (t : Task) → (cond b (record t { quantum = n }) t).inherited ≡ t.inherited
 full_quantum-inherited true n t = refl

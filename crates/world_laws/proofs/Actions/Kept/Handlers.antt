@@ -54,22 +54,7 @@ use Rattle.machine_laws.proofs.Kept.Entering.{entering-inside}
 use Rattle.world_laws.proofs.Actions.GoodMoves.{Awake, Nobody, good_moves}
 use Rattle.world_laws.proofs.Actions.Kept.Switching.{Only, only-from}
 use Rattle.profile_machine.specs.Appointments.{appoint}
-
-spent-who : (robin : Bool) (t : world.Task) → (cond robin (record t { quantum = t.quantum - 1 }) t).who ≡ t.who
-spent-who true t = refl
-spent-who false t = refl
-
-spent-frames : (robin : Bool) (t : world.Task) → (cond robin (record t { quantum = t.quantum - 1 }) t).frames ≡ t.frames
-spent-frames true t = refl
-spent-frames false t = refl
-
-spent-state : (robin : Bool) (t : world.Task) → (cond robin (record t { quantum = t.quantum - 1 }) t).state ≡ t.state
-spent-state true t = refl
-spent-state false t = refl
-
-spent-master : (robin : Bool) (t : world.Task) → (cond robin (record t { quantum = t.quantum - 1 }) t).master ≡ t.master
-spent-master true t = refl
-spent-master false t = refl
+use Rattle.machine_laws.proofs.Kept.Handlers.{spent-frames, spent-master, spent-state, spent-who}
 
 spent-inherited : (robin : Bool) (t : world.Task) → (cond robin (record t { quantum = t.quantum - 1 }) t).inherited ≡ t.inherited
 spent-inherited true t = refl

@@ -11,7 +11,8 @@ use Rattle.machine_laws.proofs.Moves.{StepRelation, MoveRelation}
 use Rattle.world_laws.proofs.Appointments.DelayEdits.{dropped-idle}
 use Rattle.world_laws.proofs.Appointments.Delays.{Idle}
 use Rattle.world_laws.proofs.Appointments.FineMoves.{GoodWorld, Naming, FineMoves}
-use Rattle.world_laws.proofs.Appointments.Kept.Combinators.{changes_then-from, Alters, From}
+use Rattle.world_laws.proofs.Appointments.Kept.Combinators.{changes_then-from, Alters}
+use Rattle.machine_laws.proofs.Kept.Combinators.{From}
 
 module _ {G : GoodWorld} {May : Naming} {R : StepRelation} {Q : MoveRelation} (moves : FineMoves G May R Q) where
   -- of what is no end of a delay

@@ -1,6 +1,6 @@
 -- Placing and blocking: each step keeps a relation that its parts keep.
-use Rattle.std.proofs.Common.{◌≡◌, refl}
-use Rattle.std.specs.Prelude.{ℕ, Bool, true, cond, ◌&&◌, eqb, slice_index_or, false}
+use Rattle.std.proofs.Common.{refl}
+use Rattle.std.specs.Prelude.{◌&&◌, eqb, slice_index_or}
 use Rattle.trace_text.specs.declared.events.QueueEnd.{QueueEnd}
 use Rattle.trace_text.specs.declared.events.QueueEnd.TheVariants.{Head, Tail}
 use Rattle.trace_text.specs.declared.events.Who.{Who}
@@ -9,7 +9,6 @@ use Rattle.profile_machine.specs.declared.world.World.{World}
 use Rattle.profile_machine.specs.declared.world.lines.Line.TheVariants as line
 use Rattle.profile_machine.specs.declared.world.lines.Part.{Part}
 use Rattle.profile_machine.specs.declared.world.tasks.State.TheVariants.{Runnable, Blocked}
-use Rattle.profile_machine.specs.declared.world.tasks.Task.{Task}
 use Rattle.profile_machine.specs.declared.world.tasks.Waiting.{Waiting}
 use Rattle.profile_machine.specs.Dispatching.{active, level_kept_by, keep_level, deadline_shown, says_ready, granted, grant_quantum, to_tail, to_head, ready, word_of, says_block, block, without_kept_level}
 use Rattle.profile_machine.specs.Program.{is_robin_level, edf_low}
@@ -18,21 +17,10 @@ use Rattle.profile_machine.specs.Tasks.{task_of, edit_task, with_state}
 use Rattle.machine_laws.proofs.Moves.{StepRelation, MoveRelation}
 use Rattle.world_laws.proofs.Appointments.Delays.{Idle}
 use Rattle.world_laws.proofs.Appointments.FineMoves.{GoodWorld, Naming, FineMoves}
-use Rattle.world_laws.proofs.Appointments.Kept.Combinators.{then_at-from, Keeps, From, Alters, changes-keeps, changes_then-from, from-keeps, keeps-from, said-from, said-keeps, then-keeps, looks_at-from}
+use Rattle.world_laws.proofs.Appointments.Kept.Combinators.{then_at-from, Keeps, Alters, changes-keeps, changes_then-from, from-keeps, keeps-from, said-from, said-keeps, then-keeps, looks_at-from}
 use Rattle.world_laws.proofs.Appointments.Kept.Tasks.{edit_task-alters}
-
--- a quantum is no state
-full_quantum-who : (b : Bool) (n : ℕ) (t : Task) → (cond b (record t { quantum = n }) t).who ≡ t.who
-full_quantum-who true n t = refl
-full_quantum-who false n t = refl
-
-full_quantum-frames : (b : Bool) (n : ℕ) (t : Task) → (cond b (record t { quantum = n }) t).frames ≡ t.frames
-full_quantum-frames true n t = refl
-full_quantum-frames false n t = refl
-
-full_quantum-state : (b : Bool) (n : ℕ) (t : Task) → (cond b (record t { quantum = n }) t).state ≡ t.state
-full_quantum-state true n t = refl
-full_quantum-state false n t = refl
+use Rattle.machine_laws.proofs.Kept.Combinators.{From}
+use Rattle.machine_laws.proofs.Kept.Dispatching.{full_quantum-frames, full_quantum-state, full_quantum-who}
 
 module _ {G : GoodWorld} {May : Naming} {R : StepRelation} {Q : MoveRelation} (moves : FineMoves G May R Q) where
   pub keep_level-alters : (p : Image) (name : Who) → Alters G R (keep_level p name)

@@ -26,11 +26,12 @@ use Rattle.world_laws.proofs.Appointments.Delays.{Idle, EachTask}
 use Rattle.world_laws.proofs.Appointments.FineMoves.{GoodWorld, Naming, FineMoves}
 use Rattle.world_laws.proofs.Appointments.Kept.Appointments.{drops_then-from}
 use Rattle.world_laws.proofs.Appointments.Kept.CallEnds.{end_call-keeps, gone-keeps}
-use Rattle.world_laws.proofs.Appointments.Kept.Combinators.{then-from, changes-from, looks_at-from, from-keeps, From, Keeps, changes-keeps, for_each-keeps, for_some-keeps, keeps-from, looks-from, looks-keeps, nothing-keeps, then-keeps, when-keeps}
+use Rattle.world_laws.proofs.Appointments.Kept.Combinators.{then-from, changes-from, looks_at-from, from-keeps, Keeps, changes-keeps, for_each-keeps, for_some-keeps, keeps-from, looks-from, looks-keeps, nothing-keeps, then-keeps, when-keeps}
 use Rattle.world_laws.proofs.Appointments.Kept.Dispatching.{ready-from}
 use Rattle.world_laws.proofs.Appointments.Kept.Frames.{leaves-keeps, raises-keeps, open_sequence-keeps}
 use Rattle.world_laws.proofs.Appointments.Kept.Inheritance.{lose-alters}
 use Rattle.world_laws.proofs.Appointments.Kept.Tasks.{edit_task-alters}
+use Rattle.machine_laws.proofs.Kept.Combinators.{From}
 
 second_is_true : (a b : Bool) → (a && b) ≡ true → b ≡ true
 second_is_true true b e = e

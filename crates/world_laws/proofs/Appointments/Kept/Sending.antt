@@ -28,9 +28,10 @@ use Rattle.machine_laws.proofs.Moves.{StepRelation, MoveRelation}
 use Rattle.world_laws.proofs.Appointments.FineMoves.{GoodWorld, Naming, FineMoves}
 use Rattle.world_laws.proofs.Appointments.Kept.CallEnds.{waits-call, resume-keeps, deliver-keeps}
 use Rattle.world_laws.proofs.Appointments.Kept.Calls.{edit_call-alters, with_call-keeps, says_call-keeps, unqueued-alters, attempt_with-keeps}
-use Rattle.world_laws.proofs.Appointments.Kept.Combinators.{Keeps, From, Alters, changes-keeps, looks-keeps, looks-from, keeps-from, nothing-keeps, says-keeps, then-keeps, unchanged-alters}
+use Rattle.world_laws.proofs.Appointments.Kept.Combinators.{Keeps, Alters, changes-keeps, looks-keeps, looks-from, keeps-from, nothing-keeps, says-keeps, then-keeps, unchanged-alters}
 use Rattle.world_laws.proofs.Appointments.Kept.Dispatching.{ready-from, idle_then-from, block-keeps}
 use Rattle.world_laws.proofs.Appointments.Kept.Frames.{push-alters}
+use Rattle.machine_laws.proofs.Kept.Combinators.{From}
 
 pub second_is_true : (a b : Bool) → (a && b) ≡ true → b ≡ true
 second_is_true true b e = e

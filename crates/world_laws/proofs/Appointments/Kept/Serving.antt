@@ -38,13 +38,14 @@ use Rattle.world_laws.proofs.Appointments.Delays.{Caller}
 use Rattle.world_laws.proofs.Appointments.FineMoves.{GoodWorld, Naming, FineMoves}
 use Rattle.world_laws.proofs.Appointments.Kept.CallEnds.{resume-keeps, deliver-keeps}
 use Rattle.world_laws.proofs.Appointments.Kept.Calls.{edit_call-alters, forget_call-alters, with_call-keeps, enqueue-keeps, attempt_with-keeps}
-use Rattle.world_laws.proofs.Appointments.Kept.Combinators.{from-keeps, Alters, Keeps, From, changes-keeps, keeps-from, looks-from, looks-keeps, nothing-keeps, says-keeps, then-keeps, when-keeps}
+use Rattle.world_laws.proofs.Appointments.Kept.Combinators.{from-keeps, Alters, Keeps, changes-keeps, keeps-from, looks-from, looks-keeps, nothing-keeps, says-keeps, then-keeps, when-keeps}
 use Rattle.world_laws.proofs.Appointments.Kept.Dispatching.{block-from}
 use Rattle.world_laws.proofs.Appointments.Kept.Frames.{pop-alters, edit_top-alters, leaves-keeps, pass_on-keeps}
 use Rattle.world_laws.proofs.Appointments.Kept.Inheritance.{lose_running-keeps}
 use Rattle.world_laws.proofs.Appointments.Kept.Priorities.{set_deferred-keeps}
 use Rattle.world_laws.proofs.Appointments.Kept.Protected.{edit_top_protected-alters, serve_call-keeps}
 use Rattle.world_laws.proofs.Appointments.Kept.Sending.{open_abortable-alters, wait_for_call-keeps, send_on-keeps, begin_abortable-keeps, sent_not_begun-keeps}
+use Rattle.machine_laws.proofs.Kept.Combinators.{From}
 
 -- the call of its own with which somebody entered is its own
 abbrev pub OwnCalled : GoodWorld → Who → Option CallNo → Type 0

@@ -26,9 +26,10 @@ use Rattle.profile_machine.specs.Values.{Seen, seen_by, value, variable, object_
 use Rattle.machine_laws.proofs.Moves.{StepRelation, MoveRelation}
 use Rattle.world_laws.proofs.Appointments.FineMoves.{GoodWorld, Naming, FineMoves}
 use Rattle.world_laws.proofs.Appointments.Kept.CallEnds.{store-gives}
-use Rattle.world_laws.proofs.Appointments.Kept.Combinators.{says-keeps, Keeps, Alters, Gives, bind-gives, changes-keeps, looks-from, looks-keeps, ok-gives, sees-keeps, then-keeps}
+use Rattle.world_laws.proofs.Appointments.Kept.Combinators.{says-keeps, Keeps, Alters, bind-gives, changes-keeps, looks-from, looks-keeps, ok-gives, sees-keeps, then-keeps}
 use Rattle.world_laws.proofs.Appointments.Kept.Frames.{given_world-from, goes-keeps, raises-keeps, exit_loop-keeps, given-keeps, with_room-keeps}
 use Rattle.world_laws.proofs.Appointments.Kept.Scopes.{write_cell-alters, open_scope-alters}
+use Rattle.machine_laws.proofs.Kept.Combinators.{Gives}
 
 module _ {G : GoodWorld} {May : Naming} {R : StepRelation} {Q : MoveRelation} (moves : FineMoves G May R Q) where
   pub null-keeps : (p : Image) (name : Who) (s : StatementNo) → Keeps G R (null p name s)

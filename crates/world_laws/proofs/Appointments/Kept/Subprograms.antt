@@ -30,9 +30,10 @@ use Rattle.machine_laws.proofs.Moves.{StepRelation, MoveRelation}
 use Rattle.world_laws.proofs.Appointments.FineMoves.{GoodWorld, Naming, FineMoves}
 use Rattle.world_laws.proofs.Appointments.Kept.CallEnds.{store-gives}
 use Rattle.world_laws.proofs.Appointments.Kept.Calls.{edit_call-alters}
-use Rattle.world_laws.proofs.Appointments.Kept.Combinators.{Keeps, Alters, Gives, bind-gives, changes-keeps, looks-from, looks-keeps, nothing-keeps, ok-gives, sees-keeps, then-keeps, unchanged-alters}
+use Rattle.world_laws.proofs.Appointments.Kept.Combinators.{Keeps, Alters, bind-gives, changes-keeps, looks-from, looks-keeps, nothing-keeps, ok-gives, sees-keeps, then-keeps, unchanged-alters}
 use Rattle.world_laws.proofs.Appointments.Kept.Frames.{given_world-from, becomes-from, goes-keeps, leaves-keeps, given-keeps, raise_if-keeps, with_room-keeps}
 use Rattle.world_laws.proofs.Appointments.Kept.Scopes.{open_scope-alters}
+use Rattle.machine_laws.proofs.Kept.Combinators.{Gives}
 
 module _ {G : GoodWorld} {May : Naming} {R : StepRelation} {Q : MoveRelation} (moves : FineMoves G May R Q) where
   pub handing-keeps : (p : Image) (name : Who) (f : SubprogramNo) (actuals : List Actual) (to : Destination) (step : Handed → ResultTo → Step) → ((x : Handed) (y : ResultTo) → Keeps G R (step x y)) → Keeps G R (handing p name f actuals to step)

@@ -47,7 +47,7 @@ use Rattle.profile_machine.specs.Words.{same_region, is_the}
 use Rattle.machine_laws.proofs.Moves.{StepRelation, MoveRelation}
 use Rattle.world_laws.proofs.Appointments.Delays.{Idle, EachTask}
 use Rattle.world_laws.proofs.Appointments.FineMoves.{GoodWorld, Naming, FineMoves}
-use Rattle.world_laws.proofs.Appointments.Kept.Combinators.{then_at-from, then-from, either-from, changes-from, Keeps, From, Alters, branch-keeps, changes-keeps, cond-keeps, for_each-keeps, for_some-keeps, looks-from, looks-keeps, nothing-keeps, says-keeps, sees-keeps, then-keeps, when-keeps, keeps-from, looks_at-from}
+use Rattle.world_laws.proofs.Appointments.Kept.Combinators.{then_at-from, then-from, either-from, changes-from, Keeps, Alters, branch-keeps, changes-keeps, cond-keeps, for_each-keeps, for_some-keeps, looks-from, looks-keeps, nothing-keeps, says-keeps, sees-keeps, then-keeps, when-keeps, keeps-from, looks_at-from}
 use Rattle.world_laws.proofs.Appointments.Kept.Controlled.{edit_top_scope-alters, finalize-keeps}
 use Rattle.world_laws.proofs.Appointments.Kept.Declarations.{set_thing-alters}
 use Rattle.world_laws.proofs.Appointments.Kept.Dispatching.{ready-from, idle_then-from, to_head-keeps, block-keeps}
@@ -59,6 +59,7 @@ use Rattle.world_laws.proofs.Appointments.Kept.Serving.{end_body_of_entry-keeps}
 use Rattle.world_laws.proofs.Appointments.Kept.Subprograms.{end_subprogram-keeps}
 use Rattle.world_laws.proofs.Appointments.Kept.Tasks.{edit_task-alters}
 use Rattle.world_laws.proofs.Appointments.Kept.Unwinding.{strike_outermost-alters, unwind-keeps}
+use Rattle.machine_laws.proofs.Kept.Combinators.{From}
 
 made-waits : (state : State) → is_made_state state ≡ true → waits_for_delay (waiting_in state) ≡ false
 made-waits Made e = refl

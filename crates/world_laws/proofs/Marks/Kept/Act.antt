@@ -34,16 +34,16 @@ use Rattle.profile_machine.specs.Act.{call_main, call, handle_or_pass, behind_ha
 use Rattle.machine_laws.proofs.Moves.{StepRelation, MoveRelation, Puts}
 use Rattle.profile_machine.specs.WellFormed.{awaits_trigger, is_triggered}
 use Rattle.machine_laws.proofs.FinestMoves.{natures, action_in, action_first}
-use Rattle.world_laws.proofs.Marks.MarkFacts.{Ends, Begun, Calm, is_abortable, nature}
+use Rattle.world_laws.proofs.Marks.MarkFacts.{Ends, Begun, Calm, nature}
 use Rattle.world_laws.proofs.Marks.TopLemmas.{top_edited}
 use Rattle.world_laws.proofs.Marks.DepthLemmas.{of_call-awaits, triggered-awaits}
 use Rattle.world_laws.proofs.Marks.TriggerLemmas.{TopCalm, same_tops, attempt-top_calm, dropped-unappointed, dropped-calm, found-same_call}
-use Rattle.world_laws.proofs.Marks.FineMoves.{GoodWorld, Naming, FineMoves, Openings, Arming, RegionMoves}
+use Rattle.world_laws.proofs.Marks.FineMoves.{FineMoves, Openings, Arming, RegionMoves}
 use Rattle.line_laws.proofs.Exits.TaskEdits.{one_of-is}
 use Rattle.line_laws.proofs.Exits.Steady.{FreeIn, Holding}
 use Rattle.profile_machine.specs.Words.{first_of_list, is_the, same_call}
 use Rattle.profile_machine.specs.Tasks.{task_of, edit_task, with_state}
-use Rattle.world_laws.proofs.Marks.Kept.Combinators.{Keeps, Alters, changes-keeps, looks-keeps, nothing-keeps, sees-keeps, then-keeps, unchanged-alters, From, keeps-from, looks_at-from, changes_then-from, Kept, changes-from, then-from, then-kept, world_behind}
+use Rattle.world_laws.proofs.Marks.Kept.Combinators.{changes-keeps, looks-keeps, nothing-keeps, sees-keeps, then-keeps, unchanged-alters, keeps-from, looks_at-from, changes_then-from, changes-from, then-from, then-kept}
 use Rattle.world_laws.proofs.Marks.Kept.Dispatching.{says_block-keeps}
 use Rattle.world_laws.proofs.Marks.Kept.Frames.{goes-keeps, raises-keeps, pass_on-keeps, with_room-keeps, popped}
 use Rattle.world_laws.proofs.Marks.Kept.Tasks.{edit_top-alters}
@@ -61,13 +61,16 @@ use Rattle.world_laws.proofs.Marks.Kept.Arming.{Led, led-from, led_looks-from, a
 use Rattle.world_laws.proofs.Marks.Kept.Controlled.{initialize-keeps, assign_controlled-keeps, end_in_initialize-from, end_in_finalize-from, end_in_assign-from}
 use Rattle.world_laws.proofs.Marks.Kept.Declarations.{declare-keeps}
 use Rattle.world_laws.proofs.Marks.Kept.Tasking.{create-keeps, activate-keeps, end_own_activation-keeps, abort_statement-keeps, end_scope_mark-from}
-use Rattle.world_laws.proofs.Marks.Kept.Handlers.{call_handler-keeps, set_event-keeps, cancel_event-keeps, set_timer-keeps, cancel_timer-keeps, add_member-keeps, remove_member-keeps, replenish-keeps, add_to_budget-keeps, set_budget-keeps, cancel_budget-keeps, Releasing, releasing}
+use Rattle.world_laws.proofs.Marks.Kept.Handlers.{call_handler-keeps, set_event-keeps, cancel_event-keeps, set_timer-keeps, cancel_timer-keeps, add_member-keeps, remove_member-keeps, replenish-keeps, add_to_budget-keeps, set_budget-keeps, cancel_budget-keeps, releasing}
 use Rattle.ann_base.specs.declared.identities.RegionNo.{RegionNo}
 use Rattle.profile_machine.specs.declared.world.World.{World}
 use Rattle.profile_machine.specs.declared.world.marks.ProtectedMark.{ProtectedMark}
 use Rattle.profile_machine.specs.Serving.{end_in_protected}
 use Rattle.world_laws.proofs.Marks.Kept.CallEnds.{end_found_abortable-from}
 use Rattle.profile_machine.specs.CallEnds.{edit_abortable, is_abortable_of}
+use Rattle.machine_laws.proofs.FineMoves.{GoodWorld, Naming, is_abortable}
+use Rattle.machine_laws.proofs.Kept.Combinators.{Alters, From, Keeps, Kept, world_behind}
+use Rattle.machine_laws.proofs.Kept.Handlers.{Releasing}
 
 -- a mark that keeps an exception is what it was
 keeping-nature : (e : Raised) (mark : Mark) → nature (keeping e mark) ≡ nature mark

@@ -9,8 +9,10 @@ use Rattle.profile_machine.specs.Appointments.{appoint, drop_appointment, drop_d
 use Rattle.machine_laws.proofs.Moves.{StepRelation, MoveRelation}
 use Rattle.std.proofs.Common.{◌≡◌, false}
 use Rattle.world_laws.proofs.Marks.MarkFacts.{is_a_trigger}
-use Rattle.world_laws.proofs.Marks.FineMoves.{GoodWorld, Naming, FineMoves}
-use Rattle.world_laws.proofs.Marks.Kept.Combinators.{Alters, From, changes-from, unchanged-alters}
+use Rattle.world_laws.proofs.Marks.FineMoves.{FineMoves}
+use Rattle.world_laws.proofs.Marks.Kept.Combinators.{changes-from, unchanged-alters}
+use Rattle.machine_laws.proofs.FineMoves.{GoodWorld, Naming}
+use Rattle.machine_laws.proofs.Kept.Combinators.{Alters, From}
 
 module _ {G : GoodWorld} {May Other : Naming} {R : StepRelation} {Q : MoveRelation} (moves : FineMoves G May Other R Q) where
   pub appoint-from : (due : Due) (moment : ℤ) (w : World) → G w → is_a_trigger due ≡ false → From R w (changes (appoint due moment))

@@ -29,11 +29,13 @@ use Rattle.machine_laws.proofs.Moves.{StepRelation, MoveRelation}
 use Rattle.world_laws.proofs.Marks.MarkFacts.{Calm, Begun, StandsAt}
 use Rattle.world_laws.proofs.Marks.TopLemmas.{frames_pushed, top_edited, calm_edited, begun_edited}
 use Rattle.world_laws.proofs.Marks.StandingLemmas.{stands-top}
-use Rattle.world_laws.proofs.Marks.FineMoves.{GoodWorld, Naming, FineMoves, Openings, Arming}
-use Rattle.world_laws.proofs.Marks.Kept.Combinators.{Keeps, Kept, From, Alters, keeps-from}
+use Rattle.world_laws.proofs.Marks.FineMoves.{FineMoves, Openings, Arming}
+use Rattle.world_laws.proofs.Marks.Kept.Combinators.{keeps-from}
 use Rattle.world_laws.proofs.Marks.Kept.Frames.{goes-keeps, raises-keeps}
 use Rattle.world_laws.proofs.Marks.Kept.Tasks.{edit_top-alters}
 use Rattle.world_laws.proofs.Marks.Kept.EntryCalls.{entry_call-keeps}
+use Rattle.machine_laws.proofs.FineMoves.{GoodWorld, Naming}
+use Rattle.machine_laws.proofs.Kept.Combinators.{Alters, From, Keeps, Kept}
 
 -- a good world is behind, whatever was done
 abbrev pub Led : GoodWorld → StepRelation

@@ -26,8 +26,8 @@ use Rattle.machine_laws.proofs.Moves.{StepRelation, MoveRelation, own}
 use Rattle.world_laws.proofs.Marks.MarkFacts.{Ends, may_finalize, nature}
 use Rattle.world_laws.proofs.Marks.TopLemmas.{top_edited}
 use Rattle.world_laws.proofs.Marks.FinalizeLemmas.{unregistered-top, leaving-may_finalize, target-registered}
-use Rattle.world_laws.proofs.Marks.FineMoves.{GoodWorld, Naming, FineMoves, Openings}
-use Rattle.world_laws.proofs.Marks.Kept.Combinators.{Keeps, Kept, Alters, told_then-from, either-from, said_then-from, branch-keeps, changes-from, changes-keeps, cond-keeps, looks-from, looks-keeps, nothing-keeps, sees-keeps, then-keeps, From, changes_then-from, keeps-from, looks_at-from}
+use Rattle.world_laws.proofs.Marks.FineMoves.{FineMoves, Openings}
+use Rattle.world_laws.proofs.Marks.Kept.Combinators.{told_then-from, either-from, said_then-from, branch-keeps, changes-from, changes-keeps, cond-keeps, looks-from, looks-keeps, nothing-keeps, sees-keeps, then-keeps, changes_then-from, keeps-from, looks_at-from}
 use Rattle.world_laws.proofs.Marks.Kept.Frames.{goes-keeps, push-alters, leaves-keeps, raises-keeps, pass_on-keeps, given-keeps, with_room-keeps, with_room-from, goes_then-from, popped}
 use Rattle.world_laws.proofs.Marks.Kept.Tasks.{edit_top-alters}
 use Rattle.world_laws.proofs.Marks.Kept.Scopes.{write_cell-alters, open_scope-alters}
@@ -43,6 +43,8 @@ use Rattle.profile_machine.specs.declared.world.marks.Frame.{Frame}
 use Rattle.profile_machine.specs.declared.world.marks.Mark.{Mark}
 use Rattle.profile_machine.specs.declared.world.marks.Mark.TheVariants.{Scope, Handled, InProtected, InAccept, Abortable, InInitialize, InFinalize, InAssign}
 use Rattle.profile_machine.specs.Frames.{top_of, pop, with_mark, pass_on, goes, goes_on, edit_first, edit_top, push, new_frame}
+use Rattle.machine_laws.proofs.FineMoves.{GoodWorld, Naming}
+use Rattle.machine_laws.proofs.Kept.Combinators.{Alters, From, Keeps, Kept}
 
 -- the region of a scope's mark is not edited, nor what another mark is
 scope-nature : (f : ScopeMark → ScopeMark) → ((m : ScopeMark) → nature (Scope (f m)) ≡ nature (Scope m)) → (mark : Mark) → nature (edit_scope_mark f mark) ≡ nature mark

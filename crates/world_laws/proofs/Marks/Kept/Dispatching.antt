@@ -19,22 +19,12 @@ use Rattle.std.specs.Prelude.{false}
 use Rattle.machine_laws.proofs.Moves.{StepRelation, MoveRelation}
 use Rattle.world_laws.proofs.Marks.MarkFacts.{ends_call}
 use Rattle.world_laws.proofs.Marks.TopLemmas.{ready_world}
-use Rattle.world_laws.proofs.Marks.FineMoves.{GoodWorld, Naming, FineMoves, ready_line}
-use Rattle.world_laws.proofs.Marks.Kept.Combinators.{Keeps, Alters, changes-keeps, from-keeps, said-from, said-keeps, then-keeps, looks_at-from, From, Kept, then-kept}
+use Rattle.world_laws.proofs.Marks.FineMoves.{FineMoves}
+use Rattle.world_laws.proofs.Marks.Kept.Combinators.{changes-keeps, from-keeps, said-from, said-keeps, then-keeps, looks_at-from, then-kept}
 use Rattle.world_laws.proofs.Marks.Kept.Tasks.{edit_task-alters}
-
--- a quantum is no state
-pub full_quantum-who : (b : Bool) (n : ℕ) (t : Task) → (cond b (record t { quantum = n }) t).who ≡ t.who
-full_quantum-who true n t = refl
-full_quantum-who false n t = refl
-
-pub full_quantum-frames : (b : Bool) (n : ℕ) (t : Task) → (cond b (record t { quantum = n }) t).frames ≡ t.frames
-full_quantum-frames true n t = refl
-full_quantum-frames false n t = refl
-
-pub full_quantum-state : (b : Bool) (n : ℕ) (t : Task) → (cond b (record t { quantum = n }) t).state ≡ t.state
-full_quantum-state true n t = refl
-full_quantum-state false n t = refl
+use Rattle.machine_laws.proofs.FineMoves.{GoodWorld, Naming, ready_line}
+use Rattle.machine_laws.proofs.Kept.Combinators.{Alters, From, Keeps, Kept}
+use Rattle.machine_laws.proofs.Kept.Dispatching.{full_quantum-frames, full_quantum-state, full_quantum-who}
 
 full_quantum-abnormal : (b : Bool) (n : ℕ) (t : Task) → (cond b (record t { quantum = n }) t).abnormal ≡ t.abnormal
 full_quantum-abnormal true n t = refl

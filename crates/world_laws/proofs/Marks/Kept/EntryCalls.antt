@@ -33,9 +33,9 @@ use Rattle.profile_machine.specs.Protected.{begin_action_on, is_barrier_open}
 use Rattle.profile_machine.specs.Sending.{not_accepted}
 use Rattle.profile_machine.specs.EntryCalls.{numbered, marks_if_queued, add_call, make_call, end_at_once, call_gone, call_meets, call_queues, call_not_met, call_accepted_by, call_callable, call_task, call_runs, call_without_room, has_room_for_action, call_runs_if_room, call_passes, call_refused, call_closed, call_by_barrier, call_object, call_owner, call_named, entry_call, mark_sending, requeue}
 use Rattle.machine_laws.proofs.Moves.{StepRelation, MoveRelation, LetsIn, own}
-use Rattle.world_laws.proofs.Marks.FineMoves.{GoodWorld, Naming, FineMoves, Openings}
+use Rattle.world_laws.proofs.Marks.FineMoves.{FineMoves, Openings}
 use Rattle.machine_laws.proofs.Kept.Entering.{LetsIn-same, edit_task-objects}
-use Rattle.world_laws.proofs.Marks.Kept.Combinators.{Keeps, Kept, From, Alters, either-from, said_then-from, then-from, changes-keeps, looks-keeps, looks_at-from, nothing-keeps, sees-keeps, then-keeps, unchanged-alters, changes_then-from}
+use Rattle.world_laws.proofs.Marks.Kept.Combinators.{either-from, said_then-from, then-from, changes-keeps, looks-keeps, looks_at-from, nothing-keeps, sees-keeps, then-keeps, unchanged-alters, changes_then-from}
 use Rattle.world_laws.proofs.Marks.Kept.Dispatching.{block-keeps}
 use Rattle.world_laws.proofs.Marks.Kept.Frames.{goes-keeps, leaves-keeps, raises-keeps, given-keeps, raise_if-keeps, with_room-from, with_room-keeps, goes_then-from}
 use Rattle.world_laws.proofs.Marks.Kept.Calls.{edit_call-alters, forget_call-alters, says_call-keeps, enqueued-alters, enqueue-keeps}
@@ -44,6 +44,8 @@ use Rattle.world_laws.proofs.Marks.Kept.Protected.{where_let_inside-keeps, begin
 use Rattle.world_laws.proofs.Marks.Kept.Sending.{not_accepted-keeps}
 use Rattle.world_laws.proofs.Marks.Kept.Rendezvous.{meet-keeps}
 use Rattle.ann_base.specs.declared.identities.RegionNo.{RegionNo}
+use Rattle.machine_laws.proofs.FineMoves.{GoodWorld, Naming}
+use Rattle.machine_laws.proofs.Kept.Combinators.{Alters, From, Keeps, Kept}
 
 module _ {G : GoodWorld} {May Other : Naming} {R : StepRelation} {Q : MoveRelation} (moves : FineMoves G May Other R Q) where
   add_call-alters : (c : Call) → Alters G R (add_call c)

@@ -22,10 +22,12 @@ use Rattle.profile_machine.specs.Operators.{Valued}
 use Rattle.machine_laws.proofs.Moves.{StepRelation, MoveRelation}
 use Rattle.profile_machine.specs.WellFormed.{awaits_trigger, is_triggered}
 use Rattle.world_laws.proofs.Marks.MarkFacts.{Ends, apart_in}
-use Rattle.world_laws.proofs.Marks.FineMoves.{GoodWorld, Naming, FineMoves, Openings}
-use Rattle.world_laws.proofs.Marks.Kept.Combinators.{Keeps, Kept, From, Alters, Gives, branch-keeps, changes-keeps, either-from, keeps-from, looks-from, looks-keeps, looks_at-from, nothing-keeps, says-keeps, then-keeps, when-keeps, changes-from, changes_then-from}
+use Rattle.world_laws.proofs.Marks.FineMoves.{FineMoves, Openings}
+use Rattle.world_laws.proofs.Marks.Kept.Combinators.{branch-keeps, changes-keeps, either-from, keeps-from, looks-from, looks-keeps, looks_at-from, nothing-keeps, says-keeps, then-keeps, when-keeps, changes-from, changes_then-from}
 use Rattle.world_laws.proofs.Marks.Kept.Tasks.{edit_top-alters}
 use Rattle.std.proofs.Common.{◌≡◌, [], option_and_then, refl, sym, append-nil}
+use Rattle.machine_laws.proofs.FineMoves.{GoodWorld, Naming}
+use Rattle.machine_laws.proofs.Kept.Combinators.{Alters, From, Gives, Keeps, Kept}
 
 module _ {G : GoodWorld} {May Other : Naming} {R : StepRelation} {Q : MoveRelation} (moves : FineMoves G May Other R Q) where
   pub goes-keeps : (name : Who) (onward : Option StatementNo) → Keeps G R (goes name onward)

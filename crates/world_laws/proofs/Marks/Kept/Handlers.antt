@@ -40,8 +40,8 @@ use Rattle.profile_machine.specs.Handlers.{add_release, says_release, wake_agent
 use Rattle.std.proofs.Common.{◌≡◌, refl}
 use Rattle.std.specs.Prelude.{Bool}
 use Rattle.machine_laws.proofs.Moves.{StepRelation, MoveRelation, LetsIn}
-use Rattle.world_laws.proofs.Marks.FineMoves.{GoodWorld, Naming, FineMoves, RegionMoves}
-use Rattle.world_laws.proofs.Marks.Kept.Combinators.{Keeps, Kept, From, Alters, either-from, looks_at-from, then-from, changes-keeps, for_some-keeps, keeps-from, looks-from, looks-keeps, nothing-keeps, says-keeps, sees-keeps, then-keeps, unchanged-alters}
+use Rattle.world_laws.proofs.Marks.FineMoves.{FineMoves, RegionMoves}
+use Rattle.world_laws.proofs.Marks.Kept.Combinators.{either-from, looks_at-from, then-from, changes-keeps, for_some-keeps, keeps-from, looks-from, looks-keeps, nothing-keeps, says-keeps, sees-keeps, then-keeps, unchanged-alters}
 use Rattle.world_laws.proofs.Marks.Kept.Frames.{becomes-from, goes-keeps, given-keeps, raise_if-keeps}
 use Rattle.world_laws.proofs.Marks.Kept.Tasks.{edit_task-alters}
 use Rattle.world_laws.proofs.Marks.Kept.Dispatching.{ready-keeps}
@@ -51,26 +51,13 @@ use Rattle.world_laws.proofs.Marks.Kept.CallEnds.{store-gives}
 use Rattle.world_laws.proofs.Marks.Kept.Protected.{find_held-from, begin_action_on-from}
 use Rattle.machine_laws.proofs.Kept.Entering.{entering-inside, entering-held}
 use Rattle.world_laws.proofs.Marks.Kept.Serving.{end_release-keeps}
-
-spent-who : (robin : Bool) (t : world.Task) → (cond robin (record t { quantum = t.quantum - 1 }) t).who ≡ t.who
-spent-who true t = refl
-spent-who false t = refl
-
-spent-frames : (robin : Bool) (t : world.Task) → (cond robin (record t { quantum = t.quantum - 1 }) t).frames ≡ t.frames
-spent-frames true t = refl
-spent-frames false t = refl
-
-spent-state : (robin : Bool) (t : world.Task) → (cond robin (record t { quantum = t.quantum - 1 }) t).state ≡ t.state
-spent-state true t = refl
-spent-state false t = refl
+use Rattle.machine_laws.proofs.FineMoves.{GoodWorld, Naming}
+use Rattle.machine_laws.proofs.Kept.Combinators.{Alters, From, Keeps, Kept}
+use Rattle.machine_laws.proofs.Kept.Handlers.{Releasing, spent-frames, spent-state, spent-who}
 
 spent-abnormal : (robin : Bool) (t : world.Task) → (cond robin (record t { quantum = t.quantum - 1 }) t).abnormal ≡ t.abnormal
 spent-abnormal true t = refl
 spent-abnormal false t = refl
-
--- a release comes, and the agent becomes ready where it was blocked; the handler of one that is served is called
-pub record Releasing (G : GoodWorld) (R : StepRelation) : Type 0 where
-  pub releases : (p : Image) (h : HandlerOf) (argument : Option ℕ) → Keeps G R (release p Own h argument)
 
 -- ---- where anybody may be changed
 

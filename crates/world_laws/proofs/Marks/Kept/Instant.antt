@@ -29,8 +29,8 @@ use Rattle.profile_machine.specs.declared.world.lines.Part.TheVariants.{Own}
 use Rattle.world_laws.proofs.Marks.TriggerLemmas.{DueRightly, due_rightly}
 use Rattle.profile_machine.specs.Instant.{is_the_same_due, effect, is_over, effect_of_runner, finish_action, with_port, with_masked, with_kept_interrupt, interrupt_comes, deliver_kept_interrupt, script_item, with_script, take_item, items_due, script_items, take_delay, end_delay, time_out, come_due, take_due, all_due, appointments_due, events_due, moments_due, expire, expire_timer, no_timers_due, timers_due, run_out, no_budget_due, budgets_due, spend_quantum, quantum_spent, instant}
 use Rattle.machine_laws.proofs.Moves.{StepRelation, MoveRelation, Puts}
-use Rattle.world_laws.proofs.Marks.FineMoves.{GoodWorld, Naming, FineMoves, RegionMoves}
-use Rattle.world_laws.proofs.Marks.Kept.Combinators.{Keeps, From, Leads, Alters, changes-from, changes_then-from, changes-keeps, for_each-keeps, for_some-keeps, keeps-from, looks-from, looks-keeps, nothing-keeps, says-keeps, settles-leads, then-from, then-keeps, then-leads, when-keeps}
+use Rattle.world_laws.proofs.Marks.FineMoves.{FineMoves, RegionMoves}
+use Rattle.world_laws.proofs.Marks.Kept.Combinators.{changes-from, changes_then-from, changes-keeps, for_each-keeps, for_some-keeps, keeps-from, looks-from, looks-keeps, nothing-keeps, says-keeps, settles-leads, then-from, then-keeps, then-leads, when-keeps}
 use Rattle.world_laws.proofs.Marks.Kept.Tasks.{edit_task-alters}
 use Rattle.world_laws.proofs.Marks.Kept.Dispatching.{to_tail-keeps, ready-keeps}
 use Rattle.world_laws.proofs.Marks.Kept.Frames.{goes-keeps, open_sequence-keeps, open_if_ready-keeps}
@@ -39,13 +39,16 @@ use Rattle.world_laws.proofs.Marks.Kept.Calls.{with_call-keeps, unqueued-alters}
 use Rattle.world_laws.proofs.Marks.Kept.Unwinding.{unwind-keeps}
 use Rattle.world_laws.proofs.Marks.Kept.CallEnds.{trigger_at-from, deliver-keeps}
 use Rattle.world_laws.proofs.Marks.Kept.Tasking.{take_terminates-keeps, unwind_all-keeps}
-use Rattle.world_laws.proofs.Marks.Kept.Handlers.{interrupt-keeps, clear_timer-alters, Releasing, releasing}
+use Rattle.world_laws.proofs.Marks.Kept.Handlers.{interrupt-keeps, clear_timer-alters, releasing}
 use Rattle.world_laws.proofs.Marks.Kept.Arming.{Led, led_then-from, led_changes_then-from, settles_led-from}
 use Rattle.world_laws.proofs.Marks.Kept.Act.{free_act-from}
 use Rattle.world_laws.proofs.Marks.MarkFacts.{Begun}
 use Rattle.world_laws.proofs.Marks.TopLemmas.{begun_edited}
 use Rattle.profile_machine.specs.Values.{budget_of}
 use Rattle.profile_machine.specs.Handlers.{clear_timer}
+use Rattle.machine_laws.proofs.FineMoves.{GoodWorld, Naming}
+use Rattle.machine_laws.proofs.Kept.Combinators.{Alters, From, Keeps, Leads}
+use Rattle.machine_laws.proofs.Kept.Handlers.{Releasing}
 
 module _ {G : GoodWorld} {May Other : Naming} {R : StepRelation} {Q : MoveRelation} (moves : FineMoves G May Other R Q) (releasing : Releasing G R) where
   with_port-alters : (n : ℕ) (value : ℤ) → Alters G R (with_port n value)

@@ -35,9 +35,9 @@ use Rattle.profile_machine.specs.Steps.{Step, Done, done, goes_on_with, says, ch
 use Rattle.std.proofs.Common.{◌≡◌, refl, ◌∙◌, append_assoc}
 use Rattle.profile_machine.specs.Protected.{entering, ceiling_of, new_protected_mark, mode_of, find_held, enter_or, where_let_inside, open_action, begin_action_on, begin_operation, call_operation_of, call_operation, begin_own_operation, call_own_operation, edit_top_protected, begin_call, body_opens, has_room_for_body, serve_call, edit_protected}
 use Rattle.machine_laws.proofs.Moves.{StepRelation, MoveRelation, LetsIn, FindsHeld, own}
-use Rattle.world_laws.proofs.Marks.FineMoves.{GoodWorld, Naming, FineMoves, Openings}
+use Rattle.world_laws.proofs.Marks.FineMoves.{FineMoves, Openings}
 use Rattle.machine_laws.proofs.Kept.Entering.{entering-inside, entering-held, LetsIn-same, edit_task-objects}
-use Rattle.world_laws.proofs.Marks.Kept.Combinators.{Keeps, Kept, From, Alters, branch-keeps, changes-keeps, keeps-from, looks-from, looks-keeps, said-from, says-keeps, sees-keeps, then-from, then-keeps}
+use Rattle.world_laws.proofs.Marks.Kept.Combinators.{branch-keeps, changes-keeps, keeps-from, looks-from, looks-keeps, said-from, says-keeps, sees-keeps, then-from, then-keeps}
 use Rattle.world_laws.proofs.Marks.Kept.Dispatching.{to_tail-keeps}
 use Rattle.world_laws.proofs.Marks.Kept.Frames.{goes_then-from, raises-keeps, given-keeps, raise_if-keeps, with_room-keeps}
 use Rattle.world_laws.proofs.Marks.Kept.Tasks.{edit_top-alters}
@@ -48,6 +48,8 @@ use Rattle.world_laws.proofs.Marks.Kept.Subprograms.{begin_body-keeps, handing-k
 use Rattle.ann_base.specs.declared.identities.RegionNo.{RegionNo}
 use Rattle.profile_machine.specs.declared.world.marks.Mark.{Mark}
 use Rattle.profile_machine.specs.declared.world.marks.Mark.TheVariants.{Scope, Handled, InProtected, InAccept, Abortable, InInitialize, InFinalize, InAssign}
+use Rattle.machine_laws.proofs.FineMoves.{GoodWorld, Naming}
+use Rattle.machine_laws.proofs.Kept.Combinators.{Alters, From, Keeps, Kept}
 
 -- the release and the object of a protected action are not edited, nor what another mark is
 pub protected-nature : (f : ProtectedMark → ProtectedMark) → ((m : ProtectedMark) → (f m).release ≡ m.release) → ((m : ProtectedMark) → (f m).object ≡ m.object) → (mark : Mark) → nature (edit_protected f mark) ≡ nature mark

@@ -14,41 +14,25 @@ use Rattle.profile_machine.specs.declared.world.World.{World}
 use Rattle.profile_machine.specs.declared.world.marks.Frame.{Frame}
 use Rattle.profile_machine.specs.declared.world.appointments.Release.{Release}
 use Rattle.profile_machine.specs.Words.{same_who, same_option}
-use Rattle.profile_machine.specs.Steps.{Move, rests, watches, ◌▶◌}
-use Rattle.profile_machine.specs.Dispatching.{choose}
+use Rattle.profile_machine.specs.Steps.{rests}
 use Rattle.profile_machine.specs.Tasks.{task_of, with_ticks}
 use Rattle.profile_machine.specs.Cost.{cost}
 use Rattle.profile_machine.specs.Handlers.{charge}
-use Rattle.profile_machine.specs.Run.{opens, say, silently, says_run, with_serving, serve_if_free, serve, ticks_or, begin_action, one_tick_less, spend_tick, next_tick, says_idle, tock_of, tock, environment}
+use Rattle.profile_machine.specs.Run.{opens, say, silently, says_run, with_serving, serve_if_free, serve, ticks_or, begin_action, one_tick_less, spend_tick, says_idle, environment}
 use Rattle.machine_laws.proofs.Moves.{StepRelation, MoveRelation}
 use Rattle.machine_laws.specs.LineKinds.{is_of_tock}
-use Rattle.world_laws.proofs.Marks.Kept.Combinators.{From, Leads, Alters, changes_then-from, keeps-from, then-keeps, says-keeps, then-leads, rests-leads, watches-leads}
+use Rattle.world_laws.proofs.Marks.Kept.Combinators.{changes_then-from, keeps-from, then-keeps, says-keeps, then-leads, rests-leads, watches-leads}
 use Rattle.world_laws.proofs.Marks.Kept.Dispatching.{to_tail-keeps}
 use Rattle.world_laws.proofs.Marks.Kept.Frames.{open_sequence-keeps}
 use Rattle.world_laws.proofs.Marks.MarkFacts.{Unarmed}
 use Rattle.world_laws.proofs.Marks.Kept.Handlers.{charge-alters}
-use Rattle.world_laws.proofs.Marks.FineMoves.{GoodWorld, RegionMoves, TockMoves}
+use Rattle.world_laws.proofs.Marks.FineMoves.{RegionMoves, TockMoves}
 use Rattle.profile_machine.specs.Scopes.{open_scope, plainly}
+use Rattle.machine_laws.proofs.Kept.Combinators.{Alters, From, Leads}
+use Rattle.machine_laws.proofs.FineMoves.{GoodWorld}
+use Rattle.machine_laws.proofs.Kept.Run.{before_tick}
 
 -- ---- a tock up to its tick
-
--- who is chosen, if anybody is, says that it runs, takes up a release, begins its action and is charged
-abbrev pub before_tick : Image → Option Who → Move
-before_tick p None = watches (λ w. says_idle w.ran)
-before_tick p (Some name) =
-    watches (λ w. says_run name w.ran) ▶ serve name ▶ silently (begin_action p name) ▶ silently (charge p name) ▶ silently (spend_tick name)
-
--- then the tick passes
-after_idle : (w : World) (ran : Option Who) → let before = says_idle ran w in ((watches (λ v. says_idle ran) ▶ silently (next_tick None)) w) ≡ (next_tick None before.0, before.1)
-after_idle w None = refl
-after_idle w (Some name) = refl
-
-tock_of-parts : (p : Image) (chosen : Option Who) (w : World) → let before = before_tick p chosen w in tock_of p chosen w ≡ (next_tick chosen before.0, before.1)
-tock_of-parts p None w = after_idle w w.ran
-tock_of-parts p (Some name) w = refl
-
-pub tock-parts : (p : Image) (w : World) → let before = before_tick p (choose w) w in tock p w ≡ (next_tick (choose w) before.0, before.1)
-tock-parts p w = tock_of-parts p (choose w) w
 
 module _ {G : GoodWorld} {R : StepRelation} {Q : MoveRelation} (moves : RegionMoves G R Q) where
   pub opens-from : (p : Image) (w : World) → G w → Unarmed environment w → From R w (opens p)

@@ -44,10 +44,10 @@ use Rattle.profile_machine.specs.Values.{object_of}
 use Rattle.profile_machine.specs.Serving.{serves_nothing, is_served_now, serve_ends, end_release, close_action, wait_or_unwind, wait_for_own, resume_own, behind_action, release_object, settle_sent, begins_part, chosen_is_sent, serve_chosen, serve_next, serve_calls, go_on_by_mode, end_operation, finish_raised, finish_well, finish_call, end_entry_body, end_in_protected_by, end_in_protected, keep_values, keeps_sending, end_body_of_entry, part_of_start, with_body_left, no_longer_serves, not_left, outcome_by, is_own_call, may_open_abortable}
 use Rattle.std.proofs.Common.{◌≡◌, refl, sym, subst, ap, ◌∙◌}
 use Rattle.machine_laws.proofs.Moves.{StepRelation, MoveRelation, own}
-use Rattle.world_laws.proofs.Marks.FineMoves.{GoodWorld, Naming, FineMoves, RegionMoves}
+use Rattle.world_laws.proofs.Marks.FineMoves.{FineMoves, RegionMoves}
 use Rattle.machine_laws.proofs.FinestMoves.{natures, action_first}
 use Rattle.line_laws.proofs.Exits.Steady.{FreeIn}
-use Rattle.world_laws.proofs.Marks.Kept.Combinators.{Keeps, Kept, From, world_behind, then-kept, looks_at-from, either-from, changes-keeps, keeps-from, looks-from, looks-keeps, then-from, nothing-keeps, says-keeps, then-keeps, when-keeps}
+use Rattle.world_laws.proofs.Marks.Kept.Combinators.{then-kept, looks_at-from, either-from, changes-keeps, keeps-from, looks-from, looks-keeps, then-from, nothing-keeps, says-keeps, then-keeps, when-keeps}
 use Rattle.world_laws.proofs.Marks.Kept.Dispatching.{block-keeps}
 use Rattle.world_laws.proofs.Marks.Kept.Frames.{leaves-keeps, pass_on-keeps}
 use Rattle.world_laws.proofs.Marks.Kept.Tasks.{edit_top-alters}
@@ -57,6 +57,8 @@ use Rattle.world_laws.proofs.Marks.Kept.CallEnds.{resume-keeps, deliver-keeps}
 use Rattle.world_laws.proofs.Marks.Kept.Protected.{edit_top_protected-alters, begin_call-keeps, body_opens-keeps}
 use Rattle.world_laws.proofs.Marks.Kept.Priorities.{set_deferred-keeps}
 use Rattle.world_laws.proofs.Marks.Kept.Sending.{open_abortable-alters, wait_for_call-keeps, send_on-keeps, begin_abortable-keeps, sent_not_begun-keeps}
+use Rattle.machine_laws.proofs.FineMoves.{GoodWorld, Naming}
+use Rattle.machine_laws.proofs.Kept.Combinators.{From, Keeps, Kept, world_behind}
 
 -- ---- the agent has served a release
 

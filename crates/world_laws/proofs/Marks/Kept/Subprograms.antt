@@ -30,12 +30,14 @@ use Rattle.profile_machine.specs.Subprograms.{begin_body, handing, call_subprogr
 use Rattle.std.specs.Prelude.{slice_set}
 use Rattle.profile_machine.specs.Values.{seen_by}
 use Rattle.machine_laws.proofs.Moves.{StepRelation, MoveRelation}
-use Rattle.world_laws.proofs.Marks.FineMoves.{GoodWorld, Naming, FineMoves, Openings}
-use Rattle.world_laws.proofs.Marks.Kept.Combinators.{Keeps, Alters, Gives, bind-gives, changes-keeps, looks-from, looks-keeps, nothing-keeps, ok-gives, sees-keeps, then-keeps, unchanged-alters}
+use Rattle.world_laws.proofs.Marks.FineMoves.{FineMoves, Openings}
+use Rattle.world_laws.proofs.Marks.Kept.Combinators.{bind-gives, changes-keeps, looks-from, looks-keeps, nothing-keeps, ok-gives, sees-keeps, then-keeps, unchanged-alters}
 use Rattle.world_laws.proofs.Marks.Kept.Frames.{given_world-from, becomes-from, goes-keeps, leaves-keeps, given-keeps, raise_if-keeps, with_room-keeps}
 use Rattle.world_laws.proofs.Marks.Kept.Scopes.{open_scope-alters}
 use Rattle.world_laws.proofs.Marks.Kept.Calls.{edit_call-alters}
 use Rattle.world_laws.proofs.Marks.Kept.CallEnds.{store-gives}
+use Rattle.machine_laws.proofs.FineMoves.{GoodWorld, Naming}
+use Rattle.machine_laws.proofs.Kept.Combinators.{Alters, Gives, Keeps}
 
 module _ {G : GoodWorld} {May Other : Naming} {R : StepRelation} {Q : MoveRelation} (moves : FineMoves G May Other R Q) where
   pub handing-keeps : (p : Image) (name : Who) (f : SubprogramNo) (actuals : List Actual) (to : Destination) (step : Handed → ResultTo → Step) → ((x : Handed) (y : ResultTo) → Keeps G R (step x y)) → Keeps G R (handing p name f actuals to step)

@@ -41,8 +41,8 @@ use Rattle.profile_machine.specs.Unwinding.{strike_outermost}
 use Rattle.profile_machine.specs.Tasks.{is_made}
 use Rattle.profile_machine.specs.declared.world.lines.Said.{Said}
 use Rattle.world_laws.proofs.Marks.TaskFacts.{KnownAbnormal, becomes-known, all-both, all-filter, all-kept, all-map}
-use Rattle.world_laws.proofs.Marks.FineMoves.{GoodWorld, Naming, FineMoves, Openings, EachIs, first_is_false}
-use Rattle.world_laws.proofs.Marks.Kept.Combinators.{Keeps, From, either-from, for_each_known-from, changes_told_then-from, then_known-from, then-from, changes-from, changes_told-from, Alters, branch-keeps, changes-keeps, for_some-keeps, looks-from, looks-keeps, nothing-keeps, says-keeps, sees-keeps, then-keeps, when-keeps, for_each_task-keeps, some_of-others, listed-keeps, when-keeps-if, keeps-from, looks_at-from, changes_then-from}
+use Rattle.world_laws.proofs.Marks.FineMoves.{FineMoves, Openings}
+use Rattle.world_laws.proofs.Marks.Kept.Combinators.{either-from, for_each_known-from, changes_told_then-from, then_known-from, then-from, changes-from, changes_told-from, branch-keeps, changes-keeps, for_some-keeps, looks-from, looks-keeps, nothing-keeps, says-keeps, sees-keeps, then-keeps, when-keeps, for_each_task-keeps, some_of-others, listed-keeps, when-keeps-if, keeps-from, looks_at-from, changes_then-from}
 use Rattle.world_laws.proofs.Marks.Kept.Frames.{raise_if-from, given-from, goes-keeps, raises-keeps, pass_on-keeps, given-keeps, raise_if-keeps, popped}
 use Rattle.world_laws.proofs.Marks.Kept.Tasks.{edit_task-alters}
 use Rattle.world_laws.proofs.Marks.Kept.Dispatching.{to_head-keeps, ready-keeps, says_block-keeps, block-keeps}
@@ -62,6 +62,8 @@ use Rattle.profile_machine.specs.Tasks.{edit_task, task_of, waiting_of}
 use Rattle.profile_machine.specs.Dispatching.{active_of, ready}
 use Rattle.profile_machine.specs.Unwinding.{any_struck}
 use Rattle.profile_machine.specs.Masters.{region_of_mark, has_dependents, terminate, end_activation, may_terminate, leave_by_terminate, has_activating}
+use Rattle.machine_laws.proofs.FineMoves.{EachIs, GoodWorld, Naming, first_is_false}
+use Rattle.machine_laws.proofs.Kept.Combinators.{Alters, From, Keeps}
 
 same_region_in : (r q : RegionNo) (region : Option RegionNo) → region ≡ Some r → region ≡ Some q → q ≡ r
 same_region_in r q region a b = let one : Some q ≡ Some r = sym b ∙ a in cc

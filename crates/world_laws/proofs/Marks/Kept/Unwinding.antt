@@ -8,13 +8,15 @@ use Rattle.profile_machine.specs.declared.world.tasks.State.TheVariants.{Made, R
 use Rattle.profile_machine.specs.declared.world.lines.Part.{Part}
 use Rattle.profile_machine.specs.Unwinding.{leave_by_abort, stop_waiting, wake_and_leave, unwind_blocked, unwind_in, unwind}
 use Rattle.machine_laws.proofs.Moves.{StepRelation, MoveRelation}
-use Rattle.world_laws.proofs.Marks.FineMoves.{GoodWorld, Naming, FineMoves}
-use Rattle.world_laws.proofs.Marks.Kept.Combinators.{Keeps, changes-keeps, looks-keeps, nothing-keeps, then-keeps, when-keeps}
+use Rattle.world_laws.proofs.Marks.FineMoves.{FineMoves}
+use Rattle.world_laws.proofs.Marks.Kept.Combinators.{changes-keeps, looks-keeps, nothing-keeps, then-keeps, when-keeps}
 use Rattle.world_laws.proofs.Marks.Kept.Tasks.{edit_task-alters}
 use Rattle.world_laws.proofs.Marks.Kept.Dispatching.{ready-keeps}
 use Rattle.world_laws.proofs.Marks.Kept.Frames.{leaves-keeps}
 use Rattle.world_laws.proofs.Marks.Kept.Appointments.{drop_delay-alters}
 use Rattle.world_laws.proofs.Marks.Kept.Calls.{forget_call-alters, attempt-keeps}
+use Rattle.machine_laws.proofs.FineMoves.{GoodWorld, Naming}
+use Rattle.machine_laws.proofs.Kept.Combinators.{Keeps}
 
 module _ {G : GoodWorld} {May Other : Naming} {R : StepRelation} {Q : MoveRelation} (moves : FineMoves G May Other R Q) where
   pub leave_by_abort-keeps : (name : Who) → Keeps G R (leave_by_abort name)

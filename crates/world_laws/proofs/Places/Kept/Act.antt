@@ -19,9 +19,8 @@ use Rattle.world_laws.proofs.Places.Kept.Statements.{assign-keeps, assign_array-
 use Rattle.world_laws.proofs.Places.Kept.Subprograms.{call_subprogram-keeps, return-keeps, return_value-keeps}
 use Rattle.world_laws.proofs.Places.Kept.Tasking.{abort_statement-keeps, activate-leads, create-leads, end_own_activation-keeps, end_scope_mark-leads, take_terminates-leads, unwind_all-keeps}
 use Rattle.world_laws.proofs.Places.Kept.Tasks.{calls_in, edit_task-alters}
-use Rattle.world_laws.proofs.Places.LevelMoves.{Fitting, Naming, Silences, Sleeping}
+use Rattle.world_laws.proofs.Places.LevelMoves.{Naming, Silences}
 use Rattle.world_laws.proofs.Places.Owning.{OwnCall, edit-calls}
-use Rattle.world_laws.proofs.Places.SameLemmas.{set_where-found}
 use Rattle.ceiling_laws.proofs.Runs.Triples.{Alters, At, Keeps, Leads, State, With, changes-keeps, changes-leads, cond-leads, for_some-leads, from-leads, from_at, looks-keeps, looks-leads, looks-with, nothing-keeps, option-leads, sees-leads, then-keeps, then-leads, to-leads, unchanged-alters}
 use Rattle.profile_machine.specs.Act.{act, act_frame, act_statement, act_top, act_without, behind_handled, below, call, call_main, drop_trigger, end_abortable_by, end_handled, end_in_abortable, end_mark, end_top, handle_or_pass, handler_for, keeping, wait_for_trigger, waiting_mark}
 use Rattle.profile_machine.specs.Appointments.{is_trigger_of}
@@ -64,6 +63,8 @@ use Rattle.std.proofs.Common.{ap, inl, inr, refl, subst, sym, ◌∙◌, ◌≡�
 use Rattle.std.specs.Prelude.{List, None, Option, Some, [], true, ℕ}
 use Rattle.trace_text.specs.declared.events.Who.{Who}
 use Rattle.trace_text.specs.declared.events.Who.TheVariants as who
+use Rattle.ceiling_laws.proofs.Runs.LevelMoves.{Fitting, Sleeping}
+use Rattle.ceiling_laws.proofs.Runs.SameLemmas.{set_where-found}
 
 module _ {X : State} (quiet : Silences X) where
   handle_or_pass-keeps : (p : Image) (name : Who) (e : Raised) (next : Option StatementNo) → Keeps X (handle_or_pass p name e next)

@@ -6,8 +6,8 @@ use Rattle.world_laws.proofs.Places.Kept.Frames.{Gives, edit_frames-alters, goes
 use Rattle.world_laws.proofs.Places.Kept.Statements.{store-gives}
 use Rattle.world_laws.proofs.Places.Kept.Tasks.{says-keeps}
 use Rattle.world_laws.proofs.Places.Kept.Unwinding.{unwind-keeps}
-use Rattle.world_laws.proofs.Places.Kept.Waking.{ready-at, waiting-blocked}
-use Rattle.world_laws.proofs.Places.LevelMoves.{BaseMoves, FitsAll, Fitting, Silences, Sleeping}
+use Rattle.world_laws.proofs.Places.Kept.Waking.{ready-at}
+use Rattle.world_laws.proofs.Places.LevelMoves.{BaseMoves, Silences}
 use Rattle.world_laws.proofs.Places.SameLemmas.{same_self, same_then}
 use Rattle.ceiling_laws.proofs.Runs.Triples.{Alters, At, Keeps, Leads, State, branch-keeps, changes-keeps, changes-leads, from_at, looks-keeps, looks-with, nothing-keeps, then-keeps, then-leads, unchanged-alters, when-keeps, when-leads}
 use Rattle.world_laws.proofs.Places.Cores.{Same}
@@ -38,6 +38,8 @@ use Rattle.std.proofs.Common.{refl, subst, sym, ◌≡◌}
 use Rattle.std.specs.Prelude.{Bool, Err, List, None, Ok, Option, Some, [], false, not, true, ℕ, ◌∷◌}
 use Rattle.trace_text.specs.declared.events.Who.{Who}
 use Rattle.trace_text.specs.declared.events.Who.TheVariants as who
+use Rattle.ceiling_laws.proofs.Runs.Kept.Waking.{waiting-blocked}
+use Rattle.ceiling_laws.proofs.Runs.LevelMoves.{FitsAll, Fitting, Sleeping}
 
 -- ---- results that are copied back
 

@@ -5,10 +5,10 @@ use Rattle.world_laws.proofs.Places.Kept.CallEnds.{deliver-keeps, trigger_at-kee
 use Rattle.world_laws.proofs.Places.Kept.Calls.{unqueued-alters, with_call-keeps}
 use Rattle.world_laws.proofs.Places.Kept.Frames.{open_sequence-keeps}
 use Rattle.world_laws.proofs.Places.Kept.Handlers.{clear_timer-alters, interrupt-keeps, release-keeps}
-use Rattle.world_laws.proofs.Places.Kept.Scopes.{dropped-same, or-behind}
+use Rattle.world_laws.proofs.Places.Kept.Scopes.{dropped-same}
 use Rattle.world_laws.proofs.Places.Kept.Tasks.{plain-alters, says-keeps}
 use Rattle.world_laws.proofs.Places.Kept.Unwinding.{unwind-keeps}
-use Rattle.world_laws.proofs.Places.LevelMoves.{BaseMoves, Sleeping}
+use Rattle.world_laws.proofs.Places.LevelMoves.{BaseMoves}
 use Rattle.world_laws.proofs.Places.SameLemmas.{edit_task-same}
 use Rattle.ceiling_laws.proofs.Runs.Triples.{Alters, At, Ends, Keeps, Leads, State, With, changes-keeps, changes-leads, for_each-keeps, for_some-keeps, from-leads, from_at, looks-keeps, looks-with, nothing-keeps, then-keeps, then-leads, when-leads}
 use Rattle.world_laws.proofs.Places.Cores.{Same, is_delayed}
@@ -45,6 +45,8 @@ use Rattle.std.specs.List.{list_any}
 use Rattle.std.specs.Prelude.{Bool, List, None, Option, Some, [], eqb, false, find, int_le, length, not, pos, suc, true, zero, ℕ, ℤ, ◌&&◌, ◌||◌, ◌∷◌}
 use Rattle.trace_text.specs.declared.events.Who.{Who}
 use Rattle.trace_text.specs.declared.events.Who.TheVariants as who
+use Rattle.ceiling_laws.proofs.Runs.Kept.Scopes.{or-behind}
+use Rattle.ceiling_laws.proofs.Runs.LevelMoves.{Sleeping}
 
 -- for whom a moment may be appointed in a world
 abbrev pub Appointing : Type 1

@@ -6,8 +6,8 @@ use Rattle.world_laws.proofs.Places.Kept.CallEnds.{end_call-keeps, gone-keeps}
 use Rattle.world_laws.proofs.Places.Kept.Frames.{leaves-keeps, open_sequence-keeps, raises-keeps}
 use Rattle.world_laws.proofs.Places.Kept.Scopes.{drop_delay-alters}
 use Rattle.world_laws.proofs.Places.Kept.Tasks.{edit_task-alters}
-use Rattle.world_laws.proofs.Places.Kept.Waking.{asleep_at, found-each, ready-at, waiting-blocked, who-is}
-use Rattle.world_laws.proofs.Places.LevelMoves.{BaseMoves, EachTask, Fitting, Naming, Sleeping, is_blocked}
+use Rattle.world_laws.proofs.Places.Kept.Waking.{asleep_at, ready-at}
+use Rattle.world_laws.proofs.Places.LevelMoves.{BaseMoves, Naming}
 use Rattle.ceiling_laws.proofs.Runs.Triples.{At, Keeps, Leads, State, With, changes-keeps, for_each-keeps, for_some-keeps, from_at, looks-keeps, looks-leads, looks-with, nothing-keeps, then-keeps, then-leads, when-keeps, when-leads}
 use Rattle.profile_machine.specs.Appointments.{drop_delay}
 use Rattle.profile_machine.specs.Dispatching.{ready}
@@ -30,6 +30,8 @@ use Rattle.std.proofs.Common.{refl, subst, ◌≡◌}
 use Rattle.std.specs.Prelude.{Bool, List, None, Option, Some, cond, false, find, not, true, ◌&&◌}
 use Rattle.trace_text.specs.declared.events.Who.{Who}
 use Rattle.trace_text.specs.declared.events.Who.TheVariants as who
+use Rattle.ceiling_laws.proofs.Runs.Kept.Waking.{found-each, waiting-blocked, who-is}
+use Rattle.ceiling_laws.proofs.Runs.LevelMoves.{EachTask, Fitting, Sleeping, is_blocked}
 
 second_is_true : (a b : Bool) → (a && b) ≡ true → b ≡ true
 second_is_true true b e = e

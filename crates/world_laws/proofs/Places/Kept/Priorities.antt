@@ -5,8 +5,7 @@ use Rattle.world_laws.proofs.Places.ActingMoves.{ActingMoves, Admitting, Lasting
 use Rattle.world_laws.proofs.Places.Kept.Calls.{edit_call-alters, edit_queue-alters, with_call-keeps}
 use Rattle.world_laws.proofs.Places.Kept.Frames.{given-keeps, given-through, goes-keeps, raise_if-through, raises-keeps, weakly}
 use Rattle.world_laws.proofs.Places.Kept.Tasks.{plain-alters, says-keeps}
-use Rattle.world_laws.proofs.Places.Kept.Waking.{each-any, found-each, who-is}
-use Rattle.world_laws.proofs.Places.LevelMoves.{Fitting, Naming, Silences, Sleeping}
+use Rattle.world_laws.proofs.Places.LevelMoves.{Naming, Silences}
 use Rattle.ceiling_laws.proofs.Runs.FoundLemmas.{by_test}
 use Rattle.ceiling_laws.proofs.Runs.Triples.{Alters, At, Keeps, Leads, State, changes-keeps, for_some-keeps, looks-keeps, looks-leads, nothing-keeps, nothing-leads, sees-keeps, sees-leads, then-keeps, then-leads, to-leads, unchanged-alters, when-keeps}
 use Rattle.profile_machine.specs.Calls.{place_of_entry, put_call, take_call}
@@ -39,6 +38,8 @@ use Rattle.std.proofs.Common.{ap, refl, subst, sym, ◌∙◌, ◌≡◌}
 use Rattle.std.specs.Prelude.{Bool, List, None, Option, Some, false, int_lt, pos, true, ℕ, ℤ, ◌+ℤ◌, ◌||◌}
 use Rattle.trace_text.specs.declared.events.Who.{Who}
 use Rattle.trace_text.specs.declared.events.Who.TheVariants as who
+use Rattle.ceiling_laws.proofs.Runs.Kept.Waking.{each-any, found-each, who-is}
+use Rattle.ceiling_laws.proofs.Runs.LevelMoves.{Fitting, Sleeping}
 
 module _ {X : State} (quiet : Silences X) where
   set_level-alters : (level ticks : ℕ) → Alters X (λ w. record w { quanta = edit_at level (λ _. ticks) w.quanta })

@@ -9,7 +9,7 @@ use Rattle.world_laws.proofs.Places.Kept.Frames.{edit_top-alters, given-through,
 use Rattle.world_laws.proofs.Places.Kept.Scopes.{open_scope-alters}
 use Rattle.world_laws.proofs.Places.Kept.Subprograms.{begin_body-keeps, handing-keeps, handing-through}
 use Rattle.world_laws.proofs.Places.Kept.Tasks.{edit_object-alters, says-keeps}
-use Rattle.world_laws.proofs.Places.LevelMoves.{Fitting, Naming, Silences, Sleeping, is_apart}
+use Rattle.world_laws.proofs.Places.LevelMoves.{Naming, Silences}
 use Rattle.world_laws.proofs.Places.SameLemmas.{edit_task-same}
 use Rattle.ceiling_laws.proofs.Runs.Triples.{Alters, At, Ends, Keeps, Leads, State, With, branch-leads, changes-keeps, changes-leads, from-leads, from_at, looks-keeps, looks-leads, looks-with, sees-keeps, sees-leads, then-keeps, then-leads, to-leads}
 use Rattle.world_laws.proofs.Places.Cores.{Same}
@@ -46,6 +46,7 @@ use Rattle.std.proofs.Common.{refl, subst, sym, ◌≡◌}
 use Rattle.std.specs.Prelude.{List, None, Option, Some, false, ℕ, ◌+◌, ◌∷◌}
 use Rattle.trace_text.specs.declared.events.Mode.{Mode}
 use Rattle.trace_text.specs.declared.events.Who.{Who}
+use Rattle.ceiling_laws.proofs.Runs.LevelMoves.{Fitting, Sleeping, is_apart}
 
 module _ {X : State} (quiet : Silences X) where
   pub edit_top_protected-alters : (name : Who) (f : ProtectedMark → ProtectedMark) → Alters X (edit_top_protected name f)

@@ -10,8 +10,8 @@ use Rattle.world_laws.proofs.Places.Kept.Protected.{begin_call-keeps}
 use Rattle.world_laws.proofs.Places.Kept.Scopes.{begin_scope-alters, drop_delay-alters, end_scope-alters}
 use Rattle.world_laws.proofs.Places.Kept.Sending.{begin_abortable-keeps, send_on-keeps, sent_not_begun-keeps}
 use Rattle.world_laws.proofs.Places.Kept.Tasks.{says-keeps}
-use Rattle.world_laws.proofs.Places.Kept.Waking.{Asleep, asleep_at, asleep_quiet, waiting-blocked}
-use Rattle.world_laws.proofs.Places.LevelMoves.{BaseMoves, Fitting, Naming, Silences, Sleeping}
+use Rattle.world_laws.proofs.Places.Kept.Waking.{Asleep, asleep_at, asleep_quiet}
+use Rattle.world_laws.proofs.Places.LevelMoves.{BaseMoves, Naming, Silences}
 use Rattle.ceiling_laws.proofs.Runs.Triples.{Alters, At, Keeps, Leads, State, With, branch-leads, changes-keeps, for_some-keeps, from-leads, from_at, looks-keeps, looks-leads, looks-with, nothing-keeps, sees-leads, then-keeps, then-leads, to-leads, unchanged-alters}
 use Rattle.profile_machine.specs.Appointments.{drop_delay}
 use Rattle.profile_machine.specs.CallEnds.{deliver}
@@ -55,6 +55,8 @@ use Rattle.std.proofs.Common.{ap, refl, ◌≡◌}
 use Rattle.std.specs.Prelude.{Bool, List, None, Option, Some, [], false, int_le, is_some, pos, true, ℕ, ℤ, ◌∷◌}
 use Rattle.trace_text.specs.declared.events.Who.{Who}
 use Rattle.trace_text.specs.declared.events.Who.TheVariants as who
+use Rattle.ceiling_laws.proofs.Runs.Kept.Waking.{waiting-blocked}
+use Rattle.ceiling_laws.proofs.Runs.LevelMoves.{Fitting, Sleeping}
 
 module _ {X : State} (quiet : Silences X) where
   pub open_accept-alters : (p : Image) (name : Who) (s : StatementNo) (c : Call) → Alters X (open_accept p name s c)

@@ -6,8 +6,8 @@ use Rattle.world_laws.proofs.Places.Kept.Calls.{attempt_with-keeps, edit_call-al
 use Rattle.world_laws.proofs.Places.Kept.Frames.{push-alters}
 use Rattle.world_laws.proofs.Places.Kept.Scopes.{appoint-alters}
 use Rattle.world_laws.proofs.Places.Kept.Tasks.{says-keeps}
-use Rattle.world_laws.proofs.Places.Kept.Waking.{asleep_at, asleep_quiet, waiting-blocked}
-use Rattle.world_laws.proofs.Places.LevelMoves.{BaseMoves, FitsAll, Fitting, Naming, Silences, Sleeping}
+use Rattle.world_laws.proofs.Places.Kept.Waking.{asleep_at, asleep_quiet}
+use Rattle.world_laws.proofs.Places.LevelMoves.{BaseMoves, Naming, Silences}
 use Rattle.ceiling_laws.proofs.Runs.Triples.{Alters, At, Keeps, Leads, State, changes-keeps, from_at, looks-keeps, looks-leads, looks-with, nothing-keeps, then-keeps, then-leads, to-leads, unchanged-alters}
 use Rattle.profile_machine.specs.Act.{call}
 use Rattle.profile_machine.specs.CallEnds.{abortable_depth, resume, waits_for_call}
@@ -38,6 +38,8 @@ use Rattle.std.proofs.Common.{Bool, None, Option, Some, cond, false, not, refl, 
 use Rattle.std.specs.Prelude.{is_none}
 use Rattle.trace_text.specs.declared.events.Who.{Who}
 use Rattle.trace_text.specs.declared.events.Who.TheVariants as who
+use Rattle.ceiling_laws.proofs.Runs.Kept.Waking.{waiting-blocked}
+use Rattle.ceiling_laws.proofs.Runs.LevelMoves.{FitsAll, Fitting, Sleeping}
 
 first_is_true : (a b : Bool) → (a && b) ≡ true → a ≡ true
 first_is_true true b e = refl

@@ -5,15 +5,13 @@ use Rattle.world_laws.proofs.Places.ActingMoves.{ActingMoves, Admitting, AreApar
 use Rattle.world_laws.proofs.Places.Kept.Controlled.{edit_top_scope-alters, finalize-keeps}
 use Rattle.world_laws.proofs.Places.Kept.Frames.{edit_top-alters, given-keeps, given-through, goes-keeps, pass_on-keeps, pop-alters, raise_if-keeps, raise_if-through, raises-keeps, weakly}
 use Rattle.world_laws.proofs.Places.Kept.Masters.{complete-keeps, end_activation-keeps, fits_part, leave_by_terminate-keeps, terminate-leads}
-use Rattle.world_laws.proofs.Places.Kept.Scopes.{end_scope-alters, open_scope-alters, or-behind}
+use Rattle.world_laws.proofs.Places.Kept.Scopes.{end_scope-alters, open_scope-alters}
 use Rattle.ceiling_laws.proofs.Places.BesideLemmas.{same-self}
 use Rattle.world_laws.proofs.Places.Kept.Serving.{end_body_of_entry-keeps}
 use Rattle.world_laws.proofs.Places.Kept.Subprograms.{end_subprogram-keeps}
 use Rattle.world_laws.proofs.Places.Kept.Tasks.{edit_task-alters, plain-alters, says-keeps}
 use Rattle.world_laws.proofs.Places.Kept.Unwinding.{leave_by_abort-keeps, strike_outermost-alters, unwind-keeps}
-use Rattle.world_laws.proofs.Places.Kept.Waking.{each-both, filter-each, filter-tested, for_each_task-keeps}
-use Rattle.world_laws.proofs.Places.LevelMoves.{BaseMoves, EachTask, Fitting, Naming, Silences, Sleeping}
-use Rattle.world_laws.proofs.Places.SoundWorlds.{each-on}
+use Rattle.world_laws.proofs.Places.LevelMoves.{BaseMoves, Naming, Silences}
 use Rattle.ceiling_laws.proofs.Runs.Triples.{Alters, At, Keeps, Leads, State, branch-keeps, branch-leads, changes-keeps, for_each-keeps, for_some-keeps, from-leads, looks-keeps, looks-leads, looks-with, nothing-keeps, nothing-leads, sees-keeps, then-keeps, then-leads, to-leads, when-keeps, when-leads}
 use Rattle.profile_machine.specs.Controlled.{finalize, next_to_finalize}
 use Rattle.profile_machine.specs.Dispatching.{active_of, says_block}
@@ -55,6 +53,10 @@ use Rattle.std.proofs.Common.{ap, refl, subst, sym, ◌∙◌, ◌≡◌}
 use Rattle.std.specs.Prelude.{Bool, List, None, Option, Some, [], cond, eqb, false, filter, leb, length, true, ℕ, ◌&&◌, ◌||◌, ◌∷◌}
 use Rattle.trace_text.specs.declared.events.Who.{Who}
 use Rattle.trace_text.specs.declared.events.Who.TheVariants as who
+use Rattle.ceiling_laws.proofs.Runs.Kept.Scopes.{or-behind}
+use Rattle.ceiling_laws.proofs.Runs.Kept.Waking.{each-both, filter-each, filter-tested, for_each_task-keeps}
+use Rattle.ceiling_laws.proofs.Runs.LevelMoves.{EachTask, Fitting, Sleeping}
+use Rattle.ceiling_laws.proofs.Places.SoundWorlds.{each-on}
 
 first_is_true : (a b : Bool) → (a && b) ≡ true → a ≡ true
 first_is_true true b e = refl

@@ -2,7 +2,7 @@
 use Rattle.ann_base.specs.declared.identities.ObjectNo.{ObjectNo}
 use Rattle.ann_base.specs.declared.identities.TaskNo.{TaskNo}
 use Rattle.world_laws.proofs.Appointments.Delays.{CallerIn}
-use Rattle.world_laws.proofs.Places.LevelMoves.{Silences, is_apart}
+use Rattle.world_laws.proofs.Places.LevelMoves.{Silences}
 use Rattle.world_laws.proofs.Places.SameLemmas.{edit_object-same, edit_task-same}
 use Rattle.ceiling_laws.proofs.Runs.Triples.{Alters, Ends, Keeps, State}
 use Rattle.world_laws.proofs.Places.Cores.{Same, ceiling_in, core, is_delayed}
@@ -19,6 +19,7 @@ use Rattle.profile_machine.specs.declared.world.tasks.Task.{Task}
 use Rattle.std.proofs.Common.{ap, map, subst, sym, ◌≡◌}
 use Rattle.std.specs.Prelude.{List, false, true, ℕ}
 use Rattle.trace_text.specs.declared.events.Who.{Who}
+use Rattle.ceiling_laws.proofs.Runs.LevelMoves.{is_apart}
 
 -- the calls of a world, and the number of the last one
 abbrev pub calls_in : World → List Call × ℕ

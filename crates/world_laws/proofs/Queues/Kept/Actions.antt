@@ -3,7 +3,7 @@ use Rattle.std.proofs.Common.{filter}
 use Rattle.profile_machine.specs.declared.world.calls.Owner.TheVariants as owned_by
 use Rattle.profile_machine.specs.declared.world.lines.Part.TheVariants.{TheFinish}
 use Rattle.std.proofs.Common.{inl, option_map, ◌<◌}
-use Rattle.world_laws.proofs.Queues.TaskEdits as tasks
+use Rattle.line_laws.proofs.Exits.TaskEdits as edits_of
 use Rattle.std.proofs.Common.{not, ◌&&◌}
 use Rattle.profile_machine.specs.declared.world.marks.Purpose.TheVariants as opened_for
 use Rattle.std.proofs.Common.{is_none, eqb, ◌||◌, ◌+◌}
@@ -102,7 +102,7 @@ use Rattle.world_laws.proofs.Queues.Kept.Subprograms.{begin_body-keeps, handing-
 use Rattle.world_laws.proofs.Queues.Moving.{Begun, Next, Serves, calm-next, next-then, served-next}
 use Rattle.world_laws.proofs.Queues.Softening.{Unset, pop-calm, push-calm}
 use Rattle.world_laws.proofs.Queues.Standing.{Awake, Calm, Ended, Good, Idle, Kind, Out, Own, Stands, any_kind, awaits_at, awaits_part, calm-awake, calm-good, calm-idle, calm-out, calm-owns, calm-then, ended-out, ends_by, ends_part, has_own, natures, natures_of, one_if, own_in, part_of, queued-idle, quiet_kind, served, served_in, service, some_nature, top_waits}
-use Rattle.world_laws.proofs.Queues.TaskEdits.{edited_to, gone, same_who-path}
+use Rattle.line_laws.proofs.Exits.TaskEdits.{edited_to, same_who-path}
 
 -- ---- an object is entered
 
@@ -497,7 +497,7 @@ module _ (g : ProtectedMark → ProtectedMark) (none : (m : ProtectedMark) → (
 
   unserved-named : (name : Who) (w : World) (c : CallNo) (f : Frame) (below : List Frame) (m : ProtectedMark) → frames_of w name ≡ f ∷ below → f.mark ≡ InProtected m → m.serves ≡ Some c → served c w name ≤ 1 → served c (edit_top_protected name g w) name ≡ 0
   unserved-named (who.Task n) w c f below m top mark serves once =
-      tasks.edited_to (λ t. t ≡ task_of w (who.Task n)) (λ u. served_in c (natures u.frames) ≡ 0) (who.Task n) (who.Task n) (λ t. with_frames (edit_first unserving t.frames) t) w (λ t. refl)
+      edits_of.edited_to (λ t. t ≡ task_of w (who.Task n)) (λ u. served_in c (natures u.frames) ≡ 0) (who.Task n) (who.Task n) (λ t. with_frames (edit_first unserving t.frames) t) w (λ t. refl)
       (λ same t e. of-frames t.frames (ap (λ (x : Task). x.frames) e)) (λ apart t e. absurd (true≢false (sym (eq-eqb n.0 n.0 refl) ∙ apart))) (λ e. refl) refl where
         of-frames : (fs : List Frame) → fs ≡ frames_of w (who.Task n) → served_in c (natures (edit_first unserving fs)) ≡ 0
         of-frames fs e = subst (λ gs. served_in c (natures (edit_first unserving gs)) ≡ 0) (sym (e ∙ top)) (first-none c f below m mark serves (subst (λ gs. served_in c (natures gs) ≤ 1) top once))

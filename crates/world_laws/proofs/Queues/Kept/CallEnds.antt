@@ -28,7 +28,7 @@ use Rattle.profile_machine.specs.Tasks.{task_of, edit_task, with_state, with_tic
 use Rattle.profile_machine.specs.Program.{edf_low, is_robin_level}
 use Rattle.std.specs.Prelude.{slice_index_or}
 use Rattle.world_laws.proofs.Queues.NumberedLists as numbered
-use Rattle.world_laws.proofs.Queues.TaskEdits as tasks
+use Rattle.line_laws.proofs.Exits.TaskEdits as edits_of
 use Rattle.profile_machine.specs.Dispatching.{active, level_kept_by, granted, ready, keep_level, grant_quantum, to_tail, says_ready}
 use Rattle.profile_machine.specs.Frames.{frames_of}
 use Rattle.profile_machine.specs.Calls.{call_of, edit_call, forget_call, unqueued, is_cancellable, attempt_on, attempt_with}
@@ -42,7 +42,7 @@ use Rattle.world_laws.proofs.Queues.Kept.Frames.{Same, drop_delay-quiets, edit_c
 use Rattle.world_laws.proofs.Queues.NumberedLists.{found-key}
 use Rattle.world_laws.proofs.Queues.Softening.{marks-calm}
 use Rattle.world_laws.proofs.Queues.Standing.{Awake, Calm, Good, Kind, Out, any_kind, calm-awake, calm-good, calm-then, is_ending, nature, natures, waits_end}
-use Rattle.world_laws.proofs.Queues.TaskEdits.{edited_to}
+use Rattle.line_laws.proofs.Exits.TaskEdits.{edited_to}
 
 -- ---- cancellation is attempted
 
@@ -142,7 +142,7 @@ ready_then-from p part name g w k = record { leads = λ said. calm-then w (readi
 
 runnable-waiting : (name : Who) (w : World) → waiting_of (edit_task name (with_state Runnable) w) name ≡ None
 runnable-waiting (who.Task n) w =
-    tasks.edited_to (λ u. Unit {0}) (λ u. waiting_in u.state ≡ None) (who.Task n) (who.Task n) (with_state Runnable) w (λ u. refl)
+    edits_of.edited_to (λ u. Unit {0}) (λ u. waiting_in u.state ≡ None) (who.Task n) (who.Task n) (with_state Runnable) w (λ u. refl)
     (λ same u h. refl) (λ apart u h. absurd (true≢false (sym (eq-eqb n.0 n.0 refl) ∙ apart))) (λ h. refl) tt
 runnable-waiting who.Agent w = refl
 

@@ -1,7 +1,7 @@
 -- Entry calls are made (9.5.3, 9.7.2 to 9.7.4).
 use Rattle.std.proofs.Common.{sym, subst, inl, inr, cond, arith, is_none, is_some, eqb, ◌≤◌, ◌<◌, ◌⊎◌}
 use Rattle.std.proofs.lemmas.Bool.{eq-eqb, eqb-true, true≢false, and_parts}
-use Rattle.world_laws.proofs.Queues.TaskEdits as tasks
+use Rattle.line_laws.proofs.Exits.TaskEdits as edits_of
 use Rattle.profile_machine.specs.declared.run_data.Leaving.TheVariants as how
 use Rattle.profile_machine.specs.declared.statements.StatementForm.TheVariants as form
 use Rattle.profile_machine.specs.declared.world.appointments.Due.TheVariants as due_for
@@ -72,7 +72,7 @@ use Rattle.world_laws.proofs.Queues.Kept.Sending.{not_accepted-from}
 use Rattle.world_laws.proofs.Queues.Moving.{Next, calm-next, next-then}
 use Rattle.world_laws.proofs.Queues.Softening.{natures-length, push-calm}
 use Rattle.world_laws.proofs.Queues.Standing.{Awake, Calm, Good, Idle, Kind, Out, Own, Stands, Waited, Waited_in, any_kind, awaits_at, calm-awake, calm-good, calm-idle, ends_by, fresh-idle, fresh-out, has_own, is_ending, natures, natures_of, quiet_kind, served, some_nature, Awaited, Open, Unfirm, none_late}
-use Rattle.world_laws.proofs.Queues.TaskEdits.{edited_to}
+use Rattle.line_laws.proofs.Exits.TaskEdits.{edited_to}
 
 -- ---- a call is made: nothing knows its number yet
 
@@ -322,7 +322,7 @@ opened-calm p name s w awake = push-calm name (new_frame (new_abortable_mark s N
 
 opened-waited : (p : Image) (t : TaskNo) (s : StatementNo) (w : World) → Waited t (length (frames_of w (who.Task t))) (opened p (who.Task t) s w)
 opened-waited p t s w =
-    tasks.edited_to (λ u. u ≡ task_of w (who.Task t)) (Waited_in (length (frames_of w (who.Task t)))) (who.Task t) (who.Task t) (λ u. with_frames (new_frame (new_abortable_mark s None) (abortable_in (form_of p s)) ∷ u.frames) u) w (λ u. refl)
+    edits_of.edited_to (λ u. u ≡ task_of w (who.Task t)) (Waited_in (length (frames_of w (who.Task t)))) (who.Task t) (who.Task t) (λ u. with_frames (new_frame (new_abortable_mark s None) (abortable_in (form_of p s)) ∷ u.frames) u) w (λ u. refl)
     (λ same u e. inl (ap (λ b. cond b true (awaits_at (length (frames_of w (who.Task t))) (natures u.frames))) (eq-eqb (length (natures u.frames)) (length (frames_of w (who.Task t))) (natures-length u.frames ∙ ap (λ (x : Task). length x.frames) e))))
     (λ apart u e. absurd (true≢false (sym (eq-eqb t.0 t.0 refl) ∙ apart))) (λ e. inr refl) refl
 

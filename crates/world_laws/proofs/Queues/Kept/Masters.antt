@@ -44,7 +44,7 @@ use Rattle.world_laws.proofs.Queues.Kept.Onward.{Any}
 use Rattle.world_laws.proofs.Queues.Moving.{Next, calm-next, next-then, services-same}
 use Rattle.world_laws.proofs.Queues.Serving.{Beside, Marks, call-is, call-was, good-by, low-is, marks-same, set-was}
 use Rattle.world_laws.proofs.Queues.Standing.{Calm, Good, Idle, Kind, Out, Stands, any_kind, calm-good, calm-idle, calm-out, queued-idle, Awaited, Awake, Fall, GoodBut, Open, Unfirm, calm-awake, calm-owns, calm-then, fewer-late, natures, none_late, quiet_kind, served_in}
-use Rattle.world_laws.proofs.Queues.TaskEdits as tasks
+use Rattle.line_laws.proofs.Exits.TaskEdits as edits_of
 
 -- ---- one call of the queues ends, and the others stay
 
@@ -268,7 +268,7 @@ module _ (name : Who) (w : World) where
 
 completed-none : (name : Who) (w : World) (k : ℕ) (c : CallNo) → has same_call (queue_at (task_of (edit_task name completed_task w) name).queues k) c ≡ true → ⊥
 completed-none (who.Task n) w k c =
-    tasks.edited_to (λ u. Unit {0}) (λ u. has same_call (queue_at u.queues k) c ≡ true → ⊥) (who.Task n) (who.Task n) completed_task w (λ u. refl)
+    edits_of.edited_to (λ u. Unit {0}) (λ u. has same_call (queue_at u.queues k) c ≡ true → ⊥) (who.Task n) (who.Task n) completed_task w (λ u. refl)
     (λ same u h e. emptied-none u.queues k c e) (λ apart u h. absurd (true≢false (sym (eq-eqb n.0 n.0 refl) ∙ apart))) (λ h e. true≢false (sym e)) tt
 completed-none who.Agent w k c = λ e. emptied-none w.agent.queues k c e
 

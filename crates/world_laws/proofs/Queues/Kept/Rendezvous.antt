@@ -46,7 +46,7 @@ use Rattle.ann_base.specs.declared.exceptions.Raised.TheVariants as exception
 use Rattle.profile_machine.specs.declared.world.appointments.Due.TheVariants as due_for
 use Rattle.profile_machine.specs.declared.world.calls.Owner.TheVariants as owned_by
 use Rattle.profile_machine.specs.declared.world.lines.Part.TheVariants as of_part
-use Rattle.world_laws.proofs.Queues.TaskEdits as tasks
+use Rattle.line_laws.proofs.Exits.TaskEdits as edits_of
 use Rattle.ann_base.specs.declared.exceptions.Raised.{Raised}
 use Rattle.profile_machine.specs.CallEnds.{deliver}
 use Rattle.profile_machine.specs.Calls.{call_of, is_call, unqueued}
@@ -80,7 +80,7 @@ use Rattle.world_laws.proofs.Queues.Kept.Sending.{begin_abortable-calms, no-stea
 use Rattle.world_laws.proofs.Queues.Moving.{Begun, Next, Serves, calm-next, next-then, served-next}
 use Rattle.world_laws.proofs.Queues.Softening.{awaits-more}
 use Rattle.world_laws.proofs.Queues.Standing.{Awake, Calm, Good, Idle, Kind, Out, Stands, any_kind, calm-awake, calm-good, calm-idle, calm-out, calm-then, ends_by, ends_part, has_own, nature, natures, one_if, own_in, part_of, queued-idle, quiet_kind, served, served_in, service, some_nature}
-use Rattle.world_laws.proofs.Queues.TaskEdits.{edited_to}
+use Rattle.line_laws.proofs.Exits.TaskEdits.{edited_to}
 
 finish_without_room-calms : {E : Kind} (part : Part) (name : Who) (c : Call) → Calms E (finish_without_room part name c)
 unfolding finish_without_room
@@ -377,7 +377,7 @@ module _ (p : Image) (name : Who) (m : AcceptMark) (leaving : Leaving) (w : Worl
 
   popped-named : (n : Who) → n ≡ name → served m.call (pop name w) n ≡ 0
   popped-named (who.Task t) is =
-      tasks.edited_to (λ u. u ≡ task_of w (who.Task t)) (λ u. served_in m.call (natures u.frames) ≡ 0) (who.Task t) name (λ u. with_frames (without_first u.frames) u) w (λ u. refl)
+      edits_of.edited_to (λ u. u ≡ task_of w (who.Task t)) (λ u. served_in m.call (natures u.frames) ≡ 0) (who.Task t) name (λ u. with_frames (without_first u.frames) u) w (λ u. refl)
       (λ same u e. subst (λ fs. served_in m.call (natures (without_first fs)) ≡ 0) (sym (ap (λ (x : Task). x.frames) e ∙ (ap (frames_of w) is ∙ top))) below-none)
       (λ apart u e. absurd (true≢false (sym (subst (λ x. same_who (who.Task t) x ≡ true) is (eq-eqb t.0 t.0 refl)) ∙ apart))) (λ e. refl) refl
   popped-named who.Agent is = subst (λ x. served m.call (pop x w) who.Agent ≡ 0) is (subst (λ fs. served_in m.call (natures (without_first fs)) ≡ 0) (sym (ap (frames_of w) is ∙ top)) below-none)

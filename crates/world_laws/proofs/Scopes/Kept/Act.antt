@@ -25,8 +25,8 @@ use Rattle.profile_machine.specs.Frames.{frames_of, top_of, pop, is_protected}
 use Rattle.profile_machine.specs.Calls.{with_call, attempt_with}
 use Rattle.profile_machine.specs.Act.{call_main, call, handle_or_pass, behind_handled, end_handled, end_top, wait_for_trigger, drop_trigger, below, end_abortable_by, end_in_abortable, act_statement, keeping, waiting_mark}
 use Rattle.machine_laws.proofs.Moves.{StepRelation, MoveRelation}
-use Rattle.world_laws.proofs.Scopes.FineMoves.{GoodWorld, Naming, FineMoves, Openings, nature, Anybody}
-use Rattle.world_laws.proofs.Scopes.Kept.Combinators.{Keeps, Alters, changes-keeps, cond-keeps, looks-keeps, nothing-keeps, option-keeps, sees-keeps, then-keeps, unchanged-alters, From, keeps-from, changes_then-from}
+use Rattle.world_laws.proofs.Scopes.FineMoves.{FineMoves, Openings, nature}
+use Rattle.world_laws.proofs.Scopes.Kept.Combinators.{Keeps, changes-keeps, cond-keeps, looks-keeps, nothing-keeps, option-keeps, sees-keeps, then-keeps, unchanged-alters, From, keeps-from, changes_then-from}
 use Rattle.world_laws.proofs.Scopes.Kept.Dispatching.{block-keeps}
 use Rattle.world_laws.proofs.Scopes.Kept.Frames.{edit_top-alters, goes-keeps, raises-keeps, pass_on-keeps, with_room-keeps, popped}
 use Rattle.world_laws.proofs.Scopes.Kept.Scopes.{open_scope-alters}
@@ -48,6 +48,8 @@ use Rattle.profile_machine.specs.CallEnds.{edit_abortable}
 use Rattle.profile_machine.specs.Scopes.{id_in}
 use Rattle.profile_machine.specs.Tasking.{activate, abort_statement}
 use Rattle.profile_machine.specs.declared.numbers.DeclNo.{DeclNo}
+use Rattle.machine_laws.proofs.FineMoves.{Anybody, GoodWorld, Naming}
+use Rattle.machine_laws.proofs.Kept.Combinators.{Alters}
 
 -- a mark that keeps an exception is what it was
 keeping-nature : (e : Raised) (mark : Mark) → nature (keeping e mark) ≡ nature mark

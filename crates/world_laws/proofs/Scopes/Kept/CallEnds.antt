@@ -28,14 +28,16 @@ use Rattle.profile_machine.specs.CallEnds.{go_by_outcome, resume, store, or_stor
 use Rattle.std.specs.Prelude.{slice_set, true, false, cond, eqb, length}
 use Rattle.std.proofs.Common.{◌≡◌, refl, ap}
 use Rattle.machine_laws.proofs.Moves.{StepRelation, MoveRelation}
-use Rattle.world_laws.proofs.Scopes.FineMoves.{GoodWorld, Naming, FineMoves, nature, natures}
-use Rattle.world_laws.proofs.Scopes.Kept.Combinators.{Keeps, Alters, Gives, bind-gives, branch-keeps, changes-keeps, looks-keeps, nothing-keeps, ok-gives, says-keeps, then-keeps, unchanged-alters, when-keeps, changes_then-from, keeps-from, looks-from, looks_at-from, From}
+use Rattle.world_laws.proofs.Scopes.FineMoves.{FineMoves, nature, natures}
+use Rattle.world_laws.proofs.Scopes.Kept.Combinators.{Keeps, bind-gives, branch-keeps, changes-keeps, looks-keeps, nothing-keeps, ok-gives, says-keeps, then-keeps, unchanged-alters, when-keeps, changes_then-from, keeps-from, looks-from, looks_at-from, From}
 use Rattle.world_laws.proofs.Scopes.Kept.Tasks.{edit_frames-alters}
 use Rattle.world_laws.proofs.Scopes.Kept.Dispatching.{ready-keeps}
 use Rattle.world_laws.proofs.Scopes.Kept.Frames.{goes-keeps, popped, leaves-keeps, raises-keeps, pass_on-keeps, open_sequence-keeps}
 use Rattle.world_laws.proofs.Scopes.Kept.Calls.{edit_call-alters, forget_call-alters, with_call-keeps, unqueued-alters}
 use Rattle.world_laws.proofs.Scopes.Kept.Unwinding.{unwind-keeps}
 use Rattle.profile_machine.specs.Dispatching.{ready}
+use Rattle.machine_laws.proofs.FineMoves.{GoodWorld, Naming}
+use Rattle.machine_laws.proofs.Kept.Combinators.{Alters, Gives}
 
 -- an edit of a mark somewhere, and of an abortable part
 at_depth-natures : (test : Bool) (f : Frame → Frame) (x : Frame) (xs ys : List Frame) → nature (f x).mark ≡ nature x.mark → natures ys ≡ natures xs → natures (cond test (f x ∷ xs) (x ∷ ys)) ≡ natures (x ∷ xs)

@@ -14,9 +14,11 @@ use Rattle.profile_machine.specs.Appointments.{is_timeout_of}
 use Rattle.profile_machine.specs.Calls.{edit_call, forget_call, with_call, says_call, edit_object, edit_queue, place_of_entry, put_call, take_call, enqueued, enqueue, unqueued, is_cancellable, attempt_on, attempt_with, attempt}
 use Rattle.std.proofs.Common.{◌≡◌, refl}
 use Rattle.machine_laws.proofs.Moves.{StepRelation, MoveRelation}
-use Rattle.world_laws.proofs.Scopes.FineMoves.{GoodWorld, Naming, FineMoves}
-use Rattle.world_laws.proofs.Scopes.Kept.Combinators.{Keeps, Alters, branch-keeps, changes-keeps, for_some-keeps, looks-keeps, says-keeps, then-keeps}
+use Rattle.world_laws.proofs.Scopes.FineMoves.{FineMoves}
+use Rattle.world_laws.proofs.Scopes.Kept.Combinators.{Keeps, branch-keeps, changes-keeps, for_some-keeps, looks-keeps, says-keeps, then-keeps}
 use Rattle.world_laws.proofs.Scopes.Kept.Tasks.{edit_task-alters}
+use Rattle.machine_laws.proofs.FineMoves.{GoodWorld, Naming}
+use Rattle.machine_laws.proofs.Kept.Combinators.{Alters}
 
 module _ {G : GoodWorld} {May Other : Naming} {R : StepRelation} {Q : MoveRelation} (moves : FineMoves G May Other R Q) where
   pub edit_call-alters : (c : CallNo) (f : Call → Call) → ((d : Call) → (f d).number ≡ d.number) → Alters G R (edit_call c f)

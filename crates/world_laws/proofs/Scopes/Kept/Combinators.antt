@@ -13,7 +13,9 @@ use Rattle.profile_machine.specs.Operators.{Valued, ◌>>=◌}
 use Rattle.profile_machine.specs.Values.{Seen, seen_by}
 use Rattle.profile_machine.specs.Statements.{sees}
 use Rattle.machine_laws.proofs.Moves.{StepRelation, MoveRelation, lines_of}
-use Rattle.world_laws.proofs.Scopes.FineMoves.{GoodWorld, Naming, FineMoves, EachIs}
+use Rattle.world_laws.proofs.Scopes.FineMoves.{FineMoves}
+use Rattle.machine_laws.proofs.FineMoves.{EachIs, GoodWorld, Naming}
+use Rattle.machine_laws.proofs.Kept.Combinators.{Alters, Gives, Leads}
 
 -- ---- what it is to keep a relation
 
@@ -28,23 +30,6 @@ Keeps G R step = (w : World) → G w → (said : List Said) → Kept R w said (s
 -- the same from one world
 unfoldable pub From : StepRelation → World → Step → Type 0
 From R w step = (said : List Said) → Kept R w said (step w said)
-
--- a change of the world
-unfoldable pub Alters : GoodWorld → StepRelation → (World → World) → Type 0
-Alters G R f = (w : World) → G w → R w [] (f w)
-
--- a world, if there is no exception
-unfoldable pub Gives : StepRelation → World → Valued World → Type 0
-Gives R w (Ok next) = R w [] next
-Gives R w (Err e) = Unit {0}
-
--- a move leads from each good world to one that stands so to it
-unfoldable pub Leads : GoodWorld → MoveRelation → Move → Type 0
-Leads G Q move = (w : World) → G w → Q w (move w).1 (move w).0
-
--- the world to which a step has led
-abbrev pub world_behind : Done → World
-world_behind (done w said) = w
 
 module _ {G : GoodWorld} {May Other : Naming} {R : StepRelation} {Q : MoveRelation} (moves : FineMoves G May Other R Q) where
   -- ---- what steps lead to

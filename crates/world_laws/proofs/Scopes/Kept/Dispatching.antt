@@ -1,10 +1,9 @@
 -- Placing and blocking: each step keeps a relation that its parts keep.
-use Rattle.std.specs.Prelude.{ℕ, Bool, true, cond, ◌&&◌, eqb, slice_index_or}
+use Rattle.std.specs.Prelude.{◌&&◌, eqb, slice_index_or}
 use Rattle.profile_machine.specs.declared.world.lines.Line.TheVariants as line
 use Rattle.trace_text.specs.declared.events.Who.{Who}
 use Rattle.trace_text.specs.declared.events.QueueEnd.{QueueEnd}
 use Rattle.profile_machine.specs.declared.image.Image.{Image}
-use Rattle.profile_machine.specs.declared.world.tasks.Task.{Task}
 use Rattle.profile_machine.specs.declared.world.tasks.Waiting.{Waiting}
 use Rattle.profile_machine.specs.declared.world.tasks.State.TheVariants.{Runnable, Blocked}
 use Rattle.profile_machine.specs.Program.{is_robin_level, edf_low}
@@ -12,29 +11,14 @@ use Rattle.profile_machine.specs.declared.world.lines.Part.{Part}
 use Rattle.profile_machine.specs.Steps.{changes, says, ◌▷◌}
 use Rattle.profile_machine.specs.Tasks.{task_of, edit_task, with_state}
 use Rattle.profile_machine.specs.Dispatching.{active, level_kept_by, keep_level, deadline_shown, says_ready, granted, grant_quantum, to_tail, to_head, ready, word_of, says_block, block, without_kept_level}
-use Rattle.std.proofs.Common.{◌≡◌, refl}
-use Rattle.std.specs.Prelude.{false}
+use Rattle.std.proofs.Common.{refl}
 use Rattle.machine_laws.proofs.Moves.{StepRelation, MoveRelation}
-use Rattle.world_laws.proofs.Scopes.FineMoves.{GoodWorld, Naming, FineMoves}
-use Rattle.world_laws.proofs.Scopes.Kept.Combinators.{Keeps, Alters, changes-keeps, from-keeps, said-from, said-keeps, then-keeps, looks_at-from}
+use Rattle.world_laws.proofs.Scopes.FineMoves.{FineMoves}
+use Rattle.world_laws.proofs.Scopes.Kept.Combinators.{Keeps, changes-keeps, from-keeps, said-from, said-keeps, then-keeps, looks_at-from}
 use Rattle.world_laws.proofs.Scopes.Kept.Tasks.{edit_task-alters}
-
--- a quantum is no state
-full_quantum-who : (b : Bool) (n : ℕ) (t : Task) → (cond b (record t { quantum = n }) t).who ≡ t.who
-full_quantum-who true n t = refl
-full_quantum-who false n t = refl
-
-full_quantum-frames : (b : Bool) (n : ℕ) (t : Task) → (cond b (record t { quantum = n }) t).frames ≡ t.frames
-full_quantum-frames true n t = refl
-full_quantum-frames false n t = refl
-
-full_quantum-state : (b : Bool) (n : ℕ) (t : Task) → (cond b (record t { quantum = n }) t).state ≡ t.state
-full_quantum-state true n t = refl
-full_quantum-state false n t = refl
-
-full_quantum-master : (b : Bool) (n : ℕ) (t : Task) → (cond b (record t { quantum = n }) t).master ≡ t.master
-full_quantum-master true n t = refl
-full_quantum-master false n t = refl
+use Rattle.machine_laws.proofs.FineMoves.{GoodWorld, Naming}
+use Rattle.machine_laws.proofs.Kept.Combinators.{Alters}
+use Rattle.machine_laws.proofs.Kept.Dispatching.{full_quantum-frames, full_quantum-master, full_quantum-state, full_quantum-who}
 
 module _ {G : GoodWorld} {May Other : Naming} {R : StepRelation} {Q : MoveRelation} (moves : FineMoves G May Other R Q) where
   pub keep_level-alters : (p : Image) (name : Who) → Alters G R (keep_level p name)

@@ -35,8 +35,8 @@ use Rattle.profile_machine.specs.Protected.{begin_action_on, is_barrier_open, ne
 use Rattle.profile_machine.specs.Sending.{open_abortable}
 use Rattle.profile_machine.specs.EntryCalls.{numbered, add_call, make_call, end_at_once, call_gone, call_meets, call_queues, call_not_met, call_accepted_by, call_callable, call_task, call_runs, call_without_room, has_room_for_action, call_runs_if_room, call_passes, call_refused, call_closed, call_by_barrier, call_object, call_owner, call_named, entry_call, appoint_trigger, trigger_delay, async_delay, async_by_trigger, asynchronous_select, mark_sending, requeue, is_forbidden}
 use Rattle.machine_laws.proofs.Moves.{StepRelation, MoveRelation}
-use Rattle.world_laws.proofs.Scopes.FineMoves.{GoodWorld, Naming, FineMoves, Openings, Anybody, Live}
-use Rattle.world_laws.proofs.Scopes.Kept.Combinators.{Keeps, From, Alters, said_then-from, changes-keeps, keeps-from, looks-from, looks-keeps, looks_at-from, nothing-keeps, sees-keeps, then-keeps, unchanged-alters, changes_then-from, branch-keeps, says-keeps}
+use Rattle.world_laws.proofs.Scopes.FineMoves.{FineMoves, Openings, Live}
+use Rattle.world_laws.proofs.Scopes.Kept.Combinators.{Keeps, From, said_then-from, changes-keeps, keeps-from, looks-from, looks-keeps, looks_at-from, nothing-keeps, sees-keeps, then-keeps, unchanged-alters, changes_then-from, branch-keeps, says-keeps}
 use Rattle.world_laws.proofs.Scopes.Kept.Dispatching.{block-keeps}
 use Rattle.world_laws.proofs.Scopes.Kept.Frames.{goes-keeps, leaves-keeps, raises-keeps, given-from, given-keeps, raise_if-from, raise_if-keeps, with_room-from, with_room-keeps, goes_then-from, edit_top-alters, push-alters}
 use Rattle.world_laws.proofs.Scopes.Kept.Appointments.{appoint-from}
@@ -47,6 +47,8 @@ use Rattle.world_laws.proofs.Scopes.Kept.Sending.{open_abortable-alters, not_acc
 use Rattle.world_laws.proofs.Scopes.Kept.Rendezvous.{meet-from, waiting-live}
 use Rattle.profile_machine.specs.Rendezvous.{delay_moment, accept_for}
 use Rattle.profile_machine.specs.Values.{seen_by}
+use Rattle.machine_laws.proofs.FineMoves.{Anybody, GoodWorld, Naming}
+use Rattle.machine_laws.proofs.Kept.Combinators.{Alters}
 
 module _ {G : GoodWorld} {May Other : Naming} {R : StepRelation} {Q : MoveRelation} (moves : FineMoves G May Other R Q) where
   add_call-alters : (c : Call) → Alters G R (add_call c)

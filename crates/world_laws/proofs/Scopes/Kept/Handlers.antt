@@ -1,5 +1,5 @@
 -- Events, timers, budgets, interrupts and releases: each step keeps a relation that its parts keep.
-use Rattle.std.specs.Prelude.{ℕ, ◌+◌, ◌-◌, ℤ, pos, int_lt, Bool, true, false, cond, Option, Some, None}
+use Rattle.std.specs.Prelude.{ℕ, ◌+◌, ℤ, pos, int_lt, Bool, true, false, Option, Some, None}
 use Rattle.ann_base.specs.declared.identities.TaskNo.{TaskNo}
 use Rattle.profile_machine.specs.declared.world.objects.Entering.{Entering}
 use Rattle.profile_machine.specs.declared.world.objects.Entering.TheVariants as entering_is
@@ -35,11 +35,11 @@ use Rattle.trace_text.specs.declared.events.Mode.TheVariants.{Write}
 use Rattle.profile_machine.specs.Protected.{begin_action_on, new_protected_mark}
 use Rattle.profile_machine.specs.Serving.{end_release}
 use Rattle.profile_machine.specs.Handlers.{add_release, says_release, wake_agent, release, with_room_for_release, scope_size_of, begin_handler, begin_handler_if_room, enter_handler, call_handler, interrupt, setting_of, answer, cancel_event_setting, appoint_event, event_set_to, set_event, cancel_event, clear_timer, with_timer_set, timer_set_beyond, timer_set_to, set_timer, cancel_timer, edit_budget, change_member, add_member, remove_member, fill_budget, replenish, add_to_budget, set_budget, cancel_budget, clock_risen, due_by_tick, charge_budget, timers_reached, quantum_spent_by, charge_clock, charge_group, charge_task, charge, handler_attached}
-use Rattle.std.proofs.Common.{◌≡◌, refl}
+use Rattle.std.proofs.Common.{refl}
 use Rattle.std.specs.Prelude.{Bool}
 use Rattle.machine_laws.proofs.Moves.{StepRelation, MoveRelation}
-use Rattle.world_laws.proofs.Scopes.FineMoves.{GoodWorld, Naming, FineMoves, Anybody, Openings}
-use Rattle.world_laws.proofs.Scopes.Kept.Combinators.{Keeps, From, Alters, changes-keeps, for_some-keeps, keeps-from, looks-from, looks-keeps, nothing-keeps, says-keeps, sees-keeps, then-keeps, unchanged-alters, branch-keeps}
+use Rattle.world_laws.proofs.Scopes.FineMoves.{FineMoves, Openings}
+use Rattle.world_laws.proofs.Scopes.Kept.Combinators.{Keeps, From, changes-keeps, for_some-keeps, keeps-from, looks-from, looks-keeps, nothing-keeps, says-keeps, sees-keeps, then-keeps, unchanged-alters, branch-keeps}
 use Rattle.world_laws.proofs.Scopes.Kept.Frames.{becomes-from, goes-keeps, given-keeps, raise_if-keeps, push-alters}
 use Rattle.world_laws.proofs.Scopes.Kept.Tasks.{edit_task-alters}
 use Rattle.world_laws.proofs.Scopes.Kept.Dispatching.{ready-keeps}
@@ -48,22 +48,9 @@ use Rattle.world_laws.proofs.Scopes.Kept.Appointments.{appoint-from, drop_appoin
 use Rattle.world_laws.proofs.Scopes.Kept.CallEnds.{store-gives}
 use Rattle.world_laws.proofs.Scopes.Kept.Serving.{end_release-keeps}
 use Rattle.world_laws.proofs.Scopes.Kept.Protected.{find_held-keeps, begin_action_on-keeps}
-
-spent-who : (robin : Bool) (t : world.Task) → (cond robin (record t { quantum = t.quantum - 1 }) t).who ≡ t.who
-spent-who true t = refl
-spent-who false t = refl
-
-spent-frames : (robin : Bool) (t : world.Task) → (cond robin (record t { quantum = t.quantum - 1 }) t).frames ≡ t.frames
-spent-frames true t = refl
-spent-frames false t = refl
-
-spent-state : (robin : Bool) (t : world.Task) → (cond robin (record t { quantum = t.quantum - 1 }) t).state ≡ t.state
-spent-state true t = refl
-spent-state false t = refl
-
-spent-master : (robin : Bool) (t : world.Task) → (cond robin (record t { quantum = t.quantum - 1 }) t).master ≡ t.master
-spent-master true t = refl
-spent-master false t = refl
+use Rattle.machine_laws.proofs.FineMoves.{Anybody, GoodWorld, Naming}
+use Rattle.machine_laws.proofs.Kept.Combinators.{Alters}
+use Rattle.machine_laws.proofs.Kept.Handlers.{spent-frames, spent-master, spent-state, spent-who}
 
 -- ---- releases
 

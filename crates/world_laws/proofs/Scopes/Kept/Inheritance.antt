@@ -5,10 +5,12 @@ use Rattle.profile_machine.specs.declared.image.Image.{Image}
 use Rattle.profile_machine.specs.declared.world.tasks.Cause.{Cause}
 use Rattle.profile_machine.specs.Inheritance.{inherit, lose, inherit_running, lose_running}
 use Rattle.machine_laws.proofs.Moves.{StepRelation, MoveRelation}
-use Rattle.world_laws.proofs.Scopes.FineMoves.{GoodWorld, Naming, FineMoves}
-use Rattle.world_laws.proofs.Scopes.Kept.Combinators.{Keeps, Alters, changes-keeps, looks-keeps, then-keeps, when-keeps}
+use Rattle.world_laws.proofs.Scopes.FineMoves.{FineMoves}
+use Rattle.world_laws.proofs.Scopes.Kept.Combinators.{Keeps, changes-keeps, looks-keeps, then-keeps, when-keeps}
 use Rattle.world_laws.proofs.Scopes.Kept.Tasks.{edit_task-alters}
 use Rattle.world_laws.proofs.Scopes.Kept.Dispatching.{to_head-keeps}
+use Rattle.machine_laws.proofs.FineMoves.{GoodWorld, Naming}
+use Rattle.machine_laws.proofs.Kept.Combinators.{Alters}
 
 module _ {G : GoodWorld} {May Other : Naming} {R : StepRelation} {Q : MoveRelation} (moves : FineMoves G May Other R Q) where
   pub inherit-alters : (name : Who) (cause : Cause) (level : ℕ) → Alters G R (inherit name cause level)

@@ -18,8 +18,8 @@ use Rattle.profile_machine.specs.Steps.{Step, changes, nothing, ◌▷◌, ◌�
 use Rattle.profile_machine.specs.Appointments.{first_due}
 use Rattle.profile_machine.specs.Instant.{with_port, with_masked, with_kept_interrupt, interrupt_comes, deliver_kept_interrupt, script_item, with_script, take_item, items_due, script_items, take_delay, end_delay, time_out, come_due, take_due, all_due, appointments_due, events_due, moments_due, expire, expire_timer, no_timers_due, timers_due, run_out, no_budget_due, budgets_due, spend_quantum, quantum_spent}
 use Rattle.machine_laws.proofs.Moves.{StepRelation, MoveRelation}
-use Rattle.world_laws.proofs.Scopes.FineMoves.{GoodWorld, FineMoves, Anybody}
-use Rattle.world_laws.proofs.Scopes.Kept.Combinators.{Keeps, From, Leads, Alters, changes-from, changes-keeps, for_each-keeps, for_some-keeps, keeps-from, looks-from, looks-keeps, nothing-keeps, says-keeps, settles-leads, then-from, then-keeps, then-leads, when-keeps}
+use Rattle.world_laws.proofs.Scopes.FineMoves.{FineMoves}
+use Rattle.world_laws.proofs.Scopes.Kept.Combinators.{Keeps, From, changes-from, changes-keeps, for_each-keeps, for_some-keeps, keeps-from, looks-from, looks-keeps, nothing-keeps, says-keeps, settles-leads, then-from, then-keeps, then-leads, when-keeps}
 use Rattle.world_laws.proofs.Scopes.Kept.Dispatching.{to_tail-keeps, ready-keeps}
 use Rattle.world_laws.proofs.Scopes.Kept.Frames.{goes-keeps, open_sequence-keeps}
 use Rattle.world_laws.proofs.Scopes.Kept.Appointments.{drop_appointment-alters}
@@ -30,6 +30,8 @@ use Rattle.world_laws.proofs.Scopes.Kept.Handlers.{interrupt-keeps, clear_timer-
 use Rattle.profile_machine.specs.Values.{budget_of}
 use Rattle.profile_machine.specs.Handlers.{clear_timer}
 use Rattle.profile_machine.specs.declared.world.lines.Part.TheVariants.{Own}
+use Rattle.machine_laws.proofs.FineMoves.{Anybody, GoodWorld}
+use Rattle.machine_laws.proofs.Kept.Combinators.{Alters, Leads}
 
 module _ {G : GoodWorld} {R : StepRelation} {Q : MoveRelation} (moves : FineMoves G Anybody Anybody R Q) where
   with_port-alters : (n : ℕ) (value : ℤ) → Alters G R (with_port n value)

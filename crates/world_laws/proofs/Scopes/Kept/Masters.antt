@@ -1,6 +1,6 @@
 -- Completion, termination and masters: each step keeps a relation that its parts keep.
-use Rattle.std.specs.Prelude.{Bool, true, false, not, ◌&&◌, cond, List, [], ◌∷◌, Option, Some, None, find}
-use Rattle.std.proofs.Common.{◌≡◌, refl, subst}
+use Rattle.std.specs.Prelude.{Bool, not, ◌&&◌, cond, List, Option, Some, None, find}
+use Rattle.std.proofs.Common.{◌≡◌, refl}
 use Rattle.ann_base.specs.declared.identities.RegionNo.{RegionNo}
 use Rattle.trace_text.specs.declared.events.Who.{Who}
 use Rattle.profile_machine.specs.declared.image.Image.{Image}
@@ -19,7 +19,7 @@ use Rattle.profile_machine.specs.Frames.{leaves}
 use Rattle.profile_machine.specs.Appointments.{drop_delay}
 use Rattle.profile_machine.specs.Masters.{part_of, has_dependents, has_activating, waits_for_activation, waits_for_dependents, gone_by_completion, wake_activator, end_group, end_activation_by, end_activation, complete_with, complete, wake_master, leave_by_terminate}
 use Rattle.machine_laws.proofs.Moves.{StepRelation, MoveRelation}
-use Rattle.world_laws.proofs.Scopes.FineMoves.{GoodWorld, Naming, FineMoves, EachIs}
+use Rattle.world_laws.proofs.Scopes.FineMoves.{FineMoves}
 use Rattle.world_laws.proofs.Scopes.Kept.Combinators.{Keeps, changes-keeps, cond-keeps, for_each-keeps, keeps-from, looks-from, looks-keeps, nothing-keeps, then-keeps, when-keeps, when-keeps-if}
 use Rattle.world_laws.proofs.Scopes.Kept.Tasks.{edit_task-alters}
 use Rattle.world_laws.proofs.Scopes.Kept.Dispatching.{runnable-keeps, ready-keeps}
@@ -27,22 +27,8 @@ use Rattle.world_laws.proofs.Scopes.Kept.Frames.{leaves-keeps, raises-keeps, ope
 use Rattle.world_laws.proofs.Scopes.Kept.Inheritance.{lose-alters}
 use Rattle.world_laws.proofs.Scopes.Kept.Appointments.{drop_delay-alters}
 use Rattle.world_laws.proofs.Scopes.Kept.CallEnds.{end_call-keeps, gone-keeps}
-
-second_is_true : (a b : Bool) → (a && b) ≡ true → b ≡ true
-second_is_true true b e = e
-second_is_true false b e = cc
-
-some-is : (t u : Task) → Some t ≡ Some u → t ≡ u
-some-is t u e = cc
-
-found-others : (Other : Naming) (test : Bool) (t : Task) (rest : Option Task) (u : Task) → Other t.who → (rest ≡ Some u → Other u.who) → cond test (Some t) rest ≡ Some u → Other u.who
-found-others Other true t rest u a more is = subst (λ (q : Task). Other q.who) (some-is t u is) a
-found-others Other false t rest u a more is = more is
-
--- who is found in a list of others is one
-pub found-other : (Other : Naming) (test : Task → Bool) (ts : List Task) (u : Task) → EachIs Other ts → find test ts ≡ Some u → Other u.who
-found-other Other test [] u each is = cc
-found-other Other test (t ∷ ts) u each is = found-others Other (test t) t (find test ts) u each.0 (found-other Other test ts u each.1) is
+use Rattle.machine_laws.proofs.FineMoves.{GoodWorld, Naming}
+use Rattle.machine_laws.proofs.Kept.Masters.{found-other, second_is_true}
 
 module _ {G : GoodWorld} {May Other : Naming} {R : StepRelation} {Q : MoveRelation} (moves : FineMoves G May Other R Q) where
   pub gone_by_completion-keeps : (p : Image) (actor : Who) (c : Call) → Keeps G R (gone_by_completion p actor c)

@@ -26,8 +26,8 @@ use Rattle.profile_machine.specs.Steps.{Step, says, ◌▷◌}
 use Rattle.std.proofs.Common.{◌≡◌, refl}
 use Rattle.profile_machine.specs.Protected.{entering, new_protected_mark, mode_of, find_held, enter_or, where_let_inside, open_action, begin_action_on, begin_operation, call_operation_of, call_operation, begin_own_operation, call_own_operation, edit_top_protected, begin_call, body_opens, has_room_for_body, serve_call, edit_protected}
 use Rattle.machine_laws.proofs.Moves.{StepRelation, MoveRelation}
-use Rattle.world_laws.proofs.Scopes.FineMoves.{GoodWorld, Naming, Anybody, FineMoves, Openings, nature}
-use Rattle.world_laws.proofs.Scopes.Kept.Combinators.{Keeps, Alters, branch-keeps, changes-keeps, looks-keeps, says-keeps, sees-keeps, then-keeps}
+use Rattle.world_laws.proofs.Scopes.FineMoves.{FineMoves, Openings, nature}
+use Rattle.world_laws.proofs.Scopes.Kept.Combinators.{Keeps, branch-keeps, changes-keeps, looks-keeps, says-keeps, sees-keeps, then-keeps}
 use Rattle.world_laws.proofs.Scopes.Kept.Dispatching.{to_tail-keeps}
 use Rattle.world_laws.proofs.Scopes.Kept.Frames.{edit_top-alters, goes-keeps, push-alters, raises-keeps, given-keeps, raise_if-keeps, with_room-keeps}
 use Rattle.world_laws.proofs.Scopes.Kept.Scopes.{open_scope-alters}
@@ -36,6 +36,8 @@ use Rattle.world_laws.proofs.Scopes.Kept.Calls.{edit_call-alters, unqueued-alter
 use Rattle.world_laws.proofs.Scopes.Kept.Subprograms.{begin_body-keeps, handing-keeps}
 use Rattle.profile_machine.specs.declared.world.marks.Mark.{Mark}
 use Rattle.profile_machine.specs.declared.world.marks.Mark.TheVariants.{Scope, Handled, InProtected, InAccept, Abortable, InInitialize, InFinalize, InAssign}
+use Rattle.machine_laws.proofs.FineMoves.{Anybody, GoodWorld, Naming}
+use Rattle.machine_laws.proofs.Kept.Combinators.{Alters}
 
 -- what a mark is does not change where a protected action is edited
 protected-nature : (f : ProtectedMark → ProtectedMark) (mark : Mark) → nature (edit_protected f mark) ≡ nature mark

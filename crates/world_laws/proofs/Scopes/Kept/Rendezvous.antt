@@ -33,8 +33,8 @@ use Rattle.profile_machine.specs.Serving.{with_values}
 use Rattle.profile_machine.specs.Rendezvous.{open_accept, has_room_for_accept, begin_accept, finish_without_room, accept_with_room, accept_call, meet_with_room, meet_without_room, meet, accept_or_wait, accept, accept_chosen, wait_at_select, appoint_delay, select_delay, select_wait, select_otherwise, select_by_call, select_open, selective_accept, gone_sent, meet_sent, arrive_at, arrive, finish_accept, finish_rendezvous, behind_accept, finished_call, end_in_accept, accept_for}
 use Rattle.std.proofs.Common.{◌≡◌, refl}
 use Rattle.machine_laws.proofs.Moves.{StepRelation, MoveRelation}
-use Rattle.world_laws.proofs.Scopes.FineMoves.{GoodWorld, Naming, FineMoves, Openings, Anybody, Live}
-use Rattle.world_laws.proofs.Scopes.Kept.Combinators.{Keeps, From, Alters, changes-keeps, for_some-keeps, keeps-from, looks-from, looks-keeps, nothing-keeps, says-keeps, then-from, then-keeps, unchanged-alters, changes_then-from, looks_at-from, sees-keeps, either-from, behind-from, both_then-from}
+use Rattle.world_laws.proofs.Scopes.FineMoves.{FineMoves, Openings, Live}
+use Rattle.world_laws.proofs.Scopes.Kept.Combinators.{Keeps, From, changes-keeps, for_some-keeps, keeps-from, looks-from, looks-keeps, nothing-keeps, says-keeps, then-from, then-keeps, unchanged-alters, changes_then-from, looks_at-from, sees-keeps, either-from, behind-from, both_then-from}
 use Rattle.world_laws.proofs.Scopes.Kept.Serving.{keeps_sending-number}
 use Rattle.world_laws.proofs.Scopes.Kept.Dispatching.{ready-keeps, block-keeps, blocked-keeps}
 use Rattle.world_laws.proofs.Scopes.Kept.Frames.{goes-keeps, raises-keeps, open_sequence-keeps, pass_on-keeps, raise_if-keeps, goes_then-from, given-keeps}
@@ -50,6 +50,8 @@ use Rattle.profile_machine.specs.declared.world.tasks.State.{State}
 use Rattle.profile_machine.specs.declared.world.tasks.State.TheVariants.{Made, Runnable, Blocked}
 use Rattle.profile_machine.specs.Tasks.{waiting_in, waiting_of, is_made_state, task_of}
 use Rattle.profile_machine.specs.Dispatching.{ready}
+use Rattle.machine_laws.proofs.FineMoves.{Anybody, GoodWorld, Naming}
+use Rattle.machine_laws.proofs.Kept.Combinators.{Alters}
 
 module _ {G : GoodWorld} {May Other : Naming} {R : StepRelation} {Q : MoveRelation} (moves : FineMoves G May Other R Q) where
   begin_accept-keeps : (p : Image) (part : Part) (name : Who) (s : StatementNo) (c : Call) → Keeps G R (begin_accept p part name s c)

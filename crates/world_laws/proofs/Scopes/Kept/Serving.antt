@@ -12,14 +12,16 @@ use Rattle.profile_machine.specs.declared.world.calls.Outcome.{Outcome}
 use Rattle.profile_machine.specs.Serving.{serves_nothing, serve_ends, end_release, close_action, wait_or_unwind, wait_for_own, resume_own, behind_action, settle_sent, begins_part, keep_values, keeps_sending, end_body_of_entry}
 use Rattle.std.proofs.Common.{◌≡◌, refl}
 use Rattle.machine_laws.proofs.Moves.{StepRelation, MoveRelation}
-use Rattle.world_laws.proofs.Scopes.FineMoves.{GoodWorld, Naming, Anybody, FineMoves}
-use Rattle.world_laws.proofs.Scopes.Kept.Combinators.{Keeps, changes-keeps, looks-keeps, nothing-keeps, says-keeps, then-keeps, when-keeps, Alters}
+use Rattle.world_laws.proofs.Scopes.FineMoves.{FineMoves}
+use Rattle.world_laws.proofs.Scopes.Kept.Combinators.{Keeps, changes-keeps, looks-keeps, nothing-keeps, says-keeps, then-keeps, when-keeps}
 use Rattle.world_laws.proofs.Scopes.Kept.Dispatching.{block-keeps}
 use Rattle.world_laws.proofs.Scopes.Kept.Frames.{leaves-keeps, pass_on-keeps}
 use Rattle.world_laws.proofs.Scopes.Kept.Calls.{edit_call-alters, forget_call-alters, with_call-keeps, attempt_with-keeps}
 use Rattle.world_laws.proofs.Scopes.Kept.CallEnds.{resume-keeps}
 use Rattle.world_laws.proofs.Scopes.Kept.Sending.{open_abortable-alters, wait_for_call-keeps, begin_abortable-keeps, sent_not_begun-keeps}
 use Rattle.ann_base.specs.declared.identities.ObjectNo.{ObjectNo}
+use Rattle.machine_laws.proofs.FineMoves.{Anybody, GoodWorld, Naming}
+use Rattle.machine_laws.proofs.Kept.Combinators.{Alters}
 
 module _ {G : GoodWorld} {R : StepRelation} {Q : MoveRelation} (moves : FineMoves G Anybody Anybody R Q) where
   -- ---- the agent has served a release

@@ -29,13 +29,15 @@ use Rattle.profile_machine.specs.CallEnds.{store}
 use Rattle.profile_machine.specs.Statements.{null, assign, cells_from, copy_cells, array_copied, assign_array, if_statement, go_to_alternative, case_statement, while_turn, loop_cell, put, first_bound, last_bound, bounds_set, for_bounds, first_turn, advance, later_turn, exit_where, exit_statement, block_statement, raise_again, wait_until, delay_to, delay_until, put_line}
 use Rattle.profile_machine.specs.Scopes.{put_cells}
 use Rattle.machine_laws.proofs.Moves.{StepRelation, MoveRelation}
-use Rattle.world_laws.proofs.Scopes.FineMoves.{GoodWorld, Naming, FineMoves, Openings, Anybody}
-use Rattle.world_laws.proofs.Scopes.Kept.Combinators.{Keeps, From, Alters, Gives, bind-gives, changes-keeps, keeps-from, looks-from, looks-keeps, nothing-keeps, ok-gives, sees-keeps, then-from, then-keeps, says-keeps}
+use Rattle.world_laws.proofs.Scopes.FineMoves.{FineMoves, Openings}
+use Rattle.world_laws.proofs.Scopes.Kept.Combinators.{Keeps, From, bind-gives, changes-keeps, keeps-from, looks-from, looks-keeps, nothing-keeps, ok-gives, sees-keeps, then-from, then-keeps, says-keeps}
 use Rattle.world_laws.proofs.Scopes.Kept.Frames.{given_world-from, goes-keeps, raises-keeps, exit_loop-keeps, given-keeps, raise_if-keeps, with_room-keeps}
 use Rattle.world_laws.proofs.Scopes.Kept.Dispatching.{to_tail-keeps, block-keeps}
 use Rattle.world_laws.proofs.Scopes.Kept.Scopes.{write_cell-alters, open_scope-alters}
 use Rattle.world_laws.proofs.Scopes.Kept.Appointments.{appoint-from}
 use Rattle.world_laws.proofs.Scopes.Kept.CallEnds.{store-gives}
+use Rattle.machine_laws.proofs.FineMoves.{Anybody, GoodWorld, Naming}
+use Rattle.machine_laws.proofs.Kept.Combinators.{Alters, Gives}
 
 module _ {G : GoodWorld} {May Other : Naming} {R : StepRelation} {Q : MoveRelation} (moves : FineMoves G May Other R Q) where
   pub null-keeps : (p : Image) (name : Who) (s : StatementNo) → Keeps G R (null p name s)

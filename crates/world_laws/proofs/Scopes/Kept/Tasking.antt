@@ -28,8 +28,8 @@ use Rattle.profile_machine.specs.Tasking.{unit_of_declaration, optional_span, cr
 use Rattle.std.proofs.Common.{◌≡◌, refl}
 use Rattle.profile_machine.specs.Values.{seen_by}
 use Rattle.machine_laws.proofs.Moves.{StepRelation, MoveRelation}
-use Rattle.world_laws.proofs.Scopes.FineMoves.{GoodWorld, Naming, FineMoves, Openings, Anybody}
-use Rattle.world_laws.proofs.Scopes.Kept.Combinators.{Keeps, From, Alters, branch-keeps, changes-keeps, for_some-keeps, looks-from, looks-keeps, nothing-keeps, says-keeps, then-keeps, when-keeps, listed-keeps, keeps-from, changes_then-from}
+use Rattle.world_laws.proofs.Scopes.FineMoves.{FineMoves, Openings}
+use Rattle.world_laws.proofs.Scopes.Kept.Combinators.{Keeps, From, branch-keeps, changes-keeps, for_some-keeps, looks-from, looks-keeps, nothing-keeps, says-keeps, then-keeps, when-keeps, listed-keeps, keeps-from, changes_then-from}
 use Rattle.world_laws.proofs.Scopes.Kept.Frames.{raise_if-from, given-from, goes-keeps, raises-keeps, pass_on-keeps}
 use Rattle.world_laws.proofs.Scopes.Kept.Dispatching.{to_head-keeps, says_block-keeps, block-keeps}
 use Rattle.world_laws.proofs.Scopes.Kept.Unwinding.{unwind-keeps}
@@ -38,6 +38,8 @@ use Rattle.world_laws.proofs.Scopes.Kept.Declarations.{set_thing-alters}
 use Rattle.profile_machine.specs.Tasks.{waiting_of}
 use Rattle.profile_machine.specs.Unwinding.{any_struck}
 use Rattle.profile_machine.specs.Masters.{may_terminate, leave_by_terminate}
+use Rattle.machine_laws.proofs.FineMoves.{Anybody, GoodWorld, Naming}
+use Rattle.machine_laws.proofs.Kept.Combinators.{Alters}
 
 module _ {G : GoodWorld} {May Other : Naming} {R : StepRelation} {Q : MoveRelation} (moves : FineMoves G May Other R Q) where
   says_created-keeps : (d : DeclNo) (t : world.Task) → Keeps G R (says_created d t)

@@ -9,14 +9,16 @@ use Rattle.profile_machine.specs.declared.world.tasks.State.TheVariants.{Made, R
 use Rattle.profile_machine.specs.declared.world.lines.Part.{Part}
 use Rattle.profile_machine.specs.Unwinding.{struck_frame, edit_last, strike_outermost, leave_by_abort, stop_waiting, wake_and_leave, unwind_blocked, unwind_in, unwind}
 use Rattle.machine_laws.proofs.Moves.{StepRelation, MoveRelation}
-use Rattle.world_laws.proofs.Scopes.FineMoves.{GoodWorld, Naming, FineMoves, nature, natures}
+use Rattle.world_laws.proofs.Scopes.FineMoves.{FineMoves, nature, natures}
 use Rattle.std.proofs.Common.{◌≡◌, List, [], ◌∷◌, refl, ap}
-use Rattle.world_laws.proofs.Scopes.Kept.Combinators.{Keeps, Alters, changes-keeps, looks-keeps, nothing-keeps, then-keeps, when-keeps}
+use Rattle.world_laws.proofs.Scopes.Kept.Combinators.{Keeps, changes-keeps, looks-keeps, nothing-keeps, then-keeps, when-keeps}
 use Rattle.world_laws.proofs.Scopes.Kept.Tasks.{edit_task-alters, edit_frames-alters}
 use Rattle.world_laws.proofs.Scopes.Kept.Dispatching.{ready-keeps}
 use Rattle.world_laws.proofs.Scopes.Kept.Frames.{leaves-keeps}
 use Rattle.world_laws.proofs.Scopes.Kept.Appointments.{drop_delay-alters}
 use Rattle.world_laws.proofs.Scopes.Kept.Calls.{forget_call-alters, attempt-keeps}
+use Rattle.machine_laws.proofs.FineMoves.{GoodWorld, Naming}
+use Rattle.machine_laws.proofs.Kept.Combinators.{Alters}
 
 -- who is struck has the marks that it had
 last-natures : (fs : List Frame) → natures (edit_last struck_frame fs) ≡ natures fs

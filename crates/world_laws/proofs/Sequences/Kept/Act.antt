@@ -31,7 +31,7 @@ use Rattle.profile_machine.specs.Calls.{with_call, attempt_with}
 use Rattle.profile_machine.specs.Act.{call_main, call, handle_or_pass, behind_handled, end_handled, end_top, wait_for_trigger, drop_trigger, below, end_abortable_by, end_in_abortable, act_statement, end_mark, act_frame, keeping, waiting_mark}
 use Rattle.machine_laws.proofs.FineMoves.{GoodWorld, Naming, nature, is_abortable}
 use Rattle.world_laws.proofs.Sequences.FineMoves.{FineMoves, Openings, Behind, Loosens, Again, Departing}
-use Rattle.world_laws.proofs.Sequences.Kept.Combinators.{Keeps, Alters, changes-keeps, cond-keeps, looks-keeps, nothing-keeps, option-keeps, sees-keeps, then-keeps, unchanged-alters, From, keeps-from, changes_then-from, wide-from}
+use Rattle.world_laws.proofs.Sequences.Kept.Combinators.{changes-keeps, cond-keeps, looks-keeps, nothing-keeps, option-keeps, sees-keeps, then-keeps, unchanged-alters, keeps-from, changes_then-from, wide-from}
 use Rattle.world_laws.proofs.Sequences.Kept.Dispatching.{block-keeps}
 use Rattle.world_laws.proofs.Sequences.Kept.Frames.{edit_top-alters, goes-keeps, raises-keeps, pass_on-keeps, with_room-keeps, popped, edit_mark-alters}
 use Rattle.world_laws.proofs.Sequences.Kept.Scopes.{open_scope-alters}
@@ -52,6 +52,7 @@ use Rattle.profile_machine.specs.declared.world.marks.ProtectedMark.{ProtectedMa
 use Rattle.profile_machine.specs.Serving.{end_in_protected}
 use Rattle.world_laws.proofs.Sequences.Kept.CallEnds.{end_found_abortable-keeps, abortable-nature}
 use Rattle.profile_machine.specs.CallEnds.{edit_abortable}
+use Rattle.machine_laws.proofs.Kept.Combinators.{Alters, From, Keeps}
 
 -- a mark that keeps an exception is what it was
 keeping-nature : (e : Raised) (mark : Mark) → nature (keeping e mark) ≡ nature mark

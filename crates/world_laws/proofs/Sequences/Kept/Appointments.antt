@@ -11,7 +11,8 @@ use Rattle.profile_machine.specs.Steps.{changes}
 use Rattle.profile_machine.specs.Appointments.{appoint, drop_appointment, drop_delay}
 use Rattle.machine_laws.proofs.FineMoves.{GoodWorld, Naming}
 use Rattle.world_laws.proofs.Sequences.FineMoves.{FineMoves, Behind}
-use Rattle.world_laws.proofs.Sequences.Kept.Combinators.{Alters, From, changes-from, unchanged-alters}
+use Rattle.world_laws.proofs.Sequences.Kept.Combinators.{changes-from, unchanged-alters}
+use Rattle.machine_laws.proofs.Kept.Combinators.{Alters, From}
 
 -- a moment that is not past is later
 pub is_later : (now : ℕ) (moment : ℤ) → int_le moment (pos now) ≡ false → int_lt (pos now) moment ≡ true

@@ -16,8 +16,9 @@ use Rattle.profile_machine.specs.Calls.{edit_call, forget_call, with_call, says_
 use Rattle.std.proofs.Common.{◌≡◌, refl, None, Some, Option}
 use Rattle.machine_laws.proofs.FineMoves.{GoodWorld, Naming}
 use Rattle.world_laws.proofs.Sequences.FineMoves.{FineMoves, Behind}
-use Rattle.world_laws.proofs.Sequences.Kept.Combinators.{Keeps, Alters, branch-keeps, changes-keeps, for_some-keeps, looks-keeps, says-keeps, then-keeps, looks-from, nothing-keeps, keeps-from, From}
+use Rattle.world_laws.proofs.Sequences.Kept.Combinators.{branch-keeps, changes-keeps, for_some-keeps, looks-keeps, says-keeps, then-keeps, looks-from, nothing-keeps, keeps-from}
 use Rattle.world_laws.proofs.Sequences.Kept.Tasks.{edit_task-alters}
+use Rattle.machine_laws.proofs.Kept.Combinators.{Alters, From, Keeps}
 
 module _ {p : Image} {G : GoodWorld} {May Other : Naming} (moves : FineMoves p G May Other) where
   pub edit_call-alters : (c : CallNo) (f : Call → Call) → ((d : Call) → (f d).number ≡ d.number) → ((d : Call) → (f d).caller ≡ d.caller) → Alters G (Behind G) (edit_call c f)

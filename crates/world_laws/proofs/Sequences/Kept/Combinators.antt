@@ -14,46 +14,11 @@ use Rattle.profile_machine.specs.Steps.{Step, Move, Done, done, goes_on_with, no
 use Rattle.profile_machine.specs.Operators.{Valued, ◌>>=◌}
 use Rattle.profile_machine.specs.Values.{Seen, seen_by}
 use Rattle.profile_machine.specs.Statements.{sees}
-use Rattle.machine_laws.proofs.Moves.{StepRelation, MoveRelation, lines_of}
+use Rattle.machine_laws.proofs.Moves.{lines_of}
 use Rattle.profile_machine.specs.declared.world.calls.Call.{Call}
 use Rattle.machine_laws.proofs.FineMoves.{GoodWorld, Naming, EachIs, is_apart}
 use Rattle.world_laws.proofs.Sequences.FineMoves.{FineMoves, Behind, BehindMove}
-
--- ---- what it is to keep a relation
-
--- what a step has led to stands so to the world from which it went on, by the lines that it has said behind the others
-unfoldable pub Kept : StepRelation → World → List Said → Done → Type 0
-Kept R w said (done v ys) = (xs : List Said) × (ys ≡ said ++ xs) × R w xs v
-
--- a step leads from each good world, whatever was said before, to one that stands so to it
-unfoldable pub Keeps : GoodWorld → StepRelation → Step → Type 0
-Keeps G R step = (w : World) → G w → (said : List Said) → Kept R w said (step w said)
-
--- the same from one world
-unfoldable pub From : StepRelation → World → Step → Type 0
-From R w step = (said : List Said) → Kept R w said (step w said)
-
--- a change of the world
-unfoldable pub Alters : GoodWorld → StepRelation → (World → World) → Type 0
-Alters G R f = (w : World) → G w → R w [] (f w)
-
--- a world, if there is no exception
-unfoldable pub Gives : StepRelation → World → Valued World → Type 0
-Gives R w (Ok next) = R w [] next
-Gives R w (Err e) = Unit {0}
-
--- a move leads from each good world to one that stands so to it
-unfoldable pub Leads : GoodWorld → MoveRelation → Move → Type 0
-Leads G Q move = (w : World) → G w → Q w (move w).1 (move w).0
-
--- the world to which a step has led
-abbrev pub world_behind : Done → World
-world_behind (done w said) = w
-
--- it stands so to the one before, by some lines
-pub kept-world : (R : StepRelation) (w : World) (said : List Said) (d : Done) → Kept R w said d → (xs : List Said) × R w xs (world_behind d)
-unfolding Kept
-kept-world R w said (done v ys) k = (k.0, k.2)
+use Rattle.machine_laws.proofs.Kept.Combinators.{Alters, From, Gives, Keeps, Kept, Leads}
 
 -- ---- from what holds before a step to what holds behind it
 

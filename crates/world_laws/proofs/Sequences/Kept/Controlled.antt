@@ -24,7 +24,7 @@ use Rattle.profile_machine.specs.Statements.{cells_from}
 use Rattle.profile_machine.specs.Controlled.{first_place, open_operation, top_region, registered_as, register, initialize_by, initialize, end_in_initialize, edit_top_scope, finalize_has_raised, open_finalize, has_room_to_finalize, finalize_by, no_longer_registered, finalize_now, finalize, behind_finalize, end_in_finalize, begin_assignment, assign_registered, assign_located, assign_controlled, edit_top_assign, leave_without_room, finalize_target_by, has_room_to_adjust, adjust_by, copy_components_of, copy_object, do_step, step_with, end_in_assign, edit_scope_mark, edit_assign, registered_object, registers, is_assignment}
 use Rattle.machine_laws.proofs.FineMoves.{GoodWorld, Naming, nature}
 use Rattle.world_laws.proofs.Sequences.FineMoves.{FineMoves, Openings, Behind}
-use Rattle.world_laws.proofs.Sequences.Kept.Combinators.{Keeps, Alters, branch-keeps, changes-from, changes-keeps, cond-keeps, looks-from, looks-keeps, nothing-keeps, says-keeps, sees-keeps, then-from, then-keeps, From, changes_then-from, keeps-from, looks_at-from, when-keeps}
+use Rattle.world_laws.proofs.Sequences.Kept.Combinators.{branch-keeps, changes-from, changes-keeps, cond-keeps, looks-from, looks-keeps, nothing-keeps, says-keeps, sees-keeps, then-from, then-keeps, changes_then-from, keeps-from, looks_at-from, when-keeps}
 use Rattle.world_laws.proofs.Sequences.Kept.Frames.{goes-keeps, push-alters, leaves-keeps, raises-keeps, pass_on-keeps, given-keeps, with_room-keeps, popped, edit_mark-alters}
 use Rattle.world_laws.proofs.Sequences.Kept.Scopes.{write_cell-alters, open_scope-alters}
 use Rattle.std.proofs.Common.{◌≡◌, refl, ap, []}
@@ -33,6 +33,7 @@ use Rattle.profile_machine.specs.declared.world.marks.Frame.{Frame}
 use Rattle.profile_machine.specs.declared.world.marks.Mark.{Mark}
 use Rattle.profile_machine.specs.declared.world.marks.Mark.TheVariants.{Scope, Handled, InProtected, InAccept, Abortable, InInitialize, InFinalize, InAssign}
 use Rattle.profile_machine.specs.Frames.{top_of, pop, is_protected, pass_on}
+use Rattle.machine_laws.proofs.Kept.Combinators.{Alters, From, Keeps}
 
 -- the region of a scope's mark is not edited, nor what another mark is
 scope-nature : (f : ScopeMark → ScopeMark) → ((m : ScopeMark) → (f m).region ≡ m.region) → (mark : Mark) → nature (edit_scope_mark f mark) ≡ nature mark

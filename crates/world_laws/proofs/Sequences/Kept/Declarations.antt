@@ -33,11 +33,12 @@ use Rattle.profile_machine.specs.Declarations.{default_cells, set_defaults, init
 use Rattle.profile_machine.specs.Values.{seen_by}
 use Rattle.machine_laws.proofs.FineMoves.{GoodWorld, Naming}
 use Rattle.world_laws.proofs.Sequences.FineMoves.{FineMoves, Behind}
-use Rattle.world_laws.proofs.Sequences.Kept.Combinators.{Keeps, Alters, Gives, bind-gives, changes-keeps, looks-from, next-gives, ok-gives, then-keeps, looks-keeps, says-keeps}
+use Rattle.world_laws.proofs.Sequences.Kept.Combinators.{bind-gives, changes-keeps, looks-from, next-gives, ok-gives, then-keeps, looks-keeps, says-keeps}
 use Rattle.world_laws.proofs.Sequences.Kept.Frames.{given-from, given_world-from, goes-keeps}
 use Rattle.world_laws.proofs.Sequences.Kept.Scopes.{write_cell-alters}
 use Rattle.world_laws.proofs.Sequences.Kept.CallEnds.{store_by-gives}
 use Rattle.world_laws.proofs.Sequences.Kept.Statements.{copy_cells_by-alters}
+use Rattle.machine_laws.proofs.Kept.Combinators.{Alters, Gives, Keeps}
 
 module _ {p : Image} {G : GoodWorld} {May Other : Naming} (moves : FineMoves p G May Other) where
   set_defaults-alters : (r : Image) (v : Variable) → Alters G (Behind G) (set_defaults r v)

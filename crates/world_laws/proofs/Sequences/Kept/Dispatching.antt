@@ -17,21 +17,10 @@ use Rattle.std.proofs.Common.{◌≡◌, refl}
 use Rattle.std.specs.Prelude.{false}
 use Rattle.machine_laws.proofs.FineMoves.{GoodWorld, Naming}
 use Rattle.world_laws.proofs.Sequences.FineMoves.{FineMoves, Openings, Behind, is_for_dependents}
-use Rattle.world_laws.proofs.Sequences.Kept.Combinators.{Keeps, Alters, changes-keeps, from-keeps, said-from, said-keeps, then-keeps, looks_at-from, From, changes_then-from, keeps-from}
+use Rattle.world_laws.proofs.Sequences.Kept.Combinators.{changes-keeps, from-keeps, said-from, said-keeps, then-keeps, looks_at-from, changes_then-from, keeps-from}
 use Rattle.world_laws.proofs.Sequences.Kept.Tasks.{edit_task-alters}
-
--- a quantum is no state
-full_quantum-who : (b : Bool) (n : ℕ) (t : Task) → (cond b (record t { quantum = n }) t).who ≡ t.who
-full_quantum-who true n t = refl
-full_quantum-who false n t = refl
-
-full_quantum-frames : (b : Bool) (n : ℕ) (t : Task) → (cond b (record t { quantum = n }) t).frames ≡ t.frames
-full_quantum-frames true n t = refl
-full_quantum-frames false n t = refl
-
-full_quantum-state : (b : Bool) (n : ℕ) (t : Task) → (cond b (record t { quantum = n }) t).state ≡ t.state
-full_quantum-state true n t = refl
-full_quantum-state false n t = refl
+use Rattle.machine_laws.proofs.Kept.Combinators.{Alters, From, Keeps}
+use Rattle.machine_laws.proofs.Kept.Dispatching.{full_quantum-frames, full_quantum-state, full_quantum-who}
 
 full_quantum-unit : (b : Bool) (n : ℕ) (t : Task) → (cond b (record t { quantum = n }) t).unit ≡ t.unit
 full_quantum-unit true n t = refl

@@ -38,7 +38,7 @@ use Rattle.profile_machine.specs.Sending.{open_abortable, is_triggering}
 use Rattle.profile_machine.specs.EntryCalls.{numbered, marks_if_queued, add_call, make_call, end_at_once, call_gone, call_meets, call_queues, call_not_met, call_accepted_by, call_callable, call_task, call_runs, call_without_room, has_room_for_action, call_runs_if_room, call_passes, call_refused, call_closed, call_by_barrier, call_object, call_owner, call_named, entry_call, appoint_trigger, trigger_delay, async_delay, async_by_trigger, asynchronous_select, mark_sending, requeue, is_forbidden, owner_of_entry, entry_parameters, timed_moment, named_call, new_call}
 use Rattle.machine_laws.proofs.FineMoves.{GoodWorld, Naming, first_is_false}
 use Rattle.world_laws.proofs.Sequences.FineMoves.{FineMoves, Openings, Behind, Loosens}
-use Rattle.world_laws.proofs.Sequences.Kept.Combinators.{Keeps, Alters, changes-keeps, keeps-from, looks-from, looks-keeps, nothing-keeps, sees-keeps, then-keeps, unchanged-alters, said-keeps, branch-keeps}
+use Rattle.world_laws.proofs.Sequences.Kept.Combinators.{changes-keeps, keeps-from, looks-from, looks-keeps, nothing-keeps, sees-keeps, then-keeps, unchanged-alters, said-keeps, branch-keeps}
 use Rattle.world_laws.proofs.Sequences.Kept.Dispatching.{block-keeps}
 use Rattle.world_laws.proofs.Sequences.Kept.Frames.{goes-keeps, leaves-keeps, raises-keeps, given-from, given-keeps, raise_if-from, raise_if-keeps, with_room-keeps, push-alters}
 use Rattle.world_laws.proofs.Sequences.Kept.Calls.{edit_call-alters, forget_call-alters, says_call-keeps, enqueue-keeps}
@@ -48,6 +48,7 @@ use Rattle.world_laws.proofs.Sequences.Kept.Sending.{open_abortable-alters, not_
 use Rattle.world_laws.proofs.Sequences.Kept.Rendezvous.{meet-keeps}
 use Rattle.profile_machine.specs.Rendezvous.{delay_moment, is_callable, accept_for}
 use Rattle.profile_machine.specs.Values.{seen_by}
+use Rattle.machine_laws.proofs.Kept.Combinators.{Alters, Keeps}
 
 module _ {p : Image} {G : GoodWorld} {May Other : Naming} (moves : FineMoves p G May Other) where
   add_call-alters : (c : Call) → Alters G (Behind G) (add_call c)

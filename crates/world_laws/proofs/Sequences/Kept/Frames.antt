@@ -22,9 +22,10 @@ use Rattle.profile_machine.specs.Frames.{top_of, new_frame, edit_first, edit_top
 use Rattle.profile_machine.specs.Operators.{Valued}
 use Rattle.machine_laws.proofs.FineMoves.{GoodWorld, Naming, nature, natures}
 use Rattle.world_laws.proofs.Sequences.FineMoves.{FineMoves, Openings, Behind, StaysOn, onward_in}
-use Rattle.world_laws.proofs.Sequences.Kept.Combinators.{Keeps, From, Alters, Gives, branch-keeps, changes-keeps, keeps-from, looks-keeps, looks_at-from, nothing-keeps, says-keeps, then-keeps, when-keeps, changes-from, changes_then-from}
+use Rattle.world_laws.proofs.Sequences.Kept.Combinators.{branch-keeps, changes-keeps, keeps-from, looks-keeps, looks_at-from, nothing-keeps, says-keeps, then-keeps, when-keeps, changes-from, changes_then-from}
 use Rattle.world_laws.proofs.Sequences.Kept.Tasks.{edit_frames-alters}
 use Rattle.std.proofs.Common.{◌≡◌, List, [], ◌∷◌, refl, ap, inl, inr}
+use Rattle.machine_laws.proofs.Kept.Combinators.{Alters, From, Gives, Keeps}
 
 -- an edit of a mark on top
 first-natures : (f : Frame → Frame) (fs : List Frame) → ((x : Frame) → nature (f x).mark ≡ nature x.mark) → natures (edit_first f fs) ≡ natures fs

@@ -32,24 +32,14 @@ use Rattle.std.proofs.Common.{◌≡◌, refl}
 use Rattle.std.specs.Prelude.{Bool}
 use Rattle.machine_laws.proofs.FineMoves.{GoodWorld, Naming}
 use Rattle.world_laws.proofs.Sequences.FineMoves.{FineMoves, Behind}
-use Rattle.world_laws.proofs.Sequences.Kept.Combinators.{Keeps, From, Alters, changes-keeps, for_some-keeps, keeps-from, looks-from, looks-keeps, nothing-keeps, says-keeps, sees-keeps, then-keeps, unchanged-alters, said-keeps, from-keeps}
+use Rattle.world_laws.proofs.Sequences.Kept.Combinators.{changes-keeps, for_some-keeps, keeps-from, looks-from, looks-keeps, nothing-keeps, says-keeps, sees-keeps, then-keeps, unchanged-alters, said-keeps, from-keeps}
 use Rattle.world_laws.proofs.Sequences.Kept.Frames.{becomes-from, goes-keeps, given-keeps, raise_if-keeps}
 use Rattle.world_laws.proofs.Sequences.Kept.Tasks.{edit_task-alters}
 use Rattle.world_laws.proofs.Sequences.Kept.Dispatching.{ready-from}
 use Rattle.world_laws.proofs.Sequences.Kept.Appointments.{appoint-from, drop_appointment-alters}
 use Rattle.world_laws.proofs.Sequences.Kept.CallEnds.{store-gives}
-
-spent-who : (robin : Bool) (t : world.Task) → (cond robin (record t { quantum = t.quantum - 1 }) t).who ≡ t.who
-spent-who true t = refl
-spent-who false t = refl
-
-spent-frames : (robin : Bool) (t : world.Task) → (cond robin (record t { quantum = t.quantum - 1 }) t).frames ≡ t.frames
-spent-frames true t = refl
-spent-frames false t = refl
-
-spent-state : (robin : Bool) (t : world.Task) → (cond robin (record t { quantum = t.quantum - 1 }) t).state ≡ t.state
-spent-state true t = refl
-spent-state false t = refl
+use Rattle.machine_laws.proofs.Kept.Combinators.{Alters, From, Keeps}
+use Rattle.machine_laws.proofs.Kept.Handlers.{spent-frames, spent-state, spent-who}
 
 spent-unit : (robin : Bool) (t : world.Task) → (cond robin (record t { quantum = t.quantum - 1 }) t).unit ≡ t.unit
 spent-unit true t = refl

@@ -6,9 +6,10 @@ use Rattle.profile_machine.specs.declared.world.tasks.Cause.{Cause}
 use Rattle.profile_machine.specs.Inheritance.{inherit, lose, inherit_running, lose_running}
 use Rattle.machine_laws.proofs.FineMoves.{GoodWorld, Naming}
 use Rattle.world_laws.proofs.Sequences.FineMoves.{FineMoves, Behind}
-use Rattle.world_laws.proofs.Sequences.Kept.Combinators.{Keeps, Alters, changes-keeps, looks-keeps, then-keeps, when-keeps}
+use Rattle.world_laws.proofs.Sequences.Kept.Combinators.{changes-keeps, looks-keeps, then-keeps, when-keeps}
 use Rattle.world_laws.proofs.Sequences.Kept.Tasks.{edit_task-alters}
 use Rattle.world_laws.proofs.Sequences.Kept.Dispatching.{to_head-keeps}
+use Rattle.machine_laws.proofs.Kept.Combinators.{Alters, Keeps}
 
 module _ {p : Image} {G : GoodWorld} {May Other : Naming} (moves : FineMoves p G May Other) where
   pub inherit-alters : (name : Who) (cause : Cause) (level : ℕ) → Alters G (Behind G) (inherit name cause level)

@@ -24,7 +24,7 @@ use Rattle.profile_machine.specs.Appointments.{first_due}
 use Rattle.profile_machine.specs.Instant.{with_port, with_masked, with_kept_interrupt, interrupt_comes, deliver_kept_interrupt, script_item, with_script, take_item, items_due, script_items, take_delay, end_delay, time_out, come_due, take_due, all_due, appointments_due, events_due, moments_due, expire, expire_timer, no_timers_due, timers_due, run_out, no_budget_due, budgets_due, spend_quantum, quantum_spent}
 use Rattle.machine_laws.proofs.FineMoves.{GoodWorld, Naming}
 use Rattle.world_laws.proofs.Sequences.FineMoves.{FineMoves, Behind, Loosens, BehindMove}
-use Rattle.world_laws.proofs.Sequences.Kept.Combinators.{Keeps, From, Leads, Alters, changes-from, changes-keeps, for_each-keeps, for_some-keeps, keeps-from, looks-from, looks-keeps, nothing-keeps, says-keeps, settles-leads, then-from, then-keeps, then-leads, when-keeps, then-turns, narrow-turns}
+use Rattle.world_laws.proofs.Sequences.Kept.Combinators.{changes-from, changes-keeps, for_each-keeps, for_some-keeps, keeps-from, looks-from, looks-keeps, nothing-keeps, says-keeps, settles-leads, then-from, then-keeps, then-leads, when-keeps, then-turns, narrow-turns}
 use Rattle.world_laws.proofs.Sequences.Kept.Dispatching.{to_tail-keeps, ready-keeps}
 use Rattle.world_laws.proofs.Sequences.Kept.Frames.{goes-keeps}
 use Rattle.world_laws.proofs.Sequences.Kept.Appointments.{drop_appointment-alters}
@@ -34,6 +34,7 @@ use Rattle.world_laws.proofs.Sequences.Kept.CallEnds.{trigger_at-keeps, deliver-
 use Rattle.world_laws.proofs.Sequences.Kept.Handlers.{interrupt-keeps, clear_timer-alters, release-keeps}
 use Rattle.profile_machine.specs.Values.{budget_of}
 use Rattle.profile_machine.specs.Handlers.{clear_timer}
+use Rattle.machine_laws.proofs.Kept.Combinators.{Alters, From, Keeps, Leads}
 
 module _ {p : Image} {G : GoodWorld} {May Other : Naming} (moves : FineMoves p G May Other) where
   pub goes_delay-keeps : (name : Who) (waiting : Option Waiting) → May name → Keeps G (Behind G) (take_delay p name waiting)

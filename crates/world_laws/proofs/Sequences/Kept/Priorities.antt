@@ -25,18 +25,19 @@ use Rattle.profile_machine.specs.Masters.{part_of}
 use Rattle.profile_machine.specs.Priorities.{placed_anew, reprioritize, reprioritize_own, replace_in, says_base, set_base, says_deadline, set_deadline, take_base, take_deadline, set_deferred, placing_of, defer_base, set_or_defer_base, set_base_of, priority_in_range, set_priority, quantum_of, set_quantum, defer_deadline, set_or_defer_deadline, set_deadline_of, delay_with_deadline, delay_and_set_deadline, is_edf_base, must_be_task}
 use Rattle.machine_laws.proofs.FineMoves.{GoodWorld, Naming}
 use Rattle.world_laws.proofs.Sequences.FineMoves.{FineMoves, Behind, Openings}
-use Rattle.world_laws.proofs.Sequences.Kept.Combinators.{Keeps, Alters, branch-keeps, changes-keeps, for_some-keeps, looks-keeps, nothing-keeps, says-keeps, sees-keeps, then-keeps, when-keeps, keeps-from, looks-from}
+use Rattle.world_laws.proofs.Sequences.Kept.Combinators.{branch-keeps, changes-keeps, for_some-keeps, looks-keeps, nothing-keeps, says-keeps, sees-keeps, then-keeps, when-keeps, keeps-from, looks-from}
 use Rattle.world_laws.proofs.Sequences.Kept.Tasks.{edit_task-alters}
 use Rattle.world_laws.proofs.Sequences.Kept.Dispatching.{to_tail-keeps}
 use Rattle.world_laws.proofs.Sequences.Kept.Frames.{goes-keeps, given-keeps, raise_if-keeps, given-from, given_as-from}
 use Rattle.world_laws.proofs.Sequences.Kept.Calls.{edit_call-alters, with_call-keeps, edit_queue-alters}
 use Rattle.world_laws.proofs.Sequences.Kept.Statements.{delay_to-keeps}
 use Rattle.std.proofs.Common.{◌≡◌, refl, subst}
-use Rattle.world_laws.proofs.Sequences.Kept.Masters.{found-other}
 use Rattle.profile_machine.specs.Operators.{Valued, ◌>>=◌}
 use Rattle.profile_machine.specs.declared.world.World.{World}
 use Rattle.ann_base.specs.declared.identities.TaskNo.{TaskNo}
 use Rattle.profile_machine.specs.Tasks.{found_task, is_who}
+use Rattle.machine_laws.proofs.Kept.Combinators.{Alters, Keeps}
+use Rattle.machine_laws.proofs.Kept.Masters.{found-other}
 
 abbrev well : world.Task → Valued world.Task
 well t = Ok t

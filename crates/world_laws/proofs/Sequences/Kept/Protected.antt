@@ -36,7 +36,7 @@ use Rattle.machine_laws.proofs.Moves.{LetsIn, FindsHeld, own}
 use Rattle.machine_laws.proofs.FineMoves.{GoodWorld, Naming, nature}
 use Rattle.world_laws.proofs.Sequences.FineMoves.{FineMoves, Openings, Behind}
 use Rattle.machine_laws.proofs.Kept.Entering.{entering-inside, entering-held, LetsIn-same, edit_task-objects}
-use Rattle.world_laws.proofs.Sequences.Kept.Combinators.{Keeps, Kept, From, Alters, branch-keeps, changes-keeps, keeps-from, looks-from, looks-keeps, said-from, says-keeps, sees-keeps, then-from, then-keeps, said-keeps}
+use Rattle.world_laws.proofs.Sequences.Kept.Combinators.{branch-keeps, changes-keeps, keeps-from, looks-from, looks-keeps, said-from, says-keeps, sees-keeps, then-from, then-keeps, said-keeps}
 use Rattle.world_laws.proofs.Sequences.Kept.Dispatching.{to_tail-keeps}
 use Rattle.world_laws.proofs.Sequences.Kept.Frames.{goes_then-from, push-alters, raises-keeps, given-keeps, raise_if-keeps, with_room-keeps, edit_mark-alters}
 use Rattle.world_laws.proofs.Sequences.Kept.Scopes.{open_scope-alters}
@@ -45,6 +45,7 @@ use Rattle.world_laws.proofs.Sequences.Kept.Calls.{edit_call-alters, unqueued-al
 use Rattle.world_laws.proofs.Sequences.Kept.Subprograms.{begin_body-keeps, handing-keeps}
 use Rattle.profile_machine.specs.declared.world.marks.Mark.{Mark}
 use Rattle.profile_machine.specs.declared.world.marks.Mark.TheVariants.{Scope, Handled, InProtected, InAccept, Abortable, InInitialize, InFinalize, InAssign}
+use Rattle.machine_laws.proofs.Kept.Combinators.{Alters, From, Keeps, Kept}
 
 -- the release of a protected action is not edited, nor what another mark is
 protected-nature : (f : ProtectedMark → ProtectedMark) → ((m : ProtectedMark) → (f m).release ≡ m.release) → (mark : Mark) → nature (edit_protected f mark) ≡ nature mark

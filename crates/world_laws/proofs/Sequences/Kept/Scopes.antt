@@ -10,7 +10,7 @@ use Rattle.profile_machine.specs.declared.world.scopes.Beginning.{Beginning}
 use Rattle.profile_machine.specs.Scopes.{edit_cells, write_cell, begin_scope, open_scope, end_scope}
 use Rattle.machine_laws.proofs.FineMoves.{GoodWorld, Naming}
 use Rattle.world_laws.proofs.Sequences.FineMoves.{FineMoves, Openings, Behind}
-use Rattle.world_laws.proofs.Sequences.Kept.Combinators.{Alters}
+use Rattle.machine_laws.proofs.Kept.Combinators.{Alters}
 
 module _ {p : Image} {G : GoodWorld} {May Other : Naming} (moves : FineMoves p G May Other) where
   pub edit_cells-alters : (id : ScopeId) (f : List Value → List Value) → Alters G (Behind G) (edit_cells id f)

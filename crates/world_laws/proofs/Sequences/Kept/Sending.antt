@@ -24,12 +24,13 @@ use Rattle.profile_machine.specs.Calls.{call_of}
 use Rattle.profile_machine.specs.Sending.{open_abortable, is_not_future, is_conditional, is_to_be_cancelled, cancel_at_once, appoint_timeout, wait_for_call, wait_or_cancel, not_accepted, send_on, cancel_sent, begin_abortable, timeout_again, sent_not_begun_by, sent_not_begun, new_abortable_mark, abortable_in, may_begin_abortable, may_time_out}
 use Rattle.machine_laws.proofs.FineMoves.{GoodWorld, Naming}
 use Rattle.world_laws.proofs.Sequences.FineMoves.{FineMoves, Behind, Openings, Loosens}
-use Rattle.world_laws.proofs.Sequences.Kept.Combinators.{Keeps, From, Alters, changes-keeps, looks-keeps, looks-from, keeps-from, then-from, nothing-keeps, says-keeps, then-keeps, unchanged-alters, when-keeps, from-keeps, changes_then-from, changes-from}
+use Rattle.world_laws.proofs.Sequences.Kept.Combinators.{changes-keeps, looks-keeps, looks-from, keeps-from, then-from, nothing-keeps, says-keeps, then-keeps, unchanged-alters, when-keeps, from-keeps, changes_then-from, changes-from}
 use Rattle.world_laws.proofs.Sequences.Kept.Dispatching.{block-keeps, ready-from}
 use Rattle.world_laws.proofs.Sequences.Kept.Calls.{edit_call-alters, with_call-keeps, says_call-keeps, unqueued-alters, attempt_with-keeps}
 use Rattle.world_laws.proofs.Sequences.Kept.CallEnds.{resume-keeps, deliver-keeps}
 use Rattle.profile_machine.specs.Program.{form_of}
 use Rattle.profile_machine.specs.Frames.{new_frame, push}
+use Rattle.machine_laws.proofs.Kept.Combinators.{Alters, From, Keeps}
 
 -- of a test that fails, unless the first part is why
 last_is_false : (a b c d : Bool) → (not a && (b || c || d)) ≡ false → a ≡ false → d ≡ false

@@ -44,7 +44,7 @@ use Rattle.std.proofs.Common.{◌≡◌, refl, sym, inl, ◌∙◌}
 use Rattle.machine_laws.proofs.Moves.{own}
 use Rattle.machine_laws.proofs.FineMoves.{GoodWorld, Naming}
 use Rattle.world_laws.proofs.Sequences.FineMoves.{FineMoves, Openings, Behind, Loosens, Ending}
-use Rattle.world_laws.proofs.Sequences.Kept.Combinators.{Keeps, changes-keeps, looks-keeps, nothing-keeps, says-keeps, then-keeps, Turns, then-turns, wide-turns, changes-turns, looks-turns, turns-from, when-turns, says-turns, with_call-turns, branch-turns, said-keeps, Alters}
+use Rattle.world_laws.proofs.Sequences.Kept.Combinators.{changes-keeps, looks-keeps, nothing-keeps, says-keeps, then-keeps, Turns, then-turns, wide-turns, changes-turns, looks-turns, turns-from, when-turns, says-turns, with_call-turns, branch-turns, said-keeps}
 use Rattle.world_laws.proofs.Sequences.Kept.Frames.{edit_top-alters, leaves-keeps, pass_on-keeps}
 use Rattle.world_laws.proofs.Sequences.Kept.Inheritance.{lose_running-keeps}
 use Rattle.world_laws.proofs.Sequences.Kept.Calls.{edit_call-alters, forget_call-alters, with_call-keeps, enqueue-keeps, attempt_with-keeps, with_call_known-keeps}
@@ -52,6 +52,7 @@ use Rattle.world_laws.proofs.Sequences.Kept.CallEnds.{resume-keeps, deliver-keep
 use Rattle.world_laws.proofs.Sequences.Kept.Protected.{edit_top_protected-alters, begin_call-keeps}
 use Rattle.world_laws.proofs.Sequences.Kept.Priorities.{set_deferred-keeps}
 use Rattle.world_laws.proofs.Sequences.Kept.Sending.{open_abortable-alters, wait_for_call-keeps, send_on-keeps, begin_abortable-keeps, sent_not_begun-keeps}
+use Rattle.machine_laws.proofs.Kept.Combinators.{Alters, Keeps}
 
 -- ---- where nothing else is served
 

@@ -32,12 +32,13 @@ use Rattle.profile_machine.specs.Statements.{null, assign, cells_from, copy_cell
 use Rattle.profile_machine.specs.Scopes.{put_cells}
 use Rattle.machine_laws.proofs.FineMoves.{GoodWorld, Naming}
 use Rattle.world_laws.proofs.Sequences.FineMoves.{FineMoves, Openings, Behind}
-use Rattle.world_laws.proofs.Sequences.Kept.Combinators.{Keeps, From, Alters, Gives, bind-gives, changes-keeps, keeps-from, looks-from, looks-keeps, nothing-keeps, ok-gives, said-keeps, sees-keeps, then-from, then-keeps}
+use Rattle.world_laws.proofs.Sequences.Kept.Combinators.{bind-gives, changes-keeps, keeps-from, looks-from, looks-keeps, nothing-keeps, ok-gives, said-keeps, sees-keeps, then-from, then-keeps}
 use Rattle.world_laws.proofs.Sequences.Kept.Frames.{given_world-from, goes-keeps, raises-keeps, exit_loop-keeps, given-keeps, raise_if-keeps, with_room-keeps}
 use Rattle.world_laws.proofs.Sequences.Kept.Dispatching.{to_tail-keeps, block-keeps}
 use Rattle.world_laws.proofs.Sequences.Kept.Scopes.{write_cell-alters, open_scope-alters}
 use Rattle.world_laws.proofs.Sequences.Kept.Appointments.{appoint-from}
 use Rattle.world_laws.proofs.Sequences.Kept.CallEnds.{store-gives}
+use Rattle.machine_laws.proofs.Kept.Combinators.{Alters, From, Gives, Keeps}
 
 module _ {p : Image} {G : GoodWorld} {May Other : Naming} (moves : FineMoves p G May Other) where
   pub null-keeps : (name : Who) (s : StatementNo) → May name → Keeps G (Behind G) (null p name s)

@@ -30,11 +30,12 @@ use Rattle.std.specs.Prelude.{slice_set}
 use Rattle.profile_machine.specs.Values.{seen_by}
 use Rattle.machine_laws.proofs.FineMoves.{GoodWorld, Naming}
 use Rattle.world_laws.proofs.Sequences.FineMoves.{FineMoves, Openings, Behind}
-use Rattle.world_laws.proofs.Sequences.Kept.Combinators.{Keeps, Alters, Gives, bind-gives, changes-keeps, looks-from, looks-keeps, nothing-keeps, ok-gives, sees-keeps, then-keeps, unchanged-alters}
+use Rattle.world_laws.proofs.Sequences.Kept.Combinators.{bind-gives, changes-keeps, looks-from, looks-keeps, nothing-keeps, ok-gives, sees-keeps, then-keeps, unchanged-alters}
 use Rattle.world_laws.proofs.Sequences.Kept.Frames.{given_world-from, becomes-from, goes-keeps, leaves-keeps, given-keeps, raise_if-keeps, with_room-keeps}
 use Rattle.world_laws.proofs.Sequences.Kept.Scopes.{open_scope-alters}
 use Rattle.world_laws.proofs.Sequences.Kept.Calls.{edit_call-alters}
 use Rattle.world_laws.proofs.Sequences.Kept.CallEnds.{store-gives}
+use Rattle.machine_laws.proofs.Kept.Combinators.{Alters, Gives, Keeps}
 
 module _ {p : Image} {G : GoodWorld} {May Other : Naming} (moves : FineMoves p G May Other) where
   pub handing-keeps : (name : Who) (f : SubprogramNo) (actuals : List Actual) (to : Destination) (step : Handed → ResultTo → Step) → ((x : Handed) (y : ResultTo) → Keeps G (Behind G) (step x y)) → Keeps G (Behind G) (handing p name f actuals to step)

@@ -42,7 +42,7 @@ use Rattle.std.proofs.Common.{◌≡◌, refl, ap, ◌∙◌, inl, ◌∷◌, sy
 use Rattle.profile_machine.specs.Values.{seen_by}
 use Rattle.machine_laws.proofs.FineMoves.{GoodWorld, Naming, EachIs, first_is_false, edit_task-drawn}
 use Rattle.world_laws.proofs.Sequences.FineMoves.{FineMoves, Openings, Behind, Loosens, Departing, Fitting, AllFitting}
-use Rattle.world_laws.proofs.Sequences.Kept.Combinators.{Keeps, From, Alters, branch-keeps, changes-keeps, cond-keeps, for_each-keeps, for_some-keeps, looks-from, looks-keeps, nothing-keeps, says-keeps, sees-keeps, then-keeps, when-keeps, for_each_task-keeps, some_of-others, listed-keeps, keeps-from, looks_at-from, changes_then-from, then-turns, changes-turns, looks-turns, turns-from, when-turns, says-turns, wide-from, Turns}
+use Rattle.world_laws.proofs.Sequences.Kept.Combinators.{branch-keeps, changes-keeps, cond-keeps, for_each-keeps, for_some-keeps, looks-from, looks-keeps, nothing-keeps, says-keeps, sees-keeps, then-keeps, when-keeps, for_each_task-keeps, some_of-others, listed-keeps, keeps-from, looks_at-from, changes_then-from, then-turns, changes-turns, looks-turns, turns-from, when-turns, says-turns, wide-from, Turns}
 use Rattle.world_laws.proofs.Sequences.Kept.Frames.{raise_if-from, given-from, edit_top-alters, goes-keeps, raises-keeps, pass_on-keeps, given-keeps, raise_if-keeps, popped, goes_then-from}
 use Rattle.world_laws.proofs.Sequences.Kept.Tasks.{edit_task-alters}
 use Rattle.world_laws.proofs.Sequences.Kept.Dispatching.{to_head-keeps, says_block-keeps, block-keeps, ready-from}
@@ -61,6 +61,7 @@ use Rattle.profile_machine.specs.Tasks.{is_made, is_made_state, edit_task, task_
 use Rattle.profile_machine.specs.Dispatching.{active_of, block, says_block, word_of, without_kept_level, ready}
 use Rattle.profile_machine.specs.Unwinding.{any_struck}
 use Rattle.profile_machine.specs.Masters.{has_dependents, may_terminate, leave_by_terminate, has_activating}
+use Rattle.machine_laws.proofs.Kept.Combinators.{Alters, From, Keeps}
 
 made-so : (s : State) (b : Bool) → is_made_state s ≡ b → b ≡ true → s ≡ Made
 made-so Made b is e = refl

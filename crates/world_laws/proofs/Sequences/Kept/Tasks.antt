@@ -7,7 +7,7 @@ use Rattle.profile_machine.specs.Tasks.{edit_task, with_frames}
 use Rattle.std.proofs.Common.{◌≡◌, List}
 use Rattle.machine_laws.proofs.FineMoves.{GoodWorld, Naming, natures}
 use Rattle.world_laws.proofs.Sequences.FineMoves.{FineMoves, Behind, StaysOn, onward_in}
-use Rattle.world_laws.proofs.Sequences.Kept.Combinators.{Alters}
+use Rattle.machine_laws.proofs.Kept.Combinators.{Alters}
 
 module _ {p : Image} {G : GoodWorld} {May Other : Naming} (moves : FineMoves p G May Other) where
   pub edit_task-alters : (name : Who) (f : Task → Task) → ((t : Task) → (f t).who ≡ t.who) → ((t : Task) → (f t).frames ≡ t.frames) → ((t : Task) → (f t).state ≡ t.state) → ((t : Task) → (f t).unit ≡ t.unit) → Alters G (Behind G) (edit_task name f)

@@ -16,12 +16,13 @@ use Rattle.profile_machine.specs.Unwinding.{struck_frame, edit_last, strike_oute
 use Rattle.machine_laws.proofs.FineMoves.{GoodWorld, Naming, nature, natures}
 use Rattle.world_laws.proofs.Sequences.FineMoves.{FineMoves, Behind, Loosens, StaysOn, onward_in}
 use Rattle.std.proofs.Common.{◌≡◌, List, [], ◌∷◌, refl, ap, inl, inr, None}
-use Rattle.world_laws.proofs.Sequences.Kept.Combinators.{Keeps, Alters, changes-keeps, looks-keeps, nothing-keeps, then-keeps, when-keeps, Turns, then-turns}
+use Rattle.world_laws.proofs.Sequences.Kept.Combinators.{changes-keeps, looks-keeps, nothing-keeps, then-keeps, when-keeps, Turns, then-turns}
 use Rattle.world_laws.proofs.Sequences.Kept.Tasks.{edit_task-alters, edit_frames-alters}
 use Rattle.world_laws.proofs.Sequences.Kept.Dispatching.{ready-keeps}
 use Rattle.world_laws.proofs.Sequences.Kept.Frames.{leaves-keeps}
 use Rattle.world_laws.proofs.Sequences.Kept.Appointments.{drop_delay-alters}
 use Rattle.world_laws.proofs.Sequences.Kept.Calls.{forget_call-alters, attempt-keeps}
+use Rattle.machine_laws.proofs.Kept.Combinators.{Alters, Keeps}
 
 -- who is struck has the marks that it had
 last-natures : (fs : List Frame) → natures (edit_last struck_frame fs) ≡ natures fs

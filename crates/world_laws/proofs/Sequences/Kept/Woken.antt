@@ -20,8 +20,9 @@ use Rattle.profile_machine.specs.WellFormed.{begins_sequence}
 use Rattle.machine_laws.proofs.FineMoves.{GoodWorld, Naming}
 use Rattle.world_laws.proofs.Sequences.FineMoves.{FineMoves, Loosening, Loosens, Behind}
 use Rattle.world_laws.proofs.Sequences.TaskEdits.{onward-pushed, onward-left}
-use Rattle.world_laws.proofs.Sequences.Kept.Combinators.{Keeps, From, Alters, Turns, then-turns, narrow-turns, changes-turns, nothing-turns, looks-turns, turns-from, branch-turns, says-keeps}
+use Rattle.world_laws.proofs.Sequences.Kept.Combinators.{Turns, then-turns, narrow-turns, changes-turns, nothing-turns, looks-turns, turns-from, branch-turns, says-keeps}
 use Rattle.world_laws.proofs.Sequences.Kept.Frames.{goes-keeps, edit_top-alters}
+use Rattle.machine_laws.proofs.Kept.Combinators.{Alters, From, Keeps}
 
 module _ {p : Image} {G : GoodWorld} {May Other : Naming} {name : Who} (l : Loosening p G May Other name) where
   -- it leaves its mark

@@ -59,7 +59,6 @@ use Rattle.line_laws.proofs.Handlers.OwnMoves.{Busy, BusyStep, busies, busy_open
 use Rattle.line_laws.proofs.Handlers.Attending.{Acted, calm_so, closes_so, busy-acted, busy_then, spared_then}
 use Rattle.line_laws.proofs.Handlers.Mixed.{from_by, keeps_at, then_by, looks_by, when_by, some_by, either_by, nothing_by}
 
-
 -- ---- the release has been served
 
 pub emptied-stands : (ns : List Nature) → Emptied ns → Standing ns

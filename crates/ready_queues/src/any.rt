@@ -4,7 +4,7 @@ ghost use Rattle.ready_queues.specs.Entries.{place_after, place_before};
 ghost use Rattle.ready_queues.specs.Disciplines.{any_discipline, rank_by, rank_by-after_tick};
 
 use crate::keys::{AnyKey, LevelKind};
-use crate::line::Line;
+use crate::level_queue::LevelQueue;
 use crate::policy::LevelPolicy;
 use ann_base::{Moment, NoMemory, Slot};
 use std::alloc::Global;
@@ -14,7 +14,7 @@ use std::marker::Model;
 #[derive(Drop)]
 pub struct AnyLevel {
     kind: LevelKind,
-    line: Line<AnyKey>,
+    queue: LevelQueue<AnyKey>,
 }
 
 impl Model for AnyLevel {
@@ -24,9 +24,9 @@ impl Model for AnyLevel {
 
     ghost Value = { OfKind };
 
-    ghost view = { λ level. record { kind = level.kind; entries = level.line } };
+    ghost view = { λ level. record { kind = level.kind; entries = level.queue } };
 
-    ghost invariant = { λ level. IsRanked (rank_by level.kind) level.line };
+    ghost invariant = { λ level. IsRanked (rank_by level.kind) level.queue };
 }
 
 impl AnyLevel {
@@ -37,7 +37,7 @@ impl AnyLevel {
     {
         Ok(AnyLevel {
             kind,
-            line: Line::with_room(alloc)?,
+            queue: LevelQueue::with_room(alloc)?,
         })
     }
 }
@@ -58,31 +58,31 @@ impl LevelPolicy for AnyLevel {
     }
 
     fn put_tail(&mut self, t: Slot, key: AnyKey) {
-        let place = place_behind(self.kind, self.line.entries(), key);
-        self.line.insert(place, t, key);
+        let place = place_behind(self.kind, self.queue.entries(), key);
+        self.queue.insert(place, t, key);
     }
 
     fn put_head(&mut self, t: Slot, key: AnyKey) {
-        let place = place_ahead(self.kind, self.line.entries(), key);
-        self.line.insert(place, t, key);
+        let place = place_ahead(self.kind, self.queue.entries(), key);
+        self.queue.insert(place, t, key);
     }
 
     fn remove(&mut self, t: Slot) {
-        self.line.remove(t);
+        self.queue.remove(t);
     }
 
     fn key(&self, t: Slot) -> AnyKey {
-        self.line.key(t)
+        self.queue.key(t)
     }
 
     fn head(&self) -> Option<Slot> {
-        self.line.head()
+        self.queue.head()
     }
 
     fn spend(&mut self, t: Slot, fixed: bool) -> bool {
-        let mut key = self.line.key(t);
+        let mut key = self.queue.key(t);
         key.quantum = key.quantum.saturating_sub(1);
-        self.line.set_key(t, key);
+        self.queue.set_key(t, key);
         is_spent(self.kind, key) && !fixed
     }
 

@@ -2,7 +2,7 @@
 ghost use Rattle.std.specs.Prelude.{◌≡◌, refl};
 ghost use Rattle.ready_queues.specs.Entries.{place_after, place_before};
 
-use crate::line::Line;
+use crate::level_queue::LevelQueue;
 use crate::policy::LevelPolicy;
 use ann_base::{Moment, NoMemory, Slot};
 use std::alloc::Global;
@@ -11,7 +11,7 @@ use std::marker::Model;
 /// A level whose tasks stand by their deadlines, the earliest first.
 #[derive(Drop)]
 pub struct EdfLevel {
-    line: Line<Moment>,
+    queue: LevelQueue<Moment>,
 }
 
 impl Model for EdfLevel {
@@ -20,9 +20,9 @@ impl Model for EdfLevel {
 
     ghost Value = { List (Entry ℤ) };
 
-    ghost view = { λ level. level.line };
+    ghost view = { λ level. level.queue };
 
-    ghost invariant = { λ level. IsRanked (λ deadline. deadline) level.line };
+    ghost invariant = { λ level. IsRanked (λ deadline. deadline) level.queue };
 }
 
 impl LevelPolicy for EdfLevel {
@@ -36,30 +36,30 @@ impl LevelPolicy for EdfLevel {
 
     fn with_room(alloc: Global) -> Result<Self, NoMemory> {
         Ok(EdfLevel {
-            line: Line::with_room(alloc)?,
+            queue: LevelQueue::with_room(alloc)?,
         })
     }
 
     fn put_tail(&mut self, t: Slot, key: Moment) {
-        let place = place_behind(self.line.entries(), key);
-        self.line.insert(place, t, key);
+        let place = place_behind(self.queue.entries(), key);
+        self.queue.insert(place, t, key);
     }
 
     fn put_head(&mut self, t: Slot, key: Moment) {
-        let place = place_ahead(self.line.entries(), key);
-        self.line.insert(place, t, key);
+        let place = place_ahead(self.queue.entries(), key);
+        self.queue.insert(place, t, key);
     }
 
     fn remove(&mut self, t: Slot) {
-        self.line.remove(t);
+        self.queue.remove(t);
     }
 
     fn key(&self, t: Slot) -> Moment {
-        self.line.key(t)
+        self.queue.key(t)
     }
 
     fn head(&self) -> Option<Slot> {
-        self.line.head()
+        self.queue.head()
     }
 
     fn spend(&mut self, _t: Slot, _fixed: bool) -> bool {

@@ -1,7 +1,7 @@
 //! FIFO_Within_Priorities (ISO/IEC 8652:2012, D.2.3).
 ghost use Rattle.std.specs.Prelude.{refl};
 
-use crate::line::Line;
+use crate::level_queue::LevelQueue;
 use crate::policy::LevelPolicy;
 use ann_base::{NoMemory, Slot};
 use std::alloc::Global;
@@ -9,7 +9,7 @@ use std::alloc::Global;
 /// A level whose tasks stand in the order in which they came.
 #[derive(Drop)]
 pub struct FifoLevel {
-    line: Line<()>,
+    queue: LevelQueue<()>,
 }
 
 impl LevelPolicy for FifoLevel {
@@ -17,35 +17,35 @@ impl LevelPolicy for FifoLevel {
 
     type Key = ();
 
-    ghost entries = { λ level. level.line };
+    ghost entries = { λ level. level.queue };
 
     ghost discipline = { λ _. fifo_discipline };
 
     fn with_room(alloc: Global) -> Result<Self, NoMemory> {
         Ok(FifoLevel {
-            line: Line::with_room(alloc)?,
+            queue: LevelQueue::with_room(alloc)?,
         })
     }
 
     fn put_tail(&mut self, t: Slot, key: ()) {
-        let end = self.line.entries().len();
-        self.line.insert(end, t, key);
+        let end = self.queue.entries().len();
+        self.queue.insert(end, t, key);
     }
 
     fn put_head(&mut self, t: Slot, key: ()) {
-        self.line.insert(0, t, key);
+        self.queue.insert(0, t, key);
     }
 
     fn remove(&mut self, t: Slot) {
-        self.line.remove(t);
+        self.queue.remove(t);
     }
 
     fn key(&self, t: Slot) {
-        self.line.key(t)
+        self.queue.key(t)
     }
 
     fn head(&self) -> Option<Slot> {
-        self.line.head()
+        self.queue.head()
     }
 
     fn spend(&mut self, _t: Slot, _fixed: bool) -> bool {

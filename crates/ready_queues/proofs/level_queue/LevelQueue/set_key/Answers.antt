@@ -1,7 +1,7 @@
 use Rattle.std.proofs.Common.{◌≡◌, set, ap, sym, ◌∙◌, arith, rules}
 use Rattle.ready_queues.specs.Entries.{place_of, rekeyed}
 use Rattle.ready_queues.proofs.EntryLemmas.{place_of-lt, rekeyed-is, IsDistinct-rekeyed, AreSlots-rekeyed}
-use Rattle.ready_queues.proofs.line.Line.set_key.Goals as goal
+use Rattle.ready_queues.proofs.level_queue.LevelQueue.set_key.Goals as goal
 
 pub index_mut-requires : goal.index_mut-requires
 index_mut-requires g c = let lt = place_of-lt c.args.t _ c.requires in search rules

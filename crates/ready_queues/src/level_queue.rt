@@ -1,4 +1,4 @@
-//! The entries of one level in a vector that is reserved once.
+//! The queue of one priority level: its entries in a vector that is reserved once.
 ghost use Rattle.std.specs.Prelude.{◌≡◌, ◌≤◌, [], length, IfOk, Some, true, false, insert};
 ghost use Rattle.ready_queues.specs.Entries.{IsSlot, holds, head_of, key_of, removed, rekeyed, place_of, IsDistinct};
 
@@ -8,30 +8,30 @@ use std::marker::Model;
 
 /// Slots with keys in an order that its owner decides. No slot stands there twice.
 #[derive(Drop)]
-pub struct Line<K> {
+pub struct LevelQueue<K> {
     entries: Vec<(Slot, K)>,
 }
 
-impl<K> Model for Line<K> {
+impl<K> Model for LevelQueue<K> {
     ghost use Rattle.std.specs.Prelude.{List, ◌≤◌, vec_capacity};
     ghost use Rattle.ann_base.specs.declared.identities.TheConstants.{SLOTS};
     ghost use Rattle.ready_queues.specs.Entries.{Entry, IsDistinct, AreSlots};
 
     ghost Value = { List (Entry K) };
 
-    ghost view = { λ line. line.entries.items };
+    ghost view = { λ queue. queue.entries.items };
 
-    ghost invariant = { λ line.
-        (SLOTS ≤ vec_capacity line.entries) × IsDistinct line.entries.items
-        × AreSlots line.entries.items };
+    ghost invariant = { λ queue.
+        (SLOTS ≤ vec_capacity queue.entries) × IsDistinct queue.entries.items
+        × AreSlots queue.entries.items };
 }
 
-impl<K: Copy> Line<K> {
-    /// An empty line with room for every slot.
-    pub fn with_room(alloc: Global) -> Result<Line<K>, NoMemory>
-        ensures { IfOk result (λ line. line ≡ []) }
+impl<K: Copy> LevelQueue<K> {
+    /// An empty queue with room for every slot.
+    pub fn with_room(alloc: Global) -> Result<LevelQueue<K>, NoMemory>
+        ensures { IfOk result (λ queue. queue ≡ []) }
     {
-        Ok(Line {
+        Ok(LevelQueue {
             entries: Vec::with_capacity(alloc, SLOTS)?,
         })
     }

@@ -1,6 +1,6 @@
 use Rattle.std.proofs.Common.{◌<◌, ◌≡◌, arith, false}
 use Rattle.ready_queues.proofs.EntryLemmas.{length-lt, IsDistinct-insert, AreSlots-insert}
-use Rattle.ready_queues.proofs.line.Line.insert.Goals as goal
+use Rattle.ready_queues.proofs.level_queue.LevelQueue.insert.Goals as goal
 
 pub unwrap-requires : goal.unwrap-requires
 unwrap-requires g c = let absent = rw (← c.self.view_is) at c.requires.absent in c.insert.ensures.succeeds (let room = length-lt c.args.t _ c.self.invariant.1 c.self.invariant.2 c.requires.slot absent in omega arith)

@@ -2,7 +2,7 @@ use Rattle.std.proofs.Common.{◌≡◌, arith, rules, ap, sym, ◌∙◌}
 use Rattle.std.specs.Prelude.{remove}
 use Rattle.ready_queues.specs.Entries.{removed, place_of}
 use Rattle.ready_queues.proofs.EntryLemmas.{place_of-lt, removed-is, IsDistinct-removed, AreSlots-removed}
-use Rattle.ready_queues.proofs.line.Line.remove.Goals as goal
+use Rattle.ready_queues.proofs.level_queue.LevelQueue.remove.Goals as goal
 
 pub remove-requires : goal.remove-requires
 remove-requires g c = let lt = place_of-lt c.args.t _ c.requires in search rules

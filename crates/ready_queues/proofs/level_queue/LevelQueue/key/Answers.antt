@@ -1,6 +1,6 @@
 use Rattle.std.proofs.Common.{arith, rules}
 use Rattle.ready_queues.proofs.EntryLemmas.{place_of-lt, key_of-place}
-use Rattle.ready_queues.proofs.line.Line.key.Goals as goal
+use Rattle.ready_queues.proofs.level_queue.LevelQueue.key.Goals as goal
 
 pub index-requires : goal.index-requires
 index-requires g c = let lt = place_of-lt c.args.t _ c.requires in search rules

@@ -1,8 +1,8 @@
--- The actions of predefined procedures that differ in nothing but in what they make of like arguments (ISO/IEC 8652:2012, D.2.5,
--- D.2.6, D.5.1, D.14.1, D.14.2, D.15).
+-- The actions of predefined procedures that differ in nothing but in what they make of like arguments, and the names of their
+-- formals (ISO/IEC 8652:2012, D.2.5, D.2.6, D.5.1, D.14.1, D.14.2, D.15).
 use Rattle.profile_machine.specs.declared.numbers.DeclNo.{DeclNo}
 use Rattle.profile_machine.specs.declared.numbers.ExprNo.{ExprNo}
-use Rattle.std.specs.Prelude.{Option}
+use Rattle.std.specs.Prelude.{ℕ, List, [], ◌∷◌, Option, codes}
 use Rattle.profile_machine.specs.declared.expressions.VariableName.{VariableName}
 use Rattle.profile_machine.specs.declared.statements.StatementForm.{StatementForm}
 use Rattle.profile_machine.specs.declared.statements.StatementForm.TheVariants as action
@@ -21,6 +21,14 @@ cancel_action cancelling.Event = action.CancelEvent
 cancel_action cancelling.Timer = action.CancelTimer
 cancel_action cancelling.Budget = action.CancelBudget
 
+abbrev pub cancelled_formal : Cancelling → List ℕ
+cancelled_formal cancelling.Event = codes "event"
+cancelled_formal cancelling.Timer = codes "tm"
+cancelled_formal cancelling.Budget = codes "gb"
+
+abbrev pub cancel_formals : Cancelling → List (List ℕ)
+cancel_formals c = cancelled_formal c ∷ codes "cancelled" ∷ []
+
 -- what is done with a group budget and a value
 abbrev pub budget_action : Budgeting → DeclNo → ExprNo → StatementForm
 budget_action budgeting.AddTask = action.AddTask
@@ -28,12 +36,39 @@ budget_action budgeting.RemoveTask = action.RemoveTask
 budget_action budgeting.Replenish = action.Replenish
 budget_action budgeting.Add = action.AddToBudget
 
+abbrev pub budgeted_formal : Budgeting → List ℕ
+budgeted_formal budgeting.AddTask = codes "t"
+budgeted_formal budgeting.RemoveTask = codes "t"
+budgeted_formal budgeting.Replenish = codes "to"
+budgeted_formal budgeting.Add = codes "interval"
+
+abbrev pub budget_formals : Budgeting → List (List ℕ)
+budget_formals b = codes "gb" ∷ budgeted_formal b ∷ []
+
 -- what is set of a task
 abbrev pub task_action : OfTask → ExprNo → Option ExprNo → StatementForm
 task_action of_task.Priority = action.SetPriority
 task_action of_task.Deadline = action.SetDeadline
 
+abbrev pub set_formal : OfTask → List ℕ
+set_formal of_task.Priority = codes "priority"
+set_formal of_task.Deadline = codes "d"
+
+abbrev pub task_formals : OfTask → List (List ℕ)
+task_formals o = set_formal o ∷ codes "t" ∷ []
+
 -- what is done with two values
 abbrev pub values_action : OfValues → ExprNo → ExprNo → StatementForm
 values_action of_values.Quantum = action.SetQuantum
 values_action of_values.DelayUntilAndDeadline = action.DelayUntilAndSetDeadline
+
+abbrev pub first_formal : OfValues → List ℕ
+first_formal of_values.Quantum = codes "pri"
+first_formal of_values.DelayUntilAndDeadline = codes "delay_until_time"
+
+abbrev pub second_formal : OfValues → List ℕ
+second_formal of_values.Quantum = codes "quantum"
+second_formal of_values.DelayUntilAndDeadline = codes "deadline_offset"
+
+abbrev pub values_formals : OfValues → List (List ℕ)
+values_formals o = first_formal o ∷ second_formal o ∷ []

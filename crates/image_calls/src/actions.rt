@@ -1,16 +1,17 @@
 //! Actions of predefined procedures that differ in nothing but in what they make of like arguments (ISO/IEC 8652:2012,
 //! D.2.5, D.2.6, D.5.1, D.14.1, D.14.2, D.15).
-ghost use Rattle.std.specs.Prelude.{◌≡◌, ◌∷◌, [], option_copied};
+ghost use Rattle.std.specs.Prelude.{◌≡◌, option_copied};
 ghost use Rattle.ada_image.specs.Made.{Made};
+ghost use Rattle.ada_image.specs.ImageOfExpressions.{actuals_for};
 ghost use Rattle.ada_image.specs.ImageOfProcedures.{thing_of, variable_of, optional_value, cancel_put, budget_put, task_put, values_put};
-ghost use Rattle.image_calls.specs.Actions.{cancel_action, budget_action, task_action, values_action};
+ghost use Rattle.image_calls.specs.Actions.{cancel_action, cancelled_formal, cancel_formals, budget_action, budgeted_formal, budget_formals, task_action, set_formal, task_formals, values_action, first_formal, second_formal, values_formals};
 
 use ada_image::{Lists, Within};
-use ada_tree::Expression;
+use ada_tree::{Argument, Expression};
 use ann_base::NoMemory;
 use image_actuals::{no_variable, value_or_none, variable_in};
 use image_expressions::{expression_made, named, thing_in};
-use image_layout::action_put;
+use image_layout::{action_put, argument_from};
 use profile_machine::{DeclNo, ExprNo, StatementForm, StatementNo, VariableName};
 
 /// The event, timer or budget that an actual names.
@@ -85,26 +86,36 @@ impl Cancelling {
             },
         }
     }
+
+    /// The name of the formal for the event, timer or budget.
+    fn formal(self) -> &'static [u8]
+        ensures { result.now ≡ cancelled_formal self }
+    {
+        match self {
+            Cancelling::Event => b"event",
+            Cancelling::Timer => b"tm",
+            Cancelling::Budget => b"gb",
+        }
+    }
 }
 
 /// Cancel_Handler (D.14.1, D.14.2, D.15).
-#[tactic(auto, unfolding(ada_image::specs::ImageOfProcedures::cancel_put))]
+#[tactic(auto, unfolding(ada_image::specs::ImageOfProcedures::cancel_put, ada_image::specs::ImageOfExpressions::actuals_for, ada_image::specs::ImageOfExpressions::arguments_from))]
 pub(crate) fn cancel_put(
     lists: &mut Lists,
     within: &Within<'_, '_>,
     cancelling: Cancelling,
-    thing: Option<&Expression>,
-    cancelled: Option<&Expression>,
+    arguments: &[Argument<Expression>],
     signs: u32,
     next: Option<StatementNo>,
 ) -> Result<Option<StatementNo>, NoMemory>
     ensures { Made
         (cancel_put (cancel_action cancelling) within.now
-        (option_copied thing.entry ∷ option_copied cancelled.entry ∷ []) signs next) lists.old
-        lists.new result }
+        (actuals_for (cancel_formals cancelling) arguments.now) signs next) lists.old lists.new
+        result }
 {
-    let thing = thing_of(within, thing);
-    let cancelled = variable_of(lists, within, cancelled)?;
+    let thing = thing_of(within, argument_from(0, cancelling.formal(), arguments));
+    let cancelled = variable_of(lists, within, argument_from(1, b"cancelled", arguments))?;
     action_put(lists, cancelling.action(thing, cancelled), signs, next)
 }
 
@@ -141,26 +152,41 @@ impl Budgeting {
             },
         }
     }
+
+    /// The name of the formal for the value.
+    fn formal(self) -> &'static [u8]
+        ensures { result.now ≡ budgeted_formal self }
+    {
+        match self {
+            Budgeting::AddTask => b"t",
+            Budgeting::RemoveTask => b"t",
+            Budgeting::Replenish => b"to",
+            Budgeting::Add => b"interval",
+        }
+    }
 }
 
 /// A call of Group_Budgets with a budget and a value (D.14.2).
-#[tactic(auto, unfolding(ada_image::specs::ImageOfProcedures::budget_put))]
+#[tactic(auto, unfolding(ada_image::specs::ImageOfProcedures::budget_put, ada_image::specs::ImageOfExpressions::actuals_for, ada_image::specs::ImageOfExpressions::arguments_from))]
 pub(crate) fn budget_put(
     lists: &mut Lists,
     within: &Within<'_, '_>,
     budgeting: Budgeting,
-    budget: Option<&Expression>,
-    value: Option<&Expression>,
+    arguments: &[Argument<Expression>],
     signs: u32,
     next: Option<StatementNo>,
 ) -> Result<Option<StatementNo>, NoMemory>
     ensures { Made
         (budget_put (budget_action budgeting) within.now
-        (option_copied budget.entry ∷ option_copied value.entry ∷ []) signs next) lists.old
-        lists.new result }
+        (actuals_for (budget_formals budgeting) arguments.now) signs next) lists.old lists.new
+        result }
 {
-    let budget = thing_of(within, budget);
-    let value = value_or_none(lists, within, value)?;
+    let budget = thing_of(within, argument_from(0, b"gb", arguments));
+    let value = value_or_none(
+        lists,
+        within,
+        argument_from(1, budgeting.formal(), arguments),
+    )?;
     action_put(lists, budgeting.action(budget, value), signs, next)
 }
 
@@ -188,26 +214,35 @@ impl OfTask {
             },
         }
     }
+
+    /// The name of the formal for the value.
+    fn formal(self) -> &'static [u8]
+        ensures { result.now ≡ set_formal self }
+    {
+        match self {
+            OfTask::Priority => b"priority",
+            OfTask::Deadline => b"d",
+        }
+    }
 }
 
 /// A call that sets something of a task, of the calling one where none is given (D.2.6, D.5.1).
-#[tactic(auto, unfolding(ada_image::specs::ImageOfProcedures::task_put))]
+#[tactic(auto, unfolding(ada_image::specs::ImageOfProcedures::task_put, ada_image::specs::ImageOfExpressions::actuals_for, ada_image::specs::ImageOfExpressions::arguments_from))]
 pub(crate) fn task_put(
     lists: &mut Lists,
     within: &Within<'_, '_>,
     of_task: OfTask,
-    value: Option<&Expression>,
-    task: Option<&Expression>,
+    arguments: &[Argument<Expression>],
     signs: u32,
     next: Option<StatementNo>,
 ) -> Result<Option<StatementNo>, NoMemory>
     ensures { Made
         (task_put (task_action of_task) within.now
-        (option_copied value.entry ∷ option_copied task.entry ∷ []) signs next) lists.old
-        lists.new result }
+        (actuals_for (task_formals of_task) arguments.now) signs next) lists.old lists.new
+        result }
 {
-    let value = value_or_none(lists, within, value)?;
-    let task = optional_value(lists, within, task)?;
+    let value = value_or_none(lists, within, argument_from(0, of_task.formal(), arguments))?;
+    let task = optional_value(lists, within, argument_from(1, b"t", arguments))?;
     action_put(lists, of_task.action(value, task), signs, next)
 }
 
@@ -235,25 +270,52 @@ impl OfValues {
             },
         }
     }
+
+    /// The name of the formal for the first value.
+    fn first_formal(self) -> &'static [u8]
+        ensures { result.now ≡ first_formal self }
+    {
+        match self {
+            OfValues::Quantum => b"pri",
+            OfValues::DelayUntilAndDeadline => b"delay_until_time",
+        }
+    }
+
+    /// The name of the formal for the second value.
+    fn second_formal(self) -> &'static [u8]
+        ensures { result.now ≡ second_formal self }
+    {
+        match self {
+            OfValues::Quantum => b"quantum",
+            OfValues::DelayUntilAndDeadline => b"deadline_offset",
+        }
+    }
 }
 
 /// A call with two values (D.2.5, D.2.6).
-#[tactic(auto, unfolding(ada_image::specs::ImageOfProcedures::values_put))]
+#[tactic(auto, unfolding(ada_image::specs::ImageOfProcedures::values_put, ada_image::specs::ImageOfExpressions::actuals_for, ada_image::specs::ImageOfExpressions::arguments_from))]
 pub(crate) fn values_put(
     lists: &mut Lists,
     within: &Within<'_, '_>,
     of_values: OfValues,
-    first: Option<&Expression>,
-    second: Option<&Expression>,
+    arguments: &[Argument<Expression>],
     signs: u32,
     next: Option<StatementNo>,
 ) -> Result<Option<StatementNo>, NoMemory>
     ensures { Made
         (values_put (values_action of_values) within.now
-        (option_copied first.entry ∷ option_copied second.entry ∷ []) signs next) lists.old
-        lists.new result }
+        (actuals_for (values_formals of_values) arguments.now) signs next) lists.old lists.new
+        result }
 {
-    let first = value_or_none(lists, within, first)?;
-    let second = value_or_none(lists, within, second)?;
+    let first = value_or_none(
+        lists,
+        within,
+        argument_from(0, of_values.first_formal(), arguments),
+    )?;
+    let second = value_or_none(
+        lists,
+        within,
+        argument_from(1, of_values.second_formal(), arguments),
+    )?;
     action_put(lists, of_values.action(first, second), signs, next)
 }

@@ -7,27 +7,48 @@
     tools/definitions/perform.py report TRACE
     tools/definitions/perform.py load N
 
-What is written, the note and the status are those of the program; the lines of a run are written as they come. The tests of
-tables, rta and demand, are not computed here, and end with status 70.
+What is written, the note and the status are those of the program, also where standard output or standard error takes no
+more; the lines of a run are written as they come. The tests of tables, rta and demand, are not computed here, and end with
+status 70.
 """
+import os
 import sys
 
 import interpreter
 
 NOT_COMPUTED = 70
+WRITE_FAULT = interpreter.refused(interpreter.Con("WriteFault"))
 
 
-def write(text):
-    sys.stdout.buffer.write(text)
-    sys.stdout.flush()
+class Unwritten(Exception):
+    """An output takes no more."""
+
+
+def write_to(output, text):
+    try:
+        output.buffer.write(text)
+        output.flush()
+    except OSError:
+        # what the output still holds is not tried again when this script ends
+        os.dup2(os.open(os.devnull, os.O_WRONLY), output.fileno())
+        raise Unwritten
+
+
+def performed():
+    try:
+        return interpreter.perform(sys.argv[1:], interpreter.content, lambda text: write_to(sys.stdout, text))
+    except Unwritten:
+        return WRITE_FAULT
+    except NotImplementedError as why:
+        return f"perform: {why}\n".encode(), NOT_COMPUTED
 
 
 def main():
+    notes, status = performed()
     try:
-        notes, status = interpreter.perform(sys.argv[1:], interpreter.content, write)
-    except NotImplementedError as why:
-        notes, status = f"perform: {why}\n".encode(), NOT_COMPUTED
-    sys.stderr.buffer.write(notes)
+        write_to(sys.stderr, notes)
+    except Unwritten:
+        return WRITE_FAULT[1]
     return status
 
 

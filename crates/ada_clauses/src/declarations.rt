@@ -7,6 +7,7 @@ ghost use Rattle.ada_grammar.specs.Reads.{Reads};
 
 use ada_expressions::{below, bounds, expression, identifiers, name, subtype_indication};
 use ada_grammar::{Cursor, Stuck};
+use ada_lex::{Delimiter, Reserved};
 use ada_tree::{
     Component, Declaration, Expression, Identifier, ObjectDeclaration, OneOrMore,
     SubtypeDeclaration, TypeDeclaration, TypeDefinition,
@@ -24,8 +25,8 @@ fn initial_value(
 ) -> Result<Option<Expression>, OrMemory<Stuck>>
     ensures { Reads result cursor.new (initial_of left cursor.old) }
 {
-    if cursor.is_delimiter(b":=") {
-        cursor.delimiter(b":=")?;
+    if cursor.is_delimiter(Delimiter::Becomes) {
+        cursor.delimiter(Delimiter::Becomes)?;
         Ok(Some(expression(alloc, cursor, left)?))
     } else {
         Ok(None)
@@ -42,11 +43,11 @@ fn object_declaration<Q>(
 ) -> Result<Declaration<Q>, OrMemory<Stuck>>
     ensures { Reads result cursor.new (object_of left names cursor.old) }
 {
-    let aliased = cursor.flag(b"aliased")?;
-    let constant = cursor.flag(b"constant")?;
+    let aliased = cursor.flag(Reserved::Aliased)?;
+    let constant = cursor.flag(Reserved::Constant)?;
     let subtype = subtype_indication(alloc, cursor, left)?;
     let initial = initial_value(alloc, cursor, left)?;
-    cursor.delimiter(b";")?;
+    cursor.delimiter(Delimiter::Semicolon)?;
     Ok(Declaration::Object(ObjectDeclaration {
         names,
         aliased,
@@ -64,8 +65,8 @@ fn exception_declaration<Q>(
 ) -> Result<Declaration<Q>, OrMemory<Stuck>>
     ensures { Reads result cursor.new (exception_of names cursor.old) }
 {
-    cursor.word(b"exception")?;
-    cursor.delimiter(b";")?;
+    cursor.word(Reserved::Exception)?;
+    cursor.delimiter(Delimiter::Semicolon)?;
     Ok(Declaration::Exception { names })
 }
 
@@ -79,8 +80,8 @@ pub fn named_declaration<Q>(
     ensures { Reads result cursor.new (named_declaration_of left cursor.old) }
 {
     let names = identifiers(alloc, cursor)?;
-    cursor.delimiter(b":")?;
-    if cursor.is_word(b"exception") {
+    cursor.delimiter(Delimiter::Colon)?;
+    if cursor.is_word(Reserved::Exception) {
         exception_declaration(cursor, names)
     } else {
         object_declaration(alloc, cursor, left, names)
@@ -97,10 +98,10 @@ fn component(
     ensures { Reads result cursor.new (component_of left cursor.old) }
 {
     let names = identifiers(alloc, cursor)?;
-    cursor.delimiter(b":")?;
+    cursor.delimiter(Delimiter::Colon)?;
     let subtype = subtype_indication(alloc, cursor, left)?;
     let initial = initial_value(alloc, cursor, left)?;
-    cursor.delimiter(b";")?;
+    cursor.delimiter(Delimiter::Semicolon)?;
     Ok(Component {
         names,
         subtype,
@@ -138,7 +139,7 @@ fn enumeration(
 {
     cursor.open(left)?;
     let literals = identifiers(alloc, cursor)?;
-    cursor.delimiter(b")")?;
+    cursor.delimiter(Delimiter::CloseBracket)?;
     Ok(TypeDefinition::Enumeration { literals })
 }
 
@@ -151,11 +152,11 @@ fn array(
 ) -> Result<TypeDefinition, OrMemory<Stuck>>
     ensures { Reads result cursor.new (array_of left cursor.old) }
 {
-    cursor.word(b"array")?;
+    cursor.word(Reserved::Array)?;
     cursor.open(left)?;
     let (low, high) = bounds(alloc, cursor, below(left))?;
-    cursor.delimiter(b")")?;
-    cursor.word(b"of")?;
+    cursor.delimiter(Delimiter::CloseBracket)?;
+    cursor.word(Reserved::Of)?;
     let component = subtype_indication(alloc, cursor, left)?;
     Ok(TypeDefinition::Array {
         low,
@@ -169,8 +170,8 @@ fn array(
 fn null_record(cursor: &mut Cursor<'_>) -> Result<Option<OneOrMore<Component>>, OrMemory<Stuck>>
     ensures { Reads result cursor.new (null_record_of cursor.old) }
 {
-    cursor.word(b"null")?;
-    cursor.word(b"record")?;
+    cursor.word(Reserved::Null)?;
+    cursor.word(Reserved::Record)?;
     Ok(None)
 }
 
@@ -183,11 +184,11 @@ fn components_record(
 ) -> Result<Option<OneOrMore<Component>>, OrMemory<Stuck>>
     ensures { Reads result cursor.new (components_record_of left cursor.old) }
 {
-    cursor.word(b"record")?;
+    cursor.word(Reserved::Record)?;
     let first = component(alloc, cursor, left)?;
     let others = add_components(alloc, cursor, left, Items::new(alloc))?;
-    cursor.word(b"end")?;
-    cursor.word(b"record")?;
+    cursor.word(Reserved::End)?;
+    cursor.word(Reserved::Record)?;
     Ok(Some(OneOrMore { first, others }))
 }
 
@@ -200,7 +201,7 @@ fn extension(
 ) -> Result<Option<OneOrMore<Component>>, OrMemory<Stuck>>
     ensures { Reads result cursor.new (extension_of left cursor.old) }
 {
-    if cursor.is_word(b"null") {
+    if cursor.is_word(Reserved::Null) {
         null_record(cursor)
     } else {
         components_record(alloc, cursor, left)
@@ -216,9 +217,9 @@ fn derived(
 ) -> Result<TypeDefinition, OrMemory<Stuck>>
     ensures { Reads result cursor.new (derived_of left cursor.old) }
 {
-    cursor.word(b"new")?;
+    cursor.word(Reserved::New)?;
     let parent = name(alloc, cursor)?;
-    cursor.word(b"with")?;
+    cursor.word(Reserved::With)?;
     let components = extension(alloc, cursor, left)?;
     Ok(TypeDefinition::Derived { parent, components })
 }
@@ -232,9 +233,9 @@ fn type_definition(
 ) -> Result<TypeDefinition, OrMemory<Stuck>>
     ensures { Reads result cursor.new (definition_of left cursor.old) }
 {
-    if cursor.is_delimiter(b"(") {
+    if cursor.is_delimiter(Delimiter::OpenBracket) {
         enumeration(alloc, cursor, left)
-    } else if cursor.is_word(b"array") {
+    } else if cursor.is_word(Reserved::Array) {
         array(alloc, cursor, left)
     } else {
         derived(alloc, cursor, left)
@@ -250,11 +251,11 @@ pub fn type_declaration<Q>(
 ) -> Result<Declaration<Q>, OrMemory<Stuck>>
     ensures { Reads result cursor.new (type_of left cursor.old) }
 {
-    let place = cursor.word(b"type")?;
+    let place = cursor.word(Reserved::TypeWord)?;
     let name = cursor.identifier(alloc)?;
-    cursor.word(b"is")?;
+    cursor.word(Reserved::Is)?;
     let definition = type_definition(alloc, cursor, left)?;
-    cursor.delimiter(b";")?;
+    cursor.delimiter(Delimiter::Semicolon)?;
     Ok(Declaration::Type(TypeDeclaration {
         place,
         name,
@@ -271,11 +272,11 @@ pub fn subtype_declaration<Q>(
 ) -> Result<Declaration<Q>, OrMemory<Stuck>>
     ensures { Reads result cursor.new (subtype_of left cursor.old) }
 {
-    let place = cursor.word(b"subtype")?;
+    let place = cursor.word(Reserved::Subtype)?;
     let name = cursor.identifier(alloc)?;
-    cursor.word(b"is")?;
+    cursor.word(Reserved::Is)?;
     let subtype = subtype_indication(alloc, cursor, left)?;
-    cursor.delimiter(b";")?;
+    cursor.delimiter(Delimiter::Semicolon)?;
     Ok(Declaration::Subtype(SubtypeDeclaration {
         place,
         name,
@@ -291,8 +292,8 @@ pub fn use_clause<Q>(
 ) -> Result<Declaration<Q>, OrMemory<Stuck>>
     ensures { Reads result cursor.new (use_of cursor.old) }
 {
-    let place = cursor.word(b"use")?;
+    let place = cursor.word(Reserved::Use)?;
     let name = name(alloc, cursor)?;
-    cursor.delimiter(b";")?;
+    cursor.delimiter(Delimiter::Semicolon)?;
     Ok(Declaration::Use { place, name })
 }

@@ -9,6 +9,7 @@ ghost use Rattle.ada_grammar.specs.Reads.{Reads};
 use crate::declarations::add_components;
 use ada_expressions::{expression, first_before, parameters, subtype_indication};
 use ada_grammar::{Cursor, Stuck};
+use ada_lex::{Delimiter, Reserved};
 use ada_tree::{
     Aspect, Component, Declaration, EntryDeclaration, EntryHead, Expression, ProtectedDeclaration,
     ProtectedOperation, SubprogramSpecification, TaskDeclaration, TaskDefinition,
@@ -26,8 +27,8 @@ fn aspect_value(
 ) -> Result<Option<Expression>, OrMemory<Stuck>>
     ensures { Reads result cursor.new (aspect_value_of left cursor.old) }
 {
-    if cursor.is_delimiter(b"=>") {
-        cursor.delimiter(b"=>")?;
+    if cursor.is_delimiter(Delimiter::Arrow) {
+        cursor.delimiter(Delimiter::Arrow)?;
         Ok(Some(expression(alloc, cursor, left)?))
     } else {
         Ok(None)
@@ -54,7 +55,7 @@ fn next_aspect(
     ensures { Reads result cursor.new
         (behind_delimiter_of (codes ",") (aspect_of left) cursor.old) }
 {
-    cursor.delimiter(b",")?;
+    cursor.delimiter(Delimiter::Comma)?;
     aspect(alloc, cursor, left)
 }
 
@@ -70,7 +71,7 @@ fn add_aspects(
         (length cursor.old) found cursor.old) }
 {
     for _turn in 0..cursor.remaining() {
-        if !cursor.is_delimiter(b",") {
+        if !cursor.is_delimiter(Delimiter::Comma) {
             return Ok(found);
         }
         found.push(next_aspect(alloc, cursor, left)?)?;
@@ -87,7 +88,7 @@ fn given_aspects(
 ) -> Result<Items<Aspect>, OrMemory<Stuck>>
     ensures { Reads result cursor.new (given_aspects_of left cursor.old) }
 {
-    cursor.word(b"with")?;
+    cursor.word(Reserved::With)?;
     let first = aspect(alloc, cursor, left)?;
     let others = add_aspects(alloc, cursor, left, Items::new(alloc))?;
     Ok(first_before(alloc, first, others)?)
@@ -102,7 +103,7 @@ pub fn aspects(
 ) -> Result<Items<Aspect>, OrMemory<Stuck>>
     ensures { Reads result cursor.new (aspects_of left cursor.old) }
 {
-    if cursor.is_word(b"with") {
+    if cursor.is_word(Reserved::With) {
         given_aspects(alloc, cursor, left)
     } else {
         Ok(Items::new(alloc))
@@ -114,8 +115,8 @@ pub fn aspects(
 fn overriding_indicator(cursor: &mut Cursor<'_>) -> Result<Option<Place>, OrMemory<Stuck>>
     ensures { Reads result cursor.new (overriding_of cursor.old) }
 {
-    if cursor.is_word(b"overriding") {
-        Ok(Some(cursor.word(b"overriding")?))
+    if cursor.is_word(Reserved::Overriding) {
+        Ok(Some(cursor.word(Reserved::Overriding)?))
     } else {
         Ok(None)
     }
@@ -132,7 +133,7 @@ fn procedure_specification(
     ensures reads { Reads result cursor.new (procedure_of left overriding cursor.old) }
     ensures lower { IfOk result (λ it. map to_ascii_lowercase it.name.text ≡ it.name.text) }
 {
-    let place = cursor.word(b"procedure")?;
+    let place = cursor.word(Reserved::Procedure)?;
     let name = cursor.identifier(alloc)?;
     let parameters = parameters(alloc, cursor, left)?;
     let aspects = aspects(alloc, cursor, left)?;
@@ -157,10 +158,10 @@ fn function_specification(
     ensures reads { Reads result cursor.new (function_of left overriding cursor.old) }
     ensures lower { IfOk result (λ it. map to_ascii_lowercase it.name.text ≡ it.name.text) }
 {
-    let place = cursor.word(b"function")?;
+    let place = cursor.word(Reserved::Function)?;
     let name = cursor.identifier(alloc)?;
     let parameters = parameters(alloc, cursor, left)?;
-    cursor.word(b"return")?;
+    cursor.word(Reserved::Return)?;
     let result = subtype_indication(alloc, cursor, left)?;
     let aspects = aspects(alloc, cursor, left)?;
     Ok(SubprogramSpecification {
@@ -184,7 +185,7 @@ pub fn specification(
     ensures lower { IfOk result (λ it. map to_ascii_lowercase it.name.text ≡ it.name.text) }
 {
     let overriding = overriding_indicator(cursor)?;
-    if cursor.is_word(b"function") {
+    if cursor.is_word(Reserved::Function) {
         function_specification(alloc, cursor, left, overriding)
     } else {
         procedure_specification(alloc, cursor, left, overriding)
@@ -195,7 +196,9 @@ pub fn specification(
 pub fn begins_specification(cursor: &Cursor<'_>) -> bool
     ensures { result ≡ begins_specification cursor.now }
 {
-    cursor.is_word(b"overriding") || cursor.is_word(b"procedure") || cursor.is_word(b"function")
+    cursor.is_word(Reserved::Overriding)
+        || cursor.is_word(Reserved::Procedure)
+        || cursor.is_word(Reserved::Function)
 }
 
 /// `entry NAME [PARAMETERS];` (9.5.2)
@@ -207,10 +210,10 @@ pub fn entry_declaration(
 ) -> Result<EntryDeclaration, OrMemory<Stuck>>
     ensures { Reads result cursor.new (entry_of left cursor.old) }
 {
-    let place = cursor.word(b"entry")?;
+    let place = cursor.word(Reserved::Entry)?;
     let name = cursor.identifier(alloc)?;
     let parameters = parameters(alloc, cursor, left)?;
-    cursor.delimiter(b";")?;
+    cursor.delimiter(Delimiter::Semicolon)?;
     Ok(EntryDeclaration {
         place,
         name,
@@ -230,7 +233,7 @@ fn add_entries(
         cursor.old) }
 {
     for _turn in 0..cursor.remaining() {
-        if !cursor.is_word(b"entry") {
+        if !cursor.is_word(Reserved::Entry) {
             return Ok(found);
         }
         found.push(entry_declaration(alloc, cursor, left)?)?;
@@ -249,11 +252,11 @@ fn task_definition(
     requires lower { map to_ascii_lowercase name.now ≡ name.now }
     ensures { Reads result cursor.new (task_definition_of left name.now cursor.old) }
 {
-    if cursor.is_word(b"is") {
-        cursor.word(b"is")?;
+    if cursor.is_word(Reserved::Is) {
+        cursor.word(Reserved::Is)?;
         let entries = add_entries(alloc, cursor, left, Items::new(alloc))?;
-        cursor.word(b"end")?;
-        let named_at_end = cursor.flag(name)?;
+        cursor.word(Reserved::End)?;
+        let named_at_end = cursor.end_name(name)?;
         Ok(Some(TaskDefinition {
             entries,
             named_at_end,
@@ -273,11 +276,11 @@ pub fn task_declaration<Q>(
 ) -> Result<Declaration<Q>, OrMemory<Stuck>>
     ensures { Reads result cursor.new (task_of left place cursor.old) }
 {
-    let is_type = cursor.flag(b"type")?;
+    let is_type = cursor.flag(Reserved::TypeWord)?;
     let name = cursor.identifier(alloc)?;
     let aspects = aspects(alloc, cursor, left)?;
     let definition = task_definition(alloc, cursor, left, name.text.as_slice())?;
-    cursor.delimiter(b";")?;
+    cursor.delimiter(Delimiter::Semicolon)?;
     Ok(Declaration::Task(TaskDeclaration {
         place,
         is_type,
@@ -297,7 +300,7 @@ fn protected_subprogram(
     ensures { Reads result cursor.new (specified_operation_of left cursor.old) }
 {
     let specification = specification(alloc, cursor, left)?;
-    cursor.delimiter(b";")?;
+    cursor.delimiter(Delimiter::Semicolon)?;
     Ok(ProtectedOperation::Subprogram(specification))
 }
 
@@ -310,7 +313,7 @@ pub fn protected_operation(
 ) -> Result<ProtectedOperation, OrMemory<Stuck>>
     ensures { Reads result cursor.new (operation_of left cursor.old) }
 {
-    if cursor.is_word(b"entry") {
+    if cursor.is_word(Reserved::Entry) {
         Ok(ProtectedOperation::Entry(entry_declaration(alloc, cursor, left)?))
     } else {
         protected_subprogram(alloc, cursor, left)
@@ -321,7 +324,7 @@ pub fn protected_operation(
 pub fn begins_operation(cursor: &Cursor<'_>) -> bool
     ensures { result ≡ begins_operation cursor.now }
 {
-    cursor.is_word(b"entry") || begins_specification(cursor)
+    cursor.is_word(Reserved::Entry) || begins_specification(cursor)
 }
 
 /// Operations as long as one begins.
@@ -352,8 +355,8 @@ fn private_part(
 ) -> Result<Option<Items<Component>>, OrMemory<Stuck>>
     ensures { Reads result cursor.new (private_of left cursor.old) }
 {
-    if cursor.is_word(b"private") {
-        cursor.word(b"private")?;
+    if cursor.is_word(Reserved::Private) {
+        cursor.word(Reserved::Private)?;
         Ok(Some(add_components(alloc, cursor, left, Items::new(alloc))?))
     } else {
         Ok(None)
@@ -370,15 +373,15 @@ pub fn protected_declaration<Q>(
 ) -> Result<Declaration<Q>, OrMemory<Stuck>>
     ensures { Reads result cursor.new (protected_of left place cursor.old) }
 {
-    let is_type = cursor.flag(b"type")?;
+    let is_type = cursor.flag(Reserved::TypeWord)?;
     let name = cursor.identifier(alloc)?;
     let aspects = aspects(alloc, cursor, left)?;
-    cursor.word(b"is")?;
+    cursor.word(Reserved::Is)?;
     let operations = add_operations(alloc, cursor, left, Items::new(alloc))?;
     let components = private_part(alloc, cursor, left)?;
-    cursor.word(b"end")?;
-    let named_at_end = cursor.flag(name.text.as_slice())?;
-    cursor.delimiter(b";")?;
+    cursor.word(Reserved::End)?;
+    let named_at_end = cursor.end_name(name.text.as_slice())?;
+    cursor.delimiter(Delimiter::Semicolon)?;
     Ok(Declaration::Protected(ProtectedDeclaration {
         place,
         is_type,
@@ -400,10 +403,10 @@ pub fn entry_head(
     ensures reads { Reads result cursor.new (entry_head_of left cursor.old) }
     ensures lower { IfOk result (λ head. map to_ascii_lowercase head.name.text ≡ head.name.text) }
 {
-    let place = cursor.word(b"entry")?;
+    let place = cursor.word(Reserved::Entry)?;
     let name = cursor.identifier(alloc)?;
     let parameters = parameters(alloc, cursor, left)?;
-    cursor.word(b"when")?;
+    cursor.word(Reserved::When)?;
     let barrier = expression(alloc, cursor, left)?;
     Ok(EntryHead {
         place,

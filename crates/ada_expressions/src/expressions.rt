@@ -12,6 +12,7 @@ use crate::operators::{
     logical_operator, multiplication, multiplies, sign_place,
 };
 use ada_grammar::{Cursor, Stuck};
+use ada_lex::{Delimiter, Reserved};
 use ada_tree::{
     Addend, Argument, Expression, ExpressionForm, HighestOperator, LogicalOperator, Multiplied,
     OneOrMore, Operand, Sign,
@@ -65,7 +66,7 @@ impl<F: Fn(Global, &mut Cursor<'_>, usize) -> Result<Expression, OrMemory<Stuck>
             (named_argument_of self.now.left (inner_of self.now.left) cursor.old) }
     {
         let formal = cursor.identifier(self.alloc)?;
-        cursor.delimiter(b"=>")?;
+        cursor.delimiter(Delimiter::Arrow)?;
         let value = self.inner(cursor)?;
         Ok(Argument {
             formal: Some(formal),
@@ -80,7 +81,7 @@ impl<F: Fn(Global, &mut Cursor<'_>, usize) -> Result<Expression, OrMemory<Stuck>
         ensures { Reads result cursor.new
             (argument_of self.now.left (inner_of self.now.left) cursor.old) }
     {
-        if cursor.is_identifier_before(b"=>") {
+        if cursor.is_identifier_before(Delimiter::Arrow) {
             self.named_argument(cursor)
         } else {
             let value = self.inner(cursor)?;
@@ -102,7 +103,7 @@ impl<F: Fn(Global, &mut Cursor<'_>, usize) -> Result<Expression, OrMemory<Stuck>
             (behind_delimiter_of (codes ",") (argument_of self.now.left (inner_of self.now.left))
             cursor.old) }
     {
-        cursor.delimiter(b",")?;
+        cursor.delimiter(Delimiter::Comma)?;
         self.argument(cursor)
     }
 
@@ -120,7 +121,7 @@ impl<F: Fn(Global, &mut Cursor<'_>, usize) -> Result<Expression, OrMemory<Stuck>
             (length cursor.old) arguments cursor.old) }
     {
         for _turn in 0..cursor.remaining() {
-            if !cursor.is_delimiter(b",") {
+            if !cursor.is_delimiter(Delimiter::Comma) {
                 return Ok(arguments);
             }
             arguments.push(self.next_argument(cursor)?)?;
@@ -142,7 +143,7 @@ impl<F: Fn(Global, &mut Cursor<'_>, usize) -> Result<Expression, OrMemory<Stuck>
         let mut arguments = Items::new(self.alloc);
         arguments.push(self.argument(cursor)?)?;
         let arguments = self.add_arguments(cursor, arguments)?;
-        cursor.delimiter(b")")?;
+        cursor.delimiter(Delimiter::CloseBracket)?;
         Ok(arguments)
     }
 
@@ -156,7 +157,7 @@ impl<F: Fn(Global, &mut Cursor<'_>, usize) -> Result<Expression, OrMemory<Stuck>
         ensures { Reads result cursor.new
             (arguments_of self.now.left (inner_of self.now.left) cursor.old) }
     {
-        if cursor.is_delimiter(b"(") {
+        if cursor.is_delimiter(Delimiter::OpenBracket) {
             self.given_arguments(cursor)
         } else {
             Ok(Items::new(self.alloc))
@@ -190,7 +191,7 @@ impl<F: Fn(Global, &mut Cursor<'_>, usize) -> Result<Expression, OrMemory<Stuck>
     {
         let place = cursor.open(self.left)?;
         let inner = self.inner(cursor)?;
-        cursor.delimiter(b")")?;
+        cursor.delimiter(Delimiter::CloseBracket)?;
         Ok(formed(self.alloc, ExpressionForm::Bracketed { place, inner })?)
     }
 
@@ -207,10 +208,10 @@ impl<F: Fn(Global, &mut Cursor<'_>, usize) -> Result<Expression, OrMemory<Stuck>
         } else if cursor.is_text() {
             let (place, text) = cursor.text(self.alloc)?;
             Ok(formed(self.alloc, ExpressionForm::Text { place, text })?)
-        } else if cursor.is_word(b"null") {
-            let place = cursor.word(b"null")?;
+        } else if cursor.is_word(Reserved::Null) {
+            let place = cursor.word(Reserved::Null)?;
             Ok(formed(self.alloc, ExpressionForm::Null { place })?)
-        } else if cursor.is_delimiter(b"(") {
+        } else if cursor.is_delimiter(Delimiter::OpenBracket) {
             self.bracketed(cursor)
         } else {
             self.named(cursor)
@@ -245,9 +246,9 @@ impl<F: Fn(Global, &mut Cursor<'_>, usize) -> Result<Expression, OrMemory<Stuck>
         ensures { Reads result cursor.new
             (factor_of self.now.left (inner_of self.now.left) cursor.old) }
     {
-        if cursor.is_word(b"abs") {
+        if cursor.is_word(Reserved::Abs) {
             self.highest(cursor, HighestOperator::Absolute)
-        } else if cursor.is_word(b"not") {
+        } else if cursor.is_word(Reserved::Not) {
             self.highest(cursor, HighestOperator::Not)
         } else {
             self.primary(cursor)
@@ -348,9 +349,9 @@ impl<F: Fn(Global, &mut Cursor<'_>, usize) -> Result<Expression, OrMemory<Stuck>
         ensures { Reads result cursor.new
             (first_term_of self.now.left (inner_of self.now.left) cursor.old) }
     {
-        if cursor.is_delimiter(b"+") {
+        if cursor.is_delimiter(Delimiter::Plus) {
             self.signed(cursor, Sign::Plus)
-        } else if cursor.is_delimiter(b"-") {
+        } else if cursor.is_delimiter(Delimiter::Minus) {
             self.signed(cursor, Sign::Minus)
         } else {
             self.term(cursor)

@@ -1,9 +1,11 @@
 //! Names (ISO/IEC 8652:2012, 4.1).
 ghost use Rattle.std.specs.Prelude.{length};
+ghost use Rattle.ada_lex.specs.DelimiterLetters.{delimiter_letters};
 ghost use Rattle.ada_grammar.specs.Reading.{an_identifier, behind_delimiter_of, identifiers_of, items_from, name_of, names_of, sees_delimiter, separated_of};
 ghost use Rattle.ada_grammar.specs.Reads.{Reads};
 
 use ada_grammar::{Cursor, Stuck};
+use ada_lex::Delimiter;
 use ada_tree::{Identifier, Name, OneOrMore};
 use ann_base::OrMemory;
 use sqlite_items::Items;
@@ -14,9 +16,10 @@ use std::alloc::Global;
 fn identifier_behind(
     alloc: Global,
     cursor: &mut Cursor<'_>,
-    delimiter: &[u8],
+    delimiter: Delimiter,
 ) -> Result<Identifier, OrMemory<Stuck>>
-    ensures { Reads result cursor.new (behind_delimiter_of delimiter.now an_identifier cursor.old) }
+    ensures { Reads result cursor.new
+        (behind_delimiter_of (delimiter_letters delimiter) an_identifier cursor.old) }
 {
     cursor.delimiter(delimiter)?;
     cursor.identifier(alloc)
@@ -26,11 +29,12 @@ fn identifier_behind(
 fn add_identifiers(
     alloc: Global,
     cursor: &mut Cursor<'_>,
-    delimiter: &[u8],
+    delimiter: Delimiter,
     mut identifiers: Items<Identifier>,
 ) -> Result<Items<Identifier>, OrMemory<Stuck>>
     ensures { Reads result cursor.new
-        (items_from (sees_delimiter delimiter.now) (behind_delimiter_of delimiter.now an_identifier)
+        (items_from (sees_delimiter (delimiter_letters delimiter))
+        (behind_delimiter_of (delimiter_letters delimiter) an_identifier)
         (length cursor.old) identifiers cursor.old) }
 {
     for _turn in 0..cursor.remaining() {
@@ -47,9 +51,10 @@ fn add_identifiers(
 fn separated_identifiers(
     alloc: Global,
     cursor: &mut Cursor<'_>,
-    delimiter: &[u8],
+    delimiter: Delimiter,
 ) -> Result<OneOrMore<Identifier>, OrMemory<Stuck>>
-    ensures { Reads result cursor.new (separated_of delimiter.now an_identifier cursor.old) }
+    ensures { Reads result cursor.new
+        (separated_of (delimiter_letters delimiter) an_identifier cursor.old) }
 {
     let first = cursor.identifier(alloc)?;
     let others = add_identifiers(alloc, cursor, delimiter, Items::new(alloc))?;
@@ -64,7 +69,7 @@ pub fn identifiers(
 ) -> Result<OneOrMore<Identifier>, OrMemory<Stuck>>
     ensures { Reads result cursor.new (identifiers_of cursor.old) }
 {
-    separated_identifiers(alloc, cursor, b",")
+    separated_identifiers(alloc, cursor, Delimiter::Comma)
 }
 
 /// A direct name or an expanded name (4.1, 4.1.3).
@@ -72,7 +77,7 @@ pub fn identifiers(
 pub fn name(alloc: Global, cursor: &mut Cursor<'_>) -> Result<Name, OrMemory<Stuck>>
     ensures { Reads result cursor.new (name_of cursor.old) }
 {
-    let parts = separated_identifiers(alloc, cursor, b".")?;
+    let parts = separated_identifiers(alloc, cursor, Delimiter::Point)?;
     Ok(Name { parts })
 }
 
@@ -81,9 +86,10 @@ pub fn name(alloc: Global, cursor: &mut Cursor<'_>) -> Result<Name, OrMemory<Stu
 fn name_behind(
     alloc: Global,
     cursor: &mut Cursor<'_>,
-    delimiter: &[u8],
+    delimiter: Delimiter,
 ) -> Result<Name, OrMemory<Stuck>>
-    ensures { Reads result cursor.new (behind_delimiter_of delimiter.now name_of cursor.old) }
+    ensures { Reads result cursor.new
+        (behind_delimiter_of (delimiter_letters delimiter) name_of cursor.old) }
 {
     cursor.delimiter(delimiter)?;
     name(alloc, cursor)
@@ -93,11 +99,12 @@ fn name_behind(
 fn add_names(
     alloc: Global,
     cursor: &mut Cursor<'_>,
-    delimiter: &[u8],
+    delimiter: Delimiter,
     mut names: Items<Name>,
 ) -> Result<Items<Name>, OrMemory<Stuck>>
     ensures { Reads result cursor.new
-        (items_from (sees_delimiter delimiter.now) (behind_delimiter_of delimiter.now name_of)
+        (items_from (sees_delimiter (delimiter_letters delimiter))
+        (behind_delimiter_of (delimiter_letters delimiter) name_of)
         (length cursor.old) names cursor.old) }
 {
     for _turn in 0..cursor.remaining() {
@@ -114,9 +121,9 @@ fn add_names(
 pub fn name_list(
     alloc: Global,
     cursor: &mut Cursor<'_>,
-    delimiter: &[u8],
+    delimiter: Delimiter,
 ) -> Result<OneOrMore<Name>, OrMemory<Stuck>>
-    ensures { Reads result cursor.new (names_of delimiter.now cursor.old) }
+    ensures { Reads result cursor.new (names_of (delimiter_letters delimiter) cursor.old) }
 {
     let first = name(alloc, cursor)?;
     let others = add_names(alloc, cursor, delimiter, Items::new(alloc))?;

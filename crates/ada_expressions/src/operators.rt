@@ -6,6 +6,7 @@ ghost use Rattle.ada_grammar.specs.ReadingExpressions.{addition_of, adds, again_
 ghost use Rattle.ada_grammar.specs.Reads.{Reads};
 
 use ada_grammar::{Cursor, Stuck};
+use ada_lex::{Delimiter, Reserved};
 use ada_tree::{
     AddingOperator, Attribute, AttributeDesignator, HighestOperator, LogicalOperator,
     MultiplyingOperator, RelationalOperator, Sign,
@@ -16,12 +17,12 @@ use ann_base::{OrMemory, Place};
 pub fn compares(cursor: &Cursor<'_>) -> bool
     ensures { result ≡ compares cursor.now }
 {
-    cursor.is_delimiter(b"=")
-        || cursor.is_delimiter(b"/=")
-        || cursor.is_delimiter(b"<")
-        || cursor.is_delimiter(b"<=")
-        || cursor.is_delimiter(b">")
-        || cursor.is_delimiter(b">=")
+    cursor.is_delimiter(Delimiter::Equal)
+        || cursor.is_delimiter(Delimiter::NotEqual)
+        || cursor.is_delimiter(Delimiter::Less)
+        || cursor.is_delimiter(Delimiter::AtMost)
+        || cursor.is_delimiter(Delimiter::Greater)
+        || cursor.is_delimiter(Delimiter::AtLeast)
 }
 
 /// A relational operator, with its place (4.5.2).
@@ -29,18 +30,33 @@ pub fn compares(cursor: &Cursor<'_>) -> bool
 pub fn comparison(cursor: &mut Cursor<'_>) -> Result<(Place, RelationalOperator), OrMemory<Stuck>>
     ensures { Reads result cursor.new (comparison_of cursor.old) }
 {
-    if cursor.is_delimiter(b"=") {
-        Ok((cursor.delimiter(b"=")?, RelationalOperator::Equal))
-    } else if cursor.is_delimiter(b"/=") {
-        Ok((cursor.delimiter(b"/=")?, RelationalOperator::NotEqual))
-    } else if cursor.is_delimiter(b"<") {
-        Ok((cursor.delimiter(b"<")?, RelationalOperator::Less))
-    } else if cursor.is_delimiter(b"<=") {
-        Ok((cursor.delimiter(b"<=")?, RelationalOperator::LessOrEqual))
-    } else if cursor.is_delimiter(b">") {
-        Ok((cursor.delimiter(b">")?, RelationalOperator::Greater))
+    if cursor.is_delimiter(Delimiter::Equal) {
+        Ok((
+            cursor.delimiter(Delimiter::Equal)?,
+            RelationalOperator::Equal,
+        ))
+    } else if cursor.is_delimiter(Delimiter::NotEqual) {
+        Ok((
+            cursor.delimiter(Delimiter::NotEqual)?,
+            RelationalOperator::NotEqual,
+        ))
+    } else if cursor.is_delimiter(Delimiter::Less) {
+        Ok((cursor.delimiter(Delimiter::Less)?, RelationalOperator::Less))
+    } else if cursor.is_delimiter(Delimiter::AtMost) {
+        Ok((
+            cursor.delimiter(Delimiter::AtMost)?,
+            RelationalOperator::LessOrEqual,
+        ))
+    } else if cursor.is_delimiter(Delimiter::Greater) {
+        Ok((
+            cursor.delimiter(Delimiter::Greater)?,
+            RelationalOperator::Greater,
+        ))
     } else {
-        Ok((cursor.delimiter(b">=")?, RelationalOperator::GreaterOrEqual))
+        Ok((
+            cursor.delimiter(Delimiter::AtLeast)?,
+            RelationalOperator::GreaterOrEqual,
+        ))
     }
 }
 
@@ -48,7 +64,9 @@ pub fn comparison(cursor: &mut Cursor<'_>) -> Result<(Place, RelationalOperator)
 pub fn adds(cursor: &Cursor<'_>) -> bool
     ensures { result ≡ adds cursor.now }
 {
-    cursor.is_delimiter(b"+") || cursor.is_delimiter(b"-") || cursor.is_delimiter(b"&")
+    cursor.is_delimiter(Delimiter::Plus)
+        || cursor.is_delimiter(Delimiter::Minus)
+        || cursor.is_delimiter(Delimiter::Ampersand)
 }
 
 /// A binary adding operator, with its place (4.5.3).
@@ -56,12 +74,15 @@ pub fn adds(cursor: &Cursor<'_>) -> bool
 pub fn addition(cursor: &mut Cursor<'_>) -> Result<(Place, AddingOperator), OrMemory<Stuck>>
     ensures { Reads result cursor.new (addition_of cursor.old) }
 {
-    if cursor.is_delimiter(b"+") {
-        Ok((cursor.delimiter(b"+")?, AddingOperator::Plus))
-    } else if cursor.is_delimiter(b"-") {
-        Ok((cursor.delimiter(b"-")?, AddingOperator::Minus))
+    if cursor.is_delimiter(Delimiter::Plus) {
+        Ok((cursor.delimiter(Delimiter::Plus)?, AddingOperator::Plus))
+    } else if cursor.is_delimiter(Delimiter::Minus) {
+        Ok((cursor.delimiter(Delimiter::Minus)?, AddingOperator::Minus))
     } else {
-        Ok((cursor.delimiter(b"&")?, AddingOperator::Concatenation))
+        Ok((
+            cursor.delimiter(Delimiter::Ampersand)?,
+            AddingOperator::Concatenation,
+        ))
     }
 }
 
@@ -70,8 +91,8 @@ pub fn sign_place(cursor: &mut Cursor<'_>, sign: Sign) -> Result<Place, OrMemory
     ensures { Reads result cursor.new (the_delimiter (sign_text sign) cursor.old) }
 {
     match sign {
-        Sign::Plus => cursor.delimiter(b"+"),
-        Sign::Minus => cursor.delimiter(b"-"),
+        Sign::Plus => cursor.delimiter(Delimiter::Plus),
+        Sign::Minus => cursor.delimiter(Delimiter::Minus),
     }
 }
 
@@ -79,10 +100,10 @@ pub fn sign_place(cursor: &mut Cursor<'_>, sign: Sign) -> Result<Place, OrMemory
 pub fn multiplies(cursor: &Cursor<'_>) -> bool
     ensures { result ≡ multiplies cursor.now }
 {
-    cursor.is_delimiter(b"*")
-        || cursor.is_delimiter(b"/")
-        || cursor.is_word(b"mod")
-        || cursor.is_word(b"rem")
+    cursor.is_delimiter(Delimiter::Asterisk)
+        || cursor.is_delimiter(Delimiter::Solidus)
+        || cursor.is_word(Reserved::Mod)
+        || cursor.is_word(Reserved::Rem)
 }
 
 /// A multiplying operator, with its place (4.5.5).
@@ -92,14 +113,20 @@ pub fn multiplication(
 ) -> Result<(Place, MultiplyingOperator), OrMemory<Stuck>>
     ensures { Reads result cursor.new (multiplication_of cursor.old) }
 {
-    if cursor.is_delimiter(b"*") {
-        Ok((cursor.delimiter(b"*")?, MultiplyingOperator::Times))
-    } else if cursor.is_delimiter(b"/") {
-        Ok((cursor.delimiter(b"/")?, MultiplyingOperator::Divide))
-    } else if cursor.is_word(b"mod") {
-        Ok((cursor.word(b"mod")?, MultiplyingOperator::Modulus))
+    if cursor.is_delimiter(Delimiter::Asterisk) {
+        Ok((
+            cursor.delimiter(Delimiter::Asterisk)?,
+            MultiplyingOperator::Times,
+        ))
+    } else if cursor.is_delimiter(Delimiter::Solidus) {
+        Ok((
+            cursor.delimiter(Delimiter::Solidus)?,
+            MultiplyingOperator::Divide,
+        ))
+    } else if cursor.is_word(Reserved::Mod) {
+        Ok((cursor.word(Reserved::Mod)?, MultiplyingOperator::Modulus))
     } else {
-        Ok((cursor.word(b"rem")?, MultiplyingOperator::Remainder))
+        Ok((cursor.word(Reserved::Rem)?, MultiplyingOperator::Remainder))
     }
 }
 
@@ -111,8 +138,8 @@ pub fn highest_place(
     ensures { Reads result cursor.new (the_word (highest_text operator) cursor.old) }
 {
     match operator {
-        HighestOperator::Absolute => cursor.word(b"abs"),
-        HighestOperator::Not => cursor.word(b"not"),
+        HighestOperator::Absolute => cursor.word(Reserved::Abs),
+        HighestOperator::Not => cursor.word(Reserved::Not),
     }
 }
 
@@ -120,7 +147,7 @@ pub fn highest_place(
 pub fn joins(cursor: &Cursor<'_>) -> bool
     ensures { result ≡ joins cursor.now }
 {
-    cursor.is_word(b"and") || cursor.is_word(b"or") || cursor.is_word(b"xor")
+    cursor.is_word(Reserved::And) || cursor.is_word(Reserved::Or) || cursor.is_word(Reserved::Xor)
 }
 
 /// `and` or `and then`, with its place (4.5.1).
@@ -128,9 +155,9 @@ pub fn joins(cursor: &Cursor<'_>) -> bool
 fn conjunction(cursor: &mut Cursor<'_>) -> Result<(Place, LogicalOperator), OrMemory<Stuck>>
     ensures { Reads result cursor.new (conjunction_of cursor.old) }
 {
-    let place = cursor.word(b"and")?;
-    if cursor.is_word(b"then") {
-        cursor.word(b"then")?;
+    let place = cursor.word(Reserved::And)?;
+    if cursor.is_word(Reserved::Then) {
+        cursor.word(Reserved::Then)?;
         Ok((place, LogicalOperator::AndThen))
     } else {
         Ok((place, LogicalOperator::And))
@@ -142,9 +169,9 @@ fn conjunction(cursor: &mut Cursor<'_>) -> Result<(Place, LogicalOperator), OrMe
 fn disjunction(cursor: &mut Cursor<'_>) -> Result<(Place, LogicalOperator), OrMemory<Stuck>>
     ensures { Reads result cursor.new (disjunction_of cursor.old) }
 {
-    let place = cursor.word(b"or")?;
-    if cursor.is_word(b"else") {
-        cursor.word(b"else")?;
+    let place = cursor.word(Reserved::Or)?;
+    if cursor.is_word(Reserved::Else) {
+        cursor.word(Reserved::Else)?;
         Ok((place, LogicalOperator::OrElse))
     } else {
         Ok((place, LogicalOperator::Or))
@@ -158,12 +185,12 @@ pub fn logical_operator(
 ) -> Result<(Place, LogicalOperator), OrMemory<Stuck>>
     ensures { Reads result cursor.new (logical_operator_of cursor.old) }
 {
-    if cursor.is_word(b"and") {
+    if cursor.is_word(Reserved::And) {
         conjunction(cursor)
-    } else if cursor.is_word(b"or") {
+    } else if cursor.is_word(Reserved::Or) {
         disjunction(cursor)
     } else {
-        Ok((cursor.word(b"xor")?, LogicalOperator::Xor))
+        Ok((cursor.word(Reserved::Xor)?, LogicalOperator::Xor))
     }
 }
 
@@ -172,9 +199,9 @@ pub fn joins_again(cursor: &Cursor<'_>, operator: LogicalOperator) -> bool
     ensures { result ≡ sees_word (logical_text operator) cursor.now }
 {
     match operator {
-        LogicalOperator::And | LogicalOperator::AndThen => cursor.is_word(b"and"),
-        LogicalOperator::Or | LogicalOperator::OrElse => cursor.is_word(b"or"),
-        LogicalOperator::Xor => cursor.is_word(b"xor"),
+        LogicalOperator::And | LogicalOperator::AndThen => cursor.is_word(Reserved::And),
+        LogicalOperator::Or | LogicalOperator::OrElse => cursor.is_word(Reserved::Or),
+        LogicalOperator::Xor => cursor.is_word(Reserved::Xor),
     }
 }
 
@@ -183,8 +210,8 @@ pub fn joins_again(cursor: &Cursor<'_>, operator: LogicalOperator) -> bool
 fn and_then(cursor: &mut Cursor<'_>) -> Result<Place, OrMemory<Stuck>>
     ensures { Reads result cursor.new (both_words_of (codes "and") (codes "then") cursor.old) }
 {
-    let place = cursor.word(b"and")?;
-    cursor.word(b"then")?;
+    let place = cursor.word(Reserved::And)?;
+    cursor.word(Reserved::Then)?;
     Ok(place)
 }
 
@@ -193,8 +220,8 @@ fn and_then(cursor: &mut Cursor<'_>) -> Result<Place, OrMemory<Stuck>>
 fn or_else(cursor: &mut Cursor<'_>) -> Result<Place, OrMemory<Stuck>>
     ensures { Reads result cursor.new (both_words_of (codes "or") (codes "else") cursor.old) }
 {
-    let place = cursor.word(b"or")?;
-    cursor.word(b"else")?;
+    let place = cursor.word(Reserved::Or)?;
+    cursor.word(Reserved::Else)?;
     Ok(place)
 }
 
@@ -203,9 +230,9 @@ pub fn again(cursor: &mut Cursor<'_>, operator: LogicalOperator) -> Result<Place
     ensures { Reads result cursor.new (again_of operator cursor.old) }
 {
     match operator {
-        LogicalOperator::And => cursor.word(b"and"),
-        LogicalOperator::Or => cursor.word(b"or"),
-        LogicalOperator::Xor => cursor.word(b"xor"),
+        LogicalOperator::And => cursor.word(Reserved::And),
+        LogicalOperator::Or => cursor.word(Reserved::Or),
+        LogicalOperator::Xor => cursor.word(Reserved::Xor),
         LogicalOperator::AndThen => and_then(cursor),
         LogicalOperator::OrElse => or_else(cursor),
     }
@@ -216,34 +243,34 @@ pub fn again(cursor: &mut Cursor<'_>, operator: LogicalOperator) -> Result<Place
 fn attribute_word(cursor: &mut Cursor<'_>) -> Result<AttributeDesignator, OrMemory<Stuck>>
     ensures { Reads result cursor.new (attribute_word_of cursor.old) }
 {
-    if cursor.is_word(b"first") {
+    if cursor.is_spelt(b"first") {
         Ok(AttributeDesignator {
-            place: cursor.word(b"first")?,
+            place: cursor.spelt(b"first")?,
             attribute: Attribute::First,
         })
-    } else if cursor.is_word(b"last") {
+    } else if cursor.is_spelt(b"last") {
         Ok(AttributeDesignator {
-            place: cursor.word(b"last")?,
+            place: cursor.spelt(b"last")?,
             attribute: Attribute::Last,
         })
-    } else if cursor.is_word(b"image") {
+    } else if cursor.is_spelt(b"image") {
         Ok(AttributeDesignator {
-            place: cursor.word(b"image")?,
+            place: cursor.spelt(b"image")?,
             attribute: Attribute::Image,
         })
-    } else if cursor.is_word(b"count") {
+    } else if cursor.is_spelt(b"count") {
         Ok(AttributeDesignator {
-            place: cursor.word(b"count")?,
+            place: cursor.spelt(b"count")?,
             attribute: Attribute::Count,
         })
-    } else if cursor.is_word(b"identity") {
+    } else if cursor.is_spelt(b"identity") {
         Ok(AttributeDesignator {
-            place: cursor.word(b"identity")?,
+            place: cursor.spelt(b"identity")?,
             attribute: Attribute::Identity,
         })
     } else {
         Ok(AttributeDesignator {
-            place: cursor.word(b"access")?,
+            place: cursor.word(Reserved::Access)?,
             attribute: Attribute::Access,
         })
     }
@@ -254,8 +281,8 @@ fn attribute_word(cursor: &mut Cursor<'_>) -> Result<AttributeDesignator, OrMemo
 pub fn designator(cursor: &mut Cursor<'_>) -> Result<Option<AttributeDesignator>, OrMemory<Stuck>>
     ensures { Reads result cursor.new (designator_of cursor.old) }
 {
-    if cursor.is_delimiter(b"'") {
-        cursor.delimiter(b"'")?;
+    if cursor.is_delimiter(Delimiter::Apostrophe) {
+        cursor.delimiter(Delimiter::Apostrophe)?;
         Ok(Some(attribute_word(cursor)?))
     } else {
         Ok(None)

@@ -6,6 +6,7 @@ ghost use Rattle.ada_grammar.specs.Reads.{Reads};
 
 use crate::{expression, identifiers, name};
 use ada_grammar::{Cursor, Stuck};
+use ada_lex::{Delimiter, Reserved};
 use ada_tree::{Constraint, Expression, Parameter, SubtypeIndication};
 use ann_base::OrMemory;
 use sqlite_items::Items;
@@ -43,9 +44,9 @@ fn access(
 {
     cursor.open(left)?;
     let name = name(alloc, cursor)?;
-    cursor.delimiter(b"'")?;
-    cursor.word(b"access")?;
-    cursor.delimiter(b")")?;
+    cursor.delimiter(Delimiter::Apostrophe)?;
+    cursor.word(Reserved::Access)?;
+    cursor.delimiter(Delimiter::CloseBracket)?;
     Ok(Some(Constraint::Access(name)))
 }
 
@@ -59,7 +60,7 @@ pub fn bounds(
     ensures { Reads result cursor.new (bounds_of left cursor.old) }
 {
     let low = expression(alloc, cursor, left)?;
-    cursor.delimiter(b"..")?;
+    cursor.delimiter(Delimiter::Dots)?;
     let high = expression(alloc, cursor, left)?;
     Ok((low, high))
 }
@@ -73,7 +74,7 @@ fn range(
 ) -> Result<Option<Constraint>, OrMemory<Stuck>>
     ensures { Reads result cursor.new (range_of left cursor.old) }
 {
-    cursor.word(b"range")?;
+    cursor.word(Reserved::Range)?;
     let (low, high) = bounds(alloc, cursor, left)?;
     Ok(Some(Constraint::Range { low, high }))
 }
@@ -87,9 +88,9 @@ fn constraint(
 ) -> Result<Option<Constraint>, OrMemory<Stuck>>
     ensures { Reads result cursor.new (constraint_of left cursor.old) }
 {
-    if cursor.is_delimiter(b"(") {
+    if cursor.is_delimiter(Delimiter::OpenBracket) {
         access(alloc, cursor, left)
-    } else if cursor.is_word(b"range") {
+    } else if cursor.is_word(Reserved::Range) {
         range(alloc, cursor, left)
     } else {
         Ok(None)
@@ -120,9 +121,9 @@ fn parameter(
     ensures { Reads result cursor.new (parameter_of left cursor.old) }
 {
     let names = identifiers(alloc, cursor)?;
-    cursor.delimiter(b":")?;
-    let is_in = cursor.flag(b"in")?;
-    let is_out = cursor.flag(b"out")?;
+    cursor.delimiter(Delimiter::Colon)?;
+    let is_in = cursor.flag(Reserved::In)?;
+    let is_out = cursor.flag(Reserved::Out)?;
     let subtype = subtype_indication(alloc, cursor, left)?;
     Ok(Parameter {
         names,
@@ -142,7 +143,7 @@ fn next_parameter(
     ensures { Reads result cursor.new
         (behind_delimiter_of (codes ";") (parameter_of left) cursor.old) }
 {
-    cursor.delimiter(b";")?;
+    cursor.delimiter(Delimiter::Semicolon)?;
     parameter(alloc, cursor, left)
 }
 
@@ -159,7 +160,7 @@ fn add_parameters(
         cursor.old) }
 {
     for _turn in 0..cursor.remaining() {
-        if !cursor.is_delimiter(b";") {
+        if !cursor.is_delimiter(Delimiter::Semicolon) {
             return Ok(found);
         }
         found.push(next_parameter(alloc, cursor, left)?)?;
@@ -179,7 +180,7 @@ fn given_parameters(
     cursor.open(left)?;
     let first = parameter(alloc, cursor, below(left))?;
     let others = add_parameters(alloc, cursor, below(left), Items::new(alloc))?;
-    cursor.delimiter(b")")?;
+    cursor.delimiter(Delimiter::CloseBracket)?;
     Ok(first_before(alloc, first, others)?)
 }
 
@@ -192,7 +193,7 @@ pub fn parameters(
 ) -> Result<Items<Parameter>, OrMemory<Stuck>>
     ensures { Reads result cursor.new (parameters_of left cursor.old) }
 {
-    if cursor.is_delimiter(b"(") {
+    if cursor.is_delimiter(Delimiter::OpenBracket) {
         given_parameters(alloc, cursor, left)
     } else {
         Ok(Items::new(alloc))

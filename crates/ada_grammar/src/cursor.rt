@@ -2,14 +2,18 @@
 ghost use Rattle.std.specs.Prelude.{◌≡◌, [], List, length, map, IfOk};
 ghost use Rattle.std.specs.Char.{to_ascii_lowercase};
 ghost use Rattle.ada_lex.specs.Lexed.{IsTokenOf, AreTokensOf};
+ghost use Rattle.ada_lex.specs.ReservedLetters.{word_letters};
+ghost use Rattle.ada_lex.specs.DelimiterLetters.{delimiter_letters};
 ghost use Rattle.ada_tree.specs.Written.{lexeme_of, lexemes_of};
 ghost use Rattle.ann_base.specs.declared.faults.OrMemory.TheVariants as answer;
 ghost use Rattle.ada_grammar.specs.declared.stuck.Stuck.TheVariants.{At, TooDeep};
-ghost use Rattle.ada_grammar.specs.Reading.{is_this_word, is_this_delimiter, is_identifier, is_numeral, is_string, starts, starts_both, sees_word, sees_delimiter, sees_identifier, the_word, the_delimiter, an_identifier, a_number, a_text, flag_of, opening_of, opening_is_of};
+ghost use Rattle.ada_grammar.specs.Reading.{is_this_word, is_this_delimiter, is_identifier, is_numeral, is_string, starts, starts_both, sees_word, sees_delimiter, sees_identifier, the_word, the_delimiter, an_identifier, a_number, a_text, flag_of, end_name_of, opening_of, opening_is_of};
 ghost use Rattle.ada_grammar.specs.Reads.{Reads};
 
 use crate::stuck::Stuck;
-use ada_lex::{Kind, Token, is_reserved, lower_case, same_word, spelling, text_value};
+use ada_lex::{
+    Delimiter, Kind, Reserved, Token, is_reserved, lower_case, same_word, spelling, text_value,
+};
 use ada_tree::{Bytes, Identifier};
 use ann_base::{OrMemory, Place};
 use std::alloc::Global;
@@ -34,18 +38,25 @@ impl<'a> Model for Cursor<'a> {
     ghost invariant = { λ cursor. AreTokensOf cursor.source.now cursor.rest.now };
 }
 
-fn is_this_word(source: &[u8], token: Token, word: &[u8]) -> bool
+fn is_this_word(source: &[u8], token: Token, word: Reserved) -> bool
     requires { IsTokenOf source.now token }
-    ensures { result ≡ is_this_word (map to_ascii_lowercase word.now) (lexeme_of source.now token) }
+    ensures { result ≡ is_this_word (word_letters word) (lexeme_of source.now token) }
 {
-    token.kind == Kind::Word && same_word(spelling(source, token), word)
+    token.kind == Kind::Word && word.is_spelt(spelling(source, token))
 }
 
-fn is_this_delimiter(source: &[u8], token: Token, delimiter: &[u8]) -> bool
+fn is_word_spelt(source: &[u8], token: Token, text: &[u8]) -> bool
     requires { IsTokenOf source.now token }
-    ensures { result ≡ is_this_delimiter delimiter.now (lexeme_of source.now token) }
+    ensures { result ≡ is_this_word (map to_ascii_lowercase text.now) (lexeme_of source.now token) }
 {
-    token.kind == Kind::Delimiter && spelling(source, token) == delimiter
+    token.kind == Kind::Word && same_word(spelling(source, token), text)
+}
+
+fn is_this_delimiter(source: &[u8], token: Token, delimiter: Delimiter) -> bool
+    requires { IsTokenOf source.now token }
+    ensures { result ≡ is_this_delimiter (delimiter_letters delimiter) (lexeme_of source.now token) }
+{
+    token.kind == Kind::Delimiter && spelling(source, token) == delimiter.letters()
 }
 
 fn is_identifier(source: &[u8], token: Token) -> bool
@@ -92,10 +103,10 @@ impl<'a> Cursor<'a> {
         })
     }
 
-    /// Whether the next token is this word, in any case.
+    /// Whether the next token is this reserved word.
     #[tactic(auto, unfolding(crate::specs::Reading::starts))]
-    pub fn is_word(&self, word: &[u8]) -> bool
-        ensures { result ≡ sees_word (map to_ascii_lowercase word.now) self.now }
+    pub fn is_word(&self, word: Reserved) -> bool
+        ensures { result ≡ sees_word (word_letters word) self.now }
     {
         match self.rest {
             [] => false,
@@ -103,10 +114,21 @@ impl<'a> Cursor<'a> {
         }
     }
 
+    /// Whether the next token is a word that is spelt so, in any case, as the names of attributes and constructs are.
+    #[tactic(auto, unfolding(crate::specs::Reading::starts))]
+    pub fn is_spelt(&self, text: &[u8]) -> bool
+        ensures { result ≡ sees_word (map to_ascii_lowercase text.now) self.now }
+    {
+        match self.rest {
+            [] => false,
+            [token, ..] => is_word_spelt(self.source, *token, text),
+        }
+    }
+
     /// Whether the next token is this delimiter.
     #[tactic(auto, unfolding(crate::specs::Reading::starts))]
-    pub fn is_delimiter(&self, delimiter: &[u8]) -> bool
-        ensures { result ≡ sees_delimiter delimiter.now self.now }
+    pub fn is_delimiter(&self, delimiter: Delimiter) -> bool
+        ensures { result ≡ sees_delimiter (delimiter_letters delimiter) self.now }
     {
         match self.rest {
             [] => false,
@@ -149,8 +171,9 @@ impl<'a> Cursor<'a> {
 
     /// Whether the next two tokens are an identifier and this delimiter.
     #[tactic(auto, unfolding(crate::specs::Reading::starts, crate::specs::Reading::starts_both))]
-    pub fn is_identifier_before(&self, delimiter: &[u8]) -> bool
-        ensures { result ≡ starts_both is_identifier (is_this_delimiter delimiter.now) self.now }
+    pub fn is_identifier_before(&self, delimiter: Delimiter) -> bool
+        ensures { result ≡ starts_both is_identifier
+            (is_this_delimiter (delimiter_letters delimiter)) self.now }
     {
         match self.rest {
             [] => false,
@@ -162,10 +185,10 @@ impl<'a> Cursor<'a> {
         }
     }
 
-    /// Reads this word, in any case.
+    /// Reads this reserved word.
     #[tactic(auto, unfolding(crate::specs::Reading::token, crate::specs::Reading::the_word))]
-    pub fn word(&mut self, word: &[u8]) -> Result<Place, OrMemory<Stuck>>
-        ensures { Reads result self.new (the_word (map to_ascii_lowercase word.now) self.old) }
+    pub fn word(&mut self, word: Reserved) -> Result<Place, OrMemory<Stuck>>
+        ensures { Reads result self.new (the_word (word_letters word) self.old) }
     {
         match self.rest {
             [] => Err(self.stuck()),
@@ -180,10 +203,28 @@ impl<'a> Cursor<'a> {
         }
     }
 
+    /// Reads a word that is spelt so, in any case.
+    #[tactic(auto, unfolding(crate::specs::Reading::token, crate::specs::Reading::the_word))]
+    pub fn spelt(&mut self, text: &[u8]) -> Result<Place, OrMemory<Stuck>>
+        ensures { Reads result self.new (the_word (map to_ascii_lowercase text.now) self.old) }
+    {
+        match self.rest {
+            [] => Err(self.stuck()),
+            [token, rest @ ..] => {
+                if is_word_spelt(self.source, *token, text) {
+                    self.rest = rest;
+                    Ok(token.place)
+                } else {
+                    Err(self.stuck())
+                }
+            }
+        }
+    }
+
     /// Reads this delimiter.
     #[tactic(auto, unfolding(crate::specs::Reading::token, crate::specs::Reading::the_delimiter))]
-    pub fn delimiter(&mut self, delimiter: &[u8]) -> Result<Place, OrMemory<Stuck>>
-        ensures { Reads result self.new (the_delimiter delimiter.now self.old) }
+    pub fn delimiter(&mut self, delimiter: Delimiter) -> Result<Place, OrMemory<Stuck>>
+        ensures { Reads result self.new (the_delimiter (delimiter_letters delimiter) self.old) }
     {
         match self.rest {
             [] => Err(self.stuck()),
@@ -259,13 +300,26 @@ impl<'a> Cursor<'a> {
         }
     }
 
-    /// Reads this word if it comes next, and answers whether it did.
+    /// Reads this reserved word if it comes next, and answers whether it did.
     #[tactic(auto, unfolding(crate::specs::Reading::flag_of))]
-    pub fn flag(&mut self, word: &[u8]) -> Result<bool, OrMemory<Stuck>>
-        ensures { Reads result self.new (flag_of (map to_ascii_lowercase word.now) self.old) }
+    pub fn flag(&mut self, word: Reserved) -> Result<bool, OrMemory<Stuck>>
+        ensures { Reads result self.new (flag_of (word_letters word) self.old) }
     {
         if self.is_word(word) {
             self.word(word)?;
+            Ok(true)
+        } else {
+            Ok(false)
+        }
+    }
+
+    /// Reads the name of a construct behind its `end` if it comes next, and answers whether it did.
+    #[tactic(auto, unfolding(crate::specs::Reading::flag_of, crate::specs::Reading::end_name_of))]
+    pub fn end_name(&mut self, name: &[u8]) -> Result<bool, OrMemory<Stuck>>
+        ensures { Reads result self.new (end_name_of (map to_ascii_lowercase name.now) self.old) }
+    {
+        if self.is_spelt(name) {
+            self.spelt(name)?;
             Ok(true)
         } else {
             Ok(false)
@@ -279,13 +333,13 @@ impl<'a> Cursor<'a> {
     {
         match left {
             0 => {
-                if self.is_delimiter(b"(") {
+                if self.is_delimiter(Delimiter::OpenBracket) {
                     Err(self.too_deep())
                 } else {
                     Err(self.stuck())
                 }
             }
-            _ => self.delimiter(b"("),
+            _ => self.delimiter(Delimiter::OpenBracket),
         }
     }
 
@@ -296,13 +350,13 @@ impl<'a> Cursor<'a> {
     {
         match left {
             0 => {
-                if self.is_word(b"is") {
+                if self.is_word(Reserved::Is) {
                     Err(self.too_deep())
                 } else {
                     Err(self.stuck())
                 }
             }
-            _ => self.word(b"is"),
+            _ => self.word(Reserved::Is),
         }
     }
 }

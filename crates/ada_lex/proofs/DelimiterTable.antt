@@ -4,7 +4,7 @@ use Rattle.std.specs.Prelude.{IfNone}
 use Rattle.ada_lex.specs.declared.delimiters.Delimiter.{Delimiter}
 use Rattle.ada_lex.specs.declared.delimiters.Delimiter.TheVariants.{Arrow, Dots, Becomes, NotEqual, AtLeast, AtMost, Ampersand, Apostrophe, OpenBracket, CloseBracket, Asterisk, Plus, Comma, Minus, Point, Solidus, Colon, Semicolon, Less, Equal, Greater, Bar}
 use Rattle.ada_lex.specs.declared.delimiters.TheConstants.{ALL}
-use Rattle.ada_lex.specs.DelimiterLetters.{letters}
+use Rattle.ada_lex.specs.DelimiterLetters.{delimiter_letters}
 
 abbrev pub place_of : Delimiter → ℕ
 place_of Arrow = 0
@@ -78,6 +78,6 @@ at_place Equal = refl
 at_place Greater = refl
 at_place Bar = refl
 
-pub none_of : (o : Option Delimiter) (low : List ℕ) → IfNone o ((k : ℕ) → k < 22 → letters (get_or ALL k Arrow) ≡ low → ⊥) → IfNone o ((entry : Delimiter) → letters entry ≡ low → ⊥)
-none_of None low h = λ entry same. h (place_of entry) (place_in entry) (ap letters (at_place entry) ∙ same)
+pub none_of : (o : Option Delimiter) (low : List ℕ) → IfNone o ((k : ℕ) → k < 22 → delimiter_letters (get_or ALL k Arrow) ≡ low → ⊥) → IfNone o ((entry : Delimiter) → delimiter_letters entry ≡ low → ⊥)
+none_of None low h = λ entry same. h (place_of entry) (place_in entry) (ap delimiter_letters (at_place entry) ∙ same)
 none_of (Some e) low h = tt

@@ -5,7 +5,7 @@ use Rattle.std.specs.Char.{to_ascii_lowercase}
 use Rattle.ada_lex.specs.declared.words.Reserved.{Reserved}
 use Rattle.ada_lex.specs.declared.words.Reserved.TheVariants.{Abort, Abs, Abstract, Accept, Access, Aliased, All, And, Array, At, Begin, Body, Case, Constant, Declare, Delay, Delta, Digits, Do, Else, Elsif, End, Entry, Exception, Exit, For, Function, Generic, Goto, If, In, Interface, Is, Limited, Loop, Mod, New, Not, Null, Of, Or, Others, Out, Overriding, Package, Pragma, Private, Procedure, Protected, Raise, Range, Record, Rem, Renames, Requeue, Return, Reverse, Select, Separate, Some, Subtype, Synchronized, Tagged, Task, Terminate, Then, TypeWord, Until, Use, When, While, With, Xor}
 use Rattle.ada_lex.specs.declared.words.TheConstants.{ALL}
-use Rattle.ada_lex.specs.ReservedLetters.{letters}
+use Rattle.ada_lex.specs.ReservedLetters.{word_letters}
 
 abbrev pub place_of : Reserved → ℕ
 place_of Abort = 0
@@ -232,8 +232,7 @@ at_place While = refl
 at_place With = refl
 at_place Xor = refl
 
-pub lower_letters : (entry : Reserved) → map to_ascii_lowercase (letters entry) ≡ letters entry
-unfolding letters
+pub lower_letters : (entry : Reserved) → map to_ascii_lowercase (word_letters entry) ≡ word_letters entry
 lower_letters Abort = refl
 lower_letters Abs = refl
 lower_letters Abstract = refl
@@ -308,6 +307,6 @@ lower_letters While = refl
 lower_letters With = refl
 lower_letters Xor = refl
 
-pub none_of : (o : Option Reserved) (low : List ℕ) → IfNone o ((k : ℕ) → k < 73 → letters (get_or ALL k Abort) ≡ low → ⊥) → IfNone o ((entry : Reserved) → letters entry ≡ low → ⊥)
-none_of None low h = λ entry same. h (place_of entry) (place_in entry) (ap letters (at_place entry) ∙ same)
+pub none_of : (o : Option Reserved) (low : List ℕ) → IfNone o ((k : ℕ) → k < 73 → word_letters (get_or ALL k Abort) ≡ low → ⊥) → IfNone o ((entry : Reserved) → word_letters entry ≡ low → ⊥)
+none_of None low h = λ entry same. h (place_of entry) (place_in entry) (ap word_letters (at_place entry) ∙ same)
 none_of (Some e) low h = tt

@@ -10,7 +10,7 @@ use Rattle.std.specs.Char.{to_ascii_lowercase}
 use Rattle.ada_lex.specs.declared.words.Reserved.{Reserved}
 use Rattle.ada_lex.specs.declared.words.Reserved.TheVariants.{Abort}
 use Rattle.ada_lex.specs.declared.words.TheConstants.{ALL}
-use Rattle.ada_lex.specs.ReservedLetters.{letters}
+use Rattle.ada_lex.specs.ReservedLetters.{word_letters}
 use Rattle.ada_lex.specs.Reserved.{is_reserved}
 use Rattle.ada_lex.proofs.ReservedTable.{place_of, place_in, at_place}
 
@@ -18,17 +18,17 @@ none_false : (v : Bool) (P : Type 0) → (v ≡ true → P) → (P → v ≡ tru
 none_false true P f g never = absurd (never (f refl))
 none_false false P f g never = refl
 
-pub is_reserved-word : (found : Option Reserved) (word : List ℕ) → IfSome found (λ entry. letters entry ≡ map to_ascii_lowercase word) → IfNone found ((entry : Reserved) → letters entry ≡ map to_ascii_lowercase word → ⊥) → is_some found ≡ is_reserved word
+pub is_reserved-word : (found : Option Reserved) (word : List ℕ) → IfSome found (λ entry. word_letters entry ≡ map to_ascii_lowercase word) → IfNone found ((entry : Reserved) → word_letters entry ≡ map to_ascii_lowercase word → ⊥) → is_some found ≡ is_reserved word
 unfolding is_reserved
 is_reserved-word (Some entry) word same none =
-    let test = λ (e : Reserved). bytes_eq (letters e) (map to_ascii_lowercase word) in
-    let here : bytes_eq (letters entry) (map to_ascii_lowercase word) ≡ true = (bytes_eq-Decides (letters entry) (map to_ascii_lowercase word)).1 same in
-    let there : bytes_eq (letters (get_or ALL (place_of entry) Abort)) (map to_ascii_lowercase word) ≡ true = subst (λ (e : Reserved). bytes_eq (letters e) (map to_ascii_lowercase word) ≡ true) (sym (at_place entry)) here in
+    let test = λ (e : Reserved). bytes_eq (word_letters e) (map to_ascii_lowercase word) in
+    let here : bytes_eq (word_letters entry) (map to_ascii_lowercase word) ≡ true = (bytes_eq-Decides (word_letters entry) (map to_ascii_lowercase word)).1 same in
+    let there : bytes_eq (word_letters (get_or ALL (place_of entry) Abort)) (map to_ascii_lowercase word) ≡ true = subst (λ (e : Reserved). bytes_eq (word_letters e) (map to_ascii_lowercase word) ≡ true) (sym (at_place entry)) here in
     sym (list_any_at test ALL (place_of entry) Abort (place_in entry) there)
 is_reserved-word None word same none =
-    let test = λ (e : Reserved). bytes_eq (letters e) (map to_ascii_lowercase word) in
+    let test = λ (e : Reserved). bytes_eq (word_letters e) (map to_ascii_lowercase word) in
     sym (list_any_none test ALL (All-from_get_or (λ e. test e ≡ false) ALL Abort (λ i lt.
-    let d = bytes_eq-Decides (letters (get_or ALL i Abort)) (map to_ascii_lowercase word) in
+    let d = bytes_eq-Decides (word_letters (get_or ALL i Abort)) (map to_ascii_lowercase word) in
     none_false _ _ d.0 d.1 (none (get_or ALL i Abort)))))
 
 lower_twice : (b : ℕ) → to_ascii_lowercase (to_ascii_lowercase b) ≡ to_ascii_lowercase b

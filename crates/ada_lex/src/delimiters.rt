@@ -1,7 +1,7 @@
 //! The delimiters (ISO/IEC 8652:2012, 2.2).
 ghost use Rattle.std.specs.Prelude.{◌≡◌, ◌≢◌, ◌<◌, ℕ, length, slice_index_or, IfSome, IfNone};
 ghost use Rattle.ada_lex.specs.declared.delimiters.Delimiter.{Delimiter};
-ghost use Rattle.ada_lex.specs.DelimiterLetters.{letters};
+ghost use Rattle.ada_lex.specs.DelimiterLetters.{delimiter_letters};
 
 /// A delimiter of this profile.
 #[derive(Clone, Copy, PartialEq, Eq)]
@@ -79,9 +79,8 @@ const ALL: [Delimiter; 22] = [
 
 impl Delimiter {
     /// The bytes of a delimiter (2.2).
-    #[tactic(auto, unfolding(crate::specs::DelimiterLetters::letters))]
     pub fn letters(self) -> &'static [u8]
-        ensures { result.now ≡ letters self }
+        ensures { result.now ≡ delimiter_letters self }
     {
         match self {
             Delimiter::Arrow => b"=>",
@@ -111,10 +110,10 @@ impl Delimiter {
 }
 
 fn first_of(entries: &[Delimiter], spelling: &[u8]) -> Option<Delimiter>
-    ensures found { IfSome result (λ entry. letters entry ≡ spelling.now) }
+    ensures found { IfSome result (λ entry. delimiter_letters entry ≡ spelling.now) }
     ensures none { IfNone result
         ((k : ℕ) → k < length entries.now
-        → letters (slice_index_or entries.now k Delimiter.Arrow) ≢ spelling.now) }
+        → delimiter_letters (slice_index_or entries.now k Delimiter.Arrow) ≢ spelling.now) }
 {
     for entry in entries {
         if entry.letters() == spelling {
@@ -126,8 +125,8 @@ fn first_of(entries: &[Delimiter], spelling: &[u8]) -> Option<Delimiter>
 
 /// The delimiter that is spelt so; None where there is none.
 pub fn delimiter_of(spelling: &[u8]) -> Option<Delimiter>
-    ensures found { IfSome result (λ entry. letters entry ≡ spelling.now) }
-    ensures none { IfNone result ((entry : Delimiter) → letters entry ≢ spelling.now) }
+    ensures found { IfSome result (λ entry. delimiter_letters entry ≡ spelling.now) }
+    ensures none { IfNone result ((entry : Delimiter) → delimiter_letters entry ≢ spelling.now) }
 {
     first_of(&ALL, spelling)
 }

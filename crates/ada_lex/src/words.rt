@@ -1,8 +1,9 @@
 //! The reserved words (ISO/IEC 8652:2012, 2.9).
 ghost use Rattle.std.specs.Prelude.{◌≡◌, ◌≢◌, ◌<◌, ℕ, map, length, slice_index_or, IfSome, IfNone};
 ghost use Rattle.std.specs.Char.{to_ascii_lowercase};
+ghost use Rattle.std.specs.Str.{bytes_eq};
 ghost use Rattle.ada_lex.specs.declared.words.Reserved.{Reserved};
-ghost use Rattle.ada_lex.specs.ReservedLetters.{letters};
+ghost use Rattle.ada_lex.specs.ReservedLetters.{word_letters};
 ghost use Rattle.ada_lex.specs.Reserved.{is_reserved};
 
 /// A reserved word.
@@ -161,9 +162,8 @@ const ALL: [Reserved; 73] = [
 
 impl Reserved {
     /// The letters of a reserved word, in lower case (2.9).
-    #[tactic(auto, unfolding(crate::specs::ReservedLetters::letters))]
     pub fn letters(self) -> &'static [u8]
-        ensures { result.now ≡ letters self }
+        ensures { result.now ≡ word_letters self }
     {
         match self {
             Reserved::Abort => b"abort",
@@ -241,17 +241,24 @@ impl Reserved {
             Reserved::Xor => b"xor",
         }
     }
+
+    /// Whether a word is this reserved one, in any case (2.3).
+    pub fn is_spelt(self, word: &[u8]) -> bool
+        ensures { result ≡ bytes_eq (map to_ascii_lowercase word.now) (word_letters self) }
+    {
+        word.eq_ignore_ascii_case(self.letters())
+    }
 }
 
 fn first_of(entries: &[Reserved], spelling: &[u8]) -> Option<Reserved>
-    ensures found { IfSome result (λ entry. letters entry ≡ map to_ascii_lowercase spelling.now) }
+    ensures found { IfSome result (λ entry. word_letters entry ≡ map to_ascii_lowercase spelling.now) }
     ensures none { IfNone result
         ((k : ℕ) → k < length entries.now
-        → letters (slice_index_or entries.now k Reserved.Abort)
+        → word_letters (slice_index_or entries.now k Reserved.Abort)
         ≢ map to_ascii_lowercase spelling.now) }
 {
     for entry in entries {
-        if entry.letters().eq_ignore_ascii_case(spelling) {
+        if entry.is_spelt(spelling) {
             return Some(*entry);
         }
     }
@@ -260,9 +267,9 @@ fn first_of(entries: &[Reserved], spelling: &[u8]) -> Option<Reserved>
 
 /// The reserved word that is spelt so, in any case; None where there is none.
 pub fn reserved_word(spelling: &[u8]) -> Option<Reserved>
-    ensures found { IfSome result (λ entry. letters entry ≡ map to_ascii_lowercase spelling.now) }
+    ensures found { IfSome result (λ entry. word_letters entry ≡ map to_ascii_lowercase spelling.now) }
     ensures none { IfNone result
-        ((entry : Reserved) → letters entry ≢ map to_ascii_lowercase spelling.now) }
+        ((entry : Reserved) → word_letters entry ≢ map to_ascii_lowercase spelling.now) }
 {
     first_of(&ALL, spelling)
 }

@@ -15,7 +15,7 @@ ghost use Rattle.ada_grammar.specs.ReadingUnits.{begins_clause, clause_of, conte
 use ada_clauses::aspects;
 use ada_expressions::{argument, name_list};
 use ada_grammar::{Cursor, ParseFault, Stuck};
-use ada_lex::{MAX_SOURCE, Token};
+use ada_lex::{Delimiter, MAX_SOURCE, Reserved, Token};
 use ada_selects::end_name;
 use ada_sequences::{below, body, declarations, sequence};
 use ada_tree::{
@@ -121,7 +121,7 @@ fn next_argument(
     ensures { Reads result cursor.new
         (behind_delimiter_of (codes ",") (argument_of left (inner_of left)) cursor.old) }
 {
-    cursor.delimiter(b",")?;
+    cursor.delimiter(Delimiter::Comma)?;
     argument(alloc, cursor, left)
 }
 
@@ -138,7 +138,7 @@ fn next_arguments(
 {
     let mut found = Items::new(alloc);
     for _turn in 0..cursor.remaining() {
-        if !cursor.is_delimiter(b",") {
+        if !cursor.is_delimiter(Delimiter::Comma) {
             return Ok(found);
         }
         found.push(next_argument(alloc, cursor, left)?)?;
@@ -170,12 +170,12 @@ fn pragma_line(
 ) -> Result<Pragma, OrMemory<Stuck>>
     ensures { Reads result cursor.new (pragma_of left cursor.old) }
 {
-    let place = cursor.word(b"pragma")?;
+    let place = cursor.word(Reserved::Pragma)?;
     let name = cursor.identifier(alloc)?;
     cursor.open(left)?;
     let arguments = pragma_arguments(alloc, cursor, left)?;
-    cursor.delimiter(b")")?;
-    cursor.delimiter(b";")?;
+    cursor.delimiter(Delimiter::CloseBracket)?;
+    cursor.delimiter(Delimiter::Semicolon)?;
     Ok(Pragma {
         place,
         name,
@@ -195,7 +195,7 @@ fn pragmas(
 {
     let mut found = Items::new(alloc);
     for _turn in 0..cursor.remaining() {
-        if !cursor.is_word(b"pragma") {
+        if !cursor.is_word(Reserved::Pragma) {
             return Ok(found);
         }
         found.push(pragma_line(alloc, cursor, left)?)?;
@@ -208,9 +208,9 @@ fn pragmas(
 fn with_clause(alloc: Global, cursor: &mut Cursor<'_>) -> Result<ContextClause, OrMemory<Stuck>>
     ensures { Reads result cursor.new (with_of cursor.old) }
 {
-    let place = cursor.word(b"with")?;
-    let names = name_list(alloc, cursor, b",")?;
-    cursor.delimiter(b";")?;
+    let place = cursor.word(Reserved::With)?;
+    let names = name_list(alloc, cursor, Delimiter::Comma)?;
+    cursor.delimiter(Delimiter::Semicolon)?;
     Ok(ContextClause {
         place,
         is_use: false,
@@ -223,9 +223,9 @@ fn with_clause(alloc: Global, cursor: &mut Cursor<'_>) -> Result<ContextClause, 
 fn use_clause(alloc: Global, cursor: &mut Cursor<'_>) -> Result<ContextClause, OrMemory<Stuck>>
     ensures { Reads result cursor.new (use_clause_of cursor.old) }
 {
-    let place = cursor.word(b"use")?;
-    let names = name_list(alloc, cursor, b",")?;
-    cursor.delimiter(b";")?;
+    let place = cursor.word(Reserved::Use)?;
+    let names = name_list(alloc, cursor, Delimiter::Comma)?;
+    cursor.delimiter(Delimiter::Semicolon)?;
     Ok(ContextClause {
         place,
         is_use: true,
@@ -237,7 +237,7 @@ fn use_clause(alloc: Global, cursor: &mut Cursor<'_>) -> Result<ContextClause, O
 fn begins_clause(cursor: &Cursor<'_>) -> bool
     ensures { result ≡ begins_clause cursor.now }
 {
-    cursor.is_word(b"with") || cursor.is_word(b"use")
+    cursor.is_word(Reserved::With) || cursor.is_word(Reserved::Use)
 }
 
 /// A context clause (10.1.2).
@@ -245,7 +245,7 @@ fn begins_clause(cursor: &Cursor<'_>) -> bool
 fn clause(alloc: Global, cursor: &mut Cursor<'_>) -> Result<ContextClause, OrMemory<Stuck>>
     ensures { Reads result cursor.new (clause_of cursor.old) }
 {
-    if cursor.is_word(b"use") {
+    if cursor.is_word(Reserved::Use) {
         use_clause(alloc, cursor)
     } else {
         with_clause(alloc, cursor)
@@ -279,8 +279,8 @@ fn private_part(
 ) -> Result<Option<Items<Declaration<Sequence>>>, OrMemory<Stuck>>
     ensures { Reads result cursor.new (private_part_of left cursor.old) }
 {
-    if cursor.is_word(b"private") {
-        cursor.word(b"private")?;
+    if cursor.is_word(Reserved::Private) {
+        cursor.word(Reserved::Private)?;
         let hidden = declarations(alloc, cursor, left)?;
         Ok(Some(hidden))
     } else {
@@ -299,12 +299,12 @@ fn package_declaration(
     ensures { Reads result cursor.new (package_declaration_of left place cursor.old) }
 {
     let name = cursor.identifier(alloc)?;
-    cursor.word(b"is")?;
+    cursor.word(Reserved::Is)?;
     let declarations = declarations(alloc, cursor, left)?;
     let private = private_part(alloc, cursor, left)?;
-    cursor.word(b"end")?;
+    cursor.word(Reserved::End)?;
     let named_at_end = end_name(cursor, &name)?;
-    cursor.delimiter(b";")?;
+    cursor.delimiter(Delimiter::Semicolon)?;
     Ok(Package::Declaration(PackageDeclaration {
         place,
         name,
@@ -323,8 +323,8 @@ fn package_statements(
 ) -> Result<Option<Sequence>, OrMemory<Stuck>>
     ensures { Reads result cursor.new (package_statements_of left cursor.old) }
 {
-    if cursor.is_word(b"begin") {
-        cursor.word(b"begin")?;
+    if cursor.is_word(Reserved::Begin) {
+        cursor.word(Reserved::Begin)?;
         let statements = sequence(alloc, cursor, left, SequenceRole::Handled)?;
         Ok(Some(statements))
     } else {
@@ -342,15 +342,15 @@ fn package_body(
 ) -> Result<Package, OrMemory<Stuck>>
     ensures { Reads result cursor.new (package_body_of left place cursor.old) }
 {
-    cursor.word(b"body")?;
+    cursor.word(Reserved::Body)?;
     let name = cursor.identifier(alloc)?;
     cursor.open_is(left)?;
     let inside = below(left);
     let declarations = declarations(alloc, cursor, inside)?;
     let sequence = package_statements(alloc, cursor, inside)?;
-    cursor.word(b"end")?;
+    cursor.word(Reserved::End)?;
     let named_at_end = end_name(cursor, &name)?;
-    cursor.delimiter(b";")?;
+    cursor.delimiter(Delimiter::Semicolon)?;
     Ok(Package::Body(PackageBody {
         place,
         name,
@@ -365,8 +365,8 @@ fn package_body(
 fn package(alloc: Global, cursor: &mut Cursor<'_>, left: usize) -> Result<Package, OrMemory<Stuck>>
     ensures { Reads result cursor.new (package_of left cursor.old) }
 {
-    let place = cursor.word(b"package")?;
-    if cursor.is_word(b"body") {
+    let place = cursor.word(Reserved::Package)?;
+    if cursor.is_word(Reserved::Body) {
         package_body(alloc, cursor, left, place)
     } else {
         package_declaration(alloc, cursor, left, place)
@@ -385,7 +385,7 @@ fn packages(
     let mut found = Items::new(alloc);
     for _turn in 0..cursor.remaining() {
         let context = context_clauses(alloc, cursor)?;
-        if !cursor.is_word(b"package") {
+        if !cursor.is_word(Reserved::Package) {
             return Ok((found, context));
         }
         let package = package(alloc, cursor, left)?;
@@ -404,7 +404,7 @@ fn main_procedure(
 ) -> Result<MainProcedure, OrMemory<Stuck>>
     ensures { Reads result cursor.new (main_of left cursor.old) }
 {
-    let place = cursor.word(b"procedure")?;
+    let place = cursor.word(Reserved::Procedure)?;
     let name = cursor.identifier(alloc)?;
     let aspects = aspects(alloc, cursor, left)?;
     let body = body(alloc, cursor, left, &name)?;

@@ -10,6 +10,7 @@ use crate::nested::Nested;
 use crate::reader::SelectReader;
 use ada_expressions::parameters;
 use ada_grammar::{Cursor, Stuck};
+use ada_lex::{Delimiter, Reserved};
 use ada_tree::{Accept, AcceptBody, Identifier, SequenceRole};
 use ann_base::OrMemory;
 use std::alloc::Global;
@@ -20,7 +21,7 @@ pub fn end_name(cursor: &mut Cursor<'_>, name: &Identifier) -> Result<bool, OrMe
     requires lower { map to_ascii_lowercase name.now.text ≡ name.now.text }
     ensures { Reads result cursor.new (end_name_of name.now.text cursor.old) }
 {
-    cursor.flag(name.text.as_slice())
+    cursor.end_name(name.text.as_slice())
 }
 
 impl<
@@ -40,10 +41,10 @@ impl<
         ensures { Reads result cursor.new
             (accept_body_of self.now.left (Q.reading self.now.left) name.now.text cursor.old) }
     {
-        if cursor.is_word(b"do") {
-            cursor.word(b"do")?;
+        if cursor.is_word(Reserved::Do) {
+            cursor.word(Reserved::Do)?;
             let sequence = self.sequence(cursor, SequenceRole::Handled)?;
-            cursor.word(b"end")?;
+            cursor.word(Reserved::End)?;
             let named_at_end = end_name(cursor, name)?;
             Ok(Some(AcceptBody {
                 sequence,
@@ -62,11 +63,11 @@ impl<
         ensures { Reads result cursor.new
             (accept_of self.now.left (Q.reading self.now.left) cursor.old) }
     {
-        let place = cursor.word(b"accept")?;
+        let place = cursor.word(Reserved::Accept)?;
         let entry = cursor.identifier(self.alloc)?;
         let parameters = parameters(self.alloc, cursor, self.left)?;
         let body = self.accept_body(cursor, &entry)?;
-        cursor.delimiter(b";")?;
+        cursor.delimiter(Delimiter::Semicolon)?;
         Ok(Accept {
             place,
             entry,

@@ -7,6 +7,7 @@ ghost use Rattle.ada_grammar.specs.ReadingStatements.{else_of, optional_statemen
 use crate::beginnings::begins_statement;
 use crate::nested::Nested;
 use ada_grammar::{Cursor, Stuck};
+use ada_lex::Reserved;
 use ada_tree::SequenceRole;
 use ann_base::OrMemory;
 use std::alloc::Global;
@@ -47,8 +48,8 @@ impl<
         ensures { Reads result cursor.new
             (else_of self.now.left (Q.reading self.now.left) cursor.old) }
     {
-        if cursor.is_word(b"else") {
-            cursor.word(b"else")?;
+        if cursor.is_word(Reserved::Else) {
+            cursor.word(Reserved::Else)?;
             let statements = self.sequence(cursor, SequenceRole::Statements)?;
             Ok(Some(statements))
         } else {

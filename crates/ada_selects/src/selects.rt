@@ -10,6 +10,7 @@ use crate::nested::Nested;
 use crate::reader::SelectReader;
 use ada_expressions::expression;
 use ada_grammar::{Cursor, Stuck};
+use ada_lex::{Delimiter, Reserved};
 use ada_simple_statements::{call, delay};
 use ada_tree::{
     Accept, Alternative, AsynchronousSelect, Call, ConditionalEntryCall, Delay, Guard, OneOrMore,
@@ -48,7 +49,7 @@ impl<
     {
         match self.left {
             0 => {
-                if cursor.is_word(b"delay") {
+                if cursor.is_word(Reserved::Delay) {
                     Err(cursor.too_deep())
                 } else {
                     Err(cursor.stuck())
@@ -67,7 +68,7 @@ impl<
     {
         match self.left {
             0 => {
-                if cursor.is_word(b"accept") {
+                if cursor.is_word(Reserved::Accept) {
                     Err(cursor.too_deep())
                 } else {
                     Err(cursor.stuck())
@@ -120,8 +121,8 @@ impl<
             (terminate_of self.now.left (Q.reading self.now.left)
             (further_in Q.reading self.now.left) cursor.old) }
     {
-        let place = cursor.word(b"terminate")?;
-        cursor.delimiter(b";")?;
+        let place = cursor.word(Reserved::Terminate)?;
+        cursor.delimiter(Delimiter::Semicolon)?;
         Ok(Alternative::Terminate { place })
     }
 
@@ -134,9 +135,9 @@ impl<
             (alternative_of self.now.left (Q.reading self.now.left)
             (further_in Q.reading self.now.left) cursor.old) }
     {
-        if cursor.is_word(b"accept") {
+        if cursor.is_word(Reserved::Accept) {
             self.accept_alternative(cursor)
-        } else if cursor.is_word(b"delay") {
+        } else if cursor.is_word(Reserved::Delay) {
             self.delay_alternative(cursor)
         } else {
             self.terminate_alternative(cursor)
@@ -150,10 +151,10 @@ impl<
             (guard_of self.now.left (Q.reading self.now.left) (further_in Q.reading self.now.left)
             cursor.old) }
     {
-        if cursor.is_word(b"when") {
-            let place = cursor.word(b"when")?;
+        if cursor.is_word(Reserved::When) {
+            let place = cursor.word(Reserved::When)?;
             let condition = expression(self.alloc, cursor, self.left)?;
-            cursor.delimiter(b"=>")?;
+            cursor.delimiter(Delimiter::Arrow)?;
             Ok(Some(Guard { place, condition }))
         } else {
             Ok(None)
@@ -189,7 +190,7 @@ impl<
             (next_alternative_of self.now.left (Q.reading self.now.left)
             (further_in Q.reading self.now.left) cursor.old) }
     {
-        cursor.word(b"or")?;
+        cursor.word(Reserved::Or)?;
         self.select_alternative(cursor)
     }
 
@@ -208,7 +209,7 @@ impl<
     {
         let mut found = Items::new(self.alloc);
         for _turn in 0..cursor.remaining() {
-            if !cursor.is_word(b"or") {
+            if !cursor.is_word(Reserved::Or) {
                 return Ok(found);
             }
             found.push(self.next_alternative(cursor)?)?;
@@ -251,8 +252,8 @@ impl<
             (asynchronous_of self.now.left (Q.reading self.now.left)
             (further_in Q.reading self.now.left) trigger statements cursor.old) }
     {
-        cursor.word(b"then")?;
-        cursor.word(b"abort")?;
+        cursor.word(Reserved::Then)?;
+        cursor.word(Reserved::Abort)?;
         let abortable = self.sequence(cursor, SequenceRole::Statements)?;
         Ok(SelectForm::AsynchronousSelect(AsynchronousSelect {
             trigger,
@@ -275,7 +276,7 @@ impl<
             (timed_of self.now.left (Q.reading self.now.left) (further_in Q.reading self.now.left)
             call statements cursor.old) }
     {
-        cursor.word(b"or")?;
+        cursor.word(Reserved::Or)?;
         let delay = self.opened_delay(cursor)?;
         let delay_statements = self.optional_statements(cursor)?;
         Ok(SelectForm::TimedEntryCall(TimedEntryCall {
@@ -300,7 +301,7 @@ impl<
             (conditional_of self.now.left (Q.reading self.now.left)
             (further_in Q.reading self.now.left) call statements cursor.old) }
     {
-        cursor.word(b"else")?;
+        cursor.word(Reserved::Else)?;
         let otherwise = self.sequence(cursor, SequenceRole::Statements)?;
         Ok(SelectForm::ConditionalEntryCall(ConditionalEntryCall {
             call,
@@ -323,9 +324,9 @@ impl<
             (behind_call_of self.now.left (Q.reading self.now.left)
             (further_in Q.reading self.now.left) call statements cursor.old) }
     {
-        if cursor.is_word(b"or") {
+        if cursor.is_word(Reserved::Or) {
             self.timed_entry_call(cursor, call, statements)
-        } else if cursor.is_word(b"else") {
+        } else if cursor.is_word(Reserved::Else) {
             self.conditional_entry_call(cursor, call, statements)
         } else {
             self.asynchronous_select(cursor, Trigger::Call(call), statements)
@@ -357,7 +358,7 @@ impl<
     {
         let delay = self.opened_delay(cursor)?;
         let statements = self.optional_statements(cursor)?;
-        if cursor.is_word(b"then") {
+        if cursor.is_word(Reserved::Then) {
             self.asynchronous_select(cursor, Trigger::Delay(delay), statements)
         } else {
             let first = SelectAlternative {
@@ -379,7 +380,7 @@ impl<
     {
         if cursor.is_identifier() {
             self.call_select(cursor)
-        } else if cursor.is_word(b"delay") {
+        } else if cursor.is_word(Reserved::Delay) {
             self.delay_select(cursor)
         } else {
             let first = self.select_alternative(cursor)?;
@@ -396,11 +397,11 @@ impl<
             (select_of self.now.left (Q.reading self.now.left) (further_in Q.reading self.now.left)
             cursor.old) }
     {
-        let place = cursor.word(b"select")?;
+        let place = cursor.word(Reserved::Select)?;
         let form = self.select_form(cursor)?;
-        cursor.word(b"end")?;
-        cursor.word(b"select")?;
-        cursor.delimiter(b";")?;
+        cursor.word(Reserved::End)?;
+        cursor.word(Reserved::Select)?;
+        cursor.delimiter(Delimiter::Semicolon)?;
         Ok(Statement::Select(SelectStatement { place, form }))
     }
 }

@@ -14,6 +14,7 @@ use ada_clauses::{
     specification, subtype_declaration, task_declaration, type_declaration, use_clause,
 };
 use ada_grammar::{Cursor, Stuck};
+use ada_lex::{Delimiter, Reserved};
 use ada_selects::end_name;
 use ada_tree::{
     Body, Declaration, Identifier, OperationBody, ProtectedBody, Sequence, SequenceRole,
@@ -37,9 +38,9 @@ pub fn below(left: usize) -> usize
 fn begins_unit(cursor: &Cursor<'_>) -> bool
     ensures { result ≡ begins_unit cursor.now }
 {
-    cursor.is_word(b"task")
-        || cursor.is_word(b"protected")
-        || cursor.is_word(b"use")
+    cursor.is_word(Reserved::Task)
+        || cursor.is_word(Reserved::Protected)
+        || cursor.is_word(Reserved::Use)
         || begins_specification(cursor)
 }
 
@@ -49,8 +50,8 @@ pub fn begins_declaration(cursor: &Cursor<'_>) -> bool
     ensures { result ≡ begins_declaration cursor.now }
 {
     cursor.is_identifier()
-        || cursor.is_word(b"type")
-        || cursor.is_word(b"subtype")
+        || cursor.is_word(Reserved::TypeWord)
+        || cursor.is_word(Reserved::Subtype)
         || begins_unit(cursor)
 }
 
@@ -72,9 +73,9 @@ impl<
     {
         cursor.open_is(self.left)?;
         let sequence = self.inner(cursor, SequenceRole::Body)?;
-        cursor.word(b"end")?;
+        cursor.word(Reserved::End)?;
         let named_at_end = end_name(cursor, name)?;
-        cursor.delimiter(b";")?;
+        cursor.delimiter(Delimiter::Semicolon)?;
         Ok(Body {
             sequence,
             named_at_end,
@@ -127,7 +128,7 @@ impl<
         ensures { Reads result cursor.new
             (operation_body_of self.now.left (inside_of self.now.left) cursor.old) }
     {
-        if cursor.is_word(b"entry") {
+        if cursor.is_word(Reserved::Entry) {
             self.entry_operation(cursor)
         } else {
             self.subprogram_operation(cursor)
@@ -163,8 +164,8 @@ impl<
             (subprogram_of self.now.left (inside_of self.now.left) cursor.old) }
     {
         let specification = specification(self.alloc, cursor, self.left)?;
-        if cursor.is_delimiter(b";") {
-            cursor.delimiter(b";")?;
+        if cursor.is_delimiter(Delimiter::Semicolon) {
+            cursor.delimiter(Delimiter::Semicolon)?;
             Ok(Declaration::Subprogram(specification))
         } else {
             self.subprogram_body(cursor, specification)
@@ -183,7 +184,7 @@ impl<
         ensures { Reads result cursor.new
             (task_body_of self.now.left (inside_of self.now.left) place cursor.old) }
     {
-        cursor.word(b"body")?;
+        cursor.word(Reserved::Body)?;
         let name = cursor.identifier(self.alloc)?;
         let body = self.body(cursor, &name)?;
         Ok(Declaration::TaskBody { place, name, body })
@@ -197,8 +198,8 @@ impl<
         ensures { Reads result cursor.new
             (any_task_of self.now.left (inside_of self.now.left) cursor.old) }
     {
-        let place = cursor.word(b"task")?;
-        if cursor.is_word(b"body") {
+        let place = cursor.word(Reserved::Task)?;
+        if cursor.is_word(Reserved::Body) {
             self.task_body(cursor, place)
         } else {
             task_declaration(self.alloc, cursor, self.left, place)
@@ -259,13 +260,13 @@ impl<
             (protected_body_of self.now.left (inside_of self.now.left)
             (inside_of (below self.now.left)) place cursor.old) }
     {
-        cursor.word(b"body")?;
+        cursor.word(Reserved::Body)?;
         let name = cursor.identifier(self.alloc)?;
         cursor.open_is(self.left)?;
         let operations = self.operation_bodies(cursor)?;
-        cursor.word(b"end")?;
+        cursor.word(Reserved::End)?;
         let named_at_end = end_name(cursor, &name)?;
-        cursor.delimiter(b";")?;
+        cursor.delimiter(Delimiter::Semicolon)?;
         Ok(Declaration::ProtectedBody(ProtectedBody {
             place,
             name,
@@ -286,8 +287,8 @@ impl<
             (any_protected_of self.now.left (inside_of self.now.left)
             (inside_of (below self.now.left)) cursor.old) }
     {
-        let place = cursor.word(b"protected")?;
-        if cursor.is_word(b"body") {
+        let place = cursor.word(Reserved::Protected)?;
+        if cursor.is_word(Reserved::Body) {
             self.protected_body(cursor, place)
         } else {
             protected_declaration(self.alloc, cursor, self.left, place)
@@ -308,15 +309,15 @@ impl<
     {
         if cursor.is_identifier() {
             named_declaration(self.alloc, cursor, self.left)
-        } else if cursor.is_word(b"type") {
+        } else if cursor.is_word(Reserved::TypeWord) {
             type_declaration(self.alloc, cursor, self.left)
-        } else if cursor.is_word(b"subtype") {
+        } else if cursor.is_word(Reserved::Subtype) {
             subtype_declaration(self.alloc, cursor, self.left)
-        } else if cursor.is_word(b"task") {
+        } else if cursor.is_word(Reserved::Task) {
             self.any_task(cursor)
-        } else if cursor.is_word(b"protected") {
+        } else if cursor.is_word(Reserved::Protected) {
             self.any_protected(cursor)
-        } else if cursor.is_word(b"use") {
+        } else if cursor.is_word(Reserved::Use) {
             use_clause(self.alloc, cursor)
         } else {
             self.subprogram(cursor)

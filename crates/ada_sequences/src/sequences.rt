@@ -9,6 +9,7 @@ ghost use Rattle.ada_grammar.specs.ReadingSequences.{declarations_of, given_hand
 
 use crate::bodies::begins_declaration;
 use ada_grammar::{Cursor, Stuck};
+use ada_lex::{Delimiter, Reserved};
 use ada_selects::begins_statement;
 use ada_simple_statements::handled_exceptions;
 use ada_statements::StatementReader;
@@ -167,9 +168,9 @@ impl<
             (handler_of self.now.left (inside_of self.now.left) (inside_of (below self.now.left))
             cursor.old) }
     {
-        let place = cursor.word(b"when")?;
+        let place = cursor.word(Reserved::When)?;
         let exceptions = handled_exceptions(self.alloc, cursor)?;
-        cursor.delimiter(b"=>")?;
+        cursor.delimiter(Delimiter::Arrow)?;
         let statements = self.statements(cursor)?;
         Ok(Handler {
             place,
@@ -193,7 +194,7 @@ impl<
     {
         let mut found = Items::new(self.alloc);
         for _turn in 0..cursor.remaining() {
-            if !cursor.is_word(b"when") {
+            if !cursor.is_word(Reserved::When) {
                 return Ok(found);
             }
             found.push(self.handler(cursor)?)?;
@@ -213,7 +214,7 @@ impl<
             (given_handlers_of self.now.left (inside_of self.now.left)
             (inside_of (below self.now.left)) cursor.old) }
     {
-        cursor.word(b"exception")?;
+        cursor.word(Reserved::Exception)?;
         let first = self.handler(cursor)?;
         let mut handlers = Items::new(self.alloc);
         handlers.push(first)?;
@@ -231,7 +232,7 @@ impl<
             (handlers_of self.now.left (inside_of self.now.left) (inside_of (below self.now.left))
             cursor.old) }
     {
-        if cursor.is_word(b"exception") {
+        if cursor.is_word(Reserved::Exception) {
             self.given_handlers(cursor)
         } else {
             Ok(Items::new(self.alloc))
@@ -288,7 +289,7 @@ impl<
             cursor.old) }
     {
         let declarations = self.declarations(cursor)?;
-        cursor.word(b"begin")?;
+        cursor.word(Reserved::Begin)?;
         self.handled_behind(cursor, declarations)
     }
 

@@ -6,6 +6,7 @@ ghost use Rattle.ada_grammar.specs.Reads.{Reads};
 
 use ada_expressions::{arguments, bounds, expression, name, name_list};
 use ada_grammar::{Cursor, Stuck};
+use ada_lex::{Delimiter, Reserved};
 use ada_tree::{
     Argument, Assignment, Call, Choice, Delay, Exit, Expression, HandledExceptions, Identifier,
     Iteration, Label, Name, Statement,
@@ -45,9 +46,9 @@ fn assignment_behind<Q>(
     ensures { Reads result cursor.new (assignment_behind_of left target arguments cursor.old) }
 {
     let index = index(cursor, arguments)?;
-    cursor.delimiter(b":=")?;
+    cursor.delimiter(Delimiter::Becomes)?;
     let value = expression(alloc, cursor, left)?;
-    cursor.delimiter(b";")?;
+    cursor.delimiter(Delimiter::Semicolon)?;
     Ok(Statement::Assignment(Assignment {
         target,
         index,
@@ -64,7 +65,7 @@ fn call_behind<Q>(
 ) -> Result<Statement<Q>, OrMemory<Stuck>>
     ensures { Reads result cursor.new (call_behind_of name arguments cursor.old) }
 {
-    cursor.delimiter(b";")?;
+    cursor.delimiter(Delimiter::Semicolon)?;
     Ok(Statement::Call(Call { name, arguments }))
 }
 
@@ -79,7 +80,7 @@ pub fn simple_statement<Q>(
 {
     let name = name(alloc, cursor)?;
     let arguments = arguments(alloc, cursor, left)?;
-    if cursor.is_delimiter(b":=") {
+    if cursor.is_delimiter(Delimiter::Becomes) {
         assignment_behind(alloc, cursor, left, name, arguments)
     } else {
         call_behind(cursor, name, arguments)
@@ -93,7 +94,7 @@ pub fn call(alloc: Global, cursor: &mut Cursor<'_>, left: usize) -> Result<Call,
 {
     let name = name(alloc, cursor)?;
     let arguments = arguments(alloc, cursor, left)?;
-    cursor.delimiter(b";")?;
+    cursor.delimiter(Delimiter::Semicolon)?;
     Ok(Call { name, arguments })
 }
 
@@ -102,10 +103,10 @@ pub fn call(alloc: Global, cursor: &mut Cursor<'_>, left: usize) -> Result<Call,
 pub fn delay(alloc: Global, cursor: &mut Cursor<'_>, left: usize) -> Result<Delay, OrMemory<Stuck>>
     ensures { Reads result cursor.new (delay_of left cursor.old) }
 {
-    let place = cursor.word(b"delay")?;
-    let until = cursor.flag(b"until")?;
+    let place = cursor.word(Reserved::Delay)?;
+    let until = cursor.flag(Reserved::Until)?;
     let value = expression(alloc, cursor, left)?;
-    cursor.delimiter(b";")?;
+    cursor.delimiter(Delimiter::Semicolon)?;
     Ok(Delay {
         place,
         until,
@@ -123,8 +124,8 @@ fn value_choice(
     ensures { Reads result cursor.new (value_choice_of left cursor.old) }
 {
     let low = expression(alloc, cursor, left)?;
-    if cursor.is_delimiter(b"..") {
-        cursor.delimiter(b"..")?;
+    if cursor.is_delimiter(Delimiter::Dots) {
+        cursor.delimiter(Delimiter::Dots)?;
         let high = expression(alloc, cursor, left)?;
         Ok(Choice::Range { low, high })
     } else {
@@ -141,8 +142,8 @@ pub fn choice(
 ) -> Result<Choice, OrMemory<Stuck>>
     ensures { Reads result cursor.new (choice_of left cursor.old) }
 {
-    if cursor.is_word(b"others") {
-        let place = cursor.word(b"others")?;
+    if cursor.is_word(Reserved::Others) {
+        let place = cursor.word(Reserved::Others)?;
         Ok(Choice::Others { place })
     } else {
         value_choice(alloc, cursor, left)
@@ -158,7 +159,7 @@ fn while_iteration(
 ) -> Result<Iteration, OrMemory<Stuck>>
     ensures { Reads result cursor.new (while_of left cursor.old) }
 {
-    let place = cursor.word(b"while")?;
+    let place = cursor.word(Reserved::While)?;
     let condition = expression(alloc, cursor, left)?;
     Ok(Iteration::While { place, condition })
 }
@@ -172,10 +173,10 @@ fn for_iteration(
 ) -> Result<Iteration, OrMemory<Stuck>>
     ensures { Reads result cursor.new (for_of left cursor.old) }
 {
-    let place = cursor.word(b"for")?;
+    let place = cursor.word(Reserved::For)?;
     let parameter = cursor.identifier(alloc)?;
-    cursor.word(b"in")?;
-    let reverse = cursor.flag(b"reverse")?;
+    cursor.word(Reserved::In)?;
+    let reverse = cursor.flag(Reserved::Reverse)?;
     let (low, high) = bounds(alloc, cursor, left)?;
     Ok(Iteration::For {
         place,
@@ -195,9 +196,9 @@ pub fn iteration(
 ) -> Result<Iteration, OrMemory<Stuck>>
     ensures { Reads result cursor.new (iteration_of left cursor.old) }
 {
-    if cursor.is_word(b"while") {
+    if cursor.is_word(Reserved::While) {
         while_iteration(alloc, cursor, left)
-    } else if cursor.is_word(b"for") {
+    } else if cursor.is_word(Reserved::For) {
         for_iteration(alloc, cursor, left)
     } else {
         Ok(Iteration::Forever)
@@ -216,7 +217,7 @@ pub fn label_end(
     match label {
         None => Ok(None),
         Some(name) => {
-            let named_at_end = cursor.flag(name.text.as_slice())?;
+            let named_at_end = cursor.end_name(name.text.as_slice())?;
             Ok(Some(Label { name, named_at_end }))
         }
     }
@@ -243,8 +244,8 @@ fn exit_condition(
 ) -> Result<Option<Expression>, OrMemory<Stuck>>
     ensures { Reads result cursor.new (when_of left cursor.old) }
 {
-    if cursor.is_word(b"when") {
-        cursor.word(b"when")?;
+    if cursor.is_word(Reserved::When) {
+        cursor.word(Reserved::When)?;
         Ok(Some(expression(alloc, cursor, left)?))
     } else {
         Ok(None)
@@ -260,10 +261,10 @@ pub fn exit_statement<Q>(
 ) -> Result<Statement<Q>, OrMemory<Stuck>>
     ensures { Reads result cursor.new (exit_of left cursor.old) }
 {
-    let place = cursor.word(b"exit")?;
+    let place = cursor.word(Reserved::Exit)?;
     let loop_name = loop_name(alloc, cursor)?;
     let condition = exit_condition(alloc, cursor, left)?;
-    cursor.delimiter(b";")?;
+    cursor.delimiter(Delimiter::Semicolon)?;
     Ok(Statement::Exit(Exit {
         place,
         loop_name,
@@ -276,8 +277,8 @@ pub fn exit_statement<Q>(
 pub fn null_statement<Q>(cursor: &mut Cursor<'_>) -> Result<Statement<Q>, OrMemory<Stuck>>
     ensures { Reads result cursor.new (null_of cursor.old) }
 {
-    let place = cursor.word(b"null")?;
-    cursor.delimiter(b";")?;
+    let place = cursor.word(Reserved::Null)?;
+    cursor.delimiter(Delimiter::Semicolon)?;
     Ok(Statement::Null { place })
 }
 
@@ -290,7 +291,7 @@ fn result_value(
 ) -> Result<Option<Expression>, OrMemory<Stuck>>
     ensures { Reads result cursor.new (result_value_of left cursor.old) }
 {
-    if cursor.is_delimiter(b";") {
+    if cursor.is_delimiter(Delimiter::Semicolon) {
         Ok(None)
     } else {
         Ok(Some(expression(alloc, cursor, left)?))
@@ -306,9 +307,9 @@ pub fn return_statement<Q>(
 ) -> Result<Statement<Q>, OrMemory<Stuck>>
     ensures { Reads result cursor.new (return_of left cursor.old) }
 {
-    let place = cursor.word(b"return")?;
+    let place = cursor.word(Reserved::Return)?;
     let value = result_value(alloc, cursor, left)?;
-    cursor.delimiter(b";")?;
+    cursor.delimiter(Delimiter::Semicolon)?;
     Ok(Statement::Return { place, value })
 }
 
@@ -332,9 +333,9 @@ pub fn raise_statement<Q>(
 ) -> Result<Statement<Q>, OrMemory<Stuck>>
     ensures { Reads result cursor.new (raise_of cursor.old) }
 {
-    let place = cursor.word(b"raise")?;
+    let place = cursor.word(Reserved::Raise)?;
     let exception = exception_name(alloc, cursor)?;
-    cursor.delimiter(b";")?;
+    cursor.delimiter(Delimiter::Semicolon)?;
     Ok(Statement::Raise { place, exception })
 }
 
@@ -346,9 +347,9 @@ pub fn abort_statement<Q>(
 ) -> Result<Statement<Q>, OrMemory<Stuck>>
     ensures { Reads result cursor.new (abort_of cursor.old) }
 {
-    let place = cursor.word(b"abort")?;
-    let tasks = name_list(alloc, cursor, b",")?;
-    cursor.delimiter(b";")?;
+    let place = cursor.word(Reserved::Abort)?;
+    let tasks = name_list(alloc, cursor, Delimiter::Comma)?;
+    cursor.delimiter(Delimiter::Semicolon)?;
     Ok(Statement::Abort { place, tasks })
 }
 
@@ -357,9 +358,9 @@ pub fn abort_statement<Q>(
 fn with_abort(cursor: &mut Cursor<'_>) -> Result<bool, OrMemory<Stuck>>
     ensures { Reads result cursor.new (with_abort_of cursor.old) }
 {
-    if cursor.is_word(b"with") {
-        cursor.word(b"with")?;
-        cursor.word(b"abort")?;
+    if cursor.is_word(Reserved::With) {
+        cursor.word(Reserved::With)?;
+        cursor.word(Reserved::Abort)?;
         Ok(true)
     } else {
         Ok(false)
@@ -374,10 +375,10 @@ pub fn requeue_statement<Q>(
 ) -> Result<Statement<Q>, OrMemory<Stuck>>
     ensures { Reads result cursor.new (requeue_of cursor.old) }
 {
-    let place = cursor.word(b"requeue")?;
+    let place = cursor.word(Reserved::Requeue)?;
     let entry = name(alloc, cursor)?;
     let with_abort = with_abort(cursor)?;
-    cursor.delimiter(b";")?;
+    cursor.delimiter(Delimiter::Semicolon)?;
     Ok(Statement::Requeue {
         place,
         entry,
@@ -393,10 +394,10 @@ pub fn handled_exceptions(
 ) -> Result<HandledExceptions, OrMemory<Stuck>>
     ensures { Reads result cursor.new (exceptions_of cursor.old) }
 {
-    if cursor.is_word(b"others") {
-        let place = cursor.word(b"others")?;
+    if cursor.is_word(Reserved::Others) {
+        let place = cursor.word(Reserved::Others)?;
         Ok(HandledExceptions::Others { place })
     } else {
-        Ok(HandledExceptions::Named(name_list(alloc, cursor, b"|")?))
+        Ok(HandledExceptions::Named(name_list(alloc, cursor, Delimiter::Bar)?))
     }
 }

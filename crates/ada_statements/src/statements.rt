@@ -11,6 +11,7 @@ ghost use Rattle.ada_grammar.specs.ReadingStatements.{begin_of, block_end_of, bl
 
 use ada_expressions::expression;
 use ada_grammar::{Cursor, Stuck};
+use ada_lex::{Delimiter, Reserved};
 use ada_selects::{Nested, SelectReader, begins_block, begins_compound, begins_loop};
 use ada_simple_statements::{
     abort_statement, choice, delay, exit_statement, iteration, label_end, null_statement,
@@ -68,9 +69,9 @@ impl<
         ensures { Reads result cursor.new
             (elsif_of self.now.left (Q.reading self.now.left) cursor.old) }
     {
-        let place = cursor.word(b"elsif")?;
+        let place = cursor.word(Reserved::Elsif)?;
         let condition = expression(self.alloc, cursor, self.left)?;
-        cursor.word(b"then")?;
+        cursor.word(Reserved::Then)?;
         let statements = self.sequence(cursor, SequenceRole::Statements)?;
         Ok(Elsif {
             place,
@@ -90,7 +91,7 @@ impl<
     {
         let mut found = Items::new(self.alloc);
         for _turn in 0..cursor.remaining() {
-            if !cursor.is_word(b"elsif") {
+            if !cursor.is_word(Reserved::Elsif) {
                 return Ok(found);
             }
             found.push(self.elsif(cursor)?)?;
@@ -106,15 +107,15 @@ impl<
         ensures { Reads result cursor.new
             (if_of self.now.left (Q.reading self.now.left) cursor.old) }
     {
-        let place = cursor.word(b"if")?;
+        let place = cursor.word(Reserved::If)?;
         let condition = expression(self.alloc, cursor, self.left)?;
-        cursor.word(b"then")?;
+        cursor.word(Reserved::Then)?;
         let statements = self.sequence(cursor, SequenceRole::Statements)?;
         let elsifs = self.elsifs(cursor)?;
         let otherwise = self.selects().otherwise(cursor)?;
-        cursor.word(b"end")?;
-        cursor.word(b"if")?;
-        cursor.delimiter(b";")?;
+        cursor.word(Reserved::End)?;
+        cursor.word(Reserved::If)?;
+        cursor.delimiter(Delimiter::Semicolon)?;
         Ok(Statement::If(If {
             place,
             condition,
@@ -130,7 +131,7 @@ impl<
         ensures { Reads result cursor.new
             (behind_delimiter_of (codes "|") (choice_of self.now.left) cursor.old) }
     {
-        cursor.delimiter(b"|")?;
+        cursor.delimiter(Delimiter::Bar)?;
         choice(self.alloc, cursor, self.left)
     }
 
@@ -143,7 +144,7 @@ impl<
     {
         let mut found = Items::new(self.alloc);
         for _turn in 0..cursor.remaining() {
-            if !cursor.is_delimiter(b"|") {
+            if !cursor.is_delimiter(Delimiter::Bar) {
                 return Ok(found);
             }
             found.push(self.next_choice(cursor)?)?;
@@ -173,9 +174,9 @@ impl<
         ensures { Reads result cursor.new
             (case_alternative_of self.now.left (Q.reading self.now.left) cursor.old) }
     {
-        let place = cursor.word(b"when")?;
+        let place = cursor.word(Reserved::When)?;
         let choices = self.choices(cursor)?;
-        cursor.delimiter(b"=>")?;
+        cursor.delimiter(Delimiter::Arrow)?;
         let statements = self.sequence(cursor, SequenceRole::Statements)?;
         Ok(CaseAlternative {
             place,
@@ -198,7 +199,7 @@ impl<
     {
         let mut found = Items::new(self.alloc);
         for _turn in 0..cursor.remaining() {
-            if !cursor.is_word(b"when") {
+            if !cursor.is_word(Reserved::When) {
                 return Ok(found);
             }
             found.push(self.case_alternative(cursor)?)?;
@@ -230,13 +231,13 @@ impl<
         ensures { Reads result cursor.new
             (case_of self.now.left (Q.reading self.now.left) cursor.old) }
     {
-        let place = cursor.word(b"case")?;
+        let place = cursor.word(Reserved::Case)?;
         let selector = expression(self.alloc, cursor, self.left)?;
-        cursor.word(b"is")?;
+        cursor.word(Reserved::Is)?;
         let alternatives = self.case_alternatives(cursor)?;
-        cursor.word(b"end")?;
-        cursor.word(b"case")?;
-        cursor.delimiter(b";")?;
+        cursor.word(Reserved::End)?;
+        cursor.word(Reserved::Case)?;
+        cursor.delimiter(Delimiter::Semicolon)?;
         Ok(Statement::Case(Case {
             place,
             selector,
@@ -258,12 +259,12 @@ impl<
             (loop_of self.now.left (Q.reading self.now.left) name cursor.old) }
     {
         let iteration = iteration(self.alloc, cursor, self.left)?;
-        let place = cursor.word(b"loop")?;
+        let place = cursor.word(Reserved::Loop)?;
         let statements = self.sequence(cursor, SequenceRole::Statements)?;
-        cursor.word(b"end")?;
-        cursor.word(b"loop")?;
+        cursor.word(Reserved::End)?;
+        cursor.word(Reserved::Loop)?;
         let label = label_end(cursor, name)?;
-        cursor.delimiter(b";")?;
+        cursor.delimiter(Delimiter::Semicolon)?;
         Ok(Statement::Loop(Loop {
             label,
             iteration,
@@ -287,9 +288,9 @@ impl<
             (block_end_of self.now.left (Q.reading self.now.left) name place declare sequence
             cursor.old) }
     {
-        cursor.word(b"end")?;
+        cursor.word(Reserved::End)?;
         let label = label_end(cursor, name)?;
-        cursor.delimiter(b";")?;
+        cursor.delimiter(Delimiter::Semicolon)?;
         Ok(Statement::Block(Block {
             label,
             place,
@@ -311,7 +312,7 @@ impl<
         ensures { Reads result cursor.new
             (declare_of self.now.left (Q.reading self.now.left) name cursor.old) }
     {
-        let place = cursor.word(b"declare")?;
+        let place = cursor.word(Reserved::Declare)?;
         let sequence = self.sequence(cursor, SequenceRole::Body)?;
         self.block_end(cursor, name, place, true, sequence)
     }
@@ -329,7 +330,7 @@ impl<
         ensures { Reads result cursor.new
             (begin_of self.now.left (Q.reading self.now.left) name cursor.old) }
     {
-        let place = cursor.word(b"begin")?;
+        let place = cursor.word(Reserved::Begin)?;
         let sequence = self.sequence(cursor, SequenceRole::Handled)?;
         self.block_end(cursor, name, place, false, sequence)
     }
@@ -347,7 +348,7 @@ impl<
         ensures { Reads result cursor.new
             (block_of self.now.left (Q.reading self.now.left) name cursor.old) }
     {
-        if cursor.is_word(b"declare") {
+        if cursor.is_word(Reserved::Declare) {
             self.declare_block(cursor, name)
         } else {
             self.begin_block(cursor, name)
@@ -363,7 +364,7 @@ impl<
             (labelled_of self.now.left (Q.reading self.now.left) cursor.old) }
     {
         let name = cursor.identifier(self.alloc)?;
-        cursor.delimiter(b":")?;
+        cursor.delimiter(Delimiter::Colon)?;
         if begins_block(cursor) {
             self.block(cursor, Some(name))
         } else {
@@ -380,7 +381,7 @@ impl<
             (named_statement_of self.now.left (Q.reading self.now.left)
             (further_in Q.reading self.now.left) cursor.old) }
     {
-        if cursor.is_identifier_before(b":") {
+        if cursor.is_identifier_before(Delimiter::Colon) {
             self.labelled(cursor)
         } else {
             simple_statement(self.alloc, cursor, self.left)
@@ -396,15 +397,15 @@ impl<
             (compound_of self.now.left (Q.reading self.now.left)
             (further_in Q.reading self.now.left) cursor.old) }
     {
-        if cursor.is_word(b"if") {
+        if cursor.is_word(Reserved::If) {
             self.if_statement(cursor)
-        } else if cursor.is_word(b"case") {
+        } else if cursor.is_word(Reserved::Case) {
             self.case_statement(cursor)
         } else if begins_loop(cursor) {
             self.loop_statement(cursor, None)
         } else if begins_block(cursor) {
             self.block(cursor, None)
-        } else if cursor.is_word(b"accept") {
+        } else if cursor.is_word(Reserved::Accept) {
             let accept = self.selects().accept(cursor)?;
             Ok(Statement::Accept(accept))
         } else {
@@ -421,20 +422,20 @@ impl<
             (simple_statement_of self.now.left (Q.reading self.now.left)
             (further_in Q.reading self.now.left) cursor.old) }
     {
-        if cursor.is_word(b"null") {
+        if cursor.is_word(Reserved::Null) {
             null_statement(cursor)
-        } else if cursor.is_word(b"delay") {
+        } else if cursor.is_word(Reserved::Delay) {
             let delay = delay(self.alloc, cursor, self.left)?;
             Ok(Statement::Delay(delay))
-        } else if cursor.is_word(b"exit") {
+        } else if cursor.is_word(Reserved::Exit) {
             exit_statement(self.alloc, cursor, self.left)
-        } else if cursor.is_word(b"return") {
+        } else if cursor.is_word(Reserved::Return) {
             return_statement(self.alloc, cursor, self.left)
-        } else if cursor.is_word(b"raise") {
+        } else if cursor.is_word(Reserved::Raise) {
             raise_statement(self.alloc, cursor)
-        } else if cursor.is_word(b"abort") {
+        } else if cursor.is_word(Reserved::Abort) {
             abort_statement(self.alloc, cursor)
-        } else if cursor.is_word(b"requeue") {
+        } else if cursor.is_word(Reserved::Requeue) {
             requeue_statement(self.alloc, cursor)
         } else {
             self.named_statement(cursor)

@@ -3,7 +3,6 @@ use Rattle.std.proofs.Common.{◌≡◌, ℕ, zero, suc, Bool, true, false, cond
 use Rattle.std.specs.List.{list_all}
 use Rattle.ann_base.specs.declared.places.Place.{Place}
 use Rattle.ada_lex.specs.Reserved.{is_reserved}
-use Rattle.ada_lex.specs.ReservedLetters.{letters}
 use Rattle.ada_tree.specs.declared.names.Identifier.{Identifier}
 use Rattle.ada_tree.specs.declared.statements.Sequence.{Sequence}
 use Rattle.ada_tree.specs.declared.statements.SequenceRole.{SequenceRole}
@@ -71,7 +70,7 @@ is_behind name b = sequence_written b.sequence role.Body ++ word (codes "end") �
 
 pub body_exact : (left : ℕ) (sequence : SequenceRole → Parser Sequence) → ReadsDeeper left sequence → (name : Identifier)
     → Rest itself Any (body_written sequence_written name) (body_fits sequence_fits left) always (body_of left sequence name.text)
-unfolding body_of starts begins_statement is_reserved letters
+unfolding body_of starts begins_statement is_reserved
 body_exact left sequence known name =
     opened_is left itself Any (is_behind name) (λ b. sequence_fits b.sequence role.Body) always _
     (λ m e. last_before itself Any (word (codes "end")) (end_behind name) always (λ b. b.sequence) (λ q. sequence_written q role.Body) (λ q. sequence_fits q role.Body m) (ends_sequence role.Body) (sequence role.Body) _

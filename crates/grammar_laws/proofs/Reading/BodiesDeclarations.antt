@@ -2,7 +2,6 @@
 use Rattle.std.proofs.Common.{◌≡◌, ℕ, true, false, List, ◌∷◌, ◌++◌, refl, ◌∙◌, codes}
 use Rattle.ann_base.specs.declared.places.Place.{Place}
 use Rattle.ada_lex.specs.Reserved.{is_reserved}
-use Rattle.ada_lex.specs.ReservedLetters.{letters}
 use Rattle.ada_tree.specs.declared.statements.Sequence.{Sequence}
 use Rattle.ada_tree.specs.declared.statements.SequenceRole.{SequenceRole}
 use Rattle.ada_tree.specs.declared.declarations.Declaration.{Declaration}
@@ -44,7 +43,7 @@ module _ (left : ℕ) (sequence : SequenceRole → Parser Sequence) (deeper : Se
 
   -- a specification stands there, so none of the others does
   specified_there : (s : SubprogramSpecification) (w : List Written) (ls r : List Lexeme) → Leads (specification_written s ++ w) ls r → declaration_of left sequence deeper ls ≡ subprogram_of left sequence ls
-  unfolding declaration_of starts is_reserved letters
+  unfolding declaration_of starts is_reserved
   specified_there s w ls r l =
       let t = leads_through (specification_written s) w ls r l in
       rw (
@@ -58,15 +57,15 @@ module _ (left : ℕ) (sequence : SequenceRole → Parser Sequence) (deeper : Se
       refl
 
   tasks_there : (p : Place) (ws : List Written) (ls r : List Lexeme) → Leads (word_at p (codes "task") ∷ ws) ls r → declaration_of left sequence deeper ls ≡ any_task_of left sequence ls
-  unfolding declaration_of starts is_reserved letters
+  unfolding declaration_of starts is_reserved
   tasks_there p ws ls r l = begun_by (word_at p (codes "task")) (declaration_of left sequence deeper) (any_task_of left sequence) (λ l ls. refl) ws ls r l
 
   protected_there : (p : Place) (ws : List Written) (ls r : List Lexeme) → Leads (word_at p (codes "protected") ∷ ws) ls r → declaration_of left sequence deeper ls ≡ any_protected_of left sequence deeper ls
-  unfolding declaration_of starts is_reserved letters
+  unfolding declaration_of starts is_reserved
   protected_there p ws ls r l = begun_by (word_at p (codes "protected")) (declaration_of left sequence deeper) (any_protected_of left sequence deeper) (λ l ls. refl) ws ls r l
 
   declaration_complete : (d : Declaration Sequence) (ls r : List Lexeme) → declaration_fits sequence_fits left d ≡ true → Leads (declaration_written sequence_written d) ls r → declaration_of left sequence deeper ls ≡ done d r
-  unfolding declaration_of starts is_reserved letters
+  unfolding declaration_of starts is_reserved
   declaration_complete (declarations.Object o) ls r okay l = rw (object_begins o ls r l) (object_complete left o ls r okay l)
   declaration_complete (declarations.Type t) ls r okay l =
       begun_by (word_at t.place (codes "type")) (declaration_of left sequence deeper) (type_of left) (λ l ls. refl)
@@ -94,13 +93,13 @@ declaration_exact left sequence deeper known further =
 -- ---- what declarations begin with
 
 specified_begins : (s : SubprogramSpecification) (w : List Written) (ls r : List Lexeme) → Leads (specification_written s ++ w) ls r → begins_declaration ls ≡ true
-unfolding begins_declaration starts is_reserved letters
+unfolding begins_declaration starts is_reserved
 specified_begins s w ls r l =
     let t = leads_through (specification_written s) w ls r l in
     specification_first begins_declaration true (λ p l ls. refl) (λ p l ls. refl) (λ p l ls. refl) s ls t.middle t.first
 
 pub declaration_begins : (d : Declaration Sequence) (ls r : List Lexeme) → Leads (declaration_written sequence_written d) ls r → begins_declaration ls ≡ true
-unfolding begins_declaration starts is_reserved letters
+unfolding begins_declaration starts is_reserved
 declaration_begins (declarations.Object o) ls r l = rw (object_begins o ls r l) refl
 declaration_begins (declarations.Type t) ls r l =
     first_is begins_declaration true (word_at t.place (codes "type")) (λ l ls. refl) (identifier_written t.name ∷ word (codes "is") ∷ (definition_written t.definition ++ semicolon)) ls r l

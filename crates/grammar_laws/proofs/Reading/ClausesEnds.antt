@@ -5,7 +5,6 @@ use Rattle.ann_base.specs.declared.places.Place.{Place}
 use Rattle.ada_lex.specs.declared.tokens.Kind.TheVariants as kinds
 use Rattle.std.specs.Prelude.{Option, Some, None}
 use Rattle.ada_lex.specs.Reserved.{is_reserved}
-use Rattle.ada_lex.specs.ReservedLetters.{letters}
 use Rattle.ada_tree.specs.declared.names.Identifier.{Identifier}
 use Rattle.ada_tree.specs.Written.{Written, Lexeme, flag, optional, each_written, behind, enclosed}
 use Rattle.ada_grammar.specs.Reading.{sees_delimiter, sees_word, sees_identifier, starts}
@@ -144,35 +143,35 @@ identifier_no_delimiter text ls e = by_test (sees_delimiter text ls) refl
     by_test true s = absurd (false≢true (sym (seen_delimiter sees_identifier false text (λ p ls. refl) ls s) ∙ e))
 
 pub identifier_no_in : (ls : List Lexeme) → sees_identifier ls ≡ true → not_word (codes "in") ls ≡ true
-unfolding starts is_reserved letters
+unfolding starts is_reserved
 identifier_no_in ls e = identifier_no_word (codes "in") (λ p ls. refl) ls e
 
 pub identifier_no_out : (ls : List Lexeme) → sees_identifier ls ≡ true → not_word (codes "out") ls ≡ true
-unfolding starts is_reserved letters
+unfolding starts is_reserved
 identifier_no_out ls e = identifier_no_word (codes "out") (λ p ls. refl) ls e
 
 pub identifier_no_aliased : (ls : List Lexeme) → sees_identifier ls ≡ true → not_word (codes "aliased") ls ≡ true
-unfolding starts is_reserved letters
+unfolding starts is_reserved
 identifier_no_aliased ls e = identifier_no_word (codes "aliased") (λ p ls. refl) ls e
 
 pub identifier_no_constant : (ls : List Lexeme) → sees_identifier ls ≡ true → not_word (codes "constant") ls ≡ true
-unfolding starts is_reserved letters
+unfolding starts is_reserved
 identifier_no_constant ls e = identifier_no_word (codes "constant") (λ p ls. refl) ls e
 
 pub identifier_no_type : (ls : List Lexeme) → sees_identifier ls ≡ true → not_word (codes "type") ls ≡ true
-unfolding starts is_reserved letters
+unfolding starts is_reserved
 identifier_no_type ls e = identifier_no_word (codes "type") (λ p ls. refl) ls e
 
 pub identifier_no_others : (ls : List Lexeme) → sees_identifier ls ≡ true → not_word (codes "others") ls ≡ true
-unfolding starts is_reserved letters
+unfolding starts is_reserved
 identifier_no_others ls e = identifier_no_word (codes "others") (λ p ls. refl) ls e
 
 pub identifier_no_body : (ls : List Lexeme) → sees_identifier ls ≡ true → not_word (codes "body") ls ≡ true
-unfolding starts is_reserved letters
+unfolding starts is_reserved
 identifier_no_body ls e = identifier_no_word (codes "body") (λ p ls. refl) ls e
 
 pub identifier_no_exception : (ls : List Lexeme) → sees_identifier ls ≡ true → not_word (codes "exception") ls ≡ true
-unfolding starts is_reserved letters
+unfolding starts is_reserved
 identifier_no_exception ls e = identifier_no_word (codes "exception") (λ p ls. refl) ls e
 
 -- a list with what opens and closes it, or nothing, before the rest

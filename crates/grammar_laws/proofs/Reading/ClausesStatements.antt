@@ -3,7 +3,6 @@ use Rattle.std.proofs.Common.{◌≡◌, ℕ, Bool, true, false, ◌&&◌, List,
 use Rattle.std.specs.Prelude.{Option, Some, None}
 use Rattle.ann_base.specs.declared.places.Place.{Place}
 use Rattle.ada_lex.specs.Reserved.{is_reserved}
-use Rattle.ada_lex.specs.ReservedLetters.{letters}
 use Rattle.ada_tree.specs.declared.names.Identifier.{Identifier}
 use Rattle.ada_tree.specs.declared.names.Name.{Name}
 use Rattle.ada_tree.specs.declared.names.OneOrMore.{OneOrMore}
@@ -232,7 +231,7 @@ when_exact left =
     (λ r e. not_true (sees_word (codes "when") r) (second_true (ends_expression r) (not_word (codes "when") r) e))
 
 no_loop_name : (condition : Option Expression) (ls r : List Lexeme) → Leads (optional when_written condition ++ semicolon) ls r → not_identifier ls ≡ true
-unfolding starts is_reserved letters
+unfolding starts is_reserved
 no_loop_name condition ls r l =
     first_optional not_identifier true when_written semicolon (λ e ls m l. first_is not_identifier true (word (codes "when")) (λ l ls. refl) (expression_written e) ls m l)
     (λ ls r l. first_is not_identifier true (delimiter (codes ";")) (λ l ls. refl) [] ls r l) condition ls r l

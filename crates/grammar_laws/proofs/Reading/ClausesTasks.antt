@@ -4,7 +4,6 @@ use Rattle.std.specs.Prelude.{Option, Some}
 use Rattle.std.specs.List.{list_all}
 use Rattle.ann_base.specs.declared.places.Place.{Place}
 use Rattle.ada_lex.specs.Reserved.{is_reserved}
-use Rattle.ada_lex.specs.ReservedLetters.{letters}
 use Rattle.ada_tree.specs.declared.names.Identifier.{Identifier}
 use Rattle.ada_tree.specs.declared.statements.Sequence.{Sequence}
 use Rattle.ada_tree.specs.declared.declarations.Declaration.{Declaration}
@@ -196,7 +195,7 @@ behind_operations p ls r l =
     (λ ls r l. first_is ends_operations true (word (codes "end")) (λ l ls. refl) (end_behind p) ls r l) p.components ls r l
 
 pub protected_exact : (left : ℕ) (place : Place) → Rest {X = Declaration Sequence} (λ (p : ProtectedDeclaration). declarations.Protected p) (λ p. Any p × (place ≡ p.place)) protected_behind (protected_fits left) always (protected_of left place)
-unfolding protected_of starts is_reserved letters
+unfolding protected_of starts is_reserved
 protected_exact left place =
     plain protected_made (λ p. Any p × (place ≡ p.place)) (λ p. identifier_written p.name ∷ aspects_behind p) _ always (λ p. p.is_type) type_flag shapeless (not_word (codes "type")) (flag_of (codes "type")) _ (flag_exact (codes "type")) (λ a. refl)
     (λ p ls r q l end. identifier_no_type ls (sees_identifier_first p.name (aspects_behind p) ls r l))

@@ -3,7 +3,6 @@ use Rattle.std.proofs.Common.{◌≡◌, ℕ, zero, suc, Bool, true, false, ◌&
 use Rattle.std.specs.Prelude.{Option, Some, None}
 use Rattle.std.specs.List.{list_all}
 use Rattle.ada_lex.specs.Reserved.{is_reserved}
-use Rattle.ada_lex.specs.ReservedLetters.{letters}
 use Rattle.ada_tree.specs.declared.names.Identifier.{Identifier}
 use Rattle.ada_tree.specs.declared.names.Name.{Name}
 use Rattle.ada_tree.specs.declared.names.OneOrMore.{OneOrMore}
@@ -131,7 +130,7 @@ record_same : (xs : OneOrMore Component) → record_respelt xs ≡ extension_wri
 record_same xs = ap (λ (ws : List Written). word (codes "record") ∷ ws) (sym (append_assoc (component_written xs.first) (each_written component_written xs.others) record_end))
 
 components_record_exact : (left : ℕ) → Rest some_components Any (λ xs. extension_written (Some xs)) (components_fit left) always (components_record_of left)
-unfolding components_record_of starts is_reserved letters
+unfolding components_record_of starts is_reserved
 components_record_exact left =
     respelt some_components Any record_respelt (λ xs. extension_written (Some xs)) (components_fit left) always _
     (word_then some_components Any _ _ always (codes "record") _

@@ -3,7 +3,6 @@ use Rattle.std.proofs.Common.{◌≡◌, ℕ, zero, suc, ◌+◌, ◌<◌, ◌�
 use Rattle.ann_base.specs.declared.places.Place.{Place}
 use Rattle.ada_lex.specs.declared.tokens.Kind.TheVariants as kinds
 use Rattle.ada_lex.specs.Reserved.{is_reserved}
-use Rattle.ada_lex.specs.ReservedLetters.{letters}
 use Rattle.ada_tree.specs.declared.operators.LogicalOperator.{LogicalOperator}
 use Rattle.ada_tree.specs.declared.operators.LogicalOperator.TheVariants as logical
 use Rattle.ada_tree.specs.declared.operators.Sign.{Sign}
@@ -79,7 +78,7 @@ module _ (test : List Lexeme → Bool) (v : Bool)
 -- no word that begins an expression, and no delimiter
 
 pub value_is_no_until : (e : Expression) (ls r : List Lexeme) → Leads (expression_written e) ls r → not_word (codes "until") ls ≡ true
-unfolding starts is_reserved letters
+unfolding starts is_reserved
 value_is_no_until e ls r l =
     value_begins (not_word (codes "until")) true (λ ls e. identifier_no_word (codes "until") (λ p ls. refl) ls e) (λ t p ls. refl) (λ t p ls. refl) (λ p ls. refl) (λ p ls. refl) (λ s p ls. refl) no_operator e ls r l
   where
@@ -88,7 +87,7 @@ value_is_no_until e ls r l =
     no_operator highest.Not p ls = refl
 
 pub value_is_no_reverse : (e : Expression) (ls r : List Lexeme) → Leads (expression_written e) ls r → not_word (codes "reverse") ls ≡ true
-unfolding starts is_reserved letters
+unfolding starts is_reserved
 value_is_no_reverse e ls r l =
     value_begins (not_word (codes "reverse")) true (λ ls e. identifier_no_word (codes "reverse") (λ p ls. refl) ls e) (λ t p ls. refl) (λ t p ls. refl) (λ p ls. refl) (λ p ls. refl) (λ s p ls. refl) no_operator e ls r l
   where
@@ -97,7 +96,7 @@ value_is_no_reverse e ls r l =
     no_operator highest.Not p ls = refl
 
 pub value_is_no_others : (e : Expression) (ls r : List Lexeme) → Leads (expression_written e) ls r → not_word (codes "others") ls ≡ true
-unfolding starts is_reserved letters
+unfolding starts is_reserved
 value_is_no_others e ls r l =
     value_begins (not_word (codes "others")) true (λ ls e. identifier_no_word (codes "others") (λ p ls. refl) ls e) (λ t p ls. refl) (λ t p ls. refl) (λ p ls. refl) (λ p ls. refl) (λ s p ls. refl) no_operator e ls r l
   where

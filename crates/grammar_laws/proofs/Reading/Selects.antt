@@ -4,7 +4,6 @@ use Rattle.std.specs.Prelude.{Option, Some, None}
 use Rattle.std.specs.List.{list_all}
 use Rattle.ann_base.specs.declared.places.Place.{Place}
 use Rattle.ada_lex.specs.Reserved.{is_reserved}
-use Rattle.ada_lex.specs.ReservedLetters.{letters}
 use Rattle.ada_tree.specs.declared.statements.Call.{Call}
 use Rattle.ada_tree.specs.declared.statements.Delay.{Delay}
 use Rattle.ada_tree.specs.declared.statements.Accept.{Accept}
@@ -218,7 +217,7 @@ module _ (left : ℕ) (sequence : SequenceRole → Parser Sequence) (deeper : Se
 
   others_exact : Exact (each_written (behind (word (codes "or")) (select_alternative_written sequence_written))) (list_all (select_alternative_fits sequence_fits left)) ends_others
       (items_of (sees_word (codes "or")) (next_alternative_of left sequence deeper))
-  unfolding starts begins_statement is_reserved letters
+  unfolding starts begins_statement is_reserved
   others_exact =
       listed (sees_word (codes "or")) (behind (word (codes "or")) (select_alternative_written sequence_written)) (select_alternative_fits sequence_fits left) ends_statements ends_others (next_alternative_of left sequence deeper)
       next_alternative_exact (λ a ls r l. sees_word_first (codes "or") _ ls r l) refl
@@ -247,7 +246,7 @@ module _ (left : ℕ) (sequence : SequenceRole → Parser Sequence) (deeper : Se
   or_or_else test on_or on_else over (x ∷ xs) o ls r l end = first_is test true (word (codes "or")) on_or _ ls r l
 
   over_first : (s : SelectiveAccept Sequence) (ls r : List Lexeme) → Leads (behind_first s) ls r → before_end r ≡ true → ends_statements ls ≡ true
-  unfolding starts begins_statement is_reserved letters
+  unfolding starts begins_statement is_reserved
   over_first s ls r l end = or_or_else ends_statements (λ l ls. refl) (λ l ls. refl) (λ r e. seen_word ends_statements true (codes "end") (λ p ls. refl) r e) s.alternatives.others s.otherwise ls r l end
 
   not_then : (s : SelectiveAccept Sequence) (ls r : List Lexeme) → Leads (behind_first s) ls r → before_end r ≡ true → sees_word (codes "then") ls ≡ false
@@ -258,7 +257,7 @@ module _ (left : ℕ) (sequence : SequenceRole → Parser Sequence) (deeper : Se
 
   selective_exact : (first : SelectAlternative Sequence)
       → Rest (λ (s : SelectiveAccept Sequence). select.SelectiveAccept s) (λ s. Any s × (first ≡ s.alternatives.first)) behind_first behind_first_fits before_end (selective_of left sequence deeper first)
-  unfolding selective_of starts begins_statement is_reserved letters
+  unfolding selective_of starts begins_statement is_reserved
   selective_exact first =
       part (λ s. s.alternatives.others) others_exact
       (λ s ls r p l end. else_or_over ends_others (λ l ls. refl) (λ r e. seen_word ends_others true (codes "end") (λ p ls. refl) r e) s.otherwise ls r l end) (λ others.
@@ -275,7 +274,7 @@ module _ (left : ℕ) (sequence : SequenceRole → Parser Sequence) (deeper : Se
   asynchronous_exact : (triggering : Trigger) (inside : Option Sequence)
       → Rest (λ (s : AsynchronousSelect Sequence). select.AsynchronousSelect s) (λ s. (triggering ≡ s.trigger) × (inside ≡ s.statements)) (λ s. word (codes "then") ∷ word (codes "abort") ∷ statements_written sequence_written s.abortable)
       (λ s. statements_fit sequence_fits left s.abortable) before_end (asynchronous_of left sequence deeper triggering inside)
-  unfolding asynchronous_of starts begins_statement is_reserved letters
+  unfolding asynchronous_of starts begins_statement is_reserved
   asynchronous_exact triggering inside =
       worded (codes "then") (worded (codes "abort") (
       closing (λ s. select.AsynchronousSelect s) _ before_end (λ s. s.abortable) _ _ (sequence role.Statements) (λ abortable. record { trigger = triggering; statements = inside; abortable = abortable })
@@ -285,7 +284,7 @@ module _ (left : ℕ) (sequence : SequenceRole → Parser Sequence) (deeper : Se
   timed_exact : (call : Call) (inside : Option Sequence)
       → Rest (λ (t : TimedEntryCall Sequence). select.TimedEntryCall t) (λ t. (call ≡ t.call) × (inside ≡ t.statements)) (λ t. word (codes "or") ∷ (delay_written t.delay ++ optional (statements_written sequence_written) t.delay_statements))
       (λ t. within left (delay_opens t.delay) && optional_fits (statements_fit sequence_fits left) t.delay_statements) before_end (timed_of left sequence deeper call inside)
-  unfolding timed_of starts begins_statement is_reserved letters
+  unfolding timed_of starts begins_statement is_reserved
   timed_exact call inside =
       worded (codes "or") (
       part (λ t. t.delay) (delay_opened_exact left) (λ t ls r p l end. refl) (λ delay.
@@ -296,7 +295,7 @@ module _ (left : ℕ) (sequence : SequenceRole → Parser Sequence) (deeper : Se
   conditional_exact : (call : Call) (inside : Option Sequence)
       → Rest (λ (c : ConditionalEntryCall Sequence). select.ConditionalEntryCall c) (λ c. (call ≡ c.call) × (inside ≡ c.statements)) (λ c. else_written sequence_written c.otherwise)
       (λ c. statements_fit sequence_fits left c.otherwise) before_end (conditional_of left sequence deeper call inside)
-  unfolding conditional_of starts begins_statement is_reserved letters
+  unfolding conditional_of starts begins_statement is_reserved
   conditional_exact call inside =
       worded (codes "else") (
       closing (λ c. select.ConditionalEntryCall c) _ before_end (λ c. c.otherwise) _ _ (sequence role.Statements) (λ otherwise. record { call = call; statements = inside; otherwise = otherwise })
@@ -387,7 +386,7 @@ module _ (left : ℕ) (sequence : SequenceRole → Parser Sequence) (deeper : Se
       (λ s ls r p l end. or_there call inside s ls r p l)
 
   over_call : (s : SelectForm Sequence) (call : Call) (inside : Option Sequence) → CallForm s call inside → (ls r : List Lexeme) → Leads (behind_call s) ls r → ends_statements ls ≡ true
-  unfolding starts begins_statement is_reserved letters
+  unfolding starts begins_statement is_reserved
   over_call (select.SelectiveAccept s) call inside p ls r l = absurd p
   over_call (select.TimedEntryCall t) call inside p ls r l = first_is ends_statements true (word (codes "or")) (λ l ls. refl) (delay_written t.delay ++ optional (statements_written sequence_written) t.delay_statements) ls r l
   over_call (select.ConditionalEntryCall c) call inside p ls r l = first_is ends_statements true (word (codes "else")) (λ l ls. refl) (statements_written sequence_written c.otherwise) ls r l
@@ -468,7 +467,7 @@ module _ (left : ℕ) (sequence : SequenceRole → Parser Sequence) (deeper : Se
       (λ s ls r p l end. then_there delay inside s ls r p l end)
 
   over_delay : (s : SelectForm Sequence) (delay : Delay) (inside : Option Sequence) → DelayForm s delay inside → (ls r : List Lexeme) → Leads (behind_delay s) ls r → before_end r ≡ true → ends_statements ls ≡ true
-  unfolding starts begins_statement is_reserved letters
+  unfolding starts begins_statement is_reserved
   over_delay (select.SelectiveAccept s) delay inside p ls r l end = over_first s ls r l end
   over_delay (select.TimedEntryCall t) delay inside p ls r l end = absurd p
   over_delay (select.ConditionalEntryCall c) delay inside p ls r l end = absurd p
@@ -526,7 +525,7 @@ module _ (left : ℕ) (sequence : SequenceRole → Parser Sequence) (deeper : Se
 
   -- a selective accept begins with no identifier
   no_identifier : (g : Option Guard) (a : Alternative Sequence) (ws : List Written) (ls r : List Lexeme) → Leads ((optional guard_written g ++ alternative_written sequence_written a) ++ ws) ls r → sees_identifier ls ≡ false
-  unfolding starts is_reserved letters
+  unfolding starts is_reserved
   no_identifier (Some g) a ws ls r l = first_is sees_identifier false (word_at g.place (codes "when")) (λ l ls. refl) (((expression_written g.condition ++ delimiter (codes "=>") ∷ []) ++ alternative_written sequence_written a) ++ ws) ls r l
   no_identifier None (alternative.Accept accept inside) ws ls r l = first_is sees_identifier false (word_at accept.place (codes "accept")) (λ l ls. refl) (behind_accept accept inside ++ ws) ls r l
   no_identifier None (alternative.Delay delay inside) ws ls r l =
@@ -537,7 +536,7 @@ module _ (left : ℕ) (sequence : SequenceRole → Parser Sequence) (deeper : Se
   triggered : (s : AsynchronousSelect Sequence) (t : Trigger) → t ≡ s.trigger → (ls r : List Lexeme)
       → Leads (trigger_written t ++ (optional (statements_written sequence_written) s.statements ++ behind_then s)) ls r
       → Side sees_identifier (IsCallForm (select.AsynchronousSelect s)) (NotCallForm (select.AsynchronousSelect s)) ls
-  unfolding starts is_reserved letters
+  unfolding starts is_reserved
   triggered s (trigger.Call call) e ls r l = record { value = true; is = call_sees call (optional (statements_written sequence_written) s.statements ++ behind_then s) ls r l; known = ((call, s.statements), (e, refl)) }
   triggered s (trigger.Delay delay) e ls r l =
       let t = leads_through (delay_written delay) (optional (statements_written sequence_written) s.statements ++ behind_then s) ls r l in

@@ -4,7 +4,6 @@ use Rattle.std.proofs.lemmas.Bool.{false≢true}
 use Rattle.std.specs.List.{list_all}
 use Rattle.ann_base.specs.declared.places.Place.{Place}
 use Rattle.ada_lex.specs.Reserved.{is_reserved}
-use Rattle.ada_lex.specs.ReservedLetters.{letters}
 use Rattle.ada_tree.specs.declared.names.OneOrMore.{OneOrMore}
 use Rattle.ada_tree.specs.declared.statements.Statement.{Statement}
 use Rattle.ada_tree.specs.declared.statements.Handler.{Handler}
@@ -178,7 +177,7 @@ module _ (left : ℕ) (inner : SequenceRole → Parser Sequence) (deeper : Seque
   begins_handler h ls r l = sees_word_at_first (codes "when") h.place (exceptions_written h.exceptions ++ delimiter (codes "=>") ∷ statements_written sequence_written h.statements) ls r l
 
   when_apart : (r : List Lexeme) → sees_word (codes "when") r ≡ true → ends_statements r ≡ true
-  unfolding starts begins_statement is_reserved letters
+  unfolding starts begins_statement is_reserved
   when_apart r e = seen_word ends_statements true (codes "when") (λ p ls. refl) r e
 
   handled_ends : (r : List Lexeme) → ends_sequence role.Handled r ≡ true → ends_statements r ≡ true
@@ -236,7 +235,7 @@ module _ (left : ℕ) (inner : SequenceRole → Parser Sequence) (deeper : Seque
   -- ---- statements and handlers, and a body
 
   exception_apart : (xs : List (Handler Sequence)) (ls r : List Lexeme) → Leads (handlers_written sequence_written xs) ls r → ends_sequence role.Handled r ≡ true → ends_statements ls ≡ true
-  unfolding starts begins_statement is_reserved letters
+  unfolding starts begins_statement is_reserved
   exception_apart [] ls r l end = subst (λ (z : List Lexeme). ends_statements z ≡ true) (sym l) (handled_ends r end)
   exception_apart (x ∷ xs) ls r l end = first_is ends_statements true (word (codes "exception")) (λ k ks. refl) (wh x ++ each_written wh xs) ls r l
 
@@ -285,7 +284,7 @@ module _ (left : ℕ) (inner : SequenceRole → Parser Sequence) (deeper : Seque
 
   body_parts : Rest (λ (x : Whole). made x.0 x.1.0 x.1.1) Any (λ x. each_written wd x.0 ++ word (codes "begin") ∷ (all_written w x.1.0 ++ handlers_written sequence_written x.1.1)) (λ x. list_all fd x.0 && (all_fit fits x.1.0 && list_all fh x.1.1))
       (ends_sequence role.Body) (whole_body_of left inner deeper)
-  unfolding whole_body_of starts begins_declaration is_reserved letters
+  unfolding whole_body_of starts begins_declaration is_reserved
   body_parts =
       let make : Whole → Sequence = λ x. made x.0 x.1.0 x.1.1 in
       let behind : Whole → List Written = λ x. all_written w x.1.0 ++ handlers_written sequence_written x.1.1 in

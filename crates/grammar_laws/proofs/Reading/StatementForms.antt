@@ -6,7 +6,6 @@ use Rattle.std.specs.Prelude.{Option, Some, None}
 use Rattle.std.specs.Str.{bytes_eq}
 use Rattle.ann_base.specs.declared.places.Place.{Place}
 use Rattle.ada_lex.specs.Reserved.{is_reserved}
-use Rattle.ada_lex.specs.ReservedLetters.{letters}
 use Rattle.ada_tree.specs.declared.names.Identifier.{Identifier}
 use Rattle.ada_tree.specs.declared.names.Name.{Name}
 use Rattle.ada_tree.specs.declared.statements.Statement.{Statement}
@@ -149,7 +148,7 @@ module _ (left : ℕ) (sequence : SequenceRole → Parser Sequence) (deeper : Se
   -- ---- statements that begin with an identifier
 
   named_there : (i : Identifier) (ws : List Written) (ls r : List Lexeme) → Leads (identifier_written i ∷ ws) ls r → statement_inside_of left sequence deeper ls ≡ named_statement_of left sequence deeper ls
-  unfolding statement_inside_of simple_statement_of is_reserved letters
+  unfolding statement_inside_of simple_statement_of is_reserved
   named_there i ws ls r l =
       rw (
         unreserved (codes "if") refl i ws ls r l,

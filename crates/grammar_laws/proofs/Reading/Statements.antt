@@ -3,7 +3,6 @@ use Rattle.std.proofs.Common.{◌≡◌, ℕ, Bool, true, false, ◌&&◌, List,
 use Rattle.std.specs.Prelude.{Option, Some}
 use Rattle.std.specs.List.{list_all}
 use Rattle.ada_lex.specs.Reserved.{is_reserved}
-use Rattle.ada_lex.specs.ReservedLetters.{letters}
 use Rattle.ada_tree.specs.declared.names.Identifier.{Identifier}
 use Rattle.ada_tree.specs.declared.statements.Statement.TheVariants as statements
 use Rattle.ada_tree.specs.declared.statements.SequenceRole.{SequenceRole}
@@ -70,7 +69,7 @@ module _ (left : ℕ) (sequence : SequenceRole → Parser Sequence)
       (exact role.Statements) (λ inside. ((tt, refl), refl)) (λ inside. refl) (λ inside e p q. rw (p.0.1, p.1, q) refl))))
 
   pub elsifs_exact : Exact (each_written (elsif_written sequence_written)) (list_all (elsif_fits sequence_fits left)) ends_elsifs (items_of (sees_word (codes "elsif")) (elsif_of left sequence))
-  unfolding starts begins_statement is_reserved letters
+  unfolding starts begins_statement is_reserved
   elsifs_exact =
       listed (sees_word (codes "elsif")) (elsif_written sequence_written) (elsif_fits sequence_fits left) ends_statements ends_elsifs (elsif_of left sequence)
       elsif_exact (λ e ls r l. sees_word_at_first (codes "elsif") e.place _ ls r l) refl
@@ -94,20 +93,20 @@ module _ (left : ℕ) (sequence : SequenceRole → Parser Sequence)
 
   -- what stands behind the statements of an if statement begins none
   else_or_end : (o : Option Sequence) (ls r : List Lexeme) → Leads (optional (else_written sequence_written) o ++ word (codes "end") ∷ word (codes "if") ∷ semicolon) ls r → ends_elsifs ls ≡ true
-  unfolding starts begins_statement is_reserved letters
+  unfolding starts begins_statement is_reserved
   else_or_end o ls r l =
       first_optional ends_elsifs true (else_written sequence_written) _ (λ q ls m l. first_is ends_elsifs true (word (codes "else")) (λ l ls. refl) _ ls m l)
       (λ ls r l. first_is ends_elsifs true (word (codes "end")) (λ l ls. refl) (word (codes "if") ∷ semicolon) ls r l) o ls r l
 
   elsif_or_end : (es : List (Elsif Sequence)) (o : Option Sequence) (ls r : List Lexeme)
       → Leads (each_written (elsif_written sequence_written) es ++ (optional (else_written sequence_written) o ++ word (codes "end") ∷ word (codes "if") ∷ semicolon)) ls r → ends_statements ls ≡ true
-  unfolding starts begins_statement is_reserved letters
+  unfolding starts begins_statement is_reserved
   elsif_or_end es o ls r l =
       first_each ends_statements true (elsif_written sequence_written) _ (λ e ls m l. first_is ends_statements true (word_at e.place (codes "elsif")) (λ l ls. refl) _ ls m l)
       (λ ls r l. first_true (ends_statements ls) (not_word (codes "elsif") ls) (else_or_end o ls r l)) es ls r l
 
   pub if_exact : Rest (λ (i : If Sequence). statements.If i) Any (if_written sequence_written) (if_fits sequence_fits left) always (if_of left sequence)
-  unfolding if_of starts begins_statement is_reserved letters
+  unfolding if_of starts begins_statement is_reserved
   if_exact =
       placed (λ i. i.place) (codes "if") (λ place.
       valued left (λ i. i.condition) (word (codes "then")) (λ l ls. refl) (λ condition.
@@ -141,7 +140,7 @@ module _ (left : ℕ) (sequence : SequenceRole → Parser Sequence)
 
   case_others_exact : Exact (each_written (case_alternative_written sequence_written)) (list_all (case_alternative_fits sequence_fits left)) ends_alternatives
       (items_of (sees_word (codes "when")) (case_alternative_of left sequence))
-  unfolding starts begins_statement is_reserved letters
+  unfolding starts begins_statement is_reserved
   case_others_exact =
       listed (sees_word (codes "when")) (case_alternative_written sequence_written) (case_alternative_fits sequence_fits left) ends_statements ends_alternatives (case_alternative_of left sequence)
       case_alternative_exact (λ a ls r l. sees_word_at_first (codes "when") a.place _ ls r l) refl
@@ -150,7 +149,7 @@ module _ (left : ℕ) (sequence : SequenceRole → Parser Sequence)
       (λ r e. not_true (sees_word (codes "when") r) (second_true (ends_statements r) (not_word (codes "when") r) e))
 
   when_or_over : (xs : List (CaseAlternative Sequence)) (ls r : List Lexeme) → Leads (each_written (case_alternative_written sequence_written) xs) ls r → ends_alternatives r ≡ true → ends_statements ls ≡ true
-  unfolding starts begins_statement is_reserved letters
+  unfolding starts begins_statement is_reserved
   when_or_over [] ls r l end = subst (λ (z : List Lexeme). ends_statements z ≡ true) (sym l) (first_true (ends_statements r) (not_word (codes "when") r) end)
   when_or_over (x ∷ xs) ls r l end = first_is ends_statements true (word_at x.place (codes "when")) (λ l ls. refl) _ ls r l
 
@@ -162,7 +161,7 @@ module _ (left : ℕ) (sequence : SequenceRole → Parser Sequence)
       case_others_exact (λ others. (tt, refl)) (λ others. refl) (λ others xs p e. rw (p.1, e) refl))
 
   pub case_exact : Rest (λ (c : Case Sequence). statements.Case c) Any (case_written sequence_written) (case_fits sequence_fits left) always (case_of left sequence)
-  unfolding case_of starts begins_statement is_reserved letters
+  unfolding case_of starts begins_statement is_reserved
   case_exact =
       placed (λ c. c.place) (codes "case") (λ place.
       valued left (λ c. c.selector) (word (codes "is")) (λ l ls. refl) (λ selector.
@@ -174,7 +173,7 @@ module _ (left : ℕ) (sequence : SequenceRole → Parser Sequence)
   -- ---- accept (9.5.2)
 
   pub accept_body_exact : (name : Identifier) → Exact (optional (accept_body_written sequence_written name)) (optional_fits (accept_body_fits sequence_fits left)) before_semicolon (accept_body_of left sequence name.text)
-  unfolding accept_body_of starts begins_statement is_reserved letters
+  unfolding accept_body_of starts begins_statement is_reserved
   accept_body_exact name =
       optionally (sees_word (codes "do")) (accept_body_written sequence_written name) (accept_body_fits sequence_fits left) before_semicolon _
       (worded (codes "do") (

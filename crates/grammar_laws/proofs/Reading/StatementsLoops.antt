@@ -3,7 +3,6 @@ use Rattle.std.proofs.Common.{◌≡◌, ℕ, Bool, true, false, List, [], ◌�
 use Rattle.std.specs.Prelude.{Option, Some, None}
 use Rattle.ann_base.specs.declared.places.Place.{Place}
 use Rattle.ada_lex.specs.Reserved.{is_reserved}
-use Rattle.ada_lex.specs.ReservedLetters.{letters}
 use Rattle.ada_tree.specs.declared.names.Identifier.{Identifier}
 use Rattle.ada_tree.specs.declared.statements.Statement.{Statement}
 use Rattle.ada_tree.specs.declared.statements.Statement.TheVariants as statements
@@ -127,7 +126,7 @@ module _ (left : ℕ) (sequence : SequenceRole → Parser Sequence)
   -- ---- loops, behind the name and the colon
 
   pub loop_exact : (name : Option Identifier) → Rest (λ (l : Loop Sequence). statements.Loop l) (λ l. label_name l.label ≡ name) loop_behind_label (loop_fits sequence_fits left) always (loop_of left sequence name)
-  unfolding loop_of starts begins_statement is_reserved letters
+  unfolding loop_of starts begins_statement is_reserved
   loop_exact name =
       part (λ l. l.iteration) (iteration_exact left) (λ i ls r p l end. first_is ends_iteration true (word_at i.place (codes "loop")) (λ l ls. refl) _ ls r l) (λ iteration.
       placed (λ l. l.place) (codes "loop") (λ place.
@@ -154,7 +153,7 @@ module _ (left : ℕ) (sequence : SequenceRole → Parser Sequence)
 
   declare_exact : (name : Option Identifier)
       → Rest (λ (b : Block Sequence). statements.Block b) (Declares name true) (λ b. word_at b.place (codes "declare") ∷ (sequence_written b.sequence role.Body ++ behind_block b)) (λ b. sequence_fits b.sequence role.Body left) always (declare_of left sequence name)
-  unfolding declare_of starts begins_statement is_reserved letters
+  unfolding declare_of starts begins_statement is_reserved
   declare_exact name =
       placed (λ b. b.place) (codes "declare") (λ place.
       last_part (λ b. b.sequence) (exact role.Body) (λ b ls r p l end. first_is (ends_sequence role.Body) true (word (codes "end")) (λ l ls. refl) (optional label_end_written b.label ++ semicolon) ls r l) (λ inside.
@@ -162,7 +161,7 @@ module _ (left : ℕ) (sequence : SequenceRole → Parser Sequence)
 
   begin_exact : (name : Option Identifier)
       → Rest (λ (b : Block Sequence). statements.Block b) (Declares name false) (λ b. word_at b.place (codes "begin") ∷ (sequence_written b.sequence role.Handled ++ behind_block b)) (λ b. sequence_fits b.sequence role.Handled left) always (begin_of left sequence name)
-  unfolding begin_of starts begins_statement is_reserved letters
+  unfolding begin_of starts begins_statement is_reserved
   begin_exact name =
       placed (λ b. b.place) (codes "begin") (λ place.
       last_part (λ b. b.sequence) (exact role.Handled) (λ b ls r p l end. first_is (ends_sequence role.Handled) true (word (codes "end")) (λ l ls. refl) (optional label_end_written b.label ++ semicolon) ls r l) (λ inside.

@@ -4,7 +4,6 @@ use Rattle.std.specs.Prelude.{Some}
 use Rattle.std.specs.List.{list_all}
 use Rattle.ann_base.specs.declared.places.Place.{Place}
 use Rattle.ada_lex.specs.Reserved.{is_reserved}
-use Rattle.ada_lex.specs.ReservedLetters.{letters}
 use Rattle.ada_tree.specs.declared.names.Identifier.{Identifier}
 use Rattle.ada_tree.specs.declared.names.Name.{Name}
 use Rattle.ada_tree.specs.declared.names.OneOrMore.{OneOrMore}
@@ -178,15 +177,15 @@ declarations_at_exact left = declarations_exact left (inside_of left) (inside_of
 -- ---- packages (7.1, 7.2)
 
 end_declares_nothing : (ws : List Written) (ls r : List Lexeme) → Leads (word (codes "end") ∷ ws) ls r → ends_declarations ls ≡ true
-unfolding starts begins_declaration is_reserved letters
+unfolding starts begins_declaration is_reserved
 end_declares_nothing ws ls r l = first_is ends_declarations true (word (codes "end")) (λ k ks. refl) ws ls r l
 
 private_declares_nothing : (ws : List Written) (ls r : List Lexeme) → Leads (word (codes "private") ∷ ws) ls r → ends_declarations ls ≡ true
-unfolding starts begins_declaration is_reserved letters
+unfolding starts begins_declaration is_reserved
 private_declares_nothing ws ls r l = first_is ends_declarations true (word (codes "private")) (λ k ks. refl) ws ls r l
 
 begin_declares_nothing : (ws : List Written) (ls r : List Lexeme) → Leads (word (codes "begin") ∷ ws) ls r → ends_declarations ls ≡ true
-unfolding starts begins_declaration is_reserved letters
+unfolding starts begins_declaration is_reserved
 begin_declares_nothing ws ls r l = first_is ends_declarations true (word (codes "begin")) (λ k ks. refl) ws ls r l
 
 -- the end of a package
@@ -212,7 +211,7 @@ private_part_exact left =
     (λ r e. not_true (sees_word (codes "private") r) (second_true (ends_declarations r) (not_word (codes "private") r) e))
 
 end_no_private : (ws : List Written) (ls r : List Lexeme) → Leads (word (codes "end") ∷ ws) ls r → ends_private ls ≡ true
-unfolding starts begins_declaration is_reserved letters
+unfolding starts begins_declaration is_reserved
 end_no_private ws ls r l = first_is ends_private true (word (codes "end")) (λ k ks. refl) ws ls r l
 
 -- "end" [NAME] ";", where the name is one that was read before
@@ -264,7 +263,7 @@ package_statements_exact left =
     (λ r e. not_true (sees_word (codes "begin") r) (second_true (ends_sequence role.Handled r) (not_word (codes "begin") r) e))
 
 end_no_begin : (ws : List Written) (ls r : List Lexeme) → Leads (word (codes "end") ∷ ws) ls r → ends_begin ls ≡ true
-unfolding starts begins_statement is_reserved letters
+unfolding starts begins_statement is_reserved
 end_no_begin ws ls r l = first_is ends_begin true (word (codes "end")) (λ k ks. refl) ws ls r l
 
 abbrev pub body_behind : PackageBody → List Written

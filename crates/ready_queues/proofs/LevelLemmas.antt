@@ -10,7 +10,8 @@ use Rattle.ready_queues.specs.Entries.{Entry, IsSlot, IsOrdered, holds, head_of,
 use Rattle.ready_queues.specs.Disciplines.{Discipline, is_spent_at}
 use Rattle.ready_queues.proofs.EntryLemmas.{removed-absent, holds-removed, holds-rekeyed}
 use Rattle.ready_queues.proofs.RankLemmas.{holds-placed_tail, holds-placed_head, IsOrdered-placed_tail, IsOrdered-placed_head, IsOrdered-removed, IsOrdered-rekeyed}
-use Rattle.ready_queues.specs.Queues.{is_ready, level_of, entries_at, no_discipline, discipline_at, tail_at, head_at, out_of_all, charged_at, is_spent_on, or_else, chosen, is_place, Agrees, AreOrdered, AreEmpty, IsTable}
+use Rattle.ready_queues.specs.Queues.{is_ready, level_of, entries_at, no_discipline, discipline_at, tail_at, head_at, out_of_all, charged_at, is_spent_on, chosen, is_place, Agrees, AreOrdered, AreEmpty, IsTable}
+use Rattle.std.specs.Option.{option_or}
 
 -- one level is changed by f of its discipline and its entries
 pub level-changed : {X K : Type 0} (entries : X → List (Entry K)) (discipline : X → Discipline K) (levels : List X) (level i : ℕ) (d new : X) (f : Discipline K → List (Entry K) → List (Entry K)) → level < length levels → i ≡ level → entries new ≡ f (discipline (get_or levels i d)) (entries (get_or levels i d)) → map entries (set levels i new) ≡ set (map entries levels) level (f (discipline_at level (map discipline levels)) (entries_at level (map entries levels)))
@@ -69,7 +70,7 @@ holds-ready t (es ∷ higher) zero h = grind arith
 holds-ready t (es ∷ higher) (suc level) h = grind (arith, holds-ready t higher level h)
 
 -- the highest levels first: what is chosen of those from i on, and of all
-pub chosen-drop : {K : Type 0} (lists : List (List (Entry K))) (i : ℕ) → i < length lists → chosen (drop i lists) ≡ or_else (chosen (drop (suc i) lists)) (head_of (entries_at i lists))
+pub chosen-drop : {K : Type 0} (lists : List (List (Entry K))) (i : ℕ) → i < length lists → chosen (drop i lists) ≡ option_or (chosen (drop (suc i) lists)) (head_of (entries_at i lists))
 chosen-drop [] i h = absurd (omega arith)
 chosen-drop (es ∷ higher) zero h = refl
 chosen-drop (es ∷ higher) (suc i) h = chosen-drop higher i (omega arith)

@@ -4,7 +4,8 @@ use Rattle.std.specs.Prelude.{int_lt}
 use Rattle.ann_base.specs.declared.identities.Slot.{Slot}
 use Rattle.ready_queues.specs.Entries.{Entry, head_of, placed_tail, placed_head, removed}
 use Rattle.ready_queues.specs.Disciplines.{Discipline}
-use Rattle.ready_queues.specs.Queues.{entries_at, tail_at, head_at, out_of_all, or_else, chosen}
+use Rattle.ready_queues.specs.Queues.{entries_at, tail_at, head_at, out_of_all, chosen}
+use Rattle.std.specs.Option.{option_or}
 use Rattle.ready_queues.specs.Order.{Standing, standing_at, line_from, line_out, line_tail, line_head, line_first, rank_on}
 
 by_test : {P : Type 0} (b : Bool) → (b ≡ true → P) → (b ≡ false → P) → P
@@ -100,7 +101,7 @@ module _ {K : Type 0} where
   pub line_from-head : (disciplines : List (Discipline K)) (level : ℕ) (t : Slot) (key : K) (lists : List (List (Entry K))) → level < length lists → line_from 0 (head_at disciplines level t key lists) ≡ line_head (rank_on disciplines) level t key (line_from 0 lists)
   line_from-head disciplines level t key lists h = line_from-set_head (rank_on disciplines) 0 level level t key lists (omega arith) h
 
-  line_first-append : (ps qs : List (Standing K)) → line_first (ps ++ qs) ≡ or_else (line_first ps) (line_first qs)
+  line_first-append : (ps qs : List (Standing K)) → line_first (ps ++ qs) ≡ option_or (line_first ps) (line_first qs)
   line_first-append [] qs = refl
   line_first-append (p ∷ ps) qs = refl
 
@@ -111,4 +112,4 @@ module _ {K : Type 0} where
   -- who is chosen is the first of the line
   pub line_first-line_from : (level : ℕ) (lists : List (List (Entry K))) → line_first (line_from level lists) ≡ chosen lists
   line_first-line_from level [] = refl
-  line_first-line_from level (es ∷ higher) = line_first-append (line_from (level + 1) higher) (standing_at level es) ∙ ap (λ o. or_else o (line_first (standing_at level es))) (line_first-line_from (level + 1) higher) ∙ ap (or_else (chosen higher)) (line_first-standing_at level es)
+  line_first-line_from level (es ∷ higher) = line_first-append (line_from (level + 1) higher) (standing_at level es) ∙ ap (λ o. option_or o (line_first (standing_at level es))) (line_first-line_from (level + 1) higher) ∙ ap (option_or (chosen higher)) (line_first-standing_at level es)

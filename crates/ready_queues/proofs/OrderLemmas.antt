@@ -5,16 +5,17 @@ use Rattle.std.proofs.lemmas.Int.{ints}
 use Rattle.ann_base.specs.declared.identities.Slot.{Slot}
 use Rattle.ready_queues.specs.Entries.{Entry, head_of, NoneBelow, IsRanked}
 use Rattle.ready_queues.specs.Disciplines.{Discipline}
-use Rattle.ready_queues.specs.Queues.{entries_at, or_else, chosen, AreOrdered}
+use Rattle.ready_queues.specs.Queues.{entries_at, chosen, AreOrdered}
+use Rattle.std.specs.Option.{option_or}
 use Rattle.ready_queues.specs.Order.{rank_on, at_place, IsBefore, Precedes, StandsByOrder, IsBeforeAll}
 
 by_test : {P : Type 0} (b : Bool) → (b ≡ true → P) → (b ≡ false → P) → P
 by_test true p q = p refl
 by_test false p q = q refl
 
-or_else-none : (o p : Option Slot) → or_else o p ≡ None → (o ≡ None) × (p ≡ None)
-or_else-none None p h = (refl, h)
-or_else-none (Some t) p h = cc
+option_or-none : (o p : Option Slot) → option_or o p ≡ None → (o ≡ None) × (p ≡ None)
+option_or-none None p h = (refl, h)
+option_or-none (Some t) p h = cc
 
 module _ {K : Type 0} where
   NoneBelow-at : (rank : K → ℤ) (low : ℤ) (es : List (Entry K)) (place : ℕ) (e : Entry K) → NoneBelow rank low es → at_place place es ≡ Some e → low ≤ℤ rank e.1
@@ -55,8 +56,8 @@ module _ {K : Type 0} where
   -- where nobody is chosen, nobody stands
   pub chosen-nobody : (lists : List (List (Entry K))) → chosen lists ≡ None → (level : ℕ) → entries_at level lists ≡ []
   chosen-nobody [] h level = refl
-  chosen-nobody (es ∷ higher) h zero = head_of-none es (or_else-none (chosen higher) (head_of es) h).1
-  chosen-nobody (es ∷ higher) h (suc level) = chosen-nobody higher (or_else-none (chosen higher) (head_of es) h).0 level
+  chosen-nobody (es ∷ higher) h zero = head_of-none es (option_or-none (chosen higher) (head_of es) h).1
+  chosen-nobody (es ∷ higher) h (suc level) = chosen-nobody higher (option_or-none (chosen higher) (head_of es) h).0 level
 
   -- t at the head of the highest level on which somebody stands
   record IsHighest (lists : List (List (Entry K))) (t : Slot) : Type 0 where
@@ -80,7 +81,7 @@ module _ {K : Type 0} where
   lowest [] higher t none h = cc
   lowest (e ∷ es) higher t none h = let same : e.0 ≡ t = cc in record { level = 0; key = e.1; there = ap (λ u. Some (u, e.1)) same; above = nobody-above (e ∷ es) higher none }
 
-  highest-by : (es : List (Entry K)) (higher : List (List (Entry K))) (t : Slot) (o : Option Slot) → chosen higher ≡ o → or_else o (head_of es) ≡ Some t → (chosen higher ≡ Some t → IsHighest higher t) → IsHighest (es ∷ higher) t
+  highest-by : (es : List (Entry K)) (higher : List (List (Entry K))) (t : Slot) (o : Option Slot) → chosen higher ≡ o → option_or o (head_of es) ≡ Some t → (chosen higher ≡ Some t → IsHighest higher t) → IsHighest (es ∷ higher) t
   highest-by es higher t None e h rest = lowest es higher t e h
   highest-by es higher t (Some u) e h rest = one_higher es higher t (rest (e ∙ h))
 

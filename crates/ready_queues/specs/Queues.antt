@@ -1,5 +1,6 @@
 -- The ready queues as lists: for each level, the lowest first, the entries that stand there (ISO/IEC 8652:2012, D.2.1).
 use Rattle.std.specs.Prelude.{◌≡◌, ◌+◌, ℕ, pos, Bool, false, ◌==◌, ◌||◌, if◌then◌else◌, List, [], ◌∷◌, Option, Some, None, length, slice_index_or, slice_set}
+use Rattle.std.specs.Option.{option_or}
 use Rattle.ann_base.specs.declared.identities.Slot.{Slot}
 use Rattle.ann_base.specs.declared.identities.TheConstants.{SLOTS}
 use Rattle.ready_queues.specs.declared.queues.TheConstants.{LEVELS}
@@ -51,14 +52,10 @@ charged_at disciplines level t lists = slice_set lists level (rekeyed (disciplin
 abbrev pub is_spent_on : {K : Type 0} → List (Discipline K) → ℕ → Slot → List (List (Entry K)) → Bool
 is_spent_on disciplines level t lists = is_spent_at (discipline_at level disciplines) t (entries_at level lists)
 
-abbrev pub or_else : Option Slot → Option Slot → Option Slot
-or_else None other = other
-or_else (Some t) other = Some t
-
 -- the head of the highest level on which somebody stands
 abbrev pub chosen : {K : Type 0} → List (List (Entry K)) → Option Slot
 chosen [] = None
-chosen (es ∷ higher) = or_else (chosen higher) (head_of es)
+chosen (es ∷ higher) = option_or (chosen higher) (head_of es)
 
 -- the level that a table of slots tells of t is this one
 abbrev pub is_place : ℕ → Option ℕ → Bool

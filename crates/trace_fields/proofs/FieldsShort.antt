@@ -11,7 +11,8 @@ use Rattle.trace_text.specs.declared.events.EntryName.TheVariants.{OfTask, OfObj
 use Rattle.trace_text.specs.declared.events.Finished.TheVariants as finished
 use Rattle.trace_text.specs.Text.{is_name_from, is_text_byte}
 use Rattle.trace_fields.specs.Spelt.{spelt_in}
-use Rattle.trace_fields.specs.Reading.{◌>>=◌, or_else, place_of, front_of, rest_of, behind, word_at, field, last_field, ended, is_number, number_in, negative_of, signed_in, short_in, long_in, moment_in, value_in, task_in, object_in, name_in, text_in, exception_in, finished_in, part_in, entry_in, handler_in, deadline_in}
+use Rattle.trace_fields.specs.Reading.{◌>>=◌, place_of, front_of, rest_of, behind, word_at, field, last_field, ended, is_number, number_in, negative_of, signed_in, short_in, long_in, moment_in, value_in, task_in, object_in, name_in, text_in, exception_in, finished_in, part_in, entry_in, handler_in, deadline_in}
+use Rattle.std.specs.Option.{option_or}
 use Rattle.trace_fields.proofs.Numbers.{decimal-digits}
 
 -- what is read has at most so many bytes
@@ -27,7 +28,7 @@ pub if_some : {X : Type 0} (test : Bool) (one other : Option X) (P : X → Type 
 if_some true one other P h k = h refl
 if_some false one other P h k = k
 
-pub or_some : {X : Type 0} (one other : Option X) (P : X → Type 0) → IfSome one P → IfSome other P → IfSome (or_else one other) P
+pub or_some : {X : Type 0} (one other : Option X) (P : X → Type 0) → IfSome one P → IfSome other P → IfSome (option_or one other) P
 or_some None other P h k = k
 or_some (Some x) other P h k = h
 
@@ -155,7 +156,7 @@ part_short bytes =
 
 pub entry_short : IsShort 1012 entry_in
 entry_short bytes =
-    then_some (part_in (rest_of 46 bytes)) (λ name. or_else (task_in (front_of 46 bytes) >>= λ task. Some (OfTask task name)) (object_in (front_of 46 bytes) >>= λ object. Some (OfObject object name)))
+    then_some (part_in (rest_of 46 bytes)) (λ name. option_or (task_in (front_of 46 bytes) >>= λ task. Some (OfTask task name)) (object_in (front_of 46 bytes) >>= λ object. Some (OfObject object name)))
     (λ _. length (rest_of 46 bytes) ≤ 1001) (λ _. length bytes ≤ 1012) (part_short (rest_of 46 bytes))
     (λ name few. or_some (task_in (front_of 46 bytes) >>= λ task. Some (OfTask task name)) (object_in (front_of 46 bytes) >>= λ object. Some (OfObject object name)) (λ _. length bytes ≤ 1012)
     (then_some (task_in (front_of 46 bytes)) (λ task. Some (OfTask task name)) (λ _. length (front_of 46 bytes) ≤ 11) (λ _. length bytes ≤ 1012) (task_short (front_of 46 bytes)) (λ task front. omega (arith, few, front, split_length 46 bytes)))

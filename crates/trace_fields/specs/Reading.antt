@@ -1,5 +1,6 @@
 -- How the fields of a line are read: a word is what stands up to the next space, and each field is read from its word.
 use Rattle.std.specs.Prelude.{◌≡◌, ℕ, ◌+◌, ℤ, pos, negsuc, zero, suc, Bool, false, not, ◌&&◌, ◌||◌, ◌==◌, if◌then◌else◌, nat_le, List, [], ◌∷◌, Option, Some, None, length, take, drop, slice_index, codes}
+use Rattle.std.specs.Option.{option_or}
 use Rattle.std.specs.List.{list_all}
 use Rattle.std.specs.Str.{bytes_eq}
 use Rattle.std.specs.Str.Parse.{digits_value}
@@ -109,17 +110,13 @@ finished_in bytes =
     if bytes_eq bytes (codes "ok") then Some finished.Ok
     else (if bytes_eq bytes (codes "requeue") then Some finished.Requeue else (name_in bytes >>= λ name. Some (finished.Raised name)))
 
-abbrev pub or_else : {X : Type 0} → Option X → Option X → Option X
-or_else None second = second
-or_else (Some x) second = Some x
-
 -- the name behind a point
 abbrev pub part_in : List ℕ → Option (List ℕ)
 part_in bytes = behind 46 bytes >>= name_in
 
 abbrev pub entry_in : List ℕ → Option EntryName
 entry_in bytes = part_in (rest_of 46 bytes) >>= λ name.
-    or_else (task_in (front_of 46 bytes) >>= λ task. Some (OfTask task name)) (object_in (front_of 46 bytes) >>= λ object. Some (OfObject object name))
+    option_or (task_in (front_of 46 bytes) >>= λ task. Some (OfTask task name)) (object_in (front_of 46 bytes) >>= λ object. Some (OfObject object name))
 
 -- pN.NAME
 abbrev pub handler_in : List ℕ → Option (ObjectNo × List ℕ)

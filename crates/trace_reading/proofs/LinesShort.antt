@@ -23,7 +23,8 @@ use Rattle.trace_text.specs.Words.{word_text, all_words}
 use Rattle.trace_reading.specs.declared.read.Lead.TheVariants as lead
 use Rattle.trace_reading.specs.declared.read.Lead.{Lead}
 use Rattle.trace_fields.specs.Spelt.{word_in, waits_in, mode_in, leaves_in, queue_end_in}
-use Rattle.trace_fields.specs.Reading.{◌>>=◌, or_else, front_of, rest_of, word_at, field, last_field, ended, number_in, short_in, long_in, moment_in, value_in, task_in, object_in, name_in, text_in, exception_in, finished_in, entry_in, handler_in, deadline_in}
+use Rattle.trace_fields.specs.Reading.{◌>>=◌, front_of, rest_of, word_at, field, last_field, ended, number_in, short_in, long_in, moment_in, value_in, task_in, object_in, name_in, text_in, exception_in, finished_in, entry_in, handler_in, deadline_in}
+use Rattle.std.specs.Option.{option_or}
 use Rattle.trace_reading.specs.Lines.{agent_in, lead_in, created_in, ready_in, release_in, end_in, who_in, task_line_in, agent_line_in, object_line_in, bare_in, led_in, event_in, moment_and_event_in, line_in}
 use Rattle.trace_fields.proofs.FieldsShort.{IsShort, weaker, then_some, if_some, or_some, split_length, word_some, field_some, last_short, ended_short, spelt_short, short_short, long_short, tick_short, moment_short, value_short, task_short, object_short, name_short, text_short, exception_short, equal_short, finished_short, entry_short, handler_short, deadline_short}
 
@@ -176,9 +177,9 @@ led_short (lead.Bare w) = λ bytes. weaker (bare_in w bytes) (length bytes ≤ 1
 
 lead_short : IsShort 11 lead_in
 lead_short bytes =
-    or_some (agent_in bytes) (or_else (task_in bytes >>= λ task. Some (lead.Task task)) (or_else (object_in bytes >>= λ object. Some (lead.Object object)) (word_in bytes >>= λ w. Some (lead.Bare w)))) (λ _. length bytes ≤ 11)
+    or_some (agent_in bytes) (option_or (task_in bytes >>= λ task. Some (lead.Task task)) (option_or (object_in bytes >>= λ object. Some (lead.Object object)) (word_in bytes >>= λ w. Some (lead.Bare w)))) (λ _. length bytes ≤ 11)
     (if_some (bytes_eq bytes (codes "agent")) (Some lead.Agent) None (λ _. length bytes ≤ 11) (λ e. equal_short bytes (codes "agent") (omega arith) e) tt)
-    (or_some (task_in bytes >>= λ task. Some (lead.Task task)) (or_else (object_in bytes >>= λ object. Some (lead.Object object)) (word_in bytes >>= λ w. Some (lead.Bare w))) (λ _. length bytes ≤ 11)
+    (or_some (task_in bytes >>= λ task. Some (lead.Task task)) (option_or (object_in bytes >>= λ object. Some (lead.Object object)) (word_in bytes >>= λ w. Some (lead.Bare w))) (λ _. length bytes ≤ 11)
     (then_some (task_in bytes) (λ task. Some (lead.Task task)) (λ _. length bytes ≤ 11) (λ _. length bytes ≤ 11) (task_short bytes) (λ task few. few))
     (or_some (object_in bytes >>= λ object. Some (lead.Object object)) (word_in bytes >>= λ w. Some (lead.Bare w)) (λ _. length bytes ≤ 11)
     (then_some (object_in bytes) (λ object. Some (lead.Object object)) (λ _. length bytes ≤ 11) (λ _. length bytes ≤ 11) (object_short bytes) (λ object few. few))

@@ -17,7 +17,8 @@ use Rattle.trace_reading.specs.declared.read.Lead.TheVariants as lead
 use Rattle.trace_text.specs.Text.{task_text, object_text}
 use Rattle.trace_text.specs.Words.{word_text}
 use Rattle.trace_fields.specs.Spelt.{word_in, waits_in, mode_in, leaves_in, queue_end_in}
-use Rattle.trace_fields.specs.Reading.{◌>>=◌, or_else, front_of, rest_of, field, last_field, ended, number_in, short_in, long_in, moment_in, value_in, task_in, object_in, name_in, text_in, exception_in, finished_in, entry_in, handler_in, deadline_in}
+use Rattle.trace_fields.specs.Reading.{◌>>=◌, front_of, rest_of, field, last_field, ended, number_in, short_in, long_in, moment_in, value_in, task_in, object_in, name_in, text_in, exception_in, finished_in, entry_in, handler_in, deadline_in}
+use Rattle.std.specs.Option.{option_or}
 
 abbrev pub lead_text : Lead → List ℕ
 lead_text (lead.Task task) = task_text task
@@ -31,7 +32,7 @@ agent_in bytes = if bytes_eq bytes (codes "agent") then Some lead.Agent else Non
 -- the subject, or the word of a line that has none
 abbrev pub lead_in : List ℕ → Option Lead
 lead_in bytes =
-    or_else (agent_in bytes) (or_else (task_in bytes >>= λ task. Some (lead.Task task)) (or_else (object_in bytes >>= λ object. Some (lead.Object object)) (word_in bytes >>= λ word. Some (lead.Bare word))))
+    option_or (agent_in bytes) (option_or (task_in bytes >>= λ task. Some (lead.Task task)) (option_or (object_in bytes >>= λ object. Some (lead.Object object)) (word_in bytes >>= λ word. Some (lead.Bare word))))
 
 abbrev pub created_in : Created → List ℕ → Option Event
 created_in what bytes = field name_in bytes >>= λ name. last_field short_in name.1 >>= λ level. Some (New what name.0 level)

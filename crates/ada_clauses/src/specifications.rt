@@ -242,7 +242,7 @@ fn add_entries(
 }
 
 /// `[is {ENTRY} end [NAME]]`, of the task with this name (9.1)
-#[tactic(auto, unfolding(ada_grammar::specs::ReadingDeclarations::task_definition_of, ada_grammar::specs::Reading::items_of, ada_grammar::specs::Reading::end_name_of))]
+#[tactic(auto, unfolding(ada_grammar::specs::ReadingDeclarations::task_definition_of, ada_grammar::specs::Reading::items_of))]
 fn task_definition(
     alloc: Global,
     cursor: &mut Cursor<'_>,
@@ -364,7 +364,7 @@ fn private_part(
 }
 
 /// `[type] NAME [ASPECTS] is {OPERATION} [private {COMPONENT}] end [NAME];`, behind the `protected` at this place (9.4)
-#[tactic(auto, unfolding(ada_grammar::specs::ReadingDeclarations::protected_of, ada_grammar::specs::Reading::items_of, ada_grammar::specs::Reading::end_name_of))]
+#[tactic(auto, unfolding(ada_grammar::specs::ReadingDeclarations::protected_of, ada_grammar::specs::Reading::items_of))]
 pub fn protected_declaration<Q>(
     alloc: Global,
     cursor: &mut Cursor<'_>,

@@ -14,7 +14,7 @@ use ada_regions::{Denoted, Enclosure, EntityKind, Formal, Names, NumberedSubprog
 use ada_subtypes::formals_of;
 use ada_tree::{Identifier, SubprogramSpecification};
 use ann_base::NoMemory;
-use profile_machine::{Sequence, SubprogramNo};
+use profile_machine::{ImageList, SubprogramNo};
 use std::alloc::Global;
 use world_tables::List;
 
@@ -94,7 +94,7 @@ fn edit_body(
     subprograms: &mut List<NumberedSubprogram<'_>>,
     number: u32,
     scope: u32,
-    formals: Sequence<Formal>,
+    formals: ImageList<Formal>,
 )
     ensures { subprograms.new ≡ edit_at number (with_body_of scope formals) subprograms.old }
 {

@@ -10,14 +10,14 @@ use ada_entities::copy;
 use ada_regions::{AdaType, EntityKind, Names, Subtype};
 use ada_tree::{Identifier, OneOrMore};
 use ann_base::NoMemory;
-use profile_machine::{Constraint, EnumerationNo, Sequence, Text};
+use profile_machine::{Constraint, EnumerationNo, ImageList, Text};
 use std::alloc::Global;
 
 /// The names of identifiers, each a text of its own.
-fn texts_of(alloc: Global, names: &OneOrMore<Identifier>) -> Result<Sequence<Text>, NoMemory>
+fn texts_of(alloc: Global, names: &OneOrMore<Identifier>) -> Result<ImageList<Text>, NoMemory>
     ensures { IfOk result (λ texts. texts ≡ map text_of (all_of names.now)) }
 {
-    let mut texts = Sequence::new(alloc);
+    let mut texts = ImageList::new(alloc);
     texts.push(copy(alloc, names.first.text.as_slice())?)?;
     for name in names.others.as_slice() {
         texts.push(copy(alloc, name.text.as_slice())?)?;

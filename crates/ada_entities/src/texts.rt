@@ -4,7 +4,7 @@ ghost use Rattle.ada_regions.specs.Names.{prefix_of, prefix_with, expanded};
 
 use ada_regions::Frame;
 use ann_base::NoMemory;
-use profile_machine::{Sequence, Text};
+use profile_machine::{ImageList, Text};
 use std::alloc::Global;
 use world_tables::List;
 
@@ -22,7 +22,7 @@ pub fn append(text: &mut Text, bytes: &[u8]) -> Result<(), NoMemory>
 pub fn copy(alloc: Global, bytes: &[u8]) -> Result<Text, NoMemory>
     ensures { IfOk result (λ text. text ≡ bytes.now) }
 {
-    let mut text = Sequence::new(alloc);
+    let mut text = ImageList::new(alloc);
     append(&mut text, bytes)?;
     Ok(text)
 }
@@ -48,10 +48,10 @@ fn prefix_from(alloc: Global, frames: &List<Frame>, place: usize) -> Result<Text
     ensures { IfOk result (λ text. text ≡ prefix_of (drop place frames.now)) }
 {
     if place >= frames.len() {
-        return Ok(Sequence::new(alloc));
+        return Ok(ImageList::new(alloc));
     }
     match frames.get(place) {
-        None => Ok(Sequence::new(alloc)),
+        None => Ok(ImageList::new(alloc)),
         Some(frame) => {
             let mut text = prefix_from(alloc, frames, place + 1)?;
             append_name(&mut text, &frame.name)?;

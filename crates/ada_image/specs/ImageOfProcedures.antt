@@ -23,7 +23,8 @@ use Rattle.ada_regions.specs.declared.predefined.Operation.{Operation}
 use Rattle.ada_regions.specs.declared.predefined.Operation.TheVariants as operations
 use Rattle.ada_regions.specs.declared.entities.EntityKind.{EntityKind}
 use Rattle.ada_regions.specs.declared.entities.EntityKind.TheVariants as entity
-use Rattle.ada_regions.specs.Words.{and_then, or_else}
+use Rattle.ada_regions.specs.Words.{and_then}
+use Rattle.std.specs.Option.{option_or}
 use Rattle.ada_regions.specs.PredefinedUnits.{names_of_formals}
 use Rattle.ada_regions.specs.Names.{entity_denoted, kind_at}
 use Rattle.ada_image.specs.declared.making.Within.{Within}
@@ -63,11 +64,11 @@ optional_value within (Some e) = do
 -- the single object of the unit in whose body the name stands
 unfoldable pub innermost_object : Within → List ℕ → Option DeclNo
 innermost_object within [] = None
-innermost_object within (e ∷ es) = or_else (and_then (kind_at within.names e) object_number) (innermost_object within es)
+innermost_object within (e ∷ es) = option_or (and_then (kind_at within.names e) object_number) (innermost_object within es)
 
 unfoldable pub object_of_handler : Within → Name → Option DeclNo
 object_of_handler within name =
-    or_else (and_then (prefix_part name) (λ i. and_then (entity_denoted within.names i.place) (λ e. and_then (kind_at within.names e) object_number)))
+    option_or (and_then (prefix_part name) (λ i. and_then (entity_denoted within.names i.place) (λ e. and_then (kind_at within.names e) object_number)))
     (innermost_object within within.units)
 
 unfoldable pub handler_with : Within → Name → EntityKind → Option HandlerName
@@ -101,7 +102,7 @@ abbrev pub is_called : List ℕ → Argument Expression → Bool
 is_called name a = formal_is name a.formal
 
 unfoldable pub moment_of : List (Argument Expression) → Option Expression
-moment_of arguments = or_else (argument_from 1 (codes "at_time") 0 arguments) (argument_from 1 (codes "in_time") 0 arguments)
+moment_of arguments = option_or (argument_from 1 (codes "at_time") 0 arguments) (argument_from 1 (codes "in_time") 0 arguments)
 
 unfoldable pub is_in_time : Within → List (Argument Expression) → Bool
 is_in_time within arguments = cond (list_any (is_called (codes "in_time")) arguments) true

@@ -29,7 +29,8 @@ use Rattle.ada_regions.specs.declared.entities.Denoted.{Denoted}
 use Rattle.ada_regions.specs.declared.entities.Denoted.TheVariants as denotes
 use Rattle.ada_regions.specs.declared.entities.EntityKind.{EntityKind}
 use Rattle.ada_regions.specs.declared.entities.EntityKind.TheVariants as entity
-use Rattle.ada_regions.specs.Words.{and_then, nothing_there}
+use Rattle.ada_regions.specs.Words.{and_then}
+use Rattle.ann_base.specs.Lists.{is_empty}
 use Rattle.ada_regions.specs.declared.table.Names.{Names}
 use Rattle.ada_regions.specs.declared.table.NumberedSubprogram.{NumberedSubprogram}
 use Rattle.ada_regions.specs.Names.{denoted_by, kind_at}
@@ -142,7 +143,7 @@ module _ {E : Type 0} (expression : E → Names → Option AdaType) where
   type_of_factors left (m ∷ rest) n = type_of_factors (type_of_product left (expression m.factor n)) rest n
 
   unfoldable pub type_of_named : Name → Option AttributeDesignator → List (Argument E) → Names → Option AdaType
-  type_of_named name None arguments n = and_then (denoted_by n name) (type_denoted n (not (nothing_there arguments)))
+  type_of_named name None arguments n = and_then (denoted_by n name) (type_denoted n (not (is_empty arguments)))
   type_of_named name (Some a) arguments n = type_of_attribute a.attribute
 
   abbrev pub type_of_form : ExpressionForm E → Names → Option AdaType
@@ -152,7 +153,7 @@ module _ {E : Type 0} (expression : E → Names → Option AdaType) where
   type_of_form (form.Signed place s operand) n = expression operand n
   type_of_form (form.Multiplying first others) n = type_of_factors (expression first n) (others.first ∷ others.others) n
   type_of_form (form.Highest place operator operand) n = type_behind_operator operator (expression operand n)
-  type_of_form (form.Number place literal) n = cond (nothing_there (decimals_of literal)) (Some types.Integer) (Some types.Duration)
+  type_of_form (form.Number place literal) n = cond (is_empty (decimals_of literal)) (Some types.Integer) (Some types.Duration)
   type_of_form (form.Text place text) n = None
   type_of_form (form.Null place) n = None
   type_of_form (form.Bracketed place inner) n = expression inner n

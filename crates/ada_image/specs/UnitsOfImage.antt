@@ -24,7 +24,8 @@ use Rattle.ada_regions.specs.declared.types.Mode.{Mode}
 use Rattle.ada_regions.specs.declared.types.Mode.TheVariants as mode
 use Rattle.ada_regions.specs.declared.entities.ComponentOwner.{ComponentOwner}
 use Rattle.ada_regions.specs.declared.entities.ComponentOwner.TheVariants as owner
-use Rattle.ada_regions.specs.Words.{and_then, or_else}
+use Rattle.ada_regions.specs.Words.{and_then}
+use Rattle.std.specs.Option.{option_or}
 use Rattle.ada_regions.specs.declared.table.Names.{Names}
 use Rattle.ada_regions.specs.declared.table.NumberedDeclaration.{NumberedDeclaration}
 use Rattle.ada_regions.specs.declared.table.NumberedSubprogram.{NumberedSubprogram}
@@ -54,7 +55,7 @@ static_aspect n name aspects = and_then (aspect_value name aspects) (λ e. and_t
 
 -- Priority or Interrupt_Priority
 unfoldable pub priority_of : Names → List Aspect → Option ℕ
-priority_of n aspects = or_else (static_aspect n (codes "priority") aspects) (static_aspect n (codes "interrupt_priority") aspects)
+priority_of n aspects = option_or (static_aspect n (codes "priority") aspects) (static_aspect n (codes "interrupt_priority") aspects)
 
 -- ---- entries, in the order of the text
 
@@ -209,7 +210,7 @@ overrides number t name s =
 unfoldable pub overriding_from : ℕ → NumberedControlled → List ℕ → ℕ → List NumberedSubprogram → Option SubprogramNo
 overriding_from c t name number [] = None
 overriding_from c t name number (s ∷ ss) =
-    or_else (overriding_from c t name (suc number) ss) (cond (overrides c t name s) (Some (subprogram_no number)) None)
+    option_or (overriding_from c t name (suc number) ss) (cond (overrides c t name s) (Some (subprogram_no number)) None)
 
 unfoldable pub overriding : Names → ℕ → NumberedControlled → List ℕ → Option SubprogramNo
 overriding n c t name = overriding_from c t name 0 n.subprograms

@@ -3,7 +3,7 @@ ghost use Rattle.std.specs.Prelude.{◌≡◌};
 
 use ada_regions::Names;
 use profile_machine::{
-    Declaration, Entry, Expression, Sequence, Statement, StatementNo, SubprogramNo, TaskUnit,
+    Declaration, Entry, Expression, ImageList, Statement, StatementNo, SubprogramNo, TaskUnit,
 };
 use std::marker::Model;
 use world_tables::List;
@@ -20,7 +20,7 @@ pub struct FirstAction {
 /// What has been made so far. An expression and a statement are named by their numbers here, from 0.
 pub struct Lists {
     /// The expressions (clause 4).
-    pub expressions: Sequence<Expression>,
+    pub expressions: ImageList<Expression>,
     /// The statements and other actions (clauses 3, 5, 9).
     pub statements: List<Statement>,
     /// The first actions of scopes, the newest first.
@@ -42,11 +42,11 @@ impl Drop for Lists {
 #[derive(Drop)]
 pub struct MadeLists {
     /// The task units (9.1).
-    pub task_units: Sequence<TaskUnit>,
+    pub task_units: ImageList<TaskUnit>,
     /// The entries (9.5.2).
-    pub entries: Sequence<Entry>,
+    pub entries: ImageList<Entry>,
     /// The declarations (3.1).
-    pub declarations: Sequence<Declaration>,
+    pub declarations: ImageList<Declaration>,
 }
 
 /// A loop that is open (ISO/IEC 8652:2012, 5.5).

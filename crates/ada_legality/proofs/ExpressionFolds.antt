@@ -13,7 +13,7 @@ use Rattle.ada_tree.specs.declared.expressions.Multiplied.{Multiplied}
 use Rattle.ada_tree.specs.declared.expressions.Argument.{Argument}
 use Rattle.ada_tree.specs.declared.expressions.AttributeDesignator.{AttributeDesignator}
 use Rattle.std.specs.Prelude.{Option, Some, None}
-use Rattle.ada_regions.specs.Words.{nothing_there}
+use Rattle.ann_base.specs.Lists.{is_empty}
 use Rattle.ada_legality.specs.declared.reading.Read.{Read}
 use Rattle.ada_legality.specs.declared.standing.Known.{Known}
 use Rattle.ada_legality.specs.Reading.{Reading, with_relation, with_term, with_factor}
@@ -44,7 +44,7 @@ module _ (w : Expression → Reading) (k : Known) where
     arguments_of_map [] = refl
     arguments_of_map (a ∷ rest) = rw (same a, arguments_of_map rest) refl
 
-  nothing_of_map : {X Y : Type 0} (g : X → Y) (xs : List X) → nothing_there (map g xs) ≡ nothing_there xs
+  nothing_of_map : {X Y : Type 0} (g : X → Y) (xs : List X) → is_empty (map g xs) ≡ is_empty xs
   nothing_of_map g [] = refl
   nothing_of_map g (x ∷ xs) = refl
 

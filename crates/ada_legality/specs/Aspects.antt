@@ -13,7 +13,8 @@ use Rattle.ada_legality.specs.declared.parts.AspectPart.{AspectPart}
 use Rattle.ada_legality.specs.declared.reading.Typed.{Typed}
 use Rattle.ada_legality.specs.declared.standing.Known.{Known}
 use Rattle.ada_regions.specs.Statics.{static_value}
-use Rattle.ada_regions.specs.Words.{and_then, entry_named, or_else}
+use Rattle.ada_regions.specs.Words.{and_then, entry_named}
+use Rattle.std.specs.Option.{option_or}
 use Rattle.ada_regions.specs.declared.table.Names.{Names}
 use Rattle.ada_tree.specs.declared.declarations.Aspect.{Aspect}
 use Rattle.ada_tree.specs.declared.expressions.Expression.{Expression}
@@ -294,7 +295,7 @@ is_interrupt_priority name = false
 -- the priority that the image would have
 unfoldable pub stated_level : List AspectPart → Option ℕ
 stated_level aspects =
-    or_else (level_named is_plain_priority aspects) (level_named is_interrupt_priority aspects)
+    option_or (level_named is_plain_priority aspects) (level_named is_interrupt_priority aspects)
 
 -- a priority that is not the highest
 abbrev pub is_other_ceiling : ℕ → Option ℕ → Bool

@@ -9,7 +9,8 @@ use Rattle.ada_legality.specs.declared.standing.Known.{Known}
 use Rattle.ada_regions.specs.Completions.{holds_of}
 use Rattle.ada_regions.specs.Names.{denoted_by, entity_denoted, kind_at}
 use Rattle.ada_regions.specs.Subtypes.{mark_denoted}
-use Rattle.ada_regions.specs.Words.{and_then, or_else}
+use Rattle.ada_regions.specs.Words.{and_then}
+use Rattle.std.specs.Option.{option_or}
 use Rattle.ada_regions.specs.declared.entities.Denoted.{Denoted}
 use Rattle.ada_regions.specs.declared.entities.EntityKind.{EntityKind}
 use Rattle.ada_regions.specs.declared.types.AdaType.{AdaType}
@@ -49,7 +50,7 @@ ends_of_object k d = and_then (subtype_of_entity k d) (λ s. type_of_index k s.o
 
 -- the type of First and Last
 unfoldable pub type_of_ends : Known → Denoted → Option AdaType
-type_of_ends k d = or_else (ends_of_mark k d) (ends_of_object k d)
+type_of_ends k d = option_or (ends_of_mark k d) (ends_of_object k d)
 
 -- Image of a discrete subtype
 unfoldable pub has_images : Known → Denoted → Bool
@@ -101,7 +102,7 @@ single_object outer t =
 -- the object whose procedure a name denotes
 unfoldable pub handler_object : Known → Name → ProtectedUnitNo → Option ℕ
 handler_object k name u =
-    or_else (object_prefix k name) (single_object k.around (types.Protected u))
+    option_or (object_prefix k name) (single_object k.around (types.Protected u))
 
 -- an entity that is an object of a library package
 unfoldable pub is_library_entity : Known → ℕ → Bool

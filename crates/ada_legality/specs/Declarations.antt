@@ -28,7 +28,8 @@ use Rattle.ada_legality.specs.declared.standing.UnitAround.{UnitAround}
 use Rattle.ada_regions.specs.Completions.{is_specified, is_unit}
 use Rattle.ada_regions.specs.Names.{denoted_by, entity_at, entity_denoted}
 use Rattle.ada_regions.specs.Subtypes.{mark_denoted}
-use Rattle.ada_regions.specs.Words.{all_of, and_then, nothing_there, same_place}
+use Rattle.ada_regions.specs.Words.{all_of, and_then, same_place}
+use Rattle.ann_base.specs.Lists.{is_empty}
 use Rattle.ada_regions.specs.declared.entities.EntityKind.{EntityKind}
 use Rattle.ada_regions.specs.declared.entities.UnitKind.{UnitKind}
 use Rattle.ada_regions.specs.declared.table.Names.{Names}
@@ -106,7 +107,7 @@ is_task_outside_library k i =
 
 -- a task unit has entries
 abbrev pub has_entries : Names → AdaType → Bool
-has_entries n (types.Task u) = not (nothing_there (entries_of n (entry_unit.Task u)))
+has_entries n (types.Task u) = not (is_empty (entries_of n (entry_unit.Task u)))
 has_entries n t = false
 
 -- a task object with entries, or outside library packages: a source with an EDF range has none (own)
@@ -316,7 +317,7 @@ unit_of_operation k i =
 
 -- a procedure without parameters
 abbrev pub is_parameterless_procedure : SubprogramSpecification → Bool
-is_parameterless_procedure s = is_none s.result && nothing_there s.parameters
+is_parameterless_procedure s = is_none s.result && is_empty s.parameters
 
 -- the body of a declared procedure
 unfoldable pub is_specified_name : Known → Identifier → Bool

@@ -4,7 +4,8 @@ use Rattle.ada_legality.specs.Pragmas.{is_pragma_named, is_pragma_of_profile, nu
 use Rattle.ada_legality.specs.declared.findings.DeadlineRange.{DeadlineRange}
 use Rattle.ada_legality.specs.declared.standing.InForce.{InForce}
 use Rattle.ada_regions.specs.Numbered.{last_priority_of}
-use Rattle.ada_regions.specs.Words.{all_of, nothing_there}
+use Rattle.ada_regions.specs.Words.{all_of}
+use Rattle.ann_base.specs.Lists.{is_empty}
 use Rattle.ada_tree.specs.declared.expressions.Argument.{Argument}
 use Rattle.ada_tree.specs.declared.expressions.Expression.{Expression}
 use Rattle.ada_tree.specs.declared.units.Pragma.{Pragma}
@@ -91,4 +92,4 @@ in_force_with arguments has_longest has_deadlines = record {
 unfoldable pub in_force_by : List Pragma → InForce
 in_force_by pragmas =
     in_force_with (restriction_arguments pragmas) (is_some (longest_of pragmas))
-    (not (nothing_there (deadline_ranges_of pragmas)))
+    (not (is_empty (deadline_ranges_of pragmas)))

@@ -5,7 +5,8 @@ use Rattle.ada_legality.specs.Values.{is_entity}
 use Rattle.ada_regions.specs.Completions.{holds_of}
 use Rattle.ada_regions.specs.Names.{entity_denoted, kind_at}
 use Rattle.ada_regions.specs.Regions.{is_package}
-use Rattle.ada_regions.specs.Words.{nothing_there, same_place}
+use Rattle.ada_regions.specs.Words.{same_place}
+use Rattle.ann_base.specs.Lists.{is_empty}
 use Rattle.ada_regions.specs.declared.table.Names.{Names}
 use Rattle.ada_tree.specs.declared.declarations.Declaration.{Declaration}
 use Rattle.ada_tree.specs.declared.names.Identifier.{Identifier}
@@ -64,7 +65,7 @@ body_named d = []
 unfoldable pub is_completed_here : Names → List Identifier → Identifier → Bool
 is_completed_here n bodies i =
     unwrap_or
-    (option_map (λ e. not (nothing_there (denote_entity n e bodies))) (entity_denoted n i.place))
+    (option_map (λ e. not (is_empty (denote_entity n e bodies))) (entity_denoted n i.place))
     true
 
 -- a declaration that needs a body, and has none beside it
@@ -94,7 +95,7 @@ package_needs_body n p =
 unfoldable pub has_package_body : Names → List Identifier → Identifier → Bool
 has_package_body n bodies i =
     unwrap_or
-    (option_map (λ e. not (nothing_there (denote_entity n e bodies))) (entity_denoted n i.place))
+    (option_map (λ e. not (is_empty (denote_entity n e bodies))) (entity_denoted n i.place))
     false
 
 -- a package that needs a body and has none

@@ -9,7 +9,8 @@ use Rattle.ada_regions.specs.Numbered.{last_priority_of}
 use Rattle.ada_regions.specs.PredefinedUnits.{item_in}
 use Rattle.ada_regions.specs.Statics.{subtype_of_item}
 use Rattle.profile_machine.specs.Operators.{integer_last}
-use Rattle.ada_regions.specs.Words.{all_of, and_then, entry_named, nothing_there}
+use Rattle.ada_regions.specs.Words.{all_of, and_then, entry_named}
+use Rattle.ann_base.specs.Lists.{is_empty}
 use Rattle.ada_regions.specs.declared.types.Subtype.{Subtype}
 use Rattle.ada_tree.specs.declared.expressions.Argument.{Argument}
 use Rattle.ada_tree.specs.declared.expressions.Expression.{Expression}
@@ -32,7 +33,7 @@ use Rattle.ada_regions.specs.declared.predefined.PredefinedUnit.TheVariants as u
 -- ---- arguments: a word, or a static number
 
 abbrev pub lone_word : Name → Option (List ℕ)
-lone_word name = cond (nothing_there name.parts.others) (Some name.parts.first.text) None
+lone_word name = cond (is_empty name.parts.others) (Some name.parts.first.text) None
 
 -- a form that is a word alone
 unfoldable pub plain_word : ExpressionForm Expression → Option (List ℕ)
@@ -50,7 +51,7 @@ words_in p = map word_in (all_of p.arguments)
 -- a literal without a point
 unfoldable pub whole_literal : ExpressionForm Expression → Option ℤ
 whole_literal (form.Number place literal) =
-    cond (nothing_there (decimals_of literal)) (Some (pos (whole_of literal))) None
+    cond (is_empty (decimals_of literal)) (Some (pos (whole_of literal))) None
 whole_literal f = None
 
 -- First and Last of Integer, Natural and Positive

@@ -11,7 +11,8 @@ use Rattle.ada_legality.specs.declared.standing.Known.{Known}
 use Rattle.ada_regions.specs.Names.{entity_denoted}
 use Rattle.ada_regions.specs.Occurrences.{Occurrence, Occurrences, a_subprogram, an_entry, declares}
 use Rattle.ada_regions.specs.Subtypes.{indicated_subtype, mode_of}
-use Rattle.ada_regions.specs.Words.{all_of, and_then, or_else}
+use Rattle.ada_regions.specs.Words.{all_of, and_then}
+use Rattle.std.specs.Option.{option_or}
 use Rattle.ada_regions.specs.declared.table.Names.{Names}
 use Rattle.ada_regions.specs.declared.types.Mode.{Mode}
 use Rattle.ada_tree.specs.declared.declarations.Parameter.{Parameter}
@@ -104,7 +105,7 @@ specification_in n e o = None
 -- the first of them
 unfoldable pub specification_of : Names → ℕ → Occurrences → Option SubprogramSpecification
 specification_of n e [] = None
-specification_of n e (o ∷ os) = or_else (specification_in n e o) (specification_of n e os)
+specification_of n e (o ∷ os) = option_or (specification_in n e o) (specification_of n e os)
 
 -- the parameters of an entry with this entity
 abbrev pub entry_in : Names → ℕ → Occurrence → Option (List Parameter)
@@ -115,7 +116,7 @@ entry_in n e o = None
 -- the first of them
 unfoldable pub entry_declared_as : Names → ℕ → Occurrences → Option (List Parameter)
 entry_declared_as n e [] = None
-entry_declared_as n e (o ∷ os) = or_else (entry_in n e o) (entry_declared_as n e os)
+entry_declared_as n e (o ∷ os) = option_or (entry_in n e o) (entry_declared_as n e os)
 
 -- ---- completions (3.11.1): one body, in the declaration's own part, of the same profile
 

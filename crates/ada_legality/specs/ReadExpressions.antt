@@ -13,7 +13,8 @@ use Rattle.ada_legality.specs.declared.reading.Typed.{Typed}
 use Rattle.ada_legality.specs.declared.standing.Known.{Known}
 use Rattle.ada_regions.specs.Completions.{holds_of}
 use Rattle.ada_regions.specs.Names.{denoted_by}
-use Rattle.ada_regions.specs.Words.{all_of, and_then, nothing_there}
+use Rattle.ada_regions.specs.Words.{all_of, and_then}
+use Rattle.ann_base.specs.Lists.{is_empty}
 use Rattle.ada_regions.specs.declared.entities.Denoted.{Denoted}
 use Rattle.ada_regions.specs.declared.entities.EntityKind.{EntityKind}
 use Rattle.ada_regions.specs.declared.types.AdaType.{AdaType}
@@ -100,7 +101,7 @@ element_judged k place actuals (Some t) =
 unfoldable pub denoted_judged : Known → Place → List ActualPart → Denoted → Found
 denoted_judged k place actuals d =
     cond (denotes_function k d) (actuals_judged k place (formals_denoted k actuals d) actuals)
-    (cond (nothing_there actuals) [] (element_judged k place actuals (ends_of_object k d)))
+    (cond (is_empty actuals) [] (element_judged k place actuals (ends_of_object k d)))
 
 -- an object whose own declaration names no type
 unfoldable pub is_unclear_object : Known → Denoted → Bool
@@ -128,7 +129,7 @@ unless_denoted test k name =
 -- a name without attribute
 unfoldable pub name_judged : Known → Name → List ActualPart → Found
 name_judged k name actuals =
-    unless_denoted (may_be_value k (not (nothing_there actuals))) k name
+    unless_denoted (may_be_value k (not (is_empty actuals))) k name
     ++ unwrap_or
     (option_map (denoted_judged k (place_of name) actuals) (denoted_by k.names name)) []
 
@@ -305,12 +306,12 @@ module _ {E : Type 0} (read : E → Reading) where
   unfoldable pub named_expression : Name → Option AttributeDesignator → List (Argument E) → Reading
   named_expression name None arguments k =
       let actuals = arguments_read arguments k in (
-        name_read k name (not (nothing_there arguments)),
+        name_read k name (not (is_empty arguments)),
         actuals.1 ++ name_judged k name actuals.0,
       )
   named_expression name (Some a) arguments k =
       let actuals = arguments_read arguments k in (
-        attribute_read k name a.attribute (not (nothing_there arguments)),
+        attribute_read k name a.attribute (not (is_empty arguments)),
         actuals.1 ++ attribute_judged k name a.attribute actuals.0,
       )
 

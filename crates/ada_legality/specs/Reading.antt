@@ -22,7 +22,8 @@ use Rattle.ada_regions.specs.Completions.{holds_of}
 use Rattle.ada_regions.specs.Names.{denoted_by, kind_at}
 use Rattle.ada_regions.specs.Statics.{last_duration, last_integer, micros_of}
 use Rattle.ada_regions.specs.Subtypes.{mark_denoted}
-use Rattle.ada_regions.specs.Words.{and_then, nothing_there}
+use Rattle.ada_regions.specs.Words.{and_then}
+use Rattle.ann_base.specs.Lists.{is_empty}
 use Rattle.ada_regions.specs.declared.entities.Denoted.{Denoted}
 use Rattle.ada_regions.specs.declared.entities.EntityKind.{EntityKind}
 use Rattle.ada_regions.specs.declared.predefined.Predefined.{Predefined}
@@ -425,7 +426,7 @@ is_number _ = false
 -- a number
 unfoldable pub number_read : Place → List ℕ → Read
 number_read at text = record (plain_read at
-    (cond (nothing_there (decimals_of text)) typing.OfWholeNumber typing.OfPointedNumber)) {
+    (cond (is_empty (decimals_of text)) typing.OfWholeNumber typing.OfPointedNumber)) {
       literal = Some (literal_at at text);
       shape = shapes.Number;
       built_as_barrier = true;

@@ -23,7 +23,8 @@ use Rattle.ada_regions.specs.Declaring.{object_number}
 use Rattle.ada_regions.specs.Names.{denoted_by, entity_denoted, kind_at}
 use Rattle.ada_regions.specs.Statics.{static_value}
 use Rattle.ada_regions.specs.Subtypes.{range_between}
-use Rattle.ada_regions.specs.Words.{and_then, nothing_there}
+use Rattle.ada_regions.specs.Words.{and_then}
+use Rattle.ann_base.specs.Lists.{is_empty}
 use Rattle.ada_regions.specs.declared.entities.Denoted.{Denoted}
 use Rattle.ada_regions.specs.declared.entities.EntityKind.{EntityKind}
 use Rattle.ada_regions.specs.declared.predefined.Predefined.{Predefined}
@@ -332,7 +333,7 @@ formals_of_entry _ = None
 -- the target has no formals, or the same
 unfoldable pub formals_fit : Option (List Formal) → Option (List Formal) → Bool
 formals_fit (Some target) own =
-    nothing_there target || unwrap_or (option_map (same_formals target) own) false
+    is_empty target || unwrap_or (option_map (same_formals target) own) false
 formals_fit None own = false
 
 -- a requeue from this entry may lead there

@@ -1,7 +1,8 @@
 -- Kinds of types, and for which types each operator is defined (3.2, 3.5, 4.5, D.8, D.14).
 use Rattle.ada_legality.specs.declared.reading.Typed.{Typed}
 use Rattle.ada_regions.specs.Declaring.{free_subtype}
-use Rattle.ada_regions.specs.Words.{and_then, or_else}
+use Rattle.ada_regions.specs.Words.{and_then}
+use Rattle.std.specs.Option.{option_or}
 use Rattle.ada_regions.specs.declared.table.Names.{Names}
 use Rattle.ada_regions.specs.declared.types.AdaType.{AdaType}
 use Rattle.ada_regions.specs.declared.types.Subtype.{Subtype}
@@ -343,4 +344,4 @@ type_of_low _ = None
 
 -- the type of the values between two bounds
 unfoldable pub type_of_bounds : Typed → Typed → AdaType
-type_of_bounds low high = unwrap_or (or_else (type_of_low low) (type_of_low high)) types.Integer
+type_of_bounds low high = unwrap_or (option_or (type_of_low low) (type_of_low high)) types.Integer

@@ -11,7 +11,8 @@ use Rattle.ada_regions.specs.PredefinedUnits.{same_unit}
 use Rattle.ada_regions.specs.Regions.{is_package}
 use Rattle.ada_regions.specs.SelectedNames.{frame_owned_by}
 use Rattle.ada_regions.specs.Visibility.{is_withed_by, same_denoted}
-use Rattle.ada_regions.specs.Words.{all_of, and_then, or_else}
+use Rattle.ada_regions.specs.Words.{all_of, and_then}
+use Rattle.std.specs.Option.{option_or}
 use Rattle.ada_regions.specs.declared.entities.Denoted.{Denoted}
 use Rattle.ada_regions.specs.declared.table.Names.{Names}
 use Rattle.ada_tree.specs.declared.names.Identifier.{Identifier}
@@ -34,7 +35,7 @@ unit_if n d = and_then d (λ x. cond (is_unit_name n x) (Some x) None)
 -- the last part of a name that denotes a unit
 unfoldable pub unit_in_parts : Names → List Identifier → Option Denoted
 unit_in_parts n [] = None
-unit_in_parts n (i ∷ rest) = or_else (unit_in_parts n rest) (unit_if n (denoted_at n i.place))
+unit_in_parts n (i ∷ rest) = option_or (unit_in_parts n rest) (unit_if n (denoted_at n i.place))
 
 -- a unit may be used where these with clauses hold
 unfoldable pub is_usable_unit : Names → Denoted → Bool

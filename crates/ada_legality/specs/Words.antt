@@ -7,7 +7,9 @@ use Rattle.ada_lex.specs.Meaning.{decimals_of, whole_of}
 use Rattle.ada_regions.specs.Names.{denoted_by, last_part}
 use Rattle.ada_regions.specs.PredefinedUnits.{same_unit}
 use Rattle.ada_regions.specs.Statics.{literal_of, micros_of, static_value}
-use Rattle.ada_regions.specs.Words.{and_then, nothing_there, or_else}
+use Rattle.ada_regions.specs.Words.{and_then}
+use Rattle.ann_base.specs.Lists.{is_empty}
+use Rattle.std.specs.Option.{option_or}
 use Rattle.ada_regions.specs.declared.entities.Denoted.{Denoted}
 use Rattle.ada_regions.specs.declared.table.Names.{Names}
 use Rattle.ada_regions.specs.declared.types.AdaType.{AdaType}
@@ -53,7 +55,7 @@ lies_between low high (Some n) = int_le low n && int_le n high
 -- the number of a literal by its text, which may lie outside its type
 unfoldable pub number_of_literal : List ℕ → ℤ
 number_of_literal literal =
-    pos (cond (nothing_there (decimals_of literal)) (whole_of literal) (micros_of literal))
+    pos (cond (is_empty (decimals_of literal)) (whole_of literal) (micros_of literal))
 
 -- the number of a literal, or of minus a literal
 unfoldable pub literal_number : ExpressionForm Expression → Option ℤ
@@ -64,7 +66,7 @@ literal_number f = option_map number_of_literal (literal_of f)
 -- the number of an expression that has one: a literal outside its type has no value
 unfoldable pub number_of_expression : Known → Expression → Option ℤ
 number_of_expression k e =
-    or_else (literal_number (out-Expression e).form)
+    option_or (literal_number (out-Expression e).form)
     (and_then (static_value k.names e) number_of_value)
 
 -- an expression is static

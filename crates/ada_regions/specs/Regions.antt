@@ -14,7 +14,8 @@ use Rattle.ada_regions.specs.declared.entities.Denoted.{Denoted}
 use Rattle.ada_regions.specs.declared.entities.Denoted.TheVariants as denotes
 use Rattle.ada_regions.specs.declared.entities.EntityKind.{EntityKind}
 use Rattle.ada_regions.specs.declared.entities.EntityKind.TheVariants as entity
-use Rattle.ada_regions.specs.Words.{and_then, or_else}
+use Rattle.ada_regions.specs.Words.{and_then}
+use Rattle.std.specs.Option.{option_or}
 use Rattle.ada_regions.specs.PredefinedUnits.{root_unit, child_unit, same_unit}
 use Rattle.ada_regions.specs.Occurrences.{Region, the_context, the_context_of, further_context, package_region, package_body, main_body, a_profile, subprogram_body, a_unit, task_body, protected_body, entry_body, an_accept, a_block, a_loop, a_record}
 use Rattle.ada_regions.specs.declared.entities.UnitKind.TheVariants as unit
@@ -203,7 +204,7 @@ package_to_with n name (i ∷ rest) = None
 
 -- the library unit that a with clause names: a predefined one, or an earlier package
 unfoldable pub library_unit : Names → Name → Option Denoted
-library_unit n name = or_else (and_then (unit_named name) unit_to_with) (package_to_with n name name.parts.others)
+library_unit n name = option_or (and_then (unit_named name) unit_to_with) (package_to_with n name name.parts.others)
 
 unfoldable pub withed : Name → Option Denoted → Names → Names
 withed name None n = n

@@ -13,7 +13,8 @@ use Rattle.ada_regions.specs.declared.entities.Entity.{Entity}
 use Rattle.ada_regions.specs.declared.entities.EntityKind.{EntityKind}
 use Rattle.ada_regions.specs.declared.entities.EntityKind.TheVariants as entity
 use Rattle.ada_regions.specs.declared.faults.NameFault.TheVariants as fault
-use Rattle.ada_regions.specs.Words.{or_else, and_then}
+use Rattle.ada_regions.specs.Words.{and_then}
+use Rattle.std.specs.Option.{option_or}
 use Rattle.ada_regions.specs.PredefinedUnits.{child_unit}
 use Rattle.ada_regions.specs.declared.table.Names.{Names}
 use Rattle.ada_regions.specs.declared.table.Frame.{Frame}
@@ -82,7 +83,7 @@ selected_from_entity n name e (Some f) = declared_inside n name f
 
 unfoldable pub selected : Names → List ℕ → Denoted → Option Denoted
 selected n name (denotes.Entity e) = selected_from_entity n name e (find (frame_owned_by e) n.frames)
-selected n name (denotes.Unit u) = or_else (item_of n.last_priority u name) (option_map denotes.Unit (child_unit u name))
+selected n name (denotes.Unit u) = option_or (item_of n.last_priority u name) (option_map denotes.Unit (child_unit u name))
 selected n name (denotes.Item u item) = None
 
 abbrev pub selection_answered : Identifier → Option Denoted → Names → Names

@@ -26,7 +26,8 @@ use Rattle.ada_regions.specs.declared.entities.Denoted.{Denoted}
 use Rattle.ada_regions.specs.declared.entities.Denoted.TheVariants as denotes
 use Rattle.ada_regions.specs.declared.entities.EntityKind.{EntityKind}
 use Rattle.ada_regions.specs.declared.entities.EntityKind.TheVariants as entity
-use Rattle.ada_regions.specs.Words.{and_then, nothing_there}
+use Rattle.ada_regions.specs.Words.{and_then}
+use Rattle.ann_base.specs.Lists.{is_empty}
 use Rattle.ada_regions.specs.declared.table.Names.{Names}
 use Rattle.ada_regions.specs.Names.{denoted_by, kind_at}
 use Rattle.std.specs.Prelude.{slice_get}
@@ -46,7 +47,7 @@ unfoldable pub micros_of : List ℕ → ℕ
 micros_of literal = whole_of literal * 1000000 + six_digits (decimals_of literal)
 
 unfoldable pub literal_value : List ℕ → Value
-literal_value literal = cond (nothing_there (decimals_of literal)) (value.Whole (pos (whole_of literal))) (value.Ticks (pos (micros_of literal)))
+literal_value literal = cond (is_empty (decimals_of literal)) (value.Whole (pos (whole_of literal))) (value.Ticks (pos (micros_of literal)))
 
 abbrev pub negated : Value → Value
 negated (value.Whole n) = value.Whole (neg_ℤ n)
@@ -77,11 +78,11 @@ abbrev pub negative_in_duration : ℕ → Option Value
 negative_in_duration n = cond (leb n (last_duration + 1)) (Some (value.Ticks (neg_ℤ (pos n)))) None
 
 unfoldable pub static_literal : List ℕ → Option Value
-static_literal literal = cond (nothing_there (decimals_of literal)) (in_integer (whole_of literal)) (in_duration (micros_of literal))
+static_literal literal = cond (is_empty (decimals_of literal)) (in_integer (whole_of literal)) (in_duration (micros_of literal))
 
 unfoldable pub static_negative : List ℕ → Option Value
 static_negative literal =
-    cond (nothing_there (decimals_of literal)) (negative_in_integer (whole_of literal)) (negative_in_duration (micros_of literal))
+    cond (is_empty (decimals_of literal)) (negative_in_integer (whole_of literal)) (negative_in_duration (micros_of literal))
 
 -- the literal of a form that is one
 abbrev pub literal_of : {E : Type 0} → ExpressionForm E → Option (List ℕ)
@@ -228,7 +229,7 @@ static_form n (form.Number place literal) = static_literal literal
 static_form n (form.Text place text) = None
 static_form n (form.Null place) = None
 static_form n (form.Bracketed place inner) = None
-static_form n (form.Named name attribute arguments) = cond (nothing_there arguments) (static_name n name attribute) None
+static_form n (form.Named name attribute arguments) = cond (is_empty arguments) (static_name n name attribute) None
 
 -- the value of an expression that is static, given what its names denote
 unfoldable pub static_value : Names → Expression → Option Value

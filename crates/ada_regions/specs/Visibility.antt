@@ -10,7 +10,8 @@ use Rattle.ada_regions.specs.declared.entities.Denoted.TheVariants as denotes
 use Rattle.ada_regions.specs.declared.entities.Sought.{Sought}
 use Rattle.ada_regions.specs.declared.entities.Sought.TheVariants as answer
 use Rattle.ada_regions.specs.declared.faults.NameFault.TheVariants as fault
-use Rattle.ada_regions.specs.Words.{or_else, and_then}
+use Rattle.ada_regions.specs.Words.{and_then}
+use Rattle.std.specs.Option.{option_or}
 use Rattle.ada_regions.specs.PredefinedUnits.{same_unit, parent_unit, child_unit, root_unit, item_in}
 use Rattle.ada_regions.specs.declared.table.Names.{Names}
 use Rattle.ada_regions.specs.declared.table.Binding.{Binding}
@@ -24,7 +25,7 @@ use Rattle.ada_regions.specs.Names.{Bindings, binding_in, binds, region_of_entit
 -- the binding of a name in the innermost region that has one
 abbrev pub innermost_binding : Bindings → List ℕ → List Frame → Option Binding
 innermost_binding bindings name [] = None
-innermost_binding bindings name (f ∷ fs) = or_else (binding_in bindings f.region name) (innermost_binding bindings name fs)
+innermost_binding bindings name (f ∷ fs) = option_or (binding_in bindings f.region name) (innermost_binding bindings name fs)
 
 -- what a predefined unit has under a name
 unfoldable pub item_of : ℕ → PredefinedUnit → List ℕ → Option Denoted
@@ -32,7 +33,7 @@ item_of last unit name = option_map (denotes.Item unit) (item_in last unit name)
 
 -- package Standard, with the library units that stand in no other (10.1)
 unfoldable pub in_standard : ℕ → List ℕ → Option Denoted
-in_standard last name = or_else (item_of last units.Standard name) (option_map denotes.Unit (root_unit name))
+in_standard last name = option_or (item_of last units.Standard name) (option_map denotes.Unit (root_unit name))
 
 -- a binding's entity; nothing where the name is hidden
 abbrev pub bound : Binding → Option Denoted
@@ -40,7 +41,7 @@ bound b = option_map denotes.Entity b.entity
 
 -- where a name has a declaration in the regions around it, or hides those outside: what it denotes, if it is visible
 unfoldable pub directly : Names → List ℕ → Option (Option Denoted)
-directly n name = or_else (option_map bound (innermost_binding n.bindings name n.frames)) (option_map Some (in_standard n.last_priority name))
+directly n name = option_or (option_map bound (innermost_binding n.bindings name n.frames)) (option_map Some (in_standard n.last_priority name))
 
 -- ---- use clauses (8.4)
 
@@ -70,7 +71,7 @@ exported_from n name region = and_then (and_then (item_at region n.bindings) (fi
 -- what a use clause for a package makes visible
 unfoldable pub visible_in : Names → List ℕ → Denoted → Option Denoted
 visible_in n name (denotes.Entity e) = and_then (region_of_entity n e) (exported_from n name)
-visible_in n name (denotes.Unit u) = or_else (item_of n.last_priority u name) (and_then (child_unit u name) (some_if_withed n.withs))
+visible_in n name (denotes.Unit u) = option_or (item_of n.last_priority u name) (and_then (child_unit u name) (some_if_withed n.withs))
 visible_in n name (denotes.Item u item) = None
 
 unfoldable pub same_denoted : Denoted → Denoted → Bool

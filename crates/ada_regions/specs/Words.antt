@@ -14,21 +14,12 @@ stands_before a b = ltb a.line b.line || (eqb a.line b.line && ltb a.column b.co
 
 -- ---- options and lists
 
--- the first of two that is there
-abbrev pub or_else : {X : Type 0} → Option X → Option X → Option X
-or_else (Some x) later = Some x
-or_else None later = later
-
 abbrev pub and_then : {X Y : Type 0} → Option X → (X → Option Y) → Option Y
 and_then None f = None
 and_then (Some x) f = f x
 
 abbrev pub all_of : {X : Type 0} → OneOrMore X → List X
 all_of xs = xs.first ∷ xs.others
-
-abbrev pub nothing_there : {X : Type 0} → List X → Bool
-nothing_there [] = true
-nothing_there (x ∷ xs) = false
 
 -- the last item, where the first is x
 abbrev pub last_from : {X : Type 0} → X → List X → X

@@ -3,7 +3,7 @@ use crate::predefined::{Predefined, PredefinedUnit};
 use crate::types::{Formal, Mode, Subtype};
 use ann_base::Place;
 use profile_machine::{
-    ControlledNo, DeclNo, EntryNo, EntryUnit, EnumerationNo, ProtectedUnitNo, Sequence,
+    ControlledNo, DeclNo, EntryNo, EntryUnit, EnumerationNo, ImageList, ProtectedUnitNo,
     SubprogramNo, Value,
 };
 
@@ -110,7 +110,7 @@ pub enum EntityKind {
         /// Whether a subprogram declaration declares it, which its body completes (6.3).
         specified: bool,
         /// Its formal parameters as first declared.
-        formals: Sequence<Formal>,
+        formals: ImageList<Formal>,
         /// The protected unit of which it is an operation.
         unit: Option<ProtectedUnitNo>,
     },
@@ -121,7 +121,7 @@ pub enum EntityKind {
         /// Its unit.
         unit: EntryUnit,
         /// Its formal parameters.
-        formals: Sequence<Formal>,
+        formals: ImageList<Formal>,
     },
     /// The name of a loop or a block (5.5, 5.6).
     Label,

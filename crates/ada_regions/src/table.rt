@@ -5,7 +5,7 @@ use crate::faults::NameFault;
 use crate::parts::{AspectsOf, ExpressionOf};
 use crate::types::{ArrayType, Formal, Subtype};
 use ann_base::Place;
-use profile_machine::{EntryUnit, Sequence, Text};
+use profile_machine::{EntryUnit, ImageList, Text};
 use world_tables::{List, Table};
 
 /// A name that a region binds. It stands for an entity, or is hidden while its declaration goes on (8.3).
@@ -144,7 +144,7 @@ pub struct NumberedSubprogram<'t> {
     /// The scope of its body.
     pub scope: u32,
     /// Its formal parameters.
-    pub formals: Sequence<Formal>,
+    pub formals: ImageList<Formal>,
     /// The subtype of a function's result.
     pub result: Option<Option<Subtype>>,
     /// The protected unit of which it is an operation.
@@ -203,7 +203,7 @@ pub struct NumberedEntry<'t> {
     /// Its unit.
     pub unit: EntryUnit,
     /// Its formal parameters.
-    pub formals: Sequence<Formal>,
+    pub formals: ImageList<Formal>,
     /// Its body, where it has one.
     pub body: Option<NumberedEntryBody<'t>>,
 }
@@ -241,7 +241,7 @@ pub struct Names<'t> {
     /// Its array types.
     pub arrays: List<ArrayType>,
     /// Its enumeration types, each with the names of its literals.
-    pub enumerations: List<Sequence<Text>>,
+    pub enumerations: List<ImageList<Text>>,
     /// Its task units.
     pub task_units: List<NumberedTask<'t>>,
     /// Its protected units.

@@ -16,7 +16,6 @@ use ann_base::OrMemory;
 use std::alloc::Global;
 
 /// The construct's own name behind its `end`, or none: whether it stands there.
-#[tactic(auto, unfolding(ada_grammar::specs::Reading::end_name_of))]
 pub fn end_name(cursor: &mut Cursor<'_>, name: &Identifier) -> Result<bool, OrMemory<Stuck>>
     requires lower { map to_ascii_lowercase name.now.text ≡ name.now.text }
     ensures { Reads result cursor.new (end_name_of name.now.text cursor.old) }

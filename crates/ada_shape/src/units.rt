@@ -1,7 +1,8 @@
 //! Which sequences, library units and sources are those of the grammar (ISO/IEC 8652:2012, 2.8, clause 7, 10.1).
 ghost use Rattle.std.specs.Prelude.{◌≡◌};
 ghost use Rattle.ada_tree.specs.ShapeExpressions.{optional_fits, within};
-ghost use Rattle.ada_tree.specs.Shape.{is_shaped, is_empty, handled_fits, package_statements_fit, package_parts_fit};
+ghost use Rattle.ada_tree.specs.Shape.{is_shaped, handled_fits, package_statements_fit, package_parts_fit};
+ghost use Rattle.ann_base.specs.Lists.{is_empty};
 
 use crate::fitting::Fit;
 use crate::statements::FitSequence;

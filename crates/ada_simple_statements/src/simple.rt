@@ -206,7 +206,6 @@ pub fn iteration(
 }
 
 /// `[NAME]`, behind the `end` of a loop or a block that has this name (5.5, 5.6).
-#[tactic(auto, unfolding(ada_grammar::specs::Reading::end_name_of))]
 pub fn label_end(
     cursor: &mut Cursor<'_>,
     label: Option<Identifier>,

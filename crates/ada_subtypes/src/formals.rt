@@ -8,7 +8,7 @@ use ada_entities::copy;
 use ada_regions::{Formal, Mode, Names, Subtype};
 use ada_tree::{Identifier, OneOrMore, Parameter};
 use ann_base::NoMemory;
-use profile_machine::Sequence;
+use profile_machine::ImageList;
 use std::alloc::Global;
 
 fn mode_out(is_in: bool) -> Mode
@@ -27,7 +27,7 @@ pub fn mode_of(is_in: bool, is_out: bool) -> Mode
 /// Adds a formal.
 fn push_formal(
     alloc: Global,
-    formals: &mut Sequence<Formal>,
+    formals: &mut ImageList<Formal>,
     name: &Identifier,
     mode: Mode,
     subtype: Option<Subtype>,
@@ -45,7 +45,7 @@ fn push_formal(
 /// Adds the formals of one parameter specification.
 fn push_formals(
     alloc: Global,
-    formals: &mut Sequence<Formal>,
+    formals: &mut ImageList<Formal>,
     names: &OneOrMore<Identifier>,
     mode: Mode,
     subtype: Option<Subtype>,
@@ -63,7 +63,7 @@ fn push_formals(
 /// Adds the formals of a parameter specification, given what its names denote.
 fn push_formals_of_parameter(
     alloc: Global,
-    formals: &mut Sequence<Formal>,
+    formals: &mut ImageList<Formal>,
     names: &Names<'_>,
     parameter: &Parameter,
 ) -> Result<(), NoMemory>
@@ -81,10 +81,10 @@ pub fn formals_of(
     alloc: Global,
     names: &Names<'_>,
     parameters: &[Parameter],
-) -> Result<Sequence<Formal>, NoMemory>
+) -> Result<ImageList<Formal>, NoMemory>
     ensures { IfOk result (λ formals. formals ≡ formals_of names.now parameters.now) }
 {
-    let mut formals = Sequence::new(alloc);
+    let mut formals = ImageList::new(alloc);
     for parameter in parameters {
         push_formals_of_parameter(alloc, &mut formals, names, parameter)?;
     }

@@ -3,7 +3,7 @@ use Rattle.std.proofs.Common.{◌≡◌, ℕ, zero, suc, Bool, ◌&&◌, List, [
 use Rattle.std.specs.List.{list_all}
 use Rattle.ada_tree.specs.Written.{Written, each_written, all_written, enclosed, behind}
 use Rattle.ada_tree.specs.ShapeExpressions.{all_fit, enclosed_fit}
-use Rattle.ada_tree.specs.Shape.{is_empty}
+use Rattle.ann_base.specs.Lists.{is_empty}
 
 pub both : {a b c d : List Written} → a ≡ c → b ≡ d → a ++ b ≡ c ++ d
 both p q = rw (p, q) refl

@@ -2,6 +2,7 @@
 -- nesting is at most 100.
 use Rattle.std.specs.Prelude.{ℕ, Bool, true, false, ◌&&◌, List, [], ◌∷◌}
 use Rattle.std.specs.List.{list_all}
+use Rattle.ann_base.specs.Lists.{is_empty}
 use Rattle.ada_tree.specs.declared.units.TheConstants.{MAX_NESTING}
 use Rattle.ada_tree.specs.declared.statements.SequenceRole.{SequenceRole}
 use Rattle.ada_tree.specs.declared.statements.SequenceRole.TheVariants as role
@@ -23,10 +24,6 @@ use Rattle.ada_tree.specs.ShapeStatements.{statement_fits, handler_fits}
 use Rattle.ada_tree.specs.ShapeDeclarations.{declaration_fits, body_fits, aspects_fit}
 
 -- ---- sequences
-
-abbrev pub is_empty : {X : Type 0} → List X → Bool
-is_empty [] = true
-is_empty (x ∷ xs) = false
 
 -- Whether a sequence holds what it may where it stands, and nests within so many levels.
 abbrev pub SequenceFit : Type 0

@@ -1,6 +1,6 @@
 //! What expanded names and selected components denote (ISO/IEC 8652:2012, 4.1.3).
 ghost use Rattle.std.specs.Prelude.{◌≡◌, OnOk, option_copied, option_map, find};
-ghost use Rattle.ada_regions.specs.Words.{or_else};
+ghost use Rattle.std.specs.Option.{option_or};
 ghost use Rattle.ada_regions.specs.PredefinedUnits.{child_unit};
 ghost use Rattle.ada_regions.specs.Visibility.{item_of};
 ghost use Rattle.ada_regions.specs.SelectedNames.{region_of_type, region_of_subtype, region_selected, exported_by, is_owned_by, frame_owned_by, declared_inside, selected_from_entity, selected, selection_answered, parts_resolved, name_resolved};
@@ -113,7 +113,7 @@ fn selected_from_entity(names: &Names<'_>, name: &[u8], entity: u32) -> Option<D
 
 fn selected_from_unit(last: u8, name: &[u8], unit: PredefinedUnit) -> Option<Denoted>
     ensures { result
-        ≡ or_else (item_of last unit name.now)
+        ≡ option_or (item_of last unit name.now)
         (option_map Denoted.Unit (child_unit unit name.now)) }
 {
     match item_of(last, unit, name) {

@@ -3,7 +3,8 @@ ghost use Rattle.std.specs.Prelude.{◌≡◌, ◌<◌, ◌≤◌, ◌-◌, cond
 ghost use Rattle.std.specs.List.{list_any};
 ghost use Rattle.world_tables.specs.Tables.{item_at};
 ghost use Rattle.ada_regions.specs.declared.entities.Sought.{Sought};
-ghost use Rattle.ada_regions.specs.Words.{or_else, and_then};
+ghost use Rattle.ada_regions.specs.Words.{and_then};
+ghost use Rattle.std.specs.Option.{option_or};
 ghost use Rattle.ada_regions.specs.PredefinedUnits.{parent_unit, child_unit};
 ghost use Rattle.ada_regions.specs.Visibility.{is_unit_or_parent, stands_under, is_withed_by, some_if_withed, exports_name, exported_from, item_of, visible_in, same_denoted, joined, joined_if, used_in, used_around};
 
@@ -107,7 +108,7 @@ pub(crate) fn exported_from(names: &Names<'_>, name: &[u8], region: u32) -> Opti
 /// What a use clause for a predefined unit makes visible.
 fn visible_in_unit(names: &Names<'_>, name: &[u8], unit: PredefinedUnit) -> Option<Denoted>
     ensures { result
-        ≡ or_else (item_of names.now.last_priority unit name.now)
+        ≡ option_or (item_of names.now.last_priority unit name.now)
         (and_then (child_unit unit name.now) (some_if_withed names.now.withs)) }
 {
     match item_of(names.last_priority, unit, name) {

@@ -1,2 +1,4 @@
 pub mod Answers
+pub mod Lists
 pub mod Outside
+pub mod Slots

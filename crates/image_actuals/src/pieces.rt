@@ -15,7 +15,7 @@ use ada_tree::{Addend, Argument, Expression, ExpressionForm, Name, OneOrMore};
 use ann_base::NoMemory;
 use image_expressions::{expression_made, no_value};
 use image_layout::{action_put, first_argument};
-use profile_machine::{ExprNo, Piece, Sequence, StatementForm, StatementNo};
+use profile_machine::{ExprNo, ImageList, Piece, StatementForm, StatementNo};
 use std::alloc::Global;
 
 /// The Image of a value of a type (3.5).
@@ -61,7 +61,7 @@ pub fn value_or_none(
 #[tactic(auto, unfolding(ada_image::specs::ImageOfCalls::image_made))]
 fn push_image(
     lists: &mut Lists,
-    pieces: &mut Sequence<Piece>,
+    pieces: &mut ImageList<Piece>,
     within: &Within<'_, '_>,
     name: &Name,
     arguments: &[Argument<Expression>],
@@ -76,7 +76,7 @@ fn push_image(
 }
 
 /// Adds a text.
-fn push_text(alloc: Global, pieces: &mut Sequence<Piece>, text: &[u8]) -> Result<(), NoMemory>
+fn push_text(alloc: Global, pieces: &mut ImageList<Piece>, text: &[u8]) -> Result<(), NoMemory>
     ensures { OnOk result (pieces.new ≡ pieces.old ++ piece.Text text.now ∷ []) }
 {
     pieces.push(Piece::Text(copy(alloc, text)?))?;
@@ -88,7 +88,7 @@ fn push_text(alloc: Global, pieces: &mut Sequence<Piece>, text: &[u8]) -> Result
 fn push_piece(
     alloc: Global,
     lists: &mut Lists,
-    pieces: &mut Sequence<Piece>,
+    pieces: &mut ImageList<Piece>,
     within: &Within<'_, '_>,
     expression: &Expression,
 ) -> Result<(), NoMemory>
@@ -111,7 +111,7 @@ fn push_piece(
 fn push_joined(
     alloc: Global,
     lists: &mut Lists,
-    pieces: &mut Sequence<Piece>,
+    pieces: &mut ImageList<Piece>,
     within: &Within<'_, '_>,
     addends: &[Addend<Expression>],
 ) -> Result<(), NoMemory>
@@ -129,7 +129,7 @@ fn push_joined(
 fn push_all_joined(
     alloc: Global,
     lists: &mut Lists,
-    pieces: &mut Sequence<Piece>,
+    pieces: &mut ImageList<Piece>,
     within: &Within<'_, '_>,
     first: &Expression,
     others: &OneOrMore<Addend<Expression>>,
@@ -148,7 +148,7 @@ fn push_all_joined(
 fn push_pieces(
     alloc: Global,
     lists: &mut Lists,
-    pieces: &mut Sequence<Piece>,
+    pieces: &mut ImageList<Piece>,
     within: &Within<'_, '_>,
     expression: &Expression,
 ) -> Result<(), NoMemory>
@@ -177,11 +177,11 @@ fn pieces_made(
     lists: &mut Lists,
     within: &Within<'_, '_>,
     expression: Option<&Expression>,
-) -> Result<Sequence<Piece>, NoMemory>
+) -> Result<ImageList<Piece>, NoMemory>
     ensures { Made (pieces_made within.now (option_copied expression.entry)) lists.old lists.new
         result }
 {
-    let mut pieces = Sequence::new(alloc);
+    let mut pieces = ImageList::new(alloc);
     match expression {
         None => Ok(pieces),
         Some(expression) => {

@@ -13,7 +13,8 @@ use Rattle.ada_tree.specs.declared.expressions.AttributeDesignator.{AttributeDes
 use Rattle.ada_regions.specs.declared.types.AdaType.{AdaType}
 use Rattle.ada_regions.specs.declared.table.Names.{Names}
 use Rattle.ada_regions.specs.Names.{denoted_by}
-use Rattle.ada_regions.specs.Words.{and_then, nothing_there}
+use Rattle.ada_regions.specs.Words.{and_then}
+use Rattle.ann_base.specs.Lists.{is_empty}
 use Rattle.ada_image.specs.TypesOfExpressions.{Typing, same_typing, typing_layer, type_of_sum, type_of_product, type_of_addends, type_of_factors, type_of_named, type_denoted, type_of_form, type_of_expression}
 
 -- terms and factors of a list that was mapped
@@ -29,7 +30,7 @@ unfolding type_of_factors
 factors_of_map w g factor left [] n = refl
 factors_of_map w g factor left (m ∷ ms) n = rw (factor m) (factors_of_map w g factor (type_of_product left (w m.factor n)) ms n)
 
-nothing_of_map : {X Y : Type 0} (g : X → Y) (xs : List X) → nothing_there (map g xs) ≡ nothing_there xs
+nothing_of_map : {X Y : Type 0} (g : X → Y) (xs : List X) → is_empty (map g xs) ≡ is_empty xs
 nothing_of_map g [] = refl
 nothing_of_map g (x ∷ xs) = refl
 

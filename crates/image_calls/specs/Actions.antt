@@ -21,6 +21,7 @@ cancel_action cancelling.Event = action.CancelEvent
 cancel_action cancelling.Timer = action.CancelTimer
 cancel_action cancelling.Budget = action.CancelBudget
 
+-- the formal for the event, the timer or the budget, and both formals (D.14.1, D.14.2, D.15)
 abbrev pub cancelled_formal : Cancelling → List ℕ
 cancelled_formal cancelling.Event = codes "event"
 cancelled_formal cancelling.Timer = codes "tm"
@@ -36,6 +37,7 @@ budget_action budgeting.RemoveTask = action.RemoveTask
 budget_action budgeting.Replenish = action.Replenish
 budget_action budgeting.Add = action.AddToBudget
 
+-- the formal for the value, and both formals (D.14.2)
 abbrev pub budgeted_formal : Budgeting → List ℕ
 budgeted_formal budgeting.AddTask = codes "t"
 budgeted_formal budgeting.RemoveTask = codes "t"
@@ -50,6 +52,7 @@ abbrev pub task_action : OfTask → ExprNo → Option ExprNo → StatementForm
 task_action of_task.Priority = action.SetPriority
 task_action of_task.Deadline = action.SetDeadline
 
+-- the formal for the value, and both formals (D.2.6, D.5.1)
 abbrev pub set_formal : OfTask → List ℕ
 set_formal of_task.Priority = codes "priority"
 set_formal of_task.Deadline = codes "d"
@@ -62,6 +65,7 @@ abbrev pub values_action : OfValues → ExprNo → ExprNo → StatementForm
 values_action of_values.Quantum = action.SetQuantum
 values_action of_values.DelayUntilAndDeadline = action.DelayUntilAndSetDeadline
 
+-- the formals for the two values (D.2.5, D.2.6)
 abbrev pub first_formal : OfValues → List ℕ
 first_formal of_values.Quantum = codes "pri"
 first_formal of_values.DelayUntilAndDeadline = codes "delay_until_time"

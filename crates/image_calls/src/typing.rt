@@ -1,7 +1,8 @@
 //! The type of an expression, from its parts alone: no name is overloaded (ISO/IEC 8652:2012, clause 4).
 ghost use Rattle.std.specs.Prelude.{◌≡◌, Some, cond, slice_get};
 ghost use Rattle.ada_lex.specs.Meaning.{decimals_of};
-ghost use Rattle.ada_regions.specs.Words.{all_of, nothing_there};
+ghost use Rattle.ada_regions.specs.Words.{all_of};
+ghost use Rattle.ann_base.specs.Lists.{is_empty};
 ghost use Rattle.ada_regions.specs.declared.types.AdaType.TheVariants as types;
 ghost use Rattle.ada_image.specs.TypesOfExpressions.{type_of_subtype, indexed, type_of_result, type_of_kind, type_denoted, type_of_addends, type_of_factors, type_of_named, is_span};
 
@@ -180,7 +181,7 @@ fn type_of_named<E: Typed>(
 /// The type of a numeric literal (2.4): one with a point is a Duration.
 fn type_of_number(literal: &[u8]) -> AdaType
     ensures { Some result
-        ≡ cond (nothing_there (decimals_of literal.now)) (Some types.Integer)
+        ≡ cond (is_empty (decimals_of literal.now)) (Some types.Integer)
         (Some types.Duration) }
 {
     if decimals(literal).is_empty() {

@@ -11,7 +11,9 @@ use ann_base::NoMemory;
 use image_layout::{in_handler, reserved, the_action};
 use image_parts::{in_statement_scope, scope_action};
 use image_statements::{entry_at, handled_made, scope_at};
-use profile_machine::{Handler as ExceptionHandler, ScopeNo, Sequence, StatementForm, StatementNo};
+use profile_machine::{
+    Handler as ExceptionHandler, ImageList, ScopeNo, StatementForm, StatementNo,
+};
 use std::alloc::Global;
 
 /// A block (5.6).
@@ -64,10 +66,10 @@ pub fn handlers_put<W, Q: MakeSequence<W>>(
     within: &Within<'_, '_>,
     handlers: &[Handler<Q>],
     next: Option<StatementNo>,
-) -> Result<Sequence<ExceptionHandler>, NoMemory>
+) -> Result<ImageList<ExceptionHandler>, NoMemory>
     ensures { Made (handlers_put Q.making within.now handlers.now next) lists.old lists.new result }
 {
-    let mut made = Sequence::new(alloc);
+    let mut made = ImageList::new(alloc);
     for handler in handlers {
         let one = handler_made(alloc, lists, within, handler, next)?;
         made.push(one)?;

@@ -11,7 +11,7 @@ use ann_base::NoMemory;
 use image_layout::the_action;
 use image_parts::{case_action, if_action};
 use image_statements::choices_made;
-use profile_machine::{CaseAlternative as CaseActions, Sequence, StatementNo};
+use profile_machine::{CaseAlternative as CaseActions, ImageList, StatementNo};
 use std::alloc::Global;
 
 /// The statements of a compound statement lead to what comes behind it.
@@ -147,12 +147,12 @@ fn alternatives_put<W, Q: MakeSequence<W>>(
     within: &Within<'_, '_>,
     alternatives: &OneOrMore<CaseAlternative<Q>>,
     next: Option<StatementNo>,
-) -> Result<Sequence<CaseActions>, NoMemory>
+) -> Result<ImageList<CaseActions>, NoMemory>
     ensures { Made
         (alternatives_put Q.making within.now (alternatives.now.first ∷ alternatives.now.others)
         next) lists.old lists.new result }
 {
-    let mut made = Sequence::new(alloc);
+    let mut made = ImageList::new(alloc);
     let first = alternative_made(alloc, lists, within, &alternatives.first, next)?;
     made.push(first)?;
     for alternative in alternatives.others.as_slice() {

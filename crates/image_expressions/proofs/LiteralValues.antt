@@ -4,7 +4,7 @@ use Rattle.std.specs.Prelude.{leb, pos}
 use Rattle.ada_lex.specs.Meaning.{whole_of, decimals_of}
 use Rattle.profile_machine.specs.declared.values.Value.{Value}
 use Rattle.profile_machine.specs.declared.values.Value.TheVariants as value
-use Rattle.ada_regions.specs.Words.{nothing_there}
+use Rattle.ann_base.specs.Lists.{is_empty}
 use Rattle.ada_regions.specs.Statics.{static_literal, static_negative, literal_value, negated, micros_of}
 
 kept : (b : Bool) (x v : Value) → cond b (Some x) None ≡ Some v → v ≡ x
@@ -22,11 +22,11 @@ negated_of_two false p q x y v e = kept q (negated y) v e
 pub value_of_static : (literal : List ℕ) (v : Value) → static_literal literal ≡ Some v → v ≡ literal_value literal
 unfolding static_literal literal_value
 value_of_static literal v e =
-    kept_of_two (nothing_there (decimals_of literal)) (leb (whole_of literal) 2147483647) (leb (micros_of literal) 4611686018427387903)
+    kept_of_two (is_empty (decimals_of literal)) (leb (whole_of literal) 2147483647) (leb (micros_of literal) 4611686018427387903)
     (value.Whole (pos (whole_of literal))) (value.Ticks (pos (micros_of literal))) v e
 
 pub value_of_negative : (literal : List ℕ) (v : Value) → static_negative literal ≡ Some v → v ≡ negated (literal_value literal)
 unfolding static_negative literal_value
 value_of_negative literal v e =
-    negated_of_two (nothing_there (decimals_of literal)) (leb (whole_of literal) 2147483648) (leb (micros_of literal) 4611686018427387904)
+    negated_of_two (is_empty (decimals_of literal)) (leb (whole_of literal) 2147483648) (leb (micros_of literal) 4611686018427387904)
     (value.Whole (pos (whole_of literal))) (value.Ticks (pos (micros_of literal))) v e

@@ -24,7 +24,7 @@ use Rattle.ada_regions.specs.declared.types.AdaType.{AdaType}
 use Rattle.ada_regions.specs.declared.types.Formal.{Formal}
 use Rattle.ada_regions.specs.Names.{denoted_by}
 use Rattle.ada_regions.specs.Statics.{attribute_value}
-use Rattle.ada_regions.specs.Words.{nothing_there}
+use Rattle.ann_base.specs.Lists.{is_empty}
 use Rattle.ada_image.specs.Layout.{is_thing}
 use Rattle.ada_image.specs.ImageOfCalls.{names_of}
 use Rattle.ada_legality.specs.declared.reading.Typed.{Typed}
@@ -96,8 +96,8 @@ module _ {E : Type 0} (clear : E → Clear) where
   arguments_clear (a ∷ rest) k = clear a.value k && arguments_clear rest k
 
   abbrev pub named_clear : Name → Option AttributeDesignator → List (Argument E) → Clear
-  named_clear name None arguments k = name_clear k name (not (nothing_there arguments)) && arguments_clear arguments k
-  named_clear name (Some a) arguments k = attribute_clear k name a.attribute (not (nothing_there arguments)) && arguments_clear arguments k
+  named_clear name None arguments k = name_clear k name (not (is_empty arguments)) && arguments_clear arguments k
+  named_clear name (Some a) arguments k = attribute_clear k name a.attribute (not (is_empty arguments)) && arguments_clear arguments k
 
   abbrev pub form_clear : ExpressionForm E → Clear
   form_clear (form.Logical operator first others) k = clear first k && operands_clear (others.first ∷ others.others) k

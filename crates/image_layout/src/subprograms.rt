@@ -7,7 +7,7 @@ use crate::first_values::first_value;
 use crate::subtypes::{range_of_cells, subtype_is_thing};
 use ada_regions::{Formal, Names};
 use ann_base::NoMemory;
-use profile_machine::{Constraint, Enumeration, Formal as FormalCell, Sequence, Text, Value};
+use profile_machine::{Constraint, Enumeration, Formal as FormalCell, ImageList, Text, Value};
 use std::alloc::Global;
 
 /// The cell of a formal parameter.
@@ -33,10 +33,10 @@ pub fn formals_made(
     alloc: Global,
     names: &Names<'_>,
     formals: &[Formal],
-) -> Result<Sequence<FormalCell>, NoMemory>
+) -> Result<ImageList<FormalCell>, NoMemory>
     ensures { IfOk result (λ made. made ≡ map (formal_made names.now) formals.now) }
 {
-    let mut made = Sequence::new(alloc);
+    let mut made = ImageList::new(alloc);
     for formal in formals {
         made.push(formal_made(names, formal))?;
     }
@@ -47,17 +47,17 @@ pub fn formals_made(
 fn upper(alloc: Global, text: &[u8]) -> Result<Text, NoMemory>
     ensures { IfOk result (λ upper. upper ≡ map to_ascii_uppercase text.now) }
 {
-    let mut upper = Sequence::new(alloc);
+    let mut upper = ImageList::new(alloc);
     for byte in text {
         upper.push(byte.to_ascii_uppercase())?;
     }
     Ok(upper)
 }
 
-fn all_upper(alloc: Global, literals: &[Text]) -> Result<Sequence<Text>, NoMemory>
+fn all_upper(alloc: Global, literals: &[Text]) -> Result<ImageList<Text>, NoMemory>
     ensures { IfOk result (λ made. made ≡ map (map to_ascii_uppercase) literals.now) }
 {
-    let mut made = Sequence::new(alloc);
+    let mut made = ImageList::new(alloc);
     for literal in literals {
         made.push(upper(alloc, literal.as_slice())?)?;
     }
@@ -78,10 +78,10 @@ fn enumeration_made(alloc: Global, literals: &[Text]) -> Result<Enumeration, NoM
 pub fn enumerations_made(
     alloc: Global,
     names: &Names<'_>,
-) -> Result<Sequence<Enumeration>, NoMemory>
+) -> Result<ImageList<Enumeration>, NoMemory>
     ensures { IfOk result (λ made. made ≡ map enumeration_made names.now.enumerations) }
 {
-    let mut made = Sequence::new(alloc);
+    let mut made = ImageList::new(alloc);
     for literals in names.enumerations.iter() {
         made.push(enumeration_made(alloc, literals.as_slice())?)?;
     }

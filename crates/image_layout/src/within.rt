@@ -6,7 +6,7 @@ ghost use Rattle.ada_image.specs.ImageOfUnits.{outermost};
 use ada_image::{ListOf, Lists, NamesOf, OpenLoop, Within};
 use ada_regions::Names;
 use ann_base::NoMemory;
-use profile_machine::{Sequence, StatementNo, SubprogramNo};
+use profile_machine::{ImageList, StatementNo, SubprogramNo};
 use std::alloc::Global;
 use world_tables::List;
 
@@ -15,7 +15,7 @@ pub fn nothing_made(alloc: Global) -> Lists
     ensures { result ≡ nothing_made }
 {
     Lists {
-        expressions: Sequence::new(alloc),
+        expressions: ImageList::new(alloc),
         statements: List::new(alloc),
         firsts: List::new(alloc),
     }

@@ -7,7 +7,7 @@ use ada_tree::Expression;
 use ann_base::NoMemory;
 use image_expressions::{expression_made, signs_in};
 use image_layout::{action_put, the_action};
-use profile_machine::{CaseAlternative, Sequence, StatementForm, StatementNo};
+use profile_machine::{CaseAlternative, ImageList, StatementForm, StatementNo};
 
 /// A condition, and the actions behind it (5.3).
 pub fn if_action(
@@ -36,7 +36,7 @@ pub fn case_action(
     lists: &mut Lists,
     within: &Within<'_, '_>,
     selector: &Expression,
-    alternatives: Sequence<CaseAlternative>,
+    alternatives: ImageList<CaseAlternative>,
     next: Option<StatementNo>,
 ) -> Result<Option<StatementNo>, NoMemory>
     ensures { Made (case_action within.now selector.now alternatives next) lists.old lists.new

@@ -12,7 +12,7 @@ use ada_tree::Expression;
 use ann_base::NoMemory;
 use image_layout::{cells_of_declaration, index_range};
 use image_scopes::{place_behind, scope_no};
-use profile_machine::{Declaration, Initial, Sequence};
+use profile_machine::{Declaration, ImageList, Initial};
 use std::alloc::Global;
 
 /// A declaration of the image with its initial value, where so many stand before it in the table.
@@ -77,12 +77,12 @@ pub fn declarations_made(
     alloc: Global,
     lists: &mut Lists,
     within: &Within<'_, '_>,
-) -> Result<Sequence<Declaration>, NoMemory>
+) -> Result<ImageList<Declaration>, NoMemory>
     ensures { Made (declarations_made within.now [] within.now.names.declarations) lists.old
         lists.new result }
 {
     let names = within.names.get();
-    let mut made = Sequence::new(alloc);
+    let mut made = ImageList::new(alloc);
     let mut before = 0;
     for declaration in names.declarations.iter() {
         let one = declaration_made(alloc, lists, within, before, declaration)?;

@@ -18,7 +18,7 @@ use image_statements::scope_at;
 use image_units::{
     controlled_types_made, entries_made, priority_or, protected_units_made, task_units_made,
 };
-use profile_machine::{Image, MainProcedure, Sequence, Statement};
+use profile_machine::{Image, ImageList, MainProcedure, Statement};
 use std::alloc::Global;
 use std::mem::replace;
 use world_tables::List;
@@ -85,10 +85,10 @@ fn main_of(alloc: Global, names: &Names<'_>, unit: &Unit) -> Result<MainProcedur
 fn sequence_of(
     alloc: Global,
     mut statements: List<Statement>,
-) -> Result<Sequence<Statement>, NoMemory>
+) -> Result<ImageList<Statement>, NoMemory>
     ensures { IfOk result (λ sequence. sequence ≡ statements) }
 {
-    let mut sequence = Sequence::new(alloc);
+    let mut sequence = ImageList::new(alloc);
     while let Some(statement) = statements.pop_front() {
         sequence.push(statement)?;
     }
@@ -106,7 +106,7 @@ fn program_with(
 ) -> Result<Image, NoMemory>
     ensures { IfOk result (λ program. program ≡ program_with names.now unit.now lists made) }
 {
-    let expressions = replace(&mut lists.expressions, Sequence::new(alloc));
+    let expressions = replace(&mut lists.expressions, ImageList::new(alloc));
     let statements = replace(&mut lists.statements, List::new(alloc));
     let MadeLists {
         task_units,

@@ -8,7 +8,7 @@ use image_layout::{
     added, cells_of_declaration, first_value, is_component_of, is_in_scope, subtype_is_thing,
     width_of_object, width_of_subtype,
 };
-use profile_machine::{CellRun, Sequence, Value};
+use profile_machine::{CellRun, ImageList, Value};
 
 #[tactic(auto, using(crate::proofs::Zeros::no_zero))]
 fn is_plain_zero(value: Value) -> bool
@@ -23,7 +23,7 @@ fn is_plain_zero(value: Value) -> bool
 /// Adds a run of cells that hold a value, where it is not `Whole(0)`.
 #[tactic(auto, unfolding(ada_image::specs::Layout::run_of))]
 fn run_of(
-    runs: &mut Sequence<CellRun>,
+    runs: &mut ImageList<CellRun>,
     place: u32,
     count: u32,
     value: Value,
@@ -45,7 +45,7 @@ fn run_of(
 /// Adds the run of a component; the answer is the place behind it.
 fn run_of_component(
     names: &Names<'_>,
-    runs: &mut Sequence<CellRun>,
+    runs: &mut ImageList<CellRun>,
     place: u32,
     subtype: Option<Subtype>,
 ) -> Result<u32, NoMemory>
@@ -64,7 +64,7 @@ fn run_of_component(
 #[tactic(auto, unfolding(ada_image::specs::Layout::runs_of_components, ada_image::specs::Layout::components_of_owner))]
 fn runs_of_components(
     names: &Names<'_>,
-    runs: &mut Sequence<CellRun>,
+    runs: &mut ImageList<CellRun>,
     place: u32,
     owner: ComponentOwner,
 ) -> Result<(), NoMemory>
@@ -84,7 +84,7 @@ fn runs_of_components(
 /// Adds the runs of the components of an object that has some cells of its own.
 fn runs_behind(
     names: &Names<'_>,
-    runs: &mut Sequence<CellRun>,
+    runs: &mut ImageList<CellRun>,
     place: u32,
     own: u32,
     owner: ComponentOwner,
@@ -100,7 +100,7 @@ fn runs_behind(
 /// Adds the run of a scalar or an array.
 fn run_of_values(
     names: &Names<'_>,
-    runs: &mut Sequence<CellRun>,
+    runs: &mut ImageList<CellRun>,
     place: u32,
     subtype: Option<Subtype>,
 ) -> Result<(), NoMemory>
@@ -117,7 +117,7 @@ fn run_of_values(
 #[tactic(auto, unfolding(ada_image::specs::Layout::runs_of_type))]
 fn runs_of_type(
     names: &Names<'_>,
-    runs: &mut Sequence<CellRun>,
+    runs: &mut ImageList<CellRun>,
     place: u32,
     subtype: Option<Subtype>,
     of_type: AdaType,
@@ -145,7 +145,7 @@ fn runs_of_type(
 #[tactic(auto, unfolding(ada_image::specs::Layout::runs_of_subtype))]
 fn runs_of_subtype(
     names: &Names<'_>,
-    runs: &mut Sequence<CellRun>,
+    runs: &mut ImageList<CellRun>,
     place: u32,
     subtype: Option<Subtype>,
 ) -> Result<(), NoMemory>
@@ -161,7 +161,7 @@ fn runs_of_subtype(
 #[tactic(auto, unfolding(ada_image::specs::Layout::runs_of_parameter))]
 fn runs_of_parameter(
     names: &Names<'_>,
-    runs: &mut Sequence<CellRun>,
+    runs: &mut ImageList<CellRun>,
     place: u32,
     subtype: Option<Subtype>,
 ) -> Result<(), NoMemory>
@@ -178,7 +178,7 @@ fn runs_of_parameter(
 #[tactic(auto, unfolding(ada_image::specs::Layout::runs_of_sort))]
 fn runs_of_sort(
     names: &Names<'_>,
-    runs: &mut Sequence<CellRun>,
+    runs: &mut ImageList<CellRun>,
     place: u32,
     subtype: Option<Subtype>,
     sort: Sort,
@@ -198,7 +198,7 @@ fn runs_of_sort(
 #[tactic(auto, unfolding(ada_image::specs::Layout::runs_from, ada_image::specs::Layout::declarations_in_scope))]
 pub(crate) fn runs_from(
     names: &Names<'_>,
-    runs: &mut Sequence<CellRun>,
+    runs: &mut ImageList<CellRun>,
     scope: u32,
 ) -> Result<(), NoMemory>
     ensures { OnOk result

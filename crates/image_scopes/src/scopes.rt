@@ -9,7 +9,7 @@ use ada_image::FirstAction;
 use ada_regions::{Names, NumberedScope, Sort, Subtype};
 use ann_base::NoMemory;
 use image_layout::{added, cells_of_declaration, is_in_scope, subtype_is_kept};
-use profile_machine::{CellRun, Scope, ScopeNo, Sequence, StatementNo};
+use profile_machine::{CellRun, ImageList, Scope, ScopeNo, StatementNo};
 use std::alloc::Global;
 use world_tables::List;
 
@@ -99,11 +99,11 @@ fn runs_of_scope(
     alloc: Global,
     names: &Names<'_>,
     scope: u32,
-) -> Result<Sequence<CellRun>, NoMemory>
+) -> Result<ImageList<CellRun>, NoMemory>
     ensures { IfOk result
         (λ runs. runs ≡ runs_from names.now 0 (declarations_in_scope names.now scope)) }
 {
-    let mut runs = Sequence::new(alloc);
+    let mut runs = ImageList::new(alloc);
     runs_from(names, &mut runs, scope)?;
     Ok(runs)
 }
@@ -139,10 +139,10 @@ pub fn scopes_made(
     alloc: Global,
     names: &Names<'_>,
     firsts: &List<FirstAction>,
-) -> Result<Sequence<Scope>, NoMemory>
+) -> Result<ImageList<Scope>, NoMemory>
     ensures { IfOk result (λ made. made ≡ scopes_made names.now firsts.now 0 names.now.scopes) }
 {
-    let mut made = Sequence::new(alloc);
+    let mut made = ImageList::new(alloc);
     let mut number = 0;
     for scope in names.scopes.iter() {
         made.push(scope_made(alloc, names, firsts, number, scope)?)?;

@@ -6,7 +6,7 @@ use ada_entities::copy;
 use ada_regions::{Names, NumberedSubprogram, Subtype};
 use ann_base::NoMemory;
 use image_layout::{formals_made, range_of_cells};
-use profile_machine::{Constraint, ProtectedUnitNo, ScopeNo, Sequence, Subprogram};
+use profile_machine::{Constraint, ImageList, ProtectedUnitNo, ScopeNo, Subprogram};
 use std::alloc::Global;
 
 fn range_of_result(names: &Names<'_>, result_of: Option<Option<Subtype>>) -> Option<Constraint>
@@ -42,10 +42,10 @@ fn subprogram_made(
 }
 
 /// All subprograms of the image.
-pub fn subprograms_made(alloc: Global, names: &Names<'_>) -> Result<Sequence<Subprogram>, NoMemory>
+pub fn subprograms_made(alloc: Global, names: &Names<'_>) -> Result<ImageList<Subprogram>, NoMemory>
     ensures { IfOk result (λ made. made ≡ map (subprogram_made names.now) names.now.subprograms) }
 {
-    let mut made = Sequence::new(alloc);
+    let mut made = ImageList::new(alloc);
     for subprogram in names.subprograms.iter() {
         made.push(subprogram_made(alloc, names, subprogram)?)?;
     }

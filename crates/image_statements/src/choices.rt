@@ -6,7 +6,7 @@ use ada_image::Within;
 use ada_subtypes::static_value;
 use ada_tree::{Choice, Expression, OneOrMore};
 use ann_base::NoMemory;
-use profile_machine::{Choice as CaseChoice, Sequence, Value};
+use profile_machine::{Choice as CaseChoice, ImageList, Value};
 use std::alloc::Global;
 
 #[tactic(auto, unfolding(ada_image::specs::ImageOfStatements::static_or_zero))]
@@ -36,10 +36,10 @@ pub fn choices_made(
     alloc: Global,
     within: &Within<'_, '_>,
     choices: &OneOrMore<Choice>,
-) -> Result<Sequence<CaseChoice>, NoMemory>
+) -> Result<ImageList<CaseChoice>, NoMemory>
     ensures { IfOk result (λ made. made ≡ choices_made within.now choices.now) }
 {
-    let mut made = Sequence::new(alloc);
+    let mut made = ImageList::new(alloc);
     made.push(choice_made(within, &choices.first))?;
     for choice in choices.others.as_slice() {
         made.push(choice_made(within, choice))?;

@@ -13,7 +13,7 @@ use image_actuals::owner_of_entry;
 use image_expressions::{kind_named, thing_named};
 use image_layout::action_put;
 use profile_machine::{
-    DeclNo, EntryNo, EntryUnit, Sequence, StatementForm, StatementNo, TaskUnitNo,
+    DeclNo, EntryNo, EntryUnit, ImageList, StatementForm, StatementNo, TaskUnitNo,
 };
 use std::alloc::Global;
 
@@ -45,13 +45,13 @@ fn tasks_named(
     alloc: Global,
     within: &Within<'_, '_>,
     names: &OneOrMore<Name>,
-) -> Result<Sequence<DeclNo>, NoMemory>
+) -> Result<ImageList<DeclNo>, NoMemory>
     ensures { IfOk result
         (λ tasks.
         tasks
         ≡ thing_named within.now names.now.first ∷ map (thing_named within.now) names.now.others) }
 {
-    let mut tasks = Sequence::new(alloc);
+    let mut tasks = ImageList::new(alloc);
     tasks.push(thing_named(within, &names.first))?;
     for name in names.others.as_slice() {
         tasks.push(thing_named(within, name))?;

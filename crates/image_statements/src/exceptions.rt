@@ -10,7 +10,7 @@ use ada_regions::{Denoted, EntityKind, Names, Predefined};
 use ada_tree::{HandledExceptions, Name, OneOrMore};
 use ann_base::{NoMemory, Raised};
 use image_layout::action_put;
-use profile_machine::{ExceptionChoice, ScopeNo, Sequence, StatementForm, StatementNo};
+use profile_machine::{ExceptionChoice, ImageList, ScopeNo, StatementForm, StatementNo};
 use std::alloc::Global;
 
 fn raised_kind(kind: &EntityKind) -> Raised
@@ -84,14 +84,14 @@ fn exceptions_named(
     alloc: Global,
     within: &Within<'_, '_>,
     names: &OneOrMore<Name>,
-) -> Result<Sequence<ExceptionChoice>, NoMemory>
+) -> Result<ImageList<ExceptionChoice>, NoMemory>
     ensures { IfOk result
         (λ choices.
         choices
         ≡ exception_choice.Named (exception_named within.now names.now.first)
         ∷ map (λ name. exception_choice.Named (exception_named within.now name)) names.now.others) }
 {
-    let mut choices = Sequence::new(alloc);
+    let mut choices = ImageList::new(alloc);
     choices.push(ExceptionChoice::Named(exception_named(within, &names.first)))?;
     for name in names.others.as_slice() {
         choices.push(ExceptionChoice::Named(exception_named(within, name)))?;
@@ -105,13 +105,13 @@ pub fn handled_made(
     alloc: Global,
     within: &Within<'_, '_>,
     exceptions: &HandledExceptions,
-) -> Result<Sequence<ExceptionChoice>, NoMemory>
+) -> Result<ImageList<ExceptionChoice>, NoMemory>
     ensures { IfOk result (λ choices. choices ≡ handled_made within.now exceptions.now) }
 {
     match exceptions {
         HandledExceptions::Named(names) => exceptions_named(alloc, within, names),
         HandledExceptions::Others { .. } => {
-            let mut choices = Sequence::new(alloc);
+            let mut choices = ImageList::new(alloc);
             choices.push(ExceptionChoice::Others)?;
             Ok(choices)
         }

@@ -5,7 +5,7 @@ ghost use Rattle.ada_image.specs.UnitsOfImage.{components_from, component_number
 use ada_regions::{ComponentOwner, Names};
 use ann_base::NoMemory;
 use image_layout::{added, is_component_of};
-use profile_machine::{DeclNo, Sequence};
+use profile_machine::{DeclNo, ImageList};
 use std::alloc::Global;
 
 /// The numbers of the components of an owner, in the order of the text.
@@ -14,10 +14,10 @@ pub(crate) fn component_numbers(
     alloc: Global,
     names: &Names<'_>,
     owner: ComponentOwner,
-) -> Result<Sequence<DeclNo>, NoMemory>
+) -> Result<ImageList<DeclNo>, NoMemory>
     ensures { IfOk result (λ components. components ≡ component_numbers names.now owner) }
 {
-    let mut components = Sequence::new(alloc);
+    let mut components = ImageList::new(alloc);
     let mut number = 0u32;
     for declaration in names.declarations.iter() {
         let next = added(number, 1)?;

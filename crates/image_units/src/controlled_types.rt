@@ -7,7 +7,7 @@ use crate::operations::{overriding, unless_limited};
 use ada_regions::{ComponentOwner, Names, NumberedControlled};
 use ann_base::NoMemory;
 use image_layout::added;
-use profile_machine::{ControlledNo, ControlledType, Sequence};
+use profile_machine::{ControlledNo, ControlledType, ImageList};
 use std::alloc::Global;
 
 /// A controlled type with the operations that it overrides.
@@ -38,11 +38,11 @@ fn controlled_type_made(
 pub fn controlled_types_made(
     alloc: Global,
     names: &Names<'_>,
-) -> Result<Sequence<ControlledType>, NoMemory>
+) -> Result<ImageList<ControlledType>, NoMemory>
     ensures { IfOk result
         (λ made. made ≡ controlled_types_made names.now 0 names.now.controlled_types) }
 {
-    let mut made = Sequence::new(alloc);
+    let mut made = ImageList::new(alloc);
     let mut number = 0u32;
     for controlled in names.controlled_types.iter() {
         made.push(controlled_type_made(alloc, names, number, *controlled)?)?;

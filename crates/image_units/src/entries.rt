@@ -12,7 +12,7 @@ use ann_base::NoMemory;
 use image_expressions::expression_made;
 use image_layout::formals_made;
 use image_scopes::scope_no;
-use profile_machine::{Entry, EntryBody, Sequence};
+use profile_machine::{Entry, EntryBody, ImageList};
 use std::alloc::Global;
 
 /// An entry, where so many stand before it in the table and its body is given.
@@ -79,12 +79,12 @@ pub fn entries_made(
     alloc: Global,
     lists: &mut Lists,
     within: &Within<'_, '_>,
-) -> Result<Sequence<Entry>, NoMemory>
+) -> Result<ImageList<Entry>, NoMemory>
     ensures { Made (entries_made within.now [] within.now.names.entries) lists.old lists.new
         result }
 {
     let names = within.names.get();
-    let mut made = Sequence::new(alloc);
+    let mut made = ImageList::new(alloc);
     let mut before = 0;
     for entry in names.entries.iter() {
         let one = entry_made(alloc, lists, within, before, entry)?;

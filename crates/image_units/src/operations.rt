@@ -1,7 +1,7 @@
 //! The procedures that override the operations of controlled types: those of the same part with one `in out` parameter of
 //! the type (ISO/IEC 8652:2012, 7.6).
 ghost use Rattle.std.specs.Prelude.{◌≡◌, cond, Some, None, IfOk};
-ghost use Rattle.ada_regions.specs.Words.{or_else};
+ghost use Rattle.std.specs.Option.{option_or};
 ghost use Rattle.ada_image.specs.UnitsOfImage.{subprogram_no, has_one_of_type, overrides, overriding_from, overriding, unless_limited};
 
 use ada_regions::{Names, NumberedControlled, NumberedSubprogram};
@@ -28,7 +28,7 @@ fn overrides(
 
 /// The subprogram with this number where it overrides, or the one that was found before.
 fn latest(is_here: bool, number: u32, found: Option<SubprogramNo>) -> Option<SubprogramNo>
-    ensures { result ≡ or_else (cond is_here (Some (subprogram_no number)) None) found }
+    ensures { result ≡ option_or (cond is_here (Some (subprogram_no number)) None) found }
 {
     if is_here {
         Some(SubprogramNo(number))

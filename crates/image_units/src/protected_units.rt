@@ -9,7 +9,7 @@ use crate::unit_entries::entries_of;
 use ada_regions::{ComponentOwner, Names, NumberedProtected};
 use ann_base::{Level, NoMemory};
 use image_layout::added;
-use profile_machine::{Attachment, EntryUnit, ProtectedUnit, ProtectedUnitNo, Sequence};
+use profile_machine::{Attachment, EntryUnit, ImageList, ProtectedUnit, ProtectedUnitNo};
 use std::alloc::Global;
 
 /// The ceiling without an aspect: the last Priority, and the one above where a handler is attached (this profile's).
@@ -49,11 +49,11 @@ fn protected_unit_made(
 pub fn protected_units_made(
     alloc: Global,
     names: &Names<'_>,
-) -> Result<Sequence<ProtectedUnit>, NoMemory>
+) -> Result<ImageList<ProtectedUnit>, NoMemory>
     ensures { IfOk result
         (λ made. made ≡ protected_units_made names.now 0 names.now.protected_units) }
 {
-    let mut made = Sequence::new(alloc);
+    let mut made = ImageList::new(alloc);
     let mut number = 0u32;
     for unit in names.protected_units.iter() {
         made.push(protected_unit_made(alloc, names, number, unit)?)?;

@@ -13,7 +13,7 @@ use ann_base::NoMemory;
 use image_expressions::expression_made;
 use image_layout::added;
 use image_scopes::scope_no;
-use profile_machine::{EntryUnit, ExprNo, Sequence, TaskUnit, TaskUnitNo};
+use profile_machine::{EntryUnit, ExprNo, ImageList, TaskUnit, TaskUnitNo};
 use std::alloc::Global;
 
 /// The relative deadline of a task unit, where it has one (D.2.6).
@@ -73,12 +73,12 @@ pub fn task_units_made(
     alloc: Global,
     lists: &mut Lists,
     within: &Within<'_, '_>,
-) -> Result<Sequence<TaskUnit>, NoMemory>
+) -> Result<ImageList<TaskUnit>, NoMemory>
     ensures { Made (task_units_made within.now 0 within.now.names.task_units) lists.old lists.new
         result }
 {
     let names = within.names.get();
-    let mut units = Sequence::new(alloc);
+    let mut units = ImageList::new(alloc);
     let mut number = 0u32;
     for task in names.task_units.iter() {
         let unit = task_unit_made(alloc, lists, within, number, task)?;

@@ -5,7 +5,7 @@ ghost use Rattle.ada_image.specs.UnitsOfImage.{entries_from, entries_of, place_a
 use ada_regions::Names;
 use ann_base::NoMemory;
 use image_layout::{added, same_entry_unit};
-use profile_machine::{EntryNo, EntryUnit, Sequence};
+use profile_machine::{EntryNo, EntryUnit, ImageList};
 use std::alloc::Global;
 
 /// The numbers of the entries of a unit.
@@ -14,10 +14,10 @@ pub(crate) fn entries_of(
     alloc: Global,
     names: &Names<'_>,
     unit: EntryUnit,
-) -> Result<Sequence<EntryNo>, NoMemory>
+) -> Result<ImageList<EntryNo>, NoMemory>
     ensures { IfOk result (λ entries. entries ≡ entries_of names.now unit) }
 {
-    let mut entries = Sequence::new(alloc);
+    let mut entries = ImageList::new(alloc);
     let mut number = 0u32;
     for entry in names.entries.iter() {
         let next = added(number, 1)?;

@@ -14,7 +14,7 @@ use legality_beside::{first_fault_in, found_beside, packages_judged};
 use legality_contexts::{indexes_of, known_with};
 use legality_pragmas::{deadline_ranges_of, in_force_by, pragmas_judged};
 use legality_units::units_used;
-use profile_machine::Sequence;
+use profile_machine::ImageList;
 use std::alloc::Global;
 use world_tables::List;
 
@@ -99,10 +99,10 @@ fn same_again(found: &List<Finding>) -> Result<List<Finding>, NoMemory>
 }
 
 /// The same findings as one piece of memory.
-fn in_one_piece(alloc: Global, found: &List<Finding>) -> Result<Sequence<Finding>, NoMemory>
+fn in_one_piece(alloc: Global, found: &List<Finding>) -> Result<ImageList<Finding>, NoMemory>
     ensures { IfOk result (λ all. all ≡ found.now) }
 {
-    let mut all = Sequence::new(alloc);
+    let mut all = ImageList::new(alloc);
     for finding in found.iter() {
         all.push(*finding)?;
     }

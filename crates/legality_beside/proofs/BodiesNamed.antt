@@ -4,7 +4,7 @@ use Rattle.std.specs.List.{list_any}
 use Rattle.ada_legality.specs.Packages.{bodies_in_package, bodies_of_packages, body_named_in, denote_entity, is_completed_here, is_first_of, needs_body, package_needs_body, private_part}
 use Rattle.ada_legality.specs.Values.{is_entity}
 use Rattle.ada_regions.specs.Names.{entity_denoted}
-use Rattle.ada_regions.specs.Words.{nothing_there}
+use Rattle.ann_base.specs.Lists.{is_empty}
 use Rattle.ada_regions.specs.declared.table.Names.{Names}
 use Rattle.ada_tree.specs.declared.declarations.Declaration.{Declaration}
 use Rattle.ada_tree.specs.declared.names.Identifier.{Identifier}
@@ -17,21 +17,21 @@ use Rattle.ada_tree.specs.declared.declarations.Declaration.TheVariants as decla
 use Rattle.ada_tree.specs.declared.units.Package.TheVariants as packages
 use Rattle.legality_beside.specs.Bodies.{body_of, denoted_in, first_among, first_or, has_body_among, has_entity, lacks_body, package_lacks}
 
-one_more : (n : Names) (e : ℕ) (i : Identifier) (rest : List Identifier) (b : Bool) → not (nothing_there (denote_entity n e rest)) ≡ has_entity (map (denoted_in n) rest) e → not (nothing_there (cond b (i ∷ denote_entity n e rest) (denote_entity n e rest))) ≡ b || has_entity (map (denoted_in n) rest) e
+one_more : (n : Names) (e : ℕ) (i : Identifier) (rest : List Identifier) (b : Bool) → not (is_empty (denote_entity n e rest)) ≡ has_entity (map (denoted_in n) rest) e → not (is_empty (cond b (i ∷ denote_entity n e rest) (denote_entity n e rest))) ≡ b || has_entity (map (denoted_in n) rest) e
 one_more n e i rest true same = refl
 one_more n e i rest false same = same
 
-has_entity_is : (n : Names) (e : ℕ) (bodies : List Identifier) → not (nothing_there (denote_entity n e bodies)) ≡ has_entity (map (denoted_in n) bodies) e
+has_entity_is : (n : Names) (e : ℕ) (bodies : List Identifier) → not (is_empty (denote_entity n e bodies)) ≡ has_entity (map (denoted_in n) bodies) e
 unfolding denote_entity
 has_entity_is n e [] = refl
 has_entity_is n e (i ∷ rest) = one_more n e i rest (is_entity e (denoted_in n i)) (has_entity_is n e rest)
 
-among_is : (n : Names) (bodies : List Identifier) (found : Option ℕ) (otherwise : Bool) → unwrap_or (option_map (λ e. not (nothing_there (denote_entity n e bodies))) found) otherwise ≡ unwrap_or (option_map (has_entity (map (denoted_in n) bodies)) found) otherwise
+among_is : (n : Names) (bodies : List Identifier) (found : Option ℕ) (otherwise : Bool) → unwrap_or (option_map (λ e. not (is_empty (denote_entity n e bodies))) found) otherwise ≡ unwrap_or (option_map (has_entity (map (denoted_in n) bodies)) found) otherwise
 among_is n bodies None otherwise = refl
 among_is n bodies (Some e) otherwise = has_entity_is n e bodies
 
 -- one of the bodies is of the entity that the name denotes
-pub has_body_is : (n : Names) (bodies : List Identifier) (i : Identifier) (otherwise : Bool) → unwrap_or (option_map (λ e. not (nothing_there (denote_entity n e bodies))) (entity_denoted n i.place)) otherwise ≡ has_body_among n (map (denoted_in n) bodies) i otherwise
+pub has_body_is : (n : Names) (bodies : List Identifier) (i : Identifier) (otherwise : Bool) → unwrap_or (option_map (λ e. not (is_empty (denote_entity n e bodies))) (entity_denoted n i.place)) otherwise ≡ has_body_among n (map (denoted_in n) bodies) i otherwise
 has_body_is n bodies i otherwise = among_is n bodies (entity_denoted n i.place) otherwise
 
 here : (n : Names) (bodies : List Identifier) (i : Identifier) → not (is_completed_here n bodies i) ≡ not (has_body_among n (map (denoted_in n) bodies) i true)

@@ -3,7 +3,7 @@ ghost use Rattle.std.specs.Prelude.{◌≡◌, ◌≤◌, length, take, IfOk};
 
 use ada_legality::Finding;
 use ann_base::NoMemory;
-use profile_machine::Sequence;
+use profile_machine::ImageList;
 use std::alloc::Global;
 use world_tables::List;
 
@@ -11,10 +11,10 @@ use world_tables::List;
 pub(crate) fn in_one_piece(
     alloc: Global,
     found: &List<Finding>,
-) -> Result<Sequence<Finding>, NoMemory>
+) -> Result<ImageList<Finding>, NoMemory>
     ensures { IfOk result (λ all. all ≡ found.now) }
 {
-    let mut all = Sequence::new(alloc);
+    let mut all = ImageList::new(alloc);
     for finding in found.iter() {
         all.push(*finding)?;
     }

@@ -11,7 +11,7 @@ use ada_legality::{ActualPart, FormalPart, Known, Wanted};
 use ada_regions::{AdaType, Denoted, EntityKind, Formal, Mode, Operation, Subtype};
 use ann_base::NoMemory;
 use legality_entities::{denoted_kind, operation_of};
-use profile_machine::Sequence;
+use profile_machine::ImageList;
 use std::alloc::Global;
 
 fn wanted_subtype(subtype: Option<Subtype>) -> Wanted
@@ -36,10 +36,10 @@ fn formal_part(alloc: Global, formal: &Formal) -> Result<FormalPart, NoMemory>
 }
 
 /// The formals of a subprogram or an entry of the source.
-fn formal_parts(alloc: Global, formals: &[Formal]) -> Result<Sequence<FormalPart>, NoMemory>
+fn formal_parts(alloc: Global, formals: &[Formal]) -> Result<ImageList<FormalPart>, NoMemory>
     ensures { IfOk result (λ parts. parts ≡ map formal_part formals.now) }
 {
-    let mut parts = Sequence::new(alloc);
+    let mut parts = ImageList::new(alloc);
     for formal in formals {
         parts.push(formal_part(alloc, formal)?)?;
     }
@@ -48,23 +48,23 @@ fn formal_parts(alloc: Global, formals: &[Formal]) -> Result<Sequence<FormalPart
 
 /// The formals of an entity.
 #[tactic(auto, unfolding(ada_legality::specs::Calls::formals_of_kind))]
-fn formals_of_kind(alloc: Global, kind: &EntityKind) -> Result<Sequence<FormalPart>, NoMemory>
+fn formals_of_kind(alloc: Global, kind: &EntityKind) -> Result<ImageList<FormalPart>, NoMemory>
     ensures { IfOk result (λ parts. parts ≡ formals_of_kind kind.now) }
 {
     match kind {
         EntityKind::Subprogram { formals, .. } => formal_parts(alloc, formals.as_slice()),
         EntityKind::Entry { formals, .. } => formal_parts(alloc, formals.as_slice()),
-        _ => Ok(Sequence::new(alloc)),
+        _ => Ok(ImageList::new(alloc)),
     }
 }
 
 /// An index and the argument of Image have no name.
-pub fn without_name(alloc: Global, t: Option<AdaType>) -> Result<Sequence<FormalPart>, NoMemory>
+pub fn without_name(alloc: Global, t: Option<AdaType>) -> Result<ImageList<FormalPart>, NoMemory>
     ensures { IfOk result (λ parts. parts ≡ without_name t) }
 {
-    let mut parts = Sequence::new(alloc);
+    let mut parts = ImageList::new(alloc);
     parts.push(FormalPart {
-        name: Sequence::new(alloc),
+        name: ImageList::new(alloc),
         mode: Mode::In,
         wanted: Wanted::OfType(t),
         may_be_omitted: false,
@@ -118,7 +118,7 @@ fn handler_for(t: AdaType) -> Part
 /// One more formal.
 fn with_formal(
     alloc: Global,
-    parts: &mut Sequence<FormalPart>,
+    parts: &mut ImageList<FormalPart>,
     name: &[u8],
     part: Part,
     may_be_omitted: bool,
@@ -140,10 +140,10 @@ fn with_formal(
 }
 
 /// No formal.
-fn none(alloc: Global) -> Result<Sequence<FormalPart>, NoMemory>
+fn none(alloc: Global) -> Result<ImageList<FormalPart>, NoMemory>
     ensures { IfOk result (λ parts. parts ≡ []) }
 {
-    Ok(Sequence::new(alloc))
+    Ok(ImageList::new(alloc))
 }
 
 /// One formal.
@@ -152,7 +152,7 @@ fn one(
     name: &[u8],
     part: Part,
     may_be_omitted: bool,
-) -> Result<Sequence<FormalPart>, NoMemory>
+) -> Result<ImageList<FormalPart>, NoMemory>
     ensures { IfOk result
         (λ parts.
         parts
@@ -160,7 +160,7 @@ fn one(
         { name = name.now; mode = part.mode; wanted = part.wanted; may_be_omitted = may_be_omitted }
         ∷ []) }
 {
-    let mut parts = Sequence::new(alloc);
+    let mut parts = ImageList::new(alloc);
     with_formal(alloc, &mut parts, name, part, may_be_omitted)?;
     Ok(parts)
 }
@@ -173,7 +173,7 @@ fn two(
     second: &[u8],
     second_part: Part,
     may_be_omitted: bool,
-) -> Result<Sequence<FormalPart>, NoMemory>
+) -> Result<ImageList<FormalPart>, NoMemory>
     ensures { IfOk result
         (λ parts.
         parts
@@ -190,7 +190,7 @@ fn two(
           may_be_omitted = may_be_omitted;
         } ∷ []) }
 {
-    let mut parts = Sequence::new(alloc);
+    let mut parts = ImageList::new(alloc);
     with_formal(alloc, &mut parts, first, first_part, false)?;
     with_formal(alloc, &mut parts, second, second_part, may_be_omitted)?;
     Ok(parts)
@@ -210,7 +210,7 @@ fn set_handler(
     of_type: AdaType,
     is_span: bool,
     moment: AdaType,
-) -> Result<Sequence<FormalPart>, NoMemory>
+) -> Result<ImageList<FormalPart>, NoMemory>
     ensures { IfOk result
         (λ parts.
         parts
@@ -234,7 +234,7 @@ fn set_handler(
           may_be_omitted = false;
         } ∷ []) }
 {
-    let mut parts = Sequence::new(alloc);
+    let mut parts = ImageList::new(alloc);
     with_formal(alloc, &mut parts, name, changed(of_type), false)?;
     let second = input_of(Some(moment_type(is_span, moment)));
     with_formal(alloc, &mut parts, moment_name(is_span), second, false)?;
@@ -248,7 +248,7 @@ fn formals_of_operation(
     alloc: Global,
     operation: Operation,
     is_span: bool,
-) -> Result<Sequence<FormalPart>, NoMemory>
+) -> Result<ImageList<FormalPart>, NoMemory>
     ensures { IfOk result (λ parts. parts ≡ formals_of_operation operation is_span) }
 {
     match operation {
@@ -392,7 +392,7 @@ fn formals_of_item(
     alloc: Global,
     operation: Option<Operation>,
     actuals: &[ActualPart],
-) -> Result<Sequence<FormalPart>, NoMemory>
+) -> Result<ImageList<FormalPart>, NoMemory>
     ensures { IfOk result (λ parts. parts ≡ formals_of_item operation actuals.now) }
 {
     match operation {
@@ -410,7 +410,7 @@ pub fn formals_denoted(
     known: &Known<'_, '_>,
     actuals: &[ActualPart],
     denoted: Denoted,
-) -> Result<Sequence<FormalPart>, NoMemory>
+) -> Result<ImageList<FormalPart>, NoMemory>
     ensures { IfOk result (λ parts. parts ≡ formals_denoted known.now actuals.now denoted) }
 {
     match denoted {

@@ -17,7 +17,7 @@ use legality_parts::legality_reads::{
 };
 use legality_parts::legality_types::{broken_unless, discrete_if, operand_type};
 use legality_parts::not_static;
-use profile_machine::Sequence;
+use profile_machine::ImageList;
 use std::alloc::Global;
 use std::marker::Model;
 use world_tables::List;
@@ -58,7 +58,7 @@ impl<'t> ChoiceOf<'t> {
 
 /// Adds the choices of an alternative.
 pub fn add_choices<'t>(
-    all: &mut Sequence<ChoiceOf<'t>>,
+    all: &mut ImageList<ChoiceOf<'t>>,
     choices: &'t OneOrMore<Choice>,
 ) -> Result<(), NoMemory>
     ensures { OnOk result (all.new ≡ all.old ++ all_of choices.now) }
@@ -239,10 +239,10 @@ pub fn choices_read(
     known: &Known<'_, '_>,
     t: Option<AdaType>,
     choices: &[ChoiceOf<'_>],
-) -> Result<Sequence<ChoicePart>, NoMemory>
+) -> Result<ImageList<ChoicePart>, NoMemory>
     ensures { Reads (choices_read t choices.now known.now) found.old found.new result }
 {
-    let mut parts = Sequence::new(alloc);
+    let mut parts = ImageList::new(alloc);
     for choice in choices {
         parts.push(choice_read(alloc, found, known, t, choice.get())?)?;
     }

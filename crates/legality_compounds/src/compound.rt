@@ -15,7 +15,7 @@ use legality_handlers::legality_entities::with_around;
 use legality_leaving::legality_expressions::Readable;
 use legality_leaving::legality_parts::condition_found;
 use legality_statements::{iteration_found, with_iteration};
-use profile_machine::Sequence;
+use profile_machine::ImageList;
 use std::alloc::Global;
 use world_tables::List;
 
@@ -74,7 +74,7 @@ impl<W, Q: Judge<W>> Judge<W> for CaseAlternative<Q> {
 
 /// Adds the choices of the alternatives behind the first.
 fn add_further<'t, Q>(
-    choices: &mut Sequence<ChoiceOf<'t>>,
+    choices: &mut ImageList<ChoiceOf<'t>>,
     alternatives: &'t [CaseAlternative<Q>],
 ) -> Result<(), NoMemory>
     ensures { OnOk result
@@ -91,10 +91,10 @@ fn add_further<'t, Q>(
 fn choices_of_case<'t, W, Q: Judge<W>>(
     alloc: Global,
     statement: &'t Case<Q>,
-) -> Result<Sequence<ChoiceOf<'t>>, NoMemory>
+) -> Result<ImageList<ChoiceOf<'t>>, NoMemory>
     ensures { IfOk result (λ choices. choices ≡ choices_of_case Q.judged statement.now) }
 {
-    let mut choices = Sequence::new(alloc);
+    let mut choices = ImageList::new(alloc);
     add_choices(&mut choices, &statement.alternatives.first.choices)?;
     add_further(&mut choices, statement.alternatives.others.as_slice())?;
     Ok(choices)

@@ -17,7 +17,7 @@ use legality_handlers::legality_entities::with_around;
 use legality_handlers::legality_types::broken_if;
 use legality_leaving::legality_choices::selective_accept_judged;
 use legality_statements::{delay_found, entry_call_found, guard_found, trigger_found};
-use profile_machine::Sequence;
+use profile_machine::ImageList;
 use std::alloc::Global;
 use world_tables::List;
 
@@ -136,10 +136,10 @@ fn alternative_part<Q>(alternative: &SelectAlternative<Q>) -> AlternativePart
 fn alternative_parts<Q>(
     alloc: Global,
     alternatives: &OneOrMore<SelectAlternative<Q>>,
-) -> Result<Sequence<AlternativePart>, NoMemory>
+) -> Result<ImageList<AlternativePart>, NoMemory>
     ensures { IfOk result (λ parts. parts ≡ map alternative_part (all_of alternatives.now)) }
 {
-    let mut parts = Sequence::new(alloc);
+    let mut parts = ImageList::new(alloc);
     parts.push(alternative_part(&alternatives.first))?;
     for alternative in alternatives.others.as_slice() {
         parts.push(alternative_part(alternative))?;

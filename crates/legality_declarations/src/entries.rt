@@ -11,7 +11,7 @@ use ann_base::NoMemory;
 use legality_parts::legality_types::broken_if;
 use legality_parts::parameters_found;
 use legality_profiles::declaration_noted;
-use profile_machine::Sequence;
+use profile_machine::ImageList;
 use std::alloc::Global;
 use std::marker::Model;
 use world_tables::List;
@@ -52,7 +52,7 @@ impl<'t> EntryOf<'t> {
 
 /// Adds entry declarations.
 fn add_entries<'t>(
-    entries: &mut Sequence<EntryOf<'t>>,
+    entries: &mut ImageList<EntryOf<'t>>,
     declarations: &'t [EntryDeclaration],
 ) -> Result<(), NoMemory>
     ensures { OnOk result (entries.new ≡ entries.old ++ declarations.now) }
@@ -67,10 +67,10 @@ fn add_entries<'t>(
 pub fn entries_of_definition<'t>(
     alloc: Global,
     definition: &'t Option<TaskDefinition>,
-) -> Result<Sequence<EntryOf<'t>>, NoMemory>
+) -> Result<ImageList<EntryOf<'t>>, NoMemory>
     ensures { IfOk result (λ entries. entries ≡ entries_of_definition definition.now) }
 {
-    let mut entries = Sequence::new(alloc);
+    let mut entries = ImageList::new(alloc);
     match definition {
         None => Ok(entries),
         Some(definition) => {
@@ -82,7 +82,7 @@ pub fn entries_of_definition<'t>(
 
 /// Adds the entry that an operation is.
 fn add_operation<'t>(
-    entries: &mut Sequence<EntryOf<'t>>,
+    entries: &mut ImageList<EntryOf<'t>>,
     operation: &'t ProtectedOperation,
 ) -> Result<(), NoMemory>
     ensures { OnOk result (entries.new ≡ entries.old ++ entry_of_operation operation.now) }
@@ -100,10 +100,10 @@ fn add_operation<'t>(
 pub fn entries_of_operations<'t>(
     alloc: Global,
     operations: &'t [ProtectedOperation],
-) -> Result<Sequence<EntryOf<'t>>, NoMemory>
+) -> Result<ImageList<EntryOf<'t>>, NoMemory>
     ensures { IfOk result (λ entries. entries ≡ flat_map entry_of_operation operations.now) }
 {
-    let mut entries = Sequence::new(alloc);
+    let mut entries = ImageList::new(alloc);
     for operation in operations {
         add_operation(&mut entries, operation)?;
     }

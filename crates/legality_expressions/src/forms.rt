@@ -20,7 +20,7 @@ use legality_values::legality_reads::{
     signed_judged, signed_read, text_read,
 };
 use legality_values::{attribute_judged, attribute_read, name_judged, name_read};
-use profile_machine::{Sequence, Text};
+use profile_machine::{ImageList, Text};
 use std::alloc::Global;
 use world_tables::List;
 
@@ -120,10 +120,10 @@ pub fn arguments_read<E: Readable>(
     found: &mut List<Finding>,
     known: &Known<'_, '_>,
     arguments: &[Argument<E>],
-) -> Result<Sequence<ActualPart>, NoMemory>
+) -> Result<ImageList<ActualPart>, NoMemory>
     ensures { Reads (arguments_read E.reading arguments.now known.now) found.old found.new result }
 {
-    let mut parts = Sequence::new(alloc);
+    let mut parts = ImageList::new(alloc);
     for argument in arguments {
         let read = argument.value.read(alloc, found, known)?;
         call_inside(found, &read)?;

@@ -11,7 +11,7 @@ use ann_base::{NoMemory, Place};
 use legality_expressions::legality_entities::{names_exception, same_named};
 use legality_expressions::legality_types::{broken_if, broken_unless};
 use legality_expressions::legality_values::place_of;
-use profile_machine::Sequence;
+use profile_machine::ImageList;
 use std::alloc::Global;
 use std::marker::Model;
 use world_tables::List;
@@ -48,7 +48,7 @@ impl<'t> HandledName<'t> {
 
 /// Adds the names that a handler handles.
 fn add_exceptions<'t>(
-    names: &mut Sequence<HandledName<'t>>,
+    names: &mut ImageList<HandledName<'t>>,
     exceptions: &'t HandledExceptions,
 ) -> Result<(), NoMemory>
     ensures { OnOk result (names.new ≡ names.old ++ exceptions_named exceptions.now) }
@@ -63,7 +63,10 @@ fn add_exceptions<'t>(
 }
 
 /// Adds names.
-fn add_others<'t>(names: &mut Sequence<HandledName<'t>>, others: &'t [Name]) -> Result<(), NoMemory>
+fn add_others<'t>(
+    names: &mut ImageList<HandledName<'t>>,
+    others: &'t [Name],
+) -> Result<(), NoMemory>
     ensures { OnOk result (names.new ≡ names.old ++ others.now) }
 {
     for name in others {
@@ -76,11 +79,11 @@ fn add_others<'t>(names: &mut Sequence<HandledName<'t>>, others: &'t [Name]) -> 
 fn exceptions_of<'t, Q>(
     alloc: Global,
     handlers: &'t [Handler<Q>],
-) -> Result<Sequence<HandledName<'t>>, NoMemory>
+) -> Result<ImageList<HandledName<'t>>, NoMemory>
     ensures { IfOk result
         (λ names. names ≡ flat_map exceptions_named (map (λ h. h.exceptions) handlers.now)) }
 {
-    let mut names = Sequence::new(alloc);
+    let mut names = ImageList::new(alloc);
     for handler in handlers {
         add_exceptions(&mut names, &handler.exceptions)?;
     }

@@ -13,7 +13,7 @@ use legality_choices::{aspects_from, may_be_attached, stands_before_attach, stat
 use legality_expressions::Readable;
 use legality_expressions::legality_reads::without_point;
 use legality_expressions::legality_types::broken_if;
-use profile_machine::Sequence;
+use profile_machine::ImageList;
 use std::alloc::Global;
 use world_tables::List;
 
@@ -107,10 +107,10 @@ fn aspects_read(
     found: &mut List<Finding>,
     known: &Known<'_, '_>,
     aspects: &[Aspect],
-) -> Result<Sequence<AspectPart>, NoMemory>
+) -> Result<ImageList<AspectPart>, NoMemory>
     ensures { Reads (aspects_read aspects.now known.now) found.old found.new result }
 {
-    let mut parts = Sequence::new(alloc);
+    let mut parts = ImageList::new(alloc);
     for aspect in aspects {
         parts.push(aspect_read(alloc, found, known, &aspect.name, &aspect.value)?)?;
     }
@@ -149,7 +149,7 @@ pub fn aspects_found(
     owner: AspectOwner,
     place: Place,
     aspects: &[Aspect],
-) -> Result<Sequence<AspectPart>, NoMemory>
+) -> Result<ImageList<AspectPart>, NoMemory>
     ensures { Reads (aspects_found owner place aspects.now known.now) found.old found.new result }
 {
     let parts = aspects_read(alloc, found, known, aspects)?;

@@ -8,7 +8,7 @@ use ada_legality::{Finding, Known, Rule};
 use ada_tree::{Identifier, Parameter};
 use ann_base::{NoMemory, Place};
 use legality_expressions::legality_types::broken_if;
-use profile_machine::Sequence;
+use profile_machine::ImageList;
 use std::alloc::Global;
 use std::marker::Model;
 use world_tables::List;
@@ -45,7 +45,7 @@ impl<'t> FormalName<'t> {
 
 /// Adds the names of one parameter.
 fn add_names<'t>(
-    names: &mut Sequence<FormalName<'t>>,
+    names: &mut ImageList<FormalName<'t>>,
     parameter: &'t Parameter,
 ) -> Result<(), NoMemory>
     ensures { OnOk result (names.new ≡ names.old ++ all_of parameter.now.names) }
@@ -62,10 +62,10 @@ fn add_names<'t>(
 fn formal_names_of<'t>(
     alloc: Global,
     parameters: &'t [Parameter],
-) -> Result<Sequence<FormalName<'t>>, NoMemory>
+) -> Result<ImageList<FormalName<'t>>, NoMemory>
     ensures { IfOk result (λ names. names ≡ formal_names_of parameters.now) }
 {
-    let mut names = Sequence::new(alloc);
+    let mut names = ImageList::new(alloc);
     for parameter in parameters {
         add_names(&mut names, parameter)?;
     }

@@ -3,7 +3,7 @@ ghost use Rattle.std.specs.Prelude.{◌≡◌, None, Some, cond, neg_ℤ, option
 ghost use Rattle.std.specs.List.{list_any};
 ghost use Rattle.std.specs.Str.{bytes_eq};
 ghost use Rattle.ada_lex.specs.Meaning.{decimals_of, whole_of};
-ghost use Rattle.ada_regions.specs.Words.{nothing_there};
+ghost use Rattle.ann_base.specs.Lists.{is_empty};
 ghost use Rattle.ada_tree.specs.declared.expressions.Expression.TheViews.{out-Expression};
 ghost use Rattle.ada_tree.specs.declared.expressions.ExpressionForm.TheVariants as form;
 ghost use Rattle.legality_pragmas.specs.Arguments.{signed_number};
@@ -79,7 +79,7 @@ fn whole_number(literal: &[u8]) -> Result<Option<i128>, NoMemory>
     ensures { IfOk result
         (λ n.
         n
-        ≡ cond (nothing_there (decimals_of literal.now)) (Some (pos (whole_of literal.now))) None) }
+        ≡ cond (is_empty (decimals_of literal.now)) (Some (pos (whole_of literal.now))) None) }
 {
     if decimals(literal).is_empty() {
         match whole_value(literal) {

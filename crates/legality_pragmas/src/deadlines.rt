@@ -11,7 +11,7 @@ use ada_predefined::last_priority_of;
 use ada_tree::Pragma;
 use ann_base::{NoMemory, Place};
 use image_policies::policies_of;
-use profile_machine::{Dispatching, DispatchingRange, Sequence};
+use profile_machine::{Dispatching, DispatchingRange, ImageList};
 use std::alloc::Global;
 
 /// EDF_Across_Priorities (D.2.6).
@@ -27,7 +27,7 @@ fn is_by_deadline(policy: Dispatching) -> bool
 
 /// A range with the place of its pragma, where it is dispatched by deadlines.
 fn put_range(
-    ranges: &mut Sequence<DeadlineRange>,
+    ranges: &mut ImageList<DeadlineRange>,
     place: Place,
     range: &DispatchingRange,
 ) -> Result<(), NoMemory>
@@ -46,7 +46,7 @@ fn put_range(
 }
 
 fn put_ranges(
-    ranges: &mut Sequence<DeadlineRange>,
+    ranges: &mut ImageList<DeadlineRange>,
     place: Place,
     given: &[DispatchingRange],
 ) -> Result<(), NoMemory>
@@ -62,7 +62,7 @@ fn put_ranges(
 #[tactic(auto, using(crate::proofs::Alone::alone_dispatching))]
 fn put_given(
     alloc: Global,
-    ranges: &mut Sequence<DeadlineRange>,
+    ranges: &mut ImageList<DeadlineRange>,
     last: u8,
     pragma: &Pragma,
 ) -> Result<(), NoMemory>
@@ -77,7 +77,7 @@ fn put_given(
 /// The EDF ranges of a pragma of the profile.
 fn put_pragma(
     alloc: Global,
-    ranges: &mut Sequence<DeadlineRange>,
+    ranges: &mut ImageList<DeadlineRange>,
     last: u8,
     pragma: &Pragma,
 ) -> Result<(), NoMemory>
@@ -95,10 +95,10 @@ fn ranges_under(
     alloc: Global,
     last: u8,
     pragmas: &[Pragma],
-) -> Result<Sequence<DeadlineRange>, NoMemory>
+) -> Result<ImageList<DeadlineRange>, NoMemory>
     ensures { IfOk result (λ ranges. ranges ≡ flat_map (deadlines_of last) pragmas.now) }
 {
-    let mut ranges = Sequence::new(alloc);
+    let mut ranges = ImageList::new(alloc);
     for pragma in pragmas {
         put_pragma(alloc, &mut ranges, last, pragma)?;
     }
@@ -110,7 +110,7 @@ fn ranges_under(
 pub fn deadline_ranges_of(
     alloc: Global,
     pragmas: &[Pragma],
-) -> Result<Sequence<DeadlineRange>, NoMemory>
+) -> Result<ImageList<DeadlineRange>, NoMemory>
     ensures { IfOk result (λ ranges. ranges ≡ deadline_ranges_of pragmas.now) }
 {
     ranges_under(alloc, last_priority_of(pragmas), pragmas)

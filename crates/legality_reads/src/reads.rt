@@ -1,7 +1,7 @@
 //! What expressions are read as (ISO/IEC 8652:2012, 4.4, 4.5).
 ghost use Rattle.std.specs.Prelude.{◌≡◌, cond, option_map};
 ghost use Rattle.ada_lex.specs.Meaning.{decimals_of};
-ghost use Rattle.ada_regions.specs.Words.{nothing_there};
+ghost use Rattle.ann_base.specs.Lists.{is_empty};
 ghost use Rattle.ada_legality.specs.declared.reading.Typed.TheVariants as typing;
 ghost use Rattle.ada_legality.specs.Types.{operation_type_of_one, typed_if};
 ghost use Rattle.ada_legality.specs.Reading.{with_minus, plain_read, is_number, number_read, text_read, bracketed_read, signed_read, is_barrier_operator, is_not, typed_operation, typed_join, typed_sum, first_relation, with_relation, compared_read, first_term, with_term, with_factor, highest_read};
@@ -46,7 +46,7 @@ pub(crate) fn is_number(shape: Shape) -> bool
 /// The type of a number.
 fn type_of_number(text: &[u8]) -> Typed
     ensures { result
-        ≡ cond (nothing_there (decimals_of text.now)) typing.OfWholeNumber typing.OfPointedNumber }
+        ≡ cond (is_empty (decimals_of text.now)) typing.OfWholeNumber typing.OfPointedNumber }
 {
     if decimals(text).is_empty() {
         Typed::OfWholeNumber

@@ -1,7 +1,8 @@
 //! Aborts and requeues (ISO/IEC 8652:2012, 9.5.4, 9.8, D.7).
 ghost use Rattle.std.specs.Prelude.{◌≡◌, ◌++◌, ◌&&◌, OnOk, is_some, not, option_copied, option_map, slice_get, unwrap_or, false};
 ghost use Rattle.std.specs.List.{flat_map, list_all};
-ghost use Rattle.ada_regions.specs.Words.{all_of, and_then, nothing_there};
+ghost use Rattle.ada_regions.specs.Words.{all_of, and_then};
+ghost use Rattle.ann_base.specs.Lists.{is_empty};
 ghost use Rattle.ada_regions.specs.Names.{kind_at};
 ghost use Rattle.ada_legality.specs.Attributes.{unit_type_of_entry};
 ghost use Rattle.ada_legality.specs.Types.{same_type_if};
@@ -299,8 +300,8 @@ fn formals_of_entity<'n>(known: &'n Known<'_, '_>, entity: Option<u32>) -> Optio
     formals_of_entry(kind)
 }
 
-fn nothing_there<T>(items: &[T]) -> bool
-    ensures { result ≡ nothing_there items.now }
+fn is_empty<T>(items: &[T]) -> bool
+    ensures { result ≡ is_empty items.now }
 {
     match items {
         [] => true,
@@ -330,7 +331,7 @@ fn target_fits(known: &Known<'_, '_>, name: &Name, own: Option<u32>) -> bool
 {
     match formals_of_name(known, name) {
         None => false,
-        Some(target) => nothing_there(target) || own_entry_has(known, own, target),
+        Some(target) => is_empty(target) || own_entry_has(known, own, target),
     }
 }
 

@@ -1,6 +1,6 @@
 //! Subprograms (ISO/IEC 8652:2012, 6.1, 7.6, 8.3.1).
 ghost use Rattle.std.specs.Prelude.{◌≡◌, ◌++◌, OnOk};
-ghost use Rattle.ada_regions.specs.Words.{nothing_there};
+ghost use Rattle.ann_base.specs.Lists.{is_empty};
 ghost use Rattle.ada_legality.specs.CallStatements.{found_if, indication_found};
 ghost use Rattle.ada_legality.specs.Aspects.{aspects_found};
 ghost use Rattle.ada_legality.specs.Declarations.{is_parameterless_procedure, owner_of_aspects, specification_found, subprogram_found, unit_of_operation};
@@ -27,8 +27,8 @@ pub fn unit_of_operation(known: &Known<'_, '_>, name: &Identifier) -> Option<u32
     subprogram.unit
 }
 
-fn nothing_there<T>(items: &[T]) -> bool
-    ensures { result ≡ nothing_there items.now }
+fn is_empty<T>(items: &[T]) -> bool
+    ensures { result ≡ is_empty items.now }
 {
     match items {
         [] => true,
@@ -40,7 +40,7 @@ fn nothing_there<T>(items: &[T]) -> bool
 fn is_parameterless_procedure(specification: &SubprogramSpecification) -> bool
     ensures { result ≡ is_parameterless_procedure specification.now }
 {
-    specification.result.is_none() && nothing_there(specification.parameters.as_slice())
+    specification.result.is_none() && is_empty(specification.parameters.as_slice())
 }
 
 /// On what a subprogram's aspects stand.

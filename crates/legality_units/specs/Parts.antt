@@ -2,7 +2,7 @@
 use Rattle.std.specs.Prelude.{List, Option, [], ◌∷◌}
 use Rattle.ada_legality.specs.UnitsUsed.{unit_if}
 use Rattle.ada_regions.specs.Names.{denoted_at}
-use Rattle.ada_regions.specs.Words.{or_else}
+use Rattle.std.specs.Option.{option_or}
 use Rattle.ada_regions.specs.declared.entities.Denoted.{Denoted}
 use Rattle.ada_regions.specs.declared.table.Names.{Names}
 use Rattle.ada_tree.specs.declared.names.Identifier.{Identifier}
@@ -11,4 +11,4 @@ use Rattle.ada_tree.specs.declared.names.Identifier.{Identifier}
 abbrev pub unit_along : Names → List Identifier → Option Denoted → Option Denoted
 unit_along n [] before = before
 unit_along n (i ∷ rest) before =
-    unit_along n rest (or_else (unit_if n (denoted_at n i.place)) before)
+    unit_along n rest (option_or (unit_if n (denoted_at n i.place)) before)

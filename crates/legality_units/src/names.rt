@@ -1,6 +1,7 @@
 //! The unit in a name (ISO/IEC 8652:2012, 4.1.3, 10.1.6): its last part that denotes one.
 ghost use Rattle.std.specs.Prelude.{◌≡◌, ◌++◌, OnOk, option_map, unwrap_or, true};
-ghost use Rattle.ada_regions.specs.Words.{all_of, or_else};
+ghost use Rattle.ada_regions.specs.Words.{all_of};
+ghost use Rattle.std.specs.Option.{option_or};
 ghost use Rattle.ada_legality.specs.UnitsUsed.{is_usable_unit, unit_if, unit_in_parts, unit_unseen};
 ghost use Rattle.legality_units.specs.Parts.{unit_along};
 
@@ -28,7 +29,7 @@ fn unit_if(names: &Names<'_>, denoted: Option<Denoted>) -> Option<Denoted>
 
 /// The later of two units that were met, where it is there.
 fn later(unit: Option<Denoted>, before: Option<Denoted>) -> Option<Denoted>
-    ensures { result ≡ or_else unit before }
+    ensures { result ≡ option_or unit before }
 {
     match unit {
         None => before,

@@ -10,7 +10,7 @@ use Rattle.trace_text.specs.declared.events.Entry.{Entry}
 use Rattle.trace_text.specs.Queue.{Line, AtEachLine, follows_lines, queue_after, runner_after, somebody_eq}
 use Rattle.profile_machine.specs.declared.image.Image.{Image}
 use Rattle.profile_machine.specs.declared.run_data.Item.{Item}
-use Rattle.profile_machine.specs.Words.{is_empty}
+use Rattle.ann_base.specs.Lists.{is_empty}
 use Rattle.profile_machine.specs.WellFormed.{all_adjacent}
 use Rattle.profile_machine.specs.Run.{run_of}
 use Rattle.machine_laws.specs.LineKinds.{is_of_effect}

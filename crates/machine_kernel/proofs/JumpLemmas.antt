@@ -6,7 +6,7 @@ use Rattle.profile_machine.specs.declared.image.Image.{Image}
 use Rattle.profile_machine.specs.declared.run_data.Item.{Item}
 use Rattle.profile_machine.specs.declared.world.World.{World}
 use Rattle.profile_machine.specs.declared.world.appointments.Appointment.{Appointment}
-use Rattle.profile_machine.specs.Words.{is_empty}
+use Rattle.ann_base.specs.Lists.{is_empty}
 use Rattle.profile_machine.specs.Run.{run_from}
 use Rattle.machine_laws.specs.IdleLaws.{idle_at, NoneBefore, FirstNotBefore, IdleStretches}
 use Rattle.machine_kernel.specs.Jump.{sooner, first_appointed, first_item, is_idle, jumped}

@@ -9,12 +9,14 @@ use Rattle.profile_machine.specs.declared.image.Image.{Image}
 use Rattle.profile_machine.specs.declared.run_data.Item.{Item}
 use Rattle.profile_machine.specs.declared.world.World.{World}
 use Rattle.profile_machine.specs.declared.world.appointments.Appointment.{Appointment}
-use Rattle.profile_machine.specs.Words.{is_empty, same_bool}
+use Rattle.profile_machine.specs.Words.{same_bool}
+use Rattle.ann_base.specs.Lists.{is_empty}
 use Rattle.profile_machine.specs.declared.world.lines.Said.{Said}
 use Rattle.profile_machine.specs.Steps.{Step, done, changes, nothing, settled, ◌▷◌, ◌▶◌}
 use Rattle.profile_machine.specs.Appointments.{first_due, is_an_event}
 use Rattle.profile_machine.specs.Instant.{take_due, all_due, appointments_due, events_due, moments_due, timers_due, budgets_due, quantum_spent, instant, take_item, items_due, script_items, with_script, script_item, spend_quantum}
-use Rattle.profile_machine.specs.Run.{Ran, stop, or_else, stop_by_bound, stopped, then_runs, tock, run_from}
+use Rattle.profile_machine.specs.Run.{Ran, stop, stop_by_bound, stopped, then_runs, tock, run_from}
+use Rattle.std.specs.Option.{option_or}
 use Rattle.machine_laws.specs.IdleLaws.{idle_at, NoneBefore, FirstNotBefore}
 
 -- ---- nothing is due
@@ -98,7 +100,7 @@ instant-idle p w n m a h s =
 stop-idle : (p : Image) (bound : ℕ) (w : World) (n : ℕ) → n < bound → (is_empty w.appointments && is_empty w.script) ≡ false → stop p bound (idle_at w n) ≡ None
 stop-idle p bound w n a h =
     let below : eqb n bound ≡ false = grind arith in
-    ap (λ b. or_else (cond (true && b) (Some why.Stuck) None) (stop_by_bound bound (idle_at w n))) h ∙ ap (λ b. cond b (Some why.Bound) None) below
+    ap (λ b. option_or (cond (true && b) (Some why.Stuck) None) (stop_by_bound bound (idle_at w n))) h ∙ ap (λ b. cond b (Some why.Bound) None) below
 
 chosen : ℕ → ℕ → Image → ℕ → World × List Event → Option Ended → Ran
 chosen now fuel p bound i reason = elim reason [ Some r ↦ stopped now i.1 r | None ↦ then_runs now (i.1 ++ (tock p i.0).1) (run_from fuel p bound (tock p i.0).0) ]

@@ -10,9 +10,10 @@ use Rattle.trace_text.specs.Queue.{Line, RisesFrom}
 use Rattle.profile_machine.specs.declared.image.Image.{Image}
 use Rattle.profile_machine.specs.declared.run_data.Item.{Item}
 use Rattle.profile_machine.specs.declared.world.World.{World}
-use Rattle.profile_machine.specs.Words.{is_empty}
+use Rattle.ann_base.specs.Lists.{is_empty}
 use Rattle.profile_machine.specs.Instant.{instant}
-use Rattle.profile_machine.specs.Run.{Ran, opening, tock, stop, or_else, stop_by_end, stop_by_stuck, stop_by_bound, at_tick, stopped, then_runs, run_from, run, run_of}
+use Rattle.profile_machine.specs.Run.{Ran, opening, tock, stop, stop_by_end, stop_by_stuck, stop_by_bound, at_tick, stopped, then_runs, run_from, run, run_of}
+use Rattle.std.specs.Option.{option_or}
 use Rattle.machine_laws.specs.RunLaws.{AllUpTo, NoneEnds, EndsAt}
 use Rattle.machine_laws.specs.LineKinds.{AllAre, is_no_end}
 use Rattle.machine_laws.proofs.LineLemmas.{AllAre-append, instant-no_end, tock-no_end-lines, opening-no_end}
@@ -26,13 +27,13 @@ bound-reached : (b : Bool) → cond b (Some why.Bound) None ≡ None → b ≡ f
 bound-reached true e = cc
 bound-reached false e = refl
 
-later-none : (a b : Option Ended) → or_else a b ≡ None → b ≡ None
+later-none : (a b : Option Ended) → option_or a b ≡ None → b ≡ None
 later-none (Some reason) b e = cc
 later-none None b e = e
 
 going_on-below : (p : Image) (bound : ℕ) (w : World) → stop p bound w ≡ None → eqb w.time bound ≡ false
 going_on-below p bound w e =
-    bound-reached (eqb w.time bound) (later-none (stop_by_stuck w) (stop_by_bound bound w) (later-none (stop_by_end p w.ended) (or_else (stop_by_stuck w) (stop_by_bound bound w)) e))
+    bound-reached (eqb w.time bound) (later-none (stop_by_stuck w) (stop_by_bound bound w) (later-none (stop_by_end p w.ended) (option_or (stop_by_stuck w) (stop_by_bound bound w)) e))
 
 eqb-self : (n : ℕ) → eqb n n ≡ true
 eqb-self n = grind arith
@@ -55,15 +56,15 @@ by_bound-test : (b : Bool) → cond b (Some why.Bound) None ≡ Some why.Bound �
 by_bound-test true e = refl
 by_bound-test false e = cc
 
-or_else-later : (a b : Option Ended) (reason : Ended) → (a ≡ Some reason → ⊥) → or_else a b ≡ Some reason → b ≡ Some reason
-or_else-later (Some other) b reason f e = absurd (f e)
-or_else-later None b reason f e = e
+option_or-later : (a b : Option Ended) (reason : Ended) → (a ≡ Some reason → ⊥) → option_or a b ≡ Some reason → b ≡ Some reason
+option_or-later (Some other) b reason f e = absurd (f e)
+option_or-later None b reason f e = e
 
 pub stop-bound : (p : Image) (bound : ℕ) (w : World) → stop p bound w ≡ Some why.Bound → w.time ≡ bound
 stop-bound p bound w e =
     eqb-true w.time bound (by_bound-test (eqb w.time bound)
-    (or_else-later (stop_by_stuck w) (stop_by_bound bound w) why.Bound (by_stuck-other (is_empty w.places && is_empty w.appointments && is_empty w.script))
-    (or_else-later (stop_by_end p w.ended) (or_else (stop_by_stuck w) (stop_by_bound bound w)) why.Bound (by_end-other p w.ended) e)))
+    (option_or-later (stop_by_stuck w) (stop_by_bound bound w) why.Bound (by_stuck-other (is_empty w.places && is_empty w.appointments && is_empty w.script))
+    (option_or-later (stop_by_end p w.ended) (option_or (stop_by_stuck w) (stop_by_bound bound w)) why.Bound (by_end-other p w.ended) e)))
 
 -- ---- lists of lines
 

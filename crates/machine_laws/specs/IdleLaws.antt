@@ -4,7 +4,7 @@ use Rattle.profile_machine.specs.declared.image.Image.{Image}
 use Rattle.profile_machine.specs.declared.run_data.Item.{Item}
 use Rattle.profile_machine.specs.declared.world.World.{World}
 use Rattle.profile_machine.specs.declared.world.appointments.Appointment.{Appointment}
-use Rattle.profile_machine.specs.Words.{is_empty}
+use Rattle.ann_base.specs.Lists.{is_empty}
 use Rattle.profile_machine.specs.Run.{run_from}
 
 -- the world at this tick, with nobody ready, nobody who ran, and nothing that the tick before made due

@@ -5,9 +5,9 @@ ghost use Rattle.profile_machine.specs.Program.{declaration_of, expression_of, s
 
 use profile_machine::{
     Constraint, ControlledNo, ControlledType, DeclNo, Declaration, DeclarationKind, Entry, EntryNo,
-    EntryUnit, EnumerationNo, ExprNo, Expression, Image, MainProcedure, Policies, ProtectedUnit,
-    ProtectedUnitNo, Scope, ScopeNo, Sequence, Statement, StatementForm, StatementNo, Subprogram,
-    SubprogramNo, TaskUnit, TaskUnitNo, Text, Value,
+    EntryUnit, EnumerationNo, ExprNo, Expression, Image, ImageList, MainProcedure, Policies,
+    ProtectedUnit, ProtectedUnitNo, Scope, ScopeNo, Statement, StatementForm, StatementNo,
+    Subprogram, SubprogramNo, TaskUnit, TaskUnitNo, Text, Value,
 };
 use std::alloc::Global;
 use std::marker::Model;
@@ -85,8 +85,8 @@ fn items_of_none(alloc: Global) -> Nothing
 {
     Nothing {
         declaration: Declaration {
-            name: Sequence::new(alloc),
-            expanded: Sequence::new(alloc),
+            name: ImageList::new(alloc),
+            expanded: ImageList::new(alloc),
             kind: DeclarationKind::Other,
             scope: ScopeNo(0),
             place: 0,
@@ -102,14 +102,14 @@ fn items_of_none(alloc: Global) -> Nothing
         scope: Scope {
             outer: None,
             size: 0,
-            cells: Sequence::new(alloc),
+            cells: ImageList::new(alloc),
             kept: false,
             first: None,
         },
         subprogram: Subprogram {
-            name: Sequence::new(alloc),
+            name: ImageList::new(alloc),
             scope: ScopeNo(0),
-            formals: Sequence::new(alloc),
+            formals: ImageList::new(alloc),
             result: None,
             unit: None,
         },
@@ -117,23 +117,23 @@ fn items_of_none(alloc: Global) -> Nothing
             scope: ScopeNo(0),
             priority: None,
             relative_deadline: None,
-            entries: Sequence::new(alloc),
+            entries: ImageList::new(alloc),
         },
         protected_unit: ProtectedUnit {
             ceiling: 0,
-            entries: Sequence::new(alloc),
-            components: Sequence::new(alloc),
-            attached: Sequence::new(alloc),
+            entries: ImageList::new(alloc),
+            components: ImageList::new(alloc),
+            attached: ImageList::new(alloc),
         },
         entry: Entry {
-            name: Sequence::new(alloc),
+            name: ImageList::new(alloc),
             unit: EntryUnit::Task(TaskUnitNo(0)),
             place: 0,
-            formals: Sequence::new(alloc),
+            formals: ImageList::new(alloc),
             body: None,
         },
         controlled: ControlledType {
-            components: Sequence::new(alloc),
+            components: ImageList::new(alloc),
             initialize: None,
             finalize: None,
             adjust: None,

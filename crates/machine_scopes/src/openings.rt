@@ -3,7 +3,8 @@ ghost use Rattle.std.specs.Prelude.{◌≡◌, ◌+◌, ◌^◌, ◌≤◌, IfOk
 ghost use Rattle.std.specs.List.{list_all};
 ghost use Rattle.profile_machine.specs.Program.{initial_cells};
 ghost use Rattle.profile_machine.specs.Scopes.{plainly, put_cells, next_id, scope_drawn, begin_scope, region_drawn, draw_region, region_of_next, new_scope_mark, open_scope, is_id, is_library, goes_with, end_scope};
-ghost use Rattle.profile_machine.specs.Words.{is_empty, without};
+ghost use Rattle.profile_machine.specs.Words.{without};
+ghost use Rattle.ann_base.specs.Lists.{is_empty};
 
 use crate::scopes::{put_cells, same_id};
 use ann_base::{CallNo, NoMemory, RegionNo, next_number};

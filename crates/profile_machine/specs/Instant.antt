@@ -16,7 +16,8 @@ use Rattle.profile_machine.specs.declared.world.appointments.TimerSetting.{Timer
 use Rattle.profile_machine.specs.declared.world.appointments.Due.TheVariants as due_for
 use Rattle.profile_machine.specs.declared.world.calls.Outcome.TheVariants as call_ended
 use Rattle.profile_machine.specs.declared.world.tasks.Waiting.TheVariants as waits_for
-use Rattle.profile_machine.specs.Words.{edit_at, is_empty}
+use Rattle.profile_machine.specs.Words.{edit_at}
+use Rattle.ann_base.specs.Lists.{is_empty}
 use Rattle.profile_machine.specs.Program.{next_of, is_robin_level}
 use Rattle.profile_machine.specs.declared.world.lines.Part.TheVariants.{Own}
 use Rattle.profile_machine.specs.Steps.{Step, Move, says, changes, looks, when, nothing, for_some, for_each, settles, rests, watches, ◌▷◌, ◌▶◌}

@@ -1,5 +1,6 @@
 -- The timed run: instants and tocks in turn from the opening world, up to the first instant at which it stops.
 use Rattle.std.specs.Prelude.{ℕ, zero, suc, ◌+◌, ◌-◌, ℤ, pos, false, cond, ◌&&◌, List, [], ◌∷◌, ◌++◌, Option, Some, None, eqb, replicate}
+use Rattle.std.specs.Option.{option_or}
 use Rattle.ann_base.specs.declared.exceptions.Raised.{Raised}
 use Rattle.trace_text.specs.declared.events.Event.{Event}
 use Rattle.trace_text.specs.declared.events.Event.TheVariants as line
@@ -18,7 +19,8 @@ use Rattle.profile_machine.specs.declared.world.appointments.Release.{Release}
 use Rattle.profile_machine.specs.declared.world.marks.Purpose.TheVariants as opened_for
 use Rattle.profile_machine.specs.declared.world.tasks.Waiting.TheVariants as waits_for
 use Rattle.profile_machine.specs.declared.world.tasks.State.TheVariants.{Runnable, Blocked}
-use Rattle.profile_machine.specs.Words.{same_who, same_option, is_empty}
+use Rattle.profile_machine.specs.Words.{same_who, same_option}
+use Rattle.ann_base.specs.Lists.{is_empty}
 use Rattle.profile_machine.specs.Program.{interrupt_priority}
 use Rattle.profile_machine.specs.declared.world.lines.Line.TheVariants.{New}
 use Rattle.profile_machine.specs.declared.world.lines.Part.TheVariants.{Own}
@@ -86,12 +88,8 @@ stop_by_stuck w = cond (is_empty w.places && is_empty w.appointments && is_empty
 abbrev pub stop_by_bound : ℕ → World → Option Ended
 stop_by_bound bound w = cond (eqb w.time bound) (Some why.Bound) None
 
-abbrev pub or_else : Option Ended → Option Ended → Option Ended
-or_else (Some stop) later = Some stop
-or_else None later = later
-
 abbrev pub stop : Image → ℕ → World → Option Ended
-stop p bound w = or_else (stop_by_end p w.ended) (or_else (stop_by_stuck w) (stop_by_bound bound w))
+stop p bound w = option_or (stop_by_end p w.ended) (option_or (stop_by_stuck w) (stop_by_bound bound w))
 
 -- ---- a tock: the choice, and one tick
 

@@ -18,7 +18,8 @@ use Rattle.profile_machine.specs.declared.world.scopes.Beginning.{Beginning}
 use Rattle.profile_machine.specs.declared.world.objects.Object.{Object}
 use Rattle.profile_machine.specs.declared.world.Drawn.{Drawn}
 use Rattle.profile_machine.specs.declared.world.marks.Mark.TheVariants.{Scope, Handled, InProtected, InAccept, Abortable, InInitialize, InFinalize, InAssign}
-use Rattle.profile_machine.specs.Words.{same_id, same_scope, without, edit_where, some_where, is_empty}
+use Rattle.profile_machine.specs.Words.{same_id, same_scope, without, edit_where, some_where}
+use Rattle.ann_base.specs.Lists.{is_empty}
 use Rattle.profile_machine.specs.Program.{scope_of, initial_cells}
 use Rattle.profile_machine.specs.Frames.{push, new_frame, frames_of}
 

@@ -24,7 +24,8 @@ use Rattle.profile_machine.specs.declared.world.calls.Sending.{Sending}
 use Rattle.profile_machine.specs.declared.world.tasks.Cause.TheVariants as inherited_by
 use Rattle.profile_machine.specs.declared.world.calls.Outcome.TheVariants as call_ended
 use Rattle.profile_machine.specs.declared.world.tasks.Waiting.TheVariants as waits_for
-use Rattle.profile_machine.specs.Words.{same_call, same_who, is_the, without, is_empty}
+use Rattle.profile_machine.specs.Words.{same_call, same_who, is_the, without}
+use Rattle.ann_base.specs.Lists.{is_empty}
 use Rattle.profile_machine.specs.declared.world.lines.Part.{Part}
 use Rattle.profile_machine.specs.declared.world.lines.Part.TheVariants.{Own, TheFinish, TheBlock}
 use Rattle.profile_machine.specs.Steps.{Step, says, changes, looks, when, nothing, ◌▷◌}

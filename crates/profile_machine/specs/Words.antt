@@ -78,10 +78,6 @@ some_where false x = None
 
 -- ---- lists
 
-abbrev pub is_empty : {X : Type 0} → List X → Bool
-is_empty [] = true
-is_empty (x ∷ xs) = false
-
 abbrev pub first_of_list : {X : Type 0} → List X → Option X
 first_of_list [] = None
 first_of_list (x ∷ xs) = Some x

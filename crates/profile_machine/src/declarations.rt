@@ -1,15 +1,15 @@
 //! Declarations, scopes and units (clauses 3, 6, 7, 9).
 use crate::expressions::ObjectName;
+use crate::image_lists::ImageList;
 use crate::numbers::{
     ControlledNo, DeclNo, EntryNo, ExprNo, ProtectedUnitNo, ScopeNo, StatementNo, SubprogramNo,
     TaskUnitNo,
 };
-use crate::sequence::Sequence;
 use crate::values::{CellRun, Constraint, Value};
 use ann_base::{Level, Raised};
 
 /// A text of bytes 32 to 126.
-pub type Text = Sequence<u8>;
+pub type Text = ImageList<u8>;
 
 /// The initial value of an object or component.
 #[derive(Clone, Copy)]
@@ -88,7 +88,7 @@ pub struct Scope {
     /// Those of its cells that do not begin as `Whole(0)`, by the values that objects have without an initial value;
     /// the components of protected and controlled objects are among them. The first cell of a task, protected or
     /// controlled object, an event, a timer or a budget begins as `Whole(0)`.
-    pub cells: Sequence<CellRun>,
+    pub cells: ImageList<CellRun>,
     /// Whether its declarations hold a task or a controlled object.
     pub kept: bool,
     /// The first action in it. Its actions are, in this order: those of its declarations; in a task's body the end of
@@ -124,7 +124,7 @@ pub struct Subprogram {
     /// The simple name in lower case.
     pub name: Text,
     pub scope: ScopeNo,
-    pub formals: Sequence<Formal>,
+    pub formals: ImageList<Formal>,
     /// The range of a function's result; a procedure has none.
     pub result: Option<Constraint>,
     /// The protected unit of which it is an operation.
@@ -153,7 +153,7 @@ pub struct TaskUnit {
     /// The aspect Relative_Deadline (D.2.6).
     pub relative_deadline: Option<ExprNo>,
     /// Its entries in the order of the text.
-    pub entries: Sequence<EntryNo>,
+    pub entries: ImageList<EntryNo>,
 }
 
 // Written out, so that it is proved once, and not by each function that drops one.
@@ -179,9 +179,9 @@ pub struct Attachment {
 pub struct ProtectedUnit {
     pub ceiling: Level,
     /// Its entries in the order of the text.
-    pub entries: Sequence<EntryNo>,
-    pub components: Sequence<DeclNo>,
-    pub attached: Sequence<Attachment>,
+    pub entries: ImageList<EntryNo>,
+    pub components: ImageList<DeclNo>,
+    pub attached: ImageList<Attachment>,
 }
 
 // Written out, so that it is proved once, and not by each function that drops one.
@@ -217,7 +217,7 @@ pub struct Entry {
     pub unit: EntryUnit,
     /// Its place among the entries of its unit, from 0.
     pub place: u32,
-    pub formals: Sequence<Formal>,
+    pub formals: ImageList<Formal>,
     /// The body of a protected entry.
     pub body: Option<EntryBody>,
 }
@@ -238,7 +238,7 @@ impl Drop for Entry {
 /// A controlled type with the operations that it overrides (7.6). The components of its objects stand behind one
 /// cell of their own.
 pub struct ControlledType {
-    pub components: Sequence<DeclNo>,
+    pub components: ImageList<DeclNo>,
     pub initialize: Option<SubprogramNo>,
     pub finalize: Option<SubprogramNo>,
     pub adjust: Option<SubprogramNo>,
@@ -259,7 +259,7 @@ impl Drop for ControlledType {
 /// An enumeration type: its literals in upper case, as 'Image gives them (3.5).
 #[derive(Drop)]
 pub struct Enumeration {
-    pub literals: Sequence<Text>,
+    pub literals: ImageList<Text>,
 }
 
 /// What a handler handles (11.2).
@@ -272,7 +272,7 @@ pub enum ExceptionChoice {
 /// An exception handler.
 #[derive(Drop)]
 pub struct Handler {
-    pub choices: Sequence<ExceptionChoice>,
+    pub choices: ImageList<ExceptionChoice>,
     /// Its first statement.
     pub first: StatementNo,
 }

@@ -4,8 +4,8 @@ use crate::declarations::{
     Text,
 };
 use crate::expressions::Expression;
+use crate::image_lists::ImageList;
 use crate::numbers::ScopeNo;
-use crate::sequence::Sequence;
 use crate::statements::Statement;
 use ann_base::Level;
 
@@ -35,7 +35,7 @@ pub enum Queuing {
 /// What the pragmas of a source ask for at run time (D.2.2, D.4, D.7).
 pub struct Policies {
     /// The ranges that have a policy; every other priority is of FIFO_Within_Priorities.
-    pub dispatching: Sequence<DispatchingRange>,
+    pub dispatching: ImageList<DispatchingRange>,
     pub queuing: Queuing,
     /// Max_Entry_Queue_Length.
     pub longest_queue: Option<u32>,
@@ -77,16 +77,16 @@ impl Drop for MainProcedure {
 
 /// A program whose names are numbers. The items of its lists name one another by their numbers.
 pub struct Image {
-    pub declarations: Sequence<Declaration>,
-    pub expressions: Sequence<Expression>,
-    pub statements: Sequence<Statement>,
-    pub scopes: Sequence<Scope>,
-    pub subprograms: Sequence<Subprogram>,
-    pub task_units: Sequence<TaskUnit>,
-    pub protected_units: Sequence<ProtectedUnit>,
-    pub entries: Sequence<Entry>,
-    pub controlled_types: Sequence<ControlledType>,
-    pub enumerations: Sequence<Enumeration>,
+    pub declarations: ImageList<Declaration>,
+    pub expressions: ImageList<Expression>,
+    pub statements: ImageList<Statement>,
+    pub scopes: ImageList<Scope>,
+    pub subprograms: ImageList<Subprogram>,
+    pub task_units: ImageList<TaskUnit>,
+    pub protected_units: ImageList<ProtectedUnit>,
+    pub entries: ImageList<Entry>,
+    pub controlled_types: ImageList<ControlledType>,
+    pub enumerations: ImageList<Enumeration>,
     pub policies: Policies,
     /// The environment's scope, whose first action is the first of the elaboration of the library packages.
     pub environment: ScopeNo,

@@ -4,9 +4,9 @@
 mod declarations;
 mod expressions;
 mod image;
+mod image_lists;
 mod numbers;
 mod run_data;
-mod sequence;
 mod short;
 mod statements;
 mod values;
@@ -19,12 +19,12 @@ pub use declarations::{
 };
 pub use expressions::{BinaryOperator, Expression, ObjectName, UnaryOperator, VariableName};
 pub use image::{Dispatching, DispatchingRange, Image, MainProcedure, Policies, Queuing};
+pub use image_lists::ImageList;
 pub use numbers::{
     ControlledNo, DeclNo, EntryNo, EnumerationNo, ExprNo, ProtectedUnitNo, ScopeNo, StatementNo,
     SubprogramNo, TaskUnitNo,
 };
 pub use run_data::{Item, Leaving};
-pub use sequence::Sequence;
 pub use short::{Actuals, SelectAlternatives};
 pub use statements::{
     Actual, Callee, CaseAlternative, Choice, Destination, EntryOwner, HandlerName, Piece,

@@ -3,8 +3,8 @@ ghost use Rattle.std.specs.Prelude.{◌≡◌, None};
 
 use crate::declarations::{Handler, Text};
 use crate::expressions::{ObjectName, VariableName};
+use crate::image_lists::ImageList;
 use crate::numbers::{DeclNo, EntryNo, EnumerationNo, ExprNo, ScopeNo, StatementNo, SubprogramNo};
-use crate::sequence::Sequence;
 use crate::short::{Actuals, SelectAlternatives};
 use crate::values::Value;
 use ann_base::Raised;
@@ -45,7 +45,7 @@ pub enum Choice {
 /// An alternative of a case statement.
 #[derive(Drop)]
 pub struct CaseAlternative {
-    pub choices: Sequence<Choice>,
+    pub choices: ImageList<Choice>,
     pub first: StatementNo,
 }
 
@@ -190,7 +190,7 @@ pub enum StatementForm {
     /// A sequence with handlers begins (11.2). It is no action: it is opened behind the one before. Its next stands
     /// behind the whole sequence, and the statements of its handlers lead there; its own statements end it.
     Handled {
-        handlers: Sequence<Handler>,
+        handlers: ImageList<Handler>,
         first: StatementNo,
     },
     Null,
@@ -218,7 +218,7 @@ pub enum StatementForm {
     /// A case statement (5.4).
     Case {
         selector: ExprNo,
-        alternatives: Sequence<CaseAlternative>,
+        alternatives: ImageList<CaseAlternative>,
     },
     /// A loop without an iteration scheme, at each turn (5.5). `within` is the statement whose construct is the
     /// innermost that is open around the loop; none directly in a body.
@@ -283,7 +283,7 @@ pub enum StatementForm {
         destination: Destination,
     },
     /// Ada.Text_IO.Put_Line (A.10.7).
-    PutLine(Sequence<Piece>),
+    PutLine(ImageList<Piece>),
     /// An entry call (9.5.3).
     EntryCall {
         entry: EntryNo,
@@ -317,7 +317,7 @@ pub enum StatementForm {
         otherwise: Option<StatementNo>,
     },
     /// An abort of the named tasks (9.8).
-    Abort(Sequence<DeclNo>),
+    Abort(ImageList<DeclNo>),
     /// A requeue (9.5.4).
     Requeue {
         entry: EntryNo,

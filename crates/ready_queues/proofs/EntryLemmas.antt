@@ -5,7 +5,8 @@ use Rattle.std.specs.List.{list_any, AllByRecursion}
 use Rattle.std.specs.List as std
 use Rattle.std.proofs.lemmas.Map.Steps.{length-le_from_distinct_below}
 use Rattle.ann_base.specs.declared.identities.Slot.{Slot}
-use Rattle.ready_queues.specs.Entries.{Entry, IsSlot, holds, place_of, key_of, removed, rekeyed, IsDistinct, AreSlots}
+use Rattle.ready_queues.specs.Entries.{Entry, holds, place_of, key_of, removed, rekeyed, IsDistinct, AreSlots}
+use Rattle.ann_base.specs.Slots.{IsSlot}
 
 pub holds-insert : {K : Type 0} (u t : Slot) (key : K) (i : ℕ) (es : List (Entry K)) → holds u (insert es i (t, key)) ≡ (eqb t.0 u.0 || holds u es)
 holds-insert u t key zero [] = refl

@@ -6,7 +6,8 @@ use Rattle.std.proofs.lemmas.List.{map-set, get_or-map, length-map}
 use Rattle.std.proofs.Math.Seq.{map-set_same}
 use Rattle.std.proofs.Math.Seq.{take-append_seam}
 use Rattle.ann_base.specs.declared.identities.Slot.{Slot}
-use Rattle.ready_queues.specs.Entries.{Entry, IsSlot, IsOrdered, holds, head_of, placed_tail, placed_head, removed, rekeyed}
+use Rattle.ready_queues.specs.Entries.{Entry, IsOrdered, holds, head_of, placed_tail, placed_head, removed, rekeyed}
+use Rattle.ann_base.specs.Slots.{IsSlot}
 use Rattle.ready_queues.specs.Disciplines.{Discipline, is_spent_at}
 use Rattle.ready_queues.proofs.EntryLemmas.{removed-absent, holds-removed, holds-rekeyed}
 use Rattle.ready_queues.proofs.RankLemmas.{holds-placed_tail, holds-placed_head, IsOrdered-placed_tail, IsOrdered-placed_head, IsOrdered-removed, IsOrdered-rekeyed}

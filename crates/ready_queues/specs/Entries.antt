@@ -1,14 +1,10 @@
 -- A level as a list of entries: who stands there, in order, each with a key. A key has a rank, a whole number.
-use Rattle.std.specs.Prelude.{◌≡◌, ◌<◌, ◌≤ℤ◌, ◌+◌, ℕ, ℤ, Bool, true, false, ◌==◌, ◌||◌, if◌then◌else◌, List, [], ◌∷◌, Option, Some, None, int_lt}
+use Rattle.std.specs.Prelude.{◌≡◌, ◌≤ℤ◌, ◌+◌, ℕ, ℤ, Bool, true, false, ◌==◌, ◌||◌, if◌then◌else◌, List, [], ◌∷◌, Option, Some, None, int_lt}
 use Rattle.ann_base.specs.declared.identities.Slot.{Slot}
-use Rattle.ann_base.specs.declared.identities.TheConstants.{SLOTS}
+use Rattle.ann_base.specs.Slots.{IsSlot}
 
 abbrev pub Entry : Type 0 → Type 0
 Entry K = Slot × K
-
--- one of the slots
-abbrev pub IsSlot : Slot → Type 0
-IsSlot t = t.0 < SLOTS
 
 -- whether t stands there
 abbrev pub holds : {K : Type 0} → Slot → List (Entry K) → Bool

@@ -4,7 +4,8 @@ use Rattle.std.specs.Option.{option_or}
 use Rattle.ann_base.specs.declared.identities.Slot.{Slot}
 use Rattle.ann_base.specs.declared.identities.TheConstants.{SLOTS}
 use Rattle.ready_queues.specs.declared.queues.TheConstants.{LEVELS}
-use Rattle.ready_queues.specs.Entries.{Entry, IsSlot, IsOrdered, holds, head_of, placed_tail, placed_head, removed, rekeyed}
+use Rattle.ready_queues.specs.Entries.{Entry, IsOrdered, holds, head_of, placed_tail, placed_head, removed, rekeyed}
+use Rattle.ann_base.specs.Slots.{IsSlot}
 use Rattle.ready_queues.specs.Disciplines.{Discipline, is_spent_at}
 
 -- whether t is ready, at whatever level

@@ -1,6 +1,7 @@
 //! The queue of one priority level: its entries in a vector that is reserved once.
 ghost use Rattle.std.specs.Prelude.{◌≡◌, ◌≤◌, [], length, IfOk, Some, true, false, insert};
-ghost use Rattle.ready_queues.specs.Entries.{IsSlot, holds, head_of, key_of, removed, rekeyed, place_of, IsDistinct};
+ghost use Rattle.ready_queues.specs.Entries.{holds, head_of, key_of, removed, rekeyed, place_of, IsDistinct};
+ghost use Rattle.ann_base.specs.Slots.{IsSlot};
 
 use ann_base::{NoMemory, SLOTS, Slot};
 use std::alloc::Global;

@@ -1,6 +1,7 @@
 //! Changes of one level among all.
 ghost use Rattle.std.specs.Prelude.{◌≡◌, ◌<◌, true, false, ◌&&◌, not, map, length, slice_set};
-ghost use Rattle.ready_queues.specs.Entries.{IsSlot, holds, removed};
+ghost use Rattle.ready_queues.specs.Entries.{holds, removed};
+ghost use Rattle.ann_base.specs.Slots.{IsSlot};
 ghost use Rattle.ready_queues.specs.Queues.{entries_at, tail_at, head_at, charged_at, is_spent_on, chosen};
 
 use crate::LevelPolicy;

@@ -1,6 +1,7 @@
 //! What a policy of one priority level is, whatever it orders by.
 ghost use Rattle.std.specs.Prelude.{◌≡◌, [], List, IfOk, Some, true, false, ◌&&◌, not};
-ghost use Rattle.ready_queues.specs.Entries.{Entry, IsSlot, IsOrdered, holds, head_of, key_of, placed_tail, placed_head, removed, rekeyed};
+ghost use Rattle.ready_queues.specs.Entries.{Entry, IsOrdered, holds, head_of, key_of, placed_tail, placed_head, removed, rekeyed};
+ghost use Rattle.ann_base.specs.Slots.{IsSlot};
 ghost use Rattle.ready_queues.specs.Disciplines.{Discipline, is_spent_at};
 
 use ann_base::{NoMemory, Slot};

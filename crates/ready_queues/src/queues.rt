@@ -1,6 +1,7 @@
 //! The ready queues over any policy of a level.
 ghost use Rattle.std.specs.Prelude.{◌≡◌, ◌<◌, true, false, Some, map, length, ◌==◌, ◌||◌, IfOk, IfSome, IsSomeAnd, ◌&&◌, not, if◌then◌else◌};
-ghost use Rattle.ready_queues.specs.Entries.{IsSlot, holds, key_of};
+ghost use Rattle.ready_queues.specs.Entries.{holds, key_of};
+ghost use Rattle.ann_base.specs.Slots.{IsSlot};
 ghost use Rattle.ready_queues.specs.Order.{line_from, line_out, line_tail, line_head, line_first, rank_on, IsBeforeAll, StandsByOrder};
 ghost use Rattle.ready_queues.specs.declared.queues.TheConstants.{LEVELS};
 ghost use Rattle.ready_queues.specs.Queues.{is_ready, level_of, entries_at, tail_at, head_at, out_of_all, charged_at, is_spent_on, chosen, AreEmpty};

@@ -4,7 +4,7 @@ use Rattle.ann_base.specs.declared.places.Place.{Place}
 use Rattle.ada_regions.specs.declared.predefined.PredefinedUnit.{PredefinedUnit}
 use Rattle.ada_regions.specs.declared.entities.Denoted.{Denoted}
 use Rattle.ada_regions.specs.declared.entities.Denoted.TheVariants as denotes
-use Rattle.ada_regions.specs.Words.{or_else}
+use Rattle.std.specs.Option.{option_or}
 use Rattle.ada_regions.specs.Occurrences.{Occurrence, declares, declares_unit, completes}
 use Rattle.ada_regions.specs.Visibility.{in_standard}
 use Rattle.source_laws.specs.Positions.{Before, around, nearest}
@@ -38,13 +38,13 @@ place_declared (o ∷ before) = defining_place o
 -- in a region: where the name is declared before here; or that it is hidden, since its declaration has not ended
 abbrev pub declared_in_region : ℕ → List ℕ → Before → Option (Option Place)
 declared_in_region region name before =
-    or_else (option_map place_declared (declaration number_of_innermost region name before))
+    option_or (option_map place_declared (declaration number_of_innermost region name before))
     (option_map (λ b. None) (nearest (hides_name number_of_innermost region name) before))
 
 -- the innermost of these regions that has the name counts, and that of Standard last
 abbrev pub declared_around : List ℕ → Before → List Before → Option (Option Place)
 declared_around name before [] = declared_in_region 0 name before
-declared_around name before (b ∷ bs) = or_else (declared_in_region (number_of b) name before) (declared_around name before bs)
+declared_around name before (b ∷ bs) = option_or (declared_in_region (number_of b) name before) (declared_around name before bs)
 
 abbrev pub meaning_if_seen : Option Place → Meaning
 meaning_if_seen None = is_nothing
@@ -53,4 +53,4 @@ meaning_if_seen (Some place) = is_declared place
 -- by nesting alone
 abbrev pub direct_meaning : ℕ → List ℕ → Before → Option Meaning
 direct_meaning last name before =
-    or_else (option_map meaning_if_seen (declared_around name before (around before))) (option_map meaning_of (in_standard last name))
+    option_or (option_map meaning_if_seen (declared_around name before (around before))) (option_map meaning_of (in_standard last name))

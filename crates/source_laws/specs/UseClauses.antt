@@ -6,7 +6,8 @@ use Rattle.ada_tree.specs.declared.names.Identifier.{Identifier}
 use Rattle.ada_tree.specs.declared.names.Name.{Name}
 use Rattle.ada_regions.specs.declared.predefined.PredefinedUnit.{PredefinedUnit}
 use Rattle.ada_regions.specs.declared.entities.Denoted.{Denoted}
-use Rattle.ada_regions.specs.Words.{or_else, and_then, same_place}
+use Rattle.ada_regions.specs.Words.{and_then, same_place}
+use Rattle.std.specs.Option.{option_or}
 use Rattle.ada_regions.specs.PredefinedUnits.{same_unit, child_unit}
 use Rattle.ada_regions.specs.Occurrences.{Occurrence, the_package, begins, ends, private_from_here, declares, declares_unit, completes, with_unit, use_package}
 use Rattle.ada_regions.specs.Visibility.{item_of, is_withed_by}
@@ -74,7 +75,7 @@ package_at place before = option_map (λ b. suc (length b)) (nearest (declares_p
 
 abbrev pub visible_by : ℕ → List ℕ → Before → Meaning → Option Meaning
 visible_by last name here (is_declared place) = and_then (package_at place here) (λ home. exported_by_package home name here)
-visible_by last name here (is_unit u) = or_else (option_map meaning_of (item_of last u name)) (and_then (child_unit u name) (child_if_withed here))
+visible_by last name here (is_unit u) = option_or (option_map meaning_of (item_of last u name)) (and_then (child_unit u name) (child_if_withed here))
 visible_by last name here (is_item u) = None
 visible_by last name here is_nothing = None
 visible_by last name here is_several = None

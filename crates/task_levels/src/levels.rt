@@ -2,7 +2,8 @@
 ghost use Rattle.std.specs.Prelude.{◌≡◌, ◌<◌, ◌≤◌, ◌+◌, true, false, None, Some, nat_lt, IfOk, IsSomeAnd, slice_set, length};
 ghost use Rattle.ann_base.specs.declared.identities.TheConstants.{SLOTS};
 ghost use Rattle.task_levels.specs.declared.levels.TheConstants.{INHERITED};
-ghost use Rattle.task_levels.specs.TaskLevels.{IsSlot, starting_at, has_cause, task_at, is_there, active_at, inherited_at, inherited_count, changed_at, inheriting, losing, based_at, deferring, settled, keeping, greatest_inherited_of};
+ghost use Rattle.task_levels.specs.TaskLevels.{starting_at, has_cause, task_at, is_there, active_at, inherited_at, inherited_count, changed_at, inheriting, losing, based_at, deferring, settled, keeping, greatest_inherited_of};
+ghost use Rattle.ann_base.specs.Slots.{IsSlot};
 
 use crate::causes::Cause;
 use crate::rows::{self, Inherited, Own};

@@ -14,7 +14,8 @@ use Rattle.ada_regions.specs.declared.predefined.PredefinedUnit.TheVariants as u
 use Rattle.ada_regions.specs.declared.types.AdaType.{AdaType}
 use Rattle.ada_regions.specs.Names.{kind_at}
 use Rattle.ada_regions.specs.PredefinedUnits.{names_of_formals}
-use Rattle.ada_regions.specs.Words.{and_then, nothing_there}
+use Rattle.ada_regions.specs.Words.{and_then}
+use Rattle.ann_base.specs.Lists.{is_empty}
 use Rattle.ada_regions.specs.Completions.{holds_of}
 use Rattle.ada_image.specs.ImageOfExpressions.{actuals_for}
 use Rattle.ada_legality.specs.declared.reading.Asked.TheVariants as asking
@@ -70,7 +71,7 @@ module _ {E : Type 0} (reading : E → Reading) (clear : E → Clear) (built : E
     operation-denoted has u o v f = go (is_function_operation o) refl v f
       where
         go : (b : Bool) → is_function_operation o ≡ b → has_values (cond b (typed_call k (denotes.Item u (items.Operation o))) (typed_constant k u (unless_index has None))) ≡ true
-            → faults_in (cond b (actuals_judged k place (formals_denoted k (actuals_of reading built k xs) (denotes.Item u (items.Operation o))) (actuals_of reading built k xs)) (cond (nothing_there (actuals_of reading built k xs)) [] (element_judged k place (actuals_of reading built k xs) (ends_of_object k (denotes.Item u (items.Operation o)))))) ≡ []
+            → faults_in (cond b (actuals_judged k place (formals_denoted k (actuals_of reading built k xs) (denotes.Item u (items.Operation o))) (actuals_of reading built k xs)) (cond (is_empty (actuals_of reading built k xs)) [] (element_judged k place (actuals_of reading built k xs) (ends_of_object k (denotes.Item u (items.Operation o)))))) ≡ []
             → operation_built same_built o (actuals_for (names_of_formals o) (map (argument_of built) xs)) k.names ≡ true
         go true q v f = operation-well reading built k clear law place (moment_is_span o (actuals_of reading built k xs)) xs w o q f
         go false q v f = absurd (without-type k u has v)
@@ -147,7 +148,7 @@ module _ {E : Type 0} (reading : E → Reading) (clear : E → Clear) (built : E
   indexed-well a rest w (Some (denotes.Unit u)) v n c i m f = absurd (unit-none true u v)
   indexed-well a rest w (Some (denotes.Item u item)) v n c i m f = item-denoted (a ∷ rest) w true u item v c f
 
-  pub denoted-well : (xs : List (Argument E)) → ArgumentsWell reading clear built law xs k → (d : Option Denoted) → DenotedWell (not (nothing_there (actuals_of reading built k xs))) xs d
+  pub denoted-well : (xs : List (Argument E)) → ArgumentsWell reading clear built law xs k → (d : Option Denoted) → DenotedWell (not (is_empty (actuals_of reading built k xs))) xs d
   unfolding arguments_read
   denoted-well [] w d = alone-well d
   denoted-well (a ∷ rest) w d = indexed-well a rest w d

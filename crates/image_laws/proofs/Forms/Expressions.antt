@@ -15,7 +15,7 @@ use Rattle.ada_tree.specs.declared.expressions.Argument.{Argument}
 use Rattle.ada_tree.specs.declared.expressions.AttributeDesignator.{AttributeDesignator}
 use Rattle.profile_machine.specs.declared.expressions.UnaryOperator.TheVariants as unary
 use Rattle.ada_regions.specs.Names.{denoted_by}
-use Rattle.ada_regions.specs.Words.{nothing_there}
+use Rattle.ann_base.specs.Lists.{is_empty}
 use Rattle.ada_image.specs.ImageOfExpressions.{relational_operator, highest_operator}
 use Rattle.ada_legality.specs.declared.reading.Read.{Read}
 use Rattle.ada_legality.specs.declared.reading.Shape.{Shape}
@@ -61,19 +61,19 @@ minus-well at r built false q w f =
 module _ {E : Type 0} (reading : E → Reading) (clear : E → Clear) (built : E → Built) (law : (e : E) → ReadLaw (reading e) (clear e) (built e)) where
   -- ---- names
 
-  same-has : (k : Known) (xs : List (Argument E)) → not (nothing_there (map (argument_of clear) xs)) ≡ not (nothing_there (actuals_of reading built k xs))
+  same-has : (k : Known) (xs : List (Argument E)) → not (is_empty (map (argument_of clear) xs)) ≡ not (is_empty (actuals_of reading built k xs))
   unfolding arguments_read
   same-has k [] = refl
   same-has k (a ∷ rest) = refl
 
-  read-has : (k : Known) (xs : List (Argument E)) → not (nothing_there (actuals_of reading built k xs)) ≡ not (nothing_there (map (argument_of reading) xs))
+  read-has : (k : Known) (xs : List (Argument E)) → not (is_empty (actuals_of reading built k xs)) ≡ not (is_empty (map (argument_of reading) xs))
   unfolding arguments_read
   read-has k [] = refl
   read-has k (a ∷ rest) = refl
 
   name-well : (name : Name) (xs : List (Argument E)) (k : Known) → faults_in ((arguments_read same_reading (map (argument_of reading) xs) k).1 ++ name_judged k name (actuals_of reading built k xs)) ≡ []
-      → (name_clear k name (not (nothing_there (actuals_of reading built k xs))) && arguments_clear same_clear (map (argument_of clear) xs) k) ≡ true
-      → ReadWell (name_read k name (not (nothing_there (actuals_of reading built k xs)))) (denoted_built same_built (map (argument_of built) xs) (denoted_by k.names name) k.names)
+      → (name_clear k name (not (is_empty (actuals_of reading built k xs))) && arguments_clear same_clear (map (argument_of clear) xs) k) ≡ true
+      → ReadWell (name_read k name (not (is_empty (actuals_of reading built k xs)))) (denoted_built same_built (map (argument_of built) xs) (denoted_by k.names name) k.names)
   unfolding name_judged name_read name_shape typed_name
   name-well name xs k f c =
       let parts = and_parts _ _ c in
@@ -142,7 +142,7 @@ module _ {E : Type 0} (reading : E → Reading) (clear : E → Clear) (built : E
       let w = operand-well reading clear built law operand k p.0 c in
       let there = one-there place (highest_operator operator) _ p.1 w.typed in
       record { typed = typed-there _ there; built = λ v g. w.built (operation-of_one (highest_operator operator) _ there) }
-  form-well (form.Number place literal) k f c = record { typed = number-typed (nothing_there (decimals_of literal)); built = λ v g. refl }
+  form-well (form.Number place literal) k f c = record { typed = number-typed (is_empty (decimals_of literal)); built = λ v g. refl }
   form-well (form.Text place text) k f c = record { typed = refl; built = λ v g. absurd (false≢true v) }
   form-well (form.Null place) k f c = record { typed = refl; built = λ v g. absurd (false≢true v) }
   form-well (form.Bracketed place inner) k f c =

@@ -7,7 +7,7 @@ use Rattle.ada_tree.specs.declared.names.Identifier.{Identifier}
 use Rattle.ada_tree.specs.declared.expressions.Expression.{Expression}
 use Rattle.ada_tree.specs.declared.expressions.Argument.{Argument}
 use Rattle.ada_regions.specs.declared.table.Names.{Names}
-use Rattle.ada_regions.specs.Words.{or_else}
+use Rattle.std.specs.Option.{option_or}
 use Rattle.ada_image.specs.ImageOfExpressions.{argument_from, is_for}
 use Rattle.ada_image.specs.ImageOfProcedures.{moment_of}
 use Rattle.ada_image.specs.BuiltStatements.{value_there}
@@ -59,10 +59,10 @@ module _ (k : Known) (whole : List FormalPart) (foreign : names_formal whole (co
       ap (λ b. cond b (Some a.value) (at_time rest (suc (suc (suc n))))) (not-late n _ a.formal (unless-none _ _ _ p.0)) ∙ none-late before (suc n) rest p.1
 
   abbrev Same : Option Expression → Option Expression → Type 0
-  Same a b = or_else a b ≡ b
+  Same a b = option_or a b ≡ b
 
   from-none : (a b : Option Expression) → a ≡ None → Same a b
-  from-none a b e = ap (λ x. or_else x b) e
+  from-none a b e = ap (λ x. option_or x b) e
 
   abbrev text_of : Option Identifier → Option (List ℕ)
   text_of formal = option_map (λ (i : Identifier). i.text) formal
@@ -100,7 +100,7 @@ module _ (k : Known) (whole : List FormalPart) (foreign : names_formal whole (co
   unfolding moment_of
   span-built xs e v = ap (λ x. value_there x k.names) (moment-same xs e) ∙ v
 
-first-there : (a b : Option Expression) (n : Names) → value_there a n ≡ true → value_there (or_else a b) n ≡ true
+first-there : (a b : Option Expression) (n : Names) → value_there a n ≡ true → value_there (option_or a b) n ≡ true
 first-there None b n v = absurd (false≢true v)
 first-there (Some e) b n v = v
 

@@ -4,7 +4,7 @@ use Rattle.std.specs.Prelude.{⊤, unwrap_or}
 use Rattle.std.proofs.lemmas.Bool.{and_from, and_parts, false≢true}
 use Rattle.ada_tree.specs.declared.expressions.Expression.{Expression}
 use Rattle.ada_tree.specs.declared.statements.Iteration.TheVariants as iteration
-use Rattle.ada_regions.specs.Words.{or_else}
+use Rattle.std.specs.Option.{option_or}
 use Rattle.ada_regions.specs.declared.types.AdaType.{AdaType}
 use Rattle.ada_regions.specs.declared.types.AdaType.TheVariants as types
 use Rattle.ada_image.specs.Layout.{is_thing}
@@ -70,7 +70,7 @@ bounds-thing : (low high : Typed) → is_thing (type_of_bounds low high) ≡ fal
 unfolding type_of_bounds
 bounds-thing low high = go (type_of_low low) (type_of_low high) (low-thing low) (low-thing high)
   where
-    go : (a b : Option AdaType) → NoThing a → NoThing b → is_thing (unwrap_or (or_else a b) types.Integer) ≡ false
+    go : (a b : Option AdaType) → NoThing a → NoThing b → is_thing (unwrap_or (option_or a b) types.Integer) ≡ false
     go (Some a) b p q = p
     go None (Some b) p q = q
     go None None p q = refl

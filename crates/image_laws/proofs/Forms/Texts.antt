@@ -24,7 +24,8 @@ use Rattle.ada_regions.specs.declared.types.AdaType.{AdaType}
 use Rattle.ada_regions.specs.declared.types.Subtype.{Subtype}
 use Rattle.ada_regions.specs.Names.{denoted_by}
 use Rattle.ada_regions.specs.Subtypes.{mark_denoted}
-use Rattle.ada_regions.specs.Words.{and_then, nothing_there}
+use Rattle.ada_regions.specs.Words.{and_then}
+use Rattle.ann_base.specs.Lists.{is_empty}
 use Rattle.ada_image.specs.ImageOfExpressions.{first_argument}
 use Rattle.ada_image.specs.BuiltExpressions.{expression_built}
 use Rattle.ada_image.specs.BuiltStatements.{piece_built, piece_form_built, pieces_built, text_built, text_form_built, value_there}
@@ -133,7 +134,7 @@ module _ (k : Known) (name : Name) where
 
 image-well : (name : Name) (a : Attribute) (xs : List (Argument Expression)) (k : Known)
     → faults_in ((arguments_read same_reading (map (argument_of read_expression) xs) k).1 ++ attribute_judged k name a (arguments_read same_reading (map (argument_of read_expression) xs) k).0) ≡ []
-    → (attribute_clear k name a (not (nothing_there (map (argument_of expression_clear) xs))) && arguments_clear same_clear (map (argument_of expression_clear) xs) k) ≡ true
+    → (attribute_clear k name a (not (is_empty (map (argument_of expression_clear) xs))) && arguments_clear same_clear (map (argument_of expression_clear) xs) k) ≡ true
     → is_some (image_length k name a) ≡ true → value_there (first_argument xs) k.names ≡ true
 image-well name a xs k f c l =
     let parts = and_parts _ _ c in

@@ -23,7 +23,8 @@ use Rattle.ada_regions.specs.declared.table.Names.{Names}
 use Rattle.ada_regions.specs.declared.types.Subtype.{Subtype}
 use Rattle.ada_regions.specs.Completions.{holds_of}
 use Rattle.ada_regions.specs.Names.{denoted_by, kind_at}
-use Rattle.ada_regions.specs.Words.{and_then, nothing_there}
+use Rattle.ada_regions.specs.Words.{and_then}
+use Rattle.ann_base.specs.Lists.{is_empty}
 use Rattle.ada_image.specs.ImageOfExpressions.{first_argument}
 use Rattle.ada_legality.specs.declared.parts.ActualPart.{ActualPart}
 use Rattle.ada_legality.specs.declared.reading.Read.{Read}
@@ -102,7 +103,7 @@ module _ (k : Known) (place : Place) (a : Argument Expression) (rest : List (Arg
       element-well read_expression expression_clear expression_built expression-law k place a rest e well (object-there e t n) n i m f
 
 name-variable : (name : Name) (xs : List (Argument Expression)) (k : Known) → faults_in ((arguments_read same_reading (map (argument_of read_expression) xs) k).1 ++ name_judged k name (actuals_of read_expression expression_built k xs)) ≡ []
-    → (name_clear k name (not (nothing_there (map (argument_of expression_clear) xs))) && arguments_clear same_clear (map (argument_of expression_clear) xs) k) ≡ true
+    → (name_clear k name (not (is_empty (map (argument_of expression_clear) xs))) && arguments_clear same_clear (map (argument_of expression_clear) xs) k) ≡ true
     → is_variable k name ≡ true → value_if_there (first_argument xs) k.names ≡ true
 unfolding name_judged typed_name is_variable arguments_read
 name-variable name [] k f c s = refl

@@ -37,7 +37,7 @@ use Rattle.ada_regions.specs.PredefinedUnits.{names_of_formals}
 use Rattle.ada_regions.specs.Names.{denoted_by, kind_at}
 use Rattle.ada_regions.specs.Statics.{literal_value, negated, micros_of}
 use Rattle.ada_lex.specs.Meaning.{whole_of, decimals_of}
-use Rattle.ada_regions.specs.Words.{nothing_there}
+use Rattle.ann_base.specs.Lists.{is_empty}
 use Rattle.ada_image.specs.declared.making.Within.{Within}
 use Rattle.ada_image.specs.Making.{value_put}
 use Rattle.ada_image.specs.Layout.{is_thing, subtype_is}
@@ -117,11 +117,11 @@ module _ (literal : List ℕ) where
 
   given-literal : is_value (literal_value literal) (literal_value literal) ≡ true
   unfolding literal_value
-  given-literal = (value-chosen (nothing_there (decimals_of literal)) (pos (whole_of literal)) (pos (micros_of literal))).0
+  given-literal = (value-chosen (is_empty (decimals_of literal)) (pos (whole_of literal)) (pos (micros_of literal))).0
 
   given-negated : is_value (negated (literal_value literal)) (negated (literal_value literal)) ≡ true
   unfolding literal_value
-  given-negated = (value-chosen (nothing_there (decimals_of literal)) (pos (whole_of literal)) (pos (micros_of literal))).1
+  given-negated = (value-chosen (is_empty (decimals_of literal)) (pos (whole_of literal)) (pos (micros_of literal))).1
 
 -- ---- one layer, whose expressions obey the law
 

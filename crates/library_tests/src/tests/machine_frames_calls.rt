@@ -8,7 +8,7 @@ use machine_frames::{
 use machine_program::Program;
 use profile_machine::world::{Drawn, Mark, Part, State, Waiting, World};
 use profile_machine::{
-    Image, Leaving, MainProcedure, Policies, Queuing, ScopeNo, Sequence, Statement, StatementForm,
+    Image, ImageList, Leaving, MainProcedure, Policies, Queuing, ScopeNo, Statement, StatementForm,
     StatementNo,
 };
 use std::alloc::Global;
@@ -16,27 +16,27 @@ use trace_text::Who;
 use world_tables::List;
 
 // A program whose first statement is a sequence with handlers, which begins with the second.
-fn program_of(alloc: Global, statements: Sequence<Statement>) -> Program {
+fn program_of(alloc: Global, statements: ImageList<Statement>) -> Program {
     let image = Image {
-        declarations: Sequence::new(alloc),
-        expressions: Sequence::new(alloc),
+        declarations: ImageList::new(alloc),
+        expressions: ImageList::new(alloc),
         statements,
-        scopes: Sequence::new(alloc),
-        subprograms: Sequence::new(alloc),
-        task_units: Sequence::new(alloc),
-        protected_units: Sequence::new(alloc),
-        entries: Sequence::new(alloc),
-        controlled_types: Sequence::new(alloc),
-        enumerations: Sequence::new(alloc),
+        scopes: ImageList::new(alloc),
+        subprograms: ImageList::new(alloc),
+        task_units: ImageList::new(alloc),
+        protected_units: ImageList::new(alloc),
+        entries: ImageList::new(alloc),
+        controlled_types: ImageList::new(alloc),
+        enumerations: ImageList::new(alloc),
         policies: Policies {
-            dispatching: Sequence::new(alloc),
+            dispatching: ImageList::new(alloc),
             queuing: Queuing::Fifo,
             longest_queue: None,
             last_priority: 30,
         },
         environment: ScopeNo(0),
         main: MainProcedure {
-            name: Sequence::new(alloc),
+            name: ImageList::new(alloc),
             priority: 15,
             scope: ScopeNo(0),
         },
@@ -86,11 +86,11 @@ fn empty_world(alloc: Global) -> World {
 fn constructs_of_a_task(rt: HostRuntime) {
     let alloc = rt.alloc();
     let name = Who::Task(TaskNo(0));
-    let mut statements = Sequence::new(alloc);
+    let mut statements = ImageList::new(alloc);
     statements
         .push(Statement {
             form: StatementForm::Handled {
-                handlers: Sequence::new(alloc),
+                handlers: ImageList::new(alloc),
                 first: StatementNo(1),
             },
             signs: 0,

@@ -2,7 +2,7 @@
 use ann_base::Raised;
 use machine_operators::{binary_value, text_of_whole, unary_value};
 use machine_program::initial_cells;
-use profile_machine::{BinaryOperator, CellRun, Scope, Sequence, UnaryOperator, Value};
+use profile_machine::{BinaryOperator, CellRun, ImageList, Scope, UnaryOperator, Value};
 
 // ISO/IEC 8652:2012, 4.5.5 has the signs; the last rows are at the ends of Integer.
 #[test]
@@ -76,7 +76,7 @@ fn image_of_an_integer(rt: HostRuntime) {
 #[test]
 fn cells_of_a_scope(rt: HostRuntime) {
     let alloc = rt.alloc();
-    let mut runs = Sequence::new(alloc);
+    let mut runs = ImageList::new(alloc);
     runs.push(CellRun {
         place: 1,
         count: 5,

@@ -1,12 +1,12 @@
 //! The lists of an image.
 use profile_machine::{
-    Actual, Actuals, ExprNo, SelectAlternative, SelectAlternatives, SelectKind, Sequence,
+    Actual, Actuals, ExprNo, ImageList, SelectAlternative, SelectAlternatives, SelectKind,
 };
 
 #[test]
 fn lists_take_what_is_pushed(rt: HostRuntime) {
     let alloc = rt.alloc();
-    let mut sequence = Sequence::new(alloc);
+    let mut sequence = ImageList::new(alloc);
     let mut actuals = Actuals::new(alloc);
     let mut alternatives = SelectAlternatives::new(alloc);
     for number in 0..6 {

@@ -23,7 +23,8 @@ use Rattle.profile_machine.specs.declared.world.tasks.Waiting.TheVariants as wai
 use Rattle.profile_machine.specs.declared.world.lines.Line.TheVariants as said
 use Rattle.profile_machine.specs.declared.world.lines.Part.TheVariants.{Own}
 use Rattle.profile_machine.specs.declared.world.lines.Said.{Said}
-use Rattle.profile_machine.specs.Words.{is_empty, first_of_list}
+use Rattle.profile_machine.specs.Words.{first_of_list}
+use Rattle.ann_base.specs.Lists.{is_empty}
 use Rattle.profile_machine.specs.Program.{form_of, marks_of, subprogram_of}
 use Rattle.profile_machine.specs.Steps.{Step, says, changes, looks, when, ◌▷◌}
 use Rattle.profile_machine.specs.Tasks.{edit_task, with_ticks, waiting_in, waiting_of, is_runnable}

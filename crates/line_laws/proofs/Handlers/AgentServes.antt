@@ -26,7 +26,7 @@ use Rattle.profile_machine.specs.declared.world.lines.Line.TheVariants as said
 use Rattle.profile_machine.specs.declared.world.lines.Part.TheVariants.{Own, TheFinish, TheBlock}
 use Rattle.profile_machine.specs.declared.world.lines.MeetingEnd.TheVariants as meeting
 use Rattle.profile_machine.specs.declared.world.lines.Said.{Said}
-use Rattle.profile_machine.specs.Words.{is_empty}
+use Rattle.ann_base.specs.Lists.{is_empty}
 use Rattle.profile_machine.specs.Steps.{Step, says, changes, when, nothing, for_some, ◌▷◌}
 use Rattle.profile_machine.specs.Tasks.{edit_task, with_state}
 use Rattle.profile_machine.specs.Dispatching.{block, says_block, without_kept_level, word_of}

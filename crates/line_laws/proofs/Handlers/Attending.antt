@@ -7,7 +7,7 @@ use Rattle.profile_machine.specs.declared.image.Image.{Image}
 use Rattle.profile_machine.specs.declared.world.World.{World}
 use Rattle.profile_machine.specs.declared.world.appointments.Release.{Release}
 use Rattle.profile_machine.specs.declared.world.lines.Said.{Said}
-use Rattle.profile_machine.specs.Words.{is_empty}
+use Rattle.ann_base.specs.Lists.{is_empty}
 use Rattle.machine_laws.proofs.Moves.{lines_of}
 use Rattle.machine_laws.proofs.FineMoves.{Nature, natures}
 use Rattle.line_laws.proofs.Handlers.AgentLines.{placed_behind, calls_agent, are_calls, are_calls-append, NoneBlocks, NoneBlocks-append, NoneCalls, Closes, Closes-behind, Closes-before, lines-call, lines-close}

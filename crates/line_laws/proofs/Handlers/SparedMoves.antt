@@ -27,7 +27,7 @@ use Rattle.profile_machine.specs.declared.world.lines.Part.{Part}
 use Rattle.profile_machine.specs.declared.world.tasks.Waiting.{Waiting}
 use Rattle.profile_machine.specs.Dispatching.{word_of}
 use Rattle.profile_machine.specs.Protected.{open_action}
-use Rattle.profile_machine.specs.Words.{is_empty}
+use Rattle.ann_base.specs.Lists.{is_empty}
 use Rattle.profile_machine.specs.Program.{scope_of}
 use Rattle.profile_machine.specs.Tasks.{task_at, edit_task_found, edit_task, with_state, with_frames, is_runnable, is_runnable_state, waiting_in, waiting_of, is_who}
 use Rattle.profile_machine.specs.Frames.{edit_first, edit_top, goes_on, push, pop, without_first, new_frame}

@@ -11,7 +11,7 @@ use Rattle.profile_machine.specs.declared.world.tasks.State.TheVariants.{Made, R
 use Rattle.profile_machine.specs.declared.world.lines.Line.TheVariants as said
 use Rattle.profile_machine.specs.declared.world.lines.Part.TheVariants.{Own}
 use Rattle.profile_machine.specs.declared.world.lines.Said.{Said}
-use Rattle.profile_machine.specs.Words.{is_empty}
+use Rattle.ann_base.specs.Lists.{is_empty}
 use Rattle.profile_machine.specs.Program.{edf_low}
 use Rattle.profile_machine.specs.Steps.{changes, looks, ◌▷◌}
 use Rattle.profile_machine.specs.Tasks.{edit_task, with_state, is_runnable_state}

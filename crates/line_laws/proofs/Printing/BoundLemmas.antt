@@ -11,9 +11,10 @@ use Rattle.trace_text.specs.Queue.{Line, RisesFrom, up_to}
 use Rattle.profile_machine.specs.declared.image.Image.{Image}
 use Rattle.profile_machine.specs.declared.run_data.Item.{Item}
 use Rattle.profile_machine.specs.declared.world.World.{World}
-use Rattle.profile_machine.specs.Words.{is_empty}
+use Rattle.ann_base.specs.Lists.{is_empty}
 use Rattle.profile_machine.specs.Instant.{instant}
-use Rattle.profile_machine.specs.Run.{Ran, opening, tock, stop, or_else, stop_by_end, stop_by_stuck, at_tick, stopped, then_runs, run_from, run, run_of}
+use Rattle.profile_machine.specs.Run.{Ran, opening, tock, stop, stop_by_end, stop_by_stuck, at_tick, stopped, then_runs, run_from, run, run_of}
+use Rattle.std.specs.Option.{option_or}
 use Rattle.machine_laws.proofs.TimeLemmas.{instants_take_no_time, tocks_take_one_tick, opening_now}
 use Rattle.machine_laws.proofs.RunLemmas.{below_bound, run_from-rises}
 use Rattle.line_laws.specs.Bounds.{AreCutAt, GoesOn}
@@ -85,7 +86,7 @@ cut-here bound now i t long false e rises = record {
 turn-goes_on : (bound now : ℕ) (i t : World × List Event) (short long : Ran) (ended stuck : Option Ended) (at_short at_long : Bool)
     → ended ≢ Some why.Bound → stuck ≢ Some why.Bound → (at_short ≡ true → now ≡ bound) → (at_short ≡ false → at_long ≡ false)
     → RisesFrom (suc now) long.lines → (at_short ≡ false → GoesOn bound short long)
-    → GoesOn bound (turn now i t short (or_else ended (or_else stuck (cond at_short (Some why.Bound) None)))) (turn now i t long (or_else ended (or_else stuck (cond at_long (Some why.Bound) None))))
+    → GoesOn bound (turn now i t short (option_or ended (option_or stuck (cond at_short (Some why.Bound) None)))) (turn now i t long (option_or ended (option_or stuck (cond at_long (Some why.Bound) None))))
 unfolding turn
 turn-goes_on bound now i t short long (Some reason) stuck at_short at_long a b reached under rises onward = record { ended = λ e. refl; cut = λ e. absurd (a (ap Some e)) }
 turn-goes_on bound now i t short long None (Some reason) at_short at_long a b reached under rises onward = record { ended = λ e. refl; cut = λ e. absurd (b (ap Some e)) }

@@ -16,7 +16,8 @@ use Rattle.profile_machine.specs.Lines.{event_of}
 use Rattle.profile_machine.specs.Steps.{Step, Move, Done, done, looks, changes, for_some, for_each, in_order, settled, settles, rests, watches, ◌▷◌, ◌▶◌}
 use Rattle.profile_machine.specs.Tasks.{task_of}
 use Rattle.profile_machine.specs.Instant.{effect, is_over, effect_of_runner, finish_action, items_due, script_items, all_due, appointments_due, events_due, moments_due, expire_timer, no_timers_due, timers_due, run_out, no_budget_due, budgets_due, spend_quantum, quantum_spent, instant}
-use Rattle.profile_machine.specs.Run.{opens, opening, blank_world, tock, stop, stop_by_end, stop_by_stuck, stop_by_bound, or_else, run_of}
+use Rattle.profile_machine.specs.Run.{opens, opening, blank_world, tock, stop, stop_by_end, stop_by_stuck, stop_by_bound, run_of}
+use Rattle.std.specs.Option.{option_or}
 use Rattle.machine_laws.specs.LineKinds.{is_of_tock, AllAre}
 use Rattle.machine_laws.proofs.LineLemmas.{tocks_say_ticks}
 use Rattle.line_laws.specs.Names.{IsNamed, IsPrintableIfComplete, EachEvent}
@@ -89,9 +90,9 @@ module _ (p : Image) (n : IsNamed p) where
 
   -- ---- ends
 
-  or_else-printable : (a b : Option Ended) → OfEnd IsPrintableIfComplete a → OfEnd IsPrintableIfComplete b → OfEnd IsPrintableIfComplete (or_else a b)
-  or_else-printable None b k l = l
-  or_else-printable (Some reason) b k l = k
+  option_or-printable : (a b : Option Ended) → OfEnd IsPrintableIfComplete a → OfEnd IsPrintableIfComplete b → OfEnd IsPrintableIfComplete (option_or a b)
+  option_or-printable None b k l = l
+  option_or-printable (Some reason) b k l = k
 
   by_end-printable : (ended : Option (Option Raised)) → OfEnd IsPrintableIfComplete (stop_by_end p ended)
   by_end-printable None = tt
@@ -108,8 +109,8 @@ module _ (p : Image) (n : IsNamed p) where
 
   stop-printable : (bound : ℕ) (w : World) → OfEnd IsPrintableIfComplete (stop p bound w)
   stop-printable bound w =
-      or_else-printable (stop_by_end p w.ended) (or_else (stop_by_stuck w) (stop_by_bound bound w)) (by_end-printable w.ended)
-      (or_else-printable (stop_by_stuck w) (stop_by_bound bound w) (by_stuck-printable _) (by_bound-printable _))
+      option_or-printable (stop_by_end p w.ended) (option_or (stop_by_stuck w) (stop_by_bound bound w)) (by_end-printable w.ended)
+      (option_or-printable (stop_by_stuck w) (stop_by_bound bound w) (by_stuck-printable _) (by_bound-printable _))
 
 -- ---- tocks name nothing
 

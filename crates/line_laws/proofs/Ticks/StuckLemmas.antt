@@ -11,10 +11,11 @@ use Rattle.profile_machine.specs.declared.image.Image.{Image}
 use Rattle.profile_machine.specs.declared.run_data.Item.{Item}
 use Rattle.profile_machine.specs.declared.world.World.{World}
 use Rattle.profile_machine.specs.declared.world.tasks.Placed.{Placed}
-use Rattle.profile_machine.specs.Words.{is_empty}
+use Rattle.ann_base.specs.Lists.{is_empty}
 use Rattle.profile_machine.specs.Steps.{is_above, put_at_head, places_after_all}
 use Rattle.profile_machine.specs.Instant.{instant}
-use Rattle.profile_machine.specs.Run.{opening, tock, stop, stop_by_end, or_else, run_of}
+use Rattle.profile_machine.specs.Run.{opening, tock, stop, stop_by_end, run_of}
+use Rattle.std.specs.Option.{option_or}
 use Rattle.machine_laws.specs.LineKinds.{is_of_effect, is_of_tock, AllAre}
 use Rattle.machine_laws.proofs.LineLemmas.{instants_say_effects, openings_say_effects, tocks_say_ticks}
 use Rattle.machine_laws.proofs.PlaceLemmas.{openings_place_by_lines, instants_place_by_lines, tocks_place_nobody, tock_lines-places}
@@ -69,7 +70,7 @@ first_of_three : (a b c : Bool) → (a && b && c) ≡ true → a ≡ true
 first_of_three true b c e = refl
 first_of_three false b c e = cc
 
-stuck-test : (p : Image) (ended : Option (Option Raised)) (b at_bound : Bool) → or_else (stop_by_end p ended) (or_else (cond b (Some why.Stuck) None) (cond at_bound (Some why.Bound) None)) ≡ Some why.Stuck → b ≡ true
+stuck-test : (p : Image) (ended : Option (Option Raised)) (b at_bound : Bool) → option_or (stop_by_end p ended) (option_or (cond b (Some why.Stuck) None) (cond at_bound (Some why.Bound) None)) ≡ Some why.Stuck → b ≡ true
 stuck-test p None true at_bound e = refl
 stuck-test p None false true e = cc
 stuck-test p None false false e = cc

@@ -25,7 +25,8 @@ use Rattle.ada_tree.specs.SpellingDeclarations.{aspects_written, overriding_writ
 use Rattle.ada_tree.specs.Spelling.{handlers_written, handled_written, parts_written, sequence_written}
 use Rattle.ada_tree.specs.ShapeStatements.{statement_fits, handler_fits, parts_fit}
 use Rattle.ada_tree.specs.ShapeDeclarations.{specification_fits, entry_head_fits, body_fits, operation_body_fits, operations_fit, declaration_fits}
-use Rattle.ada_tree.specs.Shape.{is_empty, handled_fits, sequence_fits}
+use Rattle.ada_tree.specs.Shape.{handled_fits, sequence_fits}
+use Rattle.ann_base.specs.Lists.{is_empty}
 use Rattle.ada_tree.proofs.SequenceFolds.{sequence_is_written}
 use Rattle.ada_tree.proofs.SequenceFits.{sequence_is_fit}
 use Rattle.ada_regions.specs.declared.table.Names.{Names}

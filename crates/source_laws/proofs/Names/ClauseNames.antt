@@ -7,7 +7,8 @@ use Rattle.ada_regions.specs.declared.predefined.PredefinedUnit.{PredefinedUnit}
 use Rattle.ada_regions.specs.declared.entities.Denoted.{Denoted}
 use Rattle.ada_regions.specs.declared.entities.Denoted.TheVariants as denotes
 use Rattle.ada_regions.specs.declared.table.Names.{Names}
-use Rattle.ada_regions.specs.Words.{or_else, same_place, last_from}
+use Rattle.ada_regions.specs.Words.{same_place, last_from}
+use Rattle.std.specs.Option.{option_or}
 use Rattle.ada_regions.specs.PredefinedUnits.{child_unit, item_in}
 use Rattle.ada_regions.specs.Names.{denoted_at}
 use Rattle.ada_regions.specs.Visibility.{item_of}
@@ -66,7 +67,7 @@ unused-plain n (Some (denotes.Unit u)) plain = absurd plain
 unused-plain n (Some (denotes.Item u i)) plain = absurd plain
 
 -- behind a unit
-unit-ends : (n : Names) (last : ℕ) (u : PredefinedUnit) (name : List ℕ) → Ends n (or_else (item_of last u name) (option_map denotes.Unit (child_unit u name))) (meaning_or is_nothing (option_map is_unit (child_unit u name)))
+unit-ends : (n : Names) (last : ℕ) (u : PredefinedUnit) (name : List ℕ) → Ends n (option_or (item_of last u name) (option_map denotes.Unit (child_unit u name))) (meaning_or is_nothing (option_map is_unit (child_unit u name)))
 unfolding item_of
 unit-ends n last u name = go (item_in last u name) refl
   where
@@ -74,7 +75,7 @@ unit-ends n last u name = go (item_in last u name) refl
     child None = inr (refl, refl, λ v e. cc)
     child (Some v) = inl (v, refl, refl)
 
-    go : (x : Option Predefined) → item_in last u name ≡ x → Ends n (or_else (option_map (denotes.Item u) x) (option_map denotes.Unit (child_unit u name))) (meaning_or is_nothing (option_map is_unit (child_unit u name)))
+    go : (x : Option Predefined) → item_in last u name ≡ x → Ends n (option_or (option_map (denotes.Item u) x) (option_map denotes.Unit (child_unit u name))) (meaning_or is_nothing (option_map is_unit (child_unit u name)))
     go None e = child (child_unit u name)
     go (Some i) e = inr (ap (λ x. meaning_or is_nothing (option_map is_unit x)) (child-none last u name (ap is_some e)), refl, λ v q. cc)
 

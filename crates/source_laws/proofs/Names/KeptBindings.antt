@@ -4,7 +4,8 @@ use borrow.Author.Tests.{eqb-false}
 use Rattle.world_tables.specs.Tables.{item_at}
 use Rattle.world_tables.proofs.TableLemmas.{item_at-put, item_at-put-other, item_at-with_item, item_at-with_item-other}
 use Rattle.ada_regions.specs.declared.table.Binding.{Binding}
-use Rattle.ada_regions.specs.Words.{or_else, and_then}
+use Rattle.ada_regions.specs.Words.{and_then}
+use Rattle.std.specs.Option.{option_or}
 use Rattle.ada_regions.specs.Names.{Bindings, binds, binding_in, bound_among, bound_in}
 use Rattle.ada_regions.specs.Occurrences.{Occurrence, hides, heads, declares, declares_unit, completes}
 use Rattle.source_laws.specs.Positions.{Before, Stands, around_behind, nearest}
@@ -44,7 +45,7 @@ told_of = option_map (λ b. b.entity)
 
 -- by position: the entity of its nearest declaration, or that it is hidden
 abbrev pub said_by : ℕ → Option Before → Option Before → Option (Option ℕ)
-said_by last declared hidden = or_else (option_map (λ d. Some (entity_number last d)) declared) (option_map (λ d. None) hidden)
+said_by last declared hidden = option_or (option_map (λ d. Some (entity_number last d)) declared) (option_map (λ d. None) hidden)
 
 abbrev pub said : ℕ → ℕ → List ℕ → Before → Option (Option ℕ)
 said last region name before = said_by last (declaration number_of_innermost region name before) (nearest (hides_name number_of_innermost region name) before)

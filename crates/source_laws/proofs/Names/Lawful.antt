@@ -10,7 +10,8 @@ use Rattle.ada_regions.specs.declared.entities.Entity.{Entity}
 use Rattle.ada_regions.specs.declared.table.Binding.{Binding}
 use Rattle.ada_regions.specs.declared.table.Frame.{Frame}
 use Rattle.ada_regions.specs.declared.table.Names.{Names}
-use Rattle.ada_regions.specs.Words.{or_else, and_then}
+use Rattle.ada_regions.specs.Words.{and_then}
+use Rattle.std.specs.Option.{option_or}
 use Rattle.ada_regions.specs.PredefinedUnits.{root_unit, item_in}
 use Rattle.ada_regions.specs.Names.{Bindings, binding_in, entity_at, region_here}
 use Rattle.ada_regions.specs.Visibility.{innermost_binding, item_of, in_standard, bound, directly}
@@ -102,7 +103,7 @@ bound-placed n (Some b) = refl
 said-placed : (last : ℕ) (c e : Before) (region : ℕ) (name : List ℕ) → Stands c e → Kept last e → placed (table_at last e) (said last region name c) ≡ declared_in_region region name c
 said-placed last c e region name s k = go (declaration number_of_innermost region name c) (nearest (hides_name number_of_innermost region name) c) refl
   where
-    go : (d h : Option Before) → declaration number_of_innermost region name c ≡ d → placed (table_at last e) (said_by last d h) ≡ or_else (option_map place_declared d) (option_map (λ b. None) h)
+    go : (d h : Option Before) → declaration number_of_innermost region name c ≡ d → placed (table_at last e) (said_by last d h) ≡ option_or (option_map place_declared d) (option_map (λ b. None) h)
     go None None q = refl
     go None (Some h) q = refl
     go (Some []) h q = absurd (no_start (declares_name number_of_innermost region name) c q)
@@ -142,17 +143,17 @@ all-around passed (o ∷ before) = all-farther o (around_behind passed before) b
 -- the first of these regions that has the name
 abbrev first_of : Bindings → List ℕ → List ℕ → Option Binding
 first_of bindings name [] = None
-first_of bindings name (r ∷ rs) = or_else (binding_in bindings r name) (first_of bindings name rs)
+first_of bindings name (r ∷ rs) = option_or (binding_in bindings r name) (first_of bindings name rs)
 
 innermost-first_of : (bindings : Bindings) (name : List ℕ) (fs : List Frame) → innermost_binding bindings name fs ≡ first_of bindings name (numbers_of (map opened_as fs))
 innermost-first_of bindings name [] = refl
-innermost-first_of bindings name (f ∷ fs) = ap (or_else (binding_in bindings f.region name)) (innermost-first_of bindings name fs)
+innermost-first_of bindings name (f ∷ fs) = ap (option_or (binding_in bindings f.region name)) (innermost-first_of bindings name fs)
 
-pub else-mapped : {X Y : Type 0} (f : X → Y) (a b : Option X) → option_map f (or_else a b) ≡ or_else (option_map f a) (option_map f b)
+pub else-mapped : {X Y : Type 0} (f : X → Y) (a b : Option X) → option_map f (option_or a b) ≡ option_or (option_map f a) (option_map f b)
 else-mapped f None b = refl
 else-mapped f (Some x) b = refl
 
-else-none : {X : Type 0} (a : Option X) → or_else a None ≡ a
+else-none : {X : Type 0} (a : Option X) → option_or a None ≡ a
 else-none None = refl
 else-none (Some x) = refl
 
@@ -167,9 +168,9 @@ declared-first last c e name k s later (b ∷ bs) a =
     let further = first_of (table_at last c).bindings name (map (here_at last) bs ++ 0 ∷ []) in
     ap (placed (table_at last e)) (else-mapped (λ (x : Binding). x.entity) here further)
     ∙ (else-mapped (λ x. and_then x (λ y. option_map (λ (z : Entity). z.place) (entity_at (table_at last e) y))) (told_of here) (told_of further)
-    ∙ (ap (λ x. or_else x (placed (table_at last e) (told_of further)))
+    ∙ (ap (λ x. option_or x (placed (table_at last e) (told_of further)))
     (ap (placed (table_at last e)) (k.bindings.binds b a.0 name) ∙ (said-placed last c e (region_of_position b) name s later ∙ ap (λ z. declared_in_region (number_of z) name c) a.1))
-    ∙ ap (or_else (declared_in_region (number_of b) name c)) (declared-first last c e name k s later bs a.2)))
+    ∙ ap (option_or (declared_in_region (number_of b) name c)) (declared-first last c e name k s later bs a.2)))
 
 -- what a binding is told to mean
 abbrev meant : Names → Option Binding → Option Meaning
@@ -188,7 +189,7 @@ unfolding in_standard item_of
 standard-meant n last name = go units.Standard (item_in last units.Standard name) (root_unit name)
   where
     go : (unit : PredefinedUnit) (i : Option Predefined) (u : Option PredefinedUnit)
-        → option_map (told_meaning n) (option_map Some (or_else (option_map (denotes.Item unit) i) (option_map denotes.Unit u))) ≡ option_map meaning_of (or_else (option_map (denotes.Item unit) i) (option_map denotes.Unit u))
+        → option_map (told_meaning n) (option_map Some (option_or (option_map (denotes.Item unit) i) (option_map denotes.Unit u))) ≡ option_map meaning_of (option_or (option_map (denotes.Item unit) i) (option_map denotes.Unit u))
     go unit None None = refl
     go unit None (Some u) = refl
     go unit (Some i) u = refl
@@ -205,8 +206,8 @@ directly-meant last c e name s k later =
     ∙ (ap (λ x. option_map meaning_if_seen (placed m (told_of x))) (innermost-first_of n.bindings name n.frames ∙ ap (first_of n.bindings name) k.regions.opened)
     ∙ ap (option_map meaning_if_seen) (declared-first last c e name k s later (around c) (all-around 0 c))) in
     else-mapped (told_meaning m) (option_map bound found) (option_map Some (in_standard n.last_priority name))
-    ∙ (ap (λ x. or_else x (option_map (told_meaning m) (option_map Some (in_standard n.last_priority name)))) by_nesting
-    ∙ ap (or_else (option_map meaning_if_seen (declared_around name c (around c)))) (ap (λ p. option_map (told_meaning m) (option_map Some (in_standard p name))) k.priority ∙ standard-meant m last name))
+    ∙ (ap (λ x. option_or x (option_map (told_meaning m) (option_map Some (in_standard n.last_priority name)))) by_nesting
+    ∙ ap (option_or (option_map meaning_if_seen (declared_around name c (around c)))) (ap (λ p. option_map (told_meaning m) (option_map Some (in_standard p name))) k.priority ∙ standard-meant m last name))
 
 pub directly_by_position : DirectlyByPosition
 directly_by_position unit complete c s name =

@@ -12,7 +12,8 @@ use Rattle.ada_regions.specs.declared.entities.Sought.TheVariants as answer
 use Rattle.ada_regions.specs.declared.table.Binding.{Binding}
 use Rattle.ada_regions.specs.declared.table.Frame.{Frame}
 use Rattle.ada_regions.specs.declared.table.Names.{Names}
-use Rattle.ada_regions.specs.Words.{or_else, and_then}
+use Rattle.ada_regions.specs.Words.{and_then}
+use Rattle.std.specs.Option.{option_or}
 use Rattle.ada_regions.specs.PredefinedUnits.{child_unit, root_unit, item_in}
 use Rattle.ada_regions.specs.Names.{binds, binding_in, entity_at, region_of_entity}
 use Rattle.ada_regions.specs.Visibility.{innermost_binding, item_of, in_standard, bound, directly, exports_name, exported_from, some_if_withed, visible_in, used_around, found_or, sought}
@@ -69,11 +70,11 @@ no-entity : (d : Denoted) → Type 0
 no-entity (denotes.Entity e) = ⊥
 no-entity _ = Unit {0}
 
-item-unit : (last : ℕ) (u : PredefinedUnit) (name : List ℕ) (y : ℕ) (other : Option Denoted) → (other ≡ Some (denotes.Entity y) → ⊥) → or_else (item_of last u name) other ≡ Some (denotes.Entity y) → ⊥
+item-unit : (last : ℕ) (u : PredefinedUnit) (name : List ℕ) (y : ℕ) (other : Option Denoted) → (other ≡ Some (denotes.Entity y) → ⊥) → option_or (item_of last u name) other ≡ Some (denotes.Entity y) → ⊥
 unfolding item_of
 item-unit last u name y other no_entity e = go (item_in last u name) e
   where
-    go : (x : Option Predefined) → or_else (option_map (denotes.Item u) x) other ≡ Some (denotes.Entity y) → ⊥
+    go : (x : Option Predefined) → option_or (option_map (denotes.Item u) x) other ≡ Some (denotes.Entity y) → ⊥
     go None q = no_entity q
     go (Some i) q = cc
 
@@ -99,7 +100,7 @@ innermost-there : (n : Names) (name : List ℕ) (y : ℕ) (fs : List Frame) (b :
 innermost-there n name y [] b s e h = cc
 innermost-there n name y (f ∷ fs) b s e h = go (binding_in n.bindings f.region name) refl e (λ q. innermost-there n name y fs b s q h)
   where
-    go : (x : Option Binding) → binding_in n.bindings f.region name ≡ x → or_else x (innermost_binding n.bindings name fs) ≡ Some b → (innermost_binding n.bindings name fs ≡ Some b → There n y) → There n y
+    go : (x : Option Binding) → binding_in n.bindings f.region name ≡ x → option_or x (innermost_binding n.bindings name fs) ≡ Some b → (innermost_binding n.bindings name fs ≡ Some b → There n y) → There n y
     go None q e2 more = more e2
     go (Some z) q e2 more = bound-there n f.region y b (found-sound n f.region (binds name) b s (q ∙ e2)).0 h
 
@@ -119,7 +120,7 @@ directly-there n name y s e = go (innermost_binding n.bindings name n.frames) re
     standard None h q = cc
     standard (Some d) h q = let same : d ≡ denotes.Entity y = cc in absurd (standard-entity n.last_priority name y (h ∙ ap Some same))
 
-    go : (x : Option Binding) → innermost_binding n.bindings name n.frames ≡ x → or_else (option_map bound x) (option_map Some (in_standard n.last_priority name)) ≡ Some (Some (denotes.Entity y)) → There n y
+    go : (x : Option Binding) → innermost_binding n.bindings name n.frames ≡ x → option_or (option_map bound x) (option_map Some (in_standard n.last_priority name)) ≡ Some (Some (denotes.Entity y)) → There n y
     go None h q = standard (in_standard n.last_priority name) refl q
     go (Some b) h q = innermost-there n name y n.frames b s h (let same : bound b ≡ Some (denotes.Entity y) = cc in same)
 

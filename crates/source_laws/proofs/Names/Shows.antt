@@ -9,7 +9,8 @@ use Rattle.ada_regions.specs.declared.entities.Denoted.{Denoted}
 use Rattle.ada_regions.specs.declared.entities.Denoted.TheVariants as denotes
 use Rattle.ada_regions.specs.declared.entities.Entity.{Entity}
 use Rattle.ada_regions.specs.declared.table.Names.{Names}
-use Rattle.ada_regions.specs.Words.{or_else, and_then, same_place}
+use Rattle.ada_regions.specs.Words.{and_then, same_place}
+use Rattle.std.specs.Option.{option_or}
 use Rattle.ada_regions.specs.PredefinedUnits.{child_unit, item_in}
 use Rattle.ada_regions.specs.Names.{region_of_entity}
 use Rattle.ada_regions.specs.Occurrences.{Occurrence, the_package, declares, declares_unit, completes}
@@ -148,8 +149,8 @@ module _ (last : ℕ) (end : Before) (t : IsText end) (placed : IsPlaced end) (c
   unfolding visible_in item_of
   unit-shows c s l name u =
       let n : Names = table_at last c in
-      ap (λ z. or_else z (and_then (child_unit u name) (child_if_withed c))) (items ∙ ap (λ k. option_map told (item_of k u name)) (sym (kept-here c s).priority))
-      ∙ (ap (or_else (option_map told (item_of n.last_priority u name))) (children (child_unit u name))
+      ap (λ z. option_or z (and_then (child_unit u name) (child_if_withed c))) (items ∙ ap (λ k. option_map told (item_of k u name)) (sym (kept-here c s).priority))
+      ∙ (ap (option_or (option_map told (item_of n.last_priority u name))) (children (child_unit u name))
       ∙ sym (else-mapped told (item_of n.last_priority u name) (and_then (child_unit u name) (some_if_withed n.withs))))
     where
       items : option_map meaning_of (item_of last u name) ≡ option_map told (item_of last u name)

@@ -7,7 +7,8 @@ use Rattle.ada_regions.specs.declared.predefined.PredefinedUnit.{PredefinedUnit}
 use Rattle.ada_regions.specs.declared.entities.Denoted.{Denoted}
 use Rattle.ada_regions.specs.declared.entities.Denoted.TheVariants as denotes
 use Rattle.ada_regions.specs.declared.table.Names.{Names}
-use Rattle.ada_regions.specs.Words.{or_else, and_then}
+use Rattle.ada_regions.specs.Words.{and_then}
+use Rattle.std.specs.Option.{option_or}
 use Rattle.ada_regions.specs.Occurrences.{Occurrence, Region, the_package, the_context, the_context_of, further_context, package_region, begins, ends, declares_unit, with_unit}
 use Rattle.ada_regions.specs.Visibility.{is_withed_by}
 use Rattle.ada_regions.specs.Regions.{package_named, context_of_package, package_to_with, library_unit, unit_named, unit_to_with, withed, begun}
@@ -173,7 +174,7 @@ withed-more u name n = go (and_then (unit_named name) unit_to_with)
         by_name (Some e) = refl
     package-more (i ∷ rest) = refl
 
-    go : (x : Option Denoted) → list_any (is_withed_by u) (withed name (or_else x (package_to_with n name name.parts.others)) n).withs ≡ (is_withed_unit u x || list_any (is_withed_by u) n.withs)
+    go : (x : Option Denoted) → list_any (is_withed_by u) (withed name (option_or x (package_to_with n name name.parts.others)) n).withs ≡ (is_withed_unit u x || list_any (is_withed_by u) n.withs)
     go None = package-more name.parts.others
     go (Some d) = refl
 

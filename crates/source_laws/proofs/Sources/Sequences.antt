@@ -23,7 +23,8 @@ use Rattle.ada_tree.specs.SpellingDeclarations.{specification_written, body_writ
 use Rattle.ada_tree.specs.Spelling.{handlers_written, handled_written, parts_written, sequence_written}
 use Rattle.ada_tree.specs.ShapeStatements.{statement_fits, handler_fits, parts_fit}
 use Rattle.ada_tree.specs.ShapeDeclarations.{specification_fits, entry_head_fits, body_fits, operation_body_fits, operations_fit, declaration_fits}
-use Rattle.ada_tree.specs.Shape.{is_empty, all_statements_fit, handled_fits, sequence_fits_by, sequence_fits}
+use Rattle.ada_tree.specs.Shape.{all_statements_fit, handled_fits, sequence_fits_by, sequence_fits}
+use Rattle.ann_base.specs.Lists.{is_empty}
 use Rattle.ada_tree.proofs.SequenceFolds.{sequence_is_written}
 use Rattle.ada_tree.proofs.SequenceFits.{sequence_is_fit}
 use Rattle.ada_regions.specs.Occurrences.{Occurrences, an_exception, subprogram_body, entry_body, task_body, protected_body, heads, completes, is_called, mentions_entry, use_package, in_all, in_body}

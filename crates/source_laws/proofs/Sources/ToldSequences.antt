@@ -21,7 +21,8 @@ use Rattle.ada_tree.specs.declared.declarations.OperationBody.{OperationBody}
 use Rattle.ada_tree.specs.declared.declarations.OperationBody.TheVariants as body_of
 use Rattle.ada_tree.specs.ShapeStatements.{statement_fits, handler_fits, parts_fit}
 use Rattle.ada_tree.specs.ShapeDeclarations.{specification_fits, entry_head_fits, body_fits, operation_body_fits, operations_fit, declaration_fits}
-use Rattle.ada_tree.specs.Shape.{is_empty, all_statements_fit, sequence_fits_by, sequence_fits}
+use Rattle.ada_tree.specs.Shape.{all_statements_fit, sequence_fits_by, sequence_fits}
+use Rattle.ann_base.specs.Lists.{is_empty}
 use Rattle.ada_tree.proofs.SequenceFits.{sequence_is_fit}
 use Rattle.ada_legality.specs.declared.findings.BodyKind.{BodyKind}
 use Rattle.ada_legality.specs.declared.findings.BodyKind.TheVariants as completing

@@ -17,7 +17,8 @@ use Rattle.profile_machine.specs.declared.world.objects.Object.{Object}
 use Rattle.profile_machine.specs.declared.world.tasks.Inherited.{Inherited}
 use Rattle.profile_machine.specs.declared.world.tasks.Task.{Task}
 use Rattle.profile_machine.specs.declared.world.tasks.Cause.TheVariants as inherited_by
-use Rattle.profile_machine.specs.Words.{same_who, is_empty, greatest_of}
+use Rattle.profile_machine.specs.Words.{same_who, greatest_of}
+use Rattle.ann_base.specs.Lists.{is_empty}
 use Rattle.profile_machine.specs.Tasks.{is_runnable, is_runnable_state}
 use Rattle.profile_machine.specs.Dispatching.{active, own_level}
 use Rattle.profile_machine.specs.Inheritance.{same_cause}

@@ -7,7 +7,7 @@ use Rattle.profile_machine.specs.declared.world.marks.AbortableMark.{AbortableMa
 use Rattle.profile_machine.specs.declared.world.marks.Frame.{Frame}
 use Rattle.profile_machine.specs.declared.world.marks.Mark.{Mark}
 use Rattle.profile_machine.specs.declared.world.marks.Mark.TheVariants.{Scope, Handled, InProtected, InAccept, Abortable, InInitialize, InFinalize, InAssign}
-use Rattle.profile_machine.specs.Words.{is_empty}
+use Rattle.ann_base.specs.Lists.{is_empty}
 use Rattle.profile_machine.specs.Frames.{with_mark}
 use Rattle.profile_machine.specs.Unwinding.{struck_frame}
 use Rattle.profile_machine.specs.CallEnds.{is_abortable_of, depth_of_abortable, edit_depth, edit_abortable, triggered_mark, waited_mark}

@@ -8,7 +8,8 @@ use Rattle.profile_machine.specs.declared.world.marks.Frame.{Frame}
 use Rattle.profile_machine.specs.declared.world.marks.Mark.{Mark}
 use Rattle.profile_machine.specs.declared.world.marks.Mark.TheVariants.{Scope, Handled, InProtected, InAccept, Abortable, InInitialize, InFinalize, InAssign}
 use Rattle.profile_machine.specs.declared.world.tasks.Waiting.{Waiting}
-use Rattle.profile_machine.specs.Words.{same_call, is_the, is_empty}
+use Rattle.profile_machine.specs.Words.{same_call, is_the}
+use Rattle.ann_base.specs.Lists.{is_empty}
 use Rattle.profile_machine.specs.Frames.{edit_first, without_first}
 use Rattle.profile_machine.specs.Unwinding.{struck_frame, edit_last}
 use Rattle.profile_machine.specs.CallEnds.{is_abortable_of, edit_depth}

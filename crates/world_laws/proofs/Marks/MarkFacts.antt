@@ -19,7 +19,8 @@ use Rattle.profile_machine.specs.declared.world.appointments.Due.{Due}
 use Rattle.profile_machine.specs.declared.world.appointments.Due.TheVariants as due_for
 use Rattle.profile_machine.specs.declared.world.appointments.Appointment.{Appointment}
 use Rattle.profile_machine.specs.declared.world.appointments.Registered.{Registered}
-use Rattle.profile_machine.specs.Words.{same_who, is_empty}
+use Rattle.profile_machine.specs.Words.{same_who}
+use Rattle.ann_base.specs.Lists.{is_empty}
 use Rattle.profile_machine.specs.Tasks.{is_who, is_made, task_at, task_of, waiting_in}
 use Rattle.profile_machine.specs.Frames.{frames_of}
 use Rattle.profile_machine.specs.Appointments.{is_trigger_of, is_appointed}

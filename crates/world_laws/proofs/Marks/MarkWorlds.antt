@@ -6,7 +6,7 @@ use Rattle.profile_machine.specs.declared.world.marks.Frame.{Frame}
 use Rattle.profile_machine.specs.declared.world.marks.Mark.{Mark}
 use Rattle.profile_machine.specs.declared.world.marks.Mark.TheVariants.{Scope, Handled, InProtected, InAccept, Abortable, InInitialize, InFinalize, InAssign}
 use Rattle.profile_machine.specs.declared.world.tasks.Task.{Task}
-use Rattle.profile_machine.specs.Words.{is_empty}
+use Rattle.ann_base.specs.Lists.{is_empty}
 use Rattle.profile_machine.specs.WellFormed.{is_triggered, is_struck_rightly, finalizes_on, finalizes_above, finalizes_rightly, frames_are_right, marks_are_right}
 use Rattle.world_laws.specs.MarkWorlds.{frames_are_struck_rightly, marks_are_struck_rightly, ReachedMarksAreStruckRightly, stands_on, stands_above, stands_rightly, frames_stand_rightly, finalizes_stand_rightly, ReachedFinalizesStandRightly, ReachedMarksAreRight}
 use Rattle.world_laws.proofs.Marks.MarkFacts.{AllTasks, RightMarks, StruckRightly, FinalizesRightly, below_finalizes, finalizes_here, finalized_in, GoodMarks}

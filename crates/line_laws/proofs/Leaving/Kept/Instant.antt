@@ -25,7 +25,7 @@ use Rattle.profile_machine.specs.Dispatching.{ready, to_tail, active}
 use Rattle.profile_machine.specs.Instant.{has_spent_quantum}
 use Rattle.profile_machine.specs.Frames.{any_protected}
 use Rattle.profile_machine.specs.Program.{is_robin_level, next_of}
-use Rattle.profile_machine.specs.Words.{is_empty}
+use Rattle.ann_base.specs.Lists.{is_empty}
 use Rattle.profile_machine.specs.Steps.{says, looks, when, ◌▷◌}
 use Rattle.profile_machine.specs.declared.world.lines.Part.TheVariants.{Own}
 use Rattle.ann_base.specs.declared.identities.TaskNo.{TaskNo}

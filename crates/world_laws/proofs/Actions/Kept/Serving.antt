@@ -31,7 +31,7 @@ use Rattle.profile_machine.specs.Inheritance.{lose_running, falls, lose}
 use Rattle.profile_machine.specs.Priorities.{set_deferred}
 use Rattle.profile_machine.specs.declared.world.tasks.Waiting.TheVariants as waits_for
 use Rattle.trace_text.specs.declared.events.Who.TheVariants as who
-use Rattle.profile_machine.specs.Words.{is_empty}
+use Rattle.ann_base.specs.Lists.{is_empty}
 use Rattle.profile_machine.specs.Dispatching.{to_head}
 use Rattle.profile_machine.specs.Steps.{Step, Done, done, goes_on_with, says, changes, when, for_some, ◌▷◌}
 use Rattle.profile_machine.specs.Protected.{served_next, edit_top_protected, begin_call, body_opens, serve_call, has_room_for_body}

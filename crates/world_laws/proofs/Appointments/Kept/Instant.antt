@@ -26,7 +26,7 @@ use Rattle.profile_machine.specs.Program.{is_robin_level}
 use Rattle.profile_machine.specs.Steps.{when, says, looks, Step, changes, nothing, ◌▷◌, ◌▶◌}
 use Rattle.profile_machine.specs.Tasks.{waiting_of, is_runnable, task_of}
 use Rattle.profile_machine.specs.Values.{is_event, budget_of}
-use Rattle.profile_machine.specs.Words.{is_empty}
+use Rattle.ann_base.specs.Lists.{is_empty}
 use Rattle.machine_laws.proofs.Moves.{StepRelation, MoveRelation}
 use Rattle.world_laws.proofs.Appointments.Delays.{Idle}
 use Rattle.world_laws.proofs.Appointments.FineMoves.{GoodWorld, Naming, FineMoves}

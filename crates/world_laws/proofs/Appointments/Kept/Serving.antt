@@ -32,7 +32,7 @@ use Rattle.profile_machine.specs.Serving.{may_open_abortable, serves_nothing, is
 use Rattle.profile_machine.specs.Steps.{for_some, Step, changes, nothing, ◌▷◌}
 use Rattle.profile_machine.specs.Unwinding.{may_unwind}
 use Rattle.profile_machine.specs.Values.{object_of}
-use Rattle.profile_machine.specs.Words.{is_empty}
+use Rattle.ann_base.specs.Lists.{is_empty}
 use Rattle.machine_laws.proofs.Moves.{StepRelation, MoveRelation, own}
 use Rattle.world_laws.proofs.Appointments.Delays.{Caller}
 use Rattle.world_laws.proofs.Appointments.FineMoves.{GoodWorld, Naming, FineMoves}

@@ -24,7 +24,8 @@ use Rattle.profile_machine.specs.Steps.{Step, changes, for_each, for_some, looks
 use Rattle.profile_machine.specs.Tasks.{is_runnable, task_of, waiting_of, with_frames}
 use Rattle.profile_machine.specs.Unwinding.{unwind}
 use Rattle.profile_machine.specs.Values.{budget_of, timer_of, value}
-use Rattle.profile_machine.specs.Words.{is_empty, same_bool}
+use Rattle.profile_machine.specs.Words.{same_bool}
+use Rattle.ann_base.specs.Lists.{is_empty}
 use Rattle.profile_machine.specs.declared.image.Image.{Image}
 use Rattle.profile_machine.specs.declared.numbers.StatementNo.{StatementNo}
 use Rattle.profile_machine.specs.declared.run_data.Item.{Item}

@@ -34,7 +34,8 @@ use Rattle.profile_machine.specs.Inheritance.{lose_running}
 use Rattle.profile_machine.specs.Priorities.{set_deferred}
 use Rattle.profile_machine.specs.declared.world.tasks.Waiting.TheVariants as waits_for
 use Rattle.trace_text.specs.declared.events.Who.TheVariants as who
-use Rattle.profile_machine.specs.Words.{is_empty, without}
+use Rattle.profile_machine.specs.Words.{without}
+use Rattle.ann_base.specs.Lists.{is_empty}
 use Rattle.profile_machine.specs.Dispatching.{block, says_block, word_of, without_kept_level}
 use Rattle.profile_machine.specs.Steps.{Step, says, changes, ◌▷◌}
 use Rattle.profile_machine.specs.Protected.{served_next, is_action_of, body_scope_of, body_of_object, has_room_for_body, begin_call, edit_top_protected, body_opens, serve_call}

@@ -6,24 +6,24 @@ use std::marker::Model;
 
 /// A list of items; contracts see the list itself.
 #[derive(Drop)]
-pub struct Sequence<T> {
+pub struct ImageList<T> {
     items: Vec<T>,
 }
 
-impl<T> Model for Sequence<T> {
+impl<T> Model for ImageList<T> {
     ghost use Rattle.std.specs.Prelude.{List};
 
     ghost Value = { List T };
 
-    ghost view = { λ sequence. sequence.items.items };
+    ghost view = { λ list. list.items.items };
 }
 
-impl<T> Sequence<T> {
+impl<T> ImageList<T> {
     /// The empty list. It takes no memory.
     pub fn new(alloc: Global) -> Self
         ensures { result ≡ [] }
     {
-        Sequence {
+        ImageList {
             items: Vec::new(alloc),
         }
     }

@@ -1,7 +1,9 @@
 #!/usr/bin/env python3
 """What the gate costs, crate by crate, from nothing.
 
-    tools/gate_times.py watch FILE     while a gate runs: each second, notes what each process of the prover has used
+    tools/gate_times.py watch FILE [PROCESS]
+                                       while a gate runs: each second, notes what each process of the prover has used; where
+                                       PROCESS, the number of the gate's `rt ci`, is given, of those that it began alone
     tools/gate_times.py table FILE     processor minutes of proof, tests and edits of each crate, the most memory that one
                                        process took, and the longest chain of crates that stand on one another
     tools/gate_times.py functions FOLDER [ROWS]
@@ -22,8 +24,21 @@ TICKS = os.sysconf("SC_CLK_TCK")
 PAGE = os.sysconf("SC_PAGE_SIZE")
 
 
-def prover_processes():
-    """(process, crate, kind, seconds, bytes) of each process of the prover that works on a crate."""
+def parent(process):
+    try:
+        return pathlib.Path(f"/proc/{process}/stat").read_text().rsplit(")", 1)[1].split()[1]
+    except OSError:
+        return "0"
+
+
+def is_begun_by(process, first):
+    while process not in ("0", first):
+        process = parent(process)
+    return process == first
+
+
+def prover_processes(first):
+    """(process, crate, kind, seconds, bytes) of each process of the prover that works on a crate, and that `first` began."""
     for entry in os.listdir("/proc"):
         if not entry.isdigit():
             continue
@@ -36,16 +51,18 @@ def prover_processes():
             pages = int(pathlib.Path(f"/proc/{entry}/statm").read_text().split()[1])
         except (OSError, ValueError):
             continue
+        if first and not is_begun_by(entry, first):
+            continue
         kind = "edits" if "edit" in folder else "tests" if "--test" in words else "proof"
         seconds = (int(fields[11]) + int(fields[12])) / TICKS
         yield entry + "." + fields[19], words[words.index("--crate-name") + 1], kind, seconds, pages * PAGE
 
 
-def watch(path):
+def watch(path, first=None):
     seen = {}
     with open(path, "a") as out:
         while True:
-            now = {name: rest for name, *rest in prover_processes()}
+            now = {name: rest for name, *rest in prover_processes(first)}
             for name in [name for name in seen if name not in now]:
                 crate, kind, seconds, most = seen.pop(name)
                 out.write(f"{crate}\t{kind}\t{seconds:.1f}\t{most}\n")
@@ -135,8 +152,10 @@ def functions(folder, rows=20):
 
 if __name__ == "__main__":
     words = sys.argv[1:]
-    if len(words) == 2 and words[0] in ("watch", "table"):
-        {"watch": watch, "table": table}[words[0]](words[1])
+    if words[:1] == ["watch"] and len(words) in (2, 3):
+        watch(*words[1:])
+    elif words[:1] == ["table"] and len(words) == 2:
+        table(words[1])
     elif words[:1] == ["functions"] and len(words) in (2, 3):
         functions(words[1], *map(int, words[2:]))
     else:

@@ -8,9 +8,9 @@ use crate::entering::{entered, entered_here, is_taken, number};
 use ada_entities::{copy, kind_at, owner_here};
 use ada_regions::{
     AdaType, AspectsOf, ComponentOwner, Enclosure, EntityKind, Names, NumberedEntry,
-    NumberedSubprogram, Subtype,
+    NumberedSubprogram, Subtype, subtype_of_kind,
 };
-use ada_subtypes::{formals_of, indicated_subtype, subtype_of_kind};
+use ada_subtypes::{formals_of, indicated_subtype};
 use ada_tree::{Identifier, Parameter, SubprogramSpecification};
 use ann_base::NoMemory;
 use profile_machine::{EntryNo, EntryUnit, ProtectedUnitNo, SubprogramNo, TaskUnitNo};

@@ -8,8 +8,8 @@ ghost use Rattle.ada_regions.specs.Declaring.{is_limited_root, is_limited_parent
 use crate::entering::{entered_here, number};
 use crate::numbering::with_region;
 use ada_entities::{denoted_by, enclosure_here};
-use ada_regions::{AdaType, EntityKind, Names, NumberedControlled, Subtype};
-use ada_subtypes::{array_type, free_subtype, indicated_subtype, mark_denoted};
+use ada_regions::{AdaType, EntityKind, Names, NumberedControlled, Subtype, free_subtype};
+use ada_subtypes::{array_type, indicated_subtype, mark_denoted};
 use ada_tree::{Expression, Identifier, Name, SubtypeIndication};
 use ann_base::NoMemory;
 use profile_machine::ControlledNo;

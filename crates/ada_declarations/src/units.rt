@@ -9,8 +9,8 @@ use crate::numbering::{next_declaration, numbered, with_region};
 use ada_entities::scope_in;
 use ada_regions::{
     AdaType, AspectsOf, EntityKind, Names, NumberedProtected, NumberedTask, Sort, Subtype,
+    free_subtype,
 };
-use ada_subtypes::free_subtype;
 use ada_tree::{Aspect, Identifier};
 use ann_base::NoMemory;
 use profile_machine::{ProtectedUnitNo, TaskUnitNo};

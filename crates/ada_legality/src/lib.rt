@@ -8,6 +8,7 @@ mod parts;
 mod reading;
 mod rules;
 mod standing;
+mod types;
 
 pub use faults::Fault;
 pub use findings::{Attached, BodyKind, Ceiling, DeadlineRange, Finding, ProtectedObject};
@@ -20,3 +21,4 @@ pub use rules::Rule;
 pub use standing::{
     Around, InForce, Known, LoopParameter, OccurrencesOf, SubprogramAround, UnitAround,
 };
+pub use types::same_type;

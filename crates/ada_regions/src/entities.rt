@@ -1,4 +1,7 @@
 //! Declared entities, and what names denote (ISO/IEC 8652:2012, 3.1, 8.6).
+ghost use Rattle.std.specs.Prelude.{◌≡◌};
+ghost use Rattle.ada_regions.specs.Statics.{subtype_of_kind};
+
 use crate::predefined::{Predefined, PredefinedUnit};
 use crate::types::{Formal, Mode, Subtype};
 use ann_base::Place;
@@ -125,6 +128,19 @@ pub enum EntityKind {
     },
     /// The name of a loop or a block (5.5, 5.6).
     Label,
+}
+
+/// The subtype of an entity, if it has one (3.5, 3.6.2).
+pub fn subtype_of_kind(kind: &EntityKind) -> Option<Subtype>
+    ensures { result ≡ subtype_of_kind kind.now }
+{
+    match kind {
+        EntityKind::Mark(subtype) => *subtype,
+        EntityKind::Object { subtype, .. } => *subtype,
+        EntityKind::Parameter { subtype, .. } => *subtype,
+        EntityKind::Component { subtype, .. } => *subtype,
+        _ => None,
+    }
 }
 
 /// An entity that the source declares.

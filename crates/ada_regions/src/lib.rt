@@ -10,7 +10,9 @@ mod predefined;
 mod table;
 mod types;
 
-pub use entities::{ComponentOwner, Denoted, Entity, EntityKind, Sought, UnitKind};
+pub use entities::{
+    ComponentOwner, Denoted, Entity, EntityKind, Sought, UnitKind, subtype_of_kind,
+};
 pub use faults::NameFault;
 pub use occurrences::{Occurrence, Occurrences};
 pub use parts::{AspectsOf, ExpressionOf};
@@ -20,4 +22,4 @@ pub use table::{
     NumberedEntryBody, NumberedProtected, NumberedScope, NumberedSubprogram, NumberedTask,
     PackageContext, Sort, UseClause,
 };
-pub use types::{AdaType, ArrayType, Formal, Mode, Subtype};
+pub use types::{AdaType, ArrayType, Formal, Mode, Subtype, free_subtype};

@@ -1,4 +1,7 @@
 //! Types and subtypes (ISO/IEC 8652:2012, clause 3).
+ghost use Rattle.std.specs.Prelude.{◌≡◌};
+ghost use Rattle.ada_regions.specs.Declaring.{free_subtype};
+
 use profile_machine::{Constraint, ControlledNo, EnumerationNo, ProtectedUnitNo, TaskUnitNo, Text};
 
 /// A type of the profile (3.2).
@@ -47,6 +50,16 @@ pub struct Subtype {
     pub of_type: AdaType,
     /// The range of a scalar subtype that has one.
     pub range: Constraint,
+}
+
+/// A type without a range.
+pub fn free_subtype(of_type: AdaType) -> Subtype
+    ensures { result ≡ free_subtype of_type }
+{
+    Subtype {
+        of_type,
+        range: Constraint::Free,
+    }
 }
 
 /// An array type (3.6).

@@ -12,7 +12,7 @@ pub use formals::{formals_of, mode_of};
 pub use literals::{LAST_DURATION, LAST_INTEGER, micros_of, static_literal, static_negative};
 pub use ranges::{high_of, low_of, range_between, range_named};
 pub use statics::{
-    attribute_value, literal_of, static_value, subtype_denoted, subtype_of_item, subtype_of_kind,
-    subtype_of_name, value_denoted,
+    attribute_value, literal_of, static_value, subtype_denoted, subtype_of_item, subtype_of_name,
+    value_denoted,
 };
-pub use subtypes::{array_type, free_subtype, indicated_subtype, mark_denoted};
+pub use subtypes::{array_type, indicated_subtype, mark_denoted};

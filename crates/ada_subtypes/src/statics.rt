@@ -3,12 +3,12 @@
 ghost use Rattle.std.specs.Prelude.{◌≡◌, option_copied};
 ghost use Rattle.ada_tree.specs.declared.expressions.Expression.TheViews.{out-Expression};
 ghost use Rattle.ada_regions.specs.Words.{and_then};
-ghost use Rattle.ada_regions.specs.Statics.{value_of_kind, value_of_item, value_denoted, subtype_of_kind, subtype_of_item, subtype_denoted, subtype_of_name, low_of, high_of, range_named, attribute_value, static_name, literal_of, signed_literal, static_value};
+ghost use Rattle.ada_regions.specs.Statics.{value_of_kind, value_of_item, value_denoted, subtype_of_item, subtype_denoted, subtype_of_name, low_of, high_of, range_named, attribute_value, static_name, literal_of, signed_literal, static_value};
 
 use crate::literals::{static_literal, static_negative};
 use crate::ranges::{high_of, low_of, range_named};
 use ada_entities::{denoted_by, kind_at};
-use ada_regions::{Denoted, EntityKind, Names, Predefined, Subtype};
+use ada_regions::{Denoted, EntityKind, Names, Predefined, Subtype, subtype_of_kind};
 use ada_tree::{Attribute, AttributeDesignator, Expression, ExpressionForm, Name, Sign};
 use profile_machine::Value;
 
@@ -46,19 +46,6 @@ pub fn value_denoted(names: &Names<'_>, denoted: Denoted) -> Option<Value>
         },
         Denoted::Unit(_) => None,
         Denoted::Item { item, .. } => value_of_item(item),
-    }
-}
-
-/// The subtype of an entity, if it has one (3.5, 3.6.2).
-pub fn subtype_of_kind(kind: &EntityKind) -> Option<Subtype>
-    ensures { result ≡ subtype_of_kind kind.now }
-{
-    match kind {
-        EntityKind::Mark(subtype) => *subtype,
-        EntityKind::Object { subtype, .. } => *subtype,
-        EntityKind::Parameter { subtype, .. } => *subtype,
-        EntityKind::Component { subtype, .. } => *subtype,
-        _ => None,
     }
 }
 

@@ -1,24 +1,13 @@
 //! Subtype indications and array types (ISO/IEC 8652:2012, 3.2.2, 3.6).
 ghost use Rattle.std.specs.Prelude.{◌≡◌};
-ghost use Rattle.ada_regions.specs.Declaring.{free_subtype};
 ghost use Rattle.ada_regions.specs.Subtypes.{mark_of_kind, mark_denoted, constrained, indicated_subtype, array_type};
 
 use crate::ranges::range_between;
 use crate::statics::{static_value, subtype_of_item};
 use ada_entities::{denoted_by, kind_at};
-use ada_regions::{AdaType, ArrayType, Denoted, EntityKind, Names, Subtype};
+use ada_regions::{ArrayType, Denoted, EntityKind, Names, Subtype};
 use ada_tree::{Constraint as Indicated, Expression, SubtypeIndication};
 use profile_machine::Constraint;
-
-/// A type without a range.
-pub fn free_subtype(of_type: AdaType) -> Subtype
-    ensures { result ≡ free_subtype of_type }
-{
-    Subtype {
-        of_type,
-        range: Constraint::Free,
-    }
-}
 
 fn mark_of_kind(kind: &EntityKind) -> Option<Subtype>
     ensures { result ≡ mark_of_kind kind.now }

@@ -5,8 +5,7 @@ ghost use Rattle.ada_image.specs.ImageOfDeclarations.{kind_declared, number_decl
 
 use ada_entities::{entity_denoted, kind_at};
 use ada_image::Within;
-use ada_regions::{AdaType, EntityKind, Subtype};
-use ada_subtypes::subtype_of_kind;
+use ada_regions::{AdaType, EntityKind, Subtype, subtype_of_kind};
 use ada_tree::Identifier;
 use image_expressions::object_number;
 use profile_machine::{DeclNo, SubprogramNo};

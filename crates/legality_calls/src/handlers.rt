@@ -5,12 +5,12 @@ ghost use Rattle.ada_legality.specs.Reading.{function_in_unit, functions_of_unit
 ghost use Rattle.legality_calls.specs.Beside.{function_beside, functions_along};
 
 use ada_entities::kind_at;
-use ada_legality::{Around, Finding, Known, Read, Rule, Shape, Typed};
+use ada_legality::{Around, Finding, Known, Read, Rule, Shape, Typed, same_type};
 use ada_regions::{AdaType, Formal, Mode};
 use ann_base::NoMemory;
 use image_layout::is_in_out;
 use legality_entities::{formals_of_subprogram, is_type};
-use legality_types::{broken_if, broken_unless, has_type, same_type};
+use legality_types::{broken_if, broken_unless, has_type};
 use world_tables::List;
 
 /// A function that is an operation of the unit in whose body it stands (9.5.1).

@@ -5,9 +5,8 @@ ghost use Rattle.ada_legality.specs.Words.{is_body, is_accept, body_around, sequ
 ghost use Rattle.ada_legality.specs.SimpleStatements.{same_entities};
 ghost use Rattle.ada_legality.specs.Attributes.{is_task_body, in_own_task, single_object, is_protected_body, innermost_unit, is_type_in};
 
-use ada_legality::{Around, Known};
+use ada_legality::{Around, Known, same_type};
 use ada_regions::AdaType;
-use legality_types::same_type;
 use world_tables::List;
 
 /// The entity of the unit whose body is open.

@@ -5,8 +5,7 @@ ghost use Rattle.ada_legality.specs.Attributes.{kind_of_identifier};
 
 use ada_entities::{denoted_by, entity_denoted, entity_of, kind_at};
 use ada_legality::{Known, LoopParameter};
-use ada_regions::{AdaType, Denoted, EntityKind, Names, Subtype};
-use ada_subtypes::{free_subtype, subtype_of_kind};
+use ada_regions::{AdaType, Denoted, EntityKind, Names, Subtype, free_subtype, subtype_of_kind};
 use ada_tree::{Identifier, Name};
 use profile_machine::DeclNo;
 use world_tables::List;

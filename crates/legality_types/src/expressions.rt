@@ -2,11 +2,10 @@
 ghost use Rattle.std.specs.Prelude.{◌≡◌};
 ghost use Rattle.ada_legality.specs.Types.{typed_as, typed_if, typed_by, operand_type, has_type, is_text, is_pointed, operation_type, operation_type_of_one, fits, discrete_if, type_of_low, type_of_bounds};
 
-use crate::kinds::{is_discrete, is_duration, is_integer, same_type};
+use crate::kinds::{is_discrete, is_duration, is_integer};
 use crate::operators::{result_of, result_of_one};
-use ada_legality::Typed;
-use ada_regions::{AdaType, Subtype};
-use ada_subtypes::free_subtype;
+use ada_legality::{Typed, same_type};
+use ada_regions::{AdaType, Subtype, free_subtype};
 use profile_machine::{BinaryOperator, UnaryOperator};
 
 /// An expression of this type.

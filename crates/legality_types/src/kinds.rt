@@ -1,55 +1,9 @@
 //! Kinds of types (ISO/IEC 8652:2012, 3.2, 3.5, 7.5, 7.6, D.8, D.14, D.15).
 ghost use Rattle.std.specs.Prelude.{◌≡◌};
-ghost use Rattle.ada_legality.specs.Types.{type_number, declared_number, same_type, same_type_if, has_ranges, is_ordered, is_scalar, is_scalar_or_array, has_no_values, is_discrete, is_of_time, is_task_id, is_array_type, is_integer, is_boolean, is_duration, is_span_of_time, is_timer, is_event_timer_or_budget, is_controlled_type, is_task_unit, is_protected_unit, is_root_controlled};
+ghost use Rattle.ada_legality.specs.Types.{same_type_if, has_ranges, is_ordered, is_scalar, is_scalar_or_array, has_no_values, is_discrete, is_of_time, is_task_id, is_array_type, is_integer, is_boolean, is_duration, is_span_of_time, is_timer, is_event_timer_or_budget, is_controlled_type, is_task_unit, is_protected_unit, is_root_controlled};
 
+use ada_legality::same_type;
 use ada_regions::AdaType;
-
-/// Which kind of type it is.
-fn type_number(t: AdaType) -> u32
-    ensures { result ≡ type_number t }
-{
-    match t {
-        AdaType::Integer => 0,
-        AdaType::Boolean => 1,
-        AdaType::Duration => 2,
-        AdaType::Enumeration(_) => 3,
-        AdaType::Array(_) => 4,
-        AdaType::Time => 5,
-        AdaType::TimeSpan => 6,
-        AdaType::CpuTime => 7,
-        AdaType::TaskId => 8,
-        AdaType::TimingEvent => 9,
-        AdaType::Timer => 10,
-        AdaType::GroupBudget => 11,
-        AdaType::LimitedControlled => 12,
-        AdaType::Controlled => 13,
-        AdaType::Derived(_) => 14,
-        AdaType::Task(_) => 15,
-        AdaType::Protected(_) => 16,
-    }
-}
-
-/// Which of the types that the source declares it is.
-fn declared_number(t: AdaType) -> u32
-    ensures { result ≡ declared_number t }
-{
-    match t {
-        AdaType::Enumeration(enumeration) => enumeration.0,
-        AdaType::Array(array) => array,
-        AdaType::Derived(controlled) => controlled.0,
-        AdaType::Task(unit) => unit.0,
-        AdaType::Protected(unit) => unit.0,
-        _ => 0,
-    }
-}
-
-/// Two types are the same.
-#[tactic(auto, unfolding(ada_legality::specs::Types::same_type))]
-pub fn same_type(a: AdaType, b: AdaType) -> bool
-    ensures { result ≡ same_type a b }
-{
-    type_number(a) == type_number(b) && declared_number(a) == declared_number(b)
-}
 
 /// Two types are the same, or both are none.
 pub fn same_type_if(a: Option<AdaType>, b: Option<AdaType>) -> bool

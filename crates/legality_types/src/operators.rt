@@ -2,9 +2,8 @@
 ghost use Rattle.std.specs.Prelude.{◌≡◌};
 ghost use Rattle.ada_legality.specs.Types.{sum_of, difference_of, product_of, quotient_of, remainder_of, boolean_if, logical_of, equality_of, ordering_of, result_of, same_if, result_of_one};
 
-use crate::kinds::{
-    is_boolean, is_duration, is_integer, is_ordered, is_scalar, is_span_of_time, same_type,
-};
+use crate::kinds::{is_boolean, is_duration, is_integer, is_ordered, is_scalar, is_span_of_time};
+use ada_legality::same_type;
 use ada_regions::AdaType;
 use profile_machine::{BinaryOperator, UnaryOperator};
 

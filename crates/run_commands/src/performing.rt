@@ -9,9 +9,7 @@ ghost use Rattle.commands.specs.Asked.{asked_of};
 ghost use Rattle.commands.specs.Outside.{ShelfChange, shelf_of, sink_of};
 ghost use Rattle.commands.specs.Performed.{Performs, ServesBytes, ServesImage, without_image};
 
-use crate::running::run;
 use crate::scripting::serve_script;
-use crate::summing::summarize;
 use ada_front::{accept, long_sources_are_refused};
 use ada_lex::MAX_SOURCE;
 use ada_verdicts::Refusal;
@@ -20,6 +18,7 @@ use commands::{DEFAULT_TICKS, Outcome, Request, Work, asked, serve_table, serve_
 use load_runs::load_source;
 use outside_bytes::{read_file, write_all};
 use profile_machine::Image;
+use run_writing::{run, summarize};
 use std::alloc::Global;
 
 /// How many bytes of a source are read: one more than it may have, so that one that is too long is seen to be.

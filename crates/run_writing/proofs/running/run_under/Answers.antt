@@ -5,10 +5,10 @@ use Rattle.profile_machine.specs.Run.{lines_of_run}
 use Rattle.machine_kernel.specs.Kernel.{shown, future, stop_to_come}
 use Rattle.commands.specs.Runs.{text_under}
 use Rattle.outside_bytes.proofs.PiecesWritten.{extended-nil, err-none, one_more_line, cut_line}
-use Rattle.run_commands.proofs.LaterFaults.{fault_later}
-use Rattle.run_commands.proofs.PrintableLines.{one_more_printable, all_printable}
-use Rattle.run_commands.proofs.TalliedLines.{none_to_come}
-use Rattle.run_commands.proofs.running.run_under.Goals as goal
+use Rattle.run_writing.proofs.LaterFaults.{fault_later}
+use Rattle.run_writing.proofs.PrintableLines.{one_more_printable, all_printable}
+use Rattle.run_writing.proofs.TalliedLines.{none_to_come}
+use Rattle.run_writing.proofs.running.run_under.Goals as goal
 
 pub returns-in_err-kernel-clause-prefix : goal.returns-in_err-kernel-clause-prefix
 returns-in_err-kernel-clause-prefix g c = err-none c.from_residual.result (g.K.Sink.held c.args.out.now) (text_under c.args.items c.args.image c.args.ticks)

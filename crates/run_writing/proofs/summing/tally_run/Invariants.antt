@@ -4,7 +4,7 @@ use Rattle.profile_machine.specs.Run.{lines_of_run}
 use Rattle.machine_kernel.specs.Kernel.{future, stop_to_come, left_to_do}
 use Rattle.load_runs.specs.Tallies.{Tallies}
 use Rattle.commands.specs.Runs.{stop_under}
-use Rattle.run_commands.proofs.summing.tally_run.Given as goal
+use Rattle.run_writing.proofs.summing.tally_run.Given as goal
 
 -- the lines that were told are tallied, and what is to come is the rest of the run
 abbrev pub invariant-loop-buffer : goal.invariant-loop-buffer

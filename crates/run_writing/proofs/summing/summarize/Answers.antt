@@ -2,7 +2,7 @@ use Rattle.std.proofs.Common.{◌≡◌, OnOk, OnErr, subst}
 use Rattle.ann_base.specs.Outside.{extended}
 use Rattle.outside_bytes.specs.Pieces.{HoldsPrefix}
 use Rattle.commands.specs.Runs.{summary_under}
-use Rattle.run_commands.proofs.summing.summarize.Goals as goal
+use Rattle.run_writing.proofs.summing.summarize.Goals as goal
 
 pub returns-clause-written : goal.returns-clause-written
 returns-clause-written g c =

@@ -5,7 +5,7 @@ use Rattle.trace_text.specs.Text.{ArePrintable, text_of}
 use Rattle.profile_machine.specs.Run.{lines_of_run}
 use Rattle.machine_kernel.specs.Kernel.{future, stop_to_come, left_to_do}
 use Rattle.commands.specs.Runs.{text_under, stop_under}
-use Rattle.run_commands.proofs.running.run_under.Given as goal
+use Rattle.run_writing.proofs.running.run_under.Given as goal
 
 -- a prefix of the text of the run is written, and what is to come is the rest of it; the lines that were told are printable
 abbrev pub invariant-loop-buffer : goal.invariant-loop-buffer

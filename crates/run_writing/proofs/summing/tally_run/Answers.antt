@@ -2,8 +2,8 @@ use Rattle.std.proofs.Common.{[], ◌++◌, ◌∙◌, ap}
 use Rattle.machine_kernel.specs.Future.{written_of}
 use Rattle.profile_machine.specs.Run.{lines_of_run}
 use Rattle.machine_kernel.specs.Kernel.{shown, future, stop_to_come}
-use Rattle.run_commands.proofs.TalliedLines.{one_more_tallied, all_tallied, none_to_come}
-use Rattle.run_commands.proofs.summing.tally_run.Goals as goal
+use Rattle.run_writing.proofs.TalliedLines.{one_more_tallied, all_tallied, none_to_come}
+use Rattle.run_writing.proofs.summing.tally_run.Goals as goal
 
 -- nothing is told yet, and the run to come is that of the image
 pub loop-buffer-init : goal.loop-buffer-init

@@ -3,8 +3,8 @@ use Rattle.ann_base.specs.Outside.{extended}
 use Rattle.profile_machine.specs.Run.{lines_of_run}
 use Rattle.commands.specs.Runs.{summary_under}
 use Rattle.outside_bytes.proofs.PiecesWritten.{err-none}
-use Rattle.run_commands.proofs.TalliedLines.{cut_text}
-use Rattle.run_commands.proofs.summing.summarize_under.Goals as goal
+use Rattle.run_writing.proofs.TalliedLines.{cut_text}
+use Rattle.run_writing.proofs.summing.summarize_under.Goals as goal
 
 pub returns-in_err-tally-clause-prefix : goal.returns-in_err-tally-clause-prefix
 returns-in_err-tally-clause-prefix g c = err-none c.from_residual.result (g.K.Sink.held c.args.out.now) (summary_under c.args.items c.args.image c.args.ticks)

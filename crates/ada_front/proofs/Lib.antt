@@ -1,2 +1,1 @@
 pub mod Acceptances
-pub mod LongSources

@@ -11,14 +11,13 @@ ghost use Rattle.ada_image.specs.ImageOfUnits.{program_of};
 ghost use Rattle.profile_machine.specs.declared.image.Image.{Image};
 ghost use Rattle.ada_verdicts.specs.Accepted.{Accepted, AcceptedTokens, AcceptedTree, judged, by_grammar, by_names, by_rules, by_forms};
 
-use crate::refusing::{of_forms, of_grammar, of_names, of_rules, of_tokens};
 use ada_legality::Fault;
 use ada_lex::{MAX_SOURCE, Token, lex};
 use ada_naming::names_of;
 use ada_parse::parse;
 use ada_regions::{NameFault, Names};
 use ada_tree::Unit;
-use ada_verdicts::Refusal;
+use ada_verdicts::{Refusal, of_forms, of_grammar, of_names, of_rules, of_tokens};
 use ann_base::{NoMemory, OrMemory};
 use image_forms::unit_built;
 use image_programs::program_from;

@@ -5,8 +5,5 @@
 #![tactic(auto)]
 
 mod accepting;
-mod laws;
-mod refusing;
 
 pub use accepting::accept;
-pub use laws::long_sources_are_refused;

@@ -17,7 +17,7 @@ pub use parts::{
     FormalPart, IndicationUse, Span, Wanted,
 };
 pub use reading::{Asked, Literal, NameShape, Read, Shape, Typed};
-pub use rules::Rule;
+pub use rules::{Rule, number_of_rule};
 pub use standing::{
     Around, InForce, Known, LoopParameter, OccurrencesOf, SubprogramAround, UnitAround,
 };

@@ -1,4 +1,6 @@
 //! The rules of legality.
+ghost use Rattle.std.specs.Prelude.{◌≡◌};
+ghost use Rattle.ada_legality.specs.Faults.{number_of_rule};
 
 /// A rule of legality of the profile. The clause is that of ISO/IEC 8652:2012; a profile's own rule says so.
 #[derive(Clone, Copy)]
@@ -81,4 +83,51 @@ pub enum Rule {
     Limit,
     /// The forms of Put_Line (this profile's own; A.10.7).
     PutLineForm,
+}
+
+/// The number of a rule, as the note of a refusal has it.
+pub fn number_of_rule(rule: Rule) -> u32
+    ensures { result ≡ number_of_rule rule }
+{
+    match rule {
+        Rule::LibraryUnits => 1,
+        Rule::PackageBodies => 2,
+        Rule::MainProcedureLast => 3,
+        Rule::Completions => 4,
+        Rule::KindOfName => 5,
+        Rule::StaticBounds => 6,
+        Rule::IntegerLiteral => 7,
+        Rule::DurationLiteral => 8,
+        Rule::ExpectedType => 9,
+        Rule::OperandTypes => 10,
+        Rule::AssignedVariable => 11,
+        Rule::Actuals => 12,
+        Rule::FunctionCallAlone => 13,
+        Rule::LimitedObject => 14,
+        Rule::ConditionsAndChoices => 15,
+        Rule::ExitFromLoop => 16,
+        Rule::ReturnStatement => 17,
+        Rule::RaiseAndHandlers => 18,
+        Rule::AcceptStatement => 19,
+        Rule::SelectiveAccept => 20,
+        Rule::AsynchronousSelect => 21,
+        Rule::EntryCallAlternative => 22,
+        Rule::AbortedTask => 23,
+        Rule::EntryBarrier => 24,
+        Rule::ProtectedComponents => 25,
+        Rule::PriorityAspect => 26,
+        Rule::CpuAspect => 27,
+        Rule::HandlerProcedure => 28,
+        Rule::AttachedInterrupt => 29,
+        Rule::ConfigurationPragma => 30,
+        Rule::DeadlineScheduling => 31,
+        Rule::RelativeDeadlineAspect => 32,
+        Rule::ControlledOperations => 33,
+        Rule::LibraryLevelObject => 34,
+        Rule::RequeueStatement => 35,
+        Rule::Restriction => 36,
+        Rule::Discriminant => 37,
+        Rule::Limit => 38,
+        Rule::PutLineForm => 39,
+    }
 }

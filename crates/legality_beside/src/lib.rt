@@ -12,6 +12,6 @@ mod findings;
 mod packages;
 mod whole;
 
-pub use faults::{first_fault_in, number_of_rule};
+pub use faults::first_fault_in;
 pub use packages::packages_judged;
 pub use whole::found_beside;

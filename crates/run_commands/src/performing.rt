@@ -10,9 +10,9 @@ ghost use Rattle.commands.specs.Outside.{ShelfChange, shelf_of, sink_of};
 ghost use Rattle.commands.specs.Performed.{Performs, ServesBytes, ServesImage, without_image};
 
 use crate::scripting::serve_script;
-use ada_front::{accept, long_sources_are_refused};
+use ada_front::accept;
 use ada_lex::MAX_SOURCE;
-use ada_verdicts::Refusal;
+use ada_verdicts::{Refusal, long_sources_are_refused};
 use ann_base::{Failed, OrMemory, Shelf, Sink};
 use commands::{DEFAULT_TICKS, Outcome, Request, Work, asked, serve_table, serve_trace};
 use load_runs::load_source;

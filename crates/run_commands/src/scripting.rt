@@ -6,7 +6,8 @@ ghost use Rattle.commands.specs.Outside.{shelf_of, sink_of};
 ghost use Rattle.commands.specs.Performed.{Performs, ReadsFile, ReadsScript, ServesImage, ServesScript, ServesUnder};
 
 use crate::performing::{SOURCE_READ, without_image};
-use ada_front::{accept, long_sources_are_refused};
+use ada_front::accept;
+use ada_verdicts::long_sources_are_refused;
 use ann_base::{Moment, OrMemory, Shelf, Sink};
 use commands::{NoItems, Outcome};
 use event_script::{SCRIPT_BYTES, cut_scripts_are_read_alike, read_script};

@@ -2,14 +2,13 @@
 ghost use Rattle.std.specs.Prelude.{◌≡◌, ◌≤◌, length};
 ghost use Rattle.ada_verdicts.specs.Refusals.{of_tokens, of_grammar, of_names, of_rules, of_forms, place_of, end_of, place_after};
 
+use crate::refusals::{Code, Refusal};
 use ada_grammar::ParseFault;
-use ada_legality::Fault;
+use ada_legality::{Fault, number_of_rule};
 use ada_lex::{LexFault, MAX_SOURCE, Token};
 use ada_regions::NameFault;
 use ada_tree::Unit;
-use ada_verdicts::{Code, Refusal};
 use ann_base::Place;
-use legality_beside::number_of_rule;
 
 /// The place of a source's first byte.
 const FIRST: Place = Place { line: 1, column: 1 };

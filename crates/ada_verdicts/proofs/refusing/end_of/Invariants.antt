@@ -1,6 +1,6 @@
 use Rattle.std.proofs.Common.{◌≡◌, ◌≤◌, ◌+◌, length}
 use Rattle.ada_verdicts.specs.Refusals.{end_of, after_bytes}
-use Rattle.ada_front.proofs.refusing.end_of.Given as goal
+use Rattle.ada_verdicts.proofs.refusing.end_of.Given as goal
 
 -- the place after what was passed, from which the rest leads to the end; it is not far after the first
 abbrev pub invariant-loop-rest : goal.invariant-loop-rest

@@ -10,8 +10,9 @@ use ada_image::{Lists, Within};
 use ada_regions::{Formal, Mode};
 use ada_tree::{Argument, Expression};
 use ann_base::NoMemory;
-use image_expressions::{expression_made, named, thing_in};
+use image_expressions::{expression_made, named};
 use image_layout::{argument_from, subtype_is_thing};
+use image_names::thing_in;
 use profile_machine::{Actual, Actuals};
 use std::alloc::Global;
 

@@ -10,8 +10,8 @@ use ada_image::{Lists, Within};
 use ada_regions::{EntityKind, Formal};
 use ada_tree::{Argument, AttributeDesignator, Expression, ExpressionForm, Name};
 use ann_base::NoMemory;
-use image_expressions::kind_named;
 use image_layout::action_put;
+use image_names::kind_named;
 use profile_machine::{
     Destination, EntryNo, EntryUnit, ProtectedUnitNo, StatementForm, StatementNo, SubprogramNo,
 };

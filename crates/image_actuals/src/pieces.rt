@@ -13,8 +13,9 @@ use ada_regions::{AdaType, Subtype};
 use ada_subtypes::subtype_of_name;
 use ada_tree::{Addend, Argument, Expression, ExpressionForm, Name, OneOrMore};
 use ann_base::NoMemory;
-use image_expressions::{expression_made, no_value};
+use image_expressions::expression_made;
 use image_layout::{action_put, first_argument};
+use image_names::no_value;
 use profile_machine::{ExprNo, ImageList, Piece, StatementForm, StatementNo};
 use std::alloc::Global;
 

@@ -9,8 +9,9 @@ ghost use Rattle.ada_image.specs.ImageOfExpressions.{no_declaration_no};
 use ada_image::{Lists, Within};
 use ada_tree::{Expression, ExpressionForm, Name};
 use ann_base::NoMemory;
-use image_expressions::{no_declaration_no, variable_made};
+use image_expressions::variable_made;
 use image_layout::first_argument;
+use image_names::no_declaration_no;
 use profile_machine::{ObjectName, VariableName};
 
 /// The variable that a name denotes, with the index of an element or without.

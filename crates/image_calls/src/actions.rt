@@ -3,27 +3,17 @@
 ghost use Rattle.std.specs.Prelude.{◌≡◌, option_copied};
 ghost use Rattle.ada_image.specs.Made.{Made};
 ghost use Rattle.ada_image.specs.ImageOfExpressions.{actuals_for};
-ghost use Rattle.ada_image.specs.ImageOfProcedures.{thing_of, variable_of, optional_value, cancel_put, budget_put, task_put, values_put};
+ghost use Rattle.ada_image.specs.ImageOfProcedures.{variable_of, optional_value, cancel_put, budget_put, task_put, values_put};
 ghost use Rattle.image_calls.specs.Actions.{cancel_action, cancelled_formal, cancel_formals, budget_action, budgeted_formal, budget_formals, task_action, set_formal, task_formals, values_action, first_formal, second_formal, values_formals};
 
 use ada_image::{Lists, Within};
 use ada_tree::{Argument, Expression};
 use ann_base::NoMemory;
 use image_actuals::{no_variable, value_or_none, variable_in};
-use image_expressions::{expression_made, named, thing_in};
+use image_expressions::expression_made;
 use image_layout::{action_put, argument_from};
+use image_settings::thing_of;
 use profile_machine::{DeclNo, ExprNo, StatementForm, StatementNo, VariableName};
-
-/// The event, timer or budget that an actual names.
-#[tactic(auto, unfolding(ada_image::specs::ImageOfProcedures::thing_of))]
-pub(crate) fn thing_of(within: &Within<'_, '_>, actual: Option<&Expression>) -> DeclNo
-    ensures { result ≡ thing_of within.now (option_copied actual.entry) }
-{
-    match actual {
-        None => thing_in(within, None),
-        Some(actual) => thing_in(within, named(actual)),
-    }
-}
 
 #[tactic(auto, unfolding(ada_image::specs::ImageOfProcedures::variable_of))]
 fn variable_of(

@@ -1,7 +1,6 @@
 //! Call statements become actions (ISO/IEC 8652:2012, 6.4, 9.5.3): of a subprogram, an entry or a predefined procedure.
-ghost use Rattle.std.specs.Prelude.{◌≡◌, IfOk};
 ghost use Rattle.ada_image.specs.Made.{Made};
-ghost use Rattle.ada_image.specs.CallStatements.{entity_call_put, item_call_put, denoted_call_put, signs_in_actuals, call_statement_put};
+ghost use Rattle.ada_image.specs.CallStatements.{entity_call_put, item_call_put, denoted_call_put, call_statement_put};
 
 use crate::procedures::procedure_put;
 use ada_entities::{denoted_by, kind_at};
@@ -10,8 +9,8 @@ use ada_regions::{Denoted, EntityKind, Predefined};
 use ada_tree::{Argument, Expression, Name};
 use ann_base::NoMemory;
 use image_actuals::{call_put, entry_call_put, not_built};
-use image_expressions::signs_in;
-use image_layout::{action_put, added};
+use image_layout::action_put;
+use image_signs::signs_in_actuals;
 use profile_machine::{Destination, StatementForm, StatementNo};
 use std::alloc::Global;
 
@@ -118,21 +117,6 @@ fn denoted_call_put(
             item_call_put(alloc, lists, within, item, arguments, signs, next)
         }
     }
-}
-
-/// The operator signs in the actuals of a call.
-#[tactic(auto, unfolding(ada_image::specs::CallStatements::signs_in_actuals))]
-pub fn signs_in_actuals(
-    within: &Within<'_, '_>,
-    arguments: &[Argument<Expression>],
-) -> Result<u32, NoMemory>
-    ensures { IfOk result (λ signs. signs ≡ signs_in_actuals within.now arguments.now) }
-{
-    let mut signs = 0u32;
-    for argument in arguments {
-        signs = added(signs, signs_in(within, &argument.value)?)?;
-    }
-    Ok(signs)
 }
 
 /// A call statement (6.4, 9.5.3).

@@ -4,46 +4,22 @@ ghost use Rattle.ada_regions.specs.PredefinedUnits.{names_of_formals};
 ghost use Rattle.ada_regions.specs.declared.predefined.Operation.TheVariants as operations;
 ghost use Rattle.ada_image.specs.Made.{Made};
 ghost use Rattle.ada_image.specs.ImageOfExpressions.{actuals_for};
-ghost use Rattle.ada_image.specs.ImageOfProcedures.{procedure_with, procedure_put};
+ghost use Rattle.ada_image.specs.ImageOfProcedures.{procedure_put};
 ghost use Rattle.ada_image.specs.ImageOfCalls.{put_line_put};
 
 use crate::actions::{
-    Budgeting, Cancelling, OfTask, OfValues, budget_put, cancel_put, task_put, thing_of, values_put,
+    Budgeting, Cancelling, OfTask, OfValues, budget_put, cancel_put, task_put, values_put,
 };
-use crate::handlers::handler_of;
 use crate::settings::{set_event_put, set_timer_put};
 use ada_image::{Lists, Within};
 use ada_regions::Operation;
 use ada_tree::{Argument, Expression};
 use ann_base::NoMemory;
 use image_actuals::{not_built, put_line_put};
-use image_layout::{action_put, argument_from};
-use profile_machine::{StatementForm, StatementNo};
+use image_layout::argument_from;
+use image_settings::set_budget_put;
+use profile_machine::StatementNo;
 use std::alloc::Global;
-
-/// Group_Budgets.Set_Handler (D.14.2).
-#[tactic(auto, unfolding(ada_image::specs::ImageOfProcedures::procedure_with, ada_image::specs::ImageOfExpressions::actuals_for, ada_image::specs::ImageOfExpressions::arguments_from))]
-fn set_budget_put(
-    lists: &mut Lists,
-    within: &Within<'_, '_>,
-    arguments: &[Argument<Expression>],
-    signs: u32,
-    next: Option<StatementNo>,
-) -> Result<Option<StatementNo>, NoMemory>
-    ensures { Made
-        (procedure_with within.now operations.SetBudget arguments.now
-        (actuals_for (names_of_formals operations.SetBudget) arguments.now) signs next) lists.old
-        lists.new result }
-{
-    let budget = thing_of(within, argument_from(0, b"gb", arguments));
-    let handler = handler_of(within, argument_from(1, b"handler", arguments));
-    action_put(
-        lists,
-        StatementForm::SetBudget { budget, handler },
-        signs,
-        next,
-    )
-}
 
 /// Text_IO.Put_Line (A.10.7).
 #[tactic(auto, unfolding(ada_image::specs::ImageOfExpressions::actuals_for, ada_image::specs::ImageOfExpressions::arguments_from))]

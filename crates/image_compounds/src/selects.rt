@@ -13,9 +13,10 @@ use ada_tree::{
     SelectAlternative, SelectForm, SelectiveAccept, TimedEntryCall, Trigger,
 };
 use ann_base::NoMemory;
-use image_calls::{call_statement_put, signs_in_actuals};
+use image_calls::call_statement_put;
 use image_layout::{action_put, in_construct, put_at, reserved, the_action};
 use image_parts::{guard_of, signs_in_alternatives, signs_in_timed_call, signs_in_trigger};
+use image_signs::signs_in_actuals;
 use image_statements::{condition_made, delay_put};
 use profile_machine::{
     SelectAlternative as GuardedAlternative, SelectAlternatives, SelectKind, StatementForm,

@@ -1,25 +1,21 @@
 //! The forms of expressions (ISO/IEC 8652:2012, 4.1, 4.4, 4.5). Brackets leave no trace, and a
 //! minus before a literal is part of its value.
-ghost use Rattle.std.specs.Prelude.{◌≡◌, option_copied, IfOk};
+ghost use Rattle.std.specs.Prelude.{◌≡◌, option_copied};
 ghost use Rattle.ada_image.specs.Made.{Made};
-ghost use Rattle.ada_image.specs.ImageOfExpressions.{expression_image, expression_made, signs_in, signs_if, item_made, denoted_made, named_made};
+ghost use Rattle.ada_image.specs.ImageOfExpressions.{expression_image, expression_made, item_made, denoted_made, named_made};
 
 use crate::functions::function_made;
 use crate::images::Imaged;
 use crate::literals::literal_value;
 use crate::primaries::entity_made;
 use crate::sequences::{adding_made, logical_made, multiplying_made, relational_made};
-use crate::sums::{
-    one_and_both, one_more, sign_counts, signs_in_addends, signs_in_factors, signs_in_named,
-    signs_in_operands,
-};
 use crate::values::{signed_made, unary_made};
 use ada_entities::{denoted_by, kind_at};
 use ada_image::{Lists, Within};
-use ada_regions::{Denoted, Names, Predefined};
+use ada_regions::{Denoted, Predefined};
 use ada_tree::{Argument, AttributeDesignator, Expression, ExpressionForm, Name};
 use ann_base::NoMemory;
-use image_layout::{added, first_argument, highest_operator};
+use image_layout::{first_argument, highest_operator};
 use image_names::{attribute_made, known, no_value};
 use profile_machine::{ExprNo, Value};
 
@@ -131,43 +127,6 @@ impl<E: Imaged> Imaged for ExpressionForm<E> {
         }
     }
 
-    #[tactic(auto, unfolding(ada_image::specs::ImageOfExpressions::signs_in_operands, ada_image::specs::ImageOfExpressions::signs_in_addends, ada_image::specs::ImageOfExpressions::signs_in_factors))]
-    fn signs(&self, names: &Names<'_>) -> Result<u32, NoMemory> {
-        match self {
-            ExpressionForm::Logical { first, others, .. } => {
-                let first = first.signs(names)?;
-                let signs = one_and_both(first, others.first.relation.signs(names)?)?;
-                signs_in_operands(signs, others.others.as_slice(), names)
-            }
-            ExpressionForm::Relational { left, right, .. } => {
-                one_and_both(left.signs(names)?, right.signs(names)?)
-            }
-            ExpressionForm::Adding { first, others } => {
-                let first = first.signs(names)?;
-                let signs = one_and_both(first, others.first.term.signs(names)?)?;
-                signs_in_addends(signs, others.others.as_slice(), names)
-            }
-            ExpressionForm::Signed { sign, operand, .. } => {
-                added(sign_counts(*sign, operand.literal()), operand.signs(names)?)
-            }
-            ExpressionForm::Multiplying { first, others } => {
-                let first = first.signs(names)?;
-                let signs = one_and_both(first, others.first.factor.signs(names)?)?;
-                signs_in_factors(signs, others.others.as_slice(), names)
-            }
-            ExpressionForm::Highest { operand, .. } => one_more(operand.signs(names)?),
-            ExpressionForm::Number { .. } => Ok(0),
-            ExpressionForm::Text { .. } => Ok(0),
-            ExpressionForm::Null { .. } => Ok(0),
-            ExpressionForm::Bracketed { inner, .. } => inner.signs(names),
-            ExpressionForm::Named {
-                name,
-                attribute,
-                arguments,
-            } => signs_in_named(name, attribute, arguments.as_slice(), names),
-        }
-    }
-
     fn literal(&self) -> Option<&[u8]> {
         match self {
             ExpressionForm::Number { literal, .. } => Some(literal.as_slice()),
@@ -196,12 +155,6 @@ impl Imaged for Expression {
     }
 
     #[cycle(expression)]
-    #[tactic(auto, using(ada_image::proofs::ExpressionFolds::expression_counts))]
-    fn signs(&self, names: &Names<'_>) -> Result<u32, NoMemory> {
-        self.form.get().signs(names)
-    }
-
-    #[cycle(expression)]
     #[tactic(auto, using(ada_image::proofs::ExpressionFolds::expression_has_literal))]
     fn literal(&self) -> Option<&[u8]> {
         self.form.get().literal()
@@ -224,25 +177,6 @@ pub fn expression_made(
     ensures { Made (expression_made expression.now within.now) lists.old lists.new result }
 {
     expression.made(lists, within)
-}
-
-/// The number of the operator signs and calls of predefined functions in an expression.
-#[tactic(auto, unfolding(ada_image::specs::ImageOfExpressions::signs_in))]
-pub fn signs_in(within: &Within<'_, '_>, expression: &Expression) -> Result<u32, NoMemory>
-    ensures { IfOk result (λ n. n ≡ signs_in within.now expression.now) }
-{
-    expression.signs(within.names.get())
-}
-
-/// The same where the expression may be missing.
-#[tactic(auto, unfolding(ada_image::specs::ImageOfExpressions::signs_if))]
-pub fn signs_if(within: &Within<'_, '_>, expression: &Option<Expression>) -> Result<u32, NoMemory>
-    ensures { IfOk result (λ n. n ≡ signs_if within.now expression.now) }
-{
-    match expression {
-        None => Ok(0),
-        Some(expression) => signs_in(within, expression),
-    }
 }
 
 /// The name that an expression is, if it is one, in brackets or without.

@@ -1,13 +1,12 @@
 //! What an expression gives the image.
 use ada_image::{Lists, Within};
-use ada_regions::Names;
 use ada_tree::Name;
 use ann_base::NoMemory;
 use profile_machine::ExprNo;
 
 /// What gives an expression's image (ISO/IEC 8652:2012, clause 4).
 pub trait Imaged {
-    ghost use Rattle.std.specs.Prelude.{◌≡◌, IfOk, option_copied, option_map};
+    ghost use Rattle.std.specs.Prelude.{◌≡◌, option_copied, option_map};
     ghost use Rattle.ada_regions.specs.Statics.{literal_value};
     ghost use Rattle.ada_image.specs.Made.{Made};
     ghost use Rattle.ada_image.specs.ImageOfExpressions.{ExpressionImage};
@@ -17,10 +16,6 @@ pub trait Imaged {
     /// The expressions that it is are made.
     fn made(&self, lists: &mut Lists, within: &Within<'_, '_>) -> Result<ExprNo, NoMemory>
         ensures { Made ((image self.now).made within.now) lists.old lists.new result };
-
-    /// The number of its operator signs and calls of predefined functions.
-    fn signs(&self, names: &Names<'_>) -> Result<u32, NoMemory>
-        ensures { IfOk result (λ n. n ≡ (image self.now).signs names.now) };
 
     /// The literal that it is, if it is a numeric literal without brackets.
     fn literal(&self) -> Option<&[u8]>

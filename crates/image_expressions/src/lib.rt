@@ -9,14 +9,9 @@ mod images;
 mod literals;
 mod primaries;
 mod sequences;
-mod sums;
 mod values;
 mod variables;
 
-pub use forms::{expression_made, named, signs_if, signs_in};
-pub use image_names::{
-    kind_named, known, named_before, no_declaration_no, no_value, object_before, object_named,
-    object_number, thing_in, thing_named,
-};
+pub use forms::{expression_made, named};
 pub use images::Imaged;
 pub use variables::variable_made;

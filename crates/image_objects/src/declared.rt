@@ -7,7 +7,7 @@ use ada_entities::{entity_denoted, kind_at};
 use ada_image::Within;
 use ada_regions::{AdaType, EntityKind, Subtype, subtype_of_kind};
 use ada_tree::Identifier;
-use image_expressions::object_number;
+use image_names::object_number;
 use profile_machine::{DeclNo, SubprogramNo};
 
 #[tactic(auto, unfolding(ada_image::specs::ImageOfDeclarations::kind_declared))]

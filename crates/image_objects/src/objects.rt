@@ -12,8 +12,8 @@ use ada_regions::{AdaType, ComponentOwner, NumberedDeclaration, Subtype};
 use ada_tree::{Expression, Identifier, ObjectDeclaration};
 use ann_base::NoMemory;
 use image_actuals::{FunctionCall, function_call, function_call_put};
-use image_expressions::{signs_if, signs_in};
 use image_layout::{action_put, added, is_component_of};
+use image_signs::{signs_if, signs_in};
 use profile_machine::{DeclNo, Destination, StatementForm, StatementNo};
 use std::alloc::Global;
 

@@ -5,8 +5,9 @@ ghost use Rattle.image_parts.specs.Parts.{case_action, if_action};
 use ada_image::{Lists, Within};
 use ada_tree::Expression;
 use ann_base::NoMemory;
-use image_expressions::{expression_made, signs_in};
+use image_expressions::expression_made;
 use image_layout::{action_put, the_action};
+use image_signs::signs_in;
 use profile_machine::{CaseAlternative, ImageList, StatementForm, StatementNo};
 
 /// A condition, and the actions behind it (5.3).

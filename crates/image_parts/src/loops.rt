@@ -10,8 +10,9 @@ use ada_image::{Lists, Within};
 use ada_regions::EntityKind;
 use ada_tree::{Expression, Identifier, Loop};
 use ann_base::NoMemory;
-use image_expressions::{expression_made, signs_in};
+use image_expressions::expression_made;
 use image_layout::{added, put_at};
+use image_signs::signs_in;
 use profile_machine::{DeclNo, StatementForm, StatementNo};
 
 /// The number of a loop parameter, where the entity is one.

@@ -9,9 +9,8 @@ use ada_tree::{
     Alternative, Call, Delay, Expression, Guard, OneOrMore, SelectAlternative, Trigger,
 };
 use ann_base::NoMemory;
-use image_calls::signs_in_actuals;
-use image_expressions::signs_in;
 use image_layout::added;
+use image_signs::{signs_in, signs_in_actuals};
 
 /// The condition of a guard.
 pub fn guard_of(guard: &Option<Guard>) -> Option<&Expression>

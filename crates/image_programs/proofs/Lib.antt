@@ -1,4 +1,2 @@
 pub mod Drops
 pub mod Parts
-pub mod Before
-pub mod OneByOne

@@ -11,10 +11,10 @@ use ada_subtypes::subtype_of_name;
 use ada_tree::{Assignment, Name};
 use ann_base::NoMemory;
 use image_actuals::{FunctionCall, function_call, function_call_put, target_made};
-use image_expressions::{
-    expression_made, named, object_named, signs_if, signs_in, thing_in, thing_named,
-};
+use image_expressions::{expression_made, named};
 use image_layout::{action_put, added, subtype_is_array, subtype_is_kept};
+use image_names::{object_named, thing_in, thing_named};
+use image_signs::{signs_if, signs_in};
 use profile_machine::{DeclNo, Destination, ObjectName, StatementForm, StatementNo};
 use std::alloc::Global;
 

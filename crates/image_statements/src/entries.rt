@@ -10,8 +10,8 @@ use ada_regions::EntityKind;
 use ada_tree::{Name, OneOrMore};
 use ann_base::{NoMemory, Place};
 use image_actuals::owner_of_entry;
-use image_expressions::{kind_named, thing_named};
 use image_layout::action_put;
+use image_names::{kind_named, thing_named};
 use profile_machine::{
     DeclNo, EntryNo, EntryUnit, ImageList, StatementForm, StatementNo, TaskUnitNo,
 };

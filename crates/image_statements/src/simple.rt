@@ -10,8 +10,9 @@ use ada_image::{Lists, OpenLoop, Within};
 use ada_tree::{Delay, Exit, Expression, Identifier};
 use ann_base::NoMemory;
 use image_actuals::{FunctionCall, function_call, function_call_put};
-use image_expressions::{expression_made, signs_if, signs_in};
+use image_expressions::expression_made;
 use image_layout::action_put;
+use image_signs::{signs_if, signs_in};
 use profile_machine::{Destination, ExprNo, StatementForm, StatementNo, SubprogramNo};
 use std::alloc::Global;
 

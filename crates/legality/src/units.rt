@@ -11,11 +11,11 @@ use ada_tree::{
     Unit,
 };
 use ann_base::{NoMemory, Place};
+use legality_bodies::legality_choices::{place_of_priority, stated_value};
 use legality_bodies::legality_compounds::{Judge, judge_each, judge_if};
+use legality_bodies::legality_parts::aspects_found;
 use legality_contexts::context_found;
-use legality_contexts::legality_choices::{place_of_priority, stated_value};
 use legality_contexts::legality_entities::with_around;
-use legality_contexts::legality_parts::aspects_found;
 use legality_contexts::legality_types::note;
 use sqlite_items::Items;
 use std::alloc::Global;

@@ -14,14 +14,15 @@ use ann_base::NoMemory;
 use legality_compounds::{Judge, judge_each};
 use legality_declarations::legality_entities::with_around;
 use legality_declarations::legality_parts::{indication_found, parameters_found};
-use legality_declarations::{
-    barrier_found, definition_found, entry_body_judged, object_found, unit_body_judged, unit_here,
-    use_found,
+use legality_declarations::legality_tasking::{
+    barrier_found, entry_body_judged, unit_body_judged, unit_here,
 };
+use legality_declarations::{definition_found, object_found};
 use legality_subprograms::{
     specification_found, subprogram_body_judged, subprogram_found, subprogram_here,
     unit_of_operation,
 };
+use legality_units::use_found;
 use std::alloc::Global;
 use world_tables::List;
 

@@ -11,3 +11,4 @@ pub use sequences::WithDeclarations;
 
 // What stands below, for the crates above.
 pub use legality_compounds;
+pub use legality_declarations::{legality_choices, legality_parts};

@@ -10,12 +10,14 @@ use ann_base::{NoMemory, Place};
 use legality_declarations::legality_choices::{
     is_other_ceiling, place_of_priority, stated_level, stated_value,
 };
-use legality_declarations::legality_parts::{aspects_found, cells_noted};
-use legality_declarations::legality_types::note;
-use legality_declarations::{
-    entries_found, entries_judged, entries_of_definition, entries_of_operations, entry_found,
-    protected_components_found, protected_noted, protected_unit_of_name, single_task_judged,
+use legality_declarations::legality_conditions::cells_noted;
+use legality_declarations::legality_parts::aspects_found;
+use legality_declarations::legality_tasking::{
+    entries_judged, entries_of_definition, entries_of_operations, protected_noted,
+    protected_unit_of_name, single_task_judged,
 };
+use legality_declarations::legality_types::note;
+use legality_declarations::{entries_found, entry_found, protected_components_found};
 use legality_subprograms::legality_profiles::declaration_noted;
 use legality_subprograms::subprogram_found;
 use sqlite_items::Items;

@@ -2,12 +2,10 @@
 use Rattle.std.proofs.Common.{◌≡◌, ◌++◌, ◌+◌, ◌||◌, ◌∷◌, ◌∙◌, [], Bool, List, None, Some, cond, false, true, ℕ, ap, arith, refl, suc, take}
 use Rattle.ada_legality.specs.Calls.{actual_from, given_before, given_in_place, gives_name, is_for, is_for_a_formal, is_misnamed, some_are_misnamed, stray_actuals}
 use Rattle.ada_legality.specs.Findings.{broken_unless}
-use Rattle.ada_legality.specs.Reading.{actual_if, actuals_fitted}
 use Rattle.ada_legality.specs.declared.parts.ActualPart.{ActualPart}
 use Rattle.ada_legality.specs.declared.parts.FormalPart.{FormalPart}
 use Rattle.ada_legality.specs.declared.rules.Rule.TheVariants as rule
-use Rattle.ada_legality.specs.declared.standing.Known.{Known}
-use Rattle.legality_calls.specs.Along.{actual_along, fitted_along, given_along, misnamed_along, stray_along}
+use Rattle.legality_calls.specs.Along.{actual_along, given_along, misnamed_along, stray_along}
 
 no_actual : (formals : List FormalPart) (actuals : List ActualPart) (at : ℕ) → stray_actuals formals actuals at [] ≡ []
 unfolding stray_actuals
@@ -25,23 +23,6 @@ stray_is formals actuals at [] = no_actual formals actuals at
 stray_is formals actuals at (a ∷ rest) =
     one_actual formals actuals at a rest
     ∙ ap (λ more. broken_unless rule.Actuals (is_for_a_formal formals (take at actuals) a.formal) a.place ++ more) (stray_is formals actuals (at + 1) rest)
-
-no_formal : (k : Known) (number : ℕ) (actuals : List ActualPart) → actuals_fitted k number [] actuals ≡ []
-unfolding actuals_fitted
-no_formal k number actuals = refl
-
-one_formal : (k : Known) (number : ℕ) (f : FormalPart) (fs : List FormalPart) (actuals : List ActualPart)
-    → actuals_fitted k number (f ∷ fs) actuals ≡ actual_if k f (actual_from number f.name 0 actuals) ++ actuals_fitted k (number + 1) fs actuals
-unfolding actuals_fitted
-one_formal k number f fs actuals =
-    let one : suc number ≡ number + 1 = omega arith in
-    ap (λ n. actual_if k f (actual_from number f.name 0 actuals) ++ actuals_fitted k n fs actuals) one
-
-pub fitted_is : (k : Known) (number : ℕ) (fs : List FormalPart) (actuals : List ActualPart) → actuals_fitted k number fs actuals ≡ fitted_along k number fs actuals
-fitted_is k number [] actuals = no_formal k number actuals
-fitted_is k number (f ∷ fs) actuals =
-    one_formal k number f fs actuals
-    ∙ ap (λ more. actual_if k f (actual_from number f.name 0 actuals) ++ more) (fitted_is k (number + 1) fs actuals)
 
 none_given : (formals : List FormalPart) (at : ℕ) (name : List ℕ) → given_before formals [] at name ≡ false
 unfolding given_before

@@ -1,12 +1,10 @@
 -- Actuals and formals, one at a time.
 use Rattle.std.specs.Prelude.{Bool, List, None, Option, Some, [], cond, false, take, ℕ, ◌+◌, ◌++◌, ◌||◌, ◌∷◌}
-use Rattle.ada_legality.specs.Calls.{actual_from, given_in_place, gives_name, is_for, is_for_a_formal, is_misnamed}
+use Rattle.ada_legality.specs.Calls.{given_in_place, gives_name, is_for, is_for_a_formal, is_misnamed}
 use Rattle.ada_legality.specs.Findings.{Found, broken_unless}
-use Rattle.ada_legality.specs.Reading.{actual_if}
 use Rattle.ada_legality.specs.declared.parts.ActualPart.{ActualPart}
 use Rattle.ada_legality.specs.declared.parts.FormalPart.{FormalPart}
 use Rattle.ada_legality.specs.declared.reading.Read.{Read}
-use Rattle.ada_legality.specs.declared.standing.Known.{Known}
 use Rattle.ada_legality.specs.declared.rules.Rule.TheVariants as rule
 
 -- the actuals that are for no formal, from a place on
@@ -15,12 +13,6 @@ stray_along formals actuals at [] = []
 stray_along formals actuals at (a ∷ rest) =
     broken_unless rule.Actuals (is_for_a_formal formals (take at actuals) a.formal) a.place
     ++ stray_along formals actuals (at + 1) rest
-
--- actuals for the formals from this number on
-abbrev pub fitted_along : Known → ℕ → List FormalPart → List ActualPart → Found
-fitted_along k number [] actuals = []
-fitted_along k number (f ∷ fs) actuals =
-    actual_if k f (actual_from number f.name 0 actuals) ++ fitted_along k (number + 1) fs actuals
 
 -- those from this place on give the formal of this name already
 abbrev pub given_along : List FormalPart → List ActualPart → ℕ → List ℕ → Bool

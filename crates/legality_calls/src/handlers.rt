@@ -127,7 +127,7 @@ fn assigning_actual(
 }
 
 /// An actual whose mode assigns.
-pub(crate) fn assigned_if(
+pub fn assigned_if(
     found: &mut List<Finding>,
     known: &Known<'_, '_>,
     mode: Mode,
@@ -199,7 +199,7 @@ fn is_wanted_handler(known: &Known<'_, '_>, t: AdaType, typed: Typed) -> bool
 
 /// An actual for a handler of objects of this type.
 #[tactic(auto, unfolding(ada_legality::specs::Reading::handler_actual))]
-pub(crate) fn handler_actual(
+pub fn handler_actual(
     found: &mut List<Finding>,
     known: &Known<'_, '_>,
     read: &Read,

@@ -9,6 +9,6 @@ mod handlers;
 mod moments;
 
 pub use actuals::{actual_from, wrong_actuals};
-pub use fitting::{actuals_judged, actuals_numbered};
+pub use fitting::actuals_numbered;
 pub use formals::{formals_denoted, without_name};
-pub use handlers::component_assigned;
+pub use handlers::{assigned_if, component_assigned, handler_actual};

@@ -9,14 +9,14 @@ use ada_legality::{Asked, ChoicePart, Finding, Known, Read, Rule, Span, Typed};
 use ada_regions::AdaType;
 use ada_tree::{Choice, Expression, OneOrMore};
 use ann_base::{NoMemory, Place};
-use legality_parts::legality_choices::{others_not_last, static_number, wrong_choices};
-use legality_parts::legality_expressions::Readable;
-use legality_parts::legality_reads::{
+use legality_conditions::legality_choices::{others_not_last, static_number, wrong_choices};
+use legality_conditions::legality_expressions::Readable;
+use legality_conditions::legality_reads::{
     call_inside, expected, integer_literal, is_discrete_or_refused, literal_in,
     other_pointed_literal,
 };
-use legality_parts::legality_types::{broken_unless, discrete_if, operand_type};
-use legality_parts::not_static;
+use legality_conditions::legality_types::{broken_unless, discrete_if, operand_type};
+use legality_conditions::not_static;
 use profile_machine::ImageList;
 use std::alloc::Global;
 use std::marker::Model;

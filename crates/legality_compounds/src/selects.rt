@@ -15,7 +15,7 @@ use ada_tree::{
 use ann_base::{NoMemory, Place};
 use legality_handlers::legality_entities::with_around;
 use legality_handlers::legality_types::broken_if;
-use legality_leaving::legality_choices::selective_accept_judged;
+use legality_parts::legality_choices::selective_accept_judged;
 use legality_statements::{delay_found, entry_call_found, guard_found, trigger_found};
 use profile_machine::ImageList;
 use std::alloc::Global;

@@ -4,7 +4,7 @@ use ada_legality::{Finding, Known};
 use ada_tree::Statement;
 use ann_base::NoMemory;
 use legality_leaving::{exit_found, raise_found, return_found};
-use legality_statements::legality_requeues::{abort_found, requeue_found};
+use legality_requeues::{abort_found, requeue_found};
 use legality_statements::{assignment_found, call_found, delay_found};
 use std::alloc::Global;
 use world_tables::List;

@@ -9,8 +9,8 @@ use ada_legality::{InForce, Known, OccurrencesOf};
 use ada_regions::{AdaType, Names, Occurrence, Occurrences};
 use ada_tree::Expression;
 use ann_base::NoMemory;
-use legality_declarations::legality_expressions::typed_expression;
-use legality_declarations::legality_types::type_of_bounds;
+use legality_expressions::legality_types::type_of_bounds;
+use legality_expressions::typed_expression;
 use std::alloc::Global;
 use world_tables::List;
 

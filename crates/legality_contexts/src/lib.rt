@@ -9,6 +9,4 @@ pub use contexts::context_found;
 pub use indexes::{indexes_of, known_with};
 
 // What stands below, for the crates above.
-pub use legality_declarations::{
-    legality_choices, legality_entities, legality_parts, legality_types,
-};
+pub use legality_expressions::{legality_entities, legality_types};

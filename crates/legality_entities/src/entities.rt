@@ -1,8 +1,9 @@
 //! What names denote, and subtypes of entities (ISO/IEC 8652:2012, 3.3, 4.1, 8.6).
 ghost use Rattle.std.specs.Prelude.{◌≡◌, eqb, find, option_copied};
-ghost use Rattle.ada_legality.specs.Values.{subtype_of_loop, subtype_of_object, denoted_kind, kind_of_name, entity_of_name, subtype_of_entity, type_of_unit_kind, is_library_declaration, is_library_object};
+ghost use Rattle.ada_legality.specs.Values.{subtype_of_loop, subtype_of_object, denoted_kind, kind_of_name, entity_of_name, subtype_of_entity, type_of_unit_kind, is_library_declaration, is_library_object, is_entry_kind, is_kind};
 ghost use Rattle.ada_legality.specs.Attributes.{kind_of_identifier};
 
+use crate::kinds::is_entry_kind;
 use ada_entities::{denoted_by, entity_denoted, entity_of, kind_at};
 use ada_legality::{Known, LoopParameter};
 use ada_regions::{AdaType, Denoted, EntityKind, Names, Subtype, free_subtype, subtype_of_kind};
@@ -55,6 +56,16 @@ pub fn kind_of_name<'n>(known: &'n Known<'_, '_>, name: &Name) -> Option<&'n Ent
 {
     let denoted = denoted_by(known.names.get(), name)?;
     denoted_kind(known.names.get(), denoted)
+}
+
+/// A name denotes an entry.
+pub fn names_entry(known: &Known<'_, '_>, name: &Name) -> bool
+    ensures { result ≡ is_kind is_entry_kind known.now name.now }
+{
+    match kind_of_name(known, name) {
+        None => false,
+        Some(kind) => is_entry_kind(kind),
+    }
 }
 
 /// What the entity is that an identifier denotes.

@@ -18,7 +18,7 @@ pub use around::{
     unit_around,
 };
 pub use entities::{
-    denoted_kind, entity_of_name, is_library_object, kind_of_identifier, kind_of_name,
+    denoted_kind, entity_of_name, is_library_object, kind_of_identifier, kind_of_name, names_entry,
     subtype_of_entity, type_of_unit_kind,
 };
 pub use exceptions::names_exception;

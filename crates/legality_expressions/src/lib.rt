@@ -10,7 +10,8 @@ pub use forms::{arguments_read, typed_expression};
 pub use readable::Readable;
 
 // What stands below, for the crates above.
-pub use legality_values;
-pub use legality_values::{
+pub use legality_actuals;
+pub use legality_actuals::{
     legality_calls, legality_entities, legality_names, legality_reads, legality_types,
+    legality_values,
 };

@@ -12,12 +12,12 @@ use ada_legality::{Around, Finding, Known, Rule, SubprogramAround};
 use ada_regions::{AdaType, EntityKind};
 use ada_tree::{Exit, Expression, Identifier, Name};
 use ann_base::{NoMemory, Place};
-use legality_parts::legality_entities::{
+use legality_conditions::legality_entities::{
     is_accept, is_body, kind_of_identifier, names_exception, same_entities, sequence_around,
 };
-use legality_parts::legality_types::{broken_unless, note};
-use legality_parts::legality_values::place_of;
-use legality_parts::{condition_found, value_alone_found_if};
+use legality_conditions::legality_types::{broken_unless, note};
+use legality_conditions::legality_values::place_of;
+use legality_conditions::{condition_found, value_alone_found_if};
 use std::alloc::Global;
 use world_tables::List;
 

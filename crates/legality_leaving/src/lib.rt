@@ -7,5 +7,5 @@ mod leaving;
 pub use leaving::{exit_found, raise_found, return_found};
 
 // What stands below, for the crates above.
-pub use legality_parts;
-pub use legality_parts::{legality_choices, legality_expressions};
+pub use legality_conditions;
+pub use legality_conditions::legality_expressions;

@@ -9,10 +9,12 @@ use ada_subtypes::static_value;
 use ada_tree::{Aspect, Expression, Identifier};
 use ann_base::{NoMemory, Place};
 use image_policies::level_of;
-use legality_choices::{aspects_from, may_be_attached, stands_before_attach, static_number};
-use legality_expressions::Readable;
-use legality_expressions::legality_reads::without_point;
-use legality_expressions::legality_types::broken_if;
+use legality_conditions::legality_choices::{
+    aspects_from, may_be_attached, stands_before_attach, static_number,
+};
+use legality_conditions::legality_expressions::Readable;
+use legality_conditions::legality_reads::without_point;
+use legality_conditions::legality_types::broken_if;
 use profile_machine::ImageList;
 use std::alloc::Global;
 use world_tables::List;

@@ -4,18 +4,18 @@ ghost use Rattle.ada_legality.specs.ReadExpressions.{is_unclear_mark};
 ghost use Rattle.ada_legality.specs.Values.{is_kind};
 ghost use Rattle.ada_legality.specs.CallStatements.{type_of_mark, constraint_found, has_range, has_access, may_be_indicated, range_fits, type_fits_indication, is_fitting_mark, may_have_access, has_other_discriminant, component_judged, mark_judged, mark_judged_if, indication_found, parameter_found};
 
-use crate::values::bounds_if;
+use crate::bounds::bounds_if;
 use ada_legality::{Finding, IndicationUse, Known, Rule};
 use ada_regions::AdaType;
 use ada_subtypes::indicated_subtype;
 use ada_tree::{Constraint as Indicated, Name, Parameter, SubtypeIndication};
 use ann_base::NoMemory;
-use legality_expressions::legality_entities::kind_of_name;
-use legality_expressions::legality_types::{
+use legality_conditions::legality_entities::kind_of_name;
+use legality_conditions::legality_types::{
     broken_if, broken_unless, has_ranges, is_controlled_type, is_event_timer_or_budget,
     is_root_controlled, is_scalar, is_scalar_or_array, is_timer,
 };
-use legality_expressions::legality_values::{is_unclear_mark, place_of};
+use legality_conditions::legality_values::{is_unclear_mark, place_of};
 use std::alloc::Global;
 use world_tables::List;
 

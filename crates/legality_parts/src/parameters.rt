@@ -7,7 +7,7 @@ use crate::marks::parameter_found;
 use ada_legality::{Finding, Known, Rule};
 use ada_tree::{Identifier, Parameter};
 use ann_base::{NoMemory, Place};
-use legality_expressions::legality_types::broken_if;
+use legality_conditions::legality_types::broken_if;
 use profile_machine::ImageList;
 use std::alloc::Global;
 use std::marker::Model;

@@ -4,10 +4,7 @@
 
 mod requeues;
 
-pub use requeues::{abort_found, names_entry, requeue_found};
+pub use requeues::{abort_found, requeue_found};
 
 // What stands below, for the crates above.
-pub use legality_expressions::{
-    legality_calls, legality_entities, legality_names, legality_reads, legality_types,
-};
 pub use legality_profiles;

@@ -6,10 +6,10 @@ ghost use Rattle.ann_base.specs.Lists.{is_empty};
 ghost use Rattle.ada_regions.specs.Names.{kind_at};
 ghost use Rattle.ada_legality.specs.Attributes.{unit_type_of_entry};
 ghost use Rattle.ada_legality.specs.Types.{same_type_if};
-ghost use Rattle.ada_legality.specs.Values.{denotes_value, is_denoted, is_entry_kind, is_kind, kind_of_name};
+ghost use Rattle.ada_legality.specs.Values.{denotes_value, is_denoted, kind_of_name};
 ghost use Rattle.ada_legality.specs.Words.{any_in_body, is_accept};
 ghost use Rattle.ada_legality.specs.ReadExpressions.{unless_denoted};
-ghost use Rattle.ada_legality.specs.SimpleStatements.{is_task_or_unclear, is_task_name, abort_found, entry_of, accept_or_entry, names_unit_around, is_of_same_object, task_type_of_entry, is_task_entry, is_possible_target, type_of_formal, same_mode, same_formals, formals_of_entry, formals_fit, requeues_from, is_right_requeue, requeue_found};
+ghost use Rattle.ada_legality.specs.SimpleStatements.{is_task_or_unclear, is_task_name, abort_found, entry_of, accept_or_entry, names_unit_around, is_of_same_object, is_task_entry, is_possible_target, type_of_formal, same_mode, same_formals, formals_of_entry, formals_fit, requeues_from, is_right_requeue, requeue_found};
 ghost use Rattle.legality_requeues.specs.Formals.{same_along, same_beside};
 
 use ada_entities::{denoted_by, kind_at};
@@ -17,14 +17,14 @@ use ada_legality::{Around, Finding, Known, Rule};
 use ada_regions::{AdaType, Denoted, EntityKind, Formal};
 use ada_tree::{Name, OneOrMore};
 use ann_base::{NoMemory, Place};
-use legality_expressions::legality_entities::{
-    innermost_unit, is_accept, is_body, is_entry_kind, is_type_in, kind_of_name, sequence_around,
+use legality_profiles::same_mode;
+use legality_values::legality_entities::{
+    innermost_unit, is_accept, is_body, is_type_in, kind_of_name, names_entry, sequence_around,
     stands_in_unit, task_type_of_entry, unit_type_of_entry,
 };
-use legality_expressions::legality_names::{denotes_value, is_task_object, object_prefix};
-use legality_expressions::legality_types::{broken_if, broken_unless, same_type_if};
-use legality_expressions::legality_values::{is_unclear_object, place_of};
-use legality_profiles::same_mode;
+use legality_values::legality_names::{denotes_value, is_task_object, object_prefix};
+use legality_values::legality_types::{broken_if, broken_unless, same_type_if};
+use legality_values::{is_unclear_object, place_of};
 use world_tables::List;
 
 /// A task object, or one whose own declaration names no type.
@@ -351,16 +351,6 @@ fn is_right_requeue(known: &Known<'_, '_>, name: &Name) -> bool
     match accept_or_entry(known) {
         None => false,
         Some(own) => requeues_from(known, name, own),
-    }
-}
-
-/// A name denotes an entry.
-pub fn names_entry(known: &Known<'_, '_>, name: &Name) -> bool
-    ensures { result ≡ is_kind is_entry_kind known.now name.now }
-{
-    match kind_of_name(known, name) {
-        None => false,
-        Some(kind) => is_entry_kind(kind),
     }
 }
 

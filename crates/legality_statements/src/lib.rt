@@ -9,7 +9,3 @@ mod loops;
 pub use assignments::{assignment_found, delay_found};
 pub use calls::call_found;
 pub use loops::{entry_call_found, guard_found, iteration_found, trigger_found, with_iteration};
-
-// What stands below, for the crates above.
-pub use legality_requeues;
-pub use legality_requeues::legality_profiles;

@@ -10,9 +10,4 @@ pub use bodies::{subprogram_body_judged, subprogram_here};
 pub use subprograms::{specification_found, subprogram_found, unit_of_operation};
 
 // What stands below, for the crates above.
-pub use legality_parts;
-pub use legality_parts::{
-    legality_choices, legality_entities, legality_expressions, legality_names, legality_reads,
-    legality_types,
-};
 pub use legality_profiles;

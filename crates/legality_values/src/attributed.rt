@@ -2,23 +2,20 @@
 ghost use Rattle.std.specs.Prelude.{◌≡◌, ◌++◌, OnOk};
 ghost use Rattle.ada_regions.specs.Completions.{holds_of};
 ghost use Rattle.ada_legality.specs.Values.{denoted_kind, is_denoted};
-ghost use Rattle.ada_legality.specs.ReadExpressions.{attribute_read, is_unclear_mark, denotes_subprogram, is_unclear, may_have_attribute, no_handler_access, attribute_alone, image_judged, other_attribute, attribute_judged};
+ghost use Rattle.ada_legality.specs.ReadExpressions.{attribute_read, is_unclear_mark, denotes_subprogram, is_unclear, may_have_attribute, no_handler_access, attribute_alone, other_attribute};
 
-use crate::values::{index_fitted, is_unclear_object, place_of};
+use crate::values::{is_unclear_object, place_of};
 use ada_entities::denoted_by;
 use ada_legality::{ActualPart, Finding, Known, Read, Rule};
-use ada_regions::{AdaType, Denoted, EntityKind};
+use ada_regions::{Denoted, EntityKind};
 use ada_tree::{Attribute, Name};
 use ann_base::NoMemory;
-use legality_calls::{actuals_numbered, without_name};
 use legality_entities::{denoted_kind, is_function_kind, is_procedure_kind};
 use legality_names::{
-    counts, has_images, is_library_handler, is_task_object, takes_arguments, type_of_ends,
-    typed_attribute_of,
+    counts, has_images, is_library_handler, is_task_object, type_of_ends, typed_attribute_of,
 };
-use legality_reads::{image_length, plain_read, type_of_prefix};
+use legality_reads::{image_length, plain_read};
 use legality_types::{broken_if, broken_unless};
-use std::alloc::Global;
 use world_tables::List;
 
 /// What an attribute of a name is read as.
@@ -137,7 +134,7 @@ fn no_handler_access(
 
 /// An attribute without arguments.
 #[tactic(auto, unfolding(ada_legality::specs::ReadExpressions::attribute_alone))]
-fn attribute_alone(
+pub fn attribute_alone(
     found: &mut List<Finding>,
     known: &Known<'_, '_>,
     name: &Name,
@@ -150,30 +147,8 @@ fn attribute_alone(
     no_handler_access(found, known, name, attribute)
 }
 
-/// Image has one argument, which is a value of its type.
-#[tactic(auto, unfolding(ada_legality::specs::ReadExpressions::image_judged))]
-fn image_judged(
-    alloc: Global,
-    found: &mut List<Finding>,
-    known: &Known<'_, '_>,
-    name: &Name,
-    actuals: &[ActualPart],
-    t: Option<AdaType>,
-) -> Result<(), NoMemory>
-    ensures { OnOk result (found.new ≡ found.old ++ image_judged known.now name.now actuals.now t) }
-{
-    match t {
-        None => attribute_alone(found, known, name, Attribute::Image),
-        Some(t) => {
-            let formals = without_name(alloc, None)?;
-            actuals_numbered(found, known, place_of(name), formals.as_slice(), actuals)?;
-            index_fitted(found, Some(t), actuals)
-        }
-    }
-}
-
 /// Another attribute, which has no argument.
-fn other_attribute(
+pub fn other_attribute(
     found: &mut List<Finding>,
     known: &Known<'_, '_>,
     name: &Name,
@@ -186,26 +161,5 @@ fn other_attribute(
     match actuals {
         [] => attribute_alone(found, known, name, attribute),
         [_, ..] => broken_if(found, Rule::Actuals, true, place_of(name)),
-    }
-}
-
-/// A name with an attribute.
-#[tactic(auto, unfolding(ada_legality::specs::ReadExpressions::attribute_judged))]
-pub fn attribute_judged(
-    alloc: Global,
-    found: &mut List<Finding>,
-    known: &Known<'_, '_>,
-    name: &Name,
-    attribute: Attribute,
-    actuals: &[ActualPart],
-) -> Result<(), NoMemory>
-    ensures { OnOk result
-        (found.new ≡ found.old ++ attribute_judged known.now name.now attribute actuals.now) }
-{
-    if takes_arguments(attribute) {
-        let t = type_of_prefix(known, name);
-        image_judged(alloc, found, known, name, actuals, t)
-    } else {
-        other_attribute(found, known, name, attribute, actuals)
     }
 }

@@ -1,26 +1,22 @@
-//! Names as values, elements and calls (ISO/IEC 8652:2012, 4.1, 4.4, 6.4).
-ghost use Rattle.std.specs.Prelude.{◌≡◌, ◌++◌, [], OnOk, option_map, unwrap_or};
+//! Names as values (ISO/IEC 8652:2012, 4.1, 4.4).
+ghost use Rattle.std.specs.Prelude.{◌≡◌, ◌++◌, OnOk};
 ghost use Rattle.ada_regions.specs.Completions.{holds_of};
 ghost use Rattle.ada_regions.specs.Words.{and_then};
 ghost use Rattle.ada_legality.specs.Values.{denoted_kind, is_object_kind, is_function_kind, is_kind, kind_of_name, is_denoted};
-ghost use Rattle.ada_legality.specs.Calls.{formals_denoted};
-ghost use Rattle.ada_legality.specs.Reading.{actuals_judged, denotes_barrier_part};
-ghost use Rattle.ada_legality.specs.ReadExpressions.{is_declared_object, component_owner, name_shape, name_read, index_fitted, element_judged, denoted_judged, is_unclear_object, index_fits, may_be_value, name_judged};
+ghost use Rattle.ada_legality.specs.Reading.{denotes_barrier_part};
+ghost use Rattle.ada_legality.specs.ReadExpressions.{is_declared_object, component_owner, name_shape, name_read, index_fitted, is_unclear_object, index_fits, may_be_value};
 
 use crate::barriers::denotes_barrier_part;
 use ada_entities::denoted_by;
-use ada_legality::{ActualPart, Asked, Finding, Known, NameShape, Read, Rule, Shape};
+use ada_legality::{ActualPart, Asked, Finding, Known, NameShape, Read, Shape};
 use ada_regions::{AdaType, ComponentOwner, Denoted, EntityKind};
 use ada_tree::Name;
 use ann_base::{NoMemory, Place};
-use legality_calls::{actuals_judged, actuals_numbered, formals_denoted, without_name};
 use legality_entities::{
     denoted_kind, is_function_kind, is_object_kind, kind_of_name, subtype_of_entity,
 };
 use legality_names::{denotes_function, denotes_value, ends_of_object, is_variable, typed_name};
 use legality_reads::{fitted, plain_read};
-use legality_types::broken_unless;
-use std::alloc::Global;
 use world_tables::List;
 
 /// A declared object.
@@ -117,7 +113,7 @@ pub fn name_read(known: &Known<'_, '_>, name: &Name, has_arguments: bool) -> Rea
 }
 
 /// The index is a value of the type of the array's index.
-pub(crate) fn index_fitted(
+pub fn index_fitted(
     found: &mut List<Finding>,
     t: Option<AdaType>,
     actuals: &[ActualPart],
@@ -127,70 +123,6 @@ pub(crate) fn index_fitted(
     match actuals.first() {
         None => Ok(()),
         Some(actual) => fitted(found, Asked::ForValue, t, &actual.read),
-    }
-}
-
-/// An element of an array.
-#[tactic(auto, unfolding(ada_legality::specs::ReadExpressions::element_judged))]
-fn element_judged(
-    alloc: Global,
-    found: &mut List<Finding>,
-    known: &Known<'_, '_>,
-    place: Place,
-    actuals: &[ActualPart],
-    t: Option<AdaType>,
-) -> Result<(), NoMemory>
-    ensures { OnOk result (found.new ≡ found.old ++ element_judged known.now place actuals.now t) }
-{
-    match t {
-        None => Ok(()),
-        Some(t) => {
-            let formals = without_name(alloc, Some(t))?;
-            actuals_numbered(found, known, place, formals.as_slice(), actuals)?;
-            index_fitted(found, Some(t), actuals)
-        }
-    }
-}
-
-/// The call of what is denoted.
-fn call_of(
-    alloc: Global,
-    found: &mut List<Finding>,
-    known: &Known<'_, '_>,
-    place: Place,
-    actuals: &[ActualPart],
-    denoted: Denoted,
-) -> Result<(), NoMemory>
-    ensures { OnOk result
-        (found.new
-        ≡ found.old
-        ++ actuals_judged known.now place (formals_denoted known.now actuals.now denoted)
-        actuals.now) }
-{
-    let formals = formals_denoted(alloc, known, actuals, denoted)?;
-    actuals_judged(found, known, place, formals.as_slice(), actuals)
-}
-
-/// A call or an element, by what the name denotes.
-#[tactic(auto, unfolding(ada_legality::specs::ReadExpressions::denoted_judged))]
-fn denoted_judged(
-    alloc: Global,
-    found: &mut List<Finding>,
-    known: &Known<'_, '_>,
-    place: Place,
-    actuals: &[ActualPart],
-    denoted: Denoted,
-) -> Result<(), NoMemory>
-    ensures { OnOk result
-        (found.new ≡ found.old ++ denoted_judged known.now place actuals.now denoted) }
-{
-    if denotes_function(known, denoted) {
-        call_of(alloc, found, known, place, actuals, denoted)
-    } else if actuals.is_empty() {
-        Ok(())
-    } else {
-        let t = ends_of_object(known, denoted);
-        element_judged(alloc, found, known, place, actuals, t)
     }
 }
 
@@ -234,49 +166,11 @@ fn may_be_value(known: &Known<'_, '_>, has_arguments: bool, denoted: Denoted) ->
 }
 
 /// A name may stand where a value stands.
-fn names_value(known: &Known<'_, '_>, name: &Name, has_arguments: bool) -> bool
+pub fn names_value(known: &Known<'_, '_>, name: &Name, has_arguments: bool) -> bool
     ensures { result ≡ is_denoted (may_be_value known.now has_arguments) known.now name.now }
 {
     match denoted_by(known.names.get(), name) {
         None => false,
         Some(denoted) => may_be_value(known, has_arguments, denoted),
     }
-}
-
-/// What a name denotes, where it denotes something.
-fn denoted_judged_if(
-    alloc: Global,
-    found: &mut List<Finding>,
-    known: &Known<'_, '_>,
-    place: Place,
-    actuals: &[ActualPart],
-    denoted: Option<Denoted>,
-) -> Result<(), NoMemory>
-    ensures { OnOk result
-        (found.new
-        ≡ found.old
-        ++ unwrap_or (option_map (denoted_judged known.now place actuals.now) denoted) []) }
-{
-    match denoted {
-        None => Ok(()),
-        Some(denoted) => denoted_judged(alloc, found, known, place, actuals, denoted),
-    }
-}
-
-/// A name without attribute.
-#[tactic(auto, unfolding(ada_legality::specs::ReadExpressions::name_judged))]
-pub fn name_judged(
-    alloc: Global,
-    found: &mut List<Finding>,
-    known: &Known<'_, '_>,
-    name: &Name,
-    actuals: &[ActualPart],
-) -> Result<(), NoMemory>
-    ensures { OnOk result (found.new ≡ found.old ++ name_judged known.now name.now actuals.now) }
-{
-    let place = place_of(name);
-    let kept = names_value(known, name, !actuals.is_empty());
-    broken_unless(found, Rule::KindOfName, kept, place)?;
-    let denoted = denoted_by(known.names.get(), name);
-    denoted_judged_if(alloc, found, known, place, actuals, denoted)
 }

@@ -1,5 +1,5 @@
 use Rattle.std.proofs.Common.{◌≡◌, ◌++◌, drop}
-use Rattle.legality_declarations.proofs.entries.add_entries.Given as goal
+use Rattle.legality_tasking.proofs.entries.add_entries.Given as goal
 
 -- the entries so far, and those to come, are all of them
 abbrev pub invariant-loop-declaration : goal.invariant-loop-declaration

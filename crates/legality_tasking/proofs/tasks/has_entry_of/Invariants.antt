@@ -2,7 +2,7 @@ use Rattle.std.proofs.Common.{◌≡◌}
 use Rattle.std.specs.List.{list_any}
 use Rattle.std.specs.VecDeque.Iter.{deque_iter_rest}
 use Rattle.ada_image.specs.UnitsOfImage.{same_entry_unit}
-use Rattle.legality_declarations.proofs.tasks.has_entry_of.Given as goal
+use Rattle.legality_tasking.proofs.tasks.has_entry_of.Given as goal
 
 -- the entries that are to come give what all of them give
 abbrev pub invariant-loop-entry : goal.invariant-loop-entry

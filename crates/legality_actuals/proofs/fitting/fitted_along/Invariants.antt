@@ -1,6 +1,6 @@
 use Rattle.std.proofs.Common.{◌≡◌, ◌++◌, drop}
-use Rattle.legality_calls.specs.Along.{fitted_along}
-use Rattle.legality_calls.proofs.fitting.fitted_along.Given as goal
+use Rattle.legality_actuals.specs.Along.{fitted_along}
+use Rattle.legality_actuals.proofs.fitting.fitted_along.Given as goal
 
 -- what is found by now, and what the formals to come give, is all
 abbrev pub invariant-loop-formal : goal.invariant-loop-formal

@@ -1,7 +1,7 @@
 use Rattle.std.proofs.Common.{◌≡◌, ◌++◌, drop}
 use Rattle.std.specs.List.{flat_map}
 use Rattle.ada_legality.specs.Declarations.{entry_of_operation}
-use Rattle.legality_declarations.proofs.entries.entries_of_operations.Given as goal
+use Rattle.legality_tasking.proofs.entries.entries_of_operations.Given as goal
 
 -- the entries so far, and those to come, are all of them
 abbrev pub invariant-loop-operation : goal.invariant-loop-operation

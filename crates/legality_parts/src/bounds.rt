@@ -1,111 +1,19 @@
-//! Expressions in statements, and bounds (ISO/IEC 8652:2012, 3.5, 5.3, 8.6).
+//! Bounds (ISO/IEC 8652:2012, 3.5).
 ghost use Rattle.std.specs.Prelude.{◌≡◌, ◌++◌, [], OnOk, cond};
 ghost use Rattle.ada_legality.specs.Types.{has_ranges};
-ghost use Rattle.ada_legality.specs.CallStatements.{found_if, value_found, value_alone_found, condition_found, not_static, is_above, pair_judged, bounds_judged, bounds_found, bounds_if};
+ghost use Rattle.ada_legality.specs.CallStatements.{is_above, pair_judged, bounds_judged, bounds_found, bounds_if};
 
 use ada_legality::{Asked, Finding, Known, Read, Rule};
 use ada_regions::AdaType;
 use ada_tree::Expression;
-use ann_base::{NoMemory, Place};
-use legality_choices::{number_of_expression, static_number};
-use legality_expressions::Readable;
-use legality_expressions::legality_reads::{expected, fitted};
-use legality_expressions::legality_types::{broken_if, broken_unless, has_ranges};
+use ann_base::NoMemory;
+use legality_conditions::legality_choices::static_number;
+use legality_conditions::legality_expressions::Readable;
+use legality_conditions::legality_reads::expected;
+use legality_conditions::legality_types::{broken_if, has_ranges};
+use legality_conditions::{not_static, value_found};
 use std::alloc::Global;
 use world_tables::List;
-
-/// A value, in which a function's call may not stand.
-#[tactic(auto, unfolding(ada_legality::specs::CallStatements::value_found))]
-pub fn value_found(
-    alloc: Global,
-    found: &mut List<Finding>,
-    known: &Known<'_, '_>,
-    t: Option<AdaType>,
-    expression: &Expression,
-) -> Result<(), NoMemory>
-    ensures { OnOk result (found.new ≡ found.old ++ value_found t expression.now known.now) }
-{
-    let read = expression.read(alloc, found, known)?;
-    expected(found, Asked::ForValue, t, &read)
-}
-
-/// A value, where one is given.
-pub fn value_found_if(
-    alloc: Global,
-    found: &mut List<Finding>,
-    known: &Known<'_, '_>,
-    t: Option<AdaType>,
-    expression: &Option<Expression>,
-) -> Result<(), NoMemory>
-    ensures { OnOk result
-        (found.new ≡ found.old ++ found_if (value_found t) expression.now known.now) }
-{
-    match expression {
-        None => Ok(()),
-        Some(expression) => value_found(alloc, found, known, t, expression),
-    }
-}
-
-/// A value that may be a function's call.
-#[tactic(auto, unfolding(ada_legality::specs::CallStatements::value_alone_found))]
-pub fn value_alone_found(
-    alloc: Global,
-    found: &mut List<Finding>,
-    known: &Known<'_, '_>,
-    t: Option<AdaType>,
-    expression: &Expression,
-) -> Result<(), NoMemory>
-    ensures { OnOk result (found.new ≡ found.old ++ value_alone_found t expression.now known.now) }
-{
-    let read = expression.read(alloc, found, known)?;
-    fitted(found, Asked::ForValue, t, &read)
-}
-
-/// A value that may be a function's call, where one is given.
-pub fn value_alone_found_if(
-    alloc: Global,
-    found: &mut List<Finding>,
-    known: &Known<'_, '_>,
-    t: Option<AdaType>,
-    expression: &Option<Expression>,
-) -> Result<(), NoMemory>
-    ensures { OnOk result
-        (found.new ≡ found.old ++ found_if (value_alone_found t) expression.now known.now) }
-{
-    match expression {
-        None => Ok(()),
-        Some(expression) => value_alone_found(alloc, found, known, t, expression),
-    }
-}
-
-/// A condition: Boolean.
-#[tactic(auto, unfolding(ada_legality::specs::CallStatements::condition_found))]
-pub fn condition_found(
-    alloc: Global,
-    found: &mut List<Finding>,
-    known: &Known<'_, '_>,
-    expression: &Expression,
-) -> Result<(), NoMemory>
-    ensures { OnOk result (found.new ≡ found.old ++ condition_found expression.now known.now) }
-{
-    let read = expression.read(alloc, found, known)?;
-    expected(found, Asked::ForCondition, Some(AdaType::Boolean), &read)
-}
-
-/// An expression that is not static.
-pub fn not_static(
-    found: &mut List<Finding>,
-    rule: Rule,
-    known: &Known<'_, '_>,
-    expression: &Expression,
-    place: Place,
-) -> Result<(), NoMemory>
-    ensures { OnOk result
-        (found.new ≡ found.old ++ not_static rule known.now expression.now place) }
-{
-    let kept = number_of_expression(known, expression)?.is_some();
-    broken_unless(found, rule, kept, place)
-}
 
 /// The first number is above the second.
 fn is_above(low: Option<i128>, high: Option<i128>) -> bool

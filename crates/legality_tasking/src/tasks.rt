@@ -9,8 +9,10 @@ use ada_regions::{AdaType, Names, NumberedEntry};
 use ada_tree::Identifier;
 use ann_base::{NoMemory, Place};
 use image_layout::same_entry_unit;
-use legality_parts::legality_entities::{is_library_object, kind_of_identifier, type_of_unit_kind};
-use legality_parts::legality_types::{broken_if, is_task_unit};
+use legality_expressions::legality_entities::{
+    is_library_object, kind_of_identifier, type_of_unit_kind,
+};
+use legality_expressions::legality_types::{broken_if, is_task_unit};
 use profile_machine::EntryUnit;
 use world_tables::List;
 
@@ -94,7 +96,7 @@ fn is_outside_deadlines(known: &Known<'_, '_>, name: &Identifier) -> bool
 
 /// An object that may be one of a task, declared here.
 #[tactic(auto, unfolding(ada_legality::specs::Declarations::task_judged))]
-pub(crate) fn task_judged(
+pub fn task_judged(
     found: &mut List<Finding>,
     known: &Known<'_, '_>,
     name: &Identifier,

@@ -1,22 +1,18 @@
-//! The heads of units' and entries' bodies, and use clauses (ISO/IEC 8652:2012, 8.4, 9.1, 9.4, 9.5.2, D.7).
+//! The heads of units' and entries' bodies (ISO/IEC 8652:2012, 9.1, 9.4, 9.5.2, D.7).
 ghost use Rattle.std.specs.Prelude.{◌≡◌, ◌++◌, OnOk};
-ghost use Rattle.ada_legality.specs.UnitsUsed.{is_unit_name};
-ghost use Rattle.ada_legality.specs.Values.{is_denoted};
-ghost use Rattle.ada_legality.specs.Declarations.{barrier_found, barrier_judged, entry_body_judged, entry_profile_if, is_simple_barrier, is_unit_of, unit_body_judged, unit_here, use_found};
+ghost use Rattle.ada_legality.specs.Declarations.{barrier_found, barrier_judged, entry_body_judged, entry_profile_if, is_simple_barrier, is_unit_of, unit_body_judged, unit_here};
 
 use crate::tasks::type_of_identifier;
 use ada_completions::is_unit;
-use ada_entities::{denoted_by, entity_denoted};
+use ada_entities::entity_denoted;
 use ada_legality::{Asked, BodyKind, Finding, Known, Read, Rule, Shape, UnitAround};
 use ada_regions::{AdaType, UnitKind};
 use ada_tree::{EntryHead, Expression, Identifier, Name, Parameter};
 use ann_base::NoMemory;
-use legality_parts::legality_entities::is_unit_name;
-use legality_parts::legality_expressions::Readable;
-use legality_parts::legality_names::is_own_entry;
-use legality_parts::legality_reads::expected;
-use legality_parts::legality_types::{broken_if, broken_unless};
-use legality_parts::legality_values::place_of;
+use legality_expressions::Readable;
+use legality_expressions::legality_names::is_own_entry;
+use legality_expressions::legality_reads::expected;
+use legality_expressions::legality_types::{broken_if, broken_unless};
 use legality_profiles::{body_noted, entry_body_profile_judged};
 use std::alloc::Global;
 use world_tables::List;
@@ -136,27 +132,4 @@ pub fn entry_body_judged(
     let entity = entity_denoted(known.names.get(), name.place);
     let parameters = head.parameters.as_slice();
     entry_profile_if(alloc, found, known, is_own, parameters, entity)
-}
-
-/// A name is that of a unit.
-fn names_unit(known: &Known<'_, '_>, name: &Name) -> bool
-    ensures { result ≡ is_denoted (is_unit_name known.now.names) known.now name.now }
-{
-    match denoted_by(known.names.get(), name) {
-        None => false,
-        Some(denoted) => is_unit_name(known.names.get(), denoted),
-    }
-}
-
-/// A use clause names a package.
-#[tactic(auto, unfolding(ada_legality::specs::Declarations::use_found))]
-pub fn use_found(
-    found: &mut List<Finding>,
-    known: &Known<'_, '_>,
-    name: &Name,
-) -> Result<(), NoMemory>
-    ensures { OnOk result (found.new ≡ found.old ++ use_found name.now known.now) }
-{
-    let kept = names_unit(known, name);
-    broken_unless(found, Rule::KindOfName, kept, place_of(name))
 }

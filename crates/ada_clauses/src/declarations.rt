@@ -1,11 +1,10 @@
 //! Declarations of objects, exceptions, types and subtypes, and use clauses (ISO/IEC 8652:2012, clauses 3, 8.4 and
 //! 11.1).
-ghost use Rattle.std.specs.Prelude.{length};
 ghost use Rattle.ada_grammar.specs.ReadingDeclarations.{array_of, component_of, components_record_of, definition_of, derived_of, enumeration_of, exception_of, extension_of, initial_of, named_declaration_of, null_record_of, object_of, subtype_of, type_of, use_of};
-ghost use Rattle.ada_grammar.specs.Reading.{items_from, sees_identifier};
+ghost use Rattle.ada_grammar.specs.Reading.{items_of, sees_identifier};
 ghost use Rattle.ada_grammar.specs.Reads.{Reads};
 
-use ada_expressions::{below, bounds, expression, identifiers, name, subtype_indication};
+use ada_expressions::{below, bounds, expression, identifiers, items, name, subtype_indication};
 use ada_grammar::{Cursor, Stuck};
 use ada_lex::{Delimiter, Reserved};
 use ada_tree::{
@@ -110,22 +109,20 @@ fn component(
 }
 
 /// Components as long as one begins.
-pub(crate) fn add_components(
+pub(crate) fn components(
     alloc: Global,
     cursor: &mut Cursor<'_>,
     left: usize,
-    mut found: Items<Component>,
 ) -> Result<Items<Component>, OrMemory<Stuck>>
     ensures { Reads result cursor.new
-        (items_from sees_identifier (component_of left) (length cursor.old) found cursor.old) }
+        (items_of sees_identifier (component_of left) cursor.old) }
 {
-    for _turn in 0..cursor.remaining() {
-        if !cursor.is_identifier() {
-            return Ok(found);
-        }
-        found.push(component(alloc, cursor, left)?)?;
-    }
-    Ok(found)
+    items(
+        alloc,
+        cursor,
+        |cursor| cursor.is_identifier(),
+        |cursor| component(alloc, cursor, left),
+    )
 }
 
 /// `(NAME {, NAME})` (3.5.1)
@@ -176,7 +173,7 @@ fn null_record(cursor: &mut Cursor<'_>) -> Result<Option<OneOrMore<Component>>, 
 }
 
 /// `record COMPONENT {COMPONENT} end record` (3.8)
-#[tactic(auto, unfolding(ada_grammar::specs::ReadingDeclarations::components_record_of, ada_grammar::specs::Reading::items_of))]
+#[tactic(auto, unfolding(ada_grammar::specs::ReadingDeclarations::components_record_of))]
 fn components_record(
     alloc: Global,
     cursor: &mut Cursor<'_>,
@@ -186,7 +183,7 @@ fn components_record(
 {
     cursor.word(Reserved::Record)?;
     let first = component(alloc, cursor, left)?;
-    let others = add_components(alloc, cursor, left, Items::new(alloc))?;
+    let others = components(alloc, cursor, left)?;
     cursor.word(Reserved::End)?;
     cursor.word(Reserved::Record)?;
     Ok(Some(OneOrMore { first, others }))

@@ -1,13 +1,14 @@
 //! Specifications of subprograms, entries, tasks and protected units, with their aspects (ISO/IEC 8652:2012, 6.1, 9.1,
 //! 9.4, 9.5.2, 13.1.1).
-ghost use Rattle.std.specs.Prelude.{◌≡◌, IfOk, codes, length, map};
+ghost use Rattle.std.specs.Prelude.{◌≡◌, IfOk, map};
 ghost use Rattle.std.specs.Char.{to_ascii_lowercase};
 ghost use Rattle.ada_grammar.specs.ReadingDeclarations.{aspect_of, aspect_value_of, aspects_of, begins_operation, begins_specification, entry_head_of, entry_of, function_of, given_aspects_of, operation_of, overriding_of, private_of, procedure_of, protected_of, specification_of, specified_operation_of, task_definition_of, task_of};
-ghost use Rattle.ada_grammar.specs.Reading.{behind_delimiter_of, items_from, sees_delimiter, sees_word};
 ghost use Rattle.ada_grammar.specs.Reads.{Reads};
 
-use crate::declarations::add_components;
-use ada_expressions::{expression, first_before, parameters, subtype_indication};
+use crate::declarations::components;
+use ada_expressions::{
+    expression, first_before, items, items_behind, parameters, subtype_indication,
+};
 use ada_grammar::{Cursor, Stuck};
 use ada_lex::{Delimiter, Reserved};
 use ada_tree::{
@@ -45,42 +46,8 @@ fn aspect(alloc: Global, cursor: &mut Cursor<'_>, left: usize) -> Result<Aspect,
     Ok(Aspect { name, value })
 }
 
-/// An aspect behind a comma.
-#[tactic(auto, unfolding(ada_grammar::specs::Reading::behind_delimiter_of))]
-fn next_aspect(
-    alloc: Global,
-    cursor: &mut Cursor<'_>,
-    left: usize,
-) -> Result<Aspect, OrMemory<Stuck>>
-    ensures { Reads result cursor.new
-        (behind_delimiter_of (codes ",") (aspect_of left) cursor.old) }
-{
-    cursor.delimiter(Delimiter::Comma)?;
-    aspect(alloc, cursor, left)
-}
-
-/// The aspects behind the first one.
-fn add_aspects(
-    alloc: Global,
-    cursor: &mut Cursor<'_>,
-    left: usize,
-    mut found: Items<Aspect>,
-) -> Result<Items<Aspect>, OrMemory<Stuck>>
-    ensures { Reads result cursor.new
-        (items_from (sees_delimiter (codes ",")) (behind_delimiter_of (codes ",") (aspect_of left))
-        (length cursor.old) found cursor.old) }
-{
-    for _turn in 0..cursor.remaining() {
-        if !cursor.is_delimiter(Delimiter::Comma) {
-            return Ok(found);
-        }
-        found.push(next_aspect(alloc, cursor, left)?)?;
-    }
-    Ok(found)
-}
-
 /// `with ASPECT {, ASPECT}` (13.1.1)
-#[tactic(auto, unfolding(ada_grammar::specs::ReadingDeclarations::given_aspects_of, ada_grammar::specs::Reading::items_of))]
+#[tactic(auto, unfolding(ada_grammar::specs::ReadingDeclarations::given_aspects_of))]
 fn given_aspects(
     alloc: Global,
     cursor: &mut Cursor<'_>,
@@ -90,7 +57,9 @@ fn given_aspects(
 {
     cursor.word(Reserved::With)?;
     let first = aspect(alloc, cursor, left)?;
-    let others = add_aspects(alloc, cursor, left, Items::new(alloc))?;
+    let others = items_behind(alloc, cursor, Delimiter::Comma, |cursor| {
+        aspect(alloc, cursor, left)
+    })?;
     Ok(first_before(alloc, first, others)?)
 }
 
@@ -221,28 +190,8 @@ pub fn entry_declaration(
     })
 }
 
-/// Entry declarations as long as one begins.
-fn add_entries(
-    alloc: Global,
-    cursor: &mut Cursor<'_>,
-    left: usize,
-    mut found: Items<EntryDeclaration>,
-) -> Result<Items<EntryDeclaration>, OrMemory<Stuck>>
-    ensures { Reads result cursor.new
-        (items_from (sees_word (codes "entry")) (entry_of left) (length cursor.old) found
-        cursor.old) }
-{
-    for _turn in 0..cursor.remaining() {
-        if !cursor.is_word(Reserved::Entry) {
-            return Ok(found);
-        }
-        found.push(entry_declaration(alloc, cursor, left)?)?;
-    }
-    Ok(found)
-}
-
 /// `[is {ENTRY} end [NAME]]`, of the task with this name (9.1)
-#[tactic(auto, unfolding(ada_grammar::specs::ReadingDeclarations::task_definition_of, ada_grammar::specs::Reading::items_of))]
+#[tactic(auto, unfolding(ada_grammar::specs::ReadingDeclarations::task_definition_of))]
 fn task_definition(
     alloc: Global,
     cursor: &mut Cursor<'_>,
@@ -254,7 +203,12 @@ fn task_definition(
 {
     if cursor.is_word(Reserved::Is) {
         cursor.word(Reserved::Is)?;
-        let entries = add_entries(alloc, cursor, left, Items::new(alloc))?;
+        let entries = items(
+            alloc,
+            cursor,
+            |cursor| cursor.is_word(Reserved::Entry),
+            |cursor| entry_declaration(alloc, cursor, left),
+        )?;
         cursor.word(Reserved::End)?;
         let named_at_end = cursor.end_name(name)?;
         Ok(Some(TaskDefinition {
@@ -327,27 +281,8 @@ pub fn begins_operation(cursor: &Cursor<'_>) -> bool
     cursor.is_word(Reserved::Entry) || begins_specification(cursor)
 }
 
-/// Operations as long as one begins.
-fn add_operations(
-    alloc: Global,
-    cursor: &mut Cursor<'_>,
-    left: usize,
-    mut found: Items<ProtectedOperation>,
-) -> Result<Items<ProtectedOperation>, OrMemory<Stuck>>
-    ensures { Reads result cursor.new
-        (items_from begins_operation (operation_of left) (length cursor.old) found cursor.old) }
-{
-    for _turn in 0..cursor.remaining() {
-        if !begins_operation(cursor) {
-            return Ok(found);
-        }
-        found.push(protected_operation(alloc, cursor, left)?)?;
-    }
-    Ok(found)
-}
-
 /// `[private {COMPONENT}]` (9.4)
-#[tactic(auto, unfolding(ada_grammar::specs::ReadingDeclarations::private_of, ada_grammar::specs::Reading::items_of))]
+#[tactic(auto, unfolding(ada_grammar::specs::ReadingDeclarations::private_of))]
 fn private_part(
     alloc: Global,
     cursor: &mut Cursor<'_>,
@@ -357,14 +292,14 @@ fn private_part(
 {
     if cursor.is_word(Reserved::Private) {
         cursor.word(Reserved::Private)?;
-        Ok(Some(add_components(alloc, cursor, left, Items::new(alloc))?))
+        Ok(Some(components(alloc, cursor, left)?))
     } else {
         Ok(None)
     }
 }
 
 /// `[type] NAME [ASPECTS] is {OPERATION} [private {COMPONENT}] end [NAME];`, behind the `protected` at this place (9.4)
-#[tactic(auto, unfolding(ada_grammar::specs::ReadingDeclarations::protected_of, ada_grammar::specs::Reading::items_of))]
+#[tactic(auto, unfolding(ada_grammar::specs::ReadingDeclarations::protected_of))]
 pub fn protected_declaration<Q>(
     alloc: Global,
     cursor: &mut Cursor<'_>,
@@ -377,7 +312,9 @@ pub fn protected_declaration<Q>(
     let name = cursor.identifier(alloc)?;
     let aspects = aspects(alloc, cursor, left)?;
     cursor.word(Reserved::Is)?;
-    let operations = add_operations(alloc, cursor, left, Items::new(alloc))?;
+    let operations = items(alloc, cursor, begins_operation, |cursor| {
+        protected_operation(alloc, cursor, left)
+    })?;
     let components = private_part(alloc, cursor, left)?;
     cursor.word(Reserved::End)?;
     let named_at_end = cursor.end_name(name.text.as_slice())?;

@@ -1,3 +1,2 @@
 pub mod Levels
-pub mod FirstItems
-pub mod GivenArguments
+pub mod ItemLoop

@@ -1,3 +1,3 @@
 pub mod Inside
+pub mod Parts
 pub mod Turns
-pub mod Lists

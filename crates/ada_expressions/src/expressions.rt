@@ -1,16 +1,17 @@
 //! Expressions (ISO/IEC 8652:2012, 4.4). The productions take the reader of the expressions in brackets as a
 //! parameter, so that each is proved by itself.
-ghost use Rattle.std.specs.Prelude.{◌≡◌, IfOk, codes, length};
-ghost use Rattle.ada_grammar.specs.Reading.{behind_delimiter_of, items_from, sees_delimiter, sees_word};
-ghost use Rattle.ada_grammar.specs.ReadingExpressions.{addend_of, addition_behind_of, adds, argument_of, arguments_of, bracketed_of, compared_of, expression_of, factor_of, first_term_of, formed, given_arguments_of, highest_of, inner_of, joined_of, logical_of, logical_text, multiplied_of, multiplies, named_argument_of, named_of, operand_of, primary_of, product_of, relation_of, signed_of, sum_of, term_of};
+ghost use Rattle.std.specs.Prelude.{◌≡◌, IfOk};
+ghost use Rattle.ada_grammar.specs.ReadingExpressions.{addend_of, addition_behind_of, adds, argument_of, arguments_of, bracketed_of, compared_of, expression_of, factor_of, first_term_of, formed, given_arguments_of, highest_of, inner_of, joined_of, logical_of, multiplied_of, multiplies, named_argument_of, named_of, operand_of, primary_of, product_of, relation_of, signed_of, sum_of, term_of};
 ghost use Rattle.ada_expressions.specs.Inside.{ReadsInside};
 ghost use Rattle.ada_grammar.specs.Reads.{Reads};
 
+use crate::lists::{items, items_behind};
 use crate::names::name;
 use crate::operators::{
     addition, adds, again, compares, comparison, designator, highest_place, joins, joins_again,
     logical_operator, multiplication, multiplies, sign_place,
 };
+use crate::subtypes::first_before;
 use ada_grammar::{Cursor, Stuck};
 use ada_lex::{Delimiter, Reserved};
 use ada_tree::{
@@ -92,43 +93,6 @@ impl<F: Fn(Global, &mut Cursor<'_>, usize) -> Result<Expression, OrMemory<Stuck>
         }
     }
 
-    /// An argument behind a comma.
-    #[tactic(auto, unfolding(ada_grammar::specs::Reading::behind_delimiter_of))]
-    fn next_argument(
-        &self,
-        cursor: &mut Cursor<'_>,
-    ) -> Result<Argument<Expression>, OrMemory<Stuck>>
-        requires reads { ReadsInside self.now.left (F.pre self.now.read) (F.post self.now.read) }
-        ensures { Reads result cursor.new
-            (behind_delimiter_of (codes ",") (argument_of self.now.left (inner_of self.now.left))
-            cursor.old) }
-    {
-        cursor.delimiter(Delimiter::Comma)?;
-        self.argument(cursor)
-    }
-
-    /// The arguments behind the first one.
-    #[tactic(auto, unfolding(ada_grammar::specs::Reading::items_of))]
-    fn add_arguments(
-        &self,
-        cursor: &mut Cursor<'_>,
-        mut arguments: Items<Argument<Expression>>,
-    ) -> Result<Items<Argument<Expression>>, OrMemory<Stuck>>
-        requires reads { ReadsInside self.now.left (F.pre self.now.read) (F.post self.now.read) }
-        ensures { Reads result cursor.new
-            (items_from (sees_delimiter (codes ","))
-            (behind_delimiter_of (codes ",") (argument_of self.now.left (inner_of self.now.left)))
-            (length cursor.old) arguments cursor.old) }
-    {
-        for _turn in 0..cursor.remaining() {
-            if !cursor.is_delimiter(Delimiter::Comma) {
-                return Ok(arguments);
-            }
-            arguments.push(self.next_argument(cursor)?)?;
-        }
-        Ok(arguments)
-    }
-
     /// Arguments in brackets (4.1.1, 6.4.1).
     #[tactic(auto, unfolding(ada_grammar::specs::ReadingExpressions::given_arguments_of))]
     fn given_arguments(
@@ -140,11 +104,15 @@ impl<F: Fn(Global, &mut Cursor<'_>, usize) -> Result<Expression, OrMemory<Stuck>
             (given_arguments_of self.now.left (inner_of self.now.left) cursor.old) }
     {
         cursor.open(self.left)?;
-        let mut arguments = Items::new(self.alloc);
-        arguments.push(self.argument(cursor)?)?;
-        let arguments = self.add_arguments(cursor, arguments)?;
+        let first = self.argument(cursor)?;
+        let others = items_behind(
+            self.alloc,
+            cursor,
+            Delimiter::Comma,
+            |cursor| self.argument(cursor),
+        )?;
         cursor.delimiter(Delimiter::CloseBracket)?;
-        Ok(arguments)
+        Ok(first_before(self.alloc, first, others)?)
     }
 
     /// The arguments of a name, none where no bracket stands.
@@ -271,28 +239,8 @@ impl<F: Fn(Global, &mut Cursor<'_>, usize) -> Result<Expression, OrMemory<Stuck>
         })
     }
 
-    /// The factors behind the second one.
-    fn add_factors(
-        &self,
-        cursor: &mut Cursor<'_>,
-        mut factors: Items<Multiplied<Expression>>,
-    ) -> Result<Items<Multiplied<Expression>>, OrMemory<Stuck>>
-        requires reads { ReadsInside self.now.left (F.pre self.now.read) (F.post self.now.read) }
-        ensures { Reads result cursor.new
-            (items_from multiplies (multiplied_of self.now.left (inner_of self.now.left))
-            (length cursor.old) factors cursor.old) }
-    {
-        for _turn in 0..cursor.remaining() {
-            if !multiplies(cursor) {
-                return Ok(factors);
-            }
-            factors.push(self.multiplied(cursor)?)?;
-        }
-        Ok(factors)
-    }
-
     /// Factors that are multiplied or divided, behind the first one (4.5.5).
-    #[tactic(auto, unfolding(ada_grammar::specs::ReadingExpressions::product_of, ada_grammar::specs::Reading::items_of))]
+    #[tactic(auto, unfolding(ada_grammar::specs::ReadingExpressions::product_of))]
     fn product(
         &self,
         cursor: &mut Cursor<'_>,
@@ -305,7 +253,12 @@ impl<F: Fn(Global, &mut Cursor<'_>, usize) -> Result<Expression, OrMemory<Stuck>
         let second = self.multiplied(cursor)?;
         let others = OneOrMore {
             first: second,
-            others: self.add_factors(cursor, Items::new(self.alloc))?,
+            others: items(
+                self.alloc,
+                cursor,
+                multiplies,
+                |cursor| self.multiplied(cursor),
+            )?,
         };
         Ok(formed(self.alloc, ExpressionForm::Multiplying { first, others })?)
     }
@@ -374,28 +327,8 @@ impl<F: Fn(Global, &mut Cursor<'_>, usize) -> Result<Expression, OrMemory<Stuck>
         })
     }
 
-    /// The terms behind the second one.
-    fn add_terms(
-        &self,
-        cursor: &mut Cursor<'_>,
-        mut terms: Items<Addend<Expression>>,
-    ) -> Result<Items<Addend<Expression>>, OrMemory<Stuck>>
-        requires reads { ReadsInside self.now.left (F.pre self.now.read) (F.post self.now.read) }
-        ensures { Reads result cursor.new
-            (items_from adds (addend_of self.now.left (inner_of self.now.left)) (length cursor.old)
-            terms cursor.old) }
-    {
-        for _turn in 0..cursor.remaining() {
-            if !adds(cursor) {
-                return Ok(terms);
-            }
-            terms.push(self.addend(cursor)?)?;
-        }
-        Ok(terms)
-    }
-
     /// Terms that are added, subtracted or joined, behind the first one (4.5.3).
-    #[tactic(auto, unfolding(ada_grammar::specs::ReadingExpressions::addition_behind_of, ada_grammar::specs::Reading::items_of))]
+    #[tactic(auto, unfolding(ada_grammar::specs::ReadingExpressions::addition_behind_of))]
     fn addition_behind(
         &self,
         cursor: &mut Cursor<'_>,
@@ -408,7 +341,7 @@ impl<F: Fn(Global, &mut Cursor<'_>, usize) -> Result<Expression, OrMemory<Stuck>
         let second = self.addend(cursor)?;
         let others = OneOrMore {
             first: second,
-            others: self.add_terms(cursor, Items::new(self.alloc))?,
+            others: items(self.alloc, cursor, adds, |cursor| self.addend(cursor))?,
         };
         Ok(formed(self.alloc, ExpressionForm::Adding { first, others })?)
     }
@@ -481,30 +414,8 @@ impl<F: Fn(Global, &mut Cursor<'_>, usize) -> Result<Expression, OrMemory<Stuck>
         Ok(Operand { place, relation })
     }
 
-    /// The relations behind the second one.
-    fn add_operands(
-        &self,
-        cursor: &mut Cursor<'_>,
-        operator: LogicalOperator,
-        mut operands: Items<Operand<Expression>>,
-    ) -> Result<Items<Operand<Expression>>, OrMemory<Stuck>>
-        requires reads { ReadsInside self.now.left (F.pre self.now.read) (F.post self.now.read) }
-        ensures { Reads result cursor.new
-            (items_from (sees_word (logical_text operator))
-            (operand_of self.now.left (inner_of self.now.left) operator) (length cursor.old)
-            operands cursor.old) }
-    {
-        for _turn in 0..cursor.remaining() {
-            if !joins_again(cursor, operator) {
-                return Ok(operands);
-            }
-            operands.push(self.operand(cursor, operator)?)?;
-        }
-        Ok(operands)
-    }
-
     /// Relations that one logical operator joins, behind the first one (4.5.1).
-    #[tactic(auto, unfolding(ada_grammar::specs::ReadingExpressions::joined_of, ada_grammar::specs::Reading::items_of))]
+    #[tactic(auto, unfolding(ada_grammar::specs::ReadingExpressions::joined_of))]
     fn joined(
         &self,
         cursor: &mut Cursor<'_>,
@@ -518,7 +429,12 @@ impl<F: Fn(Global, &mut Cursor<'_>, usize) -> Result<Expression, OrMemory<Stuck>
         let relation = self.relation(cursor)?;
         let others = OneOrMore {
             first: Operand { place, relation },
-            others: self.add_operands(cursor, operator, Items::new(self.alloc))?,
+            others: items(
+                self.alloc,
+                cursor,
+                |cursor| joins_again(cursor, operator),
+                |cursor| self.operand(cursor, operator),
+            )?,
         };
         let form = ExpressionForm::Logical {
             operator,

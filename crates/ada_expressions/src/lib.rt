@@ -3,10 +3,12 @@
 #![tactic(auto)]
 
 mod expressions;
+mod lists;
 mod names;
 mod operators;
 mod subtypes;
 
 pub use expressions::{argument, arguments, expression};
+pub use lists::{items, items_behind, separated};
 pub use names::{identifiers, name, name_list};
 pub use subtypes::{below, bounds, first_before, parameters, subtype_indication};

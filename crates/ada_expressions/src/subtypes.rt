@@ -1,10 +1,10 @@
 //! Subtype indications and parameters (ISO/IEC 8652:2012, 3.2.2, 6.1).
-ghost use Rattle.std.specs.Prelude.{◌≡◌, ◌∷◌, IfOk, codes, length};
+ghost use Rattle.std.specs.Prelude.{◌≡◌, ◌∷◌, IfOk};
 ghost use Rattle.ada_grammar.specs.ReadingSimple.{access_of, bounds_of, constraint_of, given_parameters_of, parameter_of, parameters_of, range_of, subtype_indication_of};
-ghost use Rattle.ada_grammar.specs.Reading.{behind_delimiter_of, below, items_from, sees_delimiter};
+ghost use Rattle.ada_grammar.specs.Reading.{below};
 ghost use Rattle.ada_grammar.specs.Reads.{Reads};
 
-use crate::{expression, identifiers, name};
+use crate::{expression, identifiers, items_behind, name};
 use ada_grammar::{Cursor, Stuck};
 use ada_lex::{Delimiter, Reserved};
 use ada_tree::{Constraint, Expression, Parameter, SubtypeIndication};
@@ -133,43 +133,8 @@ fn parameter(
     })
 }
 
-/// A parameter behind a semicolon.
-#[tactic(auto, unfolding(ada_grammar::specs::Reading::behind_delimiter_of))]
-fn next_parameter(
-    alloc: Global,
-    cursor: &mut Cursor<'_>,
-    left: usize,
-) -> Result<Parameter, OrMemory<Stuck>>
-    ensures { Reads result cursor.new
-        (behind_delimiter_of (codes ";") (parameter_of left) cursor.old) }
-{
-    cursor.delimiter(Delimiter::Semicolon)?;
-    parameter(alloc, cursor, left)
-}
-
-/// The parameters behind the first one.
-fn add_parameters(
-    alloc: Global,
-    cursor: &mut Cursor<'_>,
-    left: usize,
-    mut found: Items<Parameter>,
-) -> Result<Items<Parameter>, OrMemory<Stuck>>
-    ensures { Reads result cursor.new
-        (items_from (sees_delimiter (codes ";"))
-        (behind_delimiter_of (codes ";") (parameter_of left)) (length cursor.old) found
-        cursor.old) }
-{
-    for _turn in 0..cursor.remaining() {
-        if !cursor.is_delimiter(Delimiter::Semicolon) {
-            return Ok(found);
-        }
-        found.push(next_parameter(alloc, cursor, left)?)?;
-    }
-    Ok(found)
-}
-
 /// `(PARAMETER {; PARAMETER})` (6.1)
-#[tactic(auto, unfolding(ada_grammar::specs::ReadingSimple::given_parameters_of, ada_grammar::specs::Reading::items_of))]
+#[tactic(auto, unfolding(ada_grammar::specs::ReadingSimple::given_parameters_of))]
 fn given_parameters(
     alloc: Global,
     cursor: &mut Cursor<'_>,
@@ -179,7 +144,9 @@ fn given_parameters(
 {
     cursor.open(left)?;
     let first = parameter(alloc, cursor, below(left))?;
-    let others = add_parameters(alloc, cursor, below(left), Items::new(alloc))?;
+    let others = items_behind(alloc, cursor, Delimiter::Semicolon, |cursor| {
+        parameter(alloc, cursor, below(left))
+    })?;
     cursor.delimiter(Delimiter::CloseBracket)?;
     Ok(first_before(alloc, first, others)?)
 }

@@ -1,26 +1,24 @@
 //! Library units and the source, as they are read (ISO/IEC 8652:2012, 2.8, clause 7, 10.1).
-ghost use Rattle.std.specs.Prelude.{◌≡◌, ◌≤◌, codes, length, true, IfErr, IfOk, Ok};
+ghost use Rattle.std.specs.Prelude.{◌≡◌, ◌≤◌, length, true, IfErr, IfOk, Ok};
 ghost use Rattle.ann_base.specs.Answers.{Answers, OfFault};
 ghost use Rattle.ada_lex.specs.Lexed.{AreTokensOf};
 ghost use Rattle.ada_tree.specs.declared.units.Unit.{Unit as Tree};
 ghost use Rattle.ada_tree.specs.Written.{lexemes_of};
 ghost use Rattle.ada_tree.specs.Spelling.{SpellsTokens};
 ghost use Rattle.ada_tree.specs.Shape.{is_shaped};
-ghost use Rattle.ada_grammar.specs.Reading.{behind_delimiter_of, items_of, sees_delimiter, sees_word, separated_of};
-ghost use Rattle.ada_grammar.specs.ReadingExpressions.{argument_of, inner_of};
 ghost use Rattle.ada_grammar.specs.Reads.{Reads};
 ghost use Rattle.grammar_laws.specs.FaultLaws.{NoneGoesOn};
 ghost use Rattle.ada_grammar.specs.ReadingUnits.{begins_clause, clause_of, context_of, finished, main_of, package_body_of, package_declaration_of, package_of, package_statements_of, packages_of, placed_fault, pragma_of, private_part_of, source_of, unit_of, use_clause_of, with_of};
 
 use ada_clauses::aspects;
-use ada_expressions::{argument, name_list};
+use ada_expressions::{argument, items, name_list, separated};
 use ada_grammar::{Cursor, ParseFault, Stuck};
 use ada_lex::{Delimiter, MAX_SOURCE, Reserved, Token};
 use ada_selects::end_name;
 use ada_sequences::{below, body, declarations, sequence};
 use ada_tree::{
-    Argument, ContextClause, Declaration, Expression, LibraryPackage, MAX_NESTING, MainProcedure,
-    OneOrMore, Package, PackageBody, PackageDeclaration, Pragma, Sequence, SequenceRole, Unit,
+    ContextClause, Declaration, LibraryPackage, MAX_NESTING, MainProcedure, Package, PackageBody,
+    PackageDeclaration, Pragma, Sequence, SequenceRole, Unit,
 };
 use ann_base::{OrMemory, Place};
 use grammar_laws::{no_tree_goes_deeper, no_tree_goes_on, read_is_spelt, spelt_is_read};
@@ -85,7 +83,12 @@ fn fault(tokens: &[Token], stuck: Stuck) -> ParseFault
 fn source_unit(alloc: Global, cursor: &mut Cursor<'_>, left: usize) -> Result<Unit, OrMemory<Stuck>>
     ensures { Reads result cursor.new (source_of left cursor.old) }
 {
-    let pragmas = pragmas(alloc, cursor, left)?;
+    let pragmas = items(
+        alloc,
+        cursor,
+        |cursor| cursor.is_word(Reserved::Pragma),
+        |cursor| pragma_line(alloc, cursor, left),
+    )?;
     let (packages, context) = packages(alloc, cursor, left)?;
     let main = main_procedure(alloc, cursor, left)?;
     finished(
@@ -111,56 +114,6 @@ fn finished(cursor: &mut Cursor<'_>, unit: Unit) -> Result<Unit, OrMemory<Stuck>
     }
 }
 
-/// An argument behind a comma.
-#[tactic(auto, unfolding(ada_grammar::specs::Reading::behind_delimiter_of))]
-fn next_argument(
-    alloc: Global,
-    cursor: &mut Cursor<'_>,
-    left: usize,
-) -> Result<Argument<Expression>, OrMemory<Stuck>>
-    ensures { Reads result cursor.new
-        (behind_delimiter_of (codes ",") (argument_of left (inner_of left)) cursor.old) }
-{
-    cursor.delimiter(Delimiter::Comma)?;
-    argument(alloc, cursor, left)
-}
-
-/// The arguments behind the first one.
-#[tactic(auto, unfolding(ada_grammar::specs::Reading::items_of))]
-fn next_arguments(
-    alloc: Global,
-    cursor: &mut Cursor<'_>,
-    left: usize,
-) -> Result<Items<Argument<Expression>>, OrMemory<Stuck>>
-    ensures { Reads result cursor.new
-        (items_of (sees_delimiter (codes ","))
-        (behind_delimiter_of (codes ",") (argument_of left (inner_of left))) cursor.old) }
-{
-    let mut found = Items::new(alloc);
-    for _turn in 0..cursor.remaining() {
-        if !cursor.is_delimiter(Delimiter::Comma) {
-            return Ok(found);
-        }
-        found.push(next_argument(alloc, cursor, left)?)?;
-    }
-    Ok(found)
-}
-
-/// The arguments of a pragma (2.8).
-#[tactic(auto, unfolding(ada_grammar::specs::Reading::separated_of))]
-fn pragma_arguments(
-    alloc: Global,
-    cursor: &mut Cursor<'_>,
-    left: usize,
-) -> Result<OneOrMore<Argument<Expression>>, OrMemory<Stuck>>
-    ensures { Reads result cursor.new
-        (separated_of (codes ",") (argument_of left (inner_of left)) cursor.old) }
-{
-    let first = argument(alloc, cursor, left)?;
-    let others = next_arguments(alloc, cursor, left)?;
-    Ok(OneOrMore { first, others })
-}
-
 /// A pragma (2.8).
 #[tactic(auto, unfolding(ada_grammar::specs::ReadingUnits::pragma_of))]
 fn pragma_line(
@@ -173,7 +126,9 @@ fn pragma_line(
     let place = cursor.word(Reserved::Pragma)?;
     let name = cursor.identifier(alloc)?;
     cursor.open(left)?;
-    let arguments = pragma_arguments(alloc, cursor, left)?;
+    let arguments = separated(alloc, cursor, Delimiter::Comma, |cursor| {
+        argument(alloc, cursor, left)
+    })?;
     cursor.delimiter(Delimiter::CloseBracket)?;
     cursor.delimiter(Delimiter::Semicolon)?;
     Ok(Pragma {
@@ -181,26 +136,6 @@ fn pragma_line(
         name,
         arguments,
     })
-}
-
-/// The pragmas before the first unit (10.1.5).
-#[tactic(auto, unfolding(ada_grammar::specs::Reading::items_of))]
-fn pragmas(
-    alloc: Global,
-    cursor: &mut Cursor<'_>,
-    left: usize,
-) -> Result<Items<Pragma>, OrMemory<Stuck>>
-    ensures { Reads result cursor.new
-        (items_of (sees_word (codes "pragma")) (pragma_of left) cursor.old) }
-{
-    let mut found = Items::new(alloc);
-    for _turn in 0..cursor.remaining() {
-        if !cursor.is_word(Reserved::Pragma) {
-            return Ok(found);
-        }
-        found.push(pragma_line(alloc, cursor, left)?)?;
-    }
-    Ok(found)
 }
 
 /// A with clause (10.1.2).
@@ -253,21 +188,14 @@ fn clause(alloc: Global, cursor: &mut Cursor<'_>) -> Result<ContextClause, OrMem
 }
 
 /// The context of a library unit (10.1.2).
-#[tactic(auto, unfolding(ada_grammar::specs::Reading::items_of, ada_grammar::specs::ReadingUnits::context_of))]
+#[tactic(auto, unfolding(ada_grammar::specs::ReadingUnits::context_of))]
 fn context_clauses(
     alloc: Global,
     cursor: &mut Cursor<'_>,
 ) -> Result<Items<ContextClause>, OrMemory<Stuck>>
     ensures { Reads result cursor.new (context_of cursor.old) }
 {
-    let mut found = Items::new(alloc);
-    for _turn in 0..cursor.remaining() {
-        if !begins_clause(cursor) {
-            return Ok(found);
-        }
-        found.push(clause(alloc, cursor)?)?;
-    }
-    Ok(found)
+    items(alloc, cursor, begins_clause, |cursor| clause(alloc, cursor))
 }
 
 /// `[private {DECLARATION}]` (7.1)

@@ -1,6 +1,5 @@
 //! Select statements, as they are read (ISO/IEC 8652:2012, 9.7).
-ghost use Rattle.std.specs.Prelude.{suc, codes};
-ghost use Rattle.ada_grammar.specs.Reading.{items_of, sees_word};
+ghost use Rattle.std.specs.Prelude.{suc};
 ghost use Rattle.ada_grammar.specs.Reads.{Reads};
 ghost use Rattle.ada_selects.specs.Inside.{ReadsInside};
 ghost use Rattle.ada_grammar.specs.ReadingSequences.{further_in};
@@ -8,7 +7,7 @@ ghost use Rattle.ada_grammar.specs.ReadingStatements.{accept_alternative_of, acc
 
 use crate::nested::Nested;
 use crate::reader::SelectReader;
-use ada_expressions::expression;
+use ada_expressions::{expression, items};
 use ada_grammar::{Cursor, Stuck};
 use ada_lex::{Delimiter, Reserved};
 use ada_simple_statements::{call, delay};
@@ -18,7 +17,6 @@ use ada_tree::{
     TimedEntryCall, Trigger,
 };
 use ann_base::OrMemory;
-use sqlite_items::Items;
 use std::alloc::Global;
 
 impl<
@@ -194,29 +192,6 @@ impl<
         self.select_alternative(cursor)
     }
 
-    /// The alternatives behind the first one (9.7.1).
-    #[tactic(auto, unfolding(ada_grammar::specs::Reading::items_of))]
-    fn next_alternatives(
-        &self,
-        cursor: &mut Cursor<'_>,
-    ) -> Result<Items<SelectAlternative<Q>>, OrMemory<Stuck>>
-        requires reads { ReadsInside Q.reading (suc self.now.left) (F.pre self.now.read)
-            (F.post self.now.read) }
-        ensures { Reads result cursor.new
-            (items_of (sees_word (codes "or"))
-            (next_alternative_of self.now.left (Q.reading self.now.left)
-            (further_in Q.reading self.now.left)) cursor.old) }
-    {
-        let mut found = Items::new(self.alloc);
-        for _turn in 0..cursor.remaining() {
-            if !cursor.is_word(Reserved::Or) {
-                return Ok(found);
-            }
-            found.push(self.next_alternative(cursor)?)?;
-        }
-        Ok(found)
-    }
-
     /// A selective accept, behind its first alternative (9.7.1).
     #[tactic(auto, unfolding(ada_grammar::specs::ReadingStatements::selective_of))]
     fn selective_accept(
@@ -230,7 +205,12 @@ impl<
             (selective_of self.now.left (Q.reading self.now.left)
             (further_in Q.reading self.now.left) first cursor.old) }
     {
-        let others = self.next_alternatives(cursor)?;
+        let others = items(
+            self.alloc,
+            cursor,
+            |cursor| cursor.is_word(Reserved::Or),
+            |cursor| self.next_alternative(cursor),
+        )?;
         let otherwise = self.otherwise(cursor)?;
         Ok(SelectForm::SelectiveAccept(SelectiveAccept {
             alternatives: OneOrMore { first, others },

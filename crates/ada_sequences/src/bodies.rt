@@ -1,7 +1,7 @@
 //! Bodies, and all declarations (ISO/IEC 8652:2012, 3.11, 6.3, 9.1, 9.4, 9.5.2).
 ghost use Rattle.std.specs.Prelude.{◌≡◌, map};
 ghost use Rattle.std.specs.Char.{to_ascii_lowercase};
-ghost use Rattle.ada_grammar.specs.Reading.{below, items_of};
+ghost use Rattle.ada_grammar.specs.Reading.{below};
 ghost use Rattle.ada_grammar.specs.Reads.{Reads};
 ghost use Rattle.ada_grammar.specs.ReadingDeclarations.{begins_operation};
 ghost use Rattle.ada_selects.specs.Inside.{ReadsInside};
@@ -13,6 +13,7 @@ use ada_clauses::{
     begins_operation, begins_specification, entry_head, named_declaration, protected_declaration,
     specification, subtype_declaration, task_declaration, type_declaration, use_clause,
 };
+use ada_expressions::items;
 use ada_grammar::{Cursor, Stuck};
 use ada_lex::{Delimiter, Reserved};
 use ada_selects::end_name;
@@ -21,7 +22,6 @@ use ada_tree::{
     SubprogramSpecification,
 };
 use ann_base::{OrMemory, Place};
-use sqlite_items::Items;
 use std::alloc::Global;
 
 /// How many levels are left behind one that is opened.
@@ -224,29 +224,6 @@ impl<
         .operation_body(cursor)
     }
 
-    /// The operations of a protected body (9.4).
-    #[tactic(auto, unfolding(ada_grammar::specs::Reading::items_of))]
-    fn operation_bodies(
-        &self,
-        cursor: &mut Cursor<'_>,
-    ) -> Result<Items<OperationBody<Sequence>>, OrMemory<Stuck>>
-        requires reads { ReadsInside sequence_of self.now.left (F.pre self.now.read)
-            (F.post self.now.read) }
-        ensures { Reads result cursor.new
-            (items_of begins_operation
-            (operation_body_of (below self.now.left) (inside_of (below self.now.left)))
-            cursor.old) }
-    {
-        let mut found = Items::new(self.alloc);
-        for _turn in 0..cursor.remaining() {
-            if !begins_operation(cursor) {
-                return Ok(found);
-            }
-            found.push(self.inner_operation_body(cursor)?)?;
-        }
-        Ok(found)
-    }
-
     /// A protected body, behind `protected` (9.4).
     #[tactic(auto, unfolding(ada_grammar::specs::ReadingBodies::protected_body_of))]
     fn protected_body(
@@ -263,7 +240,9 @@ impl<
         cursor.word(Reserved::Body)?;
         let name = cursor.identifier(self.alloc)?;
         cursor.open_is(self.left)?;
-        let operations = self.operation_bodies(cursor)?;
+        let operations = items(self.alloc, cursor, begins_operation, |cursor| {
+            self.inner_operation_body(cursor)
+        })?;
         cursor.word(Reserved::End)?;
         let named_at_end = end_name(cursor, &name)?;
         cursor.delimiter(Delimiter::Semicolon)?;

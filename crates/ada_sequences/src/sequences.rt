@@ -1,6 +1,6 @@
 //! Sequences: statements, their handlers, and the declarations before them (ISO/IEC 8652:2012, 11.2, 3.11).
-ghost use Rattle.std.specs.Prelude.{◌≡◌, [], IfOk, codes};
-ghost use Rattle.ada_grammar.specs.Reading.{below, items_of, sees_word};
+ghost use Rattle.std.specs.Prelude.{◌≡◌, [], IfOk};
+ghost use Rattle.ada_grammar.specs.Reading.{below};
 ghost use Rattle.ada_grammar.specs.Reads.{Reads};
 ghost use Rattle.ada_selects.specs.Inside.{ReadsInside};
 ghost use Rattle.ada_grammar.specs.ReadingBodies.{begins_declaration};
@@ -8,6 +8,7 @@ ghost use Rattle.ada_grammar.specs.ReadingStatements.{begins_statement};
 ghost use Rattle.ada_grammar.specs.ReadingSequences.{declarations_of, given_handlers_of, handled_behind_of, handler_of, handlers_of, inside_of, made, parts_of, plain_of, sequence_of, statement_of, statements_of, whole_body_of};
 
 use crate::bodies::begins_declaration;
+use ada_expressions::{first_before, items};
 use ada_grammar::{Cursor, Stuck};
 use ada_lex::{Delimiter, Reserved};
 use ada_selects::begins_statement;
@@ -106,29 +107,6 @@ impl<
         }
     }
 
-    /// The statements behind the first one (5.1).
-    #[tactic(auto, unfolding(ada_grammar::specs::Reading::items_of))]
-    fn next_statements(
-        &self,
-        cursor: &mut Cursor<'_>,
-    ) -> Result<Items<Statement<Sequence>>, OrMemory<Stuck>>
-        requires reads { ReadsInside sequence_of self.now.left (F.pre self.now.read)
-            (F.post self.now.read) }
-        ensures { Reads result cursor.new
-            (items_of begins_statement
-            (statement_of self.now.left (inside_of self.now.left) (inside_of (below self.now.left)))
-            cursor.old) }
-    {
-        let mut found = Items::new(self.alloc);
-        for _turn in 0..cursor.remaining() {
-            if !begins_statement(cursor) {
-                return Ok(found);
-            }
-            found.push(self.statement(cursor)?)?;
-        }
-        Ok(found)
-    }
-
     /// `STATEMENT {STATEMENT}` (5.1)
     #[tactic(auto, unfolding(ada_grammar::specs::ReadingSequences::statements_of))]
     fn statements(
@@ -142,7 +120,12 @@ impl<
             cursor.old) }
     {
         let first = self.statement(cursor)?;
-        let others = self.next_statements(cursor)?;
+        let others = items(
+            self.alloc,
+            cursor,
+            begins_statement,
+            |cursor| self.statement(cursor),
+        )?;
         Ok(OneOrMore { first, others })
     }
 
@@ -179,29 +162,6 @@ impl<
         })
     }
 
-    /// The handlers behind the first one (11.2).
-    #[tactic(auto, unfolding(ada_grammar::specs::Reading::items_of))]
-    fn next_handlers(
-        &self,
-        cursor: &mut Cursor<'_>,
-    ) -> Result<Items<Handler<Sequence>>, OrMemory<Stuck>>
-        requires reads { ReadsInside sequence_of self.now.left (F.pre self.now.read)
-            (F.post self.now.read) }
-        ensures { Reads result cursor.new
-            (items_of (sees_word (codes "when"))
-            (handler_of self.now.left (inside_of self.now.left) (inside_of (below self.now.left)))
-            cursor.old) }
-    {
-        let mut found = Items::new(self.alloc);
-        for _turn in 0..cursor.remaining() {
-            if !cursor.is_word(Reserved::When) {
-                return Ok(found);
-            }
-            found.push(self.handler(cursor)?)?;
-        }
-        Ok(found)
-    }
-
     /// `exception HANDLER {HANDLER}` (11.2)
     #[tactic(auto, unfolding(ada_grammar::specs::ReadingSequences::given_handlers_of))]
     fn given_handlers(
@@ -216,11 +176,13 @@ impl<
     {
         cursor.word(Reserved::Exception)?;
         let first = self.handler(cursor)?;
-        let mut handlers = Items::new(self.alloc);
-        handlers.push(first)?;
-        let others = self.next_handlers(cursor)?;
-        handlers.append(others)?;
-        Ok(handlers)
+        let others = items(
+            self.alloc,
+            cursor,
+            |cursor| cursor.is_word(Reserved::When),
+            |cursor| self.handler(cursor),
+        )?;
+        Ok(first_before(self.alloc, first, others)?)
     }
 
     /// `[exception HANDLER {HANDLER}]` (11.2)
@@ -240,7 +202,7 @@ impl<
     }
 
     /// `{DECLARATION}` (3.11)
-    #[tactic(auto, unfolding(ada_grammar::specs::Reading::items_of, ada_grammar::specs::ReadingSequences::declarations_of))]
+    #[tactic(auto, unfolding(ada_grammar::specs::ReadingSequences::declarations_of))]
     pub fn declarations(
         &self,
         cursor: &mut Cursor<'_>,
@@ -251,14 +213,12 @@ impl<
             (declarations_of self.now.left (inside_of self.now.left)
             (inside_of (below self.now.left)) cursor.old) }
     {
-        let mut found = Items::new(self.alloc);
-        for _turn in 0..cursor.remaining() {
-            if !begins_declaration(cursor) {
-                return Ok(found);
-            }
-            found.push(self.declaration(cursor)?)?;
-        }
-        Ok(found)
+        items(
+            self.alloc,
+            cursor,
+            begins_declaration,
+            |cursor| self.declaration(cursor),
+        )
     }
 
     /// Statements and their handlers, behind these declarations (11.2).

@@ -1,15 +1,13 @@
 //! Statements that hold others (ISO/IEC 8652:2012, clause 5). The productions take the reader of the sequences in them as a
 //! parameter, so that each is proved by itself.
-ghost use Rattle.std.specs.Prelude.{◌≡◌, suc, IfSome, None, Some, codes, map};
+ghost use Rattle.std.specs.Prelude.{◌≡◌, suc, IfSome, None, Some, map};
 ghost use Rattle.std.specs.Char.{to_ascii_lowercase};
-ghost use Rattle.ada_grammar.specs.Reading.{behind_delimiter_of, items_of, sees_delimiter, sees_word, separated_of};
 ghost use Rattle.ada_grammar.specs.Reads.{Reads};
-ghost use Rattle.ada_grammar.specs.ReadingSimple.{choice_of};
 ghost use Rattle.ada_selects.specs.Inside.{ReadsInside};
 ghost use Rattle.ada_grammar.specs.ReadingSequences.{further_in};
 ghost use Rattle.ada_grammar.specs.ReadingStatements.{begin_of, block_end_of, block_of, case_alternative_of, case_alternatives_of, case_of, compound_of, declare_of, elsif_of, if_of, labelled_of, loop_of, named_statement_of, simple_statement_of, statement_inside_of};
 
-use ada_expressions::expression;
+use ada_expressions::{expression, items, separated};
 use ada_grammar::{Cursor, Stuck};
 use ada_lex::{Delimiter, Reserved};
 use ada_selects::{Nested, SelectReader, begins_block, begins_compound, begins_loop};
@@ -18,11 +16,9 @@ use ada_simple_statements::{
     raise_statement, requeue_statement, return_statement, simple_statement,
 };
 use ada_tree::{
-    Block, Case, CaseAlternative, Choice, Elsif, Identifier, If, Loop, OneOrMore, SequenceRole,
-    Statement,
+    Block, Case, CaseAlternative, Elsif, Identifier, If, Loop, OneOrMore, SequenceRole, Statement,
 };
 use ann_base::{OrMemory, Place};
-use sqlite_items::Items;
 use std::alloc::Global;
 
 /// How statements are read where `left` levels may still be opened inside them.
@@ -80,25 +76,6 @@ impl<
         })
     }
 
-    /// `{elsif EXPRESSION then STATEMENTS}` (5.3)
-    #[tactic(auto, unfolding(ada_grammar::specs::Reading::items_of))]
-    fn elsifs(&self, cursor: &mut Cursor<'_>) -> Result<Items<Elsif<Q>>, OrMemory<Stuck>>
-        requires reads { ReadsInside Q.reading (suc self.now.left) (F.pre self.now.read)
-            (F.post self.now.read) }
-        ensures { Reads result cursor.new
-            (items_of (sees_word (codes "elsif"))
-            (elsif_of self.now.left (Q.reading self.now.left)) cursor.old) }
-    {
-        let mut found = Items::new(self.alloc);
-        for _turn in 0..cursor.remaining() {
-            if !cursor.is_word(Reserved::Elsif) {
-                return Ok(found);
-            }
-            found.push(self.elsif(cursor)?)?;
-        }
-        Ok(found)
-    }
-
     /// An if statement (5.3).
     #[tactic(auto, unfolding(ada_grammar::specs::ReadingStatements::if_of))]
     fn if_statement(&self, cursor: &mut Cursor<'_>) -> Result<Statement<Q>, OrMemory<Stuck>>
@@ -111,7 +88,12 @@ impl<
         let condition = expression(self.alloc, cursor, self.left)?;
         cursor.word(Reserved::Then)?;
         let statements = self.sequence(cursor, SequenceRole::Statements)?;
-        let elsifs = self.elsifs(cursor)?;
+        let elsifs = items(
+            self.alloc,
+            cursor,
+            |cursor| cursor.is_word(Reserved::Elsif),
+            |cursor| self.elsif(cursor),
+        )?;
         let otherwise = self.selects().otherwise(cursor)?;
         cursor.word(Reserved::End)?;
         cursor.word(Reserved::If)?;
@@ -123,44 +105,6 @@ impl<
             elsifs,
             otherwise,
         }))
-    }
-
-    /// A choice behind a bar (3.8.1).
-    #[tactic(auto, unfolding(ada_grammar::specs::Reading::behind_delimiter_of))]
-    fn next_choice(&self, cursor: &mut Cursor<'_>) -> Result<Choice, OrMemory<Stuck>>
-        ensures { Reads result cursor.new
-            (behind_delimiter_of (codes "|") (choice_of self.now.left) cursor.old) }
-    {
-        cursor.delimiter(Delimiter::Bar)?;
-        choice(self.alloc, cursor, self.left)
-    }
-
-    /// The choices behind the first one (3.8.1).
-    #[tactic(auto, unfolding(ada_grammar::specs::Reading::items_of))]
-    fn next_choices(&self, cursor: &mut Cursor<'_>) -> Result<Items<Choice>, OrMemory<Stuck>>
-        ensures { Reads result cursor.new
-            (items_of (sees_delimiter (codes "|"))
-            (behind_delimiter_of (codes "|") (choice_of self.now.left)) cursor.old) }
-    {
-        let mut found = Items::new(self.alloc);
-        for _turn in 0..cursor.remaining() {
-            if !cursor.is_delimiter(Delimiter::Bar) {
-                return Ok(found);
-            }
-            found.push(self.next_choice(cursor)?)?;
-        }
-        Ok(found)
-    }
-
-    /// `CHOICE {| CHOICE}` (3.8.1)
-    #[tactic(auto, unfolding(ada_grammar::specs::Reading::separated_of))]
-    fn choices(&self, cursor: &mut Cursor<'_>) -> Result<OneOrMore<Choice>, OrMemory<Stuck>>
-        ensures { Reads result cursor.new
-            (separated_of (codes "|") (choice_of self.now.left) cursor.old) }
-    {
-        let first = choice(self.alloc, cursor, self.left)?;
-        let others = self.next_choices(cursor)?;
-        Ok(OneOrMore { first, others })
     }
 
     /// `when CHOICE {| CHOICE} => STATEMENTS` (5.4)
@@ -175,7 +119,9 @@ impl<
             (case_alternative_of self.now.left (Q.reading self.now.left) cursor.old) }
     {
         let place = cursor.word(Reserved::When)?;
-        let choices = self.choices(cursor)?;
+        let choices = separated(self.alloc, cursor, Delimiter::Bar, |cursor| {
+            choice(self.alloc, cursor, self.left)
+        })?;
         cursor.delimiter(Delimiter::Arrow)?;
         let statements = self.sequence(cursor, SequenceRole::Statements)?;
         Ok(CaseAlternative {
@@ -183,28 +129,6 @@ impl<
             choices,
             statements,
         })
-    }
-
-    /// The alternatives behind the first one (5.4).
-    #[tactic(auto, unfolding(ada_grammar::specs::Reading::items_of))]
-    fn next_case_alternatives(
-        &self,
-        cursor: &mut Cursor<'_>,
-    ) -> Result<Items<CaseAlternative<Q>>, OrMemory<Stuck>>
-        requires reads { ReadsInside Q.reading (suc self.now.left) (F.pre self.now.read)
-            (F.post self.now.read) }
-        ensures { Reads result cursor.new
-            (items_of (sees_word (codes "when"))
-            (case_alternative_of self.now.left (Q.reading self.now.left)) cursor.old) }
-    {
-        let mut found = Items::new(self.alloc);
-        for _turn in 0..cursor.remaining() {
-            if !cursor.is_word(Reserved::When) {
-                return Ok(found);
-            }
-            found.push(self.case_alternative(cursor)?)?;
-        }
-        Ok(found)
     }
 
     /// The alternatives of a case statement (5.4).
@@ -219,7 +143,12 @@ impl<
             (case_alternatives_of self.now.left (Q.reading self.now.left) cursor.old) }
     {
         let first = self.case_alternative(cursor)?;
-        let others = self.next_case_alternatives(cursor)?;
+        let others = items(
+            self.alloc,
+            cursor,
+            |cursor| cursor.is_word(Reserved::When),
+            |cursor| self.case_alternative(cursor),
+        )?;
         Ok(OneOrMore { first, others })
     }
 

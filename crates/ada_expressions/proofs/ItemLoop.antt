@@ -1,16 +1,11 @@
 -- A loop that reads items as long as one begins: what each way out of it has read.
 use Rattle.std.proofs.Common.{◌≡◌, ℕ, zero, suc, ◌+◌, ◌-◌, ◌<◌, ◌≤◌, Bool, true, false, List, [], ◌∷◌, ◌++◌, Ok, Err, refl, sym, ◌∙◌}
-use Rattle.ann_base.specs.Answers.{AnswersAs}
 use Rattle.ada_tree.specs.Written.{Lexeme}
 use Rattle.ann_base.specs.declared.faults.OrMemory.{OrMemory}
 use Rattle.ann_base.specs.declared.faults.OrMemory.TheVariants as answer
 use Rattle.ada_grammar.specs.declared.stuck.Stuck.{Stuck}
 use Rattle.ada_grammar.specs.Reading.{Parser, Read, items_from}
-use Rattle.ada_expressions.specs.Turns.{one_more, no_more}
-
--- a call that reads such a part stopped so, unless memory ran out
-abbrev pub Stopped : {B : Type 0} → OrMemory Stuck → Read B → Type 0
-Stopped {B = B} why read = let part : B → B × List Lexeme = λ x. (x, []) in AnswersAs part (Err why) read
+use Rattle.ada_expressions.specs.Turns.{Stopped, one_more, no_more}
 
 module _ {A : Type 0} (begins : List Lexeme → Bool) (item : Parser A) where
   ends_at : (fuel : ℕ) (found : List A) (ls : List Lexeme) → begins ls ≡ false → items_from begins item fuel found ls ≡ Ok (found, ls)

@@ -1,9 +1,0 @@
-use Rattle.std.proofs.Common.{◌≡◌, ◌-◌, codes}
-use Rattle.ada_grammar.specs.Reading.{items_from, items_of, sees_word}
-use Rattle.ada_grammar.specs.ReadingStatements.{elsif_of}
-use Rattle.ada_statements.proofs.statements.StatementReader.elsifs.Given as goal
-
-abbrev pub invariant-loop-turn : goal.invariant-loop-turn
-invariant-loop-turn g l =
-    items_from (sees_word (codes "elsif")) (elsif_of l.self.left (g.Q.Nested.reading l.self.left)) (l._turn-end - l._turn) l.found l.cursor
-    ≡ items_of (sees_word (codes "elsif")) (elsif_of l.self.left (g.Q.Nested.reading l.self.left)) l.fn.cursor

@@ -44,7 +44,7 @@ fn declared_number(t: AdaType) -> u32
 }
 
 /// Two types are the same.
-#[tactic(auto, unfolding(ada_legality::specs::Types::same_type))]
+#[tactic(auto, unfolding(crate::specs::Types::same_type))]
 pub fn same_type(a: AdaType, b: AdaType) -> bool
     ensures { result ≡ same_type a b }
 {

@@ -1,10 +1,11 @@
-//! Reading the parts of a source that hold no sequence of statements: simple statements, and declarations that are no
-//! bodies.
+//! Reading declarations that are no bodies, and the context clauses of library units.
 #![tactic(auto)]
 
+mod contexts;
 mod declarations;
 mod specifications;
 
+pub use contexts::context_clauses;
 pub use declarations::{named_declaration, subtype_declaration, type_declaration, use_clause};
 pub use specifications::{
     aspects, begins_operation, begins_specification, entry_declaration, entry_head,

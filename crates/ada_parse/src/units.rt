@@ -8,10 +8,10 @@ ghost use Rattle.ada_tree.specs.Spelling.{SpellsTokens};
 ghost use Rattle.ada_tree.specs.Shape.{is_shaped};
 ghost use Rattle.ada_grammar.specs.Reads.{Reads};
 ghost use Rattle.grammar_laws.specs.FaultLaws.{NoneGoesOn};
-ghost use Rattle.ada_grammar.specs.ReadingUnits.{begins_clause, clause_of, context_of, finished, main_of, package_body_of, package_declaration_of, package_of, package_statements_of, packages_of, placed_fault, pragma_of, private_part_of, source_of, unit_of, use_clause_of, with_of};
+ghost use Rattle.ada_grammar.specs.ReadingUnits.{finished, main_of, package_body_of, package_declaration_of, package_of, package_statements_of, packages_of, placed_fault, pragma_of, private_part_of, source_of, unit_of};
 
-use ada_clauses::aspects;
-use ada_expressions::{argument, items, name_list, separated};
+use ada_clauses::{aspects, context_clauses};
+use ada_expressions::{argument, items, separated};
 use ada_grammar::{Cursor, ParseFault, Stuck};
 use ada_lex::{Delimiter, MAX_SOURCE, Reserved, Token};
 use ada_selects::end_name;
@@ -136,66 +136,6 @@ fn pragma_line(
         name,
         arguments,
     })
-}
-
-/// A with clause (10.1.2).
-#[tactic(auto, unfolding(ada_grammar::specs::ReadingUnits::with_of))]
-fn with_clause(alloc: Global, cursor: &mut Cursor<'_>) -> Result<ContextClause, OrMemory<Stuck>>
-    ensures { Reads result cursor.new (with_of cursor.old) }
-{
-    let place = cursor.word(Reserved::With)?;
-    let names = name_list(alloc, cursor, Delimiter::Comma)?;
-    cursor.delimiter(Delimiter::Semicolon)?;
-    Ok(ContextClause {
-        place,
-        is_use: false,
-        names,
-    })
-}
-
-/// A use clause in a context (8.4).
-#[tactic(auto, unfolding(ada_grammar::specs::ReadingUnits::use_clause_of))]
-fn use_clause(alloc: Global, cursor: &mut Cursor<'_>) -> Result<ContextClause, OrMemory<Stuck>>
-    ensures { Reads result cursor.new (use_clause_of cursor.old) }
-{
-    let place = cursor.word(Reserved::Use)?;
-    let names = name_list(alloc, cursor, Delimiter::Comma)?;
-    cursor.delimiter(Delimiter::Semicolon)?;
-    Ok(ContextClause {
-        place,
-        is_use: true,
-        names,
-    })
-}
-
-/// Whether a context clause begins here (10.1.2).
-fn begins_clause(cursor: &Cursor<'_>) -> bool
-    ensures { result ≡ begins_clause cursor.now }
-{
-    cursor.is_word(Reserved::With) || cursor.is_word(Reserved::Use)
-}
-
-/// A context clause (10.1.2).
-#[tactic(auto, unfolding(ada_grammar::specs::ReadingUnits::clause_of))]
-fn clause(alloc: Global, cursor: &mut Cursor<'_>) -> Result<ContextClause, OrMemory<Stuck>>
-    ensures { Reads result cursor.new (clause_of cursor.old) }
-{
-    if cursor.is_word(Reserved::Use) {
-        use_clause(alloc, cursor)
-    } else {
-        with_clause(alloc, cursor)
-    }
-}
-
-/// The context of a library unit (10.1.2).
-#[tactic(auto, unfolding(ada_grammar::specs::ReadingUnits::context_of))]
-fn context_clauses(
-    alloc: Global,
-    cursor: &mut Cursor<'_>,
-) -> Result<Items<ContextClause>, OrMemory<Stuck>>
-    ensures { Reads result cursor.new (context_of cursor.old) }
-{
-    items(alloc, cursor, begins_clause, |cursor| clause(alloc, cursor))
 }
 
 /// `[private {DECLARATION}]` (7.1)

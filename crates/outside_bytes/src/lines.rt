@@ -5,11 +5,9 @@ ghost use Rattle.ann_base.specs.Outside.{Rose, Lacks};
 ghost use Rattle.outside_bytes.specs.Files.{told, WhereTold, left_of};
 ghost use Rattle.outside_bytes.specs.Lines.{to_come, HandsOn, HasHandedOn, Refills};
 
+use crate::reading::PIECE;
 use ann_base::{Failed, OrMemory, Shelf};
 use std::alloc::Global;
-
-/// How many bytes one read asks for.
-const PIECE: usize = 4096;
 
 /// The lines of the picked file of a shelf, in order.
 #[derive(Drop)]

@@ -8,7 +8,7 @@ use ann_base::{Failed, OrMemory, Shelf};
 use std::alloc::Global;
 
 /// How many bytes one read asks for.
-const PIECE: usize = 4096;
+pub(crate) const PIECE: usize = 4096;
 
 /// The first `most` bytes of the named file, or all of them where it has fewer. It takes memory for these bytes and
 /// for at most one piece more, however long the file is. Where the shelf tells its files, this one is among them.

@@ -24,7 +24,7 @@ use Rattle.run_report.specs.declared.tallies.Move.TheVariants.{Enters, Leaves, S
 use Rattle.run_report.specs.declared.clocks.Clock.{Clock}
 use Rattle.run_report.specs.declared.dated.Dated.{Dated}
 use Rattle.run_report.specs.declared.report.Kept.{Kept}
-use Rattle.run_report.specs.declared.report.TheConstants.{MOST_TASKS}
+use Rattle.run_report.specs.declared.report.TheConstants.{MOST_TRACED_TASKS}
 use Rattle.run_report.specs.Kept.{fresh, ticks_if, has_room, is_put_off, passing_in, response_at, or_zero, move_of, kept_after, newly_kept, Reported, report_line, account_in}
 use Rattle.run_report.specs.Clocks.{passed, goes_on, level_given, with_clock, tally_at, told, settled, made_quiet, stepped, number_in, named_by, is_number, created_number, newly_dated, place_in, noted, is_told, followed, HasClock, IsKnown, IsFit, IsWithin, IsShown, IsQuiet, IsSame, IsReady, IsFound, IsKept, IsReport}
 use Rattle.run_report.proofs.Waits.{ticks_most, told_on, told_stepped, told_settled, waits_same, gone_zero, minus_itself}
@@ -346,7 +346,7 @@ line_told seen tick event items clocks formed fit quiet =
     told_line clocks (passing_in seen tick) seen.tick tick event items (gone_ticks seen.tick tick (rises_tick seen tick event formed).0) fit quiet
 
 pub report_after : (seen : Seen) (tick : ℕ) (event : Event) (most agent_run idle len agent_run' idle' len' : ℕ) (items : List Dated) (clocks : List Clock) (places : ℕ → Option ℕ) → is_formed_after seen tick event ≡ true
-    → IsReport seen most agent_run idle len items clocks places → IsReady event (passing_in seen tick) seen.tick items clocks places → len' ≤ MOST_TASKS → agent_run' ≤ most + LAST_TICK → idle' ≤ most + LAST_TICK
+    → IsReport seen most agent_run idle len items clocks places → IsReady event (passing_in seen tick) seen.tick items clocks places → len' ≤ MOST_TRACED_TASKS → agent_run' ≤ most + LAST_TICK → idle' ≤ most + LAST_TICK
     → IsReport (see_line seen (tick, event)) (most + LAST_TICK) agent_run' idle' len' (map (followed clocks seen.tick (passing_in seen tick) tick event) items ++ newly_dated tick event) (map (passed (passing_in seen tick)) clocks) places
 report_after seen tick event most agent_run idle len agent_run' idle' len' items clocks places formed report ready count most_agent most_idle =
     let rises = rises_tick seen tick event formed in
@@ -421,7 +421,7 @@ added_line seen seen' tick event agent_run idle agent_ticks idle_ticks last pass
 pub added_kept : (seen seen' : Seen) (tick : ℕ) (event : Event) (most agent_run idle agent_run' idle' last len len' : ℕ) (passing : Passing) (items items' items'' : List Dated) (clocks clocks' clocks'' : List Clock) (places places' : ℕ → Option ℕ) → is_formed_after seen tick event ≡ true
     → seen' ≡ see_line seen (tick, event) → last ≡ seen.tick → passing ≡ passing_in seen tick → items'' ≡ map (followed clocks' last passing tick event) items' ++ newly_dated tick event → clocks'' ≡ map (passed passing) clocks'
     → IsReport seen most agent_run idle len items clocks places → IsSame last items clocks items' clocks' places' → IsReady event passing last items' clocks' places'
-    → len' ≤ MOST_TASKS → agent_run' ≤ most + LAST_TICK → idle' ≤ most + LAST_TICK → IsReport seen' (most + LAST_TICK) agent_run' idle' len' items'' clocks'' places'
+    → len' ≤ MOST_TRACED_TASKS → agent_run' ≤ most + LAST_TICK → idle' ≤ most + LAST_TICK → IsReport seen' (most + LAST_TICK) agent_run' idle' len' items'' clocks'' places'
 added_kept seen seen' tick event most agent_run idle agent_run' idle' last len len' passing items items' items'' clocks clocks' clocks'' places places' formed seen_is last_is passing_is items_are clocks_are report same ready count most_agent most_idle =
     let same_here = subst (λ n. IsSame n items clocks items' clocks' places') last_is same in
     let ready_here = subst (λ p. IsReady event p seen.tick items' clocks' places') passing_is (subst (λ n. IsReady event passing n items' clocks' places') last_is ready) in

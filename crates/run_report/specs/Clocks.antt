@@ -20,7 +20,7 @@ use Rattle.run_report.specs.declared.dated.Dated.{Dated}
 use Rattle.run_report.specs.declared.dated.Step.{Step}
 use Rattle.run_report.specs.declared.report.Kept.{Kept}
 use Rattle.trace_lines.specs.Seen.{Seen}
-use Rattle.run_report.specs.declared.report.TheConstants.{MOST_TASKS}
+use Rattle.run_report.specs.declared.report.TheConstants.{MOST_TRACED_TASKS}
 use Rattle.run_report.specs.Accounts.{is_lower}
 use Rattle.run_report.specs.Kept.{fresh, ticks_if, streak_after, tally_after}
 
@@ -254,7 +254,7 @@ pub record IsKept (tick most : ℕ) (items : List Dated) (clocks : List Clock) :
   pub shown : AllByRecursion (IsShown tick) clocks
 
 pub record IsReport (seen : Seen) (most agent_run idle len : ℕ) (items : List Dated) (clocks : List Clock) (places : ℕ → Option ℕ) : Type 0 where
-  pub count : len ≤ MOST_TASKS
+  pub count : len ≤ MOST_TRACED_TASKS
   pub tick : seen.tick ≤ LAST_TICK
   pub most_agent : agent_run ≤ most
   pub most_idle : idle ≤ most

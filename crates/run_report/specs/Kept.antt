@@ -16,7 +16,7 @@ use Rattle.run_report.specs.declared.tallies.Tally.{Tally}
 use Rattle.run_report.specs.declared.tallies.Passing.{Passing}
 use Rattle.run_report.specs.declared.tallies.Move.{Move}
 use Rattle.run_report.specs.declared.tallies.Move.TheVariants.{Enters, Leaves, Stays}
-use Rattle.run_report.specs.declared.report.TheConstants.{MOST_TASKS}
+use Rattle.run_report.specs.declared.report.TheConstants.{MOST_TRACED_TASKS}
 use Rattle.run_report.specs.declared.report.Kept.{Kept}
 use Rattle.run_report.specs.Accounts.{is_lower, is_tick, runner_base, chooses_another}
 
@@ -170,4 +170,4 @@ accounts_in reported = map account_in reported.kept
 -- no count passes its type with one line more
 abbrev pub has_room_in : Reported → Bool
 has_room_in reported =
-    nat_lt (length reported.kept) MOST_TASKS && nat_le reported.agent_run ROOM && nat_le reported.idle ROOM && list_all (λ one. has_room one.tally) reported.kept
+    nat_lt (length reported.kept) MOST_TRACED_TASKS && nat_le reported.agent_run ROOM && nat_le reported.idle ROOM && list_all (λ one. has_room one.tally) reported.kept

@@ -28,7 +28,7 @@ use trace_lines::{Lines, Malformed, is_same};
 use trace_text::{Created, Event, LAST_TICK, Who};
 
 /// The most tasks of a trace: each has a number of 32 bits, and they are counted in as many.
-const MOST_TASKS: usize = 4_294_967_295;
+const MOST_TRACED_TASKS: usize = 4_294_967_295;
 
 /// What is kept of one task.
 #[derive(Drop)]
@@ -58,7 +58,7 @@ impl Model for Report {
     ghost use Rattle.std.specs.Prelude.{◌≤◌, map, vec_len};
     ghost use Rattle.std.specs.Ordering.{nat_cmp};
     ghost use Rattle.std.specs.BTreeMap.{get};
-    ghost use Rattle.run_report.specs.declared.report.TheConstants.{MOST_TASKS};
+    ghost use Rattle.run_report.specs.declared.report.TheConstants.{MOST_TRACED_TASKS};
     ghost use Rattle.run_report.specs.Kept.{Reported};
     ghost use Rattle.run_report.specs.Clocks.{told, IsReport};
 
@@ -129,7 +129,7 @@ impl Report {
         ensures added { OnOk result (self.new ≡ report_line self.old (now, event.now)) }
         ensures unchanged { OnErr result (self.new ≡ self.old) }
     {
-        if self.most > ROOM || self.items.len() >= MOST_TASKS {
+        if self.most > ROOM || self.items.len() >= MOST_TRACED_TASKS {
             return Err(NoMemory);
         }
         let passing = passing_in(&self.lines, now);

@@ -1,4 +1,4 @@
-//! One module for each crate whose calls are tested.
+//! One module for each runtime table whose calls are tested.
 mod level_policies_calls;
 mod ready_queues_calls;
 mod task_levels_calls;

@@ -1,4 +1,4 @@
-//! The lists of an image.
+//! The calls of the lists of an image, one after the other.
 use profile_machine::{
     Actual, Actuals, ExprNo, ImageList, SelectAlternative, SelectAlternatives, SelectKind,
 };

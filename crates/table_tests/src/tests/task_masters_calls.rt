@@ -1,4 +1,4 @@
-//! Sequences of calls with answers worked out by hand.
+//! Sequences of calls of masters, with answers worked out by hand.
 use Step::{
     Activate, Begin, Complete, Create, Dependent, Ended, Leaving, MayLeave, MayTerminate,
     Terminated, Waits,

@@ -1,4 +1,4 @@
-//! Sequences of calls with answers worked out by hand.
+//! Sequences of calls of timers and events, with answers worked out by hand.
 use Step::{At, Begin, Cancel, CancelEvent, Next, Set, SetEvent, Take};
 use ann_base::{CallNo, Moment, Slot};
 use std::test::Fail;

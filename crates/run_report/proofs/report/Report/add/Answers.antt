@@ -3,7 +3,7 @@ use Rattle.std.proofs.Common.{◌≤◌, ◌+◌, vec_len, ap, subst, ◌∙◌,
 use Rattle.std.specs.Ordering.{nat_cmp}
 use Rattle.std.specs.BTreeMap.{get}
 use Rattle.run_report.specs.declared.tallies.TheConstants.{ROOM}
-use Rattle.run_report.specs.declared.report.TheConstants.{MOST_TASKS}
+use Rattle.run_report.specs.declared.report.TheConstants.{MOST_TRACED_TASKS}
 use Rattle.run_report.specs.Kept.{ticks_if}
 use Rattle.run_report.specs.Clocks.{IsSame}
 use Rattle.run_report.proofs.Lines.{rises_tick, shown_more, report_stays, all_within, added_line, added_kept, few_more}
@@ -40,7 +40,7 @@ invariant_of-self-2 c =
     let old = c.self.inside in
     let formed = rw (← c.self.view_is) at c.requires.formed in
     let late = (rises_tick old.lines c.args.now c.args.event.now formed).1 in
-    let count : vec_len c.advance.new.items ≤ MOST_TASKS = omega (arith, c.advance.ensures.len, c.prepare.ensures.len) in
+    let count : vec_len c.advance.new.items ≤ MOST_TRACED_TASKS = omega (arith, c.advance.ensures.len, c.prepare.ensures.len) in
     added_kept old.lines c.add.new.self c.args.now c.args.event.now old.most old.agent_run old.idle (old.agent_run + c.ticks_if-agent_ticks.result) (old.idle + c.ticks_if-idle_ticks.result) c.last-last.result (vec_len old.items) (vec_len c.advance.new.items) c.passing_in-passing.result
     old.items.items c.prepare.new.items.items c.advance.new.items.items old.clocks.items c.prepare.new.clocks.items c.advance.new.clocks.items (get nat_cmp old.places) (get nat_cmp c.prepare.new.places) formed
     c.in_ok-add.ensures.added c.last-last.ensures c.passing_in-passing.ensures.passing c.advance.ensures.items c.advance.ensures.clocks c.self.invariant c.prepare.ensures.same c.in_ok-prepare.ensures.ready count

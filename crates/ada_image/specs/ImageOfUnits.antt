@@ -13,7 +13,7 @@ use Rattle.ada_tree.specs.declared.units.Package.{Package}
 use Rattle.ada_tree.specs.declared.units.Package.TheVariants as packages
 use Rattle.ada_tree.specs.declared.units.PackageDeclaration.{PackageDeclaration}
 use Rattle.ada_tree.specs.declared.units.PackageBody.{PackageBody}
-use Rattle.profile_machine.specs.declared.image.Image.{Image as Program}
+use Rattle.profile_machine.specs.declared.image.Image.{Image}
 use Rattle.profile_machine.specs.declared.image.MainProcedure.{MainProcedure}
 use Rattle.profile_machine.specs.declared.numbers.StatementNo.{StatementNo}
 use Rattle.profile_machine.specs.declared.values.Constraint.{Constraint}
@@ -235,7 +235,7 @@ main_of n unit = record {
   scope = scope_no (scope_at n unit.main.place);
 }
 
-unfoldable pub program_with : Names → Tree → Lists → MadeLists → Program
+unfoldable pub program_with : Names → Tree → Lists → MadeLists → Image
 program_with n unit lists made = record {
   declarations = made.declarations;
   expressions = lists.expressions;
@@ -252,11 +252,11 @@ program_with n unit lists made = record {
   main = main_of n unit;
 }
 
-unfoldable pub program_from : Names → Tree → Program
+unfoldable pub program_from : Names → Tree → Image
 program_from n unit =
     let made = all_made unit (outermost n) nothing_made in
     program_with n unit made.0 made.1
 
 -- the program of a source
-unfoldable pub program_of : Tree → Program
+unfoldable pub program_of : Tree → Image
 program_of unit = program_from (names_of unit) unit

@@ -21,7 +21,7 @@ use Rattle.ada_tree.specs.declared.units.Package.{Package}
 use Rattle.ada_tree.specs.declared.units.Package.TheVariants as packages
 use Rattle.ada_tree.specs.declared.units.PackageDeclaration.{PackageDeclaration}
 use Rattle.ada_tree.specs.declared.units.PackageBody.{PackageBody}
-use Rattle.profile_machine.specs.declared.image.Image.{Image as Program}
+use Rattle.profile_machine.specs.declared.image.Image.{Image}
 use Rattle.profile_machine.specs.declared.numbers.DeclNo.{DeclNo}
 use Rattle.profile_machine.specs.declared.numbers.StatementNo.{StatementNo}
 use Rattle.profile_machine.specs.declared.numbers.SubprogramNo.{SubprogramNo}
@@ -81,7 +81,7 @@ abbrev pub is_end_of_activation : StatementForm → Bool
 is_end_of_activation action.EndActivation = true
 is_end_of_activation _ = false
 
-module _ (p : Program) where
+module _ (p : Image) where
   -- the action that stands here passes a test: what comes behind it
   abbrev pub one_action : (StatementForm → Bool) → Option StatementNo → Rest
   one_action test None = None
@@ -201,22 +201,22 @@ SequenceReading = SequencePlace → Within → Reading
 abbrev pub same_sequence_reading : SequenceReading → SequenceReading
 same_sequence_reading reading = reading
 
-abbrev pub sequence_reading_layer : Program → Sequence-F SequenceReading → SequenceReading
+abbrev pub sequence_reading_layer : Image → Sequence-F SequenceReading → SequenceReading
 sequence_reading_layer p s = parts_read p same_sequence_reading s.parts
 
-abbrev pub sequence_reads : Program → Sequence → SequenceReading
+abbrev pub sequence_reads : Image → Sequence → SequenceReading
 sequence_reads p = fold-Sequence SequenceReading (sequence_reading_layer p)
 
 -- ---- library units (7.1, 7.2, 10.2)
 
-abbrev pub package_declaration_read : Program → List LibraryPackage → Within → PackageDeclaration → Option StatementNo → Rest
+abbrev pub package_declaration_read : Image → List LibraryPackage → Within → PackageDeclaration → Option StatementNo → Rest
 package_declaration_read p ls within x from =
     and_behind (declarations_read p within (part_of ls x.name.text) (x.declarations ++ unwrap_or x.private []) from)
     (activation_read p (part_if (not (has_body ls x.name.text) && make_tasks within (x.declarations ++ unwrap_or x.private [])) (part_of ls x.name.text)))
 
 -- ---- where a sequence leads: behind its last statement, or behind the action that opens its handlers
 
-abbrev pub skipped : Program → ℕ → Option StatementNo → Option StatementNo
+abbrev pub skipped : Image → ℕ → Option StatementNo → Option StatementNo
 skipped p zero from = from
 skipped p (suc n) None = None
 skipped p (suc n) (Some s) = skipped p n (next_of p s)
@@ -225,45 +225,45 @@ abbrev pub rest_or_none : Rest → Option StatementNo
 rest_or_none None = None
 rest_or_none (Some from) = from
 
-abbrev pub behind_unhandled : Program → Option ℕ → SequenceParts Sequence → Option StatementNo → Option StatementNo
+abbrev pub behind_unhandled : Image → Option ℕ → SequenceParts Sequence → Option StatementNo → Option StatementNo
 behind_unhandled p part s from = skipped p (suc (length s.statements.others)) (rest_or_none (activation_read p part from))
 
-abbrev pub behind_parts : Program → Option ℕ → SequenceParts Sequence → List (Handler Sequence) → Option StatementNo → Option StatementNo
+abbrev pub behind_parts : Image → Option ℕ → SequenceParts Sequence → List (Handler Sequence) → Option StatementNo → Option StatementNo
 behind_parts p part s [] from = behind_unhandled p part s from
 behind_parts p part s (h ∷ hs) from = skipped p 1 from
 
-abbrev pub behind_statements : Program → Option ℕ → Option Sequence → Option StatementNo → Option StatementNo
+abbrev pub behind_statements : Image → Option ℕ → Option Sequence → Option StatementNo → Option StatementNo
 behind_statements p part None from = rest_or_none (activation_read p part from)
 behind_statements p part (Some s) from = behind_parts p part (out-Sequence s).parts (out-Sequence s).parts.handlers from
 
 -- ---- packages: one after another, and what comes behind each is where the next begins
 
-abbrev pub package_statements_read : Program → Within → Option ℕ → Option Sequence → Option StatementNo → Rest
+abbrev pub package_statements_read : Image → Within → Option ℕ → Option Sequence → Option StatementNo → Rest
 package_statements_read p within part None from = activation_read p part from
 package_statements_read p within part (Some s) from =
     let to = behind_statements p part (Some s) from in
     cond (sequence_reads p s (sequence_place.BehindDeclarations part) within from to) (Some to) None
 
-abbrev pub package_body_read : Program → List LibraryPackage → Within → PackageBody → Option StatementNo → Rest
+abbrev pub package_body_read : Image → List LibraryPackage → Within → PackageBody → Option StatementNo → Rest
 package_body_read p ls within x from =
     and_behind (declarations_read p within (part_of ls x.name.text) x.declarations from) (package_statements_read p within (package_part ls within x) x.sequence)
 
-abbrev pub package_read : Program → List LibraryPackage → Within → Package → Option StatementNo → Rest
+abbrev pub package_read : Image → List LibraryPackage → Within → Package → Option StatementNo → Rest
 package_read p ls within (packages.Declaration x) from = package_declaration_read p ls within x from
 package_read p ls within (packages.Body x) from = package_body_read p ls within x from
 
-abbrev pub bodies_in_package : Program → Within → Package → Bool
+abbrev pub bodies_in_package : Image → Within → Package → Bool
 bodies_in_package p within (packages.Declaration x) = inner_bodies_read p (sequence_reads p) within (x.declarations ++ unwrap_or x.private [])
 bodies_in_package p within (packages.Body x) = inner_bodies_read p (sequence_reads p) within x.declarations
 
 -- the packages, and behind them the call of the main procedure, which is the last action
-abbrev pub elaboration_reads : Program → List LibraryPackage → Within → List LibraryPackage → Option StatementNo → Bool
+abbrev pub elaboration_reads : Image → List LibraryPackage → Within → List LibraryPackage → Option StatementNo → Bool
 elaboration_reads p all within [] from = ends_at None (one_action p is_call_of_main from)
 elaboration_reads p all within (l ∷ ls) from =
     bodies_in_package p within l.package && reads_on (elaboration_reads p all within ls) (package_read p all within l.package from)
 
 -- the image of a source has its text, read from the scopes
-abbrev pub image_reads : Program → Tree → Bool
+abbrev pub image_reads : Image → Tree → Bool
 image_reads p unit =
     let within = outermost (names_of unit) in
     elaboration_reads p unit.packages within unit.packages (first_of_scope p 0)

@@ -16,7 +16,7 @@ use Rattle.ada_tree.specs.declared.expressions.Addend.{Addend}
 use Rattle.ada_tree.specs.declared.expressions.Multiplied.{Multiplied}
 use Rattle.ada_tree.specs.declared.expressions.Argument.{Argument}
 use Rattle.ada_tree.specs.declared.expressions.AttributeDesignator.{AttributeDesignator}
-use Rattle.profile_machine.specs.declared.image.Image.{Image as Program}
+use Rattle.profile_machine.specs.declared.image.Image.{Image}
 use Rattle.profile_machine.specs.declared.numbers.DeclNo.{DeclNo}
 use Rattle.profile_machine.specs.declared.numbers.ExprNo.{ExprNo}
 use Rattle.profile_machine.specs.declared.values.Value.{Value}
@@ -111,7 +111,7 @@ pub record ExpressionReading : Type 0 where
 abbrev pub Standing : Type 0
 Standing = Within → ExprNo → Bool
 
-module _ (p : Program) where
+module _ (p : Image) where
   abbrev pub at_number : ExprNo → Valuation
   at_number e = expression_of p.expressions e
 
@@ -288,11 +288,11 @@ module _ (p : Program) where
 abbrev pub same_reading : ExpressionReading → ExpressionReading
 same_reading reading = reading
 
-abbrev pub reading_layer : Program → Expression-F ExpressionReading → ExpressionReading
+abbrev pub reading_layer : Image → Expression-F ExpressionReading → ExpressionReading
 reading_layer p e = form_reading p same_reading e.form
 
-abbrev pub expression_reading : Program → Expression → ExpressionReading
+abbrev pub expression_reading : Image → Expression → ExpressionReading
 expression_reading p = fold-Expression ExpressionReading (reading_layer p)
 
-abbrev pub expression_stands : Program → Within → Expression → ExprNo → Bool
+abbrev pub expression_stands : Image → Within → Expression → ExprNo → Bool
 expression_stands p within e number = (expression_reading p e).stands within number

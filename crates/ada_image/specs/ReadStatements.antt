@@ -37,7 +37,7 @@ use Rattle.ada_tree.specs.declared.selects.Alternative.{Alternative}
 use Rattle.ada_tree.specs.declared.selects.Alternative.TheVariants as alternative
 use Rattle.ada_tree.specs.declared.selects.Trigger.{Trigger}
 use Rattle.ada_tree.specs.declared.selects.Trigger.TheVariants as trigger
-use Rattle.profile_machine.specs.declared.image.Image.{Image as Program}
+use Rattle.profile_machine.specs.declared.image.Image.{Image}
 use Rattle.profile_machine.specs.declared.numbers.DeclNo.{DeclNo}
 use Rattle.profile_machine.specs.declared.numbers.EntryNo.{EntryNo}
 use Rattle.profile_machine.specs.declared.numbers.ExprNo.{ExprNo}
@@ -193,7 +193,7 @@ abbrev pub is_call_of_main : StatementForm → Bool
 is_call_of_main action.CallMain = true
 is_call_of_main _ = false
 
-module _ (p : Program) where
+module _ (p : Image) where
   abbrev pub value_stands : Within → Expression → ExprNo → Bool
   value_stands within e number = expression_stands p within e number
 

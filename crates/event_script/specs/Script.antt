@@ -2,7 +2,7 @@
 use Rattle.std.specs.Prelude.{◌≡◌, ℕ, ℤ, ◌+◌, ◌==◌, ◌&&◌, Bool, true, false, nat_lt, if◌then◌else◌, List, [], ◌∷◌, length, take, Result, Ok, Err, codes}
 use Rattle.std.specs.List.{fold}
 use Rattle.std.specs.Str.{bytes_eq}
-use Rattle.text_lines.specs.Lines.{Line, lines_of}
+use Rattle.text_lines.specs.Lines.{NumberedLine, lines_of}
 use Rattle.profile_machine.specs.declared.run_data.Item.{Item}
 use Rattle.event_script.specs.declared.faults.TheConstants.{SCRIPT_BYTES, MOST_ITEMS}
 use Rattle.event_script.specs.declared.faults.ScriptFault.{ScriptFault}
@@ -28,7 +28,7 @@ is_silent (first ∷ []) = false
 is_silent (first ∷ second ∷ rest) = (first == 45) && (second == 45)
 
 -- the first line of all says that the script is of the second version
-abbrev pub is_version : Line → Bool
+abbrev pub is_version : NumberedLine → Bool
 is_version line = (line.number == 1) && bytes_eq line.text (codes "version 2")
 
 -- What was read with what one more line says. Its tick is not below that of a line above, and there are 100,000
@@ -41,7 +41,7 @@ with_entry reading (Ok entry) =
     else Ok (record { is_second = reading.is_second; last = entry.tick; items = put_entry entry reading.items }))
 
 -- what was read with a line, or why it is refused; first of all it ends within 8,388,608 bytes
-abbrev pub after_line : Reading → Line → Result Reading ScriptFaultKind
+abbrev pub after_line : Reading → NumberedLine → Result Reading ScriptFaultKind
 after_line reading line =
     if nat_lt SCRIPT_BYTES line.stop then Err TooMany
     else (if is_silent line.text then Ok reading
@@ -54,7 +54,7 @@ at_line number (Ok reading) = Ok reading
 at_line number (Err kind) = Err (record { line = number; kind = kind })
 
 -- nothing is read past a line that is refused
-abbrev pub read_line : Result Reading ScriptFault → Line → Result Reading ScriptFault
+abbrev pub read_line : Result Reading ScriptFault → NumberedLine → Result Reading ScriptFault
 read_line (Err fault) line = Err fault
 read_line (Ok reading) line = at_line line.number (after_line reading line)
 

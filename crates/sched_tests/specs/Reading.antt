@@ -8,7 +8,7 @@ use Rattle.sched_tests.specs.declared.duties.TableFault.{TableFault}
 use Rattle.sched_tests.specs.declared.duties.TableFaultKind.{TableFaultKind}
 use Rattle.sched_tests.specs.declared.duties.TableFaultKind.TheVariants.{BadLine, BadNumber, Twice, TooMany, Empty}
 use Rattle.sched_tests.specs.declared.reading.Words.{Words}
-use Rattle.text_lines.specs.Lines.{Line, lines_of, words_of}
+use Rattle.text_lines.specs.Lines.{NumberedLine, lines_of, words_of}
 use Rattle.text_lines.specs.Numerals.{is_digit, number_in}
 
 -- a byte is between two others
@@ -104,7 +104,7 @@ is_silent (first ∷ []) = false
 is_silent (first ∷ second ∷ rest) = (first == 45) && (second == 45)
 
 -- the duties after a line, or why it is refused; first of all it ends within 65,536 bytes
-abbrev pub after_line : List Duty → Line → Result (List Duty) TableFaultKind
+abbrev pub after_line : List Duty → NumberedLine → Result (List Duty) TableFaultKind
 after_line duties line =
     if nat_lt TABLE_BYTES line.stop then Err TooMany
     else (if is_silent line.text then Ok duties else with_duty duties (duty_of line.text))
@@ -115,7 +115,7 @@ at_line number (Ok duties) = Ok duties
 at_line number (Err kind) = Err (record { line = number; kind = kind })
 
 -- nothing is read past a line that is refused
-abbrev pub read_line : Result (List Duty) TableFault → Line → Result (List Duty) TableFault
+abbrev pub read_line : Result (List Duty) TableFault → NumberedLine → Result (List Duty) TableFault
 read_line (Err fault) line = Err fault
 read_line (Ok duties) line = at_line line.number (after_line duties line)
 

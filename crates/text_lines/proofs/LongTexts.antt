@@ -4,7 +4,7 @@ use Rattle.std.proofs.Common.{◌≡◌, ◌≤◌, ◌<◌, ◌+◌, ℕ, zero,
 use Rattle.std.specs.List.{fold, onto_first}
 use Rattle.std.specs.Str.Lines.{strip_carriage_return}
 use Rattle.std.proofs.lemmas.Bool.Decides.{nat_tests}
-use Rattle.text_lines.specs.Lines.{Line, parts_at, lines_from, lines_of}
+use Rattle.text_lines.specs.Lines.{NumberedLine, parts_at, lines_from, lines_of}
 use Rattle.text_lines.proofs.Cuts.{split_some}
 
 -- a text in front of the first part
@@ -22,12 +22,12 @@ front_one text x (part ∷ parts) = ap (λ first. first ∷ parts) (sym (append_
 nonzero : (n : ℕ) → 0 < n → (n == 0) ≡ false
 nonzero n some = grind (arith, nat_tests)
 
-abbrev line_of : ℕ → ℕ → List ℕ → Line
+abbrev line_of : ℕ → ℕ → List ℕ → NumberedLine
 line_of number start text = record { number = number; stop = start + length (text ++ []) + 1; text = strip_carriage_return (text ++ []) }
 
 -- What is read of a line, and what was read of all lines once one ended too late. Behind such a line nothing is read.
-module _ {S : Type 0} (limit : ℕ) (read : S → Line → S) (stopped : S → ℕ → S) (late : (s : S) (line : Line) → limit < line.stop → read s line ≡ stopped s line.number) (stays : (s : S) (number : ℕ) (lines : List Line) → fold read (stopped s number) lines ≡ stopped s number) where
-  late_first : (s : S) (line : Line) (lines : List Line) → limit < line.stop → fold read (read s line) lines ≡ stopped s line.number
+module _ {S : Type 0} (limit : ℕ) (read : S → NumberedLine → S) (stopped : S → ℕ → S) (late : (s : S) (line : NumberedLine) → limit < line.stop → read s line ≡ stopped s line.number) (stays : (s : S) (number : ℕ) (lines : List NumberedLine) → fold read (stopped s number) lines ≡ stopped s number) where
+  late_first : (s : S) (line : NumberedLine) (lines : List NumberedLine) → limit < line.stop → fold read (read s line) lines ≡ stopped s line.number
   late_first s line lines long = ap (λ t. fold read t lines) (late s line long) ∙ stays s line.number lines
 
   -- a first line that ends too late decides

@@ -5,13 +5,13 @@ use Rattle.std.specs.Str.Lines.{strip_carriage_return}
 use Rattle.text_lines.specs.declared.lines.TextLine.{TextLine}
 
 -- A line: its number from 1, how many bytes of the text end with it, and its text without its end.
-pub record Line : Type 0 where
+pub record NumberedLine : Type 0 where
   pub number : ℕ
   pub stop : ℕ
   pub text : List ℕ
 
 -- a line as the program has it
-abbrev pub line_in : TextLine → Line
+abbrev pub line_in : TextLine → NumberedLine
 line_in line = record { number = line.number; stop = line.stop; text = line.text.now }
 
 -- what stands between bytes that are this one
@@ -20,7 +20,7 @@ parts_at mark bytes = slice_split (λ byte. byte == mark) bytes
 
 -- The lines of what stands between line feeds: each but the last ends with a line feed, or with a
 -- carriage return and a line feed. The last lacks it, and is no line where it has no byte.
-abbrev pub lines_from : ℕ → ℕ → List (List ℕ) → List Line
+abbrev pub lines_from : ℕ → ℕ → List (List ℕ) → List NumberedLine
 lines_from number start [] = []
 lines_from number start (last ∷ []) =
     if length last == 0 then []
@@ -30,7 +30,7 @@ lines_from number start (part ∷ next ∷ parts) =
     ∷ lines_from (number + 1) (start + length part + 1) (next ∷ parts)
 
 -- the lines of a text
-abbrev pub lines_of : List ℕ → List Line
+abbrev pub lines_of : List ℕ → List NumberedLine
 lines_of bytes = lines_from 1 0 (parts_at 10 bytes)
 
 -- the line of a number that begins at an offset, and that what is left has the lines behind it

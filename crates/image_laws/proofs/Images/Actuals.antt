@@ -7,7 +7,7 @@ use Rattle.ada_tree.specs.declared.expressions.Expression.TheViews.{out-Expressi
 use Rattle.ada_tree.specs.declared.expressions.ExpressionForm.{ExpressionForm}
 use Rattle.ada_tree.specs.declared.expressions.ExpressionForm.TheVariants as form
 use Rattle.ada_tree.specs.declared.expressions.Argument.{Argument}
-use Rattle.profile_machine.specs.declared.image.Image.{Image as Program}
+use Rattle.profile_machine.specs.declared.image.Image.{Image}
 use Rattle.profile_machine.specs.declared.numbers.StatementNo.{StatementNo}
 use Rattle.profile_machine.specs.declared.statements.Actual.TheVariants as actual
 use Rattle.profile_machine.specs.declared.statements.Callee.{Callee}
@@ -59,13 +59,13 @@ same-handler (Some h) = and_from _ _ (same-number h.object.0) (same-number h.pro
 -- ---- an action that stands
 
 -- It stands there, leads to what comes next, and its form passes a test.
-pub record Stood (p : Program) (to : Option StatementNo) (test : StatementNo → StatementForm → Bool) (r : Option StatementNo) : Type 0 where
+pub record Stood (p : Image) (to : Option StatementNo) (test : StatementNo → StatementForm → Bool) (r : Option StatementNo) : Type 0 where
   pub at : StatementNo
   pub is : r ≡ Some at
   pub next : next_of p at ≡ to
   pub stands : test at (form_of p at) ≡ true
 
-pub stood : {p : Program} {to : Option StatementNo} {f : StatementForm} {r : Option StatementNo} (test : StatementForm → Bool) → Put f to p r → test f ≡ true → Stood p to (λ s x. test x) r
+pub stood : {p : Image} {to : Option StatementNo} {f : StatementForm} {r : Option StatementNo} (test : StatementForm → Bool) → Put f to p r → test f ≡ true → Stood p to (λ s x. test x) r
 stood test h t = record { at = h.at; is = h.is; next = h.stands.next; stands = ap test h.stands.form ∙ t }
 
 -- ---- values and variables
@@ -145,7 +145,7 @@ arguments-step fs xs within b = actuals-step fs (actuals_for (names_of fs) xs) w
 
 -- ---- calls of functions of the source
 
-pub call-step : (c : FunctionCall) (d : Destination) (goes : Program → Destination → Bool) (signs : ℕ) (next : Option StatementNo) (within : Within) → call_built c within.names ≡ true
+pub call-step : (c : FunctionCall) (d : Destination) (goes : Image → Destination → Bool) (signs : ℕ) (next : Option StatementNo) (within : Within) → call_built c within.names ≡ true
     → Step (function_call_put within c d signs next) (λ p r. goes p d ≡ true → Stood p next (λ s f. call_stands p within c (goes p) f) r)
 unfolding function_call_put call_put
 call-step c d goes signs next within b =

@@ -8,7 +8,7 @@ use Rattle.ada_tree.specs.declared.statements.If.{If}
 use Rattle.ada_tree.specs.declared.statements.Case.{Case}
 use Rattle.ada_tree.specs.declared.statements.Accept.{Accept}
 use Rattle.ada_tree.specs.declared.statements.AcceptBody.{AcceptBody}
-use Rattle.profile_machine.specs.declared.image.Image.{Image as Program}
+use Rattle.profile_machine.specs.declared.image.Image.{Image}
 use Rattle.profile_machine.specs.declared.numbers.StatementNo.{StatementNo}
 use Rattle.profile_machine.specs.declared.statements.StatementForm.TheVariants as action
 use Rattle.profile_machine.specs.Program.{form_of}
@@ -85,11 +85,11 @@ module _ {E : Type 0} (g : E → Sequence) (law : (e : E) → SequenceLaw (seque
   abbrev made : List (Statement E) → List (Statement SequenceMaking)
   made xs = map (mapped_statement sequence_put) (map (mapped_statement g) xs)
 
-  abbrev read : Program → List (Statement E) → List (Statement SequenceReading)
+  abbrev read : Image → List (Statement E) → List (Statement SequenceReading)
   read p xs = map (mapped_statement (sequence_reads p)) (map (mapped_statement g) xs)
 
   -- a statement before those that read
-  in-front : (x : Statement E) (xs : List (Statement E)) (later next : Option StatementNo) (within : Within) (p : Program) (y : Option StatementNo)
+  in-front : (x : Statement E) (xs : List (Statement E)) (later next : Option StatementNo) (within : Within) (p : Image) (y : Option StatementNo)
       → Stood p later (λ s f. form_stands p same_sequence_reading within (mapped_statement (sequence_reads p) (mapped_statement g x)) s later f) y
       → statements_stand p same_sequence_reading within (read p xs) later next ≡ true → statements_stand p same_sequence_reading within (read p (x ∷ xs)) y next ≡ true
   in-front x xs later next within p y h k =

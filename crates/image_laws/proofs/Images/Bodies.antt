@@ -7,7 +7,7 @@ use Rattle.ada_tree.specs.declared.declarations.Declaration.TheVariants as decla
 use Rattle.ada_tree.specs.declared.declarations.OperationBody.{OperationBody}
 use Rattle.ada_tree.specs.declared.declarations.OperationBody.TheVariants as body_of
 use Rattle.ada_tree.specs.declared.statements.Sequence.{Sequence}
-use Rattle.profile_machine.specs.declared.image.Image.{Image as Program}
+use Rattle.profile_machine.specs.declared.image.Image.{Image}
 use Rattle.profile_machine.specs.declared.numbers.SubprogramNo.{SubprogramNo}
 use Rattle.ada_regions.specs.Names.{entity_denoted}
 use Rattle.ada_image.specs.declared.making.Within.{Within}
@@ -31,7 +31,7 @@ in-unit built e within b = ap built (unit-names e within) ∙ b
 
 -- ---- bodies of which each obeys the law
 
-module _ {Q : Type 0} (make : Q → SequenceMaking) (read : Program → Q → SequenceReading) (built : Q → Built) (law : (q : Q) → SequenceLaw (make q) (λ p. read p q) (built q)) where
+module _ {Q : Type 0} (make : Q → SequenceMaking) (read : Image → Q → SequenceReading) (built : Q → Built) (law : (q : Q) → SequenceLaw (make q) (λ p. read p q) (built q)) where
   pub body-step : (place : Place) (function : Option SubprogramNo) (is_task_body : Bool) (q : Q) (within : Within) → built q within.names ≡ true
       → Step (body_put make within place function is_task_body q) (λ p u. body_reads p (read p) within place function is_task_body q ≡ true)
   unfolding body_put

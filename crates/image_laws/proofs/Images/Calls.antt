@@ -6,7 +6,7 @@ use Rattle.ada_tree.specs.declared.names.Name.{Name}
 use Rattle.ada_tree.specs.declared.expressions.Expression.{Expression}
 use Rattle.ada_tree.specs.declared.expressions.Argument.{Argument}
 use Rattle.ada_tree.specs.declared.statements.Call.{Call}
-use Rattle.profile_machine.specs.declared.image.Image.{Image as Program}
+use Rattle.profile_machine.specs.declared.image.Image.{Image}
 use Rattle.profile_machine.specs.declared.numbers.DeclNo.{DeclNo}
 use Rattle.profile_machine.specs.declared.numbers.EntryNo.{EntryNo}
 use Rattle.profile_machine.specs.declared.numbers.ExprNo.{ExprNo}
@@ -48,13 +48,13 @@ use Rattle.image_laws.proofs.Images.Pieces.{text-step}
 
 module _ (within : Within) (signs : ℕ) (next : Option StatementNo) where
   -- what stands passes a test
-  abbrev Stand : (Program → StatementForm → Bool) → Making (Option StatementNo) → Type 0
+  abbrev Stand : (Image → StatementForm → Bool) → Making (Option StatementNo) → Type 0
   Stand test m = Step m (λ p r. Stood p next (λ s f. test p f) r)
 
-  thing-same : (e : Option Expression) (p : Program) → thing_is p within e (thing_of within e) ≡ true
+  thing-same : (e : Option Expression) (p : Image) → thing_is p within e (thing_of within e) ≡ true
   thing-same e p = same-number (thing_of within e).0
 
-  handler-same : (e : Option Expression) (p : Program) → handler_is p within e (handler_of within e) ≡ true
+  handler-same : (e : Option Expression) (p : Image) → handler_is p within e (handler_of within e) ≡ true
   handler-same e p = same-handler (handler_of within e)
 
   line-step : (xs : List (Argument Expression)) (es : List (Option Expression)) → text_built (first_of es) within.names ≡ true → Stand (λ p. procedure_stands p within operations.PutLine xs es) (put_line_put within es signs next)
@@ -65,31 +65,31 @@ module _ (within : Within) (signs : ℕ) (next : Option StatementNo) where
       (λ pieces. step-so (λ p r h k. stood (procedure_stands p within operations.PutLine xs (e ∷ es)) h k) (action-step (action.PutLine pieces) signs next))
 
   -- a timing event or a timer is set
-  set-step : (f : DeclNo → Setting → Option HandlerName → StatementForm) (test : Program → StatementForm → Bool) (xs : List (Argument Expression)) (es : List (Option Expression))
-      → ((p : Program) (d : DeclNo) (s : Setting) (h : Option HandlerName) → test p (f d s h) ≡ (thing_is p within (first_of es) d && (setting_stands p within xs s && handler_is p within (third_of es) h)))
+  set-step : (f : DeclNo → Setting → Option HandlerName → StatementForm) (test : Image → StatementForm → Bool) (xs : List (Argument Expression)) (es : List (Option Expression))
+      → ((p : Image) (d : DeclNo) (s : Setting) (h : Option HandlerName) → test p (f d s h) ≡ (thing_is p within (first_of es) d && (setting_stands p within xs s && handler_is p within (third_of es) h)))
       → value_there (moment_of xs) within.names ≡ true → Stand test (setting_made within xs >>= (λ s. action_put (f (thing_of within (first_of es)) s (handler_of within (third_of es))) signs next))
   set-step f test xs es same b =
       step-then (setting_made within xs) (λ s. action_put (f (thing_of within (first_of es)) s (handler_of within (third_of es))) signs next) (setting-step xs within b)
       (λ s. step-so (λ p r h k. stood (test p) h (same p _ _ _ ∙ and_from _ _ (thing-same (first_of es) p) (and_from _ _ k (handler-same (third_of es) p)))) (action-step (f (thing_of within (first_of es)) s (handler_of within (third_of es))) signs next))
 
-  cancel-step : (f : DeclNo → VariableName → StatementForm) (test : Program → StatementForm → Bool) (es : List (Option Expression))
-      → ((p : Program) (d : DeclNo) (v : VariableName) → test p (f d v) ≡ (thing_is p within (first_of es) d && variable_stands_if p within (second_of es) v))
+  cancel-step : (f : DeclNo → VariableName → StatementForm) (test : Image → StatementForm → Bool) (es : List (Option Expression))
+      → ((p : Image) (d : DeclNo) (v : VariableName) → test p (f d v) ≡ (thing_is p within (first_of es) d && variable_stands_if p within (second_of es) v))
       → variable_there (second_of es) within.names ≡ true → Stand test (cancel_put f within es signs next)
   unfolding cancel_put
   cancel-step f test es same b =
       step-then (variable_of within (second_of es)) (λ v. action_put (f (thing_of within (first_of es)) v) signs next) (variable-there (second_of es) within b)
       (λ v. step-so (λ p r h k. stood (test p) h (same p _ _ ∙ and_from _ _ (thing-same (first_of es) p) k)) (action-step (f (thing_of within (first_of es)) v) signs next))
 
-  budget-step : (f : DeclNo → ExprNo → StatementForm) (test : Program → StatementForm → Bool) (es : List (Option Expression))
-      → ((p : Program) (d : DeclNo) (e : ExprNo) → test p (f d e) ≡ (thing_is p within (first_of es) d && value_stands_if p within (second_of es) e))
+  budget-step : (f : DeclNo → ExprNo → StatementForm) (test : Image → StatementForm → Bool) (es : List (Option Expression))
+      → ((p : Image) (d : DeclNo) (e : ExprNo) → test p (f d e) ≡ (thing_is p within (first_of es) d && value_stands_if p within (second_of es) e))
       → value_there (second_of es) within.names ≡ true → Stand test (budget_put f within es signs next)
   unfolding budget_put
   budget-step f test es same b =
       step-then (value_or_none within (second_of es)) (λ e. action_put (f (thing_of within (first_of es)) e) signs next) (value-step (second_of es) within b)
       (λ e. step-so (λ p r h k. stood (test p) h (same p _ _ ∙ and_from _ _ (thing-same (first_of es) p) k)) (action-step (f (thing_of within (first_of es)) e) signs next))
 
-  task-step : (f : ExprNo → Option ExprNo → StatementForm) (test : Program → StatementForm → Bool) (es : List (Option Expression))
-      → ((p : Program) (e : ExprNo) (t : Option ExprNo) → test p (f e t) ≡ (value_stands_if p within (first_of es) e && condition_stands p within (second_of es) t))
+  task-step : (f : ExprNo → Option ExprNo → StatementForm) (test : Image → StatementForm → Bool) (es : List (Option Expression))
+      → ((p : Image) (e : ExprNo) (t : Option ExprNo) → test p (f e t) ≡ (value_stands_if p within (first_of es) e && condition_stands p within (second_of es) t))
       → (value_there (first_of es) within.names && value_if_there (second_of es) within.names) ≡ true → Stand test (task_put f within es signs next)
   unfolding task_put
   task-step f test es same b =
@@ -98,8 +98,8 @@ module _ (within : Within) (signs : ℕ) (next : Option StatementNo) where
       (λ e. step-then (optional_value within (second_of es)) (λ t. action_put (f e t) signs next) (optional-step (second_of es) within parts.1)
       (λ t. step-so (λ p r h k l. stood (test p) h (same p _ _ ∙ and_from _ _ l k)) (action-step (f e t) signs next)))
 
-  values-step : (f : ExprNo → ExprNo → StatementForm) (test : Program → StatementForm → Bool) (es : List (Option Expression))
-      → ((p : Program) (a b : ExprNo) → test p (f a b) ≡ (value_stands_if p within (first_of es) a && value_stands_if p within (second_of es) b))
+  values-step : (f : ExprNo → ExprNo → StatementForm) (test : Image → StatementForm → Bool) (es : List (Option Expression))
+      → ((p : Image) (a b : ExprNo) → test p (f a b) ≡ (value_stands_if p within (first_of es) a && value_stands_if p within (second_of es) b))
       → (value_there (first_of es) within.names && value_there (second_of es) within.names) ≡ true → Stand test (values_put f within es signs next)
   unfolding values_put
   values-step f test es same b =

@@ -9,7 +9,7 @@ use Rattle.ada_tree.specs.declared.statements.Iteration.TheVariants as iteration
 use Rattle.ada_tree.specs.declared.statements.Block.{Block}
 use Rattle.ada_tree.specs.declared.statements.Accept.{Accept}
 use Rattle.ada_tree.specs.declared.statements.AcceptBody.{AcceptBody}
-use Rattle.profile_machine.specs.declared.image.Image.{Image as Program}
+use Rattle.profile_machine.specs.declared.image.Image.{Image}
 use Rattle.profile_machine.specs.declared.numbers.DeclNo.{DeclNo}
 use Rattle.profile_machine.specs.declared.numbers.ExprNo.{ExprNo}
 use Rattle.profile_machine.specs.declared.numbers.StatementNo.{StatementNo}
@@ -51,7 +51,7 @@ module _ {E : Type 0} (g : E → Sequence) (law : (e : E) → SequenceLaw (seque
   abbrev m : E → SequenceMaking
   m e = sequence_put (g e)
 
-  abbrev r : Program → E → SequenceReading
+  abbrev r : Image → E → SequenceReading
   r p e = sequence_reads p (g e)
 
   -- ---- loops (5.5)
@@ -59,7 +59,7 @@ module _ {E : Type 0} (g : E → Sequence) (law : (e : E) → SequenceLaw (seque
   abbrev loop_made : Loop E → Loop SequenceMaking
   loop_made l = loop_of sequence_put (loop_of g l)
 
-  abbrev loop_read : Program → Loop E → Loop SequenceReading
+  abbrev loop_read : Image → Loop E → Loop SequenceReading
   loop_read p l = loop_of (sequence_reads p) (loop_of g l)
 
   -- where the body of a loop stands
@@ -93,7 +93,7 @@ module _ {E : Type 0} (g : E → Sequence) (law : (e : E) → SequenceLaw (seque
   abbrev ends_made : Within → Expression → Expression → Making (ExprNo × ExprNo)
   ends_made within low high = expression_made low within >>= (λ a. expression_made high within >>= (λ b. pure (a, b)))
 
-  abbrev EndsStand : Within → Expression → Expression → Program → ExprNo × ExprNo → Type 0
+  abbrev EndsStand : Within → Expression → Expression → Image → ExprNo × ExprNo → Type 0
   EndsStand within low high p y = (value_stands p within low y.0 ≡ true) × (value_stands p within high y.1 ≡ true)
 
   ends-step : (low high : Expression) (within : Within) → expression_built low within.names ≡ true → expression_built high within.names ≡ true → Step (ends_made within low high) (EndsStand within low high)
@@ -101,12 +101,12 @@ module _ {E : Type 0} (g : E → Sequence) (law : (e : E) → SequenceLaw (seque
       step-then (expression_made low within) (λ x. expression_made high within >>= (λ y. pure (x, y))) (expression-step low within b)
       (λ x. step-then (expression_made high within) (λ y. pure (x, y)) (expression-step high within c) (λ y. step-pure (x, y) _ (λ p k h. (h, k))))
 
-  abbrev ForTurns : Loop E → DeclNo → Bool → Expression → Expression → Option StatementNo → Within → Program → Option StatementNo → Type 0
+  abbrev ForTurns : Loop E → DeclNo → Bool → Expression → Expression → Option StatementNo → Within → Image → Option StatementNo → Type 0
   ForTurns l d reverse low high next within =
       Turning (λ first y. action.For d reverse y.0 y.1 first within.construct) (λ body. action.FirstTurn d reverse (the_action body)) (λ body. action.LaterTurn d reverse (the_action body)) next
       (λ s t. Inside g law l.statements (around within l s) (Some t)) (EndsStand within low high)
 
-  module _ (l : Loop E) (d : DeclNo) (reverse : Bool) (low high : Expression) (next : Option StatementNo) (within : Within) (p : Program) (x : Option StatementNo) (h : ForTurns l d reverse low high next within p x) where
+  module _ (l : Loop E) (d : DeclNo) (reverse : Bool) (low high : Expression) (next : Option StatementNo) (within : Within) (p : Image) (x : Option StatementNo) (h : ForTurns l d reverse low high next within p x) where
     turn-stands : is_turn p same_sequence_reading d reverse next (later_turn h.at) (the_action h.made) ≡ true
     turn-stands =
         and_from _ _ (ap (λ n. same_next n next) h.later_stands.next ∙ same-next next)

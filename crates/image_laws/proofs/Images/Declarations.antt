@@ -6,7 +6,7 @@ use Rattle.ada_tree.specs.declared.names.Identifier.{Identifier}
 use Rattle.ada_tree.specs.declared.expressions.Expression.{Expression}
 use Rattle.ada_tree.specs.declared.declarations.Declaration.{Declaration}
 use Rattle.ada_tree.specs.declared.declarations.Declaration.TheVariants as declaration
-use Rattle.profile_machine.specs.declared.image.Image.{Image as Program}
+use Rattle.profile_machine.specs.declared.image.Image.{Image}
 use Rattle.profile_machine.specs.declared.numbers.DeclNo.{DeclNo}
 use Rattle.profile_machine.specs.declared.numbers.StatementNo.{StatementNo}
 use Rattle.profile_machine.specs.declared.statements.Destination.TheVariants as destination
@@ -33,7 +33,7 @@ use Rattle.image_laws.proofs.Images.Layers.{mapped_declaration}
 -- ---- single actions
 
 -- an action that passes the test stands there: what comes behind it is left
-pub one-stood : {p : Program} {to : Option StatementNo} {x : Option StatementNo} (test : StatementForm → Bool) → Stood p to (λ s f. test f) x → one_action p test x ≡ Some to
+pub one-stood : {p : Image} {to : Option StatementNo} {x : Option StatementNo} (test : StatementForm → Bool) → Stood p to (λ s f. test f) x → one_action p test x ≡ Some to
 one-stood {p} {to} {x} test h = ap (one_action p test) h.is ∙ ap (λ b. cond b (Some (next_of p h.at)) None) h.stands ∙ ap Some h.next
 
 pub one-step : (f : StatementForm) (test : StatementForm → Bool) (signs : ℕ) (next : Option StatementNo) → test f ≡ true → Step (action_put f signs next) (λ p x. one_action p test x ≡ Some next)
@@ -94,7 +94,7 @@ single-step part false i next within = object-step part i None next within refl
 
 -- ---- declarations, in a layer of which each sequence was replaced
 
-module _ {E A B : Type 0} (f : E → A) (h : Program → E → B) (k : E → Built) where
+module _ {E A B : Type 0} (f : E → A) (h : Image → E → B) (k : E → Built) where
   declaration-step : (part : ℕ) (d : Declaration E) (next : Option StatementNo) (within : Within) → declarations_built same_sequence_built (mapped_declaration k d ∷ []) within.names ≡ true
       → Step (declaration_put within part (mapped_declaration f d) next) (λ p x. declaration_read p within part (mapped_declaration (h p) d) x ≡ Some next)
   unfolding declaration_put

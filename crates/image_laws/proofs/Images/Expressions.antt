@@ -16,7 +16,7 @@ use Rattle.ada_tree.specs.declared.expressions.Addend.{Addend}
 use Rattle.ada_tree.specs.declared.expressions.Multiplied.{Multiplied}
 use Rattle.ada_tree.specs.declared.expressions.Argument.{Argument}
 use Rattle.ada_tree.specs.declared.expressions.AttributeDesignator.{AttributeDesignator}
-use Rattle.profile_machine.specs.declared.image.Image.{Image as Program}
+use Rattle.profile_machine.specs.declared.image.Image.{Image}
 use Rattle.profile_machine.specs.declared.numbers.DeclNo.{DeclNo}
 use Rattle.profile_machine.specs.declared.numbers.ExprNo.{ExprNo}
 use Rattle.profile_machine.specs.declared.values.Value.{Value}
@@ -49,10 +49,10 @@ use Rattle.image_laws.proofs.Images.Values.{same-number, same-object, known-step
 
 -- ---- what is said of an expression
 
-pub record ExpressionLaw (image : ExpressionImage) (reading : Program → ExpressionReading) (built : Built) : Type 0 where
-  pub literal : (p : Program) → (reading p).literal ≡ image.literal
+pub record ExpressionLaw (image : ExpressionImage) (reading : Image → ExpressionReading) (built : Built) : Type 0 where
+  pub literal : (p : Image) → (reading p).literal ≡ image.literal
   pub given : (v : Value) → image.literal ≡ Some v → is_value (negated v) (negated v) ≡ true
-  pub name : (p : Program) → (reading p).name ≡ image.name
+  pub name : (p : Image) → (reading p).name ≡ image.name
   pub stands : (within : Within) → built within.names ≡ true → Step (image.made within) (λ p e. (reading p).stands within e ≡ true)
 
 -- ---- layers of which each expression was replaced
@@ -125,10 +125,10 @@ module _ (literal : List ℕ) where
 
 -- ---- one layer, whose expressions obey the law
 
-module _ {E : Type 0} (image : E → ExpressionImage) (reading : Program → E → ExpressionReading) (built : E → Built) (law : (e : E) → ExpressionLaw (image e) (λ p. reading p e) (built e)) where
+module _ {E : Type 0} (image : E → ExpressionImage) (reading : Image → E → ExpressionReading) (built : E → Built) (law : (e : E) → ExpressionLaw (image e) (λ p. reading p e) (built e)) where
   -- ---- operators of one level
 
-  operands-step : (operator : BinaryOperator) (os : List (Operand E)) (left : Program → Standing) (within : Within) (n : ExprNo) → operands_built same_built (map (operand_of built) os) within.names ≡ true
+  operands-step : (operator : BinaryOperator) (os : List (Operand E)) (left : Image → Standing) (within : Within) (n : ExprNo) → operands_built same_built (map (operand_of built) os) within.names ≡ true
       → Step (operands_made same_image operator n (map (operand_of image) os) within) (λ p e. left p within n ≡ true → operands_stand p same_reading operator (left p) (map (operand_of (reading p)) os) within e ≡ true)
   unfolding operands_made
   operands-step operator [] left within n b = step-pure n _ (λ p h. h)
@@ -138,7 +138,7 @@ module _ {E : Type 0} (image : E → ExpressionImage) (reading : Program → E �
       (binary-step operator n _ (λ p. left p within) (λ p. (reading p o.relation).stands within) ((law o.relation).stands within parts.0))
       (λ x. step-so (λ p e h r l. h (r l)) (operands-step operator os (λ p w y. is_binary p operator (left p w) ((reading p o.relation).stands w) (at_number p y)) within x parts.1))
 
-  addends-step : (xs : List (Addend E)) (left : Program → Standing) (within : Within) (n : ExprNo) → addends_built same_built (map (addend_of built) xs) within.names ≡ true
+  addends-step : (xs : List (Addend E)) (left : Image → Standing) (within : Within) (n : ExprNo) → addends_built same_built (map (addend_of built) xs) within.names ≡ true
       → Step (addends_made same_image n (map (addend_of image) xs) within) (λ p e. left p within n ≡ true → addends_stand p same_reading (left p) (map (addend_of (reading p)) xs) within e ≡ true)
   unfolding addends_made
   addends-step [] left within n b = step-pure n _ (λ p h. h)
@@ -148,7 +148,7 @@ module _ {E : Type 0} (image : E → ExpressionImage) (reading : Program → E �
       (binary-step (adding_operator a.operator) n _ (λ p. left p within) (λ p. (reading p a.term).stands within) ((law a.term).stands within parts.0))
       (λ x. step-so (λ p e h r l. h (r l)) (addends-step rest (λ p w y. is_binary p (adding_operator a.operator) (left p w) ((reading p a.term).stands w) (at_number p y)) within x parts.1))
 
-  factors-step : (xs : List (Multiplied E)) (left : Program → Standing) (within : Within) (n : ExprNo) → factors_built same_built (map (multiplied_of built) xs) within.names ≡ true
+  factors-step : (xs : List (Multiplied E)) (left : Image → Standing) (within : Within) (n : ExprNo) → factors_built same_built (map (multiplied_of built) xs) within.names ≡ true
       → Step (factors_made same_image n (map (multiplied_of image) xs) within) (λ p e. left p within n ≡ true → factors_stand p same_reading (left p) (map (multiplied_of (reading p)) xs) within e ≡ true)
   unfolding factors_made
   factors-step [] left within n b = step-pure n _ (λ p h. h)
@@ -201,7 +201,7 @@ module _ {E : Type 0} (image : E → ExpressionImage) (reading : Program → E �
   abbrev images : List (Option E) → List (Option ExpressionImage)
   images es = images_for same_image (map (option_map image) es)
 
-  abbrev actual_read : Program → List (Option E) → Option ExpressionReading
+  abbrev actual_read : Image → List (Option E) → Option ExpressionReading
   actual_read p es = first_of_actuals p same_reading (map (option_map (reading p)) es)
 
   abbrev builts : List (Option E) → List (Option Built)
@@ -224,7 +224,7 @@ module _ {E : Type 0} (image : E → ExpressionImage) (reading : Program → E �
   optional-step f (None ∷ es) within b = step-so (λ p y h. (None, h, refl)) (value-step (f None))
   optional-step f (Some e ∷ es) within b = step-then ((image e).made within) (λ x. value_put (f (Some x))) ((law e).stands within b) (λ x. step-so (λ p y h r. (Some x, h, r)) (value-step (f (Some x))))
 
-  thing-same : (es : List (Option E)) (within : Within) (p : Program) → actual_thing p within (actual_read p es) ≡ thing_in within (name_in (first_actual (images es)))
+  thing-same : (es : List (Option E)) (within : Within) (p : Image) → actual_thing p within (actual_read p es) ≡ thing_in within (name_in (first_actual (images es)))
   thing-same [] within p = refl
   thing-same (None ∷ es) within p = refl
   thing-same (Some e ∷ es) within p = ap (thing_in within) ((law e).name p)
@@ -237,14 +237,14 @@ module _ {E : Type 0} (image : E → ExpressionImage) (reading : Program → E �
   FunctionStep o = (es : List (Option E)) (within : Within) → operation_built same_built o (builts es) within.names ≡ true
       → Step (function_made o (images es) within) (λ p e. function_stands p o (actual_read p es) within (at_number p e) ≡ true)
 
-  thing-stands : (o : Operation) (f : DeclNo → Valuation) → ((p : Program) (within : Within) (e : Option ExpressionReading) (d : DeclNo) → function_stands p o e within (f d) ≡ same_decl d (actual_thing p within e))
+  thing-stands : (o : Operation) (f : DeclNo → Valuation) → ((p : Image) (within : Within) (e : Option ExpressionReading) (d : DeclNo) → function_stands p o e within (f d) ≡ same_decl d (actual_thing p within e))
       → (es : List (Option E)) (within : Within) → Step (of_thing_made f (first_actual (images es)) within) (λ p e. function_stands p o (actual_read p es) within (at_number p e) ≡ true)
   thing-stands o f same es within =
       step-so (λ p e h. ap (function_stands p o (actual_read p es) within) h ∙ same p within (actual_read p es) (thing_in within (name_in (first_actual (images es))))
       ∙ ap (same_decl (thing_in within (name_in (first_actual (images es))))) (thing-same es within p) ∙ same-number (thing_in within (name_in (first_actual (images es)))).0)
       (thing-function f es within)
 
-  span-function : (o : Operation) (ticks : ℤ) → ((p : Program) (within : Within) (e : Option ExpressionReading) (x : ExprNo) → function_stands p o e within (valuation.Span ticks x) ≡ (same_whole ticks ticks && actual_stands p e within x))
+  span-function : (o : Operation) (ticks : ℤ) → ((p : Image) (within : Within) (e : Option ExpressionReading) (x : ExprNo) → function_stands p o e within (valuation.Span ticks x) ≡ (same_whole ticks ticks && actual_stands p e within x))
       → (es : List (Option E)) (within : Within) → is_there same_built (first_in same_built (builts es)) within.names ≡ true
       → Step (span_made ticks (first_actual (images es)) within) (λ p e. function_stands p o (actual_read p es) within (at_number p e) ≡ true)
   unfolding span_made
@@ -359,7 +359,7 @@ module _ {E : Type 0} (image : E → ExpressionImage) (reading : Program → E �
   form-step (form.Bracketed place inner) within b = (law inner).stands within b
   form-step (form.Named name a arguments) within b = named-step a arguments within name b
 
-  form-literal : (x : ExpressionForm E) (p : Program) → (form_reading p same_reading (mapped_form (reading p) x)).literal ≡ (form_image same_image (mapped_form image x)).literal
+  form-literal : (x : ExpressionForm E) (p : Image) → (form_reading p same_reading (mapped_form (reading p) x)).literal ≡ (form_image same_image (mapped_form image x)).literal
   form-literal (form.Logical operator first others) p = refl
   form-literal (form.Relational left place operator right) p = refl
   form-literal (form.Adding first others) p = refl
@@ -385,7 +385,7 @@ module _ {E : Type 0} (image : E → ExpressionImage) (reading : Program → E �
   form-given (form.Bracketed place inner) v e = absurd (None≢Some e)
   form-given (form.Named name a arguments) v e = absurd (None≢Some e)
 
-  form-name : (x : ExpressionForm E) (p : Program) → (form_reading p same_reading (mapped_form (reading p) x)).name ≡ (form_image same_image (mapped_form image x)).name
+  form-name : (x : ExpressionForm E) (p : Image) → (form_reading p same_reading (mapped_form (reading p) x)).name ≡ (form_image same_image (mapped_form image x)).name
   form-name (form.Logical operator first others) p = refl
   form-name (form.Relational left place operator right) p = refl
   form-name (form.Adding first others) p = refl
@@ -423,7 +423,7 @@ mapped-twice f g (form.Null place) = refl
 mapped-twice f g (form.Bracketed place inner) = refl
 mapped-twice f g (form.Named name a arguments) = ap (form.Named name a) (map-twice (argument_of f) (argument_of g) (argument_of (λ e. f (g e))) (λ x. refl) arguments)
 
-law-of_reading : {image : ExpressionImage} {r s : Program → ExpressionReading} {built : Built} → ((p : Program) → r p ≡ s p) → ExpressionLaw image r built → ExpressionLaw image s built
+law-of_reading : {image : ExpressionImage} {r s : Image → ExpressionReading} {built : Built} → ((p : Image) → r p ≡ s p) → ExpressionLaw image r built → ExpressionLaw image s built
 law-of_reading same law = record {
   literal = λ p. ap (λ x. x.literal) (sym (same p)) ∙ law.literal p;
   given = law.given;

@@ -10,7 +10,7 @@ use Rattle.ada_tree.specs.declared.statements.Handler.{Handler}
 use Rattle.ada_tree.specs.declared.selects.SelectAlternative.{SelectAlternative}
 use Rattle.ada_tree.specs.declared.declarations.OperationBody.{OperationBody}
 use Rattle.ada_tree.specs.declared.declarations.Declaration.{Declaration}
-use Rattle.profile_machine.specs.declared.image.Image.{Image as Program}
+use Rattle.profile_machine.specs.declared.image.Image.{Image}
 use Rattle.profile_machine.specs.declared.numbers.StatementNo.{StatementNo}
 use Rattle.ada_image.specs.declared.making.Within.{Within}
 use Rattle.ada_image.specs.declared.making.SequencePlace.{SequencePlace}
@@ -57,6 +57,6 @@ Begins (sequence_place.BehindDeclarations part) r = Unit {0}
 Begins (sequence_place.AsBody is_task_body) r = Unit {0}
 
 -- What is made of the sequence reads as its text.
-pub record SequenceLaw (make : SequenceMaking) (read : Program → SequenceReading) (built : Built) : Type 0 where
+pub record SequenceLaw (make : SequenceMaking) (read : Image → SequenceReading) (built : Built) : Type 0 where
   pub reads : (place : SequencePlace) (within : Within) (next : Option StatementNo) → Ends place next → built within.names ≡ true
       → Step (make place within next) (λ p r. Begins place r × (read p place within r next ≡ true))

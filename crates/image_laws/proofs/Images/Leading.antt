@@ -8,7 +8,7 @@ use Rattle.ada_tree.specs.declared.statements.Sequence.TheViews.{out-Sequence}
 use Rattle.ada_tree.specs.declared.statements.Sequence.TheFolds.{fold_out-Sequence}
 use Rattle.ada_tree.specs.declared.statements.SequenceParts.{SequenceParts}
 use Rattle.ada_tree.specs.declared.statements.Statement.{Statement}
-use Rattle.profile_machine.specs.declared.image.Image.{Image as Program}
+use Rattle.profile_machine.specs.declared.image.Image.{Image}
 use Rattle.profile_machine.specs.declared.numbers.StatementNo.{StatementNo}
 use Rattle.profile_machine.specs.declared.statements.StatementForm.{StatementForm}
 use Rattle.profile_machine.specs.declared.statements.StatementForm.TheVariants as action
@@ -26,7 +26,7 @@ next-is None (Some b) h = absurd (false≢true h)
 next-is (Some a) None h = absurd (false≢true h)
 next-is (Some a) (Some b) h = ap (λ n. Some (record { 0 = n })) (eqb-true a.0 b.0 h)
 
-module _ (p : Program) {Q : Type 0} (sequence : Q → SequencePlace → Within → Reading) (within : Within) (part : Option ℕ) where
+module _ (p : Image) {Q : Type 0} (sequence : Q → SequencePlace → Within → Reading) (within : Within) (part : Option ℕ) where
   statements-lead : (xs : List (Statement Q)) (from to : Option StatementNo) → statements_stand p sequence within xs from to ≡ true → skipped p (length xs) from ≡ to
   statements-lead [] from to h = next-is from to h
   statements-lead (x ∷ xs) None to h = absurd (false≢true h)
@@ -47,7 +47,7 @@ module _ (p : Program) {Q : Type 0} (sequence : Q → SequencePlace → Within �
   guarded-leads s None to h = absurd (false≢true h)
   guarded-leads s (Some at) to h = next-is (next_of p at) to (form-leads s at to (form_of p at) h)
 
-module _ (p : Program) (within : Within) (part : Option ℕ) where
+module _ (p : Image) (within : Within) (part : Option ℕ) where
   abbrev with_handlers : SequenceParts Sequence → List (Handler Sequence) → SequenceParts Sequence
   with_handlers s hs = record { declarations = s.declarations; statements = s.statements; handlers = hs }
 

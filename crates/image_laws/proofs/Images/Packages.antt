@@ -10,7 +10,7 @@ use Rattle.ada_tree.specs.declared.units.Package.{Package}
 use Rattle.ada_tree.specs.declared.units.Package.TheVariants as packages
 use Rattle.ada_tree.specs.declared.units.PackageDeclaration.{PackageDeclaration}
 use Rattle.ada_tree.specs.declared.units.PackageBody.{PackageBody}
-use Rattle.profile_machine.specs.declared.image.Image.{Image as Program}
+use Rattle.profile_machine.specs.declared.image.Image.{Image}
 use Rattle.profile_machine.specs.declared.numbers.StatementNo.{StatementNo}
 use Rattle.profile_machine.specs.declared.statements.StatementForm.TheVariants as action
 use Rattle.ada_image.specs.declared.making.Within.{Within}
@@ -47,7 +47,7 @@ statements-step part (Some s) next within b =
     ((sequence-law s).reads (sequence_place.BehindDeclarations part) within next tt b)
 
 -- the bodies in a package read, and what comes behind it is left
-abbrev PackageReads : List LibraryPackage → Within → Package → Option StatementNo → Program → Option StatementNo → Type 0
+abbrev PackageReads : List LibraryPackage → Within → Package → Option StatementNo → Image → Option StatementNo → Type 0
 PackageReads all within x next p y = (bodies_in_package p within x ≡ true) × (package_read p all within x y ≡ Some next)
 
 declaration-step : (all : List LibraryPackage) (x : PackageDeclaration) (next : Option StatementNo) (within : Within) → package_built (packages.Declaration x) within.names ≡ true
@@ -85,7 +85,7 @@ packages-step all (l ∷ ls) next within b =
     (λ later. step-so (λ p x h k m. and_from _ _ h.0 (ap (reads_on (elaboration_reads p all within ls)) h.1 ∙ k m)) (package-step all l.package later within parts.0))
 
 -- all actions of a source
-abbrev pub SourceReads : Tree → Within → Program → Type 0
+abbrev pub SourceReads : Tree → Within → Image → Type 0
 SourceReads unit within p =
     (elaboration_reads p unit.packages within unit.packages (first_of_scope p 0) ≡ true) × (body_reads p (sequence_reads p) within unit.main.place None false unit.main.body.sequence ≡ true)
 

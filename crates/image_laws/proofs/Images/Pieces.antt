@@ -11,7 +11,7 @@ use Rattle.ada_tree.specs.declared.expressions.ExpressionForm.TheVariants as for
 use Rattle.ada_tree.specs.declared.expressions.Addend.{Addend}
 use Rattle.ada_tree.specs.declared.expressions.Argument.{Argument}
 use Rattle.ada_tree.specs.declared.expressions.AttributeDesignator.{AttributeDesignator}
-use Rattle.profile_machine.specs.declared.image.Image.{Image as Program}
+use Rattle.profile_machine.specs.declared.image.Image.{Image}
 use Rattle.profile_machine.specs.declared.numbers.ExprNo.{ExprNo}
 use Rattle.profile_machine.specs.declared.statements.Piece.{Piece}
 use Rattle.profile_machine.specs.declared.statements.Piece.TheVariants as piece
@@ -31,7 +31,7 @@ use Rattle.image_laws.proofs.Images.Actuals.{value-step}
 
 -- ---- the piece of an Image
 
-module _ (p : Program) (within : Within) (name : Name) (a : Option AttributeDesignator) (xs : List (Argument Expression)) (e : ExprNo) (stands : value_stands_if p within (first_argument xs) e ≡ true) where
+module _ (p : Image) (within : Within) (name : Name) (a : Option AttributeDesignator) (xs : List (Argument Expression)) (e : ExprNo) (stands : value_stands_if p within (first_argument xs) e ≡ true) where
   of-type : (s : Subtype) (t : AdaType) → s.of_type ≡ t → subtype_of_name within.names name ≡ Some s → piece_stands_in_form p within (form.Named name a xs) (piece_of_type e t) ≡ true
   unfolding image_piece piece_of_type
   of-type s types.Integer is n = and_from _ _ stands (ap (λ x. is_whole_piece (image_piece e x)) n ∙ ap (λ t. is_whole_piece (piece_of_type e t)) is)
@@ -60,7 +60,7 @@ module _ (p : Program) (within : Within) (name : Name) (a : Option AttributeDesi
 -- ---- one piece
 
 -- exactly one, which is that of the text
-abbrev OnePiece : Within → ExpressionForm Expression → Program → List Piece → Type 0
+abbrev OnePiece : Within → ExpressionForm Expression → Image → List Piece → Type 0
 OnePiece within x p one = (y : Piece) × (one ≡ y ∷ []) × (piece_stands_in_form p within x y ≡ true)
 
 image-step : (name : Name) (a : Option AttributeDesignator) (xs : List (Argument Expression)) (within : Within) → value_there (first_argument xs) within.names ≡ true
@@ -93,7 +93,7 @@ piece-step e within b = piece-form-step (out-Expression e).form within b
 
 -- ---- several joined
 
-one-more : (p : Program) (within : Within) (e : Expression) (es : List Expression) (one others : List Piece) → OnePiece within (out-Expression e).form p one → pieces_stand p within es others ≡ true → pieces_stand p within (e ∷ es) (one ++ others) ≡ true
+one-more : (p : Image) (within : Within) (e : Expression) (es : List Expression) (one others : List Piece) → OnePiece within (out-Expression e).form p one → pieces_stand p within es others ≡ true → pieces_stand p within (e ∷ es) (one ++ others) ≡ true
 one-more p within e es one others h k = ap (λ ys. pieces_stand p within (e ∷ es) (ys ++ others)) h.1 ∙ and_from _ _ h.2 k
 
 joined-step : (xs : List (Addend Expression)) (within : Within) → pieces_built xs within.names ≡ true → Step (joined_made within xs) (λ p ys. pieces_stand p within (terms_of xs) ys ≡ true)
@@ -114,7 +114,7 @@ all-step first xs within b c =
     (λ others. step-pure (one ++ others) _ (λ p k h. one-more p within first (terms_of xs) one others h k)))
 
 -- a text of one piece
-alone : (p : Program) (within : Within) (e : Expression) (x : ExpressionForm Expression) → (out-Expression e).form ≡ x → (ys : List Piece) → OnePiece within x p ys → pieces_stand p within (e ∷ []) ys ≡ true
+alone : (p : Image) (within : Within) (e : Expression) (x : ExpressionForm Expression) → (out-Expression e).form ≡ x → (ys : List Piece) → OnePiece within x p ys → pieces_stand p within (e ∷ []) ys ≡ true
 alone p within e x is ys h = ap (pieces_stand p within (e ∷ [])) h.1 ∙ and_from _ _ (ap (λ z. piece_stands_in_form p within z h.0) is ∙ h.2) refl
 
 text-form-step : (e : Expression) (x : ExpressionForm Expression) (within : Within) → (out-Expression e).form ≡ x → text_form_built x within.names ≡ true

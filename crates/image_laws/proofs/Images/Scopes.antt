@@ -3,7 +3,7 @@ use Rattle.std.proofs.Common.{◌≡◌, ℕ, zero, suc, ◌+◌, ◌<◌, Bool,
 use Rattle.std.specs.Prelude.{slice_index_or}
 use Rattle.std.specs.List.{list_any, list_all}
 use Rattle.std.proofs.lemmas.Bool.{and_parts, or_parts, false≢true, ltb-true}
-use Rattle.profile_machine.specs.declared.image.Image.{Image as Program}
+use Rattle.profile_machine.specs.declared.image.Image.{Image}
 use Rattle.profile_machine.specs.Program.{no_scope}
 use Rattle.ada_regions.specs.Words.{and_then}
 use Rattle.ada_regions.specs.declared.table.Names.{Names}
@@ -49,7 +49,7 @@ module _ (n : Names) (firsts : List FirstAction) where
   scope-at (s ∷ ss) number zero h = first-made number s ∙ ap (λ k. and_then (first_action firsts k) (λ f. f.action)) (omega arith)
   scope-at (s ∷ ss) number (suc i) h = scope-at ss (suc number) i (omega arith) ∙ ap (λ k. and_then (first_action firsts k) (λ f. f.action)) (omega arith)
 
-  firsts-stand : (p : Program) → p.scopes ≡ scopes_made n firsts 0 n.scopes → (fs : List FirstAction) → list_all (λ s. ltb s (length n.scopes)) (scopes_of fs) ≡ true → Found firsts fs → FirstsStand p fs
+  firsts-stand : (p : Image) → p.scopes ≡ scopes_made n firsts 0 n.scopes → (fs : List FirstAction) → list_all (λ s. ltb s (length n.scopes)) (scopes_of fs) ≡ true → Found firsts fs → FirstsStand p fs
   unfolding first_action
   firsts-stand p same [] h k = tt
   firsts-stand p same (f ∷ fs) h k =
@@ -57,5 +57,5 @@ module _ (n : Names) (firsts : List FirstAction) where
       let parts = and_parts _ _ h in
       (ap (λ ss. (slice_index_or ss f.scope no_scope).first) same ∙ scope-at n.scopes 0 f.scope (ltb-true _ _ parts.0) ∙ ap (λ i. and_then (first_action firsts i) (λ g. g.action)) zero-more ∙ ap (λ x. and_then x (λ g. g.action)) k.0, firsts-stand p same fs parts.1 k.1)
 
-pub own-firsts-stand : (n : Names) (firsts : List FirstAction) (p : Program) → p.scopes ≡ scopes_made n firsts 0 n.scopes → are_own n (map (λ f. f.scope) firsts) ≡ true → FirstsStand p firsts
+pub own-firsts-stand : (n : Names) (firsts : List FirstAction) (p : Image) → p.scopes ≡ scopes_made n firsts 0 n.scopes → are_own n (map (λ f. f.scope) firsts) ≡ true → FirstsStand p firsts
 own-firsts-stand n firsts p same h = let parts = and_parts _ _ h in firsts-stand n firsts p same firsts parts.0 (found-own firsts parts.1)

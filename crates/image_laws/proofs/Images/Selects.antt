@@ -20,7 +20,7 @@ use Rattle.ada_tree.specs.declared.selects.ConditionalEntryCall.{ConditionalEntr
 use Rattle.ada_tree.specs.declared.selects.AsynchronousSelect.{AsynchronousSelect}
 use Rattle.ada_tree.specs.declared.selects.Trigger.{Trigger}
 use Rattle.ada_tree.specs.declared.selects.Trigger.TheVariants as trigger
-use Rattle.profile_machine.specs.declared.image.Image.{Image as Program}
+use Rattle.profile_machine.specs.declared.image.Image.{Image}
 use Rattle.profile_machine.specs.declared.numbers.StatementNo.{StatementNo}
 use Rattle.profile_machine.specs.declared.statements.SelectAlternative.{SelectAlternative as GuardedAlternative}
 use Rattle.profile_machine.specs.declared.statements.SelectKind.TheVariants as select_kind
@@ -49,7 +49,7 @@ module _ {E : Type 0} (g : E → Sequence) (law : (e : E) → SequenceLaw (seque
   abbrev m : E → SequenceMaking
   m e = sequence_put (g e)
 
-  abbrev r : Program → E → SequenceReading
+  abbrev r : Image → E → SequenceReading
   r p e = sequence_reads p (g e)
 
   abbrev IfBuilt : Option E → Within → Type 0
@@ -58,13 +58,13 @@ module _ {E : Type 0} (g : E → Sequence) (law : (e : E) → SequenceLaw (seque
   -- ---- an action, and the statements behind it
 
   -- the action passes a test, and those behind it read
-  abbrev Before : (Program → StatementForm → Bool) → Option E → Within → Option StatementNo → Program → StatementNo → Type 0
+  abbrev Before : (Image → StatementForm → Bool) → Option E → Within → Option StatementNo → Image → StatementNo → Type 0
   Before test o within to p s = (test p (form_of p s) && inside_stands_if p same_sequence_reading within (option_map (r p) o) (next_of p s) to) ≡ true
 
   abbrev put_before : (Option StatementNo → Making (Option StatementNo)) → Option E → Within → Option StatementNo → Making (Option StatementNo)
   put_before put o within next = inside_if same_making (option_map m o) within next >>= put
 
-  before-step : (put : Option StatementNo → Making (Option StatementNo)) (test : Program → StatementForm → Bool) (o : Option E) (within : Within) (next : Option StatementNo)
+  before-step : (put : Option StatementNo → Making (Option StatementNo)) (test : Image → StatementForm → Bool) (o : Option E) (within : Within) (next : Option StatementNo)
       → ((to : Option StatementNo) → Step (put to) (λ p x. Stood p to (λ s f. test p f) x)) → IfBuilt o within → Step (put_before put o within next) (λ p x. Before test o within next p (the_action x))
   before-step put test o within next step b =
       step-then (inside_if same_making (option_map m o) within next) put (inside_if-step g law o within next b)
@@ -104,7 +104,7 @@ module _ {E : Type 0} (g : E → Sequence) (law : (e : E) → SequenceLaw (seque
   abbrev alternative_made : SelectAlternative E → SelectAlternative SequenceMaking
   alternative_made x = mapped_alternative sequence_put (mapped_alternative g x)
 
-  abbrev alternative_read : Program → SelectAlternative E → SelectAlternative SequenceReading
+  abbrev alternative_read : Image → SelectAlternative E → SelectAlternative SequenceReading
   alternative_read p x = mapped_alternative (sequence_reads p) (mapped_alternative g x)
 
   abbrev AlternativeStep : SelectAlternative E → Type 0
@@ -254,7 +254,7 @@ module _ {E : Type 0} (g : E → Sequence) (law : (e : E) → SequenceLaw (seque
   trigger-step (trigger.Call c) o next within b i = call-before c o next within b i
   trigger-step (trigger.Delay d) o next within b i = delay-before d o next within b i
 
-  abbrev AsynchronousMade : Trigger → Option E → E → Option StatementNo → Within → StatementNo → Program → Option StatementNo × Option StatementNo → Type 0
+  abbrev AsynchronousMade : Trigger → Option E → E → Option StatementNo → Within → StatementNo → Image → Option StatementNo × Option StatementNo → Type 0
   AsynchronousMade t o e next within s p x =
       Before (λ p. trigger_stands p within t) o within next p (the_action x.0) × Inside g law e (in_construct s within) None p x.1
 
@@ -270,7 +270,7 @@ module _ {E : Type 0} (g : E → Sequence) (law : (e : E) → SequenceLaw (seque
       (λ trigger. step-then (inside same_making (m e) (in_construct s within) None) (λ abortable. pure (trigger, abortable)) (inside-step g law e (in_construct s within) None more.1)
       (λ abortable. step-pure (trigger, abortable) _ (λ p k h. (h, k)))))
 
-  asynchronous-stands : (t : Trigger) (o : Option E) (e : E) (next : Option StatementNo) (within : Within) (s : StatementNo) (p : Program) (x : Option StatementNo × Option StatementNo) → AsynchronousMade t o e next within s p x
+  asynchronous-stands : (t : Trigger) (o : Option E) (e : E) (next : Option StatementNo) (within : Within) (s : StatementNo) (p : Image) (x : Option StatementNo × Option StatementNo) → AsynchronousMade t o e next within s p x
       → (trigger_stands p within t (form_of p (the_action x.0)) && (inside_stands_if p same_sequence_reading within (option_map (r p) o) (next_of p (the_action x.0)) next
       && inside_stands p same_sequence_reading (in_construct s within) (r p e) (Some (the_action x.1)) None)) ≡ true
   asynchronous-stands t o e next within s p x h = let parts = and_parts _ _ h.0 in and_from _ _ parts.0 (and_from _ _ parts.1 (stands-first g law e (in_construct s within) None p x.1 h.1))

@@ -7,7 +7,7 @@ use Rattle.ada_tree.specs.declared.statements.Sequence.TheOpen.{Sequence-F}
 use Rattle.ada_tree.specs.declared.statements.Sequence.TheViews.{roll-Sequence}
 use Rattle.ada_tree.specs.declared.statements.Sequence.TheFolds.{ind-Sequence, map-Sequence, fold-roll-Sequence}
 use Rattle.ada_tree.specs.declared.statements.SequenceParts.{SequenceParts}
-use Rattle.profile_machine.specs.declared.image.Image.{Image as Program}
+use Rattle.profile_machine.specs.declared.image.Image.{Image}
 use Rattle.profile_machine.specs.declared.numbers.StatementNo.{StatementNo}
 use Rattle.profile_machine.specs.declared.declarations.Handler.{Handler as ExceptionHandler}
 use Rattle.profile_machine.specs.declared.statements.StatementForm.TheVariants as action
@@ -37,7 +37,7 @@ module _ {E : Type 0} (g : E → Sequence) (law : (e : E) → SequenceLaw (seque
   abbrev made : SequenceParts E → SequenceParts SequenceMaking
   made s = mapped sequence_put (mapped g s)
 
-  abbrev read : Program → SequenceParts E → SequenceParts SequenceReading
+  abbrev read : Image → SequenceParts E → SequenceParts SequenceReading
   read p s = mapped (sequence_reads p) (mapped g s)
 
   abbrev built : SequenceParts E → SequenceParts Built
@@ -48,7 +48,7 @@ module _ {E : Type 0} (g : E → Sequence) (law : (e : E) → SequenceLaw (seque
 
   -- ---- the activation stands before the statements
 
-  abbrev Unhandled : Within → Option ℕ → SequenceParts E → Option StatementNo → Program → Option StatementNo → Type 0
+  abbrev Unhandled : Within → Option ℕ → SequenceParts E → Option StatementNo → Image → Option StatementNo → Type 0
   Unhandled within part s next p x = ((t : StatementNo) × (x ≡ Some t)) × (unhandled_reads p same_sequence_reading within part (read p s) x next ≡ true)
 
   unhandled-step : (s : SequenceParts E) (part : Option ℕ) (next : Option StatementNo) (within : Within) → StatementsBuilt s within → Step (unhandled_put same_making within part (made s) next) (Unhandled within part s next)
@@ -62,7 +62,7 @@ module _ {E : Type 0} (g : E → Sequence) (law : (e : E) → SequenceLaw (seque
 
   -- ---- the statements stand inside the handlers
 
-  abbrev Guarded : Within → Option ℕ → SequenceParts E → Option StatementNo → StatementNo → Program → Option StatementNo × List ExceptionHandler → Type 0
+  abbrev Guarded : Within → Option ℕ → SequenceParts E → Option StatementNo → StatementNo → Image → Option StatementNo × List ExceptionHandler → Type 0
   Guarded within part s next h p x =
       Unhandled (in_construct h within) part s None p x.0 × (handlers_stand p same_sequence_reading within (read p s).handlers next x.1 ≡ true)
 
@@ -77,7 +77,7 @@ module _ {E : Type 0} (g : E → Sequence) (law : (e : E) → SequenceLaw (seque
       (λ first. step-then (handlers_put same_making within (made s).handlers next) (λ handlers. pure (first, handlers)) (handlers-step g law s.handlers next within c)
       (λ handlers. step-pure (first, handlers) _ (λ p k l. (l, k)))))
 
-  guarded-reads : (s : SequenceParts E) (part : Option ℕ) (next : Option StatementNo) (within : Within) (p : Program) (x : Option StatementNo)
+  guarded-reads : (s : SequenceParts E) (part : Option ℕ) (next : Option StatementNo) (within : Within) (p : Image) (x : Option StatementNo)
       → Filled (λ h (x : Option StatementNo × List ExceptionHandler). action.Handled x.1 (the_action x.0)) next (Guarded within part s next) p x
       → with_handlers_reads p same_sequence_reading within part (read p s) x next ≡ true
   guarded-reads s part next within p x h =
@@ -99,7 +99,7 @@ module _ {E : Type 0} (g : E → Sequence) (law : (e : E) → SequenceLaw (seque
 
   -- ---- all of a body
 
-  part-same : (s : SequenceParts E) (within : Within) (p : Program) → make_tasks within (read p s).declarations ≡ make_tasks within (made s).declarations
+  part-same : (s : SequenceParts E) (within : Within) (p : Image) → make_tasks within (read p s).declarations ≡ make_tasks within (made s).declarations
   part-same s within p = tasks-same (sequence_reads p) sequence_put within (map (mapped_declaration g) s.declarations)
 
   whole-step : (s : SequenceParts E) (is_task_body : Bool) (within : Within) → parts_built same_sequence_built (built s) within.names ≡ true
@@ -142,7 +142,7 @@ module _ {E : Type 0} (g : E → Sequence) (law : (e : E) → SequenceLaw (seque
 abbrev pub Lawful : Sequence → Type 0
 Lawful s = SequenceLaw (sequence_put s) (λ p. sequence_reads p s) (sequence_built s)
 
-law-of_reading : {make : SequenceMaking} {r t : Program → SequenceReading} {built : Built} → ((p : Program) → r p ≡ t p) → SequenceLaw make r built → SequenceLaw make t built
+law-of_reading : {make : SequenceMaking} {r t : Image → SequenceReading} {built : Built} → ((p : Image) → r p ≡ t p) → SequenceLaw make r built → SequenceLaw make t built
 law-of_reading same law = record { reads = λ place within next ends b. step-so (λ p x h. (h.0, ap (λ (q : SequenceReading). q place within x next) (sym (same p)) ∙ h.1)) (law.reads place within next ends b) }
 
 module _ (y : Sequence-F ((s : Sequence) × Lawful s)) where

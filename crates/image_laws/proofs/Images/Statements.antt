@@ -7,7 +7,7 @@ use Rattle.ada_tree.specs.declared.statements.If.{If}
 use Rattle.ada_tree.specs.declared.statements.Elsif.{Elsif}
 use Rattle.ada_tree.specs.declared.statements.CaseAlternative.{CaseAlternative}
 use Rattle.ada_tree.specs.declared.statements.Handler.{Handler}
-use Rattle.profile_machine.specs.declared.image.Image.{Image as Program}
+use Rattle.profile_machine.specs.declared.image.Image.{Image}
 use Rattle.profile_machine.specs.declared.numbers.StatementNo.{StatementNo}
 use Rattle.profile_machine.specs.declared.statements.StatementForm.{StatementForm}
 use Rattle.profile_machine.specs.declared.statements.StatementForm.TheVariants as action
@@ -28,7 +28,7 @@ use Rattle.image_laws.proofs.Images.Simple.{choices-same, handled-same}
 use Rattle.image_laws.proofs.Images.Layers.{elsif_of, case_of, handler_of, SequenceLaw}
 
 -- an action whose number was drawn first stands
-pub stood-filled : {X : Type 0} {form : StatementNo → X → StatementForm} {to : Option StatementNo} {R : StatementNo → Program → X → Type 0} {p : Program} {r : Option StatementNo}
+pub stood-filled : {X : Type 0} {form : StatementNo → X → StatementForm} {to : Option StatementNo} {R : StatementNo → Image → X → Type 0} {p : Image} {r : Option StatementNo}
     (test : StatementNo → StatementForm → Bool) (h : Filled form to R p r) → test h.at (form h.at h.made) ≡ true → Stood p to test r
 stood-filled test h t = record { at = h.at; is = h.is; next = h.stands.next; stands = ap (test h.at) h.stands.form ∙ t }
 
@@ -37,17 +37,17 @@ module _ {E : Type 0} (g : E → Sequence) (law : (e : E) → SequenceLaw (seque
   abbrev m : E → SequenceMaking
   m e = sequence_put (g e)
 
-  abbrev r : Program → E → SequenceReading
+  abbrev r : Image → E → SequenceReading
   r p e = sequence_reads p (g e)
 
   -- ---- statements inside others
 
   -- they have a first, and read from it on
-  pub record Inside (e : E) (within : Within) (to : Option StatementNo) (p : Program) (x : Option StatementNo) : Type 0 where
+  pub record Inside (e : E) (within : Within) (to : Option StatementNo) (p : Image) (x : Option StatementNo) : Type 0 where
     pub is : x ≡ Some (the_action x)
     pub stands : inside_stands p same_sequence_reading within (r p e) x to ≡ true
 
-  pub stands-first : (e : E) (within : Within) (to : Option StatementNo) (p : Program) (x : Option StatementNo) → Inside e within to p x → inside_stands p same_sequence_reading within (r p e) (Some (the_action x)) to ≡ true
+  pub stands-first : (e : E) (within : Within) (to : Option StatementNo) (p : Image) (x : Option StatementNo) → Inside e within to p x → inside_stands p same_sequence_reading within (r p e) (Some (the_action x)) to ≡ true
   stands-first e within to p x h = ap (λ y. inside_stands p same_sequence_reading within (r p e) y to) (sym h.is) ∙ h.stands
 
   first-is : (x : Option StatementNo) (s : StatementNo) → x ≡ Some s → x ≡ Some (the_action x)
@@ -65,7 +65,7 @@ module _ {E : Type 0} (g : E → Sequence) (law : (e : E) → SequenceLaw (seque
 
   -- ---- if and case
 
-  branch-step : (c : Expression) (e : E) (otherwise next : Option StatementNo) (rest : Program → Option StatementNo → Bool) (within : Within) → expression_built c within.names ≡ true → sequence_built (g e) within.names ≡ true
+  branch-step : (c : Expression) (e : E) (otherwise next : Option StatementNo) (rest : Image → Option StatementNo → Bool) (within : Within) → expression_built c within.names ≡ true → sequence_built (g e) within.names ≡ true
       → Step (branch_put same_making within c (m e) otherwise next) (λ p x. rest p otherwise ≡ true → Stood p next (λ s f. branch_stands p same_sequence_reading within c (r p e) (rest p) next f) x)
   unfolding branch_put
   branch-step c e otherwise next rest within b i =
@@ -77,10 +77,10 @@ module _ {E : Type 0} (g : E → Sequence) (law : (e : E) → SequenceLaw (seque
   abbrev elsifs_made : List (Elsif E) → List (Elsif SequenceMaking)
   elsifs_made es = map (elsif_of sequence_put) (map (elsif_of g) es)
 
-  abbrev elsifs_read : Program → List (Elsif E) → List (Elsif SequenceReading)
+  abbrev elsifs_read : Image → List (Elsif E) → List (Elsif SequenceReading)
   elsifs_read p es = map (elsif_of (sequence_reads p)) (map (elsif_of g) es)
 
-  elsifs-step : (es : List (Elsif E)) (o : Program → Option SequenceReading) (otherwise next : Option StatementNo) (within : Within) → elsifs_built same_sequence_built (map (elsif_of sequence_built) (map (elsif_of g) es)) within.names ≡ true
+  elsifs-step : (es : List (Elsif E)) (o : Image → Option SequenceReading) (otherwise next : Option StatementNo) (within : Within) → elsifs_built same_sequence_built (map (elsif_of sequence_built) (map (elsif_of g) es)) within.names ≡ true
       → Step (elsifs_put same_making within (elsifs_made es) otherwise next)
       (λ p x. inside_stands_if p same_sequence_reading within (o p) otherwise next ≡ true → elsifs_stand p same_sequence_reading within (elsifs_read p es) (o p) next x ≡ true)
   unfolding elsifs_put

@@ -3,7 +3,7 @@
 use Rattle.std.proofs.Common.{◌≡◌, ◌≢◌, ℕ, ◌+◌, ◌<◌, ◌≤◌, length, List, [], ◌∷◌, ◌++◌, Option, Some, refl, ap, ◌∙◌, arith}
 use Rattle.std.proofs.lemmas.List.{length-append, length-set, get_or_append_left, get_or-set_same, get_or-set_other}
 use Rattle.std.proofs.Math.Seq.{get_or-append_seam}
-use Rattle.profile_machine.specs.declared.image.Image.{Image as Program}
+use Rattle.profile_machine.specs.declared.image.Image.{Image}
 use Rattle.profile_machine.specs.declared.numbers.ExprNo.{ExprNo}
 use Rattle.profile_machine.specs.declared.numbers.StatementNo.{StatementNo}
 use Rattle.profile_machine.specs.declared.values.Value.TheVariants as value
@@ -27,7 +27,7 @@ abbrev pub action_at : List Action → ℕ → Action
 action_at ss i = slice_index_or ss i no_statement
 
 -- the scopes of the program begin with these actions
-abbrev pub FirstsStand : Program → List FirstAction → Type 0
+abbrev pub FirstsStand : Image → List FirstAction → Type 0
 FirstsStand p [] = Unit {0}
 FirstsStand p (f ∷ fs) = (first_of_scope p f.scope ≡ f.action) × FirstsStand p fs
 
@@ -36,10 +36,10 @@ pub record Grown (a b : Lists) : Type 0 where
   pub same_values : (i : ℕ) → i < length a.expressions → value_at b.expressions i ≡ value_at a.expressions i
   pub actions : length a.statements ≤ length b.statements
   pub same_actions : (i : ℕ) → i < length a.statements → action_at b.statements i ≡ action_at a.statements i
-  pub same_firsts : (p : Program) → FirstsStand p b.firsts → FirstsStand p a.firsts
+  pub same_firsts : (p : Image) → FirstsStand p b.firsts → FirstsStand p a.firsts
 
 -- the program has what is in the lists; its actions are these from one on
-pub record Holds (p : Program) (from : ℕ) (l : Lists) : Type 0 where
+pub record Holds (p : Image) (from : ℕ) (l : Lists) : Type 0 where
   pub values : (i : ℕ) → i < length l.expressions → value_at p.expressions i ≡ value_at l.expressions i
   pub actions : (i : ℕ) → from ≤ i → i < length l.statements → action_at p.statements i ≡ action_at l.statements i
   pub firsts : FirstsStand p l.firsts
@@ -56,31 +56,31 @@ grown-then a b c g h = record {
   same_firsts = λ p k. g.same_firsts p (h.same_firsts p k);
 }
 
-pub holds-before : (p : Program) (from : ℕ) (a b : Lists) → Grown a b → Holds p from b → Holds p from a
+pub holds-before : (p : Image) (from : ℕ) (a b : Lists) → Grown a b → Holds p from b → Holds p from a
 holds-before p from a b g h = record {
   values = λ i k. h.values i (let x = g.values in omega arith) ∙ g.same_values i k;
   actions = λ i f k. h.actions i f (let x = g.actions in omega arith) ∙ g.same_actions i k;
   firsts = g.same_firsts p h.firsts;
 }
 
-pub holds-later : (p : Program) (from later : ℕ) (l : Lists) → from ≤ later → Holds p from l → Holds p later l
+pub holds-later : (p : Image) (from later : ℕ) (l : Lists) → from ≤ later → Holds p from l → Holds p later l
 holds-later p from later l more h = record { values = h.values; actions = λ i f k. h.actions i (omega arith) k; firsts = h.firsts }
 
 -- ---- steps
 
 -- Behind the step the lists have grown, and of its answer R holds in each program that has what it made.
-pub record Step {X : Type 0} (m : Making X) (R : Program → X → Type 0) : Type 0 where
+pub record Step {X : Type 0} (m : Making X) (R : Image → X → Type 0) : Type 0 where
   pub grows : (l : Lists) → Grown l (m l).0
-  pub reads : (l : Lists) (p : Program) → Holds p (length l.statements) (m l).0 → R p (m l).1
+  pub reads : (l : Lists) (p : Image) → Holds p (length l.statements) (m l).0 → R p (m l).1
 
-pub step-pure : {X : Type 0} (x : X) (R : Program → X → Type 0) → ((p : Program) → R p x) → Step (pure x) R
+pub step-pure : {X : Type 0} (x : X) (R : Image → X → Type 0) → ((p : Image) → R p x) → Step (pure x) R
 step-pure x R r = record { grows = λ l. grown-same l; reads = λ l p h. r p }
 
-pub step-so : {X : Type 0} {m : Making X} {R S : Program → X → Type 0} → ((p : Program) (x : X) → R p x → S p x) → Step m R → Step m S
+pub step-so : {X : Type 0} {m : Making X} {R S : Image → X → Type 0} → ((p : Image) (x : X) → R p x → S p x) → Step m R → Step m S
 step-so f s = record { grows = s.grows; reads = λ l p h. f p _ (s.reads l p h) }
 
 -- a step and one behind it
-pub step-then : {X Y : Type 0} (m : Making X) (f : X → Making Y) {R : Program → X → Type 0} {S : Program → Y → Type 0}
+pub step-then : {X Y : Type 0} (m : Making X) (f : X → Making Y) {R : Image → X → Type 0} {S : Image → Y → Type 0}
     → Step m R → ((x : X) → Step (f x) (λ p y. R p x → S p y)) → Step (m >>= f) S
 step-then m f s t = record {
   grows = λ l. grown-then l (m l).0 (f (m l).1 (m l).0).0 (s.grows l) ((t (m l).1).grows (m l).0);
@@ -89,7 +89,7 @@ step-then m f s t = record {
 
 -- ---- values
 
-abbrev pub IsAt : Valuation → Program → ExprNo → Type 0
+abbrev pub IsAt : Valuation → Image → ExprNo → Type 0
 IsAt v p e = expression_of p.expressions e ≡ v
 
 pub value-step : (v : Valuation) → Step (value_put v) (IsAt v)
@@ -108,16 +108,16 @@ value-step v = record {
 -- ---- actions
 
 -- an action of this form stands there, and leads on to what comes next
-pub record Stands (f : StatementForm) (to : Option StatementNo) (p : Program) (s : StatementNo) : Type 0 where
+pub record Stands (f : StatementForm) (to : Option StatementNo) (p : Image) (s : StatementNo) : Type 0 where
   pub form : form_of p s ≡ f
   pub next : next_of p s ≡ to
 
-pub record Put (form : StatementForm) (next : Option StatementNo) (p : Program) (r : Option StatementNo) : Type 0 where
+pub record Put (form : StatementForm) (next : Option StatementNo) (p : Image) (r : Option StatementNo) : Type 0 where
   pub at : StatementNo
   pub is : r ≡ Some at
   pub stands : Stands form next p at
 
-pub stands-as : (form : StatementForm) (signs : ℕ) (next : Option StatementNo) (p : Program) (s : StatementNo) → action_at p.statements s.0 ≡ action form signs next → Stands form next p s
+pub stands-as : (form : StatementForm) (signs : ℕ) (next : Option StatementNo) (p : Image) (s : StatementNo) → action_at p.statements s.0 ≡ action form signs next → Stands form next p s
 stands-as form signs next p s e = record { form = ap (λ a. a.form) e; next = ap (λ a. a.next) e }
 
 pub action-step : (form : StatementForm) (signs : ℕ) (next : Option StatementNo) → Step (action_put form signs next) (Put form next)
@@ -152,14 +152,14 @@ first-step scope first = record {
 abbrev pub filled : {X : Type 0} → (StatementNo → Making X) → (StatementNo → X → StatementForm) → ℕ → Option StatementNo → Making (Option StatementNo)
 filled k form signs next = reserved >>= (λ s. k s >>= (λ x. put_at s (form s x) signs next))
 
-pub record Filled {X : Type 0} (form : StatementNo → X → StatementForm) (next : Option StatementNo) (R : StatementNo → Program → X → Type 0) (p : Program) (r : Option StatementNo) : Type 0 where
+pub record Filled {X : Type 0} (form : StatementNo → X → StatementForm) (next : Option StatementNo) (R : StatementNo → Image → X → Type 0) (p : Image) (r : Option StatementNo) : Type 0 where
   pub at : StatementNo
   pub is : r ≡ Some at
   pub made : X
   pub stands : Stands (form at made) next p at
   pub reads : R at p made
 
-module _ {X : Type 0} (k : StatementNo → Making X) (form : StatementNo → X → StatementForm) (signs : ℕ) (next : Option StatementNo) (R : StatementNo → Program → X → Type 0)
+module _ {X : Type 0} (k : StatementNo → Making X) (form : StatementNo → X → StatementForm) (signs : ℕ) (next : Option StatementNo) (R : StatementNo → Image → X → Type 0)
     (step : (s : StatementNo) → Step (k s) (R s)) where
   abbrev drawn : Lists → StatementNo
   drawn l = record { 0 = length l.statements }

@@ -2,7 +2,7 @@
 use Rattle.std.proofs.Common.{◌≡◌, ◌≢◌, ℕ, ◌+◌, ◌<◌, ◌≤◌, length, List, [], ◌∷◌, ◌++◌, Option, Some, refl, sym, ap, subst, ◌∙◌, arith}
 use Rattle.std.proofs.lemmas.List.{length-append, length-set, get_or_append_left, get_or-set_same, get_or-set_other}
 use Rattle.std.specs.Prelude.{slice_set}
-use Rattle.profile_machine.specs.declared.image.Image.{Image as Program}
+use Rattle.profile_machine.specs.declared.image.Image.{Image}
 use Rattle.profile_machine.specs.declared.numbers.StatementNo.{StatementNo}
 use Rattle.profile_machine.specs.declared.statements.Statement.{Statement as Action}
 use Rattle.profile_machine.specs.declared.statements.StatementForm.{StatementForm}
@@ -24,7 +24,7 @@ turns k m form first_form later_form signs next = do
   put_at s (form first y) signs next
 
 pub record Turning {X Y : Type 0} (form : StatementNo → Y → StatementForm) (first_form later_form : X → StatementForm) (next : Option StatementNo)
-    (R : StatementNo → StatementNo → Program → X → Type 0) (S : Program → Y → Type 0) (p : Program) (r : Option StatementNo) : Type 0 where
+    (R : StatementNo → StatementNo → Image → X → Type 0) (S : Image → Y → Type 0) (p : Image) (r : Option StatementNo) : Type 0 where
   pub at : StatementNo
   pub is : r ≡ Some at
   pub first : StatementNo
@@ -37,7 +37,7 @@ pub record Turning {X Y : Type 0} (form : StatementNo → Y → StatementForm) (
   pub values_read : S p values
 
 module _ {X Y : Type 0} (k : StatementNo → StatementNo → Making X) (m : Making Y) (form : StatementNo → Y → StatementForm) (first_form later_form : X → StatementForm) (signs : ℕ) (next : Option StatementNo)
-    (R : StatementNo → StatementNo → Program → X → Type 0) (S : Program → Y → Type 0) (step : (s t : StatementNo) → Step (k s t) (R s t)) (step_of_values : Step m S) where
+    (R : StatementNo → StatementNo → Image → X → Type 0) (S : Image → Y → Type 0) (step : (s t : StatementNo) → Step (k s t) (R s t)) (step_of_values : Step m S) where
   abbrev with_one : List Action → List Action
   with_one ss = ss ++ no_statement ∷ []
 
@@ -157,7 +157,7 @@ module _ {X Y : Type 0} (k : StatementNo → StatementNo → Making X) (m : Maki
         same_firsts = λ p h. body.same_firsts p (values.same_firsts p h);
       }
 
-  turns-read : (l : Lists) (p : Program) → Holds p (length l.statements) (all_put l) → Turning form first_form later_form next R S p (Some (s_of l))
+  turns-read : (l : Lists) (p : Image) → Holds p (length l.statements) (all_put l) → Turning form first_form later_form next R S p (Some (s_of l))
   turns-read l p h =
       let body = (step (s_of l) (later_of l)).grows (begun l) in
       let values = step_of_values.grows (later_put l) in

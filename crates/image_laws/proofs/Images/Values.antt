@@ -5,7 +5,7 @@ use Rattle.std.proofs.lemmas.Bool.{and_from, false≢true, eq-eqb}
 use Rattle.ada_tree.specs.declared.names.Name.{Name}
 use Rattle.ada_tree.specs.declared.operators.Attribute.{Attribute}
 use Rattle.ada_tree.specs.declared.operators.Attribute.TheVariants as attribute
-use Rattle.profile_machine.specs.declared.image.Image.{Image as Program}
+use Rattle.profile_machine.specs.declared.image.Image.{Image}
 use Rattle.profile_machine.specs.declared.numbers.DeclNo.{DeclNo}
 use Rattle.profile_machine.specs.declared.numbers.ExprNo.{ExprNo}
 use Rattle.profile_machine.specs.declared.values.Value.{Value}
@@ -40,13 +40,13 @@ same-object (object.Component o d) = and_from _ _ (same-number o.0) (same-number
 pub known-step : (v : Value) → is_value v v ≡ true → Step (known v) (λ p e. is_known p v (at_number p e) ≡ true)
 known-step v g = step-so (λ p e h. ap (is_known p v) h ∙ g) (value-step (valuation.Known v))
 
-pub unary-step : (operator : UnaryOperator) (m : Making ExprNo) (t : Program → ExprNo → Bool) → Step m (λ p e. t p e ≡ true) → Step (unary_made operator m) (λ p e. is_unary p operator (t p) (at_number p e) ≡ true)
+pub unary-step : (operator : UnaryOperator) (m : Making ExprNo) (t : Image → ExprNo → Bool) → Step m (λ p e. t p e ≡ true) → Step (unary_made operator m) (λ p e. is_unary p operator (t p) (at_number p e) ≡ true)
 unfolding unary_made
 unary-step operator m t s =
     step-then m (λ x. value_put (valuation.Unary operator x)) s
     (λ x. step-so (λ p e h k. ap (is_unary p operator (t p)) h ∙ and_from _ _ (same-number (unary_number operator)) k) (value-step (valuation.Unary operator x)))
 
-pub binary-step : (operator : BinaryOperator) (left : ExprNo) (m : Making ExprNo) (l t : Program → ExprNo → Bool) → Step m (λ p e. t p e ≡ true)
+pub binary-step : (operator : BinaryOperator) (left : ExprNo) (m : Making ExprNo) (l t : Image → ExprNo → Bool) → Step m (λ p e. t p e ≡ true)
     → Step (binary_put operator left m) (λ p e. l p left ≡ true → is_binary p operator (l p) (t p) (at_number p e) ≡ true)
 unfolding binary_put
 binary-step operator left m l t s =

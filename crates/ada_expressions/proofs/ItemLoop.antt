@@ -5,7 +5,7 @@ use Rattle.ann_base.specs.declared.faults.OrMemory.{OrMemory}
 use Rattle.ann_base.specs.declared.faults.OrMemory.TheVariants as answer
 use Rattle.ada_grammar.specs.declared.stuck.Stuck.{Stuck}
 use Rattle.ada_grammar.specs.Reading.{Parser, Read, items_from}
-use Rattle.ada_expressions.specs.Turns.{Stopped, one_more, no_more}
+use Rattle.ada_expressions.proofs.Turns.{Stopped, one_more, no_more}
 
 module _ {A : Type 0} (begins : List Lexeme → Bool) (item : Parser A) where
   ends_at : (fuel : ℕ) (found : List A) (ls : List Lexeme) → begins ls ≡ false → items_from begins item fuel found ls ≡ Ok (found, ls)

@@ -8,7 +8,7 @@ use Rattle.ann_base.specs.declared.faults.OrMemory.{OrMemory}
 use Rattle.ann_base.specs.declared.faults.OrMemory.TheVariants as answer
 use Rattle.ada_grammar.specs.declared.stuck.Stuck.{Stuck}
 use Rattle.ada_grammar.specs.Reading.{Read, sees_word}
-use Rattle.ada_expressions.specs.Turns.{Stopped, one_more, no_more}
+use Rattle.ada_expressions.proofs.Turns.{Stopped, one_more, no_more}
 use Rattle.ada_grammar.specs.ReadingUnits.{context_of, package_of, packages_from}
 
 abbrev pub Packages : Type 0

@@ -5,7 +5,7 @@ use Rattle.profile_machine.specs.declared.numbers.StatementNo.{StatementNo}
 use Rattle.ada_image.specs.declared.making.Lists.{Lists}
 use Rattle.ada_image.specs.declared.making.Within.{Within}
 use Rattle.ada_image.specs.ImageOfStatements.{SequenceMaking, statement_put, statements_put}
-use Rattle.image_objects.proofs.Drops.{one_before}
+use Rattle.image_layout.proofs.Drops.{one_before}
 
 module _ {Q : Type 0} (sequence : Q → SequenceMaking) (within : Within) where
   pub statements_first : (s : Statement Q) (others slice : List (Statement Q)) (next later : Option StatementNo) (before between : Lists) (whole : Lists × Option StatementNo)

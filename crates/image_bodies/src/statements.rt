@@ -65,7 +65,7 @@ fn statement_put<Q: MakeSequence<WithDeclarations>>(
 }
 
 /// The statements behind the first of a list, from the last to the first.
-#[tactic(auto, using(image_objects::proofs::Drops::nothing_left), unfolding(ada_image::specs::ImageOfStatements::statements_put))]
+#[tactic(auto, using(std::proofs::lemmas::List::drop_all), unfolding(ada_image::specs::ImageOfStatements::statements_put))]
 fn statements_behind<Q: MakeSequence<WithDeclarations>>(
     alloc: Global,
     lists: &mut Lists,

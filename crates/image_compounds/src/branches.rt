@@ -64,7 +64,7 @@ fn branch_put<W, Q: MakeSequence<W>>(
 }
 
 /// The branches behind `elsif`, from the last to the first (5.3).
-#[tactic(auto, using(image_objects::proofs::Drops::nothing_left, image_objects::proofs::Drops::one_before), unfolding(ada_image::specs::ImageOfStatements::elsifs_put))]
+#[tactic(auto, using(std::proofs::lemmas::List::drop_all, image_layout::proofs::Drops::one_before), unfolding(ada_image::specs::ImageOfStatements::elsifs_put))]
 fn elsifs_put<W, Q: MakeSequence<W>>(
     alloc: Global,
     lists: &mut Lists,

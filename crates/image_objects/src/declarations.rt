@@ -44,7 +44,7 @@ fn declaration_put<Q>(
 }
 
 /// The declarations of a list, each leading to the next (3.11). The part is that of a library package, or 0.
-#[tactic(auto, using(crate::proofs::Drops::nothing_left, crate::proofs::Drops::one_before), unfolding(ada_image::specs::ImageOfDeclarations::declarations_put))]
+#[tactic(auto, using(std::proofs::lemmas::List::drop_all, image_layout::proofs::Drops::one_before), unfolding(ada_image::specs::ImageOfDeclarations::declarations_put))]
 pub fn declarations_put<Q>(
     alloc: Global,
     lists: &mut Lists,

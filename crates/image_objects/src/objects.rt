@@ -172,7 +172,7 @@ fn object_put(
 }
 
 /// The objects behind the first of a declaration, from the last to the first.
-#[tactic(auto, using(crate::proofs::Drops::nothing_left, crate::proofs::Drops::one_before), unfolding(ada_image::specs::ImageOfDeclarations::objects_put))]
+#[tactic(auto, using(std::proofs::lemmas::List::drop_all, image_layout::proofs::Drops::one_before), unfolding(ada_image::specs::ImageOfDeclarations::objects_put))]
 fn objects_behind(
     alloc: Global,
     lists: &mut Lists,

@@ -138,7 +138,7 @@ fn package_put(
 }
 
 /// The packages of a source, each leading to the next (10.2).
-#[tactic(auto, using(crate::proofs::Drops::nothing_left, crate::proofs::Drops::one_before), unfolding(ada_image::specs::ImageOfUnits::packages_put))]
+#[tactic(auto, using(std::proofs::lemmas::List::drop_all, image_layout::proofs::Drops::one_before), unfolding(ada_image::specs::ImageOfUnits::packages_put))]
 fn packages_put(
     alloc: Global,
     lists: &mut Lists,

@@ -25,7 +25,7 @@ pub(crate) fn short_length(bytes: usize) -> Option<u32>
 }
 
 /// The length of the longest text.
-#[tactic(auto, using(crate::proofs::Drops::nothing_left), unfolding(ada_legality::specs::Reading::longest))]
+#[tactic(auto, using(std::proofs::lemmas::List::drop_all), unfolding(ada_legality::specs::Reading::longest))]
 fn longest(texts: &[Text]) -> usize
     ensures { result ≡ longest texts.now }
 {

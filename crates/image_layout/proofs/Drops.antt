@@ -1,10 +1,6 @@
--- What is left of a list at its end, and before an element.
-use Rattle.std.proofs.Common.{◌≡◌, ℕ, ◌+◌, ◌-◌, ◌<◌, ◌≤◌, List, [], ◌∷◌, drop, length, get_or, refl, ap, sym, ◌∙◌, arith}
+-- What is left of a list from the element before a place on.
+use Rattle.std.proofs.Common.{◌≡◌, ℕ, ◌+◌, ◌-◌, ◌<◌, ◌≤◌, List, ◌∷◌, drop, length, get_or, ap, sym, ◌∙◌, arith}
 use Rattle.std.proofs.lemmas.List.{drop_more}
-
-pub nothing_left : {X : Type 0} (xs : List X) → drop (length xs) xs ≡ []
-nothing_left [] = refl
-nothing_left (x ∷ xs) = nothing_left xs
 
 pub one_before : {X : Type 0} (xs : List X) (j : ℕ) (x : X) → 0 < j → j ≤ length xs → get_or xs (j - 1) x ∷ drop j xs ≡ drop (j - 1) xs
 one_before xs j x positive inside =

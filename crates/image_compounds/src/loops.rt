@@ -25,8 +25,8 @@ fn inside_loops<'n, W, Q: MakeSequence<W>>(
     turn: StatementNo,
 ) -> Result<Option<StatementNo>, NoMemory>
     ensures { Made
-        (inside Q.making statements.now (record outside.entry { loops = loops.now }) (Some turn)) lists.old
-        lists.new result }
+        (inside Q.making statements.now (record outside.entry { loops = loops.now }) (Some turn))
+        lists.old lists.new result }
 {
     let inner = in_loops(&outside, loops);
     inside(alloc, lists, statements, &inner, Some(turn))

@@ -46,7 +46,8 @@ fn all_made_in<'n>(
     outside: &'n (List<OpenLoop>, List<u32>),
 ) -> Result<MadeLists, NoMemory>
     ensures { Made
-        (all_made unit.now (record (outermost names.now) { loops = outside.now.0; units = outside.now.1 }))
+        (all_made unit.now
+        (record (outermost names.now) { loops = outside.now.0; units = outside.now.1 }))
         lists.old lists.new result }
 {
     let within = outermost(names, &outside.0, &outside.1);

@@ -48,7 +48,9 @@ impl PartialOrd for Rank {
         (then_cmp (on (λ r. r.is_undated) bool_cmp)
         (then_cmp (on (λ r. r.deadline) int_cmp) (on (λ r. r.place) nat_cmp)))) };
 
-    ghost laws = { partial_order_from_own_ties (Prim.search (comparing, rules) depth 9) (Prim.search (comparing, rules) depth 9) };
+    ghost laws = { partial_order_from_own_ties
+        (Prim.search (comparing, rules) depth 9)
+        (Prim.search (comparing, rules) depth 9) };
 
     fn partial_cmp(&self, other: &Rank) -> Option<Ordering> {
         Some(self.cmp(other))

@@ -240,9 +240,12 @@ impl<
         cursor.word(Reserved::Body)?;
         let name = cursor.identifier(self.alloc)?;
         cursor.open_is(self.left)?;
-        let operations = items(self.alloc, cursor, begins_operation, |cursor| {
-            self.inner_operation_body(cursor)
-        })?;
+        let operations = items(
+            self.alloc,
+            cursor,
+            |cursor| begins_operation(cursor),
+            |cursor| self.inner_operation_body(cursor),
+        )?;
         cursor.word(Reserved::End)?;
         let named_at_end = end_name(cursor, &name)?;
         cursor.delimiter(Delimiter::Semicolon)?;

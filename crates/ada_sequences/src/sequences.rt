@@ -123,7 +123,7 @@ impl<
         let others = items(
             self.alloc,
             cursor,
-            begins_statement,
+            |cursor| begins_statement(cursor),
             |cursor| self.statement(cursor),
         )?;
         Ok(OneOrMore { first, others })

@@ -3,7 +3,6 @@ ghost use Rattle.std.specs.Prelude.{◌≡◌, ◌++◌, OnOk};
 ghost use Rattle.ada_legality.specs.Declarations.{entry_body_found, subprogram_body_found, task_body_found};
 
 use crate::sequences::WithDeclarations;
-use crate::units::{protected_found, task_found};
 use ada_entities::entity_denoted;
 use ada_legality::{Around, BodyKind, Finding, IndicationUse, Known};
 use ada_regions::UnitKind;
@@ -22,6 +21,7 @@ use legality_subprograms::{
     specification_found, subprogram_body_judged, subprogram_found, subprogram_here,
     unit_of_operation,
 };
+use legality_unit_declarations::{protected_found, task_found};
 use legality_units::use_found;
 use std::alloc::Global;
 use world_tables::List;

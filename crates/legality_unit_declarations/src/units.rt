@@ -2,7 +2,7 @@
 ghost use Rattle.std.specs.Prelude.{◌≡◌, ◌++◌, OnOk};
 ghost use Rattle.ada_legality.specs.CallStatements.{all_found, found_if};
 ghost use Rattle.ada_legality.specs.Declarations.{ceiling_noted, operation_found, other_ceiling_noted, protected_component_found, protected_found, single_object_noted, task_found, task_priority_noted};
-ghost use Rattle.legality_bodies.specs.ProtectedParts.{protected_parts};
+ghost use Rattle.legality_unit_declarations.specs.ProtectedParts.{protected_parts};
 
 use ada_legality::{AspectOwner, AspectPart, BodyKind, Ceiling, Finding, Known};
 use ada_tree::{Component, Identifier, ProtectedDeclaration, ProtectedOperation, TaskDeclaration};

@@ -1,7 +1,7 @@
 use Rattle.std.proofs.Common.{◌≡◌, ◌++◌, drop}
 use Rattle.ada_legality.specs.CallStatements.{all_found}
 use Rattle.ada_legality.specs.Declarations.{operation_found}
-use Rattle.legality_bodies.proofs.units.operations_found.Given as goal
+use Rattle.legality_unit_declarations.proofs.units.operations_found.Given as goal
 
 -- what is found by now, and what the operations to come give, is all
 abbrev pub invariant-loop-operation : goal.invariant-loop-operation
